@@ -1,0 +1,27 @@
+use Rattle.std.proofs.Common.{◌≡◌, ◌+◌, ◌∷◌, ◌++◌, [], take, ap, sym, ◌∙◌, subst, arith}
+use Rattle.std.proofs.lemmas.List.{take_more}
+use Rattle.bb_memory_base.specs.Object.{object_of}
+use Rattle.bb_memory_base.specs.Run.{Step}
+use Rattle.bb_memory_base.proofs.Runs.{IsRun-push}
+use Rattle.bb_memory_base.proofs.allocator.run_base.Goals as goal
+
+pub loop-command-preserved : goal.loop-command-preserved
+loop-command-preserved g c =
+    let A = g.A.BaseAllocator in
+    let commands = c.args.commands.now in
+    let i = c.loop-command.command-index in
+    let command = c.command-item.result in
+    let done : take (i + 1) commands ≡ take i commands ++ command ∷ [] =
+    take_more commands i command (omega arith) ∙ ap (λ x. take i commands ++ x ∷ []) (sym c.command-item.is) in
+    let live = c.loop-command.live.items in
+    let step_at = λ (geometry : A.Geometry). Step (object_of A.RELEASE_EMPTIES (A.may_allocate geometry)) in
+    let step = subst (λ geometry. step_at geometry live command c.apply_base-reply.result c.apply_base-reply.new.live.items)
+    c.loop-command.invariant.geometry c.apply_base-reply.ensures.step in
+    record {
+      run = rw (done, c.push_reserved.ensures.items) (IsRun-push (step_at (A.geometry c.args.allocator.now)) c.args.live.now.items live c.apply_base-reply.new.live.items (take i commands) c.loop-command.replies.items command c.apply_base-reply.result c.loop-command.invariant.run step);
+      stands = c.apply_base-reply.ensures.stands;
+      geometry = c.apply_base-reply.ensures.geometry ∙ c.loop-command.invariant.geometry;
+      room = omega arith;
+      told = omega arith;
+      space = omega arith;
+    }

@@ -1,0 +1,28 @@
+-- Runs: commands applied one after the other to an object, with one reply each.
+use Rattle.std.specs.Prelude.{◌≡◌, ℕ, ◌≤◌, List, [], ◌∷◌, length, Ok, Err}
+use Rattle.bb_memory_base.specs.Chunk.{Chunk}
+use Rattle.bb_memory_base.specs.Object.{Object, Allocates, Releases}
+use Rattle.bb_memory_base.specs.declared.allocator.Command.{Command}
+use Rattle.bb_memory_base.specs.declared.allocator.Command.TheVariants.{Allocate, Release, Grow, Shrink}
+use Rattle.bb_memory_base.specs.declared.allocator.Reply.{Reply}
+use Rattle.bb_memory_base.specs.declared.allocator.Reply.TheVariants as reply
+
+-- From `old` the object may give this reply to the command, and goes on to `new`.
+abbrev pub Step : Object → List Chunk → Command → Reply → List Chunk → Type 0
+Step object old (Allocate layout) (reply.Chunk chunk) new = Allocates object old layout (Ok chunk) new
+Step object old (Allocate layout) (reply.Refused error) new = Allocates object old layout (Err error) new
+Step object old (Release position) reply.Released new = Releases object old position new
+-- a position that the list doesn't have is passed over, and so is every resize
+Step object old (Release position) reply.Passed new = (length old ≤ position) × (new ≡ old)
+Step object old (Grow position from to) reply.Passed new = new ≡ old
+Step object old (Shrink position from to) reply.Passed new = new ≡ old
+-- no other reply is given
+Step object old command other new = ⊥
+
+-- These replies to these commands, one step after another.
+abbrev pub IsRun : {C R : Type 0} → (List Chunk → C → R → List Chunk → Type 0) → List Chunk → List C → List R → List Chunk → Type 0
+IsRun step old [] [] new = new ≡ old
+IsRun step old (command ∷ commands) (reply ∷ replies) new =
+    (mid : List Chunk) × step old command reply mid × IsRun step mid commands replies new
+IsRun step old [] (reply ∷ replies) new = ⊥
+IsRun step old (command ∷ commands) [] new = ⊥
