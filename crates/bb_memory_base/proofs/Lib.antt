@@ -1,1 +1,2 @@
+pub mod LiveLists
 mod Runs

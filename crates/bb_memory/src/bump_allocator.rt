@@ -1,0 +1,198 @@
+//! An allocator that gives one chunk after another, and takes all of them back at once.
+ghost use Rattle.std.specs.Prelude.{◌≡◌, ◌∷◌, ◌++◌, [], List, ◌+◌, ◌-◌, ◌<◌, ◌≤◌, ◌^◌, ◌%◌, ◌↔◌, ℕ, IfOk, OnOk, OnErr, IsTrue, Some, slice_get};
+ghost use Rattle.bb_memory_base.specs.Region.{Region, IsRegion};
+ghost use Rattle.bb_memory_base.specs.Chunk.{Chunk, IsInside, chunk_end};
+ghost use Rattle.bb_memory_base.specs.LiveList.{IsSound};
+ghost use Rattle.bb_memory_base.specs.Run.{Step, IsRun};
+ghost use Rattle.bb_memory_base.specs.BumpObject.{MayAllocate, StandsFor, bump_object, used_space};
+ghost use Rattle.bb_memory.specs.Bump.{Bump, bump_of};
+
+pub use crate::allocator::{AllocationError, BaseAllocator};
+use crate::allocator::{Command, Reply, run_base};
+use crate::layout::{Chunk, Layout, round_up};
+use std::alloc::AllocError;
+use std::fmt;
+use std::marker::Model;
+
+/// Gives chunks in order, each at the first suitable place behind the one before. All are given back at once.
+///
+/// ```
+/// let mut bump = BumpAllocator::new(4096, 1024);
+/// let chunk = bump.allocate(Layout::from_size_align(48, 4)?)?;
+/// assert_eq!((chunk.place(), chunk.len()), (4096, 48));
+/// assert_eq!(bump.used_space(), 48);
+/// bump.deallocate(chunk.place(), Layout::from_size_align(48, 4)?);
+/// assert_eq!(bump.free_space(), 1024);
+/// ```
+#[derive(Debug, Drop)]
+pub struct BumpAllocator {
+    start: usize,
+    size: usize,
+    current_position: usize,
+}
+
+impl Model for BumpAllocator {
+    ghost use Rattle.bb_memory.specs.Bump.{Bump, IsBump, bump_of};
+
+    ghost Value = { Bump };
+
+    ghost view = { λ a. bump_of a.start a.size a.current_position };
+
+    ghost invariant = { λ a. IsBump (bump_of a.start a.size a.current_position) };
+}
+
+impl BumpAllocator {
+    /// An allocator over the region of `size` bytes at `start`, with nothing given. The start has to be greater than 0,
+    /// and start plus size at most `usize::MAX`; [`BumpAllocator::can_make`] tests both.
+    pub fn new(start: usize, size: usize) -> Self
+        requires region { IsRegion (record { start = start; size = size }) }
+        ensures value { result ≡ bump_of start size 0 }
+        ensures empty { StandsFor result.region result.used [] }
+    {
+        BumpAllocator {
+            start,
+            size,
+            current_position: 0,
+        }
+    }
+
+    /// Whether `new` may be called with these.
+    pub fn can_make(start: usize, size: usize) -> bool
+        ensures { let region : Region = record { start = start; size = size } in
+            IsTrue result ↔ IsRegion region }
+    {
+        start != 0 && start.checked_add(size).is_some()
+    }
+
+    /// Where the region starts.
+    pub fn start_address(&self) -> usize
+        ensures { result ≡ self.now.region.start }
+    {
+        self.start
+    }
+
+    /// How many bytes are used: those from the region's start to the end of the last chunk, padding included.
+    pub fn used_space(&self) -> usize
+        ensures value { result ≡ self.now.used }
+        ensures of_live { (live : List Chunk) → StandsFor self.now.region self.now.used live
+            → result ≡ used_space self.now.region live }
+    {
+        self.current_position
+    }
+
+    /// How many bytes are behind the last chunk.
+    pub fn free_space(&self) -> usize
+        ensures { self.now.used + result ≡ self.now.region.size }
+    {
+        self.size - self.current_position
+    }
+
+    /// How many bytes the region has.
+    pub fn total_space(&self) -> usize
+        ensures { result ≡ self.now.region.size }
+    {
+        self.size
+    }
+}
+
+impl fmt::Display for BumpAllocator {
+    ghost use Rattle.std.specs.Prelude.{Some};
+    ghost use Rattle.bb_memory.specs.Bump.{bump_text};
+
+    ghost output = { λ bump. Some (bump_text bump) };
+
+    fn fmt<W: fmt::Write>(&self, f: &mut fmt::Formatter<W>) -> fmt::Result {
+        let start = self.start;
+        let size = self.size;
+        let current_position = self.current_position;
+        write!(
+            f,
+            "BumpAllocator {{ start: {start}, size: {size}, current_position: {current_position} }}"
+        )
+    }
+}
+
+impl BaseAllocator for BumpAllocator {
+    ghost use Rattle.std.specs.Prelude.{true};
+    ghost use Rattle.bb_memory_base.specs.Region.{Region};
+    ghost use Rattle.bb_memory_base.specs.BumpObject.{MayAllocate, StandsFor};
+
+    const RELEASE_EMPTIES: bool = true;
+
+    ghost RELEASE_EMPTIES = { true };
+
+    ghost Geometry = { Region };
+
+    ghost geometry = { λ bump. bump.region };
+
+    ghost region = { λ region. region };
+
+    ghost may_allocate = { MayAllocate };
+
+    ghost stands_for = { λ bump live. StandsFor bump.region bump.used live };
+
+    ghost may_release = { λ _ _. Unit {0} };
+
+    /// A chunk of exactly `layout.size()` bytes, at the least multiple of `layout.align()` behind what is used. Size 0 is
+    /// refused with `SizeIsZero`, and a chunk that would end behind the region with `OutOfMemory`. A refusal leaves the
+    /// allocator as it was.
+    fn allocate(&mut self, layout: Layout) -> Result<Chunk, AllocationError>
+        ensures answer { (live : List Chunk) → StandsFor self.old.region self.old.used live
+            → MayAllocate self.old.region live layout result }
+        ensures appended { IfOk result (λ chunk. (live : List Chunk)
+            → StandsFor self.old.region self.old.used live
+            → StandsFor self.new.region self.new.used (live ++ chunk ∷ [])) }
+        ensures inside { IfOk result (IsInside self.old.region) }
+        ensures aligned { IfOk result (λ chunk. chunk.place % layout.align ≡ 0) }
+        ensures long_enough { IfOk result (λ chunk. layout.size ≤ chunk.len) }
+        ensures geometry { self.new.region ≡ self.old.region }
+
+        // What is used then ends with the chunk, and a refusal leaves everything.
+        ensures used { IfOk result (λ chunk. self.new.region.start + self.new.used ≡ chunk_end chunk) }
+        ensures kept { OnErr result (self.new ≡ self.old) }
+    {
+        if layout.size() == 0 {
+            return Err(AllocationError::SizeIsZero);
+        }
+        let end = self.start + self.size;
+        let chunk = round_up(self.start + self.current_position, layout.align())
+            .and_then(|place| Chunk::new(place, layout.size()))
+            .filter(|chunk| chunk.end() <= end)
+            .ok_or(AllocationError::OutOfMemory)?;
+        self.current_position = chunk.end() - self.start;
+        Ok(chunk)
+    }
+
+    /// Gives back all chunks, whichever place and layout are named.
+    fn deallocate(&mut self, _place: usize, _layout: Layout)
+        ensures { self.new ≡ bump_of self.old.region.start self.old.region.size 0 }
+    {
+        self.current_position = 0;
+    }
+
+    fn stands_for_some_list(&self) {
+        let _ = &self.start;
+    }
+
+    ghost releases = { λ bump live position chunk stands at. tt };
+
+    ghost sound = { λ bump live stands. stands.sound };
+}
+
+/// Applies the commands in order, as [`run_base`] does: the replies and the live list are a run of the bump object over
+/// the allocator's region, and the list is sound afterwards.
+pub fn run_bump(
+    allocator: &mut BumpAllocator,
+    live: &mut Vec<Chunk>,
+    commands: &[Command],
+) -> Result<Vec<Reply>, AllocError>
+    requires { StandsFor allocator.old.region allocator.old.used live.old.items }
+    ensures run { IfOk result (λ replies. IsRun (Step (bump_object allocator.old.region))
+        live.old.items commands.now replies.items live.new.items) }
+    ensures stands { OnOk result (StandsFor allocator.new.region allocator.new.used live.new.items) }
+    ensures sound { OnOk result (IsSound allocator.old.region live.new.items) }
+    ensures geometry { allocator.new.region ≡ allocator.old.region }
+    ensures kept { OnErr result ((allocator.new ≡ allocator.old) × (live.new.items ≡ live.old.items)) }
+{
+    run_base(allocator, live, commands)
+}
