@@ -9,7 +9,7 @@ ghost use Rattle.bb_memory.specs.Bump.{Bump, bump_of};
 
 pub use crate::allocator::{AllocationError, BaseAllocator};
 use crate::allocator::{Command, Reply, run_base};
-use crate::layout::{Chunk, Layout, round_up};
+use crate::layout::{Chunk, Layout};
 use std::alloc::AllocError;
 use std::fmt;
 use std::marker::Model;
@@ -155,10 +155,9 @@ impl BaseAllocator for BumpAllocator {
             return Err(AllocationError::SizeIsZero);
         }
         let end = self.start + self.size;
-        let chunk = round_up(self.start + self.current_position, layout.align())
-            .and_then(|place| Chunk::new(place, layout.size()))
-            .filter(|chunk| chunk.end() <= end)
-            .ok_or(AllocationError::OutOfMemory)?;
+        let Some(chunk) = Chunk::at_or_after(self.start + self.current_position, layout, end) else {
+            return Err(AllocationError::OutOfMemory);
+        };
         self.current_position = chunk.end() - self.start;
         Ok(chunk)
     }

@@ -1,2 +1,5 @@
+mod Layouts
+pub mod LeastPlaces
 pub mod LiveLists
+mod PowersOfTwo
 mod Runs

@@ -44,8 +44,7 @@ inside_from_order : (region : Region) (v : ℕ) (live : List Chunk) → region.s
     end_of_last v live ≤ region_end region → AllByRecursion (IsInside region) live
 inside_from_order region v [] le ordered end = tt
 inside_from_order region v (chunk ∷ live) le (here, rest) end =
-    let above = end_of_last-above (chunk_end chunk) live rest in
-    (
+    let above = end_of_last-above (chunk_end chunk) live rest in (
       record { above = omega (arith, here); below = omega arith },
       inside_from_order region (chunk_end chunk) live (omega (arith, here)) rest end,
     )

@@ -15,12 +15,12 @@ end_of_last v [] = v
 end_of_last v (chunk ∷ live) = end_of_last (chunk_end chunk) live
 
 -- the chunk of the asked size at the least place at or after v
-abbrev pub chunk_from : ℕ → Layout → Chunk
-chunk_from v layout = record { place = least_place v layout.align; len = layout.size }
+abbrev pub chunk_at_or_after : ℕ → Layout → Chunk
+chunk_at_or_after v layout = record { place = least_place v layout.align; len = layout.size }
 
 -- the chunk that a request gets on a live list, where it ends inside the region
 abbrev pub next_chunk : Region → List Chunk → Layout → Chunk
-next_chunk region live layout = chunk_from (end_of_last region.start live) layout
+next_chunk region live layout = chunk_at_or_after (end_of_last region.start live) layout
 
 -- What the bump object may answer, and when.
 abbrev pub MayAllocate : Region → List Chunk → Layout → Result Chunk AllocationError → Type 0

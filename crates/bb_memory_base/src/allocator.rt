@@ -226,7 +226,7 @@ pub fn run_base<A: BaseAllocator>(
     requires { A.stands_for allocator.old live.old.items }
     ensures run { IfOk result (λ replies.
         IsRun (Step (object_of A.RELEASE_EMPTIES (A.may_allocate (A.geometry allocator.old))))
-            live.old.items commands.now replies.items live.new.items) }
+        live.old.items commands.now replies.items live.new.items) }
     ensures stands { OnOk result (A.stands_for allocator.new live.new.items) }
     ensures sound { OnOk result (IsSound (A.region (A.geometry allocator.old)) live.new.items) }
     ensures geometry { A.geometry allocator.new ≡ A.geometry allocator.old }

@@ -1,12 +1,13 @@
 //! Layouts, which are what is asked for, and chunks, which are what is given. Sizes and lengths are in bytes.
-ghost use Rattle.std.specs.Prelude.{◌≡◌, ◌*◌, ◌^◌, ◌<◌, ◌↔◌, ℕ, IsOk, IfOk};
+ghost use Rattle.std.specs.Prelude.{◌≡◌, ◌^◌, ◌%◌, ◌<◌, ◌≤◌, ◌↔◌, ℕ, IsOk, IfOk, IfSome};
 ghost use Rattle.std.specs.Align.{IsLayout};
 ghost use Rattle.std.specs.Int.{IsPowerOfTwo};
 ghost use Rattle.std.specs.Option.{SomeIff};
-ghost use Rattle.bb_memory_base.specs.Chunk.{Chunk, IsChunk, chunk_end};
 ghost use Rattle.bb_memory_base.specs.LeastPlace.{least_place, IsLeastPlace};
 
-use std::marker::Model;
+mod chunk;
+
+pub use chunk::Chunk;
 use thiserror::Error;
 
 /// A size in bytes and an alignment, as `core::alloc::Layout` has them: the alignment is a power of two, and the size
@@ -35,10 +36,10 @@ impl Layout {
         ensures accepted { IsOk result ↔ IsLayout size align }
         ensures value { IfOk result (λ layout. (layout.size ≡ size) × (layout.align ≡ align)) }
     {
-        if !align.is_power_of_two() || align == 0 {
+        if !align.is_power_of_two() {
             return Err(LayoutError {});
         }
-        match size.checked_next_multiple_of(align) {
+        match round_up(size, align) {
             Some(rounded) if rounded <= isize::MAX as usize => Ok(Layout { size, align }),
             _ => Err(LayoutError {}),
         }
@@ -59,63 +60,39 @@ impl Layout {
     /// The alignment, a power of two.
     pub fn align(&self) -> usize
         ensures value { result ≡ self.now.align }
+        ensures power_of_two { IsPowerOfTwo self.now.align }
     {
         self.align
     }
 }
 
-/// The numbers from a place up to its end, the end excluded. The place isn't 0, and the end is at most `usize::MAX`.
-#[derive(Debug, Clone, Copy, PartialEq, Eq)]
-pub struct Chunk {
-    place: usize,
-    len: usize,
+/// Which layouts there are, in plain words: the alignment is a power of two, and the size rounded up to a multiple of it
+/// is at most `isize::MAX`. It does nothing: its contract is the law.
+pub fn layout_law()
+    ensures { (size align : ℕ)
+        → IsLayout size align ↔ (IsPowerOfTwo align × (least_place size align < 2 ^ 63)) }
+{}
+
+/// The least multiple of `align` that isn't below `v`, or `None` where that exceeds `usize::MAX`. The alignment has to be
+/// a power of two, as that of a [`Layout`] is.
+///
+/// ```
+/// assert_eq!(round_up(4097, 8), Some(4104));
+/// ```
+pub fn round_up(v: usize, align: usize) -> Option<usize>
+    requires { IsPowerOfTwo align }
+    ensures value { SomeIff result (least_place v align < 2 ^ 64) (least_place v align) }
+    ensures above { IfSome result (λ place. v ≤ place) }
+    ensures aligned { IfSome result (λ place. place % align ≡ 0) }
+{
+    let mask = align - 1;
+    Some(v.checked_add(mask)? & !mask)
 }
 
-impl Model for Chunk {
-    ghost use Rattle.bb_memory_base.specs.Chunk.{Chunk, IsChunk};
-
-    ghost Value = { Chunk };
-
-    ghost view = { λ chunk. record { place = chunk.place; len = chunk.len } };
-
-    ghost invariant = { λ chunk. IsChunk (record { place = chunk.place; len = chunk.len }) };
-
-    ghost inverse = { λ chunk. record { place = chunk.place; len = chunk.len } };
-}
-
-impl Chunk {
-    /// The chunk of a place and a length in bytes: `None` exactly where the place is 0 or place plus length exceeds
-    /// `usize::MAX`.
-    pub fn new(place: usize, len: usize) -> Option<Chunk>
-        ensures { let chunk : Chunk = record { place = place; len = len } in
-            SomeIff result (IsChunk chunk) chunk }
-    {
-        let _end = place.checked_add(len)?;
-        if place == 0 {
-            return None;
-        }
-        Some(Chunk { place, len })
-    }
-
-    /// The place, which isn't 0.
-    pub fn place(&self) -> usize
-        ensures value { result ≡ self.now.place }
-        ensures not_zero { 0 < result }
-    {
-        self.place
-    }
-
-    /// The length in bytes, which may be 0.
-    pub fn len(&self) -> usize
-        ensures { result ≡ self.now.len }
-    {
-        self.len
-    }
-
-    /// Place plus length.
-    pub fn end(&self) -> usize
-        ensures { result ≡ chunk_end self.now }
-    {
-        self.place + self.len
-    }
-}
+/// The least place is what its name says: the least multiple of the alignment that isn't below the number, and there is
+/// one alone. It does nothing: its contract is the law.
+pub fn least_place_law()
+    ensures is_least { (v align : ℕ) → 0 < align → IsLeastPlace v align (least_place v align) }
+    ensures one { (v align place : ℕ) → 0 < align → IsLeastPlace v align place
+        → place ≡ least_place v align }
+{}

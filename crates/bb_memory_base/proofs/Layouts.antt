@@ -1,0 +1,18 @@
+-- Which layouts there are.
+use Rattle.std.proofs.Common.{ℕ, ◌^◌, ◌<◌, ◌↔◌}
+use Rattle.std.specs.Align.{IsLayout}
+use Rattle.std.specs.Int.{IsPowerOfTwo}
+use Rattle.bb_memory_base.specs.LeastPlace.{least_place}
+use Rattle.bb_memory_base.proofs.PowersOfTwo.{power_of_two-from_test, power_of_two-test, power_of_two-positive}
+
+-- a layout is a power of two, and a size that is small enough once it is rounded up to that
+pub layout-plain : (size align : ℕ) → IsLayout size align ↔ (IsPowerOfTwo align × (least_place size align < 2 ^ 63))
+unfolding least_place
+layout-plain size align = (
+  λ layout. (power_of_two-from_test align layout.power_of_two, layout.fits),
+  λ (power, fits). record {
+    power_of_two = power_of_two-test align power;
+    positive = power_of_two-positive align power;
+    fits = fits;
+  },
+)

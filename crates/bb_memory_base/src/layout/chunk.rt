@@ -1,0 +1,80 @@
+//! Chunks, which are what is given.
+ghost use Rattle.std.specs.Prelude.{◌≡◌, ◌<◌, ◌≤◌, ◌%◌, IfSome};
+ghost use Rattle.std.specs.Option.{SomeIff};
+ghost use Rattle.bb_memory_base.specs.Chunk.{Chunk, IsChunk, chunk_end};
+ghost use Rattle.bb_memory_base.specs.BumpObject.{chunk_at_or_after};
+
+use super::{Layout, round_up};
+use std::marker::Model;
+
+/// The numbers from a place up to its end, the end excluded. The place isn't 0, and the end is at most `usize::MAX`.
+#[derive(Debug, Clone, Copy, PartialEq, Eq)]
+pub struct Chunk {
+    place: usize,
+    len: usize,
+}
+
+impl Model for Chunk {
+    ghost use Rattle.bb_memory_base.specs.Chunk.{Chunk, IsChunk};
+
+    ghost Value = { Chunk };
+
+    ghost view = { λ chunk. record { place = chunk.place; len = chunk.len } };
+
+    ghost invariant = { λ chunk. IsChunk (record { place = chunk.place; len = chunk.len }) };
+
+    ghost inverse = { λ chunk. record { place = chunk.place; len = chunk.len } };
+}
+
+impl Chunk {
+    /// The chunk of a place and a length in bytes: `None` exactly where the place is 0 or place plus length exceeds
+    /// `usize::MAX`.
+    pub fn new(place: usize, len: usize) -> Option<Chunk>
+        ensures { let chunk : Chunk = record { place = place; len = len } in
+            SomeIff result (IsChunk chunk) chunk }
+    {
+        let _end = place.checked_add(len)?;
+        if place == 0 {
+            return None;
+        }
+        Some(Chunk { place, len })
+    }
+
+    /// The chunk that a layout gets at or after `v`: `layout.size()` bytes at the least multiple of `layout.align()` that
+    /// isn't below `v`, or `None` exactly where that chunk would end behind `end`. `v` isn't 0.
+    pub fn at_or_after(v: usize, layout: Layout, end: usize) -> Option<Chunk>
+        requires { 0 < v }
+        ensures value { SomeIff result (chunk_end (chunk_at_or_after v layout) ≤ end) (chunk_at_or_after v layout) }
+        ensures above { IfSome result (λ chunk. v ≤ chunk.place) }
+        ensures aligned { IfSome result (λ chunk. chunk.place % layout.align ≡ 0) }
+    {
+        let place = round_up(v, layout.align())?;
+        let chunk = Chunk::new(place, layout.size())?;
+        if chunk.end() > end {
+            return None;
+        }
+        Some(chunk)
+    }
+
+    /// The place, which isn't 0.
+    pub fn place(&self) -> usize
+        ensures value { result ≡ self.now.place }
+        ensures not_zero { 0 < result }
+    {
+        self.place
+    }
+
+    /// The length in bytes, which may be 0.
+    pub fn len(&self) -> usize
+        ensures { result ≡ self.now.len }
+    {
+        self.len
+    }
+
+    /// Place plus length.
+    pub fn end(&self) -> usize
+        ensures { result ≡ chunk_end self.now }
+    {
+        self.place + self.len
+    }
+}
