@@ -1,10 +1,14 @@
 //! An allocator that gives one chunk after another, and takes all of them back at once.
-ghost use Rattle.std.specs.Prelude.{◌≡◌, ◌∷◌, ◌++◌, [], List, ◌+◌, ◌-◌, ◌<◌, ◌≤◌, ◌^◌, ◌%◌, ◌↔◌, ℕ, IfOk, OnOk, OnErr, IsTrue, Some, slice_get};
+ghost use Rattle.std.specs.Prelude.{◌≡◌, ◌∷◌, ◌++◌, [], List, All, ◌+◌, ◌-◌, ◌<◌, ◌≤◌, ◌^◌, ◌%◌, ◌↔◌, ℕ, IfOk, OnOk, OnErr, IsTrue, Some, Result, slice_get};
 ghost use Rattle.bb_memory_base.specs.Region.{Region, IsRegion};
 ghost use Rattle.bb_memory_base.specs.Chunk.{Chunk, IsInside, chunk_end};
 ghost use Rattle.bb_memory_base.specs.LiveList.{IsSound};
 ghost use Rattle.bb_memory_base.specs.Run.{Step, IsRun};
-ghost use Rattle.bb_memory_base.specs.BumpObject.{MayAllocate, StandsFor, bump_object, used_space};
+ghost use Rattle.bb_memory_base.specs.BumpObject.{MayAllocate, IsInOrder, StandsFor, bump_object, used_space};
+ghost use Rattle.bb_memory_base.specs.declared.layout.Layout.{Layout};
+ghost use Rattle.bb_memory_base.specs.declared.allocator.AllocationError.{AllocationError};
+ghost use Rattle.bb_memory_base.specs.declared.allocator.Command.{Command};
+ghost use Rattle.bb_memory_base.specs.declared.allocator.Reply.{Reply};
 ghost use Rattle.bb_memory.specs.Bump.{Bump, bump_of};
 
 pub use crate::allocator::{AllocationError, BaseAllocator};
@@ -125,7 +129,7 @@ impl BaseAllocator for BumpAllocator {
 
     ghost geometry = { λ bump. bump.region };
 
-    ghost region = { λ region. region };
+    ghost region_of = { λ region. region };
 
     ghost may_allocate = { MayAllocate };
 
@@ -195,3 +199,30 @@ pub fn run_bump(
 {
     run_base(allocator, live, commands)
 }
+
+/// What the definition of the bump object says of every region and every list of commands. There is exactly one answer to
+/// each request. A chunk that is given begins at a multiple of the asked alignment, has exactly the asked size, and begins
+/// at or after the end of every chunk of the list, where that is in order. Each run from a live list that a bump stands
+/// for leads to such a list again, which is sound. It does nothing: its contract is the law.
+pub fn bump_object_law()
+    ensures some_answer { (region : Region) (live : List Chunk) (layout : Layout)
+        → (answer : Result Chunk AllocationError) × MayAllocate region live layout answer }
+    ensures one_answer { (region : Region) (live : List Chunk) (layout : Layout)
+        (one other : Result Chunk AllocationError)
+        → MayAllocate region live layout one → MayAllocate region live layout other
+        → one ≡ other }
+    ensures aligned { (region : Region) (live : List Chunk) (layout : Layout) (chunk : Chunk)
+        → MayAllocate region live layout (Ok chunk)
+        → chunk.place % layout.align ≡ 0 }
+    ensures exact_size { (region : Region) (live : List Chunk) (layout : Layout) (chunk : Chunk)
+        → MayAllocate region live layout (Ok chunk)
+        → chunk.len ≡ layout.size }
+    ensures after_all { (region : Region) (live : List Chunk) (layout : Layout) (chunk : Chunk)
+        → IsInOrder region.start live → MayAllocate region live layout (Ok chunk)
+        → All (λ other. chunk_end other ≤ chunk.place) live }
+    ensures keeps_sound { (region : Region) (position : ℕ) (live new : List Chunk)
+        (commands : List Command) (replies : List Reply)
+        → StandsFor region position live
+        → IsRun (Step (bump_object region)) live commands replies new
+        → (left : ℕ) × StandsFor region left new }
+{}

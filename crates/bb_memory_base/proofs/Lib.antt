@@ -1,5 +1,6 @@
+pub mod BumpObjects
 mod Layouts
 pub mod LeastPlaces
 pub mod LiveLists
 mod PowersOfTwo
-mod Runs
+pub mod Runs

@@ -1,13 +1,12 @@
 -- Chunks in order, and the live lists that a bump stands for.
-use Rattle.std.proofs.Common.{◌≡◌, ℕ, ◌+◌, ◌-◌, ◌≤◌, ◌<◌, List, [], ◌∷◌, ◌++◌, refl, inl, inr, arith, ap, sym, ◌∙◌}
-use Rattle.std.specs.List.{AllPairs, AllByRecursion}
+use Rattle.std.proofs.Common.{◌≡◌, ℕ, ◌+◌, ◌-◌, ◌≤◌, List, [], ◌∷◌, ◌++◌, refl, arith, ap, sym}
+use Rattle.std.specs.List.{All, AllPairs, AllByRecursion}
 use Rattle.std.proofs.lemmas.List.Elements.{All-from_recursion}
 use Rattle.std.proofs.lemmas.List.Kept.{AllPairs-cons}
-use Rattle.std.proofs.lemmas.Bool.{cases_lt}
 use Rattle.bb_memory_base.specs.Region.{Region, region_end}
 use Rattle.bb_memory_base.specs.Chunk.{Chunk, chunk_end, IsInside, AreApart}
 use Rattle.bb_memory_base.specs.LiveList.{IsSound}
-use Rattle.bb_memory_base.specs.BumpObject.{end_of_last, IsInOrder, used_space, StandsFor}
+use Rattle.bb_memory_base.specs.BumpObject.{end_of_last, IsInOrder, StandsFor}
 
 -- chunks in order end no earlier than where they begin
 pub end_of_last-above : (v : ℕ) (live : List Chunk) → IsInOrder v live → v ≤ end_of_last v live
@@ -27,6 +26,16 @@ all_above : (v w : ℕ) (live : List Chunk) → v ≤ w → IsInOrder w live →
 all_above v w [] le ordered = tt
 all_above v w (chunk ∷ live) le (here, rest) =
     (omega (arith, here), all_above v (chunk_end chunk) live (omega (arith, here)) rest)
+
+-- where the last one ends at or below w, each does
+all_ended : (v w : ℕ) (live : List Chunk) → IsInOrder v live → end_of_last v live ≤ w → AllByRecursion (λ chunk. chunk_end chunk ≤ w) live
+all_ended v w [] ordered end = tt
+all_ended v w (chunk ∷ live) (here, rest) end =
+    (omega (arith, end, end_of_last-above (chunk_end chunk) live rest), all_ended (chunk_end chunk) w live rest end)
+
+-- the same, of every element
+pub all_end_by : (v w : ℕ) (live : List Chunk) → IsInOrder v live → end_of_last v live ≤ w → All (λ chunk. chunk_end chunk ≤ w) live
+all_end_by v w live ordered end = All-from_recursion (λ chunk. chunk_end chunk ≤ w) live (all_ended v w live ordered end)
 
 all_apart : (one : Chunk) (live : List Chunk) → AllByRecursion (λ chunk. chunk_end one ≤ chunk.place) live → AllByRecursion (AreApart one) live
 all_apart one [] above = tt

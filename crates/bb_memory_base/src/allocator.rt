@@ -97,7 +97,7 @@ pub trait BaseAllocator {
 
     ghost geometry: { Self → Geometry };
 
-    ghost region: { Geometry → Region };
+    ghost region_of: { Geometry → Region };
 
     /// What an allocator of this geometry may answer to a request on a live list.
     ghost may_allocate: { Geometry → List Chunk → Layout → Result Chunk AllocationError → Type 0 };
@@ -117,7 +117,7 @@ pub trait BaseAllocator {
             → stands_for self.new (live ++ chunk ∷ [])) }
         ensures kept { OnErr result ((live : List Chunk) → stands_for self.old live
             → stands_for self.new live) }
-        ensures inside { IfOk result (IsInside (region (geometry self.old))) }
+        ensures inside { IfOk result (IsInside (region_of (geometry self.old))) }
         ensures aligned { IfOk result (λ chunk. chunk.place % layout.align ≡ 0) }
         ensures long_enough { IfOk result (λ chunk. layout.size ≤ chunk.len) }
         ensures geometry { geometry self.new ≡ geometry self.old };
@@ -141,7 +141,7 @@ pub trait BaseAllocator {
 
     /// Each such list is sound.
     ghost sound: { (allocator : Self) (live : List Chunk) → stands_for allocator live
-        → IsSound (region (geometry allocator)) live };
+        → IsSound (region_of (geometry allocator)) live };
 }
 
 /// Asks for a chunk, and appends it to the live list.
@@ -228,7 +228,7 @@ pub fn run_base<A: BaseAllocator>(
         IsRun (Step (object_of A.RELEASE_EMPTIES (A.may_allocate (A.geometry allocator.old))))
         live.old.items commands.now replies.items live.new.items) }
     ensures stands { OnOk result (A.stands_for allocator.new live.new.items) }
-    ensures sound { OnOk result (IsSound (A.region (A.geometry allocator.old)) live.new.items) }
+    ensures sound { OnOk result (IsSound (A.region_of (A.geometry allocator.old)) live.new.items) }
     ensures geometry { A.geometry allocator.new ≡ A.geometry allocator.old }
     ensures kept { OnErr result ((allocator.new ≡ allocator.old) × (live.new.items ≡ live.old.items)) }
 {
