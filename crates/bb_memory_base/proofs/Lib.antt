@@ -4,3 +4,4 @@ pub mod LeastPlaces
 pub mod LiveLists
 mod PowersOfTwo
 pub mod Runs
+mod Written

@@ -1,7 +1,10 @@
 pub mod BumpObject
 pub mod Chunk
+pub mod HeldBytes
 pub mod LeastPlace
+pub mod Lending
 pub mod LiveList
 pub mod Object
 pub mod Region
+pub mod ResizableObject
 pub mod Run

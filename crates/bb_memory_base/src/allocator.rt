@@ -1,12 +1,10 @@
 //! What allocators over a region promise, and runs of commands over any of them.
-ghost use Rattle.std.specs.Prelude.{◌≡◌, ◌+◌, ◌<◌, ◌≤◌, List, IfOk, OnOk, OnErr, vec_len, vec_capacity};
-ghost use Rattle.bb_memory_base.specs.Chunk.{Chunk};
-ghost use Rattle.bb_memory_base.specs.LiveList.{IsSound};
-ghost use Rattle.bb_memory_base.specs.Object.{object_of};
-ghost use Rattle.bb_memory_base.specs.Run.{Step, IsRun};
+mod run;
+
+pub use run::{run_base, run_full};
 
 use crate::layout::{Chunk, Layout};
-use std::alloc::AllocError;
+use crate::region::Region;
 use thiserror::Error;
 
 /// Why a request was refused.
@@ -84,6 +82,7 @@ pub trait BaseAllocator {
     ghost use Rattle.bb_memory_base.specs.Chunk.{Chunk, IsInside};
     ghost use Rattle.bb_memory_base.specs.LiveList.{IsSound};
     ghost use Rattle.bb_memory_base.specs.Object.{released};
+    ghost use Rattle.bb_memory_base.specs.HeldBytes.{held_region, ZeroesOnly};
     ghost use Rattle.bb_memory_base.specs.declared.layout.Layout.{Layout};
     ghost use Rattle.bb_memory_base.specs.declared.allocator.AllocationError.{AllocationError};
 
@@ -130,6 +129,33 @@ pub trait BaseAllocator {
             → stands_for self.new (released RELEASE_EMPTIES live position) }
         ensures geometry { geometry self.new ≡ geometry self.old };
 
+    /// Asks for a chunk as `allocate` does, and makes its bytes zero. Every other byte of the region stays, and after a
+    /// refusal all do. The region's start and size have to be those of the allocator's maker.
+    fn allocate_zeroed(
+        &mut self,
+        layout: Layout,
+        region: &mut Region,
+    ) -> Result<Chunk, AllocationError>
+        requires same_region { held_region region.old ≡ region_of (geometry self.old) }
+        ensures answer { (live : List Chunk) → stands_for self.old live
+            → may_allocate (geometry self.old) live layout result }
+        ensures appended { IfOk result (λ chunk. (live : List Chunk) → stands_for self.old live
+            → stands_for self.new (live ++ chunk ∷ [])) }
+        ensures kept { OnErr result ((live : List Chunk) → stands_for self.old live
+            → stands_for self.new live) }
+        ensures inside { IfOk result (IsInside (region_of (geometry self.old))) }
+        ensures aligned { IfOk result (λ chunk. chunk.place % layout.align ≡ 0) }
+        ensures long_enough { IfOk result (λ chunk. layout.size ≤ chunk.len) }
+        ensures geometry { geometry self.new ≡ geometry self.old }
+
+        ensures zeroed { IfOk result (λ chunk. ZeroesOnly region.old region.new chunk) }
+        ensures bytes_kept { OnErr result (region.new ≡ region.old) }
+    {
+        let chunk = self.allocate(layout)?;
+        region.zero(chunk);
+        Ok(chunk)
+    }
+
     /// Does nothing. It is the proof that each value stands for some live list, so that no clause holds for want of one.
     fn stands_for_some_list(&self)
         ensures { (live : List Chunk) × stands_for self.now live };
@@ -144,99 +170,118 @@ pub trait BaseAllocator {
         → IsSound (region_of (geometry allocator)) live };
 }
 
-/// Asks for a chunk, and appends it to the live list.
-fn apply_allocate<A: BaseAllocator>(
-    allocator: &mut A,
-    live: &mut Vec<Chunk>,
-    layout: Layout,
-) -> Reply
-    requires stands { A.stands_for allocator.old live.old.items }
-    requires room { vec_len live.old < vec_capacity live.old }
-    ensures step { Step (object_of A.RELEASE_EMPTIES (A.may_allocate (A.geometry allocator.old)))
-        live.old.items (Command.Allocate layout) result live.new.items }
-    ensures stands { A.stands_for allocator.new live.new.items }
-    ensures geometry { A.geometry allocator.new ≡ A.geometry allocator.old }
-    ensures len { vec_len live.new ≤ vec_len live.old + 1 }
-    ensures capacity { vec_capacity live.old ≤ vec_capacity live.new }
-{
-    match allocator.allocate(layout) {
-        Ok(chunk) => {
-            live.push_reserved(chunk);
-            Reply::Chunk(chunk)
-        }
-        Err(error) => Reply::Refused(error),
-    }
-}
+/// An allocator whose chunks can be resized in place. A release takes out its chunk alone and closes up, and no two
+/// chunks of a list that it stands for have the same place. A resize never changes the allocator: what may be used of
+/// the part that is reserved for a chunk is told by the answer alone.
+pub trait Allocator: BaseAllocator {
+    ghost use Rattle.std.specs.Prelude.{◌≡◌, ◌<◌, ◌≤◌, ◌%◌, ℕ, false, List, Some, Result, IfOk, OnErr, slice_get, slice_set};
+    ghost use Rattle.bb_memory_base.specs.Chunk.{Chunk, IsInside};
+    ghost use Rattle.bb_memory_base.specs.HeldBytes.{held_region, part_behind, ZeroesOnly};
+    ghost use Rattle.bb_memory_base.specs.ResizableObject.{PlacesDiffer};
+    ghost use Rattle.bb_memory_base.specs.declared.layout.Layout.{Layout};
+    ghost use Rattle.bb_memory_base.specs.declared.allocator.AllocationGrowError.{AllocationGrowError};
+    ghost use Rattle.bb_memory_base.specs.declared.allocator.AllocationShrinkError.{AllocationShrinkError};
 
-/// Gives back the chunk at a position, and takes it or all chunks out of the live list.
-fn apply_release<A: BaseAllocator>(
-    allocator: &mut A,
-    live: &mut Vec<Chunk>,
-    position: usize,
-) -> Reply
-    requires stands { A.stands_for allocator.old live.old.items }
-    ensures step { Step (object_of A.RELEASE_EMPTIES (A.may_allocate (A.geometry allocator.old)))
-        live.old.items (Command.Release position) result live.new.items }
-    ensures stands { A.stands_for allocator.new live.new.items }
-    ensures geometry { A.geometry allocator.new ≡ A.geometry allocator.old }
-    ensures len { vec_len live.new ≤ vec_len live.old }
-    ensures capacity { vec_capacity live.old ≤ vec_capacity live.new }
-{
-    let Some(chunk) = live.get(position).copied() else {
-        return Reply::Passed;
-    };
-    allocator.deallocate(chunk.place(), Layout::empty());
-    if A::RELEASE_EMPTIES {
-        live.clear();
-    } else {
-        live.remove(position);
-    }
-    Reply::Released
-}
+    /// What the answers to resizes depend on. The geometry fixes it, by the law below.
+    ghost Figures: { Type 0 };
 
-/// Applies one command. A resize is passed over.
-fn apply_base<A: BaseAllocator>(allocator: &mut A, live: &mut Vec<Chunk>, command: Command) -> Reply
-    requires stands { A.stands_for allocator.old live.old.items }
-    requires room { vec_len live.old < vec_capacity live.old }
-    ensures step { Step (object_of A.RELEASE_EMPTIES (A.may_allocate (A.geometry allocator.old)))
-        live.old.items command result live.new.items }
-    ensures stands { A.stands_for allocator.new live.new.items }
-    ensures geometry { A.geometry allocator.new ≡ A.geometry allocator.old }
-    ensures len { vec_len live.new ≤ vec_len live.old + 1 }
-    ensures capacity { vec_capacity live.old ≤ vec_capacity live.new }
-{
-    match command {
-        Command::Allocate(layout) => apply_allocate(allocator, live, layout),
-        Command::Release(position) => apply_release(allocator, live, position),
-        Command::Grow(..) | Command::Shrink(..) => Reply::Passed,
-    }
-}
+    ghost figures: { Self → Figures };
 
-/// Applies the commands in order, and answers one reply a command. `live` has the chunks that are out: a new chunk is
-/// appended to it, and a release takes its chunk out and closes up, or empties it where `RELEASE_EMPTIES` is true. A
-/// command that names no position of `live` is passed over, and so is every resize.
-///
-/// Memory for the replies and for `live` is reserved first, from `live`'s allocator. Where it is refused, no command is
-/// applied, and the allocator and `live`'s contents are as before.
-pub fn run_base<A: BaseAllocator>(
-    allocator: &mut A,
-    live: &mut Vec<Chunk>,
-    commands: &[Command],
-) -> Result<Vec<Reply>, AllocError>
-    requires { A.stands_for allocator.old live.old.items }
-    ensures run { IfOk result (λ replies.
-        IsRun (Step (object_of A.RELEASE_EMPTIES (A.may_allocate (A.geometry allocator.old))))
-        live.old.items commands.now replies.items live.new.items) }
-    ensures stands { OnOk result (A.stands_for allocator.new live.new.items) }
-    ensures sound { OnOk result (IsSound (A.region_of (A.geometry allocator.old)) live.new.items) }
-    ensures geometry { A.geometry allocator.new ≡ A.geometry allocator.old }
-    ensures kept { OnErr result ((allocator.new ≡ allocator.old) × (live.new.items ≡ live.old.items)) }
-{
-    let mut replies = Vec::with_capacity(*live.allocator(), commands.len())?;
-    live.reserve(commands.len())?;
-    for command in commands {
-        let reply = apply_base(allocator, live, *command);
-        replies.push_reserved(reply);
+    /// How many bytes are reserved for the chunk at a place.
+    ghost reserved_at: { Figures → ℕ → ℕ };
+
+    /// What an allocator of these figures may answer on a live list to a resize of the chunk at a place, from an old
+    /// layout to a new one.
+    ghost may_grow: { Figures → List Chunk → ℕ → Layout → Layout → Result Chunk AllocationGrowError → Type 0 };
+
+    ghost may_shrink: { Figures → List Chunk → ℕ → Layout → Layout → Result Chunk AllocationShrinkError → Type 0 };
+
+    /// How many bytes are reserved for the live chunk at this place.
+    fn reserved(&self, place: usize) -> usize
+        requires { Self.may_release self.now place }
+        ensures { result ≡ reserved_at (figures self.now) place };
+
+    /// Gives the live chunk at this place a larger size. The place has to be a multiple of the old alignment.
+    fn grow(&mut self, place: usize, old: Layout, new: Layout) -> Result<Chunk, AllocationGrowError>
+        requires live { Self.may_release self.old place }
+        requires aligned { place % old.align ≡ 0 }
+        ensures answer { (live : List Chunk) (position : ℕ) (chunk : Chunk)
+            → Self.stands_for self.old live → slice_get live position ≡ Some chunk
+            → chunk.place ≡ place → may_grow (figures self.old) live place old new result }
+        ensures resized { IfOk result (λ grown. (live : List Chunk) (position : ℕ) (chunk : Chunk)
+            → Self.stands_for self.old live → slice_get live position ≡ Some chunk
+            → chunk.place ≡ place → Self.stands_for self.new (slice_set live position grown)) }
+        ensures same_place { IfOk result (λ grown. grown.place ≡ place) }
+        ensures longer { IfOk result (λ grown. old.size < grown.len) }
+        ensures long_enough { IfOk result (λ grown. new.size ≤ grown.len) }
+        ensures within { IfOk result (λ grown. grown.len ≤ reserved_at (figures self.old) place) }
+        ensures inside { IfOk result (IsInside (Self.region_of (Self.geometry self.old))) }
+        ensures kept { self.new ≡ self.old };
+
+    /// Gives the live chunk at this place a smaller size. The place has to be a multiple of the old alignment, and the old
+    /// size at most what is reserved.
+    fn shrink(
+        &mut self,
+        place: usize,
+        old: Layout,
+        new: Layout,
+    ) -> Result<Chunk, AllocationShrinkError>
+        requires live { Self.may_release self.old place }
+        requires aligned { place % old.align ≡ 0 }
+        requires reserved { old.size ≤ reserved_at (figures self.old) place }
+        ensures answer { (live : List Chunk) (position : ℕ) (chunk : Chunk)
+            → Self.stands_for self.old live → slice_get live position ≡ Some chunk
+            → chunk.place ≡ place → may_shrink (figures self.old) live place old new result }
+        ensures resized { IfOk result (λ shrunk. (live : List Chunk) (position : ℕ) (chunk : Chunk)
+            → Self.stands_for self.old live → slice_get live position ≡ Some chunk
+            → chunk.place ≡ place → Self.stands_for self.new (slice_set live position shrunk)) }
+        ensures same_place { IfOk result (λ shrunk. shrunk.place ≡ place) }
+        ensures long_enough { IfOk result (λ shrunk. new.size ≤ shrunk.len) }
+        ensures within { IfOk result (λ shrunk. shrunk.len ≤ reserved_at (figures self.old) place) }
+        ensures inside { IfOk result (IsInside (Self.region_of (Self.geometry self.old))) }
+        ensures kept { self.new ≡ self.old };
+
+    /// Grows a chunk as `grow` does, and makes the bytes behind its old size zero, up to the end of what is answered. Every
+    /// other byte of the region stays, and after a refusal all do. The region's start and size have to be those of the
+    /// allocator's maker.
+    fn grow_zeroed(
+        &mut self,
+        place: usize,
+        old: Layout,
+        new: Layout,
+        region: &mut Region,
+    ) -> Result<Chunk, AllocationGrowError>
+        requires live { Self.may_release self.old place }
+        requires aligned { place % old.align ≡ 0 }
+        requires same_region { held_region region.old ≡ Self.region_of (Self.geometry self.old) }
+        ensures answer { (live : List Chunk) (position : ℕ) (chunk : Chunk)
+            → Self.stands_for self.old live → slice_get live position ≡ Some chunk
+            → chunk.place ≡ place → may_grow (figures self.old) live place old new result }
+        ensures resized { IfOk result (λ grown. (live : List Chunk) (position : ℕ) (chunk : Chunk)
+            → Self.stands_for self.old live → slice_get live position ≡ Some chunk
+            → chunk.place ≡ place → Self.stands_for self.new (slice_set live position grown)) }
+        ensures same_place { IfOk result (λ grown. grown.place ≡ place) }
+        ensures longer { IfOk result (λ grown. old.size < grown.len) }
+        ensures long_enough { IfOk result (λ grown. new.size ≤ grown.len) }
+        ensures within { IfOk result (λ grown. grown.len ≤ reserved_at (figures self.old) place) }
+        ensures inside { IfOk result (IsInside (Self.region_of (Self.geometry self.old))) }
+        ensures kept { self.new ≡ self.old }
+
+        ensures zeroed { IfOk result
+            (λ grown. ZeroesOnly region.old region.new (part_behind old.size grown)) }
+        ensures bytes_kept { OnErr result (region.new ≡ region.old) }
+    {
+        let grown = self.grow(place, old, new)?;
+        region.zero(grown.behind(old.size()));
+        Ok(grown)
     }
-    Ok(replies)
+
+    /// Allocators of one geometry have the same figures.
+    ghost fixed: { (one other : Self) → Self.geometry one ≡ Self.geometry other → figures one ≡ figures other };
+
+    /// A release takes out the chunk at its place alone.
+    ghost closes_up: { Self.RELEASE_EMPTIES ≡ false };
+
+    /// No two chunks of a list that it stands for have the same place.
+    ghost distinct: { (allocator : Self) (live : List Chunk) → Self.stands_for allocator live → PlacesDiffer live };
 }

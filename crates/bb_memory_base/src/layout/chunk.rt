@@ -3,6 +3,7 @@ ghost use Rattle.std.specs.Prelude.{◌≡◌, ◌<◌, ◌≤◌, ◌%◌, IfSo
 ghost use Rattle.std.specs.Option.{SomeIff};
 ghost use Rattle.bb_memory_base.specs.Chunk.{Chunk, IsChunk, chunk_end};
 ghost use Rattle.bb_memory_base.specs.BumpObject.{chunk_at_or_after};
+ghost use Rattle.bb_memory_base.specs.HeldBytes.{part_behind};
 
 use super::{Layout, round_up};
 use std::marker::Model;
@@ -76,5 +77,16 @@ impl Chunk {
         ensures { result ≡ chunk_end self.now }
     {
         self.place + self.len
+    }
+
+    /// What lies behind its first bytes.
+    pub(crate) fn behind(&self, size: usize) -> Chunk
+        requires { size ≤ self.now.len }
+        ensures { result ≡ part_behind size self.now }
+    {
+        Chunk {
+            place: self.place + size,
+            len: self.len - size,
+        }
     }
 }

@@ -1,14 +1,16 @@
 use Rattle.std.proofs.Common.{◌≡◌, ◌+◌, ◌≤◌, take, length, vec_len, vec_capacity}
-use Rattle.bb_memory_base.specs.Object.{object_of}
-use Rattle.bb_memory_base.specs.Run.{Step, IsRun}
-use Rattle.bb_memory_base.proofs.allocator.run_base.Given as goal
+use Rattle.bb_memory_base.specs.Run.{IsRun}
+use Rattle.bb_memory_base.specs.ResizableObject.{ResizableStep, resizable_object_of}
+use Rattle.bb_memory_base.proofs.allocator.run.run_full.Given as goal
 
 -- the commands so far are a run, and there is room for what is left
 abbrev pub invariant-loop-command : goal.invariant-loop-command
 invariant-loop-command g l =
     let A = g.A.BaseAllocator in
+    let B = g.A.Allocator in
+    let figures = B.figures l.fn.allocator in
     record {
-      run : IsRun (Step (object_of A.RELEASE_EMPTIES (A.may_allocate (A.geometry l.fn.allocator))))
+      run : IsRun (ResizableStep (resizable_object_of (A.may_allocate (A.geometry l.fn.allocator)) (B.reserved_at figures) (B.may_grow figures) (B.may_shrink figures)))
           l.fn.live.items (take l.command-index l.commands) l.replies.items l.live.items;
       stands : A.stands_for l.allocator l.live.items;
       geometry : A.geometry l.allocator ≡ A.geometry l.fn.allocator;

@@ -3,7 +3,7 @@ use Rattle.std.proofs.lemmas.List.{take_more}
 use Rattle.bb_memory_base.specs.Object.{object_of}
 use Rattle.bb_memory_base.specs.Run.{Step}
 use Rattle.bb_memory_base.proofs.Runs.{IsRun-push}
-use Rattle.bb_memory_base.proofs.allocator.run_base.Goals as goal
+use Rattle.bb_memory_base.proofs.allocator.run.run_base.Goals as goal
 
 pub loop-command-preserved : goal.loop-command-preserved
 loop-command-preserved g c =

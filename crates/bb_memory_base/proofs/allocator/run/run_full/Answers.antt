@@ -1,0 +1,34 @@
+use Rattle.std.proofs.Common.{◌≡◌, ◌+◌, ◌∷◌, ◌++◌, [], take, ap, sym, ◌∙◌, subst, arith}
+use Rattle.std.proofs.lemmas.List.{take_more}
+use Rattle.bb_memory_base.specs.ResizableObject.{ResizableStep, resizable_object_of}
+use Rattle.bb_memory_base.proofs.Runs.{IsRun-push}
+use Rattle.bb_memory_base.proofs.allocator.run.run_full.Goals as goal
+
+-- two equations as one of pairs
+pair : {X Y : Type 0} {a b : X} {c d : Y} → a ≡ b → c ≡ d → ◌≡◌ {A = X × Y} (a, c) (b, d)
+pair e f = cc
+
+pub loop-command-preserved : goal.loop-command-preserved
+loop-command-preserved g c =
+    let A = g.A.BaseAllocator in
+    let B = g.A.Allocator in
+    let step_at = λ (x : A.Geometry × B.Figures). ResizableStep (resizable_object_of (A.may_allocate x.0) (B.reserved_at x.1) (B.may_grow x.1) (B.may_shrink x.1)) in
+    let same = c.loop-command.invariant.geometry in
+    let figures = g.met.A.Allocator.fixed c.loop-command.allocator c.args.allocator.now same in
+    let commands = c.args.commands.now in
+    let i = c.loop-command.command-index in
+    let command = c.command-item.result in
+    let done : take (i + 1) commands ≡ take i commands ++ command ∷ [] =
+    take_more commands i command (omega arith) ∙ ap (λ x. take i commands ++ x ∷ []) (sym c.command-item.is) in
+    let live = c.loop-command.live.items in
+    let reply = c.apply_full-reply.result in
+    let left = c.apply_full-reply.new.live.items in
+    let step = subst (λ (x : A.Geometry × B.Figures). step_at x live command reply left) (pair same figures) c.apply_full-reply.ensures.step in
+    record {
+      run = rw (done, c.push_reserved.ensures.items) (IsRun-push (step_at (A.geometry c.args.allocator.now, B.figures c.args.allocator.now)) c.args.live.now.items live left (take i commands) c.loop-command.replies.items command reply c.loop-command.invariant.run step);
+      stands = c.apply_full-reply.ensures.stands;
+      geometry = c.apply_full-reply.ensures.geometry ∙ same;
+      room = omega arith;
+      told = omega arith;
+      space = omega arith;
+    }

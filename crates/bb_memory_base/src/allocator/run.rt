@@ -1,0 +1,223 @@
+//! Runs of commands over any allocator.
+ghost use Rattle.std.specs.Prelude.{◌≡◌, ◌+◌, ◌<◌, ◌≤◌, List, IfOk, OnOk, OnErr, vec_len, vec_capacity};
+ghost use Rattle.bb_memory_base.specs.LiveList.{IsSound};
+ghost use Rattle.bb_memory_base.specs.Object.{object_of};
+ghost use Rattle.bb_memory_base.specs.Run.{Step, IsRun};
+ghost use Rattle.bb_memory_base.specs.ResizableObject.{ResizableStep, resizable_object_of};
+
+use super::{Allocator, BaseAllocator, Command, Reply};
+use crate::layout::{Chunk, Layout};
+use std::alloc::AllocError;
+
+/// Asks for a chunk, and appends it to the live list.
+fn apply_allocate<A: BaseAllocator>(
+    allocator: &mut A,
+    live: &mut Vec<Chunk>,
+    layout: Layout,
+) -> Reply
+    requires stands { A.stands_for allocator.old live.old.items }
+    requires room { vec_len live.old < vec_capacity live.old }
+    ensures step { Step (object_of A.RELEASE_EMPTIES (A.may_allocate (A.geometry allocator.old)))
+        live.old.items (Command.Allocate layout) result live.new.items }
+    ensures stands { A.stands_for allocator.new live.new.items }
+    ensures geometry { A.geometry allocator.new ≡ A.geometry allocator.old }
+    ensures len { vec_len live.new ≤ vec_len live.old + 1 }
+    ensures capacity { vec_capacity live.old ≤ vec_capacity live.new }
+{
+    match allocator.allocate(layout) {
+        Ok(chunk) => {
+            live.push_reserved(chunk);
+            Reply::Chunk(chunk)
+        }
+        Err(error) => Reply::Refused(error),
+    }
+}
+
+/// Gives back the chunk at a position, and takes it or all chunks out of the live list.
+fn apply_release<A: BaseAllocator>(
+    allocator: &mut A,
+    live: &mut Vec<Chunk>,
+    position: usize,
+) -> Reply
+    requires stands { A.stands_for allocator.old live.old.items }
+    ensures step { Step (object_of A.RELEASE_EMPTIES (A.may_allocate (A.geometry allocator.old)))
+        live.old.items (Command.Release position) result live.new.items }
+    ensures stands { A.stands_for allocator.new live.new.items }
+    ensures geometry { A.geometry allocator.new ≡ A.geometry allocator.old }
+    ensures len { vec_len live.new ≤ vec_len live.old }
+    ensures capacity { vec_capacity live.old ≤ vec_capacity live.new }
+{
+    let Some(chunk) = live.get(position).copied() else {
+        return Reply::Passed;
+    };
+    allocator.deallocate(chunk.place(), Layout::empty());
+    if A::RELEASE_EMPTIES {
+        live.clear();
+    } else {
+        live.remove(position);
+    }
+    Reply::Released
+}
+
+/// Applies one command. A resize is passed over.
+fn apply_base<A: BaseAllocator>(allocator: &mut A, live: &mut Vec<Chunk>, command: Command) -> Reply
+    requires stands { A.stands_for allocator.old live.old.items }
+    requires room { vec_len live.old < vec_capacity live.old }
+    ensures step { Step (object_of A.RELEASE_EMPTIES (A.may_allocate (A.geometry allocator.old)))
+        live.old.items command result live.new.items }
+    ensures stands { A.stands_for allocator.new live.new.items }
+    ensures geometry { A.geometry allocator.new ≡ A.geometry allocator.old }
+    ensures len { vec_len live.new ≤ vec_len live.old + 1 }
+    ensures capacity { vec_capacity live.old ≤ vec_capacity live.new }
+{
+    match command {
+        Command::Allocate(layout) => apply_allocate(allocator, live, layout),
+        Command::Release(position) => apply_release(allocator, live, position),
+        Command::Grow(..) | Command::Shrink(..) => Reply::Passed,
+    }
+}
+
+/// Applies the commands in order, and answers one reply a command. `live` has the chunks that are out: a new chunk is
+/// appended to it, and a release takes its chunk out and closes up, or empties it where `RELEASE_EMPTIES` is true. A
+/// command that names no position of `live` is passed over, and so is every resize.
+///
+/// Memory for the replies and for `live` is reserved first, from `live`'s allocator. Where it is refused, no command is
+/// applied, and the allocator and `live`'s contents are as before.
+pub fn run_base<A: BaseAllocator>(
+    allocator: &mut A,
+    live: &mut Vec<Chunk>,
+    commands: &[Command],
+) -> Result<Vec<Reply>, AllocError>
+    requires { A.stands_for allocator.old live.old.items }
+    ensures run { IfOk result (λ replies.
+        IsRun (Step (object_of A.RELEASE_EMPTIES (A.may_allocate (A.geometry allocator.old))))
+        live.old.items commands.now replies.items live.new.items) }
+    ensures stands { OnOk result (A.stands_for allocator.new live.new.items) }
+    ensures sound { OnOk result (IsSound (A.region_of (A.geometry allocator.old)) live.new.items) }
+    ensures geometry { A.geometry allocator.new ≡ A.geometry allocator.old }
+    ensures kept { OnErr result ((allocator.new ≡ allocator.old) × (live.new.items ≡ live.old.items)) }
+{
+    let mut replies = Vec::with_capacity(*live.allocator(), commands.len())?;
+    live.reserve(commands.len())?;
+    for command in commands {
+        let reply = apply_base(allocator, live, *command);
+        replies.push_reserved(reply);
+    }
+    Ok(replies)
+}
+
+/// Grows the chunk at a position, where its place is a multiple of the old alignment.
+fn apply_grow<A: Allocator>(
+    allocator: &mut A,
+    live: &mut Vec<Chunk>,
+    position: usize,
+    old: Layout,
+    new: Layout,
+) -> Reply
+    requires stands { A.stands_for allocator.old live.old.items }
+    ensures step { ResizableStep (resizable_object_of
+        (A.may_allocate (A.geometry allocator.old)) (A.reserved_at (A.figures allocator.old))
+        (A.may_grow (A.figures allocator.old)) (A.may_shrink (A.figures allocator.old)))
+        live.old.items (Command.Grow position old new) result live.new.items }
+    ensures stands { A.stands_for allocator.new live.new.items }
+    ensures kept { allocator.new ≡ allocator.old }
+    ensures len { vec_len live.new ≡ vec_len live.old }
+    ensures capacity { vec_capacity live.old ≤ vec_capacity live.new }
+{
+    let Some(chunk) = live.get(position).copied() else {
+        return Reply::Passed;
+    };
+    if chunk.place() % old.align() != 0 {
+        return Reply::Passed;
+    }
+    match allocator.grow(chunk.place(), old, new) {
+        Ok(grown) => {
+            live[position] = grown;
+            Reply::Chunk(grown)
+        }
+        Err(error) => Reply::GrowRefused(error),
+    }
+}
+
+/// Shrinks the chunk at a position, where its place is a multiple of the old alignment and the old size is reserved.
+fn apply_shrink<A: Allocator>(
+    allocator: &mut A,
+    live: &mut Vec<Chunk>,
+    position: usize,
+    old: Layout,
+    new: Layout,
+) -> Reply
+    requires stands { A.stands_for allocator.old live.old.items }
+    ensures step { ResizableStep (resizable_object_of
+        (A.may_allocate (A.geometry allocator.old)) (A.reserved_at (A.figures allocator.old))
+        (A.may_grow (A.figures allocator.old)) (A.may_shrink (A.figures allocator.old)))
+        live.old.items (Command.Shrink position old new) result live.new.items }
+    ensures stands { A.stands_for allocator.new live.new.items }
+    ensures kept { allocator.new ≡ allocator.old }
+    ensures len { vec_len live.new ≡ vec_len live.old }
+    ensures capacity { vec_capacity live.old ≤ vec_capacity live.new }
+{
+    let Some(chunk) = live.get(position).copied() else {
+        return Reply::Passed;
+    };
+    let place = chunk.place();
+    if place % old.align() != 0 || old.size() > allocator.reserved(place) {
+        return Reply::Passed;
+    }
+    match allocator.shrink(place, old, new) {
+        Ok(shrunk) => {
+            live[position] = shrunk;
+            Reply::Chunk(shrunk)
+        }
+        Err(error) => Reply::ShrinkRefused(error),
+    }
+}
+
+/// Applies one command.
+fn apply_full<A: Allocator>(allocator: &mut A, live: &mut Vec<Chunk>, command: Command) -> Reply
+    requires stands { A.stands_for allocator.old live.old.items }
+    requires room { vec_len live.old < vec_capacity live.old }
+    ensures step { ResizableStep (resizable_object_of
+        (A.may_allocate (A.geometry allocator.old)) (A.reserved_at (A.figures allocator.old))
+        (A.may_grow (A.figures allocator.old)) (A.may_shrink (A.figures allocator.old)))
+        live.old.items command result live.new.items }
+    ensures stands { A.stands_for allocator.new live.new.items }
+    ensures geometry { A.geometry allocator.new ≡ A.geometry allocator.old }
+    ensures len { vec_len live.new ≤ vec_len live.old + 1 }
+    ensures capacity { vec_capacity live.old ≤ vec_capacity live.new }
+{
+    match command {
+        Command::Allocate(layout) => apply_allocate(allocator, live, layout),
+        Command::Release(position) => apply_release(allocator, live, position),
+        Command::Grow(position, old, new) => apply_grow(allocator, live, position, old, new),
+        Command::Shrink(position, old, new) => apply_shrink(allocator, live, position, old, new),
+    }
+}
+
+/// Applies the commands in order, resizes too, and answers one reply a command, as [`run_base`] does. A resize replaces its
+/// chunk's length in `live`. It is passed over where `live` has no such position, where the chunk's place is no multiple
+/// of the old alignment, and, to shrink, where the old size exceeds what is reserved for the chunk.
+pub fn run_full<A: Allocator>(
+    allocator: &mut A,
+    live: &mut Vec<Chunk>,
+    commands: &[Command],
+) -> Result<Vec<Reply>, AllocError>
+    requires { A.stands_for allocator.old live.old.items }
+    ensures run { IfOk result (λ replies.
+        IsRun (ResizableStep (resizable_object_of
+        (A.may_allocate (A.geometry allocator.old)) (A.reserved_at (A.figures allocator.old))
+        (A.may_grow (A.figures allocator.old)) (A.may_shrink (A.figures allocator.old))))
+            live.old.items commands.now replies.items live.new.items) }
+    ensures stands { OnOk result (A.stands_for allocator.new live.new.items) }
+    ensures sound { OnOk result (IsSound (A.region_of (A.geometry allocator.old)) live.new.items) }
+    ensures geometry { A.geometry allocator.new ≡ A.geometry allocator.old }
+    ensures kept { OnErr result ((allocator.new ≡ allocator.old) × (live.new.items ≡ live.old.items)) }
+{
+    let mut replies = Vec::with_capacity(*live.allocator(), commands.len())?;
+    live.reserve(commands.len())?;
+    for command in commands {
+        let reply = apply_full(allocator, live, *command);
+        replies.push_reserved(reply);
+    }
+    Ok(replies)
+}

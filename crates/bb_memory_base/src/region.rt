@@ -1,0 +1,98 @@
+//! The bytes of a region, lent chunk by chunk.
+ghost use Rattle.std.specs.Prelude.{◌≡◌, ◌<◌, length, vec_len};
+ghost use Rattle.std.specs.Borrow.{sem};
+ghost use Rattle.bb_memory_base.specs.Region.{IsRegion};
+ghost use Rattle.bb_memory_base.specs.Chunk.{IsInside};
+ghost use Rattle.bb_memory_base.specs.HeldBytes.{held_region, bytes_in, ZeroesOnly};
+ghost use Rattle.bb_memory_base.specs.Lending.{LendsChunk};
+
+use crate::layout::Chunk;
+use std::marker::Model;
+
+/// The memory that an allocator hands out: bytes at places from a start on. It serves one owner.
+///
+/// ```
+/// let mut region = Region::new(4096, vec![in alloc; 7; 1024]?);
+/// let chunk = Chunk::new(4100, 4).unwrap();
+/// region.chunk_mut(chunk)[0] = 1;
+/// assert_eq!(region.bytes()[4], 1);
+/// region.zero(chunk);
+/// assert_eq!(region.bytes()[4], 0);
+/// ```
+#[derive(Drop)]
+pub struct Region {
+    start: usize,
+    bytes: Vec<u8>,
+}
+
+impl Model for Region {
+    ghost use Rattle.std.specs.Prelude.{vec_len};
+    ghost use Rattle.bb_memory_base.specs.Region.{IsRegion};
+    ghost use Rattle.bb_memory_base.specs.HeldBytes.{HeldBytes};
+
+    ghost Value = { HeldBytes };
+
+    ghost view = { λ r. record { start = r.start; bytes = r.bytes.items } };
+
+    ghost invariant = { λ r. IsRegion (record { start = r.start; size = vec_len r.bytes }) };
+}
+
+impl Region {
+    /// These bytes, from `start` on. The start has to be greater than 0, and start plus length at most `usize::MAX`.
+    pub fn new(start: usize, bytes: Vec<u8>) -> Region
+        requires region { IsRegion (record { start = start; size = vec_len bytes }) }
+        ensures { result ≡ record { start = start; bytes = bytes.items } }
+    {
+        Region { start, bytes }
+    }
+
+    /// The place of the first byte.
+    pub fn start_address(&self) -> usize
+        ensures { result ≡ self.now.start }
+    {
+        self.start
+    }
+
+    /// How many bytes there are.
+    pub fn size(&self) -> usize
+        ensures { result ≡ length self.now.bytes }
+    {
+        self.bytes.len()
+    }
+
+    /// All bytes, from the start on.
+    pub fn bytes(&self) -> &[u8]
+        ensures { result.now ≡ self.now.bytes }
+    {
+        self.bytes.as_slice()
+    }
+
+    /// The bytes of a chunk, which has to lie inside.
+    pub fn chunk(&self, c: Chunk) -> &[u8]
+        requires { IsInside (held_region self.now) c }
+        ensures { result.now ≡ bytes_in self.now c }
+    {
+        let from = c.place() - self.start;
+        &self.bytes.as_slice()[from..from + c.len()]
+    }
+
+    /// Lends the bytes of a chunk, which has to lie inside: what is written there is what the region then holds there,
+    /// and every other byte stays.
+    pub fn chunk_mut(&mut self, c: Chunk) -> &mut [u8]
+        requires { IsInside (held_region self.old) c }
+        ensures* writes_back { sem 𝓛 (LendsChunk self.entry c result) }
+        ensures value { result.now ≡ bytes_in self.old c }
+        ensures len { length result.now ≡ c.len }
+    {
+        let from = c.place() - self.start;
+        self.bytes.slice_mut(from..from + c.len())
+    }
+
+    /// Makes the bytes of a chunk zero, which has to lie inside. Every other byte stays.
+    pub fn zero(&mut self, c: Chunk)
+        requires { IsInside (held_region self.old) c }
+        ensures { ZeroesOnly self.old self.new c }
+    {
+        self.chunk_mut(c).fill(0);
+    }
+}
