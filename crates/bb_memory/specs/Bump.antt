@@ -1,7 +1,7 @@
 -- A bump allocator, as its contracts see it.
 use Rattle.std.specs.Prelude.{ℕ, ◌≤◌, ◌++◌, List, codes}
 use Rattle.std.specs.Fmt.{decimal}
-use Rattle.bb_memory_base.specs.Region.{Region, IsRegion}
+use Rattle.bb_memory_base.specs.Region.{Region, IsRegion, region_at}
 
 -- its region, and how much of it is used
 pub record Bump : Type 0 where
@@ -9,7 +9,7 @@ pub record Bump : Type 0 where
   pub used : ℕ
 
 abbrev pub bump_of : ℕ → ℕ → ℕ → Bump
-bump_of start size used = record { region = record { start = start; size = size }; used = used }
+bump_of start size used = record { region = region_at start size; used = used }
 
 -- no more is used than there is
 pub record IsBump (bump : Bump) : Type 0 where

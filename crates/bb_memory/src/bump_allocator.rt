@@ -1,6 +1,6 @@
 //! An allocator that gives one chunk after another, and takes all of them back at once.
 ghost use Rattle.std.specs.Prelude.{◌≡◌, ◌∷◌, ◌++◌, [], List, All, ◌+◌, ◌-◌, ◌<◌, ◌≤◌, ◌^◌, ◌%◌, ◌↔◌, ℕ, IfOk, OnOk, OnErr, IsTrue, Some, Result, slice_get};
-ghost use Rattle.bb_memory_base.specs.Region.{Region, IsRegion};
+ghost use Rattle.bb_memory_base.specs.Region.{Region, IsRegion, region_at};
 ghost use Rattle.bb_memory_base.specs.Chunk.{Chunk, IsInside, chunk_end};
 ghost use Rattle.bb_memory_base.specs.LiveList.{IsSound};
 ghost use Rattle.bb_memory_base.specs.Run.{Step, IsRun};
@@ -49,7 +49,7 @@ impl BumpAllocator {
     /// An allocator over the region of `size` bytes at `start`, with nothing given. The start has to be greater than 0,
     /// and start plus size at most `usize::MAX`; [`BumpAllocator::can_make`] tests both.
     pub fn new(start: usize, size: usize) -> Self
-        requires region { IsRegion (record { start = start; size = size }) }
+        requires { IsRegion (region_at start size) }
         ensures value { result ≡ bump_of start size 0 }
         ensures empty { StandsFor result.region result.used [] }
     {
@@ -62,8 +62,7 @@ impl BumpAllocator {
 
     /// Whether `new` may be called with these.
     pub fn can_make(start: usize, size: usize) -> bool
-        ensures { let region : Region = record { start = start; size = size } in
-            IsTrue result ↔ IsRegion region }
+        ensures { IsTrue result ↔ IsRegion (region_at start size) }
     {
         start != 0 && start.checked_add(size).is_some()
     }

@@ -1,6 +1,6 @@
 //! Allocators over a region that is handed in as numbers: a start and a size in bytes.
 #![tactic(auto)]
 
-pub use bb_memory_base::{allocator, layout};
+pub use bb_memory_base::{allocator, layout, region};
 
 pub mod bump_allocator;

@@ -7,6 +7,9 @@ pub record Region : Type 0 where
   pub start : ℕ
   pub size : ℕ
 
+abbrev pub region_at : ℕ → ℕ → Region
+region_at start size = record { start = start; size = size }
+
 abbrev pub region_end : Region → ℕ
 region_end region = region.start + region.size
 

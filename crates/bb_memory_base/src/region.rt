@@ -1,7 +1,7 @@
 //! The bytes of a region, lent chunk by chunk.
 ghost use Rattle.std.specs.Prelude.{◌≡◌, ◌<◌, length, vec_len};
 ghost use Rattle.std.specs.Borrow.{sem};
-ghost use Rattle.bb_memory_base.specs.Region.{IsRegion};
+ghost use Rattle.bb_memory_base.specs.Region.{IsRegion, region_at};
 ghost use Rattle.bb_memory_base.specs.Chunk.{IsInside};
 ghost use Rattle.bb_memory_base.specs.HeldBytes.{held_region, bytes_in, ZeroesOnly};
 ghost use Rattle.bb_memory_base.specs.Lending.{LendsChunk};
@@ -27,20 +27,20 @@ pub struct Region {
 
 impl Model for Region {
     ghost use Rattle.std.specs.Prelude.{vec_len};
-    ghost use Rattle.bb_memory_base.specs.Region.{IsRegion};
+    ghost use Rattle.bb_memory_base.specs.Region.{IsRegion, region_at};
     ghost use Rattle.bb_memory_base.specs.HeldBytes.{HeldBytes};
 
     ghost Value = { HeldBytes };
 
     ghost view = { λ r. record { start = r.start; bytes = r.bytes.items } };
 
-    ghost invariant = { λ r. IsRegion (record { start = r.start; size = vec_len r.bytes }) };
+    ghost invariant = { λ r. IsRegion (region_at r.start (vec_len r.bytes)) };
 }
 
 impl Region {
     /// These bytes, from `start` on. The start has to be greater than 0, and start plus length at most `usize::MAX`.
     pub fn new(start: usize, bytes: Vec<u8>) -> Region
-        requires region { IsRegion (record { start = start; size = vec_len bytes }) }
+        requires { IsRegion (region_at start (vec_len bytes)) }
         ensures { result ≡ record { start = start; bytes = bytes.items } }
     {
         Region { start, bytes }
