@@ -1,0 +1,9 @@
+mod Appending
+mod CommandLines
+mod Cuts
+mod Cutting
+mod Layouts
+mod LineEnds
+mod Numbers
+mod ScriptLines
+mod Telling

@@ -1,0 +1,36 @@
+-- The lines of a script, as far as they are read.
+use Rattle.std.proofs.Common.{◌≡◌, ℕ, List, [], ◌∷◌, ◌++◌, length, take, map, Some, None, All, refl, sym, ap, ◌∙◌, subst}
+use Rattle.std.specs.Prelude.{slice_get}
+use Rattle.std.proofs.lemmas.List.{take_at, length-map, append_assoc, map-append}
+use Rattle.std.proofs.lemmas.List.Elements.{All-map, All-weaker}
+use Rattle.memrun.specs.Script.{IsTextOf, IsFirstUnreadable}
+
+-- what stands after a list
+slice_get_at : {X : Type 0} (xs : List X) (y : X) (ys : List X) → slice_get (xs ++ y ∷ ys) (length xs) ≡ Some y
+slice_get_at [] y ys = refl
+slice_get_at (x ∷ xs) y ys = slice_get_at xs y ys
+
+-- what is read as nothing is the text of nothing
+pub unreadable_none : {A : Type 0} (IsAllowed : A → Type 0) (text_of : A → List ℕ) (line : List ℕ) →
+    ((value : A) → IsAllowed value → line ≡ text_of value → None ≡ Some value) → ¬ IsTextOf IsAllowed text_of line
+unreadable_none IsAllowed text_of line each (value, allowed, same) = let e = each value allowed same in cc
+
+-- after lines that are read, one that isn't is the first
+pub first_unreadable : {A : Type 0} (IsAllowed : A → Type 0) (text_of : A → List ℕ) (lines after : List (List ℕ)) (before : List A) (line : List ℕ) (place : ℕ) →
+    lines ≡ map text_of before ++ line ∷ after → All IsAllowed before → place ≡ length before → ¬ IsTextOf IsAllowed text_of line →
+    IsFirstUnreadable (IsTextOf IsAllowed text_of) lines place
+first_unreadable {A} IsAllowed text_of lines after before line place same all counted unreadable =
+    let Reads : List ℕ → Type 0 = IsTextOf IsAllowed text_of in
+    let front : List (List ℕ) = map text_of before in
+    let at : length front ≡ place = length-map before text_of ∙ sym counted in
+    let read : All Reads front = All-map Reads text_of before (All-weaker IsAllowed (λ value. Reads (text_of value)) (λ value allowed. (value, allowed, refl)) before all) in
+    let taken : take place lines ≡ front = ap (take place) same ∙ take_at front (line ∷ after) place at in
+    let got : slice_get lines place ≡ Some line =
+    ap (slice_get lines) (sym at) ∙ (ap (λ ls. slice_get ls (length front)) same ∙ slice_get_at front line after) in
+    (subst (All Reads) (sym taken) read, line, got, unreadable)
+
+-- one line more is read
+pub lines_more : {A : Type 0} (text_of : A → List ℕ) (before grown : List A) (value : A) (lines rest : List (List ℕ)) (line : List ℕ) →
+    lines ≡ map text_of before ++ line ∷ rest → line ≡ text_of value → grown ≡ before ++ value ∷ [] → lines ≡ map text_of grown ++ rest
+lines_more text_of before grown value lines rest line same text longer =
+    rw longer (rw (map-append text_of before (value ∷ []), append_assoc (map text_of before) (text_of value ∷ []) rest, ← text) same)

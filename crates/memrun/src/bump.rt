@@ -1,0 +1,73 @@
+//! A bump that a script drives.
+ghost use Rattle.std.specs.Prelude.{◌++◌, codes, OnOk};
+ghost use Rattle.std.specs.Io.KnownBytes.{Appends};
+ghost use Rattle.bb_memory.specs.Bump.{bump_text};
+ghost use Rattle.memrun.specs.BumpScript.{figures_line};
+
+use crate::allocators::Scripted;
+use crate::bounds::Bounds;
+use bb_memory::allocator::{Command, Reply};
+use bb_memory::bump_allocator::{BumpAllocator, run_bump};
+use bb_memory::layout::Chunk;
+use std::alloc::{AllocError, Global};
+use std::io;
+use std::io::Write;
+
+impl Scripted for BumpAllocator {
+    ghost use Rattle.std.specs.Prelude.{◌≡◌};
+    ghost use Rattle.bb_memory_base.specs.Region.{IsRegion};
+    ghost use Rattle.memrun.specs.BumpScript.{BumpRuns, bump_lines};
+    ghost use Rattle.memrun.specs.Grammar.{bump_line};
+
+    type Opening = Bounds;
+
+    ghost is_opening = { IsRegion };
+
+    ghost opening_text = { bump_line };
+
+    ghost opens = { λ region bump. bump ≡ record { region = region; used = 0 } };
+
+    ghost runs = { BumpRuns };
+
+    ghost state_text = { λ bump _. bump_lines bump };
+
+    fn read_opening(line: &[u8]) -> Option<Bounds> {
+        Bounds::read(line.strip_prefix(b"bump ")?)
+    }
+
+    fn make(_alloc: Global, opening: Bounds) -> Result<Self, AllocError> {
+        Ok(opening.bump())
+    }
+
+    fn run(
+        &mut self,
+        live: &mut Vec<Chunk>,
+        commands: &[Command],
+    ) -> Result<Vec<Reply>, AllocError> {
+        run_bump(self, live, commands)
+    }
+
+    fn write_state<W: Write>(&self, _live: usize, writer: &mut W) -> io::Result<()> {
+        write_text(self, writer)?;
+        write_figures(
+            self.used_space(),
+            self.free_space(),
+            self.total_space(),
+            writer,
+        )
+    }
+}
+
+fn write_text<W: Write>(bump: &BumpAllocator, writer: &mut W) -> io::Result<()>
+    ensures { OnOk result (Appends (W.contents writer.old) (W.contents writer.new)
+        (bump_text bump.now ++ codes "\n")) }
+{
+    writeln!(writer, "{bump}")
+}
+
+fn write_figures<W: Write>(used: usize, free: usize, total: usize, writer: &mut W) -> io::Result<()>
+    ensures { OnOk result (Appends (W.contents writer.old) (W.contents writer.new)
+        (figures_line used free total)) }
+{
+    writeln!(writer, "used {used} free {free} total {total}")
+}

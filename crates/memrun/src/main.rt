@@ -1,0 +1,37 @@
+//! Reads a script from standard input, drives an allocator by it, and writes a line for each reply.
+#![tactic(auto)]
+
+mod allocators;
+mod bounds;
+mod bump;
+mod commands;
+mod engine;
+mod lines;
+mod machine;
+mod number;
+mod reading;
+mod replies;
+mod script;
+mod status;
+#[cfg(test)]
+mod tests;
+mod text;
+
+use allocators::Live;
+use bb_memory::bump_allocator::BumpAllocator;
+use engine::run;
+use status::Status;
+use std::io;
+use std::io::BufWriter;
+use std::process::ExitCode;
+
+fn main(rt: HostRuntime) -> ExitCode {
+    let status = match BufWriter::new(rt.alloc(), io::writer(&rt)) {
+        Ok(mut output) => run::<Live<BumpAllocator>, _, _>(rt.alloc(), rt.reader(), &mut output),
+        Err(_) => Status::OutOfMemory,
+    };
+    if let Some(text) = status.message() {
+        let _ = eprintln!(rt; "memrun: {text}");
+    }
+    ExitCode::from(status.code())
+}

@@ -1,0 +1,60 @@
+//! How a run ends.
+ghost use Rattle.std.specs.Prelude.{◌≡◌, ◌≤◌, ◌⊎◌};
+
+use std::alloc::AllocError;
+
+/// How a run ended.
+#[derive(Debug, Clone, Copy, PartialEq, Eq)]
+pub enum Status {
+    Done,
+    Unreadable,
+    InputFailed,
+    OutputFailed,
+    OutOfMemory,
+}
+
+impl Status {
+    pub fn code(self) -> u8
+        ensures { result ≤ 4 }
+    {
+        match self {
+            Status::Done => 0,
+            Status::Unreadable => 2,
+            Status::InputFailed | Status::OutputFailed => 3,
+            Status::OutOfMemory => 4,
+        }
+    }
+
+    pub fn message(self) -> Option<&'static str> {
+        match self {
+            Status::Done | Status::Unreadable => None,
+            Status::InputFailed => Some("input failed"),
+            Status::OutputFailed => Some("output failed"),
+            Status::OutOfMemory => Some("out of memory"),
+        }
+    }
+}
+
+/// What stops a script that is readable.
+#[derive(Debug, Clone, Copy, PartialEq, Eq)]
+pub enum Failure {
+    Output,
+    Memory,
+}
+
+impl Failure {
+    pub fn status(self) -> Status
+        ensures { (result ≡ Status.OutputFailed) ⊎ (result ≡ Status.OutOfMemory) }
+    {
+        match self {
+            Failure::Output => Status::OutputFailed,
+            Failure::Memory => Status::OutOfMemory,
+        }
+    }
+}
+
+impl From<AllocError> for Failure {
+    fn from(_e: AllocError) -> Failure {
+        Failure::Memory
+    }
+}

@@ -1,0 +1,29 @@
+//! Worked rows, faults of readers and writers, and refused memory.
+mod calls;
+mod faults;
+mod refused_in_turn;
+mod rows;
+
+use crate::allocators::Live;
+use crate::status::Status;
+use bb_memory::bump_allocator::BumpAllocator;
+use std::alloc::Global;
+use std::io::{Read, Write};
+
+/// The script of row `bump-first-path`, and what it writes.
+const FIRST_PATH: &[u8] =
+    b"bump 4096 1024\nalloc 48 4\nshow\nalloc 10 32\nalloc 950 1\nalloc 1 1\nshow\n";
+
+const FIRST_PATH_LINES: &[u8] = b"chunk 4096 48\n\
+BumpAllocator { start: 4096, size: 1024, current_position: 48 }\n\
+used 48 free 976 total 1024\n\
+chunk 4160 10\n\
+chunk 4170 950\n\
+OutOfMemory\n\
+BumpAllocator { start: 4096, size: 1024, current_position: 1024 }\n\
+used 1024 free 0 total 1024\n";
+
+/// The engine, as `main` calls it.
+fn run<R: Read + Drop, W: Write>(alloc: Global, reader: R, writer: &mut W) -> Status {
+    crate::engine::run::<Live<BumpAllocator>, R, W>(alloc, reader, writer)
+}

@@ -1,0 +1,179 @@
+//! Scripts with what they write, each row by its name. A semicolon stands for a line feed.
+use super::run;
+use crate::status::Status;
+use std::alloc::{AllocError, Global};
+use std::test::Fail;
+
+/// The text with a line feed for each semicolon and the space behind it, and one at the end.
+fn lines(alloc: Global, text: &str) -> Result<Vec<u8>, AllocError> {
+    let mut bytes = Vec::new(alloc);
+    if text.is_empty() {
+        return Ok(bytes);
+    }
+    for part in text.split("; ") {
+        bytes.extend_from_slice(part.as_bytes())?;
+        bytes.push(b'\n')?;
+    }
+    Ok(bytes)
+}
+
+#[test]
+fn bump_scripts(rt: HostRuntime) -> Result<(), Fail> {
+    for (name, script, wrote) in [
+        (
+            "bump-first-path",
+            "bump 4096 1024; alloc 48 4; show; alloc 10 32; alloc 950 1; alloc 1 1; show",
+            "chunk 4096 48; BumpAllocator { start: 4096, size: 1024, current_position: 48 }; used 48 free 976 total 1024; chunk 4160 10; chunk 4170 950; OutOfMemory; BumpAllocator { start: 4096, size: 1024, current_position: 1024 }; used 1024 free 0 total 1024",
+        ),
+        (
+            "bump-odd-start-refused",
+            "bump 4097 8; alloc 8 8; show",
+            "OutOfMemory; BumpAllocator { start: 4097, size: 8, current_position: 0 }; used 0 free 8 total 8",
+        ),
+        (
+            "bump-zero-size-and-release",
+            "bump 4096 8; alloc 0 1; alloc 4 1; alloc 4 1; alloc 0 1; free 1; free 0; alloc 8 1",
+            "SizeIsZero; chunk 4096 4; chunk 4100 4; SizeIsZero; released; passed; chunk 4096 8",
+        ),
+        (
+            "bump-near-the-top",
+            "bump 18446744073709551600 15; alloc 8 16; alloc 1 16; alloc 7 1; show",
+            "chunk 18446744073709551600 8; OutOfMemory; chunk 18446744073709551608 7; BumpAllocator { start: 18446744073709551600, size: 15, current_position: 15 }; used 15 free 0 total 15",
+        ),
+        (
+            "bump-passed-commands",
+            "bump 4097 8; grow 0 1 1 2 1; alloc 1 1; shrink 0 1 1 0 1; free 0; free 0; show",
+            "passed; chunk 4097 1; passed; released; passed; BumpAllocator { start: 4097, size: 8, current_position: 0 }; used 0 free 8 total 8",
+        ),
+        (
+            "bump-huge-alignment",
+            "bump 4096 8; alloc 1 4611686018427387904; alloc 0 9223372036854775808",
+            "OutOfMemory; SizeIsZero",
+        ),
+        (
+            "a bump of no bytes",
+            "bump 4096 0; alloc 1 1; alloc 0 1",
+            "OutOfMemory; SizeIsZero",
+        ),
+        (
+            "the greatest size of a layout",
+            "bump 4096 8; alloc 9223372036854775807 1",
+            "OutOfMemory",
+        ),
+        ("a first line alone", "bump 4096 8", ""),
+    ] {
+        let mut told = Vec::new(rt.alloc());
+        let script = lines(rt.alloc(), script)?;
+        let status = run(rt.alloc(), script.as_slice(), &mut told);
+        assert_eq!(rt; status, Status::Done, "{name}");
+        assert_eq!(rt; told, lines(rt.alloc(), wrote)?, "{name}");
+    }
+    Ok(())
+}
+
+#[test]
+fn a_last_line_needs_no_line_feed(rt: HostRuntime) -> Result<(), Fail> {
+    // script-no-last-line-feed
+    let mut told = Vec::new(rt.alloc());
+    let status = run(rt.alloc(), b"bump 4096 8\nalloc 1 1".as_slice(), &mut told);
+    assert_eq!(rt; status, Status::Done);
+    assert_eq!(rt; told.as_slice(), b"chunk 4096 1\n".as_slice());
+    Ok(())
+}
+
+#[test]
+fn unreadable_scripts(rt: HostRuntime) -> Result<(), Fail> {
+    for (name, script, line) in [
+        (
+            "script-bad-alignment",
+            b"bump 4096 8\nalloc 1 3\n".as_slice(),
+            2,
+        ),
+        (
+            "script-region-past-top",
+            b"bump 18446744073709551600 16\n".as_slice(),
+            1,
+        ),
+        ("script-empty", b"".as_slice(), 1),
+        ("a region at 0", b"bump 0 8\n".as_slice(), 1),
+        (
+            "a layout too large by one",
+            b"bump 4096 8\nalloc 9223372036854775807 2\n".as_slice(),
+            2,
+        ),
+        ("a line cut off", b"bump 4096 8\nalloc 4\n".as_slice(), 2),
+        ("a leading zero", b"bump 4096 8\nalloc 04 1\n".as_slice(), 2),
+        (
+            "script-layout-too-large",
+            b"bump 4096 8\nalloc 1 9223372036854775808\n".as_slice(),
+            2,
+        ),
+        (
+            "script-empty-line",
+            b"bump 4096 8\n\nalloc 1 1\n".as_slice(),
+            2,
+        ),
+        ("script-two-spaces", b"bump 4096  8\n".as_slice(), 1),
+        (
+            "script-number-past-top",
+            b"bump 4096 18446744073709551616\n".as_slice(),
+            1,
+        ),
+        (
+            "script-carriage-return",
+            b"bump 4096 8\nalloc 1 1\r\n".as_slice(),
+            2,
+        ),
+        ("script-stray-byte", b"bump 4096 8\n\xff\n".as_slice(), 2),
+        ("a sign", b"bump 4096 8\nalloc +4 1\n".as_slice(), 2),
+        ("a tab", b"bump 4096 8\nalloc 4\t1\n".as_slice(), 2),
+        ("a space at the end", b"bump 4096 8\nshow \n".as_slice(), 2),
+        ("an unknown kind", b"two 4096 8\n".as_slice(), 1),
+        (
+            "an unknown command",
+            b"bump 4096 8\nalloc 1 1\nfree\n".as_slice(),
+            3,
+        ),
+        ("one line feed", b"\n".as_slice(), 1),
+        (
+            "an empty line at the end",
+            b"bump 4096 8\nalloc 1 1\n\n".as_slice(),
+            3,
+        ),
+        (
+            "a first line twice",
+            b"bump 4096 8\nbump 4096 8\n".as_slice(),
+            2,
+        ),
+        (
+            "the first of two",
+            b"bump 4096 8\nbad\nworse\n".as_slice(),
+            2,
+        ),
+    ] {
+        let mut told = Vec::new(rt.alloc());
+        let status = run(rt.alloc(), script, &mut told);
+        assert_eq!(rt; status, Status::Unreadable, "{name}");
+        let refused = match line {
+            1 => b"line 1: refused\n",
+            2 => b"line 2: refused\n",
+            _ => b"line 3: refused\n",
+        };
+        assert_eq!(rt; told.as_slice(), refused.as_slice(), "{name}");
+    }
+    Ok(())
+}
+
+#[test]
+fn statuses(rt: HostRuntime) {
+    for (status, code, message) in [
+        (Status::Done, 0, None),
+        (Status::Unreadable, 2, None),
+        (Status::InputFailed, 3, Some("input failed")),
+        (Status::OutputFailed, 3, Some("output failed")),
+        (Status::OutOfMemory, 4, Some("out of memory")),
+    ] {
+        assert_eq!(rt; status.code(), code);
+        assert_eq!(rt; status.message(), message);
+    }
+}

@@ -1,0 +1,56 @@
+//! What is taken off the front of a line.
+ghost use Rattle.std.specs.Prelude.{◌≡◌, ◌≢◌, ℕ, List, ◌++◌, ◌∷◌, All, IfSome, IfNone, IsSomeAnd, Some, codes};
+ghost use Rattle.std.specs.Fmt.{decimal};
+ghost use Rattle.bb_memory_base.specs.declared.layout.Layout.{Layout};
+ghost use Rattle.memrun.specs.Grammar.{IsWord, IsLayoutOfWords, layout_text};
+
+use crate::number::number;
+use bb_memory_base::layout::Layout;
+
+/// The parts before and after the first byte of this value, where there is one.
+pub fn cut(text: &[u8], byte: u8) -> Option<(&[u8], &[u8])>
+    ensures parts { IfSome result (λ (before, after). text.now ≡ before.now ++ byte ∷ after.now) }
+    ensures first { IfSome result (λ (before, after). All (λ b. b ≢ byte) before.now) }
+    ensures none { IfNone result (All (λ b. b ≢ byte) text.now) }
+    ensures each { (front back : List ℕ) → All (λ b. b ≢ byte) front
+        → text.now ≡ front ++ byte ∷ back
+        → IsSomeAnd result (λ (before, after). (before.now ≡ front) × (after.now ≡ back)) }
+{
+    let place = text.iter().position(|b| *b == byte)?;
+    Some((&text[..place], &text[place + 1..]))
+}
+
+/// The number at the front, and what is behind the space that follows it.
+#[tactic(auto, using(crate::proofs::Cuts::spaceless_decimal))]
+pub fn number_and_rest(text: &[u8]) -> Option<(usize, &[u8])>
+    ensures written { IfSome result (λ (n, rest). text.now ≡ decimal n ++ (codes " " ++ rest.now)) }
+    ensures each { (n : ℕ) (rest : List ℕ) → IsWord n → text.now ≡ decimal n ++ (codes " " ++ rest)
+        → IsSomeAnd result (λ (m, left). (m ≡ n) × (left.now ≡ rest)) }
+{
+    let (word, rest) = cut(text, b' ')?;
+    Some((number(word)?, rest))
+}
+
+/// The layout of two numbers with a space between them.
+pub fn layout(text: &[u8]) -> Option<Layout>
+    ensures written { IfSome result (λ layout. IsLayoutOfWords layout
+        × (text.now ≡ layout_text layout)) }
+    ensures each { (layout : Layout) → IsLayoutOfWords layout → text.now ≡ layout_text layout
+        → result ≡ Some layout }
+{
+    let (size, align) = number_and_rest(text)?;
+    Layout::from_size_align(size, number(align)?).ok()
+}
+
+/// The layout at the front, and what is behind the space that follows it.
+pub fn layout_and_rest(text: &[u8]) -> Option<(Layout, &[u8])>
+    ensures written { IfSome result (λ (layout, rest). IsLayoutOfWords layout
+        × (text.now ≡ layout_text layout ++ (codes " " ++ rest.now))) }
+    ensures each { (layout : Layout) (rest : List ℕ) → IsLayoutOfWords layout
+        → text.now ≡ layout_text layout ++ (codes " " ++ rest)
+        → IsSomeAnd result (λ (found, left). (found ≡ layout) × (left.now ≡ rest)) }
+{
+    let (size, rest) = number_and_rest(text)?;
+    let (align, rest) = number_and_rest(rest)?;
+    Some((Layout::from_size_align(size, align).ok()?, rest))
+}
