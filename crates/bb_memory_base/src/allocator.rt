@@ -1,10 +1,9 @@
 //! What allocators over a region promise, and runs of commands over any of them.
 mod run;
 
-pub use run::{run_base, run_full};
-
 use crate::layout::{Chunk, Layout};
 use crate::region::Region;
+pub use run::{run_base, run_full};
 use thiserror::Error;
 
 /// Why a request was refused.

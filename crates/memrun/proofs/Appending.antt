@@ -1,18 +1,16 @@
--- known bytes that grow by one text and then by another
-use Rattle.std.proofs.Common.{ℕ, List, [], ◌++◌, Option, Some, None, Result, Ok, Err, OnOk, sym, ap, ◌∙◌}
+-- Known bytes that grow.
+use Rattle.std.proofs.Common.{ℕ, List, ◌++◌, Option, Some, None, Result, Ok, Err, OnOk, OnErr, ap, ◌∙◌}
 use Rattle.std.specs.Io.KnownBytes.{Appends, Keeps}
-use Rattle.std.proofs.lemmas.List.{append_assoc, append-nil}
+use Rattle.std.proofs.lemmas.List.{append_assoc}
 
+-- by one text and then by another
 pub appends_again : (old mid new : Option (List ℕ)) (xs ys : List ℕ) → Appends old mid xs → Appends mid new ys → Appends old new (xs ++ ys)
 appends_again None mid new xs ys one two = tt
 appends_again (Some a) None new xs ys one two = absurd one
 appends_again (Some a) (Some b) None xs ys one two = absurd two
 appends_again (Some a) (Some b) (Some c) xs ys one two = two ∙ (ap (λ l. l ++ ys) one ∙ append_assoc a xs ys)
 
-pub appends_none : (old : Option (List ℕ)) → Appends old old []
-appends_none None = tt
-appends_none (Some a) = sym (append-nil a)
-
+-- by a text, and then stay
 pub appends_kept : (old mid new : Option (List ℕ)) (xs : List ℕ) → Appends old mid xs → Keeps mid new → Appends old new xs
 appends_kept None mid new xs one two = tt
 appends_kept (Some a) None new xs one two = absurd one
@@ -23,6 +21,11 @@ appends_kept (Some a) (Some b) (Some c) xs one two = two ∙ one
 pub on_ok : {A E P : Type 0} (r : Result A E) → P → OnOk r P
 on_ok (Ok a) p = p
 on_ok (Err e) p = tt
+
+-- and where it fails
+pub on_err : {A E P : Type 0} (r : Result A E) → P → OnErr r P
+on_err (Ok a) p = tt
+on_err (Err e) p = p
 
 -- what follows from what holds where a call succeeds, holds there too
 pub on_ok-map : {A E P Q : Type 0} (r : Result A E) → (P → Q) → OnOk r P → OnOk r Q

@@ -1,9 +1,12 @@
 mod Appending
 mod CommandLines
+mod CutShort
 mod Cuts
 mod Cutting
 mod Layouts
 mod LineEnds
 mod Numbers
 mod ScriptLines
+mod Sends
 mod Telling
+mod WholeLines

@@ -9,7 +9,8 @@ pub record Batches (C : Type 0) : Type 0 where
 -- the batches that end at these places, of the commands from a place on
 abbrev pub batches_from : {C : Type 0} → ℕ → List ℕ → List C → List (List C)
 batches_from start [] commands = []
-batches_from start (end ∷ ends) commands = slice_range commands start end ∷ batches_from end ends commands
+batches_from start (end ∷ ends) commands =
+    slice_range commands start end ∷ batches_from end ends commands
 
 -- where the last of them ends
 abbrev pub last_place : ℕ → List ℕ → ℕ

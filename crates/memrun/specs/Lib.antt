@@ -1,8 +1,10 @@
 pub mod Batches
 pub mod BumpScript
+pub mod Ending
 pub mod Grammar
 pub mod Lines
 pub mod LiveState
 pub mod Replies
 pub mod Script
+pub mod Sending
 pub mod Transcript

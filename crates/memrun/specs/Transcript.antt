@@ -1,8 +1,9 @@
 -- What a run writes.
-use Rattle.std.specs.Prelude.{ℕ, ◌≡◌, ◌+◌, ◌⊎◌, List, [], ◌∷◌, ◌++◌, codes, Option, IfSome}
+use Rattle.std.specs.Prelude.{ℕ, ◌≡◌, ◌+◌, ◌⊎◌, List, [], ◌∷◌, ◌++◌, codes, take, Option, IfSome}
 use Rattle.std.specs.Fmt.{decimal}
 use Rattle.std.specs.List.{flat_map}
 use Rattle.memrun.specs.Batches.{Batches}
+use Rattle.memrun.specs.Sending.{Begins}
 use Rattle.memrun.specs.Lines.{lines_of}
 use Rattle.memrun.specs.Script.{IsTextOf, WritesScript, IsFirstUnreadable}
 use Rattle.memrun.specs.declared.machine.Machine.{Ghosts}
@@ -19,29 +20,50 @@ IsTold {S} {O} {C} {R} machine old (batch ∷ batches) text new =
 abbrev pub IsPlayed : {S O C R : Type 0} → Ghosts S O C R → S → Batches C → List ℕ → S → Type 0
 IsPlayed {S} {O} {C} {R} machine old script text new =
     (mid : S) × (front : List ℕ) × (replies : List R) × IsTold machine old script.shown front mid
-    × machine.runs mid script.last replies new × (text ≡ front ++ flat_map machine.reply_text replies)
+    × machine.runs mid script.last replies new
+    × (text ≡ front ++ flat_map machine.reply_text replies)
 
--- what a machine of this opening is answered where these lines follow the first
+-- what is told of a script up to some place
+abbrev pub IsSoFar : {S O C R : Type 0} → Ghosts S O C R → S → Batches C → List ℕ → S → Type 0
+IsSoFar machine old script text new =
+    ((count : ℕ) × IsTold machine old (take count script.shown) text new)
+    ⊎ IsPlayed machine old script text new
+
+-- the bytes begin what is told of a script
+abbrev pub IsBegun : {S O C R : Type 0} → Ghosts S O C R → S → Batches C → List ℕ → Type 0
+IsBegun {S} machine old script sent =
+    (text : List ℕ) × (new : S) × Begins sent text × IsSoFar machine old script text new
+
+-- these lines are a script, and the text is what it is answered by a machine of this opening
 abbrev pub IsTranscript : {S O C R : Type 0} → Ghosts S O C R → O → List (List ℕ) → List ℕ → Type 0
 IsTranscript {S} {O} {C} {R} machine opening lines text =
     (script : Batches C) × (first : S) × (last : S)
     × WritesScript machine.is_line machine.line_text lines script
     × machine.opens opening first × IsPlayed machine first script text last
 
+-- these lines are a script, and the bytes begin what it is answered
+abbrev pub IsBegunTranscript : {S O C R : Type 0} → Ghosts S O C R → O
+    → List (List ℕ) → List ℕ → Type 0
+IsBegunTranscript {S} {O} {C} {R} machine opening lines sent =
+    (script : Batches C) × (first : S) × WritesScript machine.is_line machine.line_text lines script
+    × machine.opens opening first × IsBegun machine first script sent
+
 -- what is written of an input that is readable
 abbrev pub IsRun : {S O C R : Type 0} → Ghosts S O C R → List ℕ → List ℕ → Type 0
 IsRun {S} {O} {C} {R} machine input text =
-    (opening : O) × (rest : List (List ℕ)) × machine.is_opening opening
-    × (lines_of input ≡ machine.opening_text opening ∷ rest) × IsTranscript machine opening rest text
+    (opening : O) × (rest : List (List ℕ))
+    × machine.is_opening opening × (lines_of input ≡ machine.opening_text opening ∷ rest)
+    × IsTranscript machine opening rest text
 
--- the line may be the first, or follow it
+-- the line may be the first
 abbrev pub IsOpeningText : {S O C R : Type 0} → Ghosts S O C R → List ℕ → Type 0
 IsOpeningText machine line = IsTextOf machine.is_opening machine.opening_text line
 
+-- the line may follow it
 abbrev pub IsLineText : {S O C R : Type 0} → Ghosts S O C R → List ℕ → Type 0
 IsLineText machine line = IsTextOf machine.is_line machine.line_text line
 
--- of the lines after the first, the first that is unreadable has this number, counted with the first as 1
+-- behind a readable first line, the first that is unreadable has this number
 abbrev pub IsLaterRefused : {S O C R : Type 0} → Ghosts S O C R → List (List ℕ) → ℕ → Type 0
 IsLaterRefused machine rest number =
     (place : ℕ) × IsFirstUnreadable (IsLineText machine) rest place × (number ≡ place + 2)
@@ -56,6 +78,34 @@ IsRefused machine (first ∷ rest) number =
 -- what is written of the first unreadable line, a line feed included
 abbrev pub refusal_text : ℕ → List ℕ
 refusal_text number = codes "line " ++ (decimal number ++ codes ": refused\n")
+
+-- the bytes begin what is written of an input that is readable
+abbrev pub IsBegunRun : {S O C R : Type 0} → Ghosts S O C R → List ℕ → List ℕ → Type 0
+IsBegunRun {S} {O} {C} {R} machine input sent =
+    (opening : O) × (rest : List (List ℕ))
+    × machine.is_opening opening × (lines_of input ≡ machine.opening_text opening ∷ rest)
+    × IsBegunTranscript machine opening rest sent
+
+-- the bytes begin the refusal of the first unreadable line
+abbrev pub IsBegunRefusal : {S O C R : Type 0} → Ghosts S O C R → List ℕ → List ℕ → Type 0
+IsBegunRefusal machine input sent =
+    (number : ℕ) × IsRefused machine (lines_of input) number × Begins sent (refusal_text number)
+
+-- the same where the first line is readable
+abbrev pub IsBegunLaterRefusal : {S O C R : Type 0} → Ghosts S O C R → List (List ℕ) → List ℕ → Type 0
+IsBegunLaterRefusal machine rest sent =
+    (number : ℕ) × IsLaterRefused machine rest number × Begins sent (refusal_text number)
+
+-- the bytes begin what is written of the input, be it readable or not
+abbrev pub BeginsOutput : {S O C R : Type 0} → Ghosts S O C R → List ℕ → List ℕ → Type 0
+BeginsOutput machine input sent =
+    IsBegunRun machine input sent ⊎ IsBegunRefusal machine input sent
+
+-- the same of these lines behind a first line of this opening
+abbrev pub BeginsLaterOutput : {S O C R : Type 0} → Ghosts S O C R → O
+    → List (List ℕ) → List ℕ → Type 0
+BeginsLaterOutput machine opening rest sent =
+    IsBegunTranscript machine opening rest sent ⊎ IsBegunLaterRefusal machine rest sent
 
 -- a reader with these bytes left, where they are known, gives the input
 abbrev pub Gives : Option (List ℕ) → List ℕ → Type 0

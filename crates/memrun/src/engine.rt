@@ -1,15 +1,17 @@
 //! From the bytes of a script to the lines of its replies.
-ghost use Rattle.std.specs.Prelude.{◌≡◌, ◌≢◌, ◌⊎◌, ◌+◌, ◌<◌, ◌^◌, ℕ, List, IfOk, IfErr, OnOk};
+ghost use Rattle.std.specs.Prelude.{◌≡◌, ◌≢◌, ◌⊎◌, ◌++◌, ◌+◌, ◌<◌, ◌^◌, ℕ, List, IfOk, IfErr, OnOk, OnErr};
 ghost use Rattle.std.specs.List.{flat_map};
 ghost use Rattle.std.specs.Io.KnownBytes.{Keeps, Appends};
+ghost use Rattle.memrun.specs.Ending.{IsCutShort};
 ghost use Rattle.memrun.specs.Lines.{lines_of};
-ghost use Rattle.memrun.specs.Script.{IsFirstUnreadable};
-ghost use Rattle.memrun.specs.Transcript.{IsPlayed, IsTranscript, IsRun, IsLineText, IsRefused, refusal_text, Gives};
+ghost use Rattle.memrun.specs.Sending.{Sends, AppendsPart};
+ghost use Rattle.memrun.specs.Transcript.{IsPlayed, IsBegun, IsTranscript, BeginsLaterOutput, IsLaterRefused, IsRun, BeginsOutput, IsRefused, refusal_text, Gives};
 
 use crate::lines::first_line;
 use crate::machine::Machine;
 use crate::reading::read_script;
 use crate::script::Script;
+use crate::sending::send;
 use crate::status::{Failure, Status};
 use std::alloc::Global;
 use std::io;
@@ -25,6 +27,10 @@ pub fn run<M: Machine, R: Read + Drop, W: Write>(alloc: Global, reader: R, write
         × Appends (W.contents writer.old) (W.contents writer.new) (refusal_text number) }
     ensures input_failed { result ≡ Status.InputFailed
         → Keeps (W.contents writer.old) (W.contents writer.new) }
+    ensures cut_short { IsCutShort result → Keeps (W.contents writer.old) (W.contents writer.new)
+        ⊎ ((input : List ℕ) × (sent : List ℕ)
+        × Gives (R.remaining reader) input × BeginsOutput M.Machine input sent
+        × Appends (W.contents writer.old) (W.contents writer.new) sent) }
 {
     match read_input(alloc, reader) {
         Ok(input) => run_input::<M, W>(alloc, &input, writer),
@@ -62,14 +68,17 @@ fn run_input<M: Machine, W: Write>(alloc: Global, input: &[u8], writer: &mut W) 
     ensures unreadable { result ≡ Status.Unreadable → (number : ℕ)
         × IsRefused M.Machine (lines_of input.now) number
         × Appends (W.contents writer.old) (W.contents writer.new) (refusal_text number) }
+    ensures cut_short { IsCutShort result → Keeps (W.contents writer.old) (W.contents writer.new)
+        ⊎ ((sent : List ℕ) × BeginsOutput M.Machine input.now sent
+        × Appends (W.contents writer.old) (W.contents writer.new) sent) }
     ensures input_read { result ≢ Status.InputFailed }
 {
     let Some((first, rest)) = first_line(input) else {
-        return refuse(1, writer);
+        return refuse(alloc, 1, writer);
     };
     match M::read_opening(first) {
         Some(opening) => drive::<M, W>(alloc, opening, rest, writer),
-        None => refuse(1, writer),
+        None => refuse(alloc, 1, writer),
     }
 }
 
@@ -83,36 +92,48 @@ pub fn drive<M: Machine, W: Write>(
     ensures done { result ≡ Status.Done → (text : List ℕ)
         × IsTranscript M.Machine opening (lines_of rest.now) text
         × Appends (W.contents writer.old) (W.contents writer.new) text }
-    ensures unreadable { result ≡ Status.Unreadable → (place : ℕ)
-        × IsFirstUnreadable (IsLineText M.Machine) (lines_of rest.now) place
-        × Appends (W.contents writer.old) (W.contents writer.new) (refusal_text (place + 2)) }
+    ensures unreadable { result ≡ Status.Unreadable → (number : ℕ)
+        × IsLaterRefused M.Machine (lines_of rest.now) number
+        × Appends (W.contents writer.old) (W.contents writer.new) (refusal_text number) }
+    ensures cut_short { IsCutShort result → Keeps (W.contents writer.old) (W.contents writer.new)
+        ⊎ ((sent : List ℕ) × BeginsLaterOutput M.Machine opening (lines_of rest.now) sent
+        × Appends (W.contents writer.old) (W.contents writer.new) sent) }
     ensures input_read { result ≢ Status.InputFailed }
 {
     match read_script::<M>(alloc, rest) {
         Ok(Ok(script)) => answer::<M, W>(alloc, opening, &script, writer),
-        Ok(Err(place)) => refuse(place + 2, writer),
+        Ok(Err(place)) => refuse(alloc, place + 2, writer),
         Err(_) => Status::OutOfMemory,
     }
 }
 
 /// Refuses an input for its line of this number.
-fn refuse<W: Write>(number: usize, writer: &mut W) -> Status
+pub fn refuse<W: Write>(alloc: Global, number: usize, writer: &mut W) -> Status
     ensures unreadable { result ≡ Status.Unreadable
         → Appends (W.contents writer.old) (W.contents writer.new) (refusal_text number) }
-    ensures status { (result ≡ Status.Unreadable) ⊎ (result ≡ Status.OutputFailed) }
+    ensures cut_short { IsCutShort result
+        → AppendsPart (W.contents writer.old) (W.contents writer.new) (refusal_text number) }
+    ensures status { (result ≡ Status.Unreadable) ⊎ IsCutShort result }
 {
-    match write_refusal(number, writer) {
+    match write_refusal(alloc, number, writer) {
         Ok(()) => Status::Unreadable,
-        Err(_) => Status::OutputFailed,
+        Err(failure) => failure.status(),
     }
 }
 
-fn write_refusal<W: Write>(number: usize, writer: &mut W) -> io::Result<()>
-    ensures { OnOk result
-        (Appends (W.contents writer.old) (W.contents writer.new) (refusal_text number)) }
+fn write_refusal<W: Write>(alloc: Global, number: usize, writer: &mut W) -> Result<(), Failure>
+    ensures { Sends (W.contents writer.old) (W.contents writer.new) (refusal_text number) result }
 {
-    writeln!(writer, "line {number}: refused")?;
-    writer.flush()
+    let mut line = Vec::new(alloc);
+    refusal_line(number, &mut line)?;
+    send(&line, writer)?;
+    writer.flush().map_err(|_| Failure::Output)
+}
+
+fn refusal_line(number: usize, line: &mut Vec<u8>) -> Result<(), Failure>
+    ensures { OnOk result (line.new.items ≡ line.old.items ++ refusal_text number) }
+{
+    writeln!(line, "line {number}: refused").map_err(|_| Failure::Memory)
 }
 
 /// Makes the machine of an opening and runs a script on it.
@@ -125,13 +146,16 @@ fn answer<M: Machine, W: Write>(
     ensures done { result ≡ Status.Done → (first : M) × (last : M) × (text : List ℕ)
         × M.opens opening first × IsPlayed M.Machine first script.now text last
         × Appends (W.contents writer.old) (W.contents writer.new) text }
-    ensures status { (result ≡ Status.Done)
-        ⊎ ((result ≡ Status.OutputFailed) ⊎ (result ≡ Status.OutOfMemory)) }
+    ensures cut_short { IsCutShort result → Keeps (W.contents writer.old) (W.contents writer.new)
+        ⊎ ((first : M) × (sent : List ℕ)
+        × M.opens opening first × IsBegun M.Machine first script.now sent
+        × Appends (W.contents writer.old) (W.contents writer.new) sent) }
+    ensures status { (result ≡ Status.Done) ⊎ IsCutShort result }
 {
     let Ok(mut machine) = M::make(alloc, opening) else {
         return Status::OutOfMemory;
     };
-    match play(&mut machine, script, writer) {
+    match play(alloc, &mut machine, script, writer) {
         Ok(()) => Status::Done,
         Err(failure) => failure.status(),
     }
@@ -139,46 +163,69 @@ fn answer<M: Machine, W: Write>(
 
 /// Runs a script and writes what it is answered.
 fn play<M: Machine, W: Write>(
+    alloc: Global,
     machine: &mut M,
     script: &Script<M::Command>,
     writer: &mut W,
 ) -> Result<(), Failure>
     requires { M.is_ready machine.old }
-    ensures { OnOk result ((text : List ℕ)
+    ensures ok { OnOk result ((text : List ℕ)
         × IsPlayed M.Machine machine.old script.now text machine.new
         × Appends (W.contents writer.old) (W.contents writer.new) text) }
+    ensures err { OnErr result ((sent : List ℕ)
+        × IsBegun M.Machine machine.old script.now sent
+        × Appends (W.contents writer.old) (W.contents writer.new) sent) }
 {
+    let mut line = Vec::new(alloc);
     for index in 0..script.shows() {
-        play_batch(machine, script.shown(index), writer)?;
-        write_state(machine, writer)?;
+        let replies = machine.run(script.shown(index))?;
+        tell::<M, W>(&replies, &mut line, writer)?;
+        show(machine, &mut line, writer)?;
     }
-    play_batch(machine, script.last(), writer)?;
+    let replies = machine.run(script.last())?;
+    tell::<M, W>(&replies, &mut line, writer)?;
     writer.flush().map_err(|_| Failure::Output)
 }
 
-/// Runs the commands of a batch, and writes a line for each reply.
-fn play_batch<M: Machine, W: Write>(
-    machine: &mut M,
-    commands: &[M::Command],
+/// Writes a line for each reply.
+fn tell<M: Machine, W: Write>(
+    replies: &[M::Reply],
+    line: &mut Vec<u8>,
     writer: &mut W,
 ) -> Result<(), Failure>
-    requires { M.is_ready machine.old }
-    ensures ready { OnOk result (M.is_ready machine.new) }
-    ensures told { OnOk result ((replies : List M.Reply)
-        × M.runs machine.old commands.now replies machine.new
-        × Appends (W.contents writer.old) (W.contents writer.new)
-        (flat_map M.reply_text replies)) }
+    ensures { Sends (W.contents writer.old) (W.contents writer.new)
+        (flat_map M.reply_text replies.now) result }
 {
-    let replies = machine.run(commands)?;
-    for reply in replies.as_slice() {
-        M::write_reply(reply, writer).map_err(|_| Failure::Output)?;
+    for reply in replies {
+        reply_line::<M>(reply, line)?;
+        send(line, writer)?;
     }
     Ok(())
 }
 
-fn write_state<M: Machine, W: Write>(machine: &M, writer: &mut W) -> Result<(), Failure>
-    ensures { OnOk result
-        (Appends (W.contents writer.old) (W.contents writer.new) (M.state_text machine.now)) }
+/// Writes the state.
+fn show<M: Machine, W: Write>(
+    machine: &M,
+    line: &mut Vec<u8>,
+    writer: &mut W,
+) -> Result<(), Failure>
+    ensures { Sends (W.contents writer.old) (W.contents writer.new)
+        (M.state_text machine.now) result }
 {
-    machine.write_state(writer).map_err(|_| Failure::Output)
+    state_line(machine, line)?;
+    send(line, writer)
+}
+
+fn reply_line<M: Machine>(reply: &M::Reply, line: &mut Vec<u8>) -> Result<(), Failure>
+    ensures { OnOk result (line.new.items ≡ M.reply_text reply.now) }
+{
+    line.clear();
+    M::write_reply(reply, line).map_err(|_| Failure::Memory)
+}
+
+fn state_line<M: Machine>(machine: &M, line: &mut Vec<u8>) -> Result<(), Failure>
+    ensures { OnOk result (line.new.items ≡ M.state_text machine.now) }
+{
+    line.clear();
+    machine.write_state(line).map_err(|_| Failure::Memory)
 }

@@ -13,7 +13,8 @@ pub fn lines_law()
 /// The first line of an input and what comes after it, where a line is left.
 pub fn first_line(input: &[u8]) -> Option<(&[u8], &[u8])>
     ensures none { IfNone result (input.now ≡ []) }
-    ensures cut { IfSome result (λ (line, rest). lines_of input.now ≡ line.now ∷ lines_of rest.now) }
+    ensures cut { IfSome result (λ (line, rest).
+        lines_of input.now ≡ line.now ∷ lines_of rest.now) }
     ensures shorter { IfSome result (λ (_, rest). length rest.now < length input.now) }
 {
     if input.is_empty() {

@@ -12,6 +12,7 @@ mod number;
 mod reading;
 mod replies;
 mod script;
+mod sending;
 mod status;
 #[cfg(test)]
 mod tests;

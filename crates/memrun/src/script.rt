@@ -82,7 +82,7 @@ impl<C: Drop> Script<C> {
         self.shows.len()
     }
 
-    /// The commands between a `show` and the one before it.
+    /// The commands before the `show` of this index, and after the one before it.
     pub fn shown(&self, index: usize) -> &[C]
         requires { index < length self.now.shown }
         ensures { slice_get self.now.shown index ≡ Some result.now }

@@ -1,5 +1,6 @@
 //! How a run ends.
-ghost use Rattle.std.specs.Prelude.{◌≡◌, ◌≤◌, ◌⊎◌};
+ghost use Rattle.std.specs.Prelude.{◌≡◌, ◌↔◌};
+ghost use Rattle.memrun.specs.Ending.{code_of, IsCutShort};
 
 use std::alloc::AllocError;
 
@@ -14,8 +15,9 @@ pub enum Status {
 }
 
 impl Status {
+    /// The exit status.
     pub fn code(self) -> u8
-        ensures { result ≤ 4 }
+        ensures { result ≡ code_of self }
     {
         match self {
             Status::Done => 0,
@@ -25,6 +27,7 @@ impl Status {
         }
     }
 
+    /// What is told on standard error.
     pub fn message(self) -> Option<&'static str> {
         match self {
             Status::Done | Status::Unreadable => None,
@@ -44,7 +47,8 @@ pub enum Failure {
 
 impl Failure {
     pub fn status(self) -> Status
-        ensures { (result ≡ Status.OutputFailed) ⊎ (result ≡ Status.OutOfMemory) }
+        ensures either { IsCutShort result }
+        ensures output { (result ≡ Status.OutputFailed) ↔ (self ≡ Failure.Output) }
     {
         match self {
             Failure::Output => Status::OutputFailed,
@@ -54,6 +58,11 @@ impl Failure {
 }
 
 impl From<AllocError> for Failure {
+    ghost use Rattle.std.specs.Prelude.{◌≡◌};
+    ghost use Rattle.memrun.specs.declared.status.Failure.{Failure};
+
+    ghost from_gives = { λ _ failure. failure ≡ Failure.Memory };
+
     fn from(_e: AllocError) -> Failure {
         Failure::Memory
     }

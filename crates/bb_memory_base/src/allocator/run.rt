@@ -207,7 +207,7 @@ pub fn run_full<A: Allocator>(
         IsRun (ResizableStep (resizable_object_of
         (A.may_allocate (A.geometry allocator.old)) (A.reserved_at (A.figures allocator.old))
         (A.may_grow (A.figures allocator.old)) (A.may_shrink (A.figures allocator.old))))
-            live.old.items commands.now replies.items live.new.items) }
+        live.old.items commands.now replies.items live.new.items) }
     ensures stands { OnOk result (A.stands_for allocator.new live.new.items) }
     ensures sound { OnOk result (IsSound (A.region_of (A.geometry allocator.old)) live.new.items) }
     ensures geometry { A.geometry allocator.new ≡ A.geometry allocator.old }

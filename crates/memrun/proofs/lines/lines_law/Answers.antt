@@ -1,4 +1,4 @@
-use Rattle.memrun.proofs.LineEnds.{lines_are, lines_only}
+use Rattle.memrun.proofs.WholeLines.{lines_are, lines_only}
 use Rattle.memrun.proofs.lines.lines_law.Goals as goal
 
 pub returns : goal.returns
