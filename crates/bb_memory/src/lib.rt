@@ -4,3 +4,4 @@
 pub use bb_memory_base::{allocator, layout, region};
 
 pub mod bump_allocator;
+pub mod one_chunk_allocator;

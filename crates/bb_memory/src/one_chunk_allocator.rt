@@ -1,0 +1,345 @@
+//! An allocator that gives one chunk at a time, which is all of its region from the chunk's place on.
+ghost use Rattle.std.specs.Prelude.{◌≡◌, ◌∷◌, ◌++◌, [], List, ◌+◌, ◌-◌, ◌<◌, ◌≤◌, ◌%◌, ◌↔◌, ◌⊎◌, ℕ, IsOk, IfOk, OnOk, OnErr, IsTrue, IsSome, Some, Result, slice_get, slice_set, remove};
+ghost use Rattle.bb_memory_base.specs.Region.{Region, IsRegion, region_at, region_end};
+ghost use Rattle.bb_memory_base.specs.Chunk.{Chunk, IsInside, chunk_end};
+ghost use Rattle.bb_memory_base.specs.LiveList.{IsSound};
+ghost use Rattle.bb_memory_base.specs.Run.{IsRun};
+ghost use Rattle.bb_memory_base.specs.ResizableObject.{ResizableStep};
+ghost use Rattle.bb_memory_base.specs.declared.layout.Layout.{Layout};
+ghost use Rattle.bb_memory_base.specs.declared.allocator.AllocationError.{AllocationError};
+ghost use Rattle.bb_memory_base.specs.declared.allocator.AllocationGrowError.{AllocationGrowError};
+ghost use Rattle.bb_memory_base.specs.declared.allocator.AllocationShrinkError.{AllocationShrinkError};
+ghost use Rattle.bb_memory_base.specs.declared.allocator.Command.{Command};
+ghost use Rattle.bb_memory_base.specs.declared.allocator.Reply.{Reply};
+ghost use Rattle.bb_memory.specs.OneChunk.{OneChunk, IsOneChunk, one_chunk_of, StandsFor};
+ghost use Rattle.bb_memory.specs.OneChunkObject.{MayAllocate, MayGrow, MayShrink, HasRoom, LacksRoom, first_place, reserved_at, one_chunk_object};
+
+pub use crate::allocator::{
+    AllocationError, AllocationGrowError, AllocationShrinkError, Allocator, BaseAllocator,
+};
+use crate::allocator::{Command, Reply, run_full};
+use crate::layout::Chunk;
+pub use crate::layout::Layout;
+use std::alloc::AllocError;
+use std::marker::Model;
+
+/// Gives one chunk at a time: all of the region from the first suitable place on. It can be resized in place.
+///
+/// ```
+/// let mut one = OneChunkAllocator::new(4096, 1024);
+/// let layout = Layout::from_size_align(48, 4)?;
+/// let chunk = one.allocate(layout)?;
+/// assert_eq!((chunk.place(), chunk.len()), (4096, 1024));
+/// assert!(!one.has_chunk_available());
+/// let chunk = one.shrink(chunk.place(), layout, Layout::from_size_align(32, 4)?)?;
+/// assert_eq!((chunk.place(), chunk.len()), (4096, 32));
+/// one.deallocate(chunk.place(), layout);
+/// assert!(one.has_chunk_available());
+/// ```
+#[derive(Debug, Drop)]
+pub struct OneChunkAllocator {
+    start: usize,
+    size: usize,
+    kept_place: Option<usize>,
+}
+
+impl Model for OneChunkAllocator {
+    ghost use Rattle.bb_memory.specs.OneChunk.{OneChunk, IsOneChunk, one_chunk_of};
+
+    ghost Value = { OneChunk };
+
+    ghost view = { λ a. one_chunk_of a.start a.size a.kept_place };
+
+    ghost invariant = { λ a. IsOneChunk (one_chunk_of a.start a.size a.kept_place) };
+}
+
+impl OneChunkAllocator {
+    /// An allocator over the region of `size` bytes at `start`, with nothing given. The start has to be greater than 0,
+    /// and start plus size at most `usize::MAX`; [`OneChunkAllocator::can_make`] tests both.
+    pub fn new(start: usize, size: usize) -> Self
+        requires { IsRegion (region_at start size) }
+        ensures value { result ≡ one_chunk_of start size None }
+        ensures empty { StandsFor result [] }
+    {
+        OneChunkAllocator {
+            start,
+            size,
+            kept_place: None,
+        }
+    }
+
+    /// Whether `new` may be called with these.
+    pub fn can_make(start: usize, size: usize) -> bool
+        ensures { IsTrue result ↔ IsRegion (region_at start size) }
+    {
+        start != 0 && start.checked_add(size).is_some()
+    }
+
+    /// Whether no chunk is out.
+    pub fn has_chunk_available(&self) -> bool
+        ensures value { IsTrue result ↔ (self.now.kept ≡ None) }
+        ensures of_live { (live : List Chunk) → StandsFor self.now live
+            → (IsTrue result ↔ (live ≡ [])) }
+    {
+        self.kept_place.is_none()
+    }
+
+    /// Where the region starts.
+    pub fn start_address(&self) -> usize
+        ensures { result ≡ self.now.region.start }
+    {
+        self.start
+    }
+
+    /// How many bytes the region has.
+    pub fn size(&self) -> usize
+        ensures { result ≡ self.now.region.size }
+    {
+        self.size
+    }
+}
+
+impl BaseAllocator for OneChunkAllocator {
+    ghost use Rattle.std.specs.Prelude.{◌≡◌, Some, false};
+    ghost use Rattle.bb_memory_base.specs.Region.{Region};
+    ghost use Rattle.bb_memory.specs.OneChunk.{StandsFor};
+    ghost use Rattle.bb_memory.specs.OneChunkLaws.{only_chunk};
+    ghost use Rattle.bb_memory.specs.OneChunkObject.{MayAllocate};
+
+    const RELEASE_EMPTIES: bool = false;
+
+    ghost RELEASE_EMPTIES = { false };
+
+    ghost Geometry = { Region };
+
+    ghost geometry = { λ one. one.region };
+
+    ghost region_of = { λ region. region };
+
+    ghost may_allocate = { MayAllocate };
+
+    ghost stands_for = { StandsFor };
+
+    ghost may_release = { λ one place. one.kept ≡ Some place };
+
+    /// A chunk at the least multiple of `layout.align()` from the region's start on, up to the region's end. It is
+    /// refused, with `OutOfMemory`, exactly where a chunk is out, or where that place is at or behind the region's end,
+    /// or less than `layout.size()` bytes are left there. A refusal leaves the allocator as it was.
+    fn allocate(&mut self, layout: Layout) -> Result<Chunk, AllocationError>
+        ensures answer { (live : List Chunk) → StandsFor self.old live
+            → MayAllocate self.old.region live layout result }
+        ensures appended { IfOk result (λ chunk. (live : List Chunk) → StandsFor self.old live
+            → StandsFor self.new (live ++ chunk ∷ [])) }
+        ensures inside { IfOk result (IsInside self.old.region) }
+        ensures aligned { IfOk result (λ chunk. chunk.place % layout.align ≡ 0) }
+        ensures long_enough { IfOk result (λ chunk. layout.size ≤ chunk.len) }
+        ensures geometry { self.new.region ≡ self.old.region }
+
+        // Each outcome by the value alone, both ways.
+        ensures accepted { IsOk result
+            ↔ ((self.old.kept ≡ None) × HasRoom self.old.region layout) }
+        ensures refused { (result ≡ Err AllocationError.OutOfMemory)
+            ↔ (IsSome self.old.kept ⊎ LacksRoom self.old.region layout) }
+
+        // The chunk begins at the layout's place, which is then kept, and ends where the region does. A refusal leaves
+        // everything.
+        ensures begins { IfOk result (λ chunk. chunk.place ≡ first_place self.old.region layout) }
+        ensures ends { IfOk result (λ chunk. chunk_end chunk ≡ region_end self.old.region) }
+        ensures keeps_place { IfOk result (λ chunk. self.new.kept ≡ Some chunk.place) }
+        ensures kept { OnErr result (self.new ≡ self.old) }
+    {
+        if self.kept_place.is_some() {
+            return Err(AllocationError::OutOfMemory);
+        }
+        let end = self.start + self.size;
+        let Some(asked) = Chunk::at_or_after(self.start, layout, end) else {
+            return Err(AllocationError::OutOfMemory);
+        };
+        if asked.place() == end {
+            return Err(AllocationError::OutOfMemory);
+        }
+        self.kept_place = Some(asked.place());
+        Ok(chunk_between(asked.place(), end))
+    }
+
+    /// Gives back the chunk that is out, which has to be at this place. The layout decides nothing.
+    fn deallocate(&mut self, _place: usize, _layout: Layout)
+        requires { self.old.kept ≡ Some _place }
+        ensures value { self.new ≡ record self.old { kept = None } }
+        ensures released { (live : List Chunk) (position : ℕ) (chunk : Chunk)
+            → StandsFor self.old live → slice_get live position ≡ Some chunk → chunk.place ≡ _place
+            → StandsFor self.new (remove live position) }
+    {
+        self.kept_place = None;
+    }
+
+    fn stands_for_some_list(&self) {
+        let _ = &self.start;
+    }
+
+    ghost releases = { λ one live position chunk stands at.
+        (only_chunk one.kept live position chunk stands.keeps at).2 };
+
+    ghost sound = { λ one live stands. stands.sound };
+}
+
+impl Allocator for OneChunkAllocator {
+    ghost use Rattle.std.specs.Prelude.{refl};
+    ghost use Rattle.bb_memory_base.specs.Region.{Region};
+    ghost use Rattle.bb_memory.specs.OneChunkLaws.{places_differ};
+    ghost use Rattle.bb_memory.specs.OneChunkObject.{MayGrow, MayShrink, reserved_at};
+
+    ghost Figures = { Region };
+
+    ghost figures = { λ one. one.region };
+
+    ghost reserved_at = { reserved_at };
+
+    ghost may_grow = { λ region live. MayGrow region };
+
+    ghost may_shrink = { λ region live. MayShrink };
+
+    /// How many bytes there are from the chunk's place to the region's end.
+    fn reserved(&self, place: usize) -> usize
+        requires { self.now.kept ≡ Some place }
+        ensures value { result ≡ reserved_at self.now.region place }
+        ensures up_to_end { place + result ≡ region_end self.now.region }
+    {
+        let end = self.start + self.size;
+        end - place
+    }
+
+    /// Gives the chunk all that is reserved for it. It is refused in this order: with `GrowWouldShrink` where the new size
+    /// isn't greater than the old one, with `AlignmentFailure` where the new alignment is greater than the old one, and
+    /// with `OutOfMemory` where less than the new size is reserved. The allocator stays as it was.
+    fn grow(&mut self, place: usize, old: Layout, new: Layout) -> Result<Chunk, AllocationGrowError>
+        requires live { self.old.kept ≡ Some place }
+        requires aligned { place % old.align ≡ 0 }
+        ensures answer { MayGrow self.old.region place old new result }
+        ensures resized { IfOk result (λ grown. (live : List Chunk) (position : ℕ) (chunk : Chunk)
+            → StandsFor self.old live → slice_get live position ≡ Some chunk
+            → chunk.place ≡ place → StandsFor self.new (slice_set live position grown)) }
+        ensures same_place { IfOk result (λ grown. grown.place ≡ place) }
+        ensures longer { IfOk result (λ grown. old.size < grown.len) }
+        ensures long_enough { IfOk result (λ grown. new.size ≤ grown.len) }
+        ensures within { IfOk result (λ grown. grown.len ≤ reserved_at self.old.region place) }
+        ensures inside { IfOk result (IsInside self.old.region) }
+        ensures kept { self.new ≡ self.old }
+    {
+        if old.size() >= new.size() {
+            return Err(AllocationGrowError::GrowWouldShrink);
+        }
+        if old.align() < new.align() {
+            return Err(AllocationGrowError::AlignmentFailure);
+        }
+        let end = self.start + self.size;
+        if end - place < new.size() {
+            return Err(AllocationGrowError::OutOfMemory);
+        }
+        Ok(chunk_between(place, end))
+    }
+
+    /// Gives the chunk exactly the new size. It is refused in this order: with `ShrinkWouldGrow` where the new size isn't
+    /// smaller than the old one, and with `AlignmentFailure` where the new alignment is greater than the old one. The
+    /// allocator stays as it was.
+    fn shrink(
+        &mut self,
+        place: usize,
+        old: Layout,
+        new: Layout,
+    ) -> Result<Chunk, AllocationShrinkError>
+        requires live { self.old.kept ≡ Some place }
+        requires aligned { place % old.align ≡ 0 }
+        requires reserved { old.size ≤ reserved_at self.old.region place }
+        ensures answer { MayShrink place old new result }
+        ensures resized { IfOk result (λ shrunk. (live : List Chunk) (position : ℕ) (chunk : Chunk)
+            → StandsFor self.old live → slice_get live position ≡ Some chunk
+            → chunk.place ≡ place → StandsFor self.new (slice_set live position shrunk)) }
+        ensures same_place { IfOk result (λ shrunk. shrunk.place ≡ place) }
+        ensures long_enough { IfOk result (λ shrunk. new.size ≤ shrunk.len) }
+        ensures within { IfOk result (λ shrunk. shrunk.len ≤ reserved_at self.old.region place) }
+        ensures inside { IfOk result (IsInside self.old.region) }
+        ensures kept { self.new ≡ self.old }
+    {
+        let _ = &self.start;
+        if old.size() <= new.size() {
+            return Err(AllocationShrinkError::ShrinkWouldGrow);
+        }
+        if old.align() < new.align() {
+            return Err(AllocationShrinkError::AlignmentFailure);
+        }
+        Ok(chunk_between(place, place + new.size()))
+    }
+
+    ghost fixed = { λ one other same. same };
+
+    ghost closes_up = { refl };
+
+    ghost distinct = { λ one live stands. places_differ one.kept live stands.keeps };
+}
+
+/// Applies the commands in order, as [`run_full`] does: the replies and the live list are a run of the one-chunk object over
+/// the allocator's region, and the list is sound afterwards.
+pub fn run_one_chunk(
+    allocator: &mut OneChunkAllocator,
+    live: &mut Vec<Chunk>,
+    commands: &[Command],
+) -> Result<Vec<Reply>, AllocError>
+    requires { StandsFor allocator.old live.old.items }
+    ensures run { IfOk result (λ replies. IsRun (ResizableStep (one_chunk_object allocator.old.region))
+        live.old.items commands.now replies.items live.new.items) }
+    ensures stands { OnOk result (StandsFor allocator.new live.new.items) }
+    ensures sound { OnOk result (IsSound allocator.old.region live.new.items) }
+    ensures geometry { allocator.new.region ≡ allocator.old.region }
+    ensures kept { OnErr result ((allocator.new ≡ allocator.old) × (live.new.items ≡ live.old.items)) }
+{
+    run_full(allocator, live, commands)
+}
+
+/// What the definition of the one-chunk object says of every region and every list of commands. There is exactly one answer
+/// to each request, and to each resize. A chunk that is given begins at a multiple of the asked alignment, has at least the
+/// asked size, isn't empty, and ends where the region does. Each run from a live list that a one chunk stands for leads to such a
+/// list again, which is sound. It does nothing: its contract is the law.
+pub fn one_chunk_object_law()
+    ensures some_answer { (region : Region) (live : List Chunk) (layout : Layout)
+        → (answer : Result Chunk AllocationError) × MayAllocate region live layout answer }
+    ensures one_answer { (region : Region) (live : List Chunk) (layout : Layout)
+        (one other : Result Chunk AllocationError)
+        → MayAllocate region live layout one → MayAllocate region live layout other
+        → one ≡ other }
+    ensures some_grow { (region : Region) (place : ℕ) (old new : Layout)
+        → (answer : Result Chunk AllocationGrowError) × MayGrow region place old new answer }
+    ensures one_grow { (region : Region) (place : ℕ) (old new : Layout)
+        (one other : Result Chunk AllocationGrowError)
+        → MayGrow region place old new one → MayGrow region place old new other
+        → one ≡ other }
+    ensures some_shrink { (place : ℕ) (old new : Layout)
+        → (answer : Result Chunk AllocationShrinkError) × MayShrink place old new answer }
+    ensures one_shrink { (place : ℕ) (old new : Layout)
+        (one other : Result Chunk AllocationShrinkError)
+        → MayShrink place old new one → MayShrink place old new other
+        → one ≡ other }
+    ensures aligned { (region : Region) (live : List Chunk) (layout : Layout) (chunk : Chunk)
+        → MayAllocate region live layout (Ok chunk)
+        → chunk.place % layout.align ≡ 0 }
+    ensures long_enough { (region : Region) (live : List Chunk) (layout : Layout) (chunk : Chunk)
+        → MayAllocate region live layout (Ok chunk)
+        → layout.size ≤ chunk.len }
+    ensures whole_rest { (region : Region) (live : List Chunk) (layout : Layout) (chunk : Chunk)
+        → MayAllocate region live layout (Ok chunk)
+        → (0 < chunk.len) × (chunk_end chunk ≡ region_end region) }
+    ensures keeps_sound { (one : OneChunk) (live new : List Chunk)
+        (commands : List Command) (replies : List Reply)
+        → IsOneChunk one → StandsFor one live
+        → IsRun (ResizableStep (one_chunk_object one.region)) live commands replies new
+        → (left : OneChunk) × IsOneChunk left × (left.region ≡ one.region) × StandsFor left new }
+{}
+
+/// The chunk from a place to an end. The place isn't 0, and the end isn't below it.
+fn chunk_between(place: usize, end: usize) -> Chunk
+    requires place { 0 < place }
+    requires end { place ≤ end }
+    ensures { result ≡ record { place = place; len = end - place } }
+{
+    Chunk::new(place, end - place).unwrap()
+}
