@@ -8,6 +8,10 @@ use Rattle.bb_memory_base.specs.BumpObject.{bump_object, StandsFor}
 use Rattle.bb_memory_base.specs.declared.allocator.Command.{Command}
 use Rattle.bb_memory_base.specs.declared.allocator.Reply.{Reply}
 use Rattle.bb_memory.specs.Bump.{Bump, bump_text}
+use Rattle.memrun.specs.Grammar.{IsLine, line_text}
+use Rattle.memrun.specs.LiveState.{LiveState}
+use Rattle.memrun.specs.Replies.{reply_line}
+use Rattle.memrun.specs.declared.machine.Machine.{Ghosts}
 
 -- the replies are a run of the bump object over the bump's region, and the bump stands for the list that the run leaves
 pub record BumpRuns (old : Bump) (live : List Chunk) (commands : List Command) (replies : List Reply) (new : Bump) (left : List Chunk) : Type 0 where
@@ -24,3 +28,14 @@ figures_line used free total =
 abbrev pub bump_lines : Bump → List ℕ
 bump_lines bump =
     (bump_text bump ++ codes "\n") ++ figures_line bump.used (bump.region.size - bump.used) bump.region.size
+
+-- a bump that a script drives: it begins with nothing used and nothing live
+abbrev pub bump_machine : Ghosts (LiveState Bump) Region Command Reply
+bump_machine = record {
+  is_line = IsLine;
+  line_text = line_text;
+  opens = λ region state. (state.allocator ≡ record { region = region; used = 0 }) × (state.live ≡ []);
+  runs = λ old commands replies new. BumpRuns old.allocator old.live commands replies new.allocator new.live;
+  reply_text = reply_line;
+  state_text = λ state. bump_lines state.allocator;
+}

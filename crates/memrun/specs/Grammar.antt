@@ -59,3 +59,7 @@ region_text region = decimal region.start ++ (codes " " ++ decimal region.size)
 -- the first line of a script that drives a bump
 abbrev pub bump_line : Region → List ℕ
 bump_line region = codes "bump " ++ region_text region
+
+-- the first line of a script that drives a one chunk
+abbrev pub one_chunk_line : Region → List ℕ
+one_chunk_line region = codes "one " ++ region_text region

@@ -2,8 +2,11 @@ pub mod Batches
 pub mod BumpScript
 pub mod Ending
 pub mod Grammar
+pub mod Kinds
 pub mod Lines
 pub mod LiveState
+pub mod OneChunkScript
+pub mod Program
 pub mod Replies
 pub mod Script
 pub mod Sending

@@ -48,18 +48,7 @@ IsBegunTranscript {S} {O} {C} {R} machine opening lines sent =
     (script : Batches C) × (first : S) × WritesScript machine.is_line machine.line_text lines script
     × machine.opens opening first × IsBegun machine first script sent
 
--- what is written of an input that is readable
-abbrev pub IsRun : {S O C R : Type 0} → Ghosts S O C R → List ℕ → List ℕ → Type 0
-IsRun {S} {O} {C} {R} machine input text =
-    (opening : O) × (rest : List (List ℕ))
-    × machine.is_opening opening × (lines_of input ≡ machine.opening_text opening ∷ rest)
-    × IsTranscript machine opening rest text
-
--- the line may be the first
-abbrev pub IsOpeningText : {S O C R : Type 0} → Ghosts S O C R → List ℕ → Type 0
-IsOpeningText machine line = IsTextOf machine.is_opening machine.opening_text line
-
--- the line may follow it
+-- the line may stand behind the first
 abbrev pub IsLineText : {S O C R : Type 0} → Ghosts S O C R → List ℕ → Type 0
 IsLineText machine line = IsTextOf machine.is_line machine.line_text line
 
@@ -68,45 +57,17 @@ abbrev pub IsLaterRefused : {S O C R : Type 0} → Ghosts S O C R → List (List
 IsLaterRefused machine rest number =
     (place : ℕ) × IsFirstUnreadable (IsLineText machine) rest place × (number ≡ place + 2)
 
--- of these lines the first that is unreadable has this number, counted from 1
-abbrev pub IsRefused : {S O C R : Type 0} → Ghosts S O C R → List (List ℕ) → ℕ → Type 0
-IsRefused machine [] number = number ≡ 1
-IsRefused machine (first ∷ rest) number =
-    ((¬ IsOpeningText machine first) × (number ≡ 1))
-    ⊎ (IsOpeningText machine first × IsLaterRefused machine rest number)
-
 -- what is written of the first unreadable line, a line feed included
 abbrev pub refusal_text : ℕ → List ℕ
 refusal_text number = codes "line " ++ (decimal number ++ codes ": refused\n")
 
--- the bytes begin what is written of an input that is readable
-abbrev pub IsBegunRun : {S O C R : Type 0} → Ghosts S O C R → List ℕ → List ℕ → Type 0
-IsBegunRun {S} {O} {C} {R} machine input sent =
-    (opening : O) × (rest : List (List ℕ))
-    × machine.is_opening opening × (lines_of input ≡ machine.opening_text opening ∷ rest)
-    × IsBegunTranscript machine opening rest sent
-
 -- the bytes begin the refusal of the first unreadable line
-abbrev pub IsBegunRefusal : {S O C R : Type 0} → Ghosts S O C R → List ℕ → List ℕ → Type 0
-IsBegunRefusal machine input sent =
-    (number : ℕ) × IsRefused machine (lines_of input) number × Begins sent (refusal_text number)
-
--- the same where the first line is readable
 abbrev pub IsBegunLaterRefusal : {S O C R : Type 0} → Ghosts S O C R → List (List ℕ) → List ℕ → Type 0
 IsBegunLaterRefusal machine rest sent =
     (number : ℕ) × IsLaterRefused machine rest number × Begins sent (refusal_text number)
 
--- the bytes begin what is written of the input, be it readable or not
-abbrev pub BeginsOutput : {S O C R : Type 0} → Ghosts S O C R → List ℕ → List ℕ → Type 0
-BeginsOutput machine input sent =
-    IsBegunRun machine input sent ⊎ IsBegunRefusal machine input sent
-
--- the same of these lines behind a first line of this opening
+-- the bytes begin what is written of these lines, behind a first line of this opening, be they readable or not
 abbrev pub BeginsLaterOutput : {S O C R : Type 0} → Ghosts S O C R → O
     → List (List ℕ) → List ℕ → Type 0
 BeginsLaterOutput machine opening rest sent =
     IsBegunTranscript machine opening rest sent ⊎ IsBegunLaterRefusal machine rest sent
-
--- a reader with these bytes left, where they are known, gives the input
-abbrev pub Gives : Option (List ℕ) → List ℕ → Type 0
-Gives left input = IfSome left (λ bytes. input ≡ bytes)

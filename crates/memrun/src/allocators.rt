@@ -10,7 +10,7 @@ use std::io;
 use std::io::Write;
 use std::marker::Model;
 
-/// What an allocator adds to be driven by a script: how it is made of a first line, run, and shown.
+/// What an allocator adds to be driven by a script: how it is made of what the first line says, run, and shown.
 pub trait Scripted: BaseAllocator + Drop {
     ghost use Rattle.std.specs.Prelude.{◌≡◌, ℕ, List, [], Some, OnOk, OnErr, IfOk, IfSome};
     ghost use Rattle.std.specs.Io.KnownBytes.{Appends};
@@ -21,12 +21,6 @@ pub trait Scripted: BaseAllocator + Drop {
     /// What the first line of a script says of it.
     type Opening: Drop;
 
-    /// Whether a script may have this first line.
-    ghost is_opening: { Self.Opening → Type 0 };
-
-    /// The bytes of a first line, without its line feed.
-    ghost opening_text: { Self.Opening → List ℕ };
-
     /// The allocator may be this one as it is made of the opening.
     ghost opens: { Self.Opening → Self → Type 0 };
 
@@ -35,12 +29,6 @@ pub trait Scripted: BaseAllocator + Drop {
 
     /// What is written of it, with so many chunks live.
     ghost state_text: { Self → ℕ → List ℕ };
-
-    /// Reads the first line.
-    fn read_opening(line: &[u8]) -> Option<Self::Opening>
-        ensures written { IfSome result (λ read. is_opening read × (line.now ≡ opening_text read)) }
-        ensures each { (x : Self.Opening) → is_opening x → line.now ≡ opening_text x
-            → result ≡ Some x };
 
     fn make(alloc: Global, opening: Self::Opening) -> Result<Self, AllocError>
         ensures opens { IfOk result (λ allocator. opens opening allocator) }
@@ -87,10 +75,6 @@ impl<A: Scripted> Machine for Live<A> {
 
     type Reply = Reply;
 
-    ghost is_opening = { A.is_opening };
-
-    ghost opening_text = { A.opening_text };
-
     ghost is_line = { IsLine };
 
     ghost line_text = { line_text };
@@ -100,15 +84,9 @@ impl<A: Scripted> Machine for Live<A> {
     ghost runs = { λ old commands replies new.
         A.runs old.allocator old.live commands replies new.allocator new.live };
 
-    ghost is_ready = { λ _. Unit {0} };
-
     ghost reply_text = { reply_line };
 
     ghost state_text = { λ state. A.state_text state.allocator (length state.live) };
-
-    fn read_opening(line: &[u8]) -> Option<A::Opening> {
-        A::read_opening(line)
-    }
 
     fn make(alloc: Global, opening: A::Opening) -> Result<Self, AllocError> {
         let allocator = A::make(alloc, opening)?;

@@ -1,12 +1,15 @@
 //! The regions that scripts name.
-ghost use Rattle.std.specs.Prelude.{◌≡◌, ◌↔◌, IfSome, Some};
+ghost use Rattle.std.specs.Prelude.{◌≡◌, ◌↔◌, IfSome, Some, None, []};
 ghost use Rattle.std.specs.Option.{SomeIff};
 ghost use Rattle.bb_memory_base.specs.Region.{Region, IsRegion, region_at};
+ghost use Rattle.bb_memory_base.specs.BumpObject.{StandsFor as BumpStandsFor};
+ghost use Rattle.bb_memory.specs.OneChunk.{StandsFor as OneChunkStandsFor};
 ghost use Rattle.memrun.specs.Grammar.{region_text};
 
 use crate::number::number;
 use crate::text::number_and_rest;
 use bb_memory::bump_allocator::BumpAllocator;
+use bb_memory::one_chunk_allocator::OneChunkAllocator;
 use std::marker::Model;
 
 /// Where a region starts, and how many bytes it has.
@@ -53,7 +56,16 @@ impl Bounds {
     /// A bump over the region.
     pub fn bump(self) -> BumpAllocator
         ensures value { result ≡ record { region = self; used = 0 } }
+        ensures empty { BumpStandsFor self 0 [] }
     {
         BumpAllocator::new(self.start, self.size)
+    }
+
+    /// A one chunk over the region.
+    pub fn one_chunk(self) -> OneChunkAllocator
+        ensures value { result ≡ record { region = self; kept = None } }
+        ensures empty { OneChunkStandsFor result [] }
+    {
+        OneChunkAllocator::new(self.start, self.size)
     }
 }

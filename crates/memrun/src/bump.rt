@@ -15,25 +15,15 @@ use std::io::Write;
 
 impl Scripted for BumpAllocator {
     ghost use Rattle.std.specs.Prelude.{◌≡◌};
-    ghost use Rattle.bb_memory_base.specs.Region.{IsRegion};
     ghost use Rattle.memrun.specs.BumpScript.{BumpRuns, bump_lines};
-    ghost use Rattle.memrun.specs.Grammar.{bump_line};
 
     type Opening = Bounds;
-
-    ghost is_opening = { IsRegion };
-
-    ghost opening_text = { bump_line };
 
     ghost opens = { λ region bump. bump ≡ record { region = region; used = 0 } };
 
     ghost runs = { BumpRuns };
 
     ghost state_text = { λ bump _. bump_lines bump };
-
-    fn read_opening(line: &[u8]) -> Option<Bounds> {
-        Bounds::read(line.strip_prefix(b"bump ")?)
-    }
 
     fn make(_alloc: Global, opening: Bounds) -> Result<Self, AllocError> {
         Ok(opening.bump())

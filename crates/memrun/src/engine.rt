@@ -1,86 +1,19 @@
-//! From the bytes of a script to the lines of its replies.
+//! From the lines of a script behind the first to the lines of its replies.
 ghost use Rattle.std.specs.Prelude.{◌≡◌, ◌≢◌, ◌⊎◌, ◌++◌, ◌+◌, ◌<◌, ◌^◌, ℕ, List, IfOk, IfErr, OnOk, OnErr};
 ghost use Rattle.std.specs.List.{flat_map};
 ghost use Rattle.std.specs.Io.KnownBytes.{Keeps, Appends};
 ghost use Rattle.memrun.specs.Ending.{IsCutShort};
 ghost use Rattle.memrun.specs.Lines.{lines_of};
 ghost use Rattle.memrun.specs.Sending.{Sends, AppendsPart};
-ghost use Rattle.memrun.specs.Transcript.{IsPlayed, IsBegun, IsTranscript, BeginsLaterOutput, IsLaterRefused, IsRun, BeginsOutput, IsRefused, refusal_text, Gives};
+ghost use Rattle.memrun.specs.Transcript.{IsPlayed, IsBegun, IsTranscript, BeginsLaterOutput, IsLaterRefused, refusal_text};
 
-use crate::lines::first_line;
 use crate::machine::Machine;
 use crate::reading::read_script;
 use crate::script::Script;
 use crate::sending::send;
 use crate::status::{Failure, Status};
 use std::alloc::Global;
-use std::io;
-use std::io::{ErrorKind, Read, Write};
-
-/// Reads a script to its end, checks every line of it, and then runs it.
-pub fn run<M: Machine, R: Read + Drop, W: Write>(alloc: Global, reader: R, writer: &mut W) -> Status
-    ensures done { result ≡ Status.Done → (input : List ℕ) × (text : List ℕ)
-        × Gives (R.remaining reader) input × IsRun M.Machine input text
-        × Appends (W.contents writer.old) (W.contents writer.new) text }
-    ensures unreadable { result ≡ Status.Unreadable → (input : List ℕ) × (number : ℕ)
-        × Gives (R.remaining reader) input × IsRefused M.Machine (lines_of input) number
-        × Appends (W.contents writer.old) (W.contents writer.new) (refusal_text number) }
-    ensures input_failed { result ≡ Status.InputFailed
-        → Keeps (W.contents writer.old) (W.contents writer.new) }
-    ensures cut_short { IsCutShort result → Keeps (W.contents writer.old) (W.contents writer.new)
-        ⊎ ((input : List ℕ) × (sent : List ℕ)
-        × Gives (R.remaining reader) input × BeginsOutput M.Machine input sent
-        × Appends (W.contents writer.old) (W.contents writer.new) sent) }
-{
-    match read_input(alloc, reader) {
-        Ok(input) => run_input::<M, W>(alloc, &input, writer),
-        Err(status) => status,
-    }
-}
-
-/// Reads an input to its end.
-fn read_input<R: Read + Drop>(alloc: Global, mut reader: R) -> Result<Vec<u8>, Status>
-    ensures read { IfOk result (λ input. Gives (R.remaining reader) input.items) }
-    ensures failed { IfErr result (λ status.
-        (status ≡ Status.InputFailed) ⊎ (status ≡ Status.OutOfMemory)) }
-{
-    let mut input = Vec::new(alloc);
-    match reader.read_to_end(&mut input) {
-        Ok(_) => Ok(input),
-        Err(e) => Err(input_status(&e)),
-    }
-}
-
-fn input_status(e: &io::Error) -> Status
-    ensures { (result ≡ Status.InputFailed) ⊎ (result ≡ Status.OutOfMemory) }
-{
-    if e.kind() == ErrorKind::OutOfMemory {
-        Status::OutOfMemory
-    } else {
-        Status::InputFailed
-    }
-}
-
-/// Checks every line of an input, and then runs it.
-fn run_input<M: Machine, W: Write>(alloc: Global, input: &[u8], writer: &mut W) -> Status
-    ensures done { result ≡ Status.Done → (text : List ℕ) × IsRun M.Machine input.now text
-        × Appends (W.contents writer.old) (W.contents writer.new) text }
-    ensures unreadable { result ≡ Status.Unreadable → (number : ℕ)
-        × IsRefused M.Machine (lines_of input.now) number
-        × Appends (W.contents writer.old) (W.contents writer.new) (refusal_text number) }
-    ensures cut_short { IsCutShort result → Keeps (W.contents writer.old) (W.contents writer.new)
-        ⊎ ((sent : List ℕ) × BeginsOutput M.Machine input.now sent
-        × Appends (W.contents writer.old) (W.contents writer.new) sent) }
-    ensures input_read { result ≢ Status.InputFailed }
-{
-    let Some((first, rest)) = first_line(input) else {
-        return refuse(alloc, 1, writer);
-    };
-    match M::read_opening(first) {
-        Some(opening) => drive::<M, W>(alloc, opening, rest, writer),
-        None => refuse(alloc, 1, writer),
-    }
-}
+use std::io::Write;
 
 /// Checks every line after the first, and then makes the machine and runs it.
 pub fn drive<M: Machine, W: Write>(
@@ -168,7 +101,6 @@ fn play<M: Machine, W: Write>(
     script: &Script<M::Command>,
     writer: &mut W,
 ) -> Result<(), Failure>
-    requires { M.is_ready machine.old }
     ensures ok { OnOk result ((text : List ℕ)
         × IsPlayed M.Machine machine.old script.now text machine.new
         × Appends (W.contents writer.old) (W.contents writer.new) text) }

@@ -18,12 +18,6 @@ pub trait Machine: Drop {
 
     type Reply: Drop;
 
-    /// Whether a script may have this first line.
-    ghost is_opening: { Self.Opening → Type 0 };
-
-    /// The bytes of a first line, without its line feed.
-    ghost opening_text: { Self.Opening → List ℕ };
-
     /// Whether a script may have this line after its first.
     ghost is_line: { Line Self.Command → Type 0 };
 
@@ -36,25 +30,14 @@ pub trait Machine: Drop {
     /// From one state these commands may get these replies, and lead to another state.
     ghost runs: { Self → List Self.Command → List Self.Reply → Self → Type 0 };
 
-    /// Whether commands may be applied: what a machine keeps from its making on.
-    ghost is_ready: { Self → Type 0 };
-
     /// What is written for a reply.
     ghost reply_text: { Self.Reply → List ℕ };
 
     /// What is written of a state.
     ghost state_text: { Self → List ℕ };
 
-    /// Reads the first line.
-    fn read_opening(line: &[u8]) -> Option<Self::Opening>
-        ensures written { IfSome result (λ read.
-            is_opening read × (line.now ≡ opening_text read)) }
-        ensures each { (x : Self.Opening) → is_opening x → line.now ≡ opening_text x
-            → result ≡ Some x };
-
     fn make(alloc: Global, opening: Self::Opening) -> Result<Self, AllocError>
-        ensures opens { IfOk result (λ machine. opens opening machine) }
-        ensures ready { IfOk result (λ machine. is_ready machine) };
+        ensures { IfOk result (λ machine. opens opening machine) };
 
     /// Reads a line after the first.
     fn read(line: &[u8]) -> Option<Line<Self::Command>>
@@ -64,9 +47,7 @@ pub trait Machine: Drop {
 
     /// Applies the commands in order.
     fn run(&mut self, commands: &[Self::Command]) -> Result<Vec<Self::Reply>, AllocError>
-        requires { is_ready self.old }
-        ensures run { IfOk result (λ replies. runs self.old commands.now replies.items self.new) }
-        ensures ready { OnOk result (is_ready self.new) };
+        ensures { IfOk result (λ replies. runs self.old commands.now replies.items self.new) };
 
     fn write_reply<W: Write>(reply: &Self::Reply, writer: &mut W) -> io::Result<()>
         ensures { OnOk result

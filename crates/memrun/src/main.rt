@@ -6,9 +6,12 @@ mod bounds;
 mod bump;
 mod commands;
 mod engine;
+mod kind;
 mod lines;
 mod machine;
 mod number;
+mod one_chunk;
+mod program;
 mod reading;
 mod replies;
 mod script;
@@ -18,9 +21,7 @@ mod status;
 mod tests;
 mod text;
 
-use allocators::Live;
-use bb_memory::bump_allocator::BumpAllocator;
-use engine::run;
+use program::run;
 use status::Status;
 use std::io;
 use std::io::BufWriter;
@@ -28,7 +29,7 @@ use std::process::ExitCode;
 
 fn main(rt: HostRuntime) -> ExitCode {
     let status = match BufWriter::new(rt.alloc(), io::writer(&rt)) {
-        Ok(mut output) => run::<Live<BumpAllocator>, _, _>(rt.alloc(), rt.reader(), &mut output),
+        Ok(mut output) => run(rt.alloc(), rt.reader(), &mut output),
         Err(_) => Status::OutOfMemory,
     };
     if let Some(text) = status.message() {

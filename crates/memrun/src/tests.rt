@@ -2,13 +2,8 @@
 mod calls;
 mod faults;
 mod refused_in_turn;
+mod regions;
 mod rows;
-
-use crate::allocators::Live;
-use crate::status::Status;
-use bb_memory::bump_allocator::BumpAllocator;
-use std::alloc::Global;
-use std::io::{Read, Write};
 
 /// The script of row `bump-first-path`, and what it writes.
 const FIRST_PATH: &[u8] =
@@ -22,8 +17,3 @@ chunk 4170 950\n\
 OutOfMemory\n\
 BumpAllocator { start: 4096, size: 1024, current_position: 1024 }\n\
 used 1024 free 0 total 1024\n";
-
-/// The engine, as `main` calls it.
-fn run<R: Read + Drop, W: Write>(alloc: Global, reader: R, writer: &mut W) -> Status {
-    crate::engine::run::<Live<BumpAllocator>, R, W>(alloc, reader, writer)
-}

@@ -1,9 +1,12 @@
 //! The calls of the libraries, each row by its name.
+use crate::lines::lines_law;
 use bb_memory::allocator::{
-    AllocationError, AllocationGrowError, AllocationShrinkError, Command, Reply, run_base,
+    AllocationError, AllocationGrowError, AllocationShrinkError, Allocator, Command, Reply,
+    run_base,
 };
 use bb_memory::bump_allocator::{BaseAllocator, BumpAllocator, bump_object_law, run_bump};
 use bb_memory::layout::{Chunk, Layout, layout_law, least_place_law, round_up};
+use bb_memory::one_chunk_allocator::{OneChunkAllocator, one_chunk_object_law, run_one_chunk};
 use std::test::Fail;
 
 #[test]
@@ -91,10 +94,31 @@ fn a_run_over_a_bump(rt: HostRuntime) -> Result<(), Fail> {
 }
 
 #[test]
+fn a_one_chunk_call_by_call(rt: HostRuntime) -> Result<(), Fail> {
+    let mut one = OneChunkAllocator::new(4097, 1024);
+    assert_eq!(rt; (one.start_address(), one.size()), (4097, 1024));
+    let layout = Layout::from_size_align(48, 4)?;
+    let chunk = one.allocate(layout)?;
+    assert_eq!(rt; one.reserved(chunk.place()), 1021);
+    assert!(rt; !one.has_chunk_available());
+    one.stands_for_some_list();
+    one.deallocate(chunk.place(), layout);
+    assert!(rt; one.has_chunk_available());
+    assert!(rt; OneChunkAllocator::can_make(1, usize::MAX - 1));
+    assert!(rt; !OneChunkAllocator::can_make(1, usize::MAX));
+    let mut live = Vec::new(rt.alloc());
+    let told = run_one_chunk(&mut one, &mut live, &[Command::Allocate(layout)])?;
+    assert_eq!(rt; told.as_slice(), [Reply::Chunk(chunk)].as_slice());
+    Ok(())
+}
+
+#[test]
 fn laws_do_nothing(_rt: HostRuntime) {
     layout_law();
     least_place_law();
     bump_object_law();
+    one_chunk_object_law();
+    lines_law();
 }
 
 #[test]

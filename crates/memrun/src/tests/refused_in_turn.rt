@@ -1,10 +1,14 @@
 //! Calls that hold with any one request for memory refused. The sweep runs each test with its first request refused, then
 //! its second, and so on, until none is left to refuse. What a test makes for itself may be refused, too: then it ends.
-use super::{FIRST_PATH, FIRST_PATH_LINES, run};
+use super::{FIRST_PATH, FIRST_PATH_LINES};
+use crate::program::run;
 use crate::status::Status;
-use bb_memory::allocator::{AllocationError, Command, Reply, run_base};
+use bb_memory::allocator::{
+    AllocationError, AllocationGrowError, Command, Reply, run_base, run_full,
+};
 use bb_memory::bump_allocator::BumpAllocator;
 use bb_memory::layout::{Chunk, Layout};
+use bb_memory::one_chunk_allocator::OneChunkAllocator;
 use std::test::Fail;
 
 /// The commands of row `bump-first-path`, up to its second `show`, as one batch.
@@ -41,6 +45,57 @@ fn run_base_keeps_all(rt: HostRuntime) -> Result<(), Fail> {
     assert_eq!(rt; told.as_slice(), replies.as_slice());
     assert_eq!(rt; bump.used_space(), 1024);
     assert_eq!(rt; live.len(), 3);
+    Ok(())
+}
+
+/// The commands of row `one-resizes`.
+fn one_resizes() -> Option<[Command; 8]> {
+    let of_48 = Layout::from_size_align(48, 4).ok()?;
+    let of_64 = Layout::from_size_align(64, 4).ok()?;
+    Some([
+        Command::Allocate(of_48),
+        Command::Shrink(0, of_64, Layout::from_size_align(32, 4).ok()?),
+        Command::Grow(0, of_48, of_64),
+        Command::Grow(0, of_64, of_64),
+        Command::Grow(0, of_48, Layout::from_size_align(64, 8).ok()?),
+        Command::Grow(0, of_48, Layout::from_size_align(1022, 4).ok()?),
+        Command::Grow(0, of_48, Layout::from_size_align(1021, 4).ok()?),
+        Command::Grow(
+            0,
+            Layout::from_size_align(48, 16).ok()?,
+            Layout::from_size_align(64, 16).ok()?,
+        ),
+    ])
+}
+
+#[test]
+fn run_full_keeps_all(rt: HostRuntime) -> Result<(), Fail> {
+    let Some(commands) = one_resizes() else {
+        return Err(Fail::from("a layout was refused"));
+    };
+    let whole = Chunk::new(4100, 1021).unwrap();
+    let replies = [
+        Reply::Chunk(whole),
+        Reply::Chunk(Chunk::new(4100, 32).unwrap()),
+        Reply::Chunk(whole),
+        Reply::GrowRefused(AllocationGrowError::GrowWouldShrink),
+        Reply::GrowRefused(AllocationGrowError::AlignmentFailure),
+        Reply::GrowRefused(AllocationGrowError::OutOfMemory),
+        Reply::Chunk(whole),
+        Reply::Passed,
+    ];
+    let mut one = OneChunkAllocator::new(4097, 1024);
+    let mut live = Vec::new(rt.alloc());
+    let told = match run_full(&mut one, &mut live, &commands) {
+        Ok(told) => told,
+        Err(_) => {
+            assert!(rt; one.has_chunk_available());
+            assert!(rt; live.is_empty());
+            run_full(&mut one, &mut live, &commands)?
+        }
+    };
+    assert_eq!(rt; told.as_slice(), replies.as_slice());
+    assert_eq!(rt; live.as_slice(), [whole].as_slice());
     Ok(())
 }
 

@@ -1,5 +1,5 @@
 //! Scripts with what they write, each row by its name. A semicolon stands for a line feed.
-use super::run;
+use crate::program::run;
 use crate::status::Status;
 use std::alloc::{AllocError, Global};
 use std::test::Fail;
@@ -72,6 +72,59 @@ fn bump_scripts(rt: HostRuntime) -> Result<(), Fail> {
 }
 
 #[test]
+fn one_chunk_scripts(rt: HostRuntime) -> Result<(), Fail> {
+    for (name, script, wrote) in [
+        (
+            "one-exact-fit",
+            "one 4096 1024; alloc 1024 1; alloc 1023 1; alloc 1 1",
+            "chunk 4096 1024; OutOfMemory; OutOfMemory",
+        ),
+        (
+            "one-exact-fit-after-padding",
+            "one 4097 8; alloc 2 8; alloc 1 8",
+            "OutOfMemory; chunk 4104 1",
+        ),
+        (
+            "one-place-at-the-end",
+            "one 4097 7; alloc 0 8; alloc 7 1",
+            "OutOfMemory; chunk 4097 7",
+        ),
+        (
+            "one-resizes",
+            "one 4097 1024; alloc 48 4; shrink 0 64 4 32 4; grow 0 48 4 64 4; grow 0 64 4 64 4; grow 0 48 4 64 8; grow 0 48 4 1022 4; grow 0 48 4 1021 4; grow 0 48 16 64 16",
+            "chunk 4100 1021; chunk 4100 32; chunk 4100 1021; GrowWouldShrink; AlignmentFailure; OutOfMemory; chunk 4100 1021; passed",
+        ),
+        (
+            "one-padding-past-end",
+            "one 4097 2; alloc 1 8; alloc 0 1; show",
+            "OutOfMemory; chunk 4097 2; one start 4097 size 2 available no",
+        ),
+        (
+            "one-reserved-limit",
+            "one 4096 64; grow 0 1 1 2 1; alloc 8 8; shrink 0 65 1 8 1; shrink 0 64 1 8 1; grow 0 8 1 64 1; free 0; show",
+            "passed; chunk 4096 64; passed; chunk 4096 8; chunk 4096 64; released; one start 4096 size 64 available yes",
+        ),
+        (
+            "one-near-the-top",
+            "one 18446744073709551601 14; alloc 1 16; alloc 13 1",
+            "OutOfMemory; chunk 18446744073709551601 14",
+        ),
+        (
+            "a one chunk of no bytes",
+            "one 4096 0; alloc 0 1",
+            "OutOfMemory",
+        ),
+    ] {
+        let mut told = Vec::new(rt.alloc());
+        let script = lines(rt.alloc(), script)?;
+        let status = run(rt.alloc(), script.as_slice(), &mut told);
+        assert_eq!(rt; status, Status::Done, "{name}");
+        assert_eq!(rt; told, lines(rt.alloc(), wrote)?, "{name}");
+    }
+    Ok(())
+}
+
+#[test]
 fn a_last_line_needs_no_line_feed(rt: HostRuntime) -> Result<(), Fail> {
     // script-no-last-line-feed
     let mut told = Vec::new(rt.alloc());
@@ -96,6 +149,7 @@ fn unreadable_scripts(rt: HostRuntime) -> Result<(), Fail> {
         ),
         ("script-empty", b"".as_slice(), 1),
         ("a region at 0", b"bump 0 8\n".as_slice(), 1),
+        ("a one chunk at 0", b"one 0 8\n".as_slice(), 1),
         (
             "a layout too large by one",
             b"bump 4096 8\nalloc 9223372036854775807 2\n".as_slice(),

@@ -22,7 +22,7 @@ returns-in_err-tell-clause-err g c =
     let end = c.run.new.self in
     let more : List ℕ = flat_map M.reply_text replies in
     let state : List ℕ = M.state_text end in
-    let longer = told_more M start c.loop-index.machine end script.shown i c.shown.result.now text replies c.shown.ensures told c.in_ok-replies.ensures.run in
+    let longer = told_more M start c.loop-index.machine end script.shown i c.shown.result.now text replies c.shown.ensures told c.in_ok-replies.ensures in
     let part = rw c.deref.ensures.value at c.in_err-tell.ensures in
     on_err c.from_residual-in_err-tell.result
     (begun_part M start end script _ _ _ (text ++ (more ++ state)) text more state refl (inl (i + 1, longer)) wrote part)
@@ -38,7 +38,7 @@ returns-in_err-show-clause-err g c =
     let end = c.run.new.self in
     let more : List ℕ = flat_map M.reply_text replies in
     let state : List ℕ = M.state_text end in
-    let longer = told_more M start c.loop-index.machine end script.shown i c.shown.result.now text replies c.shown.ensures told c.in_ok-replies.ensures.run in
+    let longer = told_more M start c.loop-index.machine end script.shown i c.shown.result.now text replies c.shown.ensures told c.in_ok-replies.ensures in
     let lines = rw c.deref.ensures.value at c.in_ok-tell.ensures in
     let split = sym (ap (λ l. (text ++ more) ++ l) (append-nil state) ∙ append_assoc text more state) in
     on_err c.from_residual-in_err-show.result
@@ -56,10 +56,9 @@ loop-index-preserved g c =
     let state : List ℕ = M.state_text end in
     let lines = rw c.deref.ensures.value at c.in_ok-tell.ensures in
     record {
-      ready = c.in_ok-replies.ensures.ready;
       told = (
         text ++ (more ++ state),
-        told_more M c.args.machine.now c.loop-index.machine end shown c.loop-index.index c.shown.result.now text replies c.shown.ensures told c.in_ok-replies.ensures.run,
+        told_more M c.args.machine.now c.loop-index.machine end shown c.loop-index.index c.shown.result.now text replies c.shown.ensures told c.in_ok-replies.ensures,
         appends_again _ _ _ text (more ++ state) wrote (appends_again _ _ _ more state lines c.in_ok-show.ensures),
       );
     }
@@ -80,7 +79,7 @@ returns-in_err-tell-2-clause-err g c =
     let replies = c.in_ok-replies-2.replies.items in
     let more : List ℕ = flat_map M.reply_text replies in
     let past : length script.shown ≤ i = omega (arith, c.shows-index-end.ensures) in
-    let run = rw c.last.ensures at c.in_ok-replies-2.ensures.run in
+    let run = rw c.last.ensures at c.in_ok-replies-2.ensures in
     let all = played M c.args.machine.now c.loop-index.machine c.run-2.new.self script i text replies past told run in
     let part = rw c.deref-2.ensures.value at c.in_err-tell-2.ensures in
     on_err c.from_residual-in_err-tell-2.result
@@ -95,7 +94,7 @@ returns-clause-ok g c =
     let replies = c.in_ok-replies-2.replies.items in
     let more : List ℕ = flat_map M.reply_text replies in
     let past : length script.shown ≤ i = omega (arith, c.shows-index-end.ensures) in
-    let run = rw c.last.ensures at c.in_ok-replies-2.ensures.run in
+    let run = rw c.last.ensures at c.in_ok-replies-2.ensures in
     let all = played M c.args.machine.now c.loop-index.machine c.run-2.new.self script i text replies past told run in
     let lines = rw c.deref-2.ensures.value at c.in_ok-tell-2.ensures in
     on_ok c.map_err.result (text ++ more, all, appends_kept _ _ _ (text ++ more) (appends_again _ _ _ text more wrote lines) c.flush.ensures.bytes)
@@ -109,7 +108,7 @@ returns-clause-err g c =
     let replies = c.in_ok-replies-2.replies.items in
     let more : List ℕ = flat_map M.reply_text replies in
     let past : length script.shown ≤ i = omega (arith, c.shows-index-end.ensures) in
-    let run = rw c.last.ensures at c.in_ok-replies-2.ensures.run in
+    let run = rw c.last.ensures at c.in_ok-replies-2.ensures in
     let all = played M c.args.machine.now c.loop-index.machine c.run-2.new.self script i text replies past told run in
     let lines = rw c.deref-2.ensures.value at c.in_ok-tell-2.ensures in
     let wrote_all = appends_kept _ _ _ (text ++ more) (appends_again _ _ _ text more wrote lines) c.flush.ensures.bytes in

@@ -8,7 +8,6 @@ abbrev pub invariant-loop-index : goal.invariant-loop-index
 invariant-loop-index g l =
     let M = g.M.Machine in
     record {
-      ready : M.is_ready l.machine;
       told : (text : List ℕ) × IsTold M l.fn.machine (take l.index l.script.shown) text l.machine
           × Appends (g.W.Write.contents l.fn.writer) (g.W.Write.contents l.writer) text;
     }

@@ -1,0 +1,43 @@
+//! What the first line of a script makes.
+ghost use Rattle.std.specs.Prelude.{◌≡◌, IfSome, Some};
+ghost use Rattle.bb_memory_base.specs.Region.{Region, IsRegion};
+ghost use Rattle.memrun.specs.Grammar.{bump_line, one_chunk_line};
+ghost use Rattle.memrun.specs.Kinds.{IsKind, kind_line};
+ghost use Rattle.memrun.specs.declared.kind.Kind.{Kind};
+
+use crate::bounds::Bounds;
+
+/// What a script drives, as its first line says.
+#[derive(Debug, Clone, Copy, PartialEq, Eq)]
+pub enum Kind {
+    Bump(Bounds),
+    OneChunk(Bounds),
+}
+
+/// The kind of script that this first line opens.
+pub fn read_kind(line: &[u8]) -> Option<Kind>
+    ensures written { IfSome result (λ kind. IsKind kind × (line.now ≡ kind_line kind)) }
+    ensures each { (kind : Kind) → IsKind kind → line.now ≡ kind_line kind → result ≡ Some kind }
+{
+    if let Some(region) = read_bump(line) {
+        return Some(Kind::Bump(region));
+    }
+    Some(Kind::OneChunk(read_one_chunk(line)?))
+}
+
+fn read_bump(line: &[u8]) -> Option<Bounds>
+    ensures written { IfSome result (λ region. IsRegion region × (line.now ≡ bump_line region)) }
+    ensures each { (region : Region) → IsRegion region → line.now ≡ bump_line region
+        → result ≡ Some region }
+{
+    Bounds::read(line.strip_prefix(b"bump ")?)
+}
+
+fn read_one_chunk(line: &[u8]) -> Option<Bounds>
+    ensures written { IfSome result (λ region. IsRegion region
+        × (line.now ≡ one_chunk_line region)) }
+    ensures each { (region : Region) → IsRegion region → line.now ≡ one_chunk_line region
+        → result ≡ Some region }
+{
+    Bounds::read(line.strip_prefix(b"one ")?)
+}
