@@ -25,10 +25,10 @@ fn a_region_call_by_call(rt: HostRuntime) -> Result<(), Fail> {
 fn bump_allocate_zeroed(rt: HostRuntime) -> Result<(), Fail> {
     let mut region = Region::new(4096, vec![in rt.alloc(); 7; 1024]?);
     let mut bump = BumpAllocator::new(4096, 1024);
-    let first = bump.allocate(Layout::from_size_align(10, 1)?);
-    assert_eq!(rt; first, Ok(Chunk::new(4096, 10).unwrap()));
-    let second = bump.allocate_zeroed(Layout::from_size_align(16, 8)?, &mut region);
-    assert_eq!(rt; second, Ok(Chunk::new(4112, 16).unwrap()));
+    let first = bump.allocate(Layout::from_size_align(10, 1)?)?;
+    assert_eq!(rt; (first.place(), first.len()), (4096, 10));
+    let second = bump.allocate_zeroed(Layout::from_size_align(16, 8)?, &mut region)?;
+    assert_eq!(rt; (second.place(), second.len()), (4112, 16));
     for (i, byte) in region.bytes().iter().enumerate() {
         let wanted = if 16 <= i && i < 32 { 0 } else { 7 };
         assert_eq!(rt; *byte, wanted, "at {i}");
