@@ -1,7 +1,7 @@
 //! Allocators over a region that is handed in as numbers: a start and a size in bytes.
 #![tactic(auto)]
 
-pub use bb_memory_base::{allocator, layout, region};
+pub use bb_memory_base::{allocator, layout, region, steps};
 
 pub mod bump_allocator;
 pub mod one_chunk_allocator;

@@ -1,7 +1,7 @@
 -- Chunks in order, and the live lists that a bump stands for.
 use Rattle.std.proofs.Common.{◌≡◌, ℕ, ◌+◌, ◌-◌, ◌≤◌, List, [], ◌∷◌, ◌++◌, refl, arith, ap, sym}
 use Rattle.std.specs.List.{All, AllPairs, AllByRecursion}
-use Rattle.std.proofs.lemmas.List.Elements.{All-from_recursion}
+use Rattle.std.proofs.lemmas.List.Elements.{All-from_recursion, recursion_from_All}
 use Rattle.std.proofs.lemmas.List.Kept.{AllPairs-cons}
 use Rattle.bb_memory_base.specs.Region.{Region, region_end}
 use Rattle.bb_memory_base.specs.Chunk.{Chunk, chunk_end, IsInside, AreApart}
@@ -21,8 +21,17 @@ pub in_order-append : (v : ℕ) (xs ys : List Chunk) → IsInOrder v xs → IsIn
 in_order-append v [] ys first then = then
 in_order-append v (x ∷ xs) ys (here, rest) then = (here, in_order-append (chunk_end x) xs ys rest then)
 
+-- what comes first of chunks in order, and what comes behind it
+pub in_order-front : (v : ℕ) (xs ys : List Chunk) → IsInOrder v (xs ++ ys) → IsInOrder v xs
+in_order-front v [] ys ordered = tt
+in_order-front v (x ∷ xs) ys (here, rest) = (here, in_order-front (chunk_end x) xs ys rest)
+
+pub in_order-rest : (v : ℕ) (xs ys : List Chunk) → IsInOrder v (xs ++ ys) → IsInOrder (end_of_last v xs) ys
+in_order-rest v [] ys ordered = ordered
+in_order-rest v (x ∷ xs) ys (here, rest) = in_order-rest (chunk_end x) xs ys rest
+
 -- each begins at or after v
-all_above : (v w : ℕ) (live : List Chunk) → v ≤ w → IsInOrder w live → AllByRecursion (λ chunk. v ≤ chunk.place) live
+pub all_above : (v w : ℕ) (live : List Chunk) → v ≤ w → IsInOrder w live → AllByRecursion (λ chunk. v ≤ chunk.place) live
 all_above v w [] le ordered = tt
 all_above v w (chunk ∷ live) le (here, rest) =
     (omega (arith, here), all_above v (chunk_end chunk) live (omega (arith, here)) rest)
@@ -71,6 +80,18 @@ pub StandsFor-end : (region : Region) (position : ℕ) (live : List Chunk) → S
     region.start + position ≡ end_of_last region.start live
 StandsFor-end region position live stands =
     omega (arith, stands.used, end_of_last-above region.start live stands.in_order)
+
+-- chunks inside a region end inside it
+end_of_last-within : (region : Region) (v : ℕ) (live : List Chunk) → v ≤ region_end region → AllByRecursion (IsInside region) live →
+    end_of_last v live ≤ region_end region
+end_of_last-within region v [] within inside = within
+end_of_last-within region v (chunk ∷ live) within (here, rest) = end_of_last-within region (chunk_end chunk) live here.below rest
+
+-- no more is used than there is
+pub StandsFor-within : (region : Region) (position : ℕ) (live : List Chunk) → StandsFor region position live → position ≤ region.size
+StandsFor-within region position live stands =
+    let inside = recursion_from_All (IsInside region) live stands.sound.inside in
+    omega (arith, StandsFor-end region position live stands, end_of_last-within region region.start live (omega arith) inside)
 
 -- one more chunk, at or after the end of the last one
 pub StandsFor-push : (region : Region) (position : ℕ) (live : List Chunk) (chunk : Chunk) → StandsFor region position live →

@@ -9,6 +9,7 @@ use bb_memory::allocator::{
 use bb_memory::bump_allocator::BumpAllocator;
 use bb_memory::layout::{Chunk, Layout};
 use bb_memory::one_chunk_allocator::OneChunkAllocator;
+use bb_memory::steps::{BumpOutcome, BumpStep, BumpWorld, PoolOutcome, PoolStep, PoolWorld};
 use std::test::Fail;
 
 /// The commands of row `bump-first-path`, up to its second `show`, as one batch.
@@ -96,6 +97,60 @@ fn run_full_keeps_all(rt: HostRuntime) -> Result<(), Fail> {
     };
     assert_eq!(rt; told.as_slice(), replies.as_slice());
     assert_eq!(rt; live.as_slice(), [whole].as_slice());
+    Ok(())
+}
+
+#[test]
+fn a_bump_world_keeps_its_state(rt: HostRuntime) -> Result<(), Fail> {
+    let Ok(mut world) = BumpWorld::new(rt.alloc(), 4096, 64, 64) else {
+        return Ok(());
+    };
+    let layout = Layout::from_size_align(40, 1)?;
+    let steps = [
+        BumpStep::Read { party: 0, layout },
+        BumpStep::Read { party: 1, layout },
+        BumpStep::Exchange { party: 1 },
+        BumpStep::Exchange { party: 0 },
+    ];
+    let outcomes = [
+        BumpOutcome::Sees(0),
+        BumpOutcome::Sees(0),
+        BumpOutcome::Wins(Chunk::new(4096, 40).unwrap()),
+        BumpOutcome::RefusedAtLoss(40),
+    ];
+    let told = match world.replay(&steps) {
+        Ok(told) => told,
+        Err(_) => {
+            assert_eq!(rt;
+                world.step(BumpStep::Load { party: 0 }),
+                BumpOutcome::Loaded(0)
+            );
+            world.replay(&steps)?
+        }
+    };
+    assert_eq!(rt; told.as_slice(), outcomes.as_slice());
+    assert_eq!(rt; world.used_space(), 40);
+    Ok(())
+}
+
+#[test]
+fn a_pool_world_keeps_its_state(rt: HostRuntime) -> Result<(), Fail> {
+    let Ok(mut world) = PoolWorld::new(rt.alloc(), 2, 64) else {
+        return Ok(());
+    };
+    let steps = [PoolStep::Try { party: 0 }, PoolStep::Try { party: 1 }];
+    let told = match world.replay(&steps) {
+        Ok(told) => told,
+        Err(_) => {
+            assert_eq!(rt; world.holder(0), None);
+            world.replay(&steps)?
+        }
+    };
+    assert_eq!(rt;
+        told.as_slice(),
+        [PoolOutcome::Takes(0), PoolOutcome::Loses(0)].as_slice()
+    );
+    assert_eq!(rt; world.holder(0), Some(0));
     Ok(())
 }
 

@@ -1,0 +1,188 @@
+-- What a step of the bump machine may do, case by case.
+use Rattle.std.proofs.Common.{◌≡◌, ◌≢◌, ℕ, ◌<◌, refl, sym, ap, ◌∙◌, subst, arith, Bool, true, false, Option, Some, None, inl, inr}
+use Rattle.std.specs.Prelude.{slice_get, slice_set, ◌==◌, if◌then◌else◌, IfSome}
+use Rattle.std.proofs.lemmas.Bool.Decides.{nat_tests}
+use Rattle.std.proofs.lemmas.Option.{same_Some}
+use Rattle.bb_memory_base.specs.Region.{Region}
+use Rattle.bb_memory_base.specs.BumpMachine.{OngoingCall, BumpState, BumpMove, IsIdle, IsInCall, IsFitting, AllFitting, chunk_at, fits, position_behind, ending, seeing, passed, moved, read, exchange, load, bump_step}
+use Rattle.bb_memory_base.specs.BumpHistory.{is_by}
+use Rattle.bb_memory_base.specs.declared.layout.Layout.{Layout}
+use Rattle.bb_memory_base.specs.declared.steps.bump.BumpStep.{BumpStep}
+use Rattle.bb_memory_base.specs.declared.steps.bump.BumpStep.TheVariants.{Read, Exchange, Load, Clear}
+use Rattle.bb_memory_base.specs.declared.steps.bump.BumpOutcome.TheVariants.{Sees, RefusedAtRead, Wins, Loses, RefusedAtLoss, Loaded, Cleared}
+use Rattle.bb_memory_base.proofs.SliceGets.{slice_get-set, slice_get-set_other, slice_get-set_same}
+
+-- TESTS OF NUMBERS
+
+pub same_from_test : (m n : ℕ) → (m == n) ≡ true → m ≡ n
+same_from_test m n test = grind (arith, nat_tests)
+
+pub apart_from_test : (m n : ℕ) → (m == n) ≡ false → m ≢ n
+apart_from_test m n test = grind (arith, nat_tests)
+
+pub test_same : (m n : ℕ) → m ≡ n → (m == n) ≡ true
+test_same m n same = grind (arith, nat_tests)
+
+pub test_apart : (m n : ℕ) → m ≢ n → (m == n) ≡ false
+test_apart m n apart = grind (arith, nat_tests)
+
+positive_from_test : (n : ℕ) → (n == 0) ≡ false → 0 < n
+positive_from_test n test = grind (arith, nat_tests)
+
+-- CASES
+
+-- a step, and what it does
+pub data StepView (region : Region) (state : BumpState) : BumpStep → BumpMove → Type 0 where
+  sees : (party : ℕ) (layout : Layout) → IsIdle state party → 0 < layout.size → fits region state.position layout ≡ true →
+      StepView region state (Read party layout) (moved state party (seeing (Sees state.position) state.position layout))
+  refuses_read : (party : ℕ) (layout : Layout) → IsIdle state party → 0 < layout.size → fits region state.position layout ≡ false →
+      StepView region state (Read party layout) (moved state party (ending (RefusedAtRead state.position) state.position))
+  wins : (party : ℕ) (call : OngoingCall) → IsInCall state party call → state.position ≡ call.seen →
+      StepView region state (Exchange party)
+      (moved state party (ending (Wins (chunk_at region state.position call.layout))
+      (position_behind region (chunk_at region state.position call.layout))))
+  loses : (party : ℕ) (call : OngoingCall) → IsInCall state party call → state.position ≢ call.seen →
+      fits region state.position call.layout ≡ true →
+      StepView region state (Exchange party) (moved state party (seeing (Loses state.position) state.position call.layout))
+  refuses_loss : (party : ℕ) (call : OngoingCall) → IsInCall state party call → state.position ≢ call.seen →
+      fits region state.position call.layout ≡ false →
+      StepView region state (Exchange party) (moved state party (ending (RefusedAtLoss state.position) state.position))
+  loads : (party : ℕ) → IsIdle state party → StepView region state (Load party) (record { outcome = Loaded state.position; state = state })
+  clears : StepView region state Clear (record { outcome = Cleared; state = record { position = 0; parties = state.parties } })
+  passes : (step : BumpStep) → StepView region state step (passed state)
+
+idle_view : (region : Region) (state : BumpState) (party : ℕ) (layout : Layout) (empty fitting : Bool) → IsIdle state party →
+    (layout.size == 0) ≡ empty → fits region state.position layout ≡ fitting →
+    StepView region state (Read party layout) (if empty then passed state else moved state party (if fitting
+    then seeing (Sees state.position) state.position layout
+    else ending (RefusedAtRead state.position) state.position))
+idle_view region state party layout true fitting idle size fit = passes (Read party layout)
+idle_view region state party layout false true idle size fit = sees party layout idle (positive_from_test layout.size size) fit
+idle_view region state party layout false false idle size fit = refuses_read party layout idle (positive_from_test layout.size size) fit
+
+read_view : (region : Region) (state : BumpState) (party : ℕ) (layout : Layout) (now : Option (Option OngoingCall)) →
+    slice_get state.parties party ≡ now → StepView region state (Read party layout) (read region state party layout now)
+read_view region state party layout None is = passes (Read party layout)
+read_view region state party layout (Some (Some call)) is = passes (Read party layout)
+read_view region state party layout (Some None) is =
+    idle_view region state party layout (layout.size == 0) (fits region state.position layout) is refl refl
+
+call_view : (region : Region) (state : BumpState) (party : ℕ) (call : OngoingCall) (same fitting : Bool) → IsInCall state party call →
+    (state.position == call.seen) ≡ same → fits region state.position call.layout ≡ fitting →
+    StepView region state (Exchange party) (moved state party (if same
+    then ending (Wins (chunk_at region state.position call.layout)) (position_behind region (chunk_at region state.position call.layout))
+    else (if fitting
+    then seeing (Loses state.position) state.position call.layout
+    else ending (RefusedAtLoss state.position) state.position)))
+call_view region state party call true fitting is same fit = wins party call is (same_from_test state.position call.seen same)
+call_view region state party call false true is same fit = loses party call is (apart_from_test state.position call.seen same) fit
+call_view region state party call false false is same fit = refuses_loss party call is (apart_from_test state.position call.seen same) fit
+
+exchange_view : (region : Region) (state : BumpState) (party : ℕ) (now : Option (Option OngoingCall)) →
+    slice_get state.parties party ≡ now → StepView region state (Exchange party) (exchange region state party now)
+exchange_view region state party None is = passes (Exchange party)
+exchange_view region state party (Some None) is = passes (Exchange party)
+exchange_view region state party (Some (Some call)) is =
+    call_view region state party call (state.position == call.seen) (fits region state.position call.layout) is refl refl
+
+load_view : (region : Region) (state : BumpState) (party : ℕ) (now : Option (Option OngoingCall)) →
+    slice_get state.parties party ≡ now → StepView region state (Load party) (load state now)
+load_view region state party None is = passes (Load party)
+load_view region state party (Some (Some call)) is = passes (Load party)
+load_view region state party (Some None) is = loads party is
+
+pub step_view : (region : Region) (state : BumpState) (step : BumpStep) → StepView region state step (bump_step region state step)
+step_view region state (Read party layout) = read_view region state party layout (slice_get state.parties party) refl
+step_view region state (Exchange party) = exchange_view region state party (slice_get state.parties party) refl
+step_view region state (Load party) = load_view region state party (slice_get state.parties party) refl
+step_view region state Clear = clears
+
+-- PARTIES
+
+-- a step of another party leaves a party as it is
+pub others_stay : (region : Region) (state : BumpState) (step : BumpStep) (move : BumpMove) (party : ℕ) → StepView region state step move →
+    is_by party step ≡ false → slice_get move.state.parties party ≡ slice_get state.parties party
+others_stay region state step move party (sees other layout idle asks fit) by =
+    slice_get-set_other state.parties other party _ (λ same. apart_from_test other party by (sym same))
+others_stay region state step move party (refuses_read other layout idle asks fit) by =
+    slice_get-set_other state.parties other party _ (λ same. apart_from_test other party by (sym same))
+others_stay region state step move party (wins other call is same) by =
+    slice_get-set_other state.parties other party _ (λ same. apart_from_test other party by (sym same))
+others_stay region state step move party (loses other call is apart fit) by =
+    slice_get-set_other state.parties other party _ (λ same. apart_from_test other party by (sym same))
+others_stay region state step move party (refuses_loss other call is apart fit) by =
+    slice_get-set_other state.parties other party _ (λ same. apart_from_test other party by (sym same))
+others_stay region state step move party (loads other idle) by = refl
+others_stay region state step move party clears by = refl
+others_stay region state step move party (passes other) by = refl
+
+-- what is written to a party's place is then there
+pub written : (state : BumpState) (other party : ℕ) (was now : Option OngoingCall) → (other == party) ≡ true →
+    slice_get state.parties other ≡ Some was → slice_get (slice_set state.parties other now) party ≡ Some now
+written state other party was now by is =
+    ap (slice_get (slice_set state.parties other now)) (sym (same_from_test other party by))
+    ∙ slice_get-set_same state.parties other now was is
+
+-- the call of a party whose place was written
+pub call_written : (state : BumpState) (other party : ℕ) (was now : Option OngoingCall) (call : OngoingCall) → (other == party) ≡ true →
+    slice_get state.parties other ≡ Some was → slice_get (slice_set state.parties other now) party ≡ Some (Some call) → now ≡ Some call
+call_written state other party was now call by is in_call =
+    same_Some now (Some call) (sym (written state other party was now by is) ∙ in_call)
+
+-- a party isn't both idle and in a call
+pub idle_or_in_call : (state : BumpState) (other party : ℕ) (call : OngoingCall) → (other == party) ≡ true → IsIdle state other →
+    IsInCall state party call → ⊥
+idle_or_in_call state other party call by idle is =
+    let both : Some None ≡ Some (Some call) = sym idle ∙ ap (slice_get state.parties) (same_from_test other party by) ∙ is in
+    let none : None ≡ Some call = same_Some None (Some call) both in
+    cc
+
+-- the call of a party is one alone
+pub one_call : (state : BumpState) (other party : ℕ) (call own : OngoingCall) → (other == party) ≡ true →
+    IsInCall state other call → IsInCall state party own → call ≡ own
+one_call state other party call own by is in_call =
+    let both : Some (Some call) ≡ Some (Some own) = sym is ∙ ap (slice_get state.parties) (same_from_test other party by) ∙ in_call in
+    same_Some call own (same_Some (Some call) (Some own) both)
+
+pub in_call_or_idle : (state : BumpState) (other party : ℕ) (call : OngoingCall) → (other == party) ≡ true →
+    IsInCall state other call → IsIdle state party → ⊥
+in_call_or_idle state other party call by is idle =
+    let both : Some None ≡ Some (Some call) = sym idle ∙ sym (ap (slice_get state.parties) (same_from_test other party by)) ∙ is in
+    let none : None ≡ Some call = same_Some None (Some call) both in
+    cc
+
+-- CALLS THAT FIT
+
+-- what is written fits, and so each call fits afterwards
+pub all_fitting-set : (region : Region) (state : BumpState) (position party : ℕ) (now : Option OngoingCall) → AllFitting region state →
+    IfSome now (IsFitting region) →
+    AllFitting region (record { position = position; parties = slice_set state.parties party now })
+all_fitting-set region state position party None old new = λ other call is.
+    elim (slice_get-set state.parties party other None (Some call) is) [
+      | inl before ↦ old other call before
+      | inr now ↦ let none : None ≡ Some call = now.1 in absurd (cc)
+    ]
+all_fitting-set region state position party (Some written) old new = λ other call is.
+    elim (slice_get-set state.parties party other (Some written) (Some call) is) [
+      | inl before ↦ old other call before
+      | inr now ↦ subst (IsFitting region) (same_Some written call now.1) new
+    ]
+
+-- each call fits after a step
+pub all_fitting-step : (region : Region) (state : BumpState) (step : BumpStep) (move : BumpMove) → StepView region state step move →
+    AllFitting region state → AllFitting region move.state
+all_fitting-step region state step move (sees party layout idle asks fit) old =
+    all_fitting-set region state state.position party (Some (record { layout = layout; seen = state.position })) old
+    (record { asks = asks; fitting = fit })
+all_fitting-step region state step move (refuses_read party layout idle asks fit) old =
+    all_fitting-set region state state.position party None old tt
+all_fitting-step region state step move (wins party call is same) old =
+    all_fitting-set region state (position_behind region (chunk_at region state.position call.layout)) party None old tt
+all_fitting-step region state step move (loses party call is apart fit) old =
+    all_fitting-set region state state.position party (Some (record { layout = call.layout; seen = state.position })) old
+    (record { asks = (old party call is).asks; fitting = fit })
+all_fitting-step region state step move (refuses_loss party call is apart fit) old =
+    all_fitting-set region state state.position party None old tt
+all_fitting-step region state step move (loads party idle) old = old
+all_fitting-step region state step move clears old = old
+all_fitting-step region state step move (passes other) old = old

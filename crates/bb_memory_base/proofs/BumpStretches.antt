@@ -1,0 +1,125 @@
+-- Stretches of steps with no clear: the position rises, and the chunks won are a sound list.
+use Rattle.std.proofs.Common.{◌≤◌, List, [], ◌∷◌, ◌++◌, append_assoc, append-nil, sym, subst, arith}
+use Rattle.bb_memory_base.specs.Region.{Region}
+use Rattle.bb_memory_base.specs.Chunk.{Chunk}
+use Rattle.bb_memory_base.specs.LiveList.{IsSound}
+use Rattle.bb_memory_base.specs.BumpObject.{end_of_last, StandsFor}
+use Rattle.bb_memory_base.specs.BumpMachine.{BumpState, BumpMove, BumpScene, AllFitting, opening_state, bump_step, bump_after, left_by}
+use Rattle.bb_memory_base.specs.BumpHistory.{bump_history, stretch_after, HasNoClear, won_at, chunks_won}
+use Rattle.bb_memory_base.specs.declared.steps.bump.BumpStep.{BumpStep}
+use Rattle.bb_memory_base.specs.declared.steps.bump.BumpStep.TheVariants.{Read, Exchange, Load, Clear}
+use Rattle.bb_memory_base.proofs.LiveLists.{end_of_last-above, end_of_last-append, in_order-rest, sound_from_order, stands_for_some, StandsFor-end, StandsFor-within}
+use Rattle.bb_memory_base.proofs.BumpSteps.{StepView, step_view, sees, refuses_read, wins, loses, refuses_loss, loads, clears, passes, all_fitting-step}
+use Rattle.bb_memory_base.proofs.BumpRuns.{StandsFor-won, chunk_at-above, fits_when_seen, calls_stand, fitting_after, fitting_at_opening}
+
+abbrev pub IsClear : BumpStep → Type 0
+IsClear Clear = Unit {0}
+IsClear _ = ⊥
+
+pub not_clear : (step : BumpStep) (steps : List BumpStep) → HasNoClear (step ∷ steps) → ¬ IsClear step × HasNoClear steps
+not_clear (Read party layout) steps none = ((λ clear. clear), none)
+not_clear (Exchange party) steps none = ((λ clear. clear), none)
+not_clear (Load party) steps none = ((λ clear. clear), none)
+not_clear Clear steps none = absurd none
+
+-- a state that stands for some list, and in which each call fits
+pub record IsHealthy (region : Region) (state : BumpState) : Type 0 where
+  pub live : List Chunk
+  pub stands : StandsFor region state.position live
+  pub fitting : AllFitting region state
+
+-- each state that a list of steps leaves is such a one
+pub healthy_after : (scene : BumpScene) (steps : List BumpStep) → scene.opening ≤ scene.region.size →
+    IsHealthy scene.region (left_by scene steps)
+healthy_after scene steps within =
+    let some = stands_for_some scene.region scene.opening within in
+    record {
+      live = _;
+      stands = calls_stand scene some.0 steps some.1;
+      fitting = fitting_after scene.region (opening_state scene) steps (fitting_at_opening scene);
+    }
+
+-- ONE STEP
+
+-- the list grows by what is won
+step_stands : (region : Region) (state : BumpState) (live : List Chunk) (step : BumpStep) (move : BumpMove) →
+    StepView region state step move →
+    ¬ IsClear step → StandsFor region state.position live → AllFitting region state →
+    StandsFor region move.state.position (live ++ won_at move.outcome)
+step_stands region state live step move (sees party layout idle asks fit) not stands fitting =
+    subst (StandsFor region state.position) (sym (append-nil live)) stands
+step_stands region state live step move (refuses_read party layout idle asks fit) not stands fitting =
+    subst (StandsFor region state.position) (sym (append-nil live)) stands
+step_stands region state live step move (wins party call is same) not stands fitting =
+    StandsFor-won region state.position live call.layout stands (fits_when_seen region state call same (fitting party call is).fitting)
+step_stands region state live step move (loses party call is apart fit) not stands fitting =
+    subst (StandsFor region state.position) (sym (append-nil live)) stands
+step_stands region state live step move (refuses_loss party call is apart fit) not stands fitting =
+    subst (StandsFor region state.position) (sym (append-nil live)) stands
+step_stands region state live step move (loads party idle) not stands fitting =
+    subst (StandsFor region state.position) (sym (append-nil live)) stands
+step_stands region state live step move clears not stands fitting = absurd (not tt)
+step_stands region state live step move (passes other) not stands fitting =
+    subst (StandsFor region state.position) (sym (append-nil live)) stands
+
+-- the position doesn't fall
+pub position_rises : (region : Region) (state : BumpState) (step : BumpStep) (move : BumpMove) → StepView region state step move →
+    ¬ IsClear step → state.position ≤ move.state.position
+position_rises region state step move (sees party layout idle asks fit) not = omega arith
+position_rises region state step move (refuses_read party layout idle asks fit) not = omega arith
+position_rises region state step move (wins party call is same) not = omega (arith, chunk_at-above region state.position call.layout)
+position_rises region state step move (loses party call is apart fit) not = omega arith
+position_rises region state step move (refuses_loss party call is apart fit) not = omega arith
+position_rises region state step move (loads party idle) not = omega arith
+position_rises region state step move clears not = absurd (not tt)
+position_rises region state step move (passes other) not = omega arith
+
+-- OVER A STRETCH
+
+pub stretch_rises : (region : Region) (state : BumpState) (steps : List BumpStep) → HasNoClear steps →
+    state.position ≤ (bump_after region state steps).position
+stretch_rises region state [] none = omega arith
+stretch_rises region state (step ∷ steps) none =
+    let parts = not_clear step steps none in
+    let move = bump_step region state step in
+    omega (
+      arith,
+      position_rises region state step move (step_view region state step) parts.0,
+      stretch_rises region move.state steps parts.1,
+    )
+
+pub stretch_stands : (region : Region) (state : BumpState) (live : List Chunk) (steps : List BumpStep) → HasNoClear steps →
+    StandsFor region state.position live → AllFitting region state →
+    StandsFor region (bump_after region state steps).position (live ++ chunks_won (bump_history region state steps))
+stretch_stands region state live [] none stands fitting = subst (StandsFor region state.position) (sym (append-nil live)) stands
+stretch_stands region state live (step ∷ steps) none stands fitting =
+    let parts = not_clear step steps none in
+    let move = bump_step region state step in
+    let view = step_view region state step in
+    let won = won_at move.outcome in
+    let rest = stretch_stands region move.state (live ++ won) steps parts.1
+    (step_stands region state live step move view parts.0 stands fitting) (all_fitting-step region state step move view fitting) in
+    subst (StandsFor region (bump_after region move.state steps).position)
+    (append_assoc live won (chunks_won (bump_history region move.state steps))) rest
+
+-- the chunks won from a healthy state on are a sound list
+sound_from : (region : Region) (state : BumpState) (steps : List BumpStep) → IsHealthy region state → HasNoClear steps →
+    IsSound region (chunks_won (bump_history region state steps))
+sound_from region state steps healthy none =
+    let live = healthy.live in
+    let won = chunks_won (bump_history region state steps) in
+    let after = stretch_stands region state live steps none healthy.stands healthy.fitting in
+    let position = (bump_after region state steps).position in
+    sound_from_order region (end_of_last region.start live) won
+    (end_of_last-above region.start live healthy.stands.in_order)
+    (in_order-rest region.start live won after.in_order)
+    (omega (
+      arith,
+      end_of_last-append region.start live won,
+      StandsFor-end region position (live ++ won) after,
+      StandsFor-within region position (live ++ won) after,
+    ))
+
+pub won_sound : (scene : BumpScene) (before stretch : List BumpStep) → scene.opening ≤ scene.region.size → HasNoClear stretch →
+    IsSound scene.region (chunks_won (stretch_after scene before stretch))
+won_sound scene before stretch within none = sound_from scene.region (left_by scene before) stretch (healthy_after scene before within) none

@@ -1,0 +1,269 @@
+-- The takings and returns of a pool machine are a run of the pool object.
+use Rattle.std.proofs.Common.{◌≡◌, ℕ, zero, suc, ◌<◌, ◌↔◌, List, [], ◌∷◌, ◌++◌, length, replicate, refl, sym, ap, ◌∙◌, subst, arith, Option, Some, None, inl, inr}
+use Rattle.std.specs.Prelude.{take, drop, slice_get, slice_set, remove}
+use Rattle.std.specs.List.{AllByRecursion}
+use Rattle.std.proofs.lemmas.Bool.{cases_eq}
+use Rattle.std.proofs.lemmas.Option.{slice_get_within}
+use Rattle.std.proofs.lemmas.List.{length-set, length-replicate}
+use Rattle.std.proofs.lemmas.List.Elements.{recursion_from_All}
+use Rattle.bb_memory_base.specs.Chunk.{Chunk}
+use Rattle.bb_memory_base.specs.LiveList.{IsSound}
+use Rattle.bb_memory_base.specs.Run.{IsRun}
+use Rattle.bb_memory_base.specs.PoolGeometry.{PoolGeometry, bucket_place, IsPoolGeometry}
+use Rattle.bb_memory_base.specs.PoolObject.{IsAt, IsHeld, IsWithin, MayGive, chunk_in}
+use Rattle.bb_memory_base.specs.PoolMachine.{PoolEntry, history_of, PoolState, PoolMove, IsHolder, IsTaken, pool_step, pool_after, pool_history, pool_opening, outcomes_of, state_after}
+use Rattle.bb_memory_base.specs.PoolCalls.{AreCalls, PoolCall, AreAsked, IsPoolRun, machine_of}
+use Rattle.bb_memory_base.specs.declared.layout.Layout.{Layout}
+use Rattle.bb_memory_base.specs.declared.steps.pool.PoolStep.{PoolStep}
+use Rattle.bb_memory_base.specs.declared.steps.pool.PoolOutcome.{PoolOutcome}
+use Rattle.bb_memory_base.proofs.SliceSets.{slice_get-same, slice_get-set_other, slice_get-set_same}
+use Rattle.bb_memory_base.proofs.PoolGeometries.{bucket_place-apart}
+use Rattle.bb_memory_base.proofs.PoolLists.{AreInBuckets, AreInBuckets-empty, AreInBuckets-push, AreInBuckets-remove, sound_from_buckets, count_at, count_at-push_same, count_at-push_other, count_at-remove_same, count_at-remove_other, at_from_count, count_from_at}
+use Rattle.bb_memory_base.proofs.PoolSteps.{StepKind, takes, loses, is_refused, gives, passes, kind_of}
+
+-- STATES AND LISTS
+
+abbrev taken_weight : Option (Option ℕ) → ℕ
+taken_weight (Some (Some holder)) = 1
+taken_weight _ = 0
+
+-- the list has one chunk in each bucket whose flag is taken, and no other
+record Matches (geometry : PoolGeometry) (state : PoolState) (live : List Chunk) : Type 0 where
+  flags : (bucket : ℕ) → bucket < geometry.buckets →
+      count_at (bucket_place geometry bucket) live ≡ taken_weight (slice_get state.holders bucket)
+  size : length state.holders ≡ geometry.buckets
+  buckets : AreInBuckets geometry live
+
+module _ (geometry : PoolGeometry) (is : IsPoolGeometry geometry) where
+  -- a bucket whose flag is free may be given
+  may_give : (state : PoolState) (live : List Chunk) (layout : Layout) (bucket : ℕ) →
+      Matches geometry state live → IsWithin geometry.bucket layout →
+      slice_get state.holders bucket ≡ Some None → MayGive geometry live layout bucket
+  may_give state live layout bucket matches within free =
+      let within_flags = slice_get_within state.holders bucket None free in
+      let below : bucket < geometry.buckets = omega (arith, within_flags, matches.size) in
+      let none : count_at (bucket_place geometry bucket) live ≡ 0 = matches.flags bucket below ∙ ap taken_weight free in
+      record {
+        within = within;
+        bucket = below;
+        free = λ held. let some = count_from_at (bucket_place geometry bucket) held.0 live held.1 in omega arith;
+      }
+
+  -- a bucket whose flag is taken has a chunk
+  held_from_flag : (state : PoolState) (live : List Chunk) (bucket holder : ℕ) → Matches geometry state live →
+      IsHolder state bucket holder → IsHeld geometry live bucket
+  held_from_flag state live bucket holder matches held =
+      let within_flags = slice_get_within state.holders bucket (Some holder) held in
+      let below : bucket < geometry.buckets = omega (arith, within_flags, matches.size) in
+      let one : count_at (bucket_place geometry bucket) live ≡ 1 = matches.flags bucket below ∙ ap taken_weight held in
+      at_from_count (bucket_place geometry bucket) live (omega arith)
+
+  flags-take : (state : PoolState) (live : List Chunk) (layout : Layout) (party bucket : ℕ) →
+      Matches geometry state live → slice_get state.holders bucket ≡ Some None → (b : ℕ) →
+      b < geometry.buckets →
+      count_at (bucket_place geometry b) (live ++ chunk_in geometry bucket layout ∷ []) ≡
+      taken_weight (slice_get (slice_set state.holders bucket (Some party)) b)
+  flags-take state live layout party bucket matches free b below =
+      let place : ℕ = bucket_place geometry b in
+      let chunk : Chunk = chunk_in geometry bucket layout in
+      elim (cases_eq bucket b) [
+        | inl same ↦
+            let more = count_at-push_same place live chunk (ap (bucket_place geometry) same) in
+            let now = ap taken_weight (slice_get-set_same state.holders bucket b (Some party) None same free) in
+            let before = ap taken_weight (slice_get-same state.holders bucket b (Some None) same free) in
+            omega (arith, matches.flags b below, more, now, before)
+        | inr apart ↦
+            let kept = count_at-push_other place live chunk (bucket_place-apart geometry is bucket b apart) in
+            let now = ap taken_weight (slice_get-set_other state.holders bucket b (Some party) apart) in
+            omega (arith, matches.flags b below, kept, now)
+      ]
+
+  flags-give : (state : PoolState) (live : List Chunk) (bucket holder position : ℕ) →
+      Matches geometry state live → IsHolder state bucket holder →
+      IsAt live position (bucket_place geometry bucket) → (b : ℕ) → b < geometry.buckets →
+      count_at (bucket_place geometry b) (remove live position) ≡
+      taken_weight (slice_get (slice_set state.holders bucket None) b)
+  flags-give state live bucket holder position matches held at b below =
+      let place : ℕ = bucket_place geometry b in
+      elim (cases_eq bucket b) [
+        | inl same ↦
+            let At : ℕ → Type 0 = λ i. IsAt live position (bucket_place geometry i) in
+            let less = count_at-remove_same place position live (subst At same at) in
+            let now = ap taken_weight (slice_get-set_same state.holders bucket b None (Some holder) same held) in
+            let before = ap taken_weight (slice_get-same state.holders bucket b (Some (Some holder)) same held) in
+            omega (arith, matches.flags b below, less, now, before)
+        | inr apart ↦
+            let other = bucket_place-apart geometry is bucket b apart in
+            let kept = count_at-remove_other place (bucket_place geometry bucket) position live at other in
+            let now = ap taken_weight (slice_get-set_other state.holders bucket b None apart) in
+            omega (arith, matches.flags b below, kept, now)
+      ]
+
+  -- ONE STEP
+
+  -- what a step does is a call of the object, for each layout that it may ask for
+  step_calls : (old : PoolState) (live : List Chunk) (layout : Layout) (step : PoolStep) (move : PoolMove) →
+      StepKind old step move → Matches geometry old live → IsWithin geometry.bucket layout →
+      (new : List Chunk) × PoolCall geometry live layout move.outcome new
+  step_calls old live layout step move (takes party bucket next free) matches within =
+      let may = may_give old live layout bucket matches within free in
+      (live ++ chunk_in geometry bucket layout ∷ [], record { answers = (bucket, may, refl); leaves = refl })
+  step_calls old live layout step move (gives party bucket held) matches within =
+      let there : IsHeld geometry live bucket = held_from_flag old live bucket party matches held in
+      let within_live = slice_get_within live there.0 there.1.chunk there.1.there in
+      (remove live there.0, (there.0, there.1, record { within = within_live; leaves = refl }))
+  step_calls old live layout step move (loses party bucket holder next held more) matches within = (live, refl)
+  step_calls old live layout step move (is_refused party bucket holder next held last) matches within = (live, refl)
+  step_calls old live layout step move (passes other) matches within = (live, refl)
+
+  -- the parties' passes decide nothing
+  same_holders : (old new : PoolState) (live : List Chunk) → old.holders ≡ new.holders → Matches geometry old live → Matches geometry new live
+  same_holders old new live same matches = record {
+    flags = λ b below. matches.flags b below ∙ ap (λ (holders : List (Option ℕ)). taken_weight (slice_get holders b)) same;
+    size = ap (λ (holders : List (Option ℕ)). length holders) (sym same) ∙ matches.size;
+    buckets = matches.buckets;
+  }
+
+  -- whichever such call it is, the list has again a chunk in each bucket that is taken
+  step_matches : (old : PoolState) (live new : List Chunk) (layout : Layout) (step : PoolStep)
+      (move : PoolMove) → StepKind old step move → Matches geometry old live →
+      PoolCall geometry live layout move.outcome new → Matches geometry move.state new
+  step_matches old live new layout step move (takes party bucket next free) matches call =
+      let may : MayGive geometry live layout bucket = may_give old live layout bucket matches call.answers.1.within free in
+      subst (Matches geometry move.state) (sym call.leaves) (record {
+        flags = flags-take old live layout party bucket matches free;
+        size = length-set old.holders bucket (Some party) ∙ matches.size;
+        buckets = AreInBuckets-push geometry live layout bucket may matches.buckets;
+      })
+  step_matches old live new layout step move (gives party bucket held) matches (position, at, released) =
+      subst (Matches geometry move.state) (sym released.leaves) (record {
+        flags = flags-give old live bucket party position matches held at;
+        size = length-set old.holders bucket None ∙ matches.size;
+        buckets = AreInBuckets-remove geometry live position released.within matches.buckets;
+      })
+  step_matches old live new layout step move (loses party bucket holder next held more) matches call =
+      subst (Matches geometry move.state) (sym call) (same_holders old move.state live refl matches)
+  step_matches old live new layout step move (is_refused party bucket holder next held last) matches call =
+      subst (Matches geometry move.state) (sym call) (same_holders old move.state live refl matches)
+  step_matches old live new layout step move (passes other) matches call = subst (Matches geometry old) (sym call) matches
+
+  -- LISTS OF STEPS
+
+  steps_call : (old : PoolState) (live : List Chunk) (steps : List PoolStep) (layouts : List Layout) →
+      Matches geometry old live → length layouts ≡ length steps →
+      AllByRecursion (IsWithin geometry.bucket) layouts →
+      (new : List Chunk) × IsRun (PoolCall geometry) live layouts (outcomes_of (pool_history old steps)) new
+  steps_call old live [] [] matches same within = (live, refl)
+  steps_call old live [] (layout ∷ layouts) matches same within = absurd (omega arith)
+  steps_call old live (step ∷ steps) [] matches same within = absurd (omega arith)
+  steps_call old live (step ∷ steps) (layout ∷ layouts) matches same (here, rest) =
+      let move : PoolMove = pool_step old step in
+      let first = step_calls old live layout step move (kind_of old step) matches here in
+      let after = step_matches old live first.0 layout step move (kind_of old step) matches first.1 in
+      let others = steps_call move.state first.0 steps layouts after (omega arith) rest in
+      (others.0, (first.0, first.1, others.1))
+
+  steps_match : (old : PoolState) (live new : List Chunk) (steps : List PoolStep) (layouts : List Layout) →
+      Matches geometry old live →
+      IsRun (PoolCall geometry) live layouts (outcomes_of (pool_history old steps)) new →
+      Matches geometry (pool_after old steps) new
+  steps_match old live new [] [] matches run = subst (Matches geometry old) (sym run) matches
+  steps_match old live new [] (layout ∷ layouts) matches run = absurd run
+  steps_match old live new (step ∷ steps) [] matches run = absurd run
+  steps_match old live new (step ∷ steps) (layout ∷ layouts) matches (mid, first, rest) =
+      let move : PoolMove = pool_step old step in
+      let after = step_matches old live mid layout step move (kind_of old step) matches first in
+      steps_match move.state mid new steps layouts after rest
+
+-- FROM THE OPENING
+
+free_at_opening : (n bucket : ℕ) → taken_weight (slice_get (replicate n None) bucket) ≡ 0
+free_at_opening zero bucket = refl
+free_at_opening (suc n) zero = refl
+free_at_opening (suc n) (suc bucket) = free_at_opening n bucket
+
+opening_matches : (geometry : PoolGeometry) (parties : ℕ) →
+    Matches geometry (pool_opening (machine_of geometry parties)) []
+opening_matches geometry parties = record {
+  flags = λ bucket below. sym (free_at_opening geometry.buckets bucket);
+  size = length-replicate geometry.buckets None;
+  buckets = AreInBuckets-empty geometry;
+}
+
+pub pool_run : (geometry : PoolGeometry) (parties : ℕ) (steps : List PoolStep) (layouts : List Layout) →
+    IsPoolGeometry geometry → AreAsked geometry steps layouts →
+    (live : List Chunk) × IsPoolRun geometry parties steps layouts live
+pool_run geometry parties steps layouts is asked =
+    let within = recursion_from_All (IsWithin geometry.bucket) layouts asked.within in
+    let opening : PoolState = pool_opening (machine_of geometry parties) in
+    steps_call geometry is opening [] steps layouts (opening_matches geometry parties) asked.one_a_step within
+
+run_matches : (geometry : PoolGeometry) (parties : ℕ) (steps : List PoolStep) (layouts : List Layout)
+    (live : List Chunk) → IsPoolGeometry geometry → IsPoolRun geometry parties steps layouts live →
+    Matches geometry (state_after (machine_of geometry parties) steps) live
+run_matches geometry parties steps layouts live is run =
+    let opening : PoolState = pool_opening (machine_of geometry parties) in
+    steps_match geometry is opening [] live steps layouts (opening_matches geometry parties) run
+
+taken_from_weight : (state : PoolState) (bucket : ℕ) (found : Option (Option ℕ)) →
+    slice_get state.holders bucket ≡ found → 0 < taken_weight found → IsTaken state bucket
+taken_from_weight state bucket None there some = absurd (omega arith)
+taken_from_weight state bucket (Some None) there some = absurd (omega arith)
+taken_from_weight state bucket (Some (Some holder)) there some = (holder, there)
+
+pub taken_is_held : (geometry : PoolGeometry) (parties : ℕ) (steps : List PoolStep) (layouts : List Layout)
+    (live : List Chunk) (bucket : ℕ) → IsPoolGeometry geometry → IsPoolRun geometry parties steps layouts live →
+    bucket < geometry.buckets →
+    IsTaken (state_after (machine_of geometry parties) steps) bucket ↔ IsHeld geometry live bucket
+taken_is_held geometry parties steps layouts live bucket is run below =
+    let state : PoolState = state_after (machine_of geometry parties) steps in
+    let matches : Matches geometry state live = run_matches geometry parties steps layouts live is run in (
+      λ taken. held_from_flag geometry is state live bucket taken.0 matches taken.1,
+      λ held.
+          let some = count_from_at (bucket_place geometry bucket) held.0 live held.1 in
+          taken_from_weight state bucket (slice_get state.holders bucket) refl (omega (arith, matches.flags bucket below, some)),
+    )
+
+pub run_is_sound : (geometry : PoolGeometry) (parties : ℕ) (steps : List PoolStep) (layouts : List Layout)
+    (live : List Chunk) → IsPoolGeometry geometry → IsPoolRun geometry parties steps layouts live →
+    IsSound geometry.region live
+run_is_sound geometry parties steps layouts live is run =
+    sound_from_buckets geometry is live (run_matches geometry parties steps layouts live is run).buckets
+
+-- THE STEPS UP TO ONE, AND THE REST
+
+-- a run is one of its first commands, and one of the others
+run-split : {C R : Type 0} (step : List Chunk → C → R → List Chunk → Type 0) (old new : List Chunk)
+    (commands : List C) (replies : List R) (k : ℕ) → IsRun step old commands replies new →
+    (there : List Chunk) × IsRun step old (take k commands) (take k replies) there × IsRun step there (drop k commands) (drop k replies) new
+run-split step old new commands replies zero run = (old, refl, run)
+run-split step old new [] [] (suc k) run = (old, refl, run)
+run-split step old new (command ∷ commands) (reply ∷ replies) (suc k) (mid, first, rest) =
+    let split = run-split step mid new commands replies k rest in
+    (split.0, (mid, first, split.1), split.2)
+run-split step old new [] (reply ∷ replies) (suc k) run = absurd run
+run-split step old new (command ∷ commands) [] (suc k) run = absurd run
+
+outcomes-take : (old : PoolState) (steps : List PoolStep) (k : ℕ) →
+    take k (outcomes_of (pool_history old steps)) ≡ outcomes_of (pool_history old (take k steps))
+outcomes-take old steps zero = refl
+outcomes-take old [] (suc k) = refl
+outcomes-take old (step ∷ steps) (suc k) =
+    ap (λ (outcomes : List PoolOutcome). (pool_step old step).outcome ∷ outcomes) (outcomes-take (pool_step old step).state steps k)
+
+outcomes-drop : (history : List PoolEntry) (k : ℕ) → drop k (outcomes_of history) ≡ outcomes_of (drop k history)
+outcomes-drop history zero = refl
+outcomes-drop [] (suc k) = refl
+outcomes-drop (entry ∷ history) (suc k) = outcomes-drop history k
+
+pub run_at_step : (geometry : PoolGeometry) (parties : ℕ) (steps : List PoolStep) (layouts : List Layout) (live : List Chunk)
+    (k : ℕ) → IsPoolRun geometry parties steps layouts live →
+    (there : List Chunk) × IsPoolRun geometry parties (take k steps) (take k layouts) there
+    × AreCalls geometry there (drop k layouts) (drop k (history_of (machine_of geometry parties) steps)) live
+run_at_step geometry parties steps layouts live k run =
+    let opening : PoolState = pool_opening (machine_of geometry parties) in
+    let history : List PoolEntry = pool_history opening steps in
+    let split = run-split (PoolCall geometry) [] live layouts (outcomes_of history) k run in
+    let Before : List PoolOutcome → Type 0 = λ outcomes. IsRun (PoolCall geometry) [] (take k layouts) outcomes split.0 in
+    let After : List PoolOutcome → Type 0 = λ outcomes. IsRun (PoolCall geometry) split.0 (drop k layouts) outcomes live in
+    (split.0, subst Before (outcomes-take opening steps k) split.1, subst After (outcomes-drop history k) split.2)

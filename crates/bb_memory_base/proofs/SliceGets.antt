@@ -1,0 +1,55 @@
+-- Reads of a list at a position, after a write and in a list of one value.
+use Rattle.std.proofs.Common.{◌≡◌, ◌≢◌, ℕ, zero, suc, ◌<◌, List, [], ◌∷◌, length, replicate, refl, ap, arith, Some, IsSome, ◌⊎◌, inl, inr}
+use Rattle.std.specs.Prelude.{slice_get, slice_set}
+
+-- after a write, an element is the one that was written, or was there
+pub slice_get-set : {X : Type 0} (xs : List X) (i j : ℕ) (v x : X) → slice_get (slice_set xs i v) j ≡ Some x →
+    (slice_get xs j ≡ Some x) ⊎ ((j ≡ i) × (v ≡ x))
+slice_get-set [] i j v x is = inl is
+slice_get-set (y ∷ ys) zero zero v x is = inr (refl, cc)
+slice_get-set (y ∷ ys) zero (suc j) v x is = inl is
+slice_get-set (y ∷ ys) (suc i) zero v x is = inl is
+slice_get-set (y ∷ ys) (suc i) (suc j) v x is =
+    elim (slice_get-set ys i j v x is) [ inl old ↦ inl old | inr new ↦ inr (ap suc new.0, new.1) ]
+
+pub slice_get-set_other : {X : Type 0} (xs : List X) (i j : ℕ) (v : X) → j ≢ i → slice_get (slice_set xs i v) j ≡ slice_get xs j
+slice_get-set_other [] i j v apart = refl
+slice_get-set_other (y ∷ ys) zero zero v apart = absurd (apart refl)
+slice_get-set_other (y ∷ ys) zero (suc j) v apart = refl
+slice_get-set_other (y ∷ ys) (suc i) zero v apart = refl
+slice_get-set_other (y ∷ ys) (suc i) (suc j) v apart = slice_get-set_other ys i j v (λ same. apart (ap suc same))
+
+pub slice_get-set_same : {X : Type 0} (xs : List X) (i : ℕ) (v x : X) → slice_get xs i ≡ Some x →
+    slice_get (slice_set xs i v) i ≡ Some v
+slice_get-set_same [] i v x is = absurd (cc)
+slice_get-set_same (y ∷ ys) zero v x is = refl
+slice_get-set_same (y ∷ ys) (suc i) v x is = slice_get-set_same ys i v x is
+
+pub slice_get-replicate : {X : Type 0} (n i : ℕ) (x : X) → i < n → slice_get (replicate n x) i ≡ Some x
+slice_get-replicate zero i x within = absurd (omega arith)
+slice_get-replicate (suc n) zero x within = refl
+slice_get-replicate (suc n) (suc i) x within = slice_get-replicate n i x (omega arith)
+
+-- what stands in a list of one value is that value
+pub slice_get-replicated : {X : Type 0} (n i : ℕ) (x y : X) → slice_get (replicate n x) i ≡ Some y → x ≡ y
+slice_get-replicated zero i x y is = absurd (cc)
+slice_get-replicated (suc n) zero x y is = cc
+slice_get-replicated (suc n) (suc i) x y is = slice_get-replicated n i x y is
+
+pub length-set_at : {X : Type 0} (xs : List X) (i : ℕ) (x : X) → length (slice_set xs i x) ≡ length xs
+length-set_at [] i x = refl
+length-set_at (y ∷ ys) zero x = refl
+length-set_at (y ∷ ys) (suc i) x = ap suc (length-set_at ys i x)
+
+-- a list of one element has it at position 0
+pub slice_get-single : {X : Type 0} (xs : List X) (i : ℕ) (x : X) → length xs ≡ 1 → slice_get xs i ≡ Some x → i ≡ 0
+slice_get-single [] i x one is = absurd (omega arith)
+slice_get-single (y ∷ ys) zero x one is = refl
+slice_get-single (y ∷ []) (suc i) x one is = absurd (cc)
+slice_get-single (y ∷ z ∷ ys) (suc i) x one is = absurd (omega arith)
+
+-- a place at which a list has something is one of the list
+pub slice_get-some : {X : Type 0} (xs : List X) (i : ℕ) → IsSome (slice_get xs i) → i < length xs
+slice_get-some [] i some = cc
+slice_get-some (y ∷ ys) zero some = omega arith
+slice_get-some (y ∷ ys) (suc i) some = omega (arith, slice_get-some ys i some)

@@ -1,0 +1,29 @@
+use Rattle.bb_memory_base.proofs.PoolGeometries.{some_geometry}
+use Rattle.bb_memory_base.proofs.PoolHolders.{holder_in_log, one_holder}
+use Rattle.bb_memory_base.proofs.PoolPasses.{refused_found_held}
+use Rattle.bb_memory_base.proofs.PoolRuns.{pool_run, run_at_step, taken_is_held, run_is_sound}
+use Rattle.bb_memory_base.proofs.steps.pool.pool_theorem.Goals as goal
+
+pub returns-clause-some_geometry : goal.returns-clause-some_geometry
+returns-clause-some_geometry c = some_geometry
+
+pub returns-clause-run : goal.returns-clause-run
+returns-clause-run c = pool_run
+
+pub returns-clause-every_step : goal.returns-clause-every_step
+returns-clause-every_step c = run_at_step
+
+pub returns-clause-taken : goal.returns-clause-taken
+returns-clause-taken c = taken_is_held
+
+pub returns-clause-sound : goal.returns-clause-sound
+returns-clause-sound c = run_is_sound
+
+pub returns-clause-holder : goal.returns-clause-holder
+returns-clause-holder c = holder_in_log
+
+pub returns-clause-one_holder : goal.returns-clause-one_holder
+returns-clause-one_holder c = one_holder
+
+pub returns-clause-refused : goal.returns-clause-refused
+returns-clause-refused c = refused_found_held

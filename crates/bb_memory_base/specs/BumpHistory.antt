@@ -1,0 +1,88 @@
+-- Histories of the bump machine: what happened, step by step.
+use Rattle.std.specs.Prelude.{ℕ, ◌≡◌, ◌==◌, Bool, true, false, List, [], ◌∷◌, ◌++◌, filter, count_by}
+use Rattle.bb_memory_base.specs.Region.{Region}
+use Rattle.bb_memory_base.specs.Chunk.{Chunk}
+use Rattle.bb_memory_base.specs.BumpMachine.{BumpScene, BumpState, opening_state, left_by, bump_step}
+use Rattle.bb_memory_base.specs.declared.steps.bump.BumpStep.{BumpStep}
+use Rattle.bb_memory_base.specs.declared.steps.bump.BumpStep.TheVariants.{Read, Exchange, Load, Clear}
+use Rattle.bb_memory_base.specs.declared.steps.bump.BumpOutcome.{BumpOutcome}
+use Rattle.bb_memory_base.specs.declared.steps.bump.BumpOutcome.TheVariants.{Sees, Wins, Loses, RefusedAtLoss}
+
+-- an entry: a step with what it found
+pub record BumpEntry : Type 0 where
+  pub step : BumpStep
+  pub outcome : BumpOutcome
+
+abbrev pub entry_of : Region → BumpState → BumpStep → BumpEntry
+entry_of region state step = record { step = step; outcome = (bump_step region state step).outcome }
+
+-- the entries of a list of steps, in order
+abbrev pub bump_history : Region → BumpState → List BumpStep → List BumpEntry
+bump_history region state [] = []
+bump_history region state (step ∷ steps) =
+    entry_of region state step ∷ bump_history region (bump_step region state step).state steps
+
+-- the history of a list of steps from the opening
+abbrev pub history_of : BumpScene → List BumpStep → List BumpEntry
+history_of scene steps = bump_history scene.region (opening_state scene) steps
+
+-- the history of a stretch of steps that comes after a beginning
+abbrev pub stretch_after : BumpScene → List BumpStep → List BumpStep → List BumpEntry
+stretch_after scene before stretch = bump_history scene.region (left_by scene before) stretch
+
+-- what a step answers that comes after these
+abbrev pub outcome_after : BumpScene → List BumpStep → BumpStep → BumpOutcome
+outcome_after scene steps step = (bump_step scene.region (left_by scene steps) step).outcome
+
+-- PARTIES
+
+-- the step is this party's
+abbrev pub is_by : ℕ → BumpStep → Bool
+is_by party (Read other layout) = other == party
+is_by party (Exchange other) = other == party
+is_by party (Load other) = other == party
+is_by party Clear = false
+
+-- a party's log: its own entries, in order
+abbrev pub log_of : ℕ → List BumpEntry → List BumpEntry
+log_of party history = filter (λ entry. is_by party entry.step) history
+
+-- CLEARS, WINS AND LOSSES
+
+abbrev pub HasNoClear : List BumpStep → Type 0
+HasNoClear [] = Unit {0}
+HasNoClear (Clear ∷ steps) = ⊥
+HasNoClear (_ ∷ steps) = HasNoClear steps
+
+abbrev pub won_at : BumpOutcome → List Chunk
+won_at (Wins chunk) = chunk ∷ []
+won_at _ = []
+
+-- the chunks that were won, in order
+abbrev pub chunks_won : List BumpEntry → List Chunk
+chunks_won [] = []
+chunks_won (entry ∷ history) = won_at entry.outcome ++ chunks_won history
+
+-- an exchange that is lost
+abbrev pub is_loss : BumpOutcome → Bool
+is_loss (Loses position) = true
+is_loss (RefusedAtLoss position) = true
+is_loss _ = false
+
+-- an exchange that is lost, and found this position
+abbrev pub IsLossAt : ℕ → BumpOutcome → Type 0
+IsLossAt position (Loses found) = found ≡ position
+IsLossAt position (RefusedAtLoss found) = found ≡ position
+IsLossAt position _ = ⊥
+
+-- a read that begins a call which goes on
+abbrev pub is_beginning : BumpOutcome → Bool
+is_beginning (Sees position) = true
+is_beginning _ = false
+
+-- how many exchanges a log has lost, and how many calls that go on it has begun
+abbrev pub losses_in : List BumpEntry → ℕ
+losses_in log = count_by (λ entry. is_loss entry.outcome) log
+
+abbrev pub calls_begun_in : List BumpEntry → ℕ
+calls_begun_in log = count_by (λ entry. is_beginning entry.outcome) log

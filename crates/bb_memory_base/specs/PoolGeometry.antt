@@ -1,0 +1,44 @@
+-- Pool geometry: where the buckets of a region lie. Buckets are numbered from 0.
+use Rattle.std.specs.Prelude.{ℕ, ◌+◌, ◌*◌, ◌<◌, ◌≤◌, ◌↔◌, min}
+use Rattle.bb_memory_base.specs.Region.{Region, region_end}
+use Rattle.bb_memory_base.specs.LeastPlace.{least_place}
+use Rattle.bb_memory_base.specs.declared.layout.Layout.{Layout}
+
+-- the region that is cut, the layout of each bucket, and how many buckets there are
+pub record PoolGeometry : Type 0 where
+  pub region : Region
+  pub bucket : Layout
+  pub buckets : ℕ
+
+abbrev pub pool_geometry : Region → Layout → ℕ → PoolGeometry
+pool_geometry region bucket buckets = record { region = region; bucket = bucket; buckets = buckets }
+
+-- where bucket 0 is
+abbrev pub first_place : Region → Layout → ℕ
+first_place region bucket = least_place region.start bucket.align
+
+-- how far each bucket is from the next
+abbrev pub stride : Layout → ℕ
+stride bucket = least_place bucket.size bucket.align
+
+-- where bucket i is
+abbrev pub bucket_place : PoolGeometry → ℕ → ℕ
+bucket_place geometry i = first_place geometry.region geometry.bucket + i * stride geometry.bucket
+
+-- bucket i with its whole stride ends inside the region
+abbrev pub HasRoom : Region → Layout → ℕ → Type 0
+HasRoom region bucket i = first_place region bucket + (i + 1) * stride bucket ≤ region_end region
+
+-- its buckets are those that the region has room for
+abbrev pub FillsRegion : PoolGeometry → Type 0
+FillsRegion geometry = (i : ℕ) → (i < geometry.buckets) ↔ HasRoom geometry.region geometry.bucket i
+
+-- the same with the smaller of its number of buckets and a fixed pool's constant
+abbrev pub at_most : ℕ → PoolGeometry → PoolGeometry
+at_most constant geometry =
+    pool_geometry geometry.region geometry.bucket (min geometry.buckets constant)
+
+-- a bucket has a byte, and the region has room for each
+pub record IsPoolGeometry (geometry : PoolGeometry) : Type 0 where
+  pub filled : 0 < geometry.bucket.size
+  pub room : (i : ℕ) → i < geometry.buckets → HasRoom geometry.region geometry.bucket i

@@ -1,0 +1,59 @@
+-- What a party's log says, and when a pool's flags and its parties' logs agree.
+use Rattle.std.specs.Prelude.{ℕ, ◌+◌, ◌≡◌, ◌==◌, Bool, true, false, is_some, nat_lt, if◌then◌else◌, List, [], ◌∷◌, ◌++◌, Option, Some, None, All, fold, map, slice_get, slice_set, unwrap_or}
+use Rattle.bb_memory_base.specs.PoolMachine.{PoolMachine, PoolState, PoolEntry, PoolLog, state_after, history_of, log_of}
+use Rattle.bb_memory_base.specs.declared.steps.pool.PoolStep.{PoolStep}
+use Rattle.bb_memory_base.specs.declared.steps.pool.PoolOutcome.{PoolOutcome}
+use Rattle.bb_memory_base.specs.declared.steps.pool.PoolOutcome.TheVariants.{Takes, Loses, RefusedAtLoss, Gives, Passed}
+
+-- WHAT A LOG SAYS
+
+-- whether a bucket is held after an outcome, where it was held before it or not
+abbrev pub held_after : ℕ → Bool → PoolOutcome → Bool
+held_after bucket held (Takes other) = if other == bucket then true else held
+held_after bucket held (Gives other) = if other == bucket then false else held
+held_after bucket held _ = held
+
+-- a party with this log holds the bucket: it has taken it, and not given it back since
+abbrev pub HoldsInLog : ℕ → PoolLog → Type 0
+HoldsInLog bucket log = fold (λ held entry. held_after bucket held entry.outcome) false log ≡ true
+
+-- the bucket that a pass tries next, after an outcome, or None where the party is then idle
+abbrev pub pass_after : Option ℕ → PoolOutcome → Option ℕ
+pass_after pass (Takes bucket) = None
+pass_after pass (Loses bucket) = Some (bucket + 1)
+pass_after pass (RefusedAtLoss bucket) = None
+pass_after pass _ = pass
+
+-- the bucket that the pass of a party with this log tries next, or None where the party is idle
+abbrev pub pass_in : PoolLog → Option ℕ
+pass_in log = fold (λ pass entry. pass_after pass entry.outcome) None log
+
+-- the bucket that a party with this log tries next
+abbrev pub next_bucket : PoolLog → ℕ
+next_bucket log = unwrap_or (pass_in log) 0
+
+-- what a loss at a bucket is, of so many
+abbrev pub loss_at : ℕ → ℕ → PoolOutcome
+loss_at buckets bucket = if nat_lt (bucket + 1) buckets then Loses bucket else RefusedAtLoss bucket
+
+-- FLAGS AND LOGS
+
+-- which flags are taken
+abbrev pub flags_of : PoolState → List Bool
+flags_of state = map is_some state.holders
+
+abbrev pub IsAllowed : PoolOutcome → Type 0
+IsAllowed Passed = ⊥
+IsAllowed _ = Unit {0}
+
+-- some list of steps, each allowed, leaves these flags, and has as each party's steps exactly its log, in order
+pub record LogsAgree (machine : PoolMachine) (flags : List Bool) (logs : List PoolLog) : Type 0 where
+  pub steps : List PoolStep
+  pub allowed : All (λ entry. IsAllowed entry.outcome) (history_of machine steps)
+  pub leaves : flags_of (state_after machine steps) ≡ flags
+  pub each : (party : ℕ) (log : PoolLog) → slice_get logs party ≡ Some log
+      → log_of machine steps party ≡ log
+
+-- the logs after one more entry of a party, whose log was this
+abbrev pub with_entry : List PoolLog → ℕ → PoolLog → PoolEntry → List PoolLog
+with_entry logs party log entry = slice_set logs party (log ++ entry ∷ [])

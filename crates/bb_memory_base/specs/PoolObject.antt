@@ -1,0 +1,50 @@
+-- The pool object: chunks in buckets, each given back alone.
+use Rattle.std.specs.Prelude.{◌≡◌, ℕ, ◌≤◌, ◌<◌, false, List, Some, Result, Ok, Err, slice_get}
+use Rattle.bb_memory_base.specs.Chunk.{Chunk}
+use Rattle.bb_memory_base.specs.Object.{Object, object_of}
+use Rattle.bb_memory_base.specs.PoolGeometry.{PoolGeometry, bucket_place}
+use Rattle.bb_memory_base.specs.declared.layout.Layout.{Layout}
+use Rattle.bb_memory_base.specs.declared.allocator.AllocationError.{AllocationError}
+use Rattle.bb_memory_base.specs.declared.allocator.AllocationError.TheVariants.{SizeIsZero, SizeTooLarge, AlignmentFailure, OutOfMemory}
+
+-- the chunk at this position of the list has this place
+pub record IsAt (live : List Chunk) (position place : ℕ) : Type 0 where
+  pub chunk : Chunk
+  pub there : slice_get live position ≡ Some chunk
+  pub placed : chunk.place ≡ place
+
+-- some chunk of the list has the place of bucket i
+abbrev pub IsHeld : PoolGeometry → List Chunk → ℕ → Type 0
+IsHeld geometry live i = (position : ℕ) × IsAt live position (bucket_place geometry i)
+
+-- the size and the alignment are at most the bucket's
+pub record IsWithin (bucket layout : Layout) : Type 0 where
+  pub size : layout.size ≤ bucket.size
+  pub align : layout.align ≤ bucket.align
+
+-- the chunk that a request gets in bucket i
+abbrev pub chunk_in : PoolGeometry → ℕ → Layout → Chunk
+chunk_in geometry i layout = record { place = bucket_place geometry i; len = layout.size }
+
+-- a request for the layout may get bucket i, as its size and alignment are small enough, and the bucket isn't held
+pub record MayGive (geometry : PoolGeometry) (live : List Chunk) (layout : Layout) (i : ℕ) : Type 0 where
+  pub within : IsWithin geometry.bucket layout
+  pub bucket : i < geometry.buckets
+  pub free : ¬ IsHeld geometry live i
+
+-- What the pool object may answer, and when.
+abbrev pub MayAllocate : PoolGeometry → List Chunk → Layout → Result Chunk AllocationError → Type 0
+-- any bucket that isn't held
+MayAllocate geometry live layout (Ok chunk) =
+    (i : ℕ) × MayGive geometry live layout i × (chunk ≡ chunk_in geometry i layout)
+MayAllocate geometry live layout (Err SizeTooLarge) = geometry.bucket.size < layout.size
+MayAllocate geometry live layout (Err AlignmentFailure) =
+    (layout.size ≤ geometry.bucket.size) × (geometry.bucket.align < layout.align)
+MayAllocate geometry live layout (Err OutOfMemory) =
+    IsWithin geometry.bucket layout × ((i : ℕ) → i < geometry.buckets → IsHeld geometry live i)
+-- it never refuses so
+MayAllocate geometry live layout (Err SizeIsZero) = ⊥
+
+-- a release closes up
+abbrev pub pool_object : PoolGeometry → Object
+pool_object geometry = object_of false (MayAllocate geometry)

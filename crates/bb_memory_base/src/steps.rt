@@ -1,0 +1,10 @@
+//! Machines of atomic steps: what any number of parties do to words that they share, one step at a time.
+mod bump;
+mod bump_world;
+mod pool;
+mod pool_world;
+
+pub use bump::{BumpOutcome, BumpStep, bump_log_theorem, bump_theorem};
+pub use bump_world::BumpWorld;
+pub use pool::{PoolOutcome, PoolStep, pool_log_theorem, pool_theorem};
+pub use pool_world::PoolWorld;

@@ -1,0 +1,233 @@
+//! The bump machine's steps, and what holds of every list of them.
+ghost use Rattle.std.specs.Prelude.{◌≡◌, ◌≤◌, ◌<◌, ◌++◌, ◌≢◌, ℕ, List, [], All, Some, None, slice_get};
+ghost use Rattle.bb_memory_base.specs.Region.{Region};
+ghost use Rattle.bb_memory_base.specs.Chunk.{Chunk, AreApart};
+ghost use Rattle.bb_memory_base.specs.LiveList.{IsSound};
+ghost use Rattle.bb_memory_base.specs.BumpObject.{StandsFor, used_space};
+ghost use Rattle.bb_memory_base.specs.BumpMachine.{BumpScene, OngoingCall, IsIdle, IsFitting, IsInCall, exchange_move, left_by, read_move};
+ghost use Rattle.bb_memory_base.specs.BumpHistory.{BumpEntry, HasNoClear, IsLossAt, chunks_won, calls_begun_in, history_of, losses_in, log_of, outcome_after, stretch_after};
+ghost use Rattle.bb_memory_base.specs.BumpCalls.{IsCallRun, OpensWith, calls_after, calls_of, live_after};
+ghost use Rattle.bb_memory_base.specs.BumpLogs.{HasLog, Interleaving, LogsAgree, HasPositionUpTo, call_in, seen_in, with_entry};
+ghost use Rattle.bb_memory_base.specs.declared.layout.Layout.{Layout};
+ghost use Rattle.bb_memory_base.specs.declared.steps.bump.BumpStep.{BumpStep};
+ghost use Rattle.bb_memory_base.specs.declared.steps.bump.BumpStep.TheVariants.{Read, Exchange, Load};
+ghost use Rattle.bb_memory_base.specs.declared.steps.bump.BumpOutcome.TheVariants.{Loaded};
+
+use crate::layout::{Chunk, Layout};
+
+/// One atomic step over the bump's position. A party goes by its number, from 0.
+#[derive(Debug, Clone, Copy, PartialEq, Eq)]
+pub enum BumpStep {
+    /// An idle party begins a call: it reads the position. It isn't allowed with size 0.
+    Read { party: u32, layout: Layout },
+    /// A party in a call puts the end of its chunk in the position's place, where that is still what it has seen.
+    Exchange { party: u32 },
+    /// An idle party reads how much is used.
+    Load { party: u32 },
+    /// All chunks are given back at once, by nobody in particular.
+    Clear,
+}
+
+/// What a step found, and what it did. The number is the position that it found.
+#[derive(Debug, Clone, Copy, PartialEq, Eq)]
+pub enum BumpOutcome {
+    /// A read at which the layout fits.
+    Sees(usize),
+    /// A read at which the layout doesn't fit. The call is refused, and the party is idle again.
+    RefusedAtRead(usize),
+    /// An exchange that found what the party had seen. The chunk is the party's, which is idle again.
+    Wins(Chunk),
+    /// An exchange that found another position, at which the layout fits. The party has now seen that one.
+    Loses(usize),
+    /// An exchange that found another position, at which the layout doesn't fit. The call is refused, and the party is
+    /// idle again.
+    RefusedAtLoss(usize),
+    /// A load.
+    Loaded(usize),
+    /// A clear.
+    Cleared,
+    /// The step isn't allowed, or there is no such party. Nothing changed.
+    Passed,
+}
+
+/// What holds of every list of steps, by any number of parties, from whichever position the machine opens at, with clears
+/// at any place. It does nothing: its contract is the theorem.
+///
+/// A scene is where a machine begins: its region, its opening and its parties. What holds of every list of steps holds of
+/// each beginning of one, and so at every step. A stretch is a list of steps that comes after a beginning. A step decides
+/// a call where it wins, where it refuses at a read or a loss, and where it clears. Nothing is said of who wins, and
+/// nothing of time.
+pub fn bump_theorem()
+    // Each opening up to the region's size stands for some live list.
+    ensures some_list { (scene : BumpScene) → scene.opening ≤ scene.region.size
+        → (live : List Chunk) × OpensWith scene live }
+
+    // The calls at their deciding steps are a run of the bump object, from each live list that the
+    // opening stands for.
+    ensures run { (scene : BumpScene) (live : List Chunk) (steps : List BumpStep)
+        → OpensWith scene live
+        → IsCallRun scene.region live (calls_of scene steps) (live_after scene live steps) }
+
+    // The calls of a beginning come first, so that what is said of every list of steps is said of every
+    // step of one run.
+    ensures beginning { (scene : BumpScene) (before stretch : List BumpStep)
+        → calls_of scene (before ++ stretch)
+        ≡ calls_of scene before ++ calls_after scene before stretch }
+
+    // At every step a bump at the machine's position stands for the object's list there.
+    ensures stands { (scene : BumpScene) (live : List Chunk) (steps : List BumpStep)
+        → OpensWith scene live
+        → StandsFor scene.region (left_by scene steps).position (live_after scene live steps) }
+
+    // At every step the position is how much that list uses.
+    ensures position { (scene : BumpScene) (live : List Chunk) (steps : List BumpStep)
+        → OpensWith scene live
+        → (left_by scene steps).position ≡ used_space scene.region (live_after scene live steps) }
+
+    // That is what a load finds.
+    ensures load { (scene : BumpScene) (live : List Chunk) (steps : List BumpStep) (party : ℕ)
+        → OpensWith scene live → IsIdle (left_by scene steps) party
+        → outcome_after scene steps (Load party)
+        ≡ Loaded (used_space scene.region (live_after scene live steps)) }
+
+    // At every step the list is sound: its chunks lie inside the region, and no two overlap.
+    ensures sound { (scene : BumpScene) (live : List Chunk) (steps : List BumpStep)
+        → OpensWith scene live
+        → IsSound scene.region (live_after scene live steps) }
+
+    // While no clear comes, the chunks that are won are a sound list.
+    ensures won { (scene : BumpScene) (before stretch : List BumpStep)
+        → scene.opening ≤ scene.region.size → HasNoClear stretch
+        → IsSound scene.region (chunks_won (stretch_after scene before stretch)) }
+
+    // Each loss raises what a call has seen: where no clear came since the call began, an exchange
+    // that is lost finds a greater position than the call has seen.
+    ensures raised { (scene : BumpScene) (before stretch : List BumpStep)
+        (party position : ℕ) (call : OngoingCall)
+        → scene.opening ≤ scene.region.size
+        → IsIdle (left_by scene before) party → HasNoClear stretch
+        → IsInCall (left_by scene (before ++ stretch)) party call
+        → IsLossAt position (outcome_after scene (before ++ stretch) (Exchange party))
+        → call.seen < position }
+
+    // A call with no clear inside it loses at most as many exchanges as the region has bytes: so many
+    // does a party lose that is idle, and begins at most one call, while no clear comes.
+    ensures losses { (scene : BumpScene) (before stretch : List BumpStep) (party : ℕ)
+        → scene.opening ≤ scene.region.size
+        → IsIdle (left_by scene before) party → HasNoClear stretch
+        → calls_begun_in (log_of party (stretch_after scene before stretch)) ≤ 1
+        → losses_in (log_of party (stretch_after scene before stretch)) ≤ scene.region.size }
+{}
+
+/// What can be told from the logs of parties, as a bump is that threads share: its word is the position, and each thread
+/// has its own party's log. Nobody clears such a bump. It does nothing: its contract is the theorem.
+///
+/// Logs agree with a position where one list of allowed steps leaves that position, and has as each party's steps exactly
+/// its log. A party whose log isn't in the list may have made any steps.
+pub fn bump_log_theorem()
+    // What a party is in the midst of can be read off its own log.
+    ensures call { (scene : BumpScene) (steps : List BumpStep) (party : ℕ)
+        → party < scene.parties
+        → slice_get (left_by scene steps).parties party
+        ≡ Some (call_in (log_of party (history_of scene steps))) }
+
+    // Logs that are all empty agree with the opening.
+    ensures opening { (scene : BumpScene) (logs : List (List BumpEntry))
+        → All (λ log. log ≡ []) logs
+        → LogsAgree scene scene.opening logs }
+
+    // Whatever position an idle party's read finds, the logs agree with it once the read is entered.
+    ensures read { (scene : BumpScene) (position party : ℕ)
+        (logs : List (List BumpEntry)) (log : List BumpEntry) (layout : Layout)
+        → let move = read_move scene.region position layout in
+        LogsAgree scene position logs → HasLog logs party log → party < scene.parties
+        → call_in log ≡ None → 0 < layout.size
+        → LogsAgree scene position (with_entry logs party log (Read party layout) move.outcome) }
+
+    // Whatever position an exchange finds, the logs agree with the one that it leaves once the
+    // exchange is entered.
+    ensures exchange { (scene : BumpScene) (position party : ℕ)
+        (logs : List (List BumpEntry)) (log : List BumpEntry) (call : OngoingCall)
+        → let move = exchange_move scene.region position call in
+        LogsAgree scene position logs → HasLog logs party log → party < scene.parties
+        → call_in log ≡ Some call
+        → LogsAgree scene move.position (with_entry logs party log (Exchange party) move.outcome) }
+
+    // Whatever position an idle party's load finds, the logs agree with it once the load is entered.
+    ensures load { (scene : BumpScene) (position party : ℕ)
+        (logs : List (List BumpEntry)) (log : List BumpEntry)
+        → LogsAgree scene position logs → HasLog logs party log → party < scene.parties
+        → call_in log ≡ None
+        → LogsAgree scene position (with_entry logs party log (Load party) (Loaded position)) }
+
+    // No chunk of one party overlaps a chunk of another.
+    ensures apart { (scene : BumpScene) (position party other : ℕ)
+        (logs : List (List BumpEntry)) (log other_log : List BumpEntry)
+        → scene.opening ≤ scene.region.size
+        → LogsAgree scene position logs
+        → HasLog logs party log → HasLog logs other other_log → party ≢ other
+        → All (λ chunk. All (AreApart chunk) (chunks_won other_log)) (chunks_won log) }
+
+    // The position is at least each one that a party has found, or made by a win.
+    ensures found { (scene : BumpScene) (position party : ℕ)
+        (logs : List (List BumpEntry)) (log : List BumpEntry)
+        → LogsAgree scene position logs → HasLog logs party log
+        → All (HasPositionUpTo position scene.region) log }
+
+    // So it is at least what a party has seen.
+    ensures seen { (scene : BumpScene) (position party : ℕ)
+        (logs : List (List BumpEntry)) (log : List BumpEntry)
+        → LogsAgree scene position logs → HasLog logs party log
+        → seen_in scene log ≤ position }
+
+    // It is exactly that where there is one party.
+    ensures alone { (scene : BumpScene) (position : ℕ)
+        (logs : List (List BumpEntry)) (log : List BumpEntry)
+        → scene.parties ≡ 1
+        → LogsAgree scene position logs → HasLog logs 0 log
+        → position ≡ seen_in scene log }
+
+    // The position is never below the opening.
+    ensures risen { (scene : BumpScene) (position : ℕ) (logs : List (List BumpEntry))
+        → LogsAgree scene position logs
+        → scene.opening ≤ position }
+
+    // The position is never above the region's size.
+    ensures within { (scene : BumpScene) (position : ℕ) (logs : List (List BumpEntry))
+        → scene.opening ≤ scene.region.size → LogsAgree scene position logs
+        → position ≤ scene.region.size }
+
+    // A call that is under way has seen no more than the position.
+    ensures call_seen { (scene : BumpScene) (position party : ℕ)
+        (logs : List (List BumpEntry)) (log : List BumpEntry) (call : OngoingCall)
+        → LogsAgree scene position logs → HasLog logs party log → party < scene.parties
+        → call_in log ≡ Some call
+        → call.seen ≤ position }
+
+    // It asks for something, which fits at what it has seen.
+    ensures call_fits { (scene : BumpScene) (position party : ℕ)
+        (logs : List (List BumpEntry)) (log : List BumpEntry) (call : OngoingCall)
+        → LogsAgree scene position logs → HasLog logs party log → party < scene.parties
+        → call_in log ≡ Some call
+        → IsFitting scene.region call }
+
+    // An interleaving of each party's log with some logs of the others leaves the position.
+    ensures interleaved { (scene : BumpScene) (position party : ℕ)
+        (logs : List (List BumpEntry)) (log : List BumpEntry)
+        → LogsAgree scene position logs → HasLog logs party log
+        → Interleaving scene party log position }
+
+    // The calls of such an interleaving are a run of the bump object, from each live list that the
+    // opening stands for.
+    ensures run { (scene : BumpScene) (live : List Chunk) (party position : ℕ)
+        (log : List BumpEntry) (interleaving : Interleaving scene party log position)
+        → OpensWith scene live
+        → IsCallRun scene.region live (calls_of scene interleaving.steps)
+        (live_after scene live interleaving.steps) }
+
+    // A bump at the position stands for the live list that this run leaves.
+    ensures stands { (scene : BumpScene) (live : List Chunk) (party position : ℕ)
+        (log : List BumpEntry) (interleaving : Interleaving scene party log position)
+        → OpensWith scene live
+        → StandsFor scene.region position (live_after scene live interleaving.steps) }
+{}

@@ -1,0 +1,260 @@
+//! A bump machine that can be run: a region, a position, and of each party the call that it is in.
+ghost use Rattle.std.specs.Prelude.{◌≡◌, ◌+◌, ◌<◌, ◌≤◌, IfOk, IfSome, IsSome, OnErr, OnOk, Some, None, slice_get, length};
+ghost use Rattle.bb_memory_base.specs.Region.{Region, IsRegion};
+ghost use Rattle.bb_memory_base.specs.BumpMachine.{BumpScene, OngoingCall, IsFitting, PartyMove, ending, seeing, read_move, exchange_move, read, exchange, load};
+ghost use Rattle.bb_memory_base.specs.BumpWorld.{BumpWorld, opened, in_state, outcome_of, outcomes_of, after_step, after_steps};
+
+use super::{BumpOutcome, BumpStep};
+use crate::layout::{Chunk, Layout};
+use std::alloc::{AllocError, Global};
+use std::marker::Model;
+
+/// A call that a party is in: what it asked for, and the position that it has seen.
+#[derive(Debug, Clone, Copy, PartialEq, Eq)]
+struct OngoingCall {
+    layout: Layout,
+    seen: usize,
+}
+
+impl Model for OngoingCall {
+    ghost use Rattle.bb_memory_base.specs.BumpMachine.{OngoingCall};
+
+    ghost Value = { OngoingCall };
+
+    ghost view = { λ call. record { layout = call.layout; seen = call.seen } };
+
+    ghost inverse = { λ call. record { layout = call.layout; seen = call.seen } };
+}
+
+/// What a step of a party answers, and what it makes of the position and of the party's call.
+#[derive(Clone, Copy)]
+struct PartyMove {
+    outcome: BumpOutcome,
+    position: usize,
+    call: Option<OngoingCall>,
+}
+
+impl Model for PartyMove {
+    ghost use Rattle.bb_memory_base.specs.BumpMachine.{PartyMove};
+
+    ghost Value = { PartyMove };
+
+    ghost view = { λ m. record { outcome = m.outcome; position = m.position; call = m.call } };
+
+    ghost inverse = { λ m. record { outcome = m.outcome; position = m.position; call = m.call } };
+}
+
+impl PartyMove {
+    /// The party is idle afterwards.
+    fn ending(outcome: BumpOutcome, position: usize) -> PartyMove
+        ensures { result ≡ ending outcome position }
+    {
+        PartyMove {
+            outcome,
+            position,
+            call: None,
+        }
+    }
+
+    /// The party is in a call for the layout afterwards, and has seen this position.
+    fn seeing(outcome: BumpOutcome, position: usize, layout: Layout) -> PartyMove
+        ensures { result ≡ seeing outcome position layout }
+    {
+        let seen = position;
+        PartyMove {
+            outcome,
+            position,
+            call: Some(OngoingCall { layout, seen }),
+        }
+    }
+
+    /// A read that finds this position.
+    fn of_read(start: usize, size: usize, position: usize, layout: Layout) -> PartyMove
+        requires region { IsRegion (record { start = start; size = size }) }
+        requires within { position ≤ size }
+        requires asks { 0 < layout.size }
+        ensures value { let region : Region = record { start = start; size = size } in
+            result ≡ read_move region position layout }
+        ensures fitting { IfSome result.call (IsFitting (record { start = start; size = size })) }
+        ensures within { result.position ≤ size }
+    {
+        match Chunk::at_or_after(start + position, layout, start + size) {
+            Some(_) => PartyMove::seeing(BumpOutcome::Sees(position), position, layout),
+            None => PartyMove::ending(BumpOutcome::RefusedAtRead(position), position),
+        }
+    }
+
+    /// An exchange that finds this position, by a party in this call.
+    fn of_exchange(start: usize, size: usize, position: usize, call: OngoingCall) -> PartyMove
+        requires region { IsRegion (record { start = start; size = size }) }
+        requires within { position ≤ size }
+        requires call { IsFitting (record { start = start; size = size }) call }
+        ensures value { let region : Region = record { start = start; size = size } in
+            result ≡ exchange_move region position call }
+        ensures fitting { IfSome result.call (IsFitting (record { start = start; size = size })) }
+        ensures within { result.position ≤ size }
+    {
+        match Chunk::at_or_after(start + position, call.layout, start + size) {
+            Some(chunk) if position == call.seen => {
+                PartyMove::ending(BumpOutcome::Wins(chunk), chunk.end() - start)
+            }
+            Some(_) => PartyMove::seeing(BumpOutcome::Loses(position), position, call.layout),
+            None => PartyMove::ending(BumpOutcome::RefusedAtLoss(position), position),
+        }
+    }
+}
+
+/// The call of a party, if there is such a party, and if it is in one.
+fn call_at(calls: &[Option<OngoingCall>], party: usize) -> Option<Option<OngoingCall>>
+    ensures { result ≡ slice_get calls.now party }
+{
+    calls.get(party).copied()
+}
+
+/// The bump machine over a region, with its parties. No step takes memory.
+///
+/// ```
+/// let mut world = BumpWorld::new(alloc, 4096, 64, 2)?;
+/// let layout = Layout::from_size_align(40, 1)?;
+/// assert_eq!(world.step(BumpStep::Read { party: 0, layout }), BumpOutcome::Sees(0));
+/// world.step(BumpStep::Exchange { party: 0 });
+/// assert_eq!(world.used_space(), 40);
+/// ```
+#[derive(Drop)]
+pub struct BumpWorld {
+    alloc: Global,
+    start: usize,
+    size: usize,
+    position: usize,
+    calls: Vec<Option<OngoingCall>>,
+}
+
+impl Model for BumpWorld {
+    ghost use Rattle.bb_memory_base.specs.BumpWorld.{BumpWorld, IsBumpWorld, world_of};
+
+    ghost Value = { BumpWorld };
+
+    ghost view = { λ w. world_of w.start w.size w.position w.calls.items };
+
+    ghost invariant = { λ w. IsBumpWorld (world_of w.start w.size w.position w.calls.items) };
+}
+
+impl BumpWorld {
+    /// The machine over the region of `size` bytes at `start`, at position 0, with that many parties, all idle. The start
+    /// has to be greater than 0, start plus size at most `usize::MAX`, and there has to be a party.
+    pub fn new(
+        alloc: Global,
+        start: usize,
+        size: usize,
+        parties: u32,
+    ) -> Result<BumpWorld, AllocError>
+        requires region { IsRegion (record { start = start; size = size }) }
+        requires parties { 1 ≤ parties }
+        ensures { let region : Region = record { start = start; size = size } in
+            let scene : BumpScene = record { region = region; opening = 0; parties = parties } in
+            IfOk result (λ world. world ≡ opened scene) }
+    {
+        let calls = vec![in alloc; None; parties as usize]?;
+        Ok(BumpWorld {
+            alloc,
+            start,
+            size,
+            position: 0,
+            calls,
+        })
+    }
+
+    /// Takes one atomic step.
+    pub fn step(&mut self, step: BumpStep) -> BumpOutcome
+        ensures outcome { result ≡ outcome_of self.old step }
+        ensures state { self.new ≡ after_step self.old step }
+    {
+        match step {
+            BumpStep::Read { party, layout } => self.read(party as usize, layout),
+            BumpStep::Exchange { party } => self.exchange(party as usize),
+            BumpStep::Load { party } => self.load(party as usize),
+            BumpStep::Clear => {
+                self.position = 0;
+                BumpOutcome::Cleared
+            }
+        }
+    }
+
+    /// Takes the steps in order, and answers what each did. The memory for the answers is reserved first: where it is
+    /// refused, no step is taken.
+    pub fn replay(&mut self, steps: &[BumpStep]) -> Result<Vec<BumpOutcome>, AllocError>
+        ensures outcomes { IfOk result (λ answers. answers.items ≡ outcomes_of self.old steps.now) }
+        ensures state { OnOk result (self.new ≡ after_steps self.old steps.now) }
+        ensures kept { OnErr result (self.new ≡ self.old) }
+    {
+        let mut outcomes = Vec::with_capacity(self.alloc, steps.len())?;
+        for step in steps {
+            let outcome = self.step(*step);
+            outcomes.push_reserved(outcome);
+        }
+        Ok(outcomes)
+    }
+
+    /// The position: how many bytes are used, from the region's start to the end of the last chunk, padding included.
+    pub fn used_space(&self) -> usize
+        ensures { result ≡ self.now.state.position }
+    {
+        self.position
+    }
+
+    /// The call of a party, as [`call_at`].
+    fn call_of(&self, party: usize) -> Option<Option<OngoingCall>>
+        ensures value { result ≡ slice_get self.now.state.parties party }
+        ensures fitting { (call : OngoingCall) → result ≡ Some (Some call)
+            → IsFitting self.now.region call }
+        ensures within { IsSome result → party < length self.now.state.parties }
+    {
+        call_at(&self.calls, party)
+    }
+
+    fn read(&mut self, party: usize, layout: Layout) -> BumpOutcome
+        ensures outcome { let now = slice_get self.old.state.parties party in
+            result ≡ (read self.old.region self.old.state party layout now).outcome }
+        ensures state { let now = slice_get self.old.state.parties party in
+            self.new ≡ in_state self.old (read self.old.region self.old.state party layout now).state }
+    {
+        match self.call_of(party) {
+            Some(None) => {
+                if layout.size() == 0 {
+                    return BumpOutcome::Passed;
+                }
+                let turn = PartyMove::of_read(self.start, self.size, self.position, layout);
+                self.calls[party] = turn.call;
+                turn.outcome
+            }
+            Some(Some(_)) | None => BumpOutcome::Passed,
+        }
+    }
+
+    fn exchange(&mut self, party: usize) -> BumpOutcome
+        ensures outcome { let now = slice_get self.old.state.parties party in
+            result ≡ (exchange self.old.region self.old.state party now).outcome }
+        ensures state { let now = slice_get self.old.state.parties party in
+            self.new ≡ in_state self.old (exchange self.old.region self.old.state party now).state }
+    {
+        match self.call_of(party) {
+            Some(Some(call)) => {
+                let turn = PartyMove::of_exchange(self.start, self.size, self.position, call);
+                self.position = turn.position;
+                self.calls[party] = turn.call;
+                turn.outcome
+            }
+            Some(None) | None => BumpOutcome::Passed,
+        }
+    }
+
+    fn load(&self, party: usize) -> BumpOutcome
+        ensures { let now = slice_get self.now.state.parties party in
+            result ≡ (load self.now.state now).outcome }
+    {
+        match self.call_of(party) {
+            Some(None) => BumpOutcome::Loaded(self.position),
+            Some(Some(_)) | None => BumpOutcome::Passed,
+        }
+    }
+}
