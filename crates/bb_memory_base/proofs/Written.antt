@@ -1,10 +1,9 @@
 -- A region in which one chunk is written over.
-use Rattle.std.proofs.Common.{rules, arith, ◌≡◌, ℕ, ◌+◌, ◌-◌, ◌≤◌, List, ◌++◌, length, take, drop, sym, ap, ◌∙◌, refl}
+use Rattle.std.proofs.Common.{arith, ◌≡◌, ℕ, ◌+◌, ◌-◌, ◌≤◌, List, ◌++◌, length, take, drop, sym, ap, ◌∙◌, refl}
 use Rattle.std.proofs.Math.Seq.{take-length, take-append_seam, drop-append_seam, drop-append-add}
 use Rattle.std.proofs.lemmas.List.{length-take-le, length-append, length-drop}
-use Rattle.bb_memory_base.specs.Region.{region_end}
 use Rattle.bb_memory_base.specs.Chunk.{Chunk, IsInside}
-use Rattle.bb_memory_base.specs.HeldBytes.{HeldBytes, held_region, ChangesOnly, bytes_before}
+use Rattle.bb_memory_base.specs.HeldBytes.{HeldBytes, held_region, ChangesOnly}
 use Rattle.bb_memory_base.specs.Lending.{written}
 
 -- a list with its part from i on written over, before it is cut to the old length

@@ -2,7 +2,7 @@
 use Rattle.std.specs.Prelude.{ℕ, ◌+◌, ◌-◌, List, ◌++◌, take, drop, length}
 use Rattle.std.specs.Borrow.{Lends, MutBor, Fml, u8, Array}
 use Rattle.bb_memory_base.specs.Chunk.{Chunk}
-use Rattle.bb_memory_base.specs.HeldBytes.{HeldBytes, bytes_before, bytes_behind}
+use Rattle.bb_memory_base.specs.HeldBytes.{HeldBytes, bytes_before}
 use Rattle.bb_memory_base.specs.contracts.region.Region.{the_row}
 
 -- the bytes before the chunk, those that were written in it, and those behind it, cut to the old length, since a

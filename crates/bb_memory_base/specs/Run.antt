@@ -1,5 +1,5 @@
 -- Runs: commands applied one after the other to an object, with one reply each.
-use Rattle.std.specs.Prelude.{◌≡◌, ℕ, ◌≤◌, List, [], ◌∷◌, length, Ok, Err}
+use Rattle.std.specs.Prelude.{◌≡◌, ◌≤◌, List, [], ◌∷◌, length, Ok, Err}
 use Rattle.bb_memory_base.specs.Chunk.{Chunk}
 use Rattle.bb_memory_base.specs.Object.{Object, Allocates, Releases}
 use Rattle.bb_memory_base.specs.declared.allocator.Command.{Command}

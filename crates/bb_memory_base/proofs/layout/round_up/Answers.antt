@@ -1,5 +1,4 @@
-use Rattle.std.proofs.Common.{◌≡◌, ◌+◌, ◌-◌, ◌%◌, ◌≤◌, ◌^◌, bit_and, ap, sym, ◌∙◌, arith}
-use Rattle.bb_memory_base.specs.LeastPlace.{least_place}
+use Rattle.std.proofs.Common.{◌+◌, ◌-◌, ◌%◌, ◌≤◌, ◌^◌, bit_and, ap, ◌∙◌, arith}
 use Rattle.bb_memory_base.proofs.PowersOfTwo.{power_of_two-positive}
 use Rattle.bb_memory_base.proofs.LeastPlaces.{least_place-is, least_place-multiple, least_place-masked, least_place-too_far}
 use Rattle.bb_memory_base.proofs.layout.round_up.Goals as goal
