@@ -1,5 +1,5 @@
 -- What was sent where a run is cut short.
-use Rattle.std.proofs.Common.{◌≡◌, ℕ, List, ◌∷◌, ◌⊎◌, inl, inr, Option, Result, Ok, Err, sym, ap, ◌∙◌, subst}
+use Rattle.std.proofs.Common.{ℕ, List, ◌⊎◌, inl, inr, Option, Result, Ok, Err}
 use Rattle.std.specs.Io.KnownBytes.{Appends}
 use Rattle.memrun.specs.Sending.{Sends}
 use Rattle.memrun.proofs.Sends.{begins_all}

@@ -1,5 +1,5 @@
 -- What the program writes of an input.
-use Rattle.std.specs.Prelude.{ℕ, ◌≡◌, ◌≢◌, ◌⊎◌, List, [], ◌∷◌, Option, IfSome}
+use Rattle.std.specs.Prelude.{ℕ, ◌≡◌, ◌⊎◌, List, ◌∷◌, Option, IfSome}
 use Rattle.memrun.specs.Lines.{lines_of}
 use Rattle.memrun.specs.Sending.{Begins}
 use Rattle.memrun.specs.Transcript.{IsTranscript, IsLaterRefused, BeginsLaterOutput, refusal_text}

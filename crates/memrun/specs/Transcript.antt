@@ -1,10 +1,9 @@
 -- What a run writes.
-use Rattle.std.specs.Prelude.{ℕ, ◌≡◌, ◌+◌, ◌⊎◌, List, [], ◌∷◌, ◌++◌, codes, take, Option, IfSome}
+use Rattle.std.specs.Prelude.{ℕ, ◌≡◌, ◌+◌, ◌⊎◌, List, [], ◌∷◌, ◌++◌, codes, take}
 use Rattle.std.specs.Fmt.{decimal}
 use Rattle.std.specs.List.{flat_map}
 use Rattle.memrun.specs.Batches.{Batches}
 use Rattle.memrun.specs.Sending.{Begins}
-use Rattle.memrun.specs.Lines.{lines_of}
 use Rattle.memrun.specs.Script.{IsTextOf, WritesScript, IsFirstUnreadable}
 use Rattle.memrun.specs.declared.machine.Machine.{Ghosts}
 

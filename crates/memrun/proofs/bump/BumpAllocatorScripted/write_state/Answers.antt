@@ -1,4 +1,4 @@
-use Rattle.std.proofs.Common.{◌≡◌, ◌++◌, ◌+◌, ◌-◌, codes, OnOk, arith}
+use Rattle.std.proofs.Common.{◌≡◌, ◌++◌, ◌-◌, codes, OnOk, arith}
 use Rattle.std.specs.Io.KnownBytes.{Appends}
 use Rattle.bb_memory.specs.Bump.{bump_text}
 use Rattle.memrun.specs.BumpScript.{figures_line}
