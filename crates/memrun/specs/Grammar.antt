@@ -63,3 +63,7 @@ bump_line region = codes "bump " ++ region_text region
 -- the first line of a script that drives a one chunk
 abbrev pub one_chunk_line : Region → List ℕ
 one_chunk_line region = codes "one " ++ region_text region
+
+-- the first line of a script that drives a bump world by its steps
+abbrev pub bump_steps_line : Region → List ℕ
+bump_steps_line region = codes "steps-bump " ++ region_text region

@@ -1,16 +1,18 @@
 -- The first lines of scripts.
 use Rattle.std.specs.Prelude.{ℕ, List}
 use Rattle.bb_memory_base.specs.Region.{IsRegion}
-use Rattle.memrun.specs.Grammar.{bump_line, one_chunk_line}
+use Rattle.memrun.specs.Grammar.{bump_line, one_chunk_line, bump_steps_line}
 use Rattle.memrun.specs.declared.kind.Kind.{Kind}
-use Rattle.memrun.specs.declared.kind.Kind.TheVariants.{Bump, OneChunk}
+use Rattle.memrun.specs.declared.kind.Kind.TheVariants.{Bump, OneChunk, BumpSteps}
 
 -- the first line that writes a kind
 abbrev pub kind_line : Kind → List ℕ
 kind_line (Bump region) = bump_line region
 kind_line (OneChunk region) = one_chunk_line region
+kind_line (BumpSteps region) = bump_steps_line region
 
 -- the condition on what it names
 abbrev pub IsKind : Kind → Type 0
 IsKind (Bump region) = IsRegion region
 IsKind (OneChunk region) = IsRegion region
+IsKind (BumpSteps region) = IsRegion region

@@ -1,5 +1,6 @@
 pub mod Batches
 pub mod BumpScript
+pub mod BumpStepScript
 pub mod Ending
 pub mod Grammar
 pub mod Kinds

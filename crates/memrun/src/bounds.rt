@@ -1,7 +1,9 @@
 //! The regions that scripts name.
-ghost use Rattle.std.specs.Prelude.{◌≡◌, ◌↔◌, IfSome, Some, None, []};
+ghost use Rattle.std.specs.Prelude.{◌≡◌, ◌↔◌, IfOk, IfSome, Some, None, []};
 ghost use Rattle.std.specs.Option.{SomeIff};
 ghost use Rattle.bb_memory_base.specs.Region.{Region, IsRegion, region_at};
+ghost use Rattle.bb_memory_base.specs.BumpMachine.{BumpScene};
+ghost use Rattle.bb_memory_base.specs.BumpWorld.{opened};
 ghost use Rattle.bb_memory_base.specs.BumpObject.{StandsFor as BumpStandsFor};
 ghost use Rattle.bb_memory.specs.OneChunk.{StandsFor as OneChunkStandsFor};
 ghost use Rattle.memrun.specs.Grammar.{region_text};
@@ -10,6 +12,8 @@ use crate::number::number;
 use crate::text::number_and_rest;
 use bb_memory::bump_allocator::BumpAllocator;
 use bb_memory::one_chunk_allocator::OneChunkAllocator;
+use bb_memory::steps::BumpWorld;
+use std::alloc::{AllocError, Global};
 use std::marker::Model;
 
 /// Where a region starts, and how many bytes it has.
@@ -67,5 +71,13 @@ impl Bounds {
         ensures empty { OneChunkStandsFor result [] }
     {
         OneChunkAllocator::new(self.start, self.size)
+    }
+
+    /// A bump world over the region, with 64 parties.
+    pub fn bump_world(self, alloc: Global) -> Result<BumpWorld, AllocError>
+        ensures { let scene : BumpScene = record { region = self; opening = 0; parties = 64 } in
+            IfOk result (λ world. world ≡ opened scene) }
+    {
+        BumpWorld::new(alloc, self.start, self.size, 64)
     }
 }

@@ -1,7 +1,7 @@
 //! What the first line of a script makes.
 ghost use Rattle.std.specs.Prelude.{◌≡◌, IfSome, Some};
 ghost use Rattle.bb_memory_base.specs.Region.{Region, IsRegion};
-ghost use Rattle.memrun.specs.Grammar.{bump_line, one_chunk_line};
+ghost use Rattle.memrun.specs.Grammar.{bump_line, bump_steps_line, one_chunk_line};
 ghost use Rattle.memrun.specs.Kinds.{IsKind, kind_line};
 ghost use Rattle.memrun.specs.declared.kind.Kind.{Kind};
 
@@ -12,6 +12,7 @@ use crate::bounds::Bounds;
 pub enum Kind {
     Bump(Bounds),
     OneChunk(Bounds),
+    BumpSteps(Bounds),
 }
 
 /// The kind of script that this first line opens.
@@ -22,7 +23,10 @@ pub fn read_kind(line: &[u8]) -> Option<Kind>
     if let Some(region) = read_bump(line) {
         return Some(Kind::Bump(region));
     }
-    Some(Kind::OneChunk(read_one_chunk(line)?))
+    if let Some(region) = read_one_chunk(line) {
+        return Some(Kind::OneChunk(region));
+    }
+    Some(Kind::BumpSteps(read_bump_steps(line)?))
 }
 
 fn read_bump(line: &[u8]) -> Option<Bounds>
@@ -40,4 +44,13 @@ fn read_one_chunk(line: &[u8]) -> Option<Bounds>
         → result ≡ Some region }
 {
     Bounds::read(line.strip_prefix(b"one ")?)
+}
+
+fn read_bump_steps(line: &[u8]) -> Option<Bounds>
+    ensures written { IfSome result (λ region. IsRegion region
+        × (line.now ≡ bump_steps_line region)) }
+    ensures each { (region : Region) → IsRegion region → line.now ≡ bump_steps_line region
+        → result ≡ Some region }
+{
+    Bounds::read(line.strip_prefix(b"steps-bump ")?)
 }

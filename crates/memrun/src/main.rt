@@ -4,6 +4,8 @@
 mod allocators;
 mod bounds;
 mod bump;
+mod bump_step_lines;
+mod bump_steps;
 mod commands;
 mod engine;
 mod kind;

@@ -13,6 +13,7 @@ use crate::lines::first_line;
 use crate::status::Status;
 use bb_memory::bump_allocator::BumpAllocator;
 use bb_memory::one_chunk_allocator::OneChunkAllocator;
+use bb_memory::steps::BumpWorld;
 use std::alloc::Global;
 use std::io;
 use std::io::{ErrorKind, Read, Write};
@@ -96,5 +97,6 @@ fn run_kind<W: Write>(alloc: Global, kind: Kind, rest: &[u8], writer: &mut W) ->
     match kind {
         Kind::Bump(region) => drive::<Live<BumpAllocator>, W>(alloc, region, rest, writer),
         Kind::OneChunk(region) => drive::<Live<OneChunkAllocator>, W>(alloc, region, rest, writer),
+        Kind::BumpSteps(region) => drive::<BumpWorld, W>(alloc, region, rest, writer),
     }
 }

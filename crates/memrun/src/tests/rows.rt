@@ -125,6 +125,44 @@ fn one_chunk_scripts(rt: HostRuntime) -> Result<(), Fail> {
 }
 
 #[test]
+fn bump_step_scripts(rt: HostRuntime) -> Result<(), Fail> {
+    for (name, script, wrote) in [
+        (
+            "steps-bump-race",
+            "steps-bump 4096 64; read 0 40 1; read 1 40 1; exchange 1; exchange 0; show",
+            "sees 0; sees 0; wins 4096 40; loses 40 refused OutOfMemory; used 40",
+        ),
+        (
+            "steps-bump-clear-between",
+            "steps-bump 4096 64; read 0 10 1; read 1 8 8; exchange 1; clear; exchange 0; show",
+            "sees 0; sees 0; wins 4096 8; cleared; wins 4096 10; used 10",
+        ),
+        (
+            "steps-bump-loss-then-win",
+            "steps-bump 4097 64; read 0 8 8; read 1 3 1; exchange 1; exchange 0; exchange 0; load 0; show",
+            "sees 0; sees 0; wins 4097 3; loses 3; wins 4104 8; used 15; used 15",
+        ),
+        (
+            "steps-bump-not-allowed",
+            "steps-bump 4096 8; exchange 0; read 0 0 1; load 0; read 0 9 1; read 0 8 1; read 0 8 1; load 0",
+            "passed; passed; used 0; sees 0 refused OutOfMemory; sees 0; passed; passed",
+        ),
+        (
+            "steps-bump-near-the-top",
+            "steps-bump 18446744073709551600 15; read 0 8 16; read 1 1 16; exchange 0; exchange 1",
+            "sees 0; sees 0; wins 18446744073709551600 8; loses 8 refused OutOfMemory",
+        ),
+    ] {
+        let mut told = Vec::new(rt.alloc());
+        let script = lines(rt.alloc(), script)?;
+        let status = run(rt.alloc(), script.as_slice(), &mut told);
+        assert_eq!(rt; status, Status::Done, "{name}");
+        assert_eq!(rt; told, lines(rt.alloc(), wrote)?, "{name}");
+    }
+    Ok(())
+}
+
+#[test]
 fn a_last_line_needs_no_line_feed(rt: HostRuntime) -> Result<(), Fail> {
     // script-no-last-line-feed
     let mut told = Vec::new(rt.alloc());
@@ -197,6 +235,11 @@ fn unreadable_scripts(rt: HostRuntime) -> Result<(), Fail> {
         (
             "a first line twice",
             b"bump 4096 8\nbump 4096 8\n".as_slice(),
+            2,
+        ),
+        (
+            "script-party-past-last",
+            b"steps-bump 4096 8\nload 64\n".as_slice(),
             2,
         ),
         (
