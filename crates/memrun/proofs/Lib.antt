@@ -6,6 +6,8 @@ mod Cutting
 mod Layouts
 mod LineEnds
 mod Numbers
+mod Openings
+mod PoolShows
 mod ScriptLines
 mod Sends
 mod Telling

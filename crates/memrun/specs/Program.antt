@@ -7,26 +7,30 @@ use Rattle.memrun.specs.Kinds.{kind_line, IsKind}
 use Rattle.memrun.specs.BumpScript.{bump_machine}
 use Rattle.memrun.specs.OneChunkScript.{one_chunk_machine}
 use Rattle.memrun.specs.BumpStepScript.{bump_world_machine}
+use Rattle.memrun.specs.PoolStepScript.{pool_world_machine}
 use Rattle.memrun.specs.declared.kind.Kind.{Kind}
-use Rattle.memrun.specs.declared.kind.Kind.TheVariants.{Bump, OneChunk, BumpSteps}
+use Rattle.memrun.specs.declared.kind.Kind.TheVariants.{Bump, OneChunk, BumpSteps, PoolSteps}
 
 -- the text is what a script of this kind, with these lines behind the first, is answered
 abbrev pub Answers : Kind → List (List ℕ) → List ℕ → Type 0
 Answers (Bump region) rest text = IsTranscript bump_machine region rest text
 Answers (OneChunk region) rest text = IsTranscript one_chunk_machine region rest text
 Answers (BumpSteps region) rest text = IsTranscript bump_world_machine region rest text
+Answers (PoolSteps count) rest text = IsTranscript pool_world_machine count rest text
 
 -- the first of them that is unreadable has this number
 abbrev pub Refuses : Kind → List (List ℕ) → ℕ → Type 0
 Refuses (Bump region) rest number = IsLaterRefused bump_machine rest number
 Refuses (OneChunk region) rest number = IsLaterRefused one_chunk_machine rest number
 Refuses (BumpSteps region) rest number = IsLaterRefused bump_world_machine rest number
+Refuses (PoolSteps count) rest number = IsLaterRefused pool_world_machine rest number
 
 -- the bytes begin what is written of them
 abbrev pub BeginsOutputOf : Kind → List (List ℕ) → List ℕ → Type 0
 BeginsOutputOf (Bump region) rest sent = BeginsLaterOutput bump_machine region rest sent
 BeginsOutputOf (OneChunk region) rest sent = BeginsLaterOutput one_chunk_machine region rest sent
 BeginsOutputOf (BumpSteps region) rest sent = BeginsLaterOutput bump_world_machine region rest sent
+BeginsOutputOf (PoolSteps count) rest sent = BeginsLaterOutput pool_world_machine count rest sent
 
 -- the lines of an input are a first line of this kind, and the rest
 pub record Opens (input : List ℕ) (kind : Kind) (rest : List (List ℕ)) : Type 0 where

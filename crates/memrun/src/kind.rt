@@ -1,11 +1,13 @@
 //! What the first line of a script makes.
-ghost use Rattle.std.specs.Prelude.{◌≡◌, IfSome, Some};
+ghost use Rattle.std.specs.Prelude.{◌≡◌, ℕ, IfSome, Some};
 ghost use Rattle.bb_memory_base.specs.Region.{Region, IsRegion};
 ghost use Rattle.memrun.specs.Grammar.{bump_line, bump_steps_line, one_chunk_line};
 ghost use Rattle.memrun.specs.Kinds.{IsKind, kind_line};
+ghost use Rattle.memrun.specs.PoolStepScript.{IsBucketCount, pool_steps_line};
 ghost use Rattle.memrun.specs.declared.kind.Kind.{Kind};
 
 use crate::bounds::Bounds;
+use crate::buckets::Buckets;
 
 /// What a script drives, as its first line says.
 #[derive(Debug, Clone, Copy, PartialEq, Eq)]
@@ -13,6 +15,7 @@ pub enum Kind {
     Bump(Bounds),
     OneChunk(Bounds),
     BumpSteps(Bounds),
+    PoolSteps(Buckets),
 }
 
 /// The kind of script that this first line opens.
@@ -26,7 +29,10 @@ pub fn read_kind(line: &[u8]) -> Option<Kind>
     if let Some(region) = read_one_chunk(line) {
         return Some(Kind::OneChunk(region));
     }
-    Some(Kind::BumpSteps(read_bump_steps(line)?))
+    if let Some(region) = read_bump_steps(line) {
+        return Some(Kind::BumpSteps(region));
+    }
+    Some(Kind::PoolSteps(read_pool_steps(line)?))
 }
 
 fn read_bump(line: &[u8]) -> Option<Bounds>
@@ -53,4 +59,13 @@ fn read_bump_steps(line: &[u8]) -> Option<Bounds>
         → result ≡ Some region }
 {
     Bounds::read(line.strip_prefix(b"steps-bump ")?)
+}
+
+fn read_pool_steps(line: &[u8]) -> Option<Buckets>
+    ensures written { IfSome result (λ count. IsBucketCount count
+        × (line.now ≡ pool_steps_line count)) }
+    ensures each { (count : ℕ) → IsBucketCount count → line.now ≡ pool_steps_line count
+        → result ≡ Some count }
+{
+    Buckets::read(line.strip_prefix(b"steps-pool ")?)
 }

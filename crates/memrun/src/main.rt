@@ -1,8 +1,9 @@
-//! Reads a script from standard input, drives an allocator by it, and writes a line for each reply.
+//! Reads a script from standard input, drives an allocator or a machine by it, and writes a line for each reply.
 #![tactic(auto)]
 
 mod allocators;
 mod bounds;
+mod buckets;
 mod bump;
 mod bump_step_lines;
 mod bump_steps;
@@ -13,6 +14,8 @@ mod lines;
 mod machine;
 mod number;
 mod one_chunk;
+mod pool_step_lines;
+mod pool_steps;
 mod program;
 mod reading;
 mod replies;

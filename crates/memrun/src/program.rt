@@ -10,6 +10,7 @@ use crate::allocators::Live;
 use crate::engine::{drive, refuse};
 use crate::kind::{Kind, read_kind};
 use crate::lines::first_line;
+use crate::pool_steps::PoolSteps;
 use crate::status::Status;
 use bb_memory::bump_allocator::BumpAllocator;
 use bb_memory::one_chunk_allocator::OneChunkAllocator;
@@ -98,5 +99,6 @@ fn run_kind<W: Write>(alloc: Global, kind: Kind, rest: &[u8], writer: &mut W) ->
         Kind::Bump(region) => drive::<Live<BumpAllocator>, W>(alloc, region, rest, writer),
         Kind::OneChunk(region) => drive::<Live<OneChunkAllocator>, W>(alloc, region, rest, writer),
         Kind::BumpSteps(region) => drive::<BumpWorld, W>(alloc, region, rest, writer),
+        Kind::PoolSteps(buckets) => drive::<PoolSteps, W>(alloc, buckets, rest, writer),
     }
 }

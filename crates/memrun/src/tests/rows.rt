@@ -163,6 +163,34 @@ fn bump_step_scripts(rt: HostRuntime) -> Result<(), Fail> {
 }
 
 #[test]
+fn pool_step_scripts(rt: HostRuntime) -> Result<(), Fail> {
+    for (name, script, wrote) in [
+        (
+            "steps-pool-never-full",
+            "steps-pool 2; try 0; try 1; try 2; give 0 0; try 1; try 2; show",
+            "takes 0; loses 0; loses 0; gives 0; takes 1; loses 1 refused OutOfMemory; held - 1",
+        ),
+        (
+            "steps-pool-one-bucket",
+            "steps-pool 1; give 0 0; try 0; give 1 0; try 0; give 0 0; try 0; show",
+            "passed; takes 0; passed; loses 0 refused OutOfMemory; gives 0; takes 0; held 0",
+        ),
+        (
+            "steps-pool-no-bucket",
+            "steps-pool 0; try 0; show",
+            "passed; held",
+        ),
+    ] {
+        let mut told = Vec::new(rt.alloc());
+        let script = lines(rt.alloc(), script)?;
+        let status = run(rt.alloc(), script.as_slice(), &mut told);
+        assert_eq!(rt; status, Status::Done, "{name}");
+        assert_eq!(rt; told, lines(rt.alloc(), wrote)?, "{name}");
+    }
+    Ok(())
+}
+
+#[test]
 fn a_last_line_needs_no_line_feed(rt: HostRuntime) -> Result<(), Fail> {
     // script-no-last-line-feed
     let mut told = Vec::new(rt.alloc());
@@ -186,6 +214,11 @@ fn unreadable_scripts(rt: HostRuntime) -> Result<(), Fail> {
             1,
         ),
         ("script-empty", b"".as_slice(), 1),
+        (
+            "script-too-many-buckets",
+            b"steps-pool 4097\n".as_slice(),
+            1,
+        ),
         ("a region at 0", b"bump 0 8\n".as_slice(), 1),
         ("a one chunk at 0", b"one 0 8\n".as_slice(), 1),
         (

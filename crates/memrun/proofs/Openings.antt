@@ -1,0 +1,20 @@
+-- First lines, by their kinds.
+use Rattle.std.proofs.Common.{◌≡◌, ℕ, List}
+use Rattle.bb_memory_base.specs.Region.{Region, IsRegion}
+use Rattle.memrun.specs.Grammar.{bump_line, one_chunk_line, bump_steps_line}
+use Rattle.memrun.specs.Kinds.{IsKind, kind_line}
+use Rattle.memrun.specs.PoolStepScript.{IsBucketCount, pool_steps_line}
+use Rattle.memrun.specs.declared.kind.Kind.{Kind}
+use Rattle.memrun.specs.declared.kind.Kind.TheVariants.{Bump, OneChunk, BumpSteps, PoolSteps}
+
+-- a claim that holds of each kind whose first line this is
+pub by_kind : (line : List ℕ) (claim : Kind → Type 0)
+    → ((region : Region) → IsRegion region → line ≡ bump_line region → claim (Bump region))
+    → ((region : Region) → IsRegion region → line ≡ one_chunk_line region → claim (OneChunk region))
+    → ((region : Region) → IsRegion region → line ≡ bump_steps_line region → claim (BumpSteps region))
+    → ((count : ℕ) → IsBucketCount count → line ≡ pool_steps_line count → claim (PoolSteps count))
+    → (kind : Kind) → IsKind kind → line ≡ kind_line kind → claim kind
+by_kind line claim bump one steps pool (Bump region) is e = bump region is e
+by_kind line claim bump one steps pool (OneChunk region) is e = one region is e
+by_kind line claim bump one steps pool (BumpSteps region) is e = steps region is e
+by_kind line claim bump one steps pool (PoolSteps count) is e = pool count is e
