@@ -1,8 +1,6 @@
 //! Worked rows, faults of readers and writers, and refused memory.
-mod bump_worlds;
 mod calls;
 mod faults;
-mod pool_worlds;
 mod refused_in_turn;
 mod regions;
 mod rows;

@@ -8,6 +8,9 @@ use bb_memory::bump_allocator::{BaseAllocator, BumpAllocator, bump_object_law, r
 use bb_memory::layout::{Chunk, Layout, layout_law, least_place_law, round_up};
 use bb_memory::one_chunk_allocator::{OneChunkAllocator, one_chunk_object_law, run_one_chunk};
 use bb_memory::steps::{bump_log_theorem, bump_theorem, pool_log_theorem, pool_theorem};
+use std::alloc::Global;
+use std::fmt::Display;
+use std::process::Abort;
 use std::test::Fail;
 
 #[test]
@@ -126,59 +129,73 @@ fn laws_do_nothing(_rt: HostRuntime) {
     lines_law();
 }
 
+/// The error's text is this one.
+fn has_text<E: Display>(rt: &impl Abort, alloc: Global, error: &E, text: &str) -> Result<(), Fail> {
+    let told = format!(in alloc; "{error}")?;
+    assert_eq!(rt; told.as_str(), text);
+    Ok(())
+}
+
 #[test]
 fn texts_of_errors(rt: HostRuntime) -> Result<(), Fail> {
     let alloc = rt.alloc();
     let Err(refused) = Layout::from_size_align(8, 3) else {
         return Err(Fail::from("the alignment 3 was accepted"));
     };
-    for (text, wanted) in [
+    has_text(
+        &rt,
+        alloc,
+        &refused,
+        "the alignment is no power of two or the rounded size is too large",
+    )?;
+    for (error, text) in [
+        (AllocationError::SizeIsZero, "the requested size is zero"),
         (
-            format!(in alloc; "{refused}")?,
-            "the alignment is no power of two or the rounded size is too large",
-        ),
-        (
-            format!(in alloc; "{}", AllocationError::SizeIsZero)?,
-            "the requested size is zero",
-        ),
-        (
-            format!(in alloc; "{}", AllocationError::SizeTooLarge)?,
+            AllocationError::SizeTooLarge,
             "the requested size is greater than the bucket size",
         ),
         (
-            format!(in alloc; "{}", AllocationError::AlignmentFailure)?,
+            AllocationError::AlignmentFailure,
             "the requested alignment is not supported",
         ),
         (
-            format!(in alloc; "{}", AllocationError::OutOfMemory)?,
+            AllocationError::OutOfMemory,
             "there is not enough memory available",
         ),
+    ] {
+        has_text(&rt, alloc, &error, text)?;
+    }
+    for (error, text) in [
         (
-            format!(in alloc; "{}", AllocationGrowError::GrowWouldShrink)?,
+            AllocationGrowError::GrowWouldShrink,
             "the new size is not greater than the old size",
         ),
         (
-            format!(in alloc; "{}", AllocationGrowError::AlignmentFailure)?,
+            AllocationGrowError::AlignmentFailure,
             "the requested alignment is not supported",
         ),
         (
-            format!(in alloc; "{}", AllocationGrowError::OutOfMemory)?,
+            AllocationGrowError::OutOfMemory,
             "there is not enough memory available",
         ),
+    ] {
+        has_text(&rt, alloc, &error, text)?;
+    }
+    for (error, text) in [
         (
-            format!(in alloc; "{}", AllocationShrinkError::ShrinkWouldGrow)?,
+            AllocationShrinkError::ShrinkWouldGrow,
             "the new size is not smaller than the old size",
         ),
         (
-            format!(in alloc; "{}", AllocationShrinkError::AlignmentFailure)?,
+            AllocationShrinkError::AlignmentFailure,
             "the requested alignment is not supported",
         ),
         (
-            format!(in alloc; "{}", AllocationShrinkError::SizeIsZero)?,
+            AllocationShrinkError::SizeIsZero,
             "the requested size is zero",
         ),
     ] {
-        assert_eq!(rt; text.as_str(), wanted);
+        has_text(&rt, alloc, &error, text)?;
     }
     Ok(())
 }
