@@ -56,10 +56,12 @@ fn a_bump_call_by_call(rt: HostRuntime) -> Result<(), Fail> {
     let layout = Layout::from_size_align(48, 4)?;
     assert_eq!(rt; bump.allocate(layout), Ok(Chunk::new(4096, 48).unwrap()));
     // bump-display
-    assert_eq!(rt;
-        format!(in rt.alloc(); "{bump}")?.as_str(),
-        "BumpAllocator { start: 4096, size: 1024, current_position: 48 }"
-    );
+    has_text(
+        &rt,
+        rt.alloc(),
+        &bump,
+        "BumpAllocator { start: 4096, size: 1024, current_position: 48 }",
+    )?;
     assert_eq!(rt; bump.start_address(), 4096);
     assert_eq!(rt; bump.used_space(), 48);
     assert_eq!(rt; bump.free_space(), 976);
@@ -129,9 +131,9 @@ fn laws_do_nothing(_rt: HostRuntime) {
     lines_law();
 }
 
-/// The error's text is this one.
-fn has_text<E: Display>(rt: &impl Abort, alloc: Global, error: &E, text: &str) -> Result<(), Fail> {
-    let told = format!(in alloc; "{error}")?;
+/// What is displayed is this text.
+fn has_text<D: Display>(rt: &impl Abort, alloc: Global, value: &D, text: &str) -> Result<(), Fail> {
+    let told = format!(in alloc; "{value}")?;
     assert_eq!(rt; told.as_str(), text);
     Ok(())
 }

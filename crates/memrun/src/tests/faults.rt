@@ -139,33 +139,30 @@ fn each_write_fails_once(rt: HostRuntime) -> Result<(), Fail> {
 #[test]
 fn each_beginning_of_a_script(rt: HostRuntime) -> Result<(), Fail> {
     // Cut in front of these bytes, a script ends so: with the line of this number unreadable (`alloc 10 3` too, as 3 is no
-    // power of two), or done with so many of the whole script's lines (`bump 4096 1` is a region, too).
+    // power of two), or done with so many bytes of the whole script's lines (`bump 4096 1` is a region, too).
     for (from, to, end) in [
         (0, 10, Err(b"line 1: refused\n".as_slice())),
         (11, 15, Ok(0)),
         (16, 24, Err(b"line 2: refused\n".as_slice())),
-        (25, 26, Ok(1)),
+        (25, 26, Ok(14)),
         (27, 29, Err(b"line 3: refused\n".as_slice())),
-        (30, 31, Ok(3)),
+        (30, 31, Ok(106)),
         (32, 41, Err(b"line 4: refused\n".as_slice())),
-        (42, 43, Ok(4)),
+        (42, 43, Ok(120)),
         (44, 53, Err(b"line 5: refused\n".as_slice())),
-        (54, 55, Ok(5)),
+        (54, 55, Ok(135)),
         (56, 63, Err(b"line 6: refused\n".as_slice())),
-        (64, 65, Ok(6)),
+        (64, 65, Ok(147)),
         (66, 68, Err(b"line 7: refused\n".as_slice())),
-        (69, 70, Ok(8)),
+        (69, 70, Ok(FIRST_PATH_LINES.len())),
     ] {
         for cut in from..to + 1 {
             let mut told = Vec::new(rt.alloc());
             let ended = run(rt.alloc(), &FIRST_PATH[..cut], &mut told);
             match end {
-                Ok(count) => {
+                Ok(len) => {
                     assert_eq!(rt; ended, Status::Done, "{cut}");
-                    assert!(rt; FIRST_PATH_LINES.starts_with(told.as_slice()), "{cut}");
-                    let lines = told.iter().filter(|byte| **byte == b'\n').count();
-                    assert_eq!(rt; lines, count, "{cut}");
-                    assert!(rt; told.is_empty() || told.ends_with(b"\n"), "{cut}");
+                    assert_eq!(rt; Some(told.as_slice()), FIRST_PATH_LINES.get(..len), "{cut}");
                 }
                 Err(refused) => {
                     assert_eq!(rt; ended, Status::Unreadable, "{cut}");
