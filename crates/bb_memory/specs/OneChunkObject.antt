@@ -1,7 +1,7 @@
 -- The one-chunk object: one chunk at a time, which is all of the region from its place on.
 use Rattle.std.specs.Prelude.{◌≡◌, ◌≢◌, ℕ, ◌+◌, ◌-◌, ◌≤◌, ◌<◌, ◌⊎◌, List, [], Result, Ok, Err}
 use Rattle.bb_memory_base.specs.Region.{Region, region_end}
-use Rattle.bb_memory_base.specs.LeastPlace.{least_place}
+use Rattle.bb_memory_base.specs.FirstPlace.{first_place}
 use Rattle.bb_memory_base.specs.Chunk.{Chunk}
 use Rattle.bb_memory_base.specs.ResizableObject.{ResizableObject, resizable_object_of}
 use Rattle.bb_memory_base.specs.declared.layout.Layout.{Layout}
@@ -11,10 +11,6 @@ use Rattle.bb_memory_base.specs.declared.allocator.AllocationGrowError.{Allocati
 use Rattle.bb_memory_base.specs.declared.allocator.AllocationGrowError.TheVariants as grow
 use Rattle.bb_memory_base.specs.declared.allocator.AllocationShrinkError.{AllocationShrinkError}
 use Rattle.bb_memory_base.specs.declared.allocator.AllocationShrinkError.TheVariants as shrink
-
--- where the chunk of a layout begins
-abbrev pub first_place : Region → Layout → ℕ
-first_place region layout = least_place region.start layout.align
 
 -- how much there is from a place to the region's end
 abbrev pub reserved_at : Region → ℕ → ℕ

@@ -4,4 +4,6 @@
 pub use bb_memory_base::{allocator, layout, region, steps};
 
 pub mod bump_allocator;
+mod index_set;
 pub mod one_chunk_allocator;
+pub mod pool_allocator;

@@ -5,6 +5,7 @@ pub mod BumpMachine
 pub mod BumpObject
 pub mod BumpWorld
 pub mod Chunk
+pub mod FirstPlace
 pub mod HeldBytes
 pub mod LeastPlace
 pub mod Lending

@@ -16,11 +16,11 @@ use Rattle.bb_memory_base.specs.declared.steps.pool.PoolOutcome.TheVariants.{Tak
 abbrev pub PoolCall : PoolGeometry → List Chunk → Layout → PoolOutcome → List Chunk → Type 0
 -- a taking is a request for the layout, which is answered with the bucket's chunk
 PoolCall geometry old layout (Takes bucket) new =
-    Allocates (pool_object geometry) old layout (Ok (chunk_in geometry bucket layout)) new
+    Allocates (pool_object geometry).base old layout (Ok (chunk_in geometry bucket layout)) new
 -- a return is the release of the chunk at the bucket's place
 PoolCall geometry old layout (Gives bucket) new =
     (position : ℕ) × IsAt old position (bucket_place geometry bucket)
-    × Releases (pool_object geometry) old position new
+    × Releases (pool_object geometry).base old position new
 -- any other step is no call
 PoolCall geometry old layout _ new = new ≡ old
 

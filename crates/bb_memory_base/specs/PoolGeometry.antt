@@ -1,7 +1,8 @@
 -- Pool geometry: where the buckets of a region lie. Buckets are numbered from 0.
-use Rattle.std.specs.Prelude.{ℕ, ◌+◌, ◌*◌, ◌<◌, ◌≤◌, ◌↔◌, min}
+use Rattle.std.specs.Prelude.{ℕ, ◌≡◌, ◌+◌, ◌*◌, ◌<◌, ◌≤◌, ◌↔◌, min}
 use Rattle.bb_memory_base.specs.Region.{Region, region_end}
 use Rattle.bb_memory_base.specs.LeastPlace.{least_place}
+use Rattle.bb_memory_base.specs.FirstPlace.{first_place}
 use Rattle.bb_memory_base.specs.declared.layout.Layout.{Layout}
 
 -- the region that is cut, the layout of each bucket, and how many buckets there are
@@ -13,15 +14,11 @@ pub record PoolGeometry : Type 0 where
 abbrev pub pool_geometry : Region → Layout → ℕ → PoolGeometry
 pool_geometry region bucket buckets = record { region = region; bucket = bucket; buckets = buckets }
 
--- where bucket 0 is
-abbrev pub first_place : Region → Layout → ℕ
-first_place region bucket = least_place region.start bucket.align
-
 -- how far each bucket is from the next
 abbrev pub stride : Layout → ℕ
 stride bucket = least_place bucket.size bucket.align
 
--- where bucket i is
+-- where bucket i is: bucket 0 at the first place, and each further one a stride behind
 abbrev pub bucket_place : PoolGeometry → ℕ → ℕ
 bucket_place geometry i = first_place geometry.region geometry.bucket + i * stride geometry.bucket
 
@@ -29,9 +26,15 @@ bucket_place geometry i = first_place geometry.region geometry.bucket + i * stri
 abbrev pub HasRoom : Region → Layout → ℕ → Type 0
 HasRoom region bucket i = first_place region bucket + (i + 1) * stride bucket ≤ region_end region
 
--- its buckets are those that the region has room for
+-- its buckets are just those that the region has room for
 abbrev pub FillsRegion : PoolGeometry → Type 0
 FillsRegion geometry = (i : ℕ) → (i < geometry.buckets) ↔ HasRoom geometry.region geometry.bucket i
+
+-- the region is cut into as many of these buckets as it has room for
+pub record IsCut (whole : Region) (layout : Layout) (geometry : PoolGeometry) : Type 0 where
+  pub region : geometry.region ≡ whole
+  pub bucket : geometry.bucket ≡ layout
+  pub filled : FillsRegion geometry
 
 -- the same with the smaller of its number of buckets and a fixed pool's constant
 abbrev pub at_most : ℕ → PoolGeometry → PoolGeometry

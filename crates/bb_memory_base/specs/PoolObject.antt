@@ -1,11 +1,15 @@
--- The pool object: chunks in buckets, each given back alone.
-use Rattle.std.specs.Prelude.{◌≡◌, ℕ, ◌≤◌, ◌<◌, false, List, Some, Result, Ok, Err, slice_get}
+-- The pool object: chunks in buckets, each resized in its bucket and given back alone.
+use Rattle.std.specs.Prelude.{◌≡◌, ℕ, ◌≤◌, ◌<◌, List, Some, Result, Ok, Err, slice_get}
 use Rattle.bb_memory_base.specs.Chunk.{Chunk}
-use Rattle.bb_memory_base.specs.Object.{Object, object_of}
+use Rattle.bb_memory_base.specs.ResizableObject.{ResizableObject, resizable_object_of}
 use Rattle.bb_memory_base.specs.PoolGeometry.{PoolGeometry, bucket_place}
 use Rattle.bb_memory_base.specs.declared.layout.Layout.{Layout}
 use Rattle.bb_memory_base.specs.declared.allocator.AllocationError.{AllocationError}
 use Rattle.bb_memory_base.specs.declared.allocator.AllocationError.TheVariants.{SizeIsZero, SizeTooLarge, AlignmentFailure, OutOfMemory}
+use Rattle.bb_memory_base.specs.declared.allocator.AllocationGrowError.{AllocationGrowError}
+use Rattle.bb_memory_base.specs.declared.allocator.AllocationGrowError.TheVariants as grow
+use Rattle.bb_memory_base.specs.declared.allocator.AllocationShrinkError.{AllocationShrinkError}
+use Rattle.bb_memory_base.specs.declared.allocator.AllocationShrinkError.TheVariants as shrink
 
 -- the chunk at this position of the list has this place
 pub record IsAt (live : List Chunk) (position place : ℕ) : Type 0 where
@@ -45,6 +49,27 @@ MayAllocate geometry live layout (Err OutOfMemory) =
 -- it never refuses so
 MayAllocate geometry live layout (Err SizeIsZero) = ⊥
 
--- a release closes up
-abbrev pub pool_object : PoolGeometry → Object
-pool_object geometry = object_of false (MayAllocate geometry)
+-- What it may answer where the chunk at a place is to grow from an old layout to a new one, and when: it then has exactly the
+-- new size.
+abbrev pub MayGrow : Layout → ℕ → Layout → Layout → Result Chunk AllocationGrowError → Type 0
+MayGrow bucket place old new (Ok grown) =
+    (old.size < new.size) × IsWithin bucket new × (grown ≡ record { place = place; len = new.size })
+MayGrow bucket place old new (Err grow.GrowWouldShrink) = new.size ≤ old.size
+MayGrow bucket place old new (Err grow.AlignmentFailure) = (old.size < new.size) × (bucket.align < new.align)
+MayGrow bucket place old new (Err grow.OutOfMemory) =
+    (old.size < new.size) × (new.align ≤ bucket.align) × (bucket.size < new.size)
+
+-- What it may answer where that chunk is to shrink, and when.
+abbrev pub MayShrink : Layout → ℕ → Layout → Layout → Result Chunk AllocationShrinkError → Type 0
+MayShrink bucket place old new (Ok shrunk) =
+    (new.size < old.size) × (new.align ≤ bucket.align) × (shrunk ≡ record { place = place; len = new.size })
+MayShrink bucket place old new (Err shrink.ShrinkWouldGrow) = old.size ≤ new.size
+MayShrink bucket place old new (Err shrink.AlignmentFailure) = (new.size < old.size) × (bucket.align < new.align)
+-- it never refuses so
+MayShrink bucket place old new (Err shrink.SizeIsZero) = ⊥
+
+-- A bucket is reserved for its chunk, whole. The list decides nothing for a resize, and a release closes up.
+abbrev pub pool_object : PoolGeometry → ResizableObject
+pool_object geometry =
+    resizable_object_of (MayAllocate geometry) (λ place. geometry.bucket.size)
+    (λ live. MayGrow geometry.bucket) (λ live. MayShrink geometry.bucket)

@@ -1,0 +1,105 @@
+-- A pool, as its contracts see it.
+use Rattle.std.specs.Prelude.{◌≡◌, ℕ, ◌+◌, ◌-◌, ◌≤◌, ◌<◌, ◌^◌, Bool, true, false, List, All, length, replicate, slice_set, Result, Ok, Err}
+use Rattle.bb_memory_base.specs.Region.{Region, IsRegion}
+use Rattle.bb_memory_base.specs.Chunk.{Chunk}
+use Rattle.bb_memory_base.specs.LiveList.{IsSound}
+use Rattle.bb_memory_base.specs.FirstPlace.{first_place}
+use Rattle.bb_memory_base.specs.ResizableObject.{PlacesDiffer}
+use Rattle.bb_memory_base.specs.PoolGeometry.{PoolGeometry, bucket_place, IsCut, IsPoolGeometry}
+use Rattle.bb_memory_base.specs.PoolObject.{IsHeld, IsWithin, chunk_in}
+use Rattle.bb_memory_base.specs.declared.layout.Layout.{Layout}
+use Rattle.bb_memory_base.specs.declared.allocator.AllocationError.{AllocationError}
+use Rattle.bb_memory_base.specs.declared.allocator.AllocationError.TheVariants.{SizeIsZero, SizeTooLarge, AlignmentFailure, OutOfMemory}
+use Rattle.bb_memory.specs.NumberSet.{Has, Lacks, IsFull}
+
+-- where its buckets are, and the set of those that are held
+pub record Pool : Type 0 where
+  pub geometry : PoolGeometry
+  pub held : List Bool
+
+abbrev pub pool_of : PoolGeometry → List Bool → Pool
+pool_of geometry held = record { geometry = geometry; held = held }
+
+-- a pool with no bucket held
+abbrev pub fresh_pool : PoolGeometry → Pool
+fresh_pool geometry = pool_of geometry (replicate geometry.buckets false)
+
+-- its buckets are inside a region, and it knows of each whether it is held
+pub record IsPool (pool : Pool) : Type 0 where
+  pub region : IsRegion pool.geometry.region
+  pub geometry : IsPoolGeometry pool.geometry
+  pub flags : length pool.held ≡ pool.geometry.buckets
+
+-- WHAT A MAKER NEEDS
+
+-- the region may be cut into buckets of this layout: the rounded start is a number of the machine, a bucket has a byte, and
+-- there are fewer than u32::MAX
+pub record MayBeCut (region : Region) (bucket : Layout) : Type 0 where
+  pub is_region : IsRegion region
+  pub rounded : first_place region bucket < 2 ^ 64
+  pub filled : 0 < bucket.size
+  pub few : (geometry : PoolGeometry) → IsCut region bucket geometry → geometry.buckets < 2 ^ 32 - 1
+
+-- the region is cut into just the buckets that it has room for
+pub record IsUninit (geometry : PoolGeometry) : Type 0 where
+  pub may : MayBeCut geometry.region geometry.bucket
+  pub cut : IsCut geometry.region geometry.bucket geometry
+
+-- LIVE LISTS
+
+-- the chunk is in bucket i, which is held, and is no longer than a bucket
+pub record Fills (pool : Pool) (chunk : Chunk) (i : ℕ) : Type 0 where
+  pub held : Has pool.held i
+  pub placed : chunk.place ≡ bucket_place pool.geometry i
+  pub short : chunk.len ≤ pool.geometry.bucket.size
+
+-- a pool stands for this live list: each chunk is in a held bucket, no two in one, and each held bucket has its chunk
+pub record StandsFor (pool : Pool) (live : List Chunk) : Type 0 where
+  pub sound : IsSound pool.geometry.region live
+  pub filled : All (λ chunk. (i : ℕ) × Fills pool chunk i) live
+  pub differ : PlacesDiffer live
+  pub held : (i : ℕ) → Has pool.held i → IsHeld pool.geometry live i
+
+-- the place is that of a held bucket
+abbrev pub HoldsPlace : Pool → ℕ → Type 0
+HoldsPlace pool place = (i : ℕ) × Has pool.held i × (place ≡ bucket_place pool.geometry i)
+
+-- WHAT CALLS DO
+
+-- the pool with bucket i held, or free
+abbrev pub with_flag : Pool → ℕ → Bool → Pool
+with_flag pool i flag = pool_of pool.geometry (slice_set pool.held i flag)
+
+-- What a pool may answer to a request, and what it is then: any free bucket is given and held, and a refusal changes nothing.
+abbrev pub Takes : Pool → Layout → Result Chunk AllocationError → Pool → Type 0
+Takes pool layout (Ok chunk) new =
+    (i : ℕ) × IsWithin pool.geometry.bucket layout × Lacks pool.held i
+    × (chunk ≡ chunk_in pool.geometry i layout) × (new ≡ with_flag pool i true)
+Takes pool layout (Err SizeTooLarge) new = (pool.geometry.bucket.size < layout.size) × (new ≡ pool)
+Takes pool layout (Err AlignmentFailure) new =
+    (layout.size ≤ pool.geometry.bucket.size) × (pool.geometry.bucket.align < layout.align) × (new ≡ pool)
+Takes pool layout (Err OutOfMemory) new = IsWithin pool.geometry.bucket layout × IsFull pool.held × (new ≡ pool)
+-- it never refuses so
+Takes pool layout (Err SizeIsZero) new = ⊥
+
+-- the held bucket at the place is freed, and no other
+abbrev pub Frees : Pool → ℕ → Pool → Type 0
+Frees pool place new =
+    (i : ℕ) → Has pool.held i → place ≡ bucket_place pool.geometry i → new ≡ with_flag pool i false
+
+-- INDEX WORDS
+
+-- a pool, and how many index words its last request read
+pub record CountedPool : Type 0 where
+  pub pool : Pool
+  pub reads : ℕ
+
+abbrev pub counted : Pool → ℕ → CountedPool
+counted pool reads = record { pool = pool; reads = reads }
+
+-- what a request for the layout may have read of that many words: at most each once, at least one if there is one, and none
+-- where its size or its alignment is refused
+pub record MayRead (bucket layout : Layout) (words reads : ℕ) : Type 0 where
+  pub most : reads ≤ words
+  pub least : IsWithin bucket layout → 0 < words → 0 < reads
+  pub none : ¬ IsWithin bucket layout → reads ≡ 0

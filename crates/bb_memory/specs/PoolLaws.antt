@@ -1,0 +1,14 @@
+-- What holds of every live list that a pool stands for.
+use Rattle.std.specs.Prelude.{◌≡◌, ℕ, List, Some, slice_get}
+use Rattle.std.proofs.Common.{sym, ◌∙◌, ap}
+use Rattle.std.proofs.lemmas.Option.{slice_get_within, get_or_from_slice_get}
+use Rattle.bb_memory_base.specs.Chunk.{Chunk}
+use Rattle.bb_memory.specs.Pool.{Pool, StandsFor, HoldsPlace}
+
+-- what stands at a position of it has the place of a held bucket
+pub held_place : (pool : Pool) (live : List Chunk) (position : ℕ) (chunk : Chunk) → StandsFor pool live →
+    slice_get live position ≡ Some chunk → HoldsPlace pool chunk.place
+held_place pool live position chunk stands at =
+    let filled = stands.filled position chunk (slice_get_within live position chunk at) in
+    let same = get_or_from_slice_get live position chunk chunk at in
+    (filled.0, filled.1.held, sym (ap (λ (c : Chunk). c.place) same) ∙ filled.1.placed)

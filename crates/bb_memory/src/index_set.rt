@@ -1,0 +1,39 @@
+//! A set of numbers below a bound, from which any number that isn't in it can be taken.
+pub mod counter;
+pub mod flags;
+pub mod index_words;
+pub mod words;
+
+use crate::index_set::counter::Counter;
+
+/// A set of numbers below a bound. It is empty when it is made.
+pub trait IndexSet: Drop {
+    ghost use Rattle.std.specs.Prelude.{◌≡◌, ◌<◌, ◌≤◌, ℕ, Bool, true, false, List, length, slice_set, IfSome, IfNone};
+    ghost use Rattle.bb_memory.specs.NumberSet.{Has, Lacks, IsFull};
+
+    /// A flag for each number below the bound: whether it is in the set.
+    ghost numbers: { Self → List Bool };
+
+    /// How many words a set of this bound has that are read through a counter.
+    ghost words: { ℕ → ℕ };
+
+    fn bound(&self) -> u32
+        ensures { result ≡ length (numbers self.now) };
+
+    /// Puts a number that isn't in the set into it, and answers that number. There is none exactly where every number is
+    /// in the set. The counter ends at how many words were read.
+    fn take(&mut self, counter: &mut Counter) -> Option<usize>
+        requires { counter.old ≡ 0 }
+        ensures lacked { IfSome result (Lacks (numbers self.old)) }
+        ensures taken { IfSome result (λ number. numbers self.new
+            ≡ slice_set (numbers self.old) number true) }
+        ensures full { IfNone result (IsFull (numbers self.old)) }
+        ensures kept { IfNone result (numbers self.new ≡ numbers self.old) }
+        ensures most { counter.new ≤ words (length (numbers self.old)) }
+        ensures least { 0 < words (length (numbers self.old)) → 0 < counter.new };
+
+    /// Takes a number out of the set, and no other.
+    fn release(&mut self, number: usize)
+        requires { Has (numbers self.old) number }
+        ensures { numbers self.new ≡ slice_set (numbers self.old) number false };
+}
