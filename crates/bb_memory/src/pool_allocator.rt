@@ -246,6 +246,8 @@ impl<A: LanguageAllocator> BaseAllocator for PoolAllocator<A> {
         ensures accepted { IsOk result ↔ (IsWithin self.old.pool.geometry.bucket layout
             × ((i : ℕ) × Lacks self.old.pool.held i)) }
         ensures kept { OnErr result (self.new.pool ≡ self.old.pool) }
+        ensures given { IfOk result (λ chunk. HoldsPlace self.new.pool chunk.place) }
+        ensures still_held { (place : ℕ) → HoldsPlace self.old.pool place → HoldsPlace self.new.pool place }
         ensures bucket_aligned { IfOk result
             (λ chunk. chunk.place % self.old.pool.geometry.bucket.align ≡ 0) }
         ensures reads { MayRead self.old.pool.geometry.bucket layout
@@ -267,7 +269,7 @@ impl<A: LanguageAllocator> BaseAllocator for PoolAllocator<A> {
         ensures geometry { self.new.pool.geometry ≡ self.old.pool.geometry }
         ensures reads { self.new.reads ≡ self.old.reads }
     {
-        self.buckets.free(place);
+        self.deallocate_bucket(place);
     }
 
     /// Asks for a chunk as `allocate` does, and makes its bytes zero. Every other byte of the region stays, and after a
@@ -291,6 +293,8 @@ impl<A: LanguageAllocator> BaseAllocator for PoolAllocator<A> {
         ensures accepted { IsOk result ↔ (IsWithin self.old.pool.geometry.bucket layout
             × ((i : ℕ) × Lacks self.old.pool.held i)) }
         ensures kept { OnErr result (self.new.pool ≡ self.old.pool) }
+        ensures given { IfOk result (λ chunk. HoldsPlace self.new.pool chunk.place) }
+        ensures still_held { (place : ℕ) → HoldsPlace self.old.pool place → HoldsPlace self.new.pool place }
         ensures bucket_aligned { IfOk result
             (λ chunk. chunk.place % self.old.pool.geometry.bucket.align ≡ 0) }
         ensures reads { MayRead self.old.pool.geometry.bucket layout

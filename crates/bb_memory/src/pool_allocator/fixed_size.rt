@@ -143,6 +143,8 @@ impl<const MAX_NUMBER_OF_BUCKETS: usize> BaseAllocator
         ensures accepted { IsOk result ↔ (IsWithin self.old.geometry.bucket layout
             × ((i : ℕ) × Lacks self.old.held i)) }
         ensures kept { OnErr result (self.new ≡ self.old) }
+        ensures given { IfOk result (λ chunk. HoldsPlace self.new chunk.place) }
+        ensures still_held { (place : ℕ) → HoldsPlace self.old place → HoldsPlace self.new place }
         ensures bucket_aligned { IfOk result
             (λ chunk. chunk.place % self.old.geometry.bucket.align ≡ 0) }
     {

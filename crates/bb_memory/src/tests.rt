@@ -1,0 +1,3 @@
+//! Worked rows, and refused memory.
+mod pools;
+mod refused_in_turn;
