@@ -337,7 +337,7 @@ impl<A: LanguageAllocator> Allocator for PoolAllocator<A> {
         requires { HoldsPlace self.now.pool _place }
         ensures { result ≡ self.now.pool.geometry.bucket.size }
     {
-        self.buckets.bucket().size()
+        self.bucket_size()
     }
 
     /// Gives the chunk the new size, in its bucket. It is refused in this order: with `GrowWouldShrink` where the new size

@@ -194,7 +194,7 @@ impl<const MAX_NUMBER_OF_BUCKETS: usize> Allocator
         requires { HoldsPlace self.now _place }
         ensures { result ≡ self.now.geometry.bucket.size }
     {
-        self.buckets.bucket().size()
+        self.bucket_size()
     }
 
     /// Gives the chunk the new size, in its bucket. It is refused in this order: with `GrowWouldShrink` where the new size
