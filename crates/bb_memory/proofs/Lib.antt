@@ -1,1 +1,3 @@
+mod NumberFlags
+mod NumberWords
 mod OneChunks

@@ -1,10 +1,9 @@
 //! A set of numbers below a bound, from which any number that isn't in it can be taken.
-pub mod counter;
 pub mod flags;
 pub mod index_words;
 pub mod words;
 
-use crate::index_set::counter::Counter;
+pub use crate::index_set::index_words::Counter;
 
 /// A set of numbers below a bound. It is empty when it is made.
 pub trait IndexSet: Drop {

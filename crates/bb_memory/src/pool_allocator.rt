@@ -21,7 +21,7 @@ pub use crate::allocator::{
     AllocationError, AllocationGrowError, AllocationShrinkError, Allocator, BaseAllocator,
 };
 use crate::allocator::{Command, Reply, run_base, run_full};
-use crate::index_set::counter::Counter;
+use crate::index_set::Counter;
 use crate::index_set::words::Words;
 use crate::layout::Chunk;
 pub use crate::layout::Layout;

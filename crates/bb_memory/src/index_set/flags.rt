@@ -1,14 +1,15 @@
-//! A set of numbers as an array of flags.
-ghost use Rattle.std.specs.Prelude.{◌≡◌, ◌+◌, ◌≤◌, ◌<◌, false, length, replicate, slice_index_or, IfSome, IfNone};
-ghost use Rattle.bb_memory.specs.Flags.{AreSet};
+//! A set of numbers as an array of flags, which takes no memory.
+ghost use Rattle.std.specs.Prelude.{◌≡◌, ◌≤◌, ◌<◌, false, length, replicate, IfSome, IfNone};
+ghost use Rattle.bb_memory.specs.Flags.{HasAll};
 ghost use Rattle.bb_memory.specs.NumberSet.{Lacks, IsFull};
 
-use crate::index_set::IndexSet;
-use crate::index_set::counter::Counter;
+use crate::index_set::{Counter, IndexSet};
 use std::marker::Model;
 
-/// The flags past the bound are never read.
-/// The cursor is the number that a taking tries first, or the bound once a taking found every number held.
+/// A flag for each number below the bound; the flags past it are never read.
+///
+/// A taking looks first at the number at the cursor: the one that was given back or taken last, or 0. After a taking that found
+/// every number in the set the cursor is the bound, and further refusals look at no flag.
 #[derive(Drop)]
 #[derive_where(Debug)]
 pub struct Flags<const N: usize> {
@@ -29,23 +30,23 @@ impl<const N: usize> Model for Flags<N> {
     ghost invariant = { λ a. IsFlagSet N a.bound a.flags a.cursor };
 }
 
-/// The first flag from one number up to another that isn't set.
-fn first_free(flags: &[bool], from: usize, to: usize) -> Option<usize>
+/// The first number from one up to another whose flag isn't set.
+fn first_unset(flags: &[bool], from: usize, to: usize) -> Option<usize>
     requires { to ≤ length flags.now }
-    ensures below { IfSome result (λ i. i < to) }
-    ensures free { IfSome result (λ i. slice_index_or flags.now i false ≡ false) }
-    ensures full { IfNone result (AreSet flags.now from to) }
+    ensures below { IfSome result (λ number. number < to) }
+    ensures lacked { IfSome result (Lacks flags.now) }
+    ensures full { IfNone result (HasAll flags.now from to) }
 {
-    for i in from..to {
-        if !flags[i] {
-            return Some(i);
+    for number in from..to {
+        if !flags[number] {
+            return Some(number);
         }
     }
     None
 }
 
 impl<const N: usize> Flags<N> {
-    /// The empty set of numbers below a bound.
+    /// The empty set of numbers below a bound, which is at most `N`.
     pub fn new(bound: u32) -> Self
         requires { bound ≤ N }
         ensures { result ≡ replicate bound false }
@@ -57,18 +58,18 @@ impl<const N: usize> Flags<N> {
         }
     }
 
-    /// A number that isn't in the set: the number at the cursor, if it can be.
-    fn free(&self) -> Option<usize>
-        ensures free { IfSome result (Lacks self.now) }
+    /// A number that isn't in the set: the first from the cursor on, or else the first of all.
+    fn find(&self) -> Option<usize>
+        ensures lacked { IfSome result (Lacks self.now) }
         ensures full { IfNone result (IsFull self.now) }
     {
         let bound = self.bound as usize;
         if self.cursor == bound {
             return None;
         }
-        match first_free(&self.flags, self.cursor, bound) {
-            Some(i) => Some(i),
-            None => first_free(&self.flags, 0, self.cursor),
+        match first_unset(&self.flags, self.cursor, bound) {
+            Some(number) => Some(number),
+            None => first_unset(&self.flags, 0, self.cursor),
         }
     }
 }
@@ -83,11 +84,11 @@ impl<const N: usize> IndexSet for Flags<N> {
     }
 
     fn take(&mut self, _counter: &mut Counter) -> Option<usize> {
-        match self.free() {
-            Some(i) => {
-                self.flags[i] = true;
-                self.cursor = i;
-                Some(i)
+        match self.find() {
+            Some(number) => {
+                self.flags[number] = true;
+                self.cursor = number;
+                Some(number)
             }
             None => {
                 self.cursor = self.bound as usize;
@@ -96,6 +97,7 @@ impl<const N: usize> IndexSet for Flags<N> {
         }
     }
 
+    /// The next taking looks at this number first.
     fn release(&mut self, number: usize) {
         self.flags[number] = false;
         self.cursor = number;

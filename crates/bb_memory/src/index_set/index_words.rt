@@ -1,12 +1,53 @@
-//! Words of 64 flags, which a search reads only by way of a counter.
-ghost use Rattle.std.specs.Prelude.{◌≡◌, ◌+◌, ◌*◌, ◌/◌, ◌%◌, ◌^◌, ◌<◌, ◌≤◌, length, replicate, slice_index, slice_set, bit_and, IfOk};
+//! Words of 64 bits that a search reads only through a counter.
+//!
+//! Both types stand in one module: [`IndexWords::word`] alone reaches the words and the step that counts a read.
+ghost use Rattle.std.specs.Prelude.{◌≡◌, ◌+◌, ◌*◌, ◌/◌, ◌%◌, ◌^◌, ◌<◌, length, replicate, slice_index, slice_set, bit_and, IfOk};
 ghost use Rattle.std.specs.Int.{bit_not, w64};
 
-use crate::index_set::counter::Counter;
 use std::alloc::{AllocError, Allocator};
 use std::marker::Model;
 
-/// The words, which are read by [`IndexWords::word`] alone.
+/// Counts the words that a search reads: it begins at 0, and each read adds one.
+#[derive(Debug, Drop)]
+pub struct Counter {
+    count: u32,
+}
+
+impl Model for Counter {
+    ghost use Rattle.std.specs.Prelude.{ℕ};
+
+    ghost Value = { ℕ };
+
+    ghost view = { λ a. a.count };
+}
+
+impl Counter {
+    /// A counter that has counted nothing.
+    #[inline]
+    pub fn new() -> Counter
+        ensures { result ≡ 0 }
+    {
+        Counter { count: 0 }
+    }
+
+    /// How many words were read.
+    #[inline]
+    pub fn count(&self) -> u32
+        ensures { result ≡ self.now }
+    {
+        self.count
+    }
+
+    #[inline]
+    fn increment(&mut self)
+        requires { self.old + 1 < 2 ^ 32 }
+        ensures { self.new ≡ self.old + 1 }
+    {
+        self.count += 1;
+    }
+}
+
+/// Words that nothing reads but [`IndexWords::word`]. Number n is bit n % 64 of word n / 64, counted from the lowest.
 #[derive(Drop)]
 pub struct IndexWords<A: Allocator> {
     words: Vec<u64, A>,
@@ -21,7 +62,7 @@ impl<A: Allocator> Model for IndexWords<A> {
 }
 
 impl<A: Allocator> IndexWords<A> {
-    /// That many words, all zero.
+    /// So many words, all zero. It is refused only where a request for memory was.
     pub fn new(alloc: A, len: usize) -> Result<Self, AllocError>
         ensures { IfOk result (λ words. words ≡ replicate len 0) }
     {
@@ -29,13 +70,16 @@ impl<A: Allocator> IndexWords<A> {
         Ok(IndexWords { words })
     }
 
+    /// How many words there are. No word is read.
+    #[inline]
     pub fn len(&self) -> usize
         ensures { result ≡ length self.now }
     {
         self.words.len()
     }
 
-    /// Reads a word.
+    /// Reads word i, and counts the read.
+    #[inline]
     pub fn word(&self, i: usize, counter: &mut Counter) -> u64
         requires index { i < length self.now }
         requires room { counter.old + 1 < 2 ^ 32 }
@@ -46,7 +90,8 @@ impl<A: Allocator> IndexWords<A> {
         self.words[i]
     }
 
-    /// Writes a word.
+    /// Replaces word i.
+    #[inline]
     pub fn put(&mut self, i: usize, word: u64)
         requires { i < length self.old }
         ensures { self.new ≡ slice_set self.old i word }
@@ -54,11 +99,13 @@ impl<A: Allocator> IndexWords<A> {
         self.words[i] = word;
     }
 
-    /// Clears the flag of a number.
-    pub fn clear(&mut self, i: usize)
-        requires { i / 64 < length self.old }
-        ensures { self.new ≡ slice_set self.old (i / 64) (bit_and (slice_index self.old (i / 64)) (bit_not w64 (1 * 2 ^ (i % 64) % 2 ^ 64))) }
+    /// Clears the bit of a number, and no other.
+    #[inline]
+    pub fn clear(&mut self, number: usize)
+        requires { number / 64 < length self.old }
+        ensures { self.new ≡ slice_set self.old (number / 64)
+            (bit_and (slice_index self.old (number / 64)) (bit_not w64 (1 * 2 ^ (number % 64) % 2 ^ 64))) }
     {
-        self.words[i / 64] &= !(1u64 << (i % 64));
+        self.words[number / 64] &= !(1u64 << (number % 64));
     }
 }

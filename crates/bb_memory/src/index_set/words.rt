@@ -1,15 +1,17 @@
-//! A set of numbers as words of 64 flags.
-ghost use Rattle.std.specs.Prelude.{◌≡◌, ◌+◌, ◌-◌, ◌*◌, ◌/◌, ◌%◌, ◌^◌, ◌<◌, ◌≤◌, false, length, replicate, slice_index, slice_set, IfOk, IfSome, IfNone};
+//! A set of numbers as words of 64 bits.
+ghost use Rattle.std.specs.Prelude.{◌≡◌, ◌≢◌, ◌+◌, ◌-◌, ◌^◌, ◌<◌, ◌≤◌, false, length, replicate, slice_index, IfOk, IfSome, IfNone};
 ghost use Rattle.bb_memory.specs.Words.{AreFull};
 
-use crate::index_set::IndexSet;
-use crate::index_set::counter::Counter;
 use crate::index_set::index_words::IndexWords;
+use crate::index_set::{Counter, IndexSet};
 use std::alloc::{AllocError, Allocator};
 use std::marker::Model;
 
-/// The flags past the bound are set for good, so that a word with a flag that isn't set has a number to give.
-/// The cursor is the word that a taking reads first, or the number of words once a taking found every word full.
+/// A bit for each number below the bound. The bits past it are set for good, so that a word with a clear bit has a number to
+/// give.
+///
+/// A taking reads first the word at the cursor: that of the number that was given back or taken last, or word 0. After a taking
+/// that found every word full the cursor is the number of words, and further refusals read one word each.
 #[derive(Drop)]
 pub struct Words<A: Allocator> {
     words: IndexWords<A>,
@@ -19,23 +21,23 @@ pub struct Words<A: Allocator> {
 
 impl<A: Allocator> Model for Words<A> {
     ghost use Rattle.std.specs.Prelude.{Bool, List};
-    ghost use Rattle.bb_memory.specs.Words.{flags_of, IsWordSet};
+    ghost use Rattle.bb_memory.specs.Words.{numbers_of, IsWordSet};
 
     ghost Value = { List Bool };
 
-    ghost view = { λ a. flags_of a.bound a.words };
+    ghost view = { λ a. numbers_of a.bound a.words };
 
     ghost invariant = { λ a. IsWordSet a.bound a.words a.cursor };
 }
 
-/// A word that isn't full.
+/// A word that isn't full, as it was read, and which one it is.
 #[derive(Clone, Copy)]
 struct OpenWord {
     at: usize,
     word: u64,
 }
 
-/// The first word from one number up to another that isn't full.
+/// The first word from one up to another that isn't full. Each is read at most once.
 #[cold]
 #[inline(never)]
 fn search<A: Allocator>(
@@ -49,7 +51,7 @@ fn search<A: Allocator>(
     requires room { counter.old + (to - from) < 2 ^ 32 }
     ensures at { IfSome result (λ found. found.at < to) }
     ensures word { IfSome result (λ found. found.word ≡ slice_index words.now found.at) }
-    ensures has_room { IfSome result (λ found. found.word + 1 < 2 ^ 64) }
+    ensures not_full { IfSome result (λ found. found.word + 1 < 2 ^ 64) }
     ensures full { IfNone result (AreFull words.now from to) }
     ensures most { counter.new ≤ counter.old + (to - from) }
     ensures least { counter.old ≤ counter.new }
@@ -63,26 +65,8 @@ fn search<A: Allocator>(
     None
 }
 
-impl<A: Allocator> Words<A> {
-    /// The empty set of numbers below a bound.
-    pub fn new(alloc: A, bound: u32) -> Result<Self, AllocError>
-        ensures { IfOk result (λ held. held ≡ replicate bound false) }
-    {
-        let count = (bound as usize).div_ceil(64);
-        let mut words = IndexWords::new(alloc, count)?;
-        let used = bound % 64;
-        if used != 0 {
-            words.put(count - 1, u64::MAX << used);
-        }
-        Ok(Words {
-            words,
-            bound,
-            cursor: 0,
-        })
-    }
-}
-
-/// A word that isn't full, and its number: the word at the cursor, if it can be.
+/// A word that isn't full: the one at the cursor, or else the first after it, or else the first before it. Each is read at most
+/// once. Where the cursor is the number of words, every word is full, and only one is read.
 #[inline]
 fn open_word<A: Allocator>(
     words: &IndexWords<A>,
@@ -94,10 +78,11 @@ fn open_word<A: Allocator>(
     requires room { counter.old + length words.now < 2 ^ 32 }
     ensures at { IfSome result (λ found. found.at < length words.now) }
     ensures word { IfSome result (λ found. found.word ≡ slice_index words.now found.at) }
-    ensures has_room { IfSome result (λ found. found.word + 1 < 2 ^ 64) }
+    ensures not_full { IfSome result (λ found. found.word + 1 < 2 ^ 64) }
     ensures full { IfNone result (AreFull words.now 0 (length words.now)) }
     ensures most { counter.new ≤ counter.old + length words.now }
     ensures least { 0 < length words.now → counter.old < counter.new }
+    ensures one { length words.now ≤ cursor → counter.new ≤ counter.old + 1 }
 {
     let count = words.len();
     if count == 0 {
@@ -114,6 +99,25 @@ fn open_word<A: Allocator>(
     match search(words, cursor + 1, count, counter) {
         Some(found) => Some(found),
         None => search(words, 0, cursor, counter),
+    }
+}
+
+impl<A: Allocator> Words<A> {
+    /// The empty set of numbers below a bound. It is refused only where a request for memory was.
+    pub fn new(alloc: A, bound: u32) -> Result<Self, AllocError>
+        ensures { IfOk result (λ set. set ≡ replicate bound false) }
+    {
+        let count = (bound as usize).div_ceil(64);
+        let mut words = IndexWords::new(alloc, count)?;
+        let used = bound % 64;
+        if used != 0 {
+            words.put(count - 1, u64::MAX << used);
+        }
+        Ok(Words {
+            words,
+            bound,
+            cursor: 0,
+        })
     }
 }
 
@@ -144,6 +148,7 @@ impl<A: Allocator> IndexSet for Words<A> {
         }
     }
 
+    /// The next taking reads this number's word first.
     #[inline]
     fn release(&mut self, number: usize) {
         self.words.clear(number);

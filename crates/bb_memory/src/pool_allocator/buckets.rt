@@ -7,8 +7,7 @@ ghost use Rattle.bb_memory_base.specs.PoolObject.{MayGrow, MayShrink};
 ghost use Rattle.bb_memory.specs.Pool.{Frees, HoldsPlace, MayBeCut, MayRead, Takes, pool_of};
 
 use crate::allocator::{AllocationError, AllocationGrowError, AllocationShrinkError};
-use crate::index_set::IndexSet;
-use crate::index_set::counter::Counter;
+use crate::index_set::{Counter, IndexSet};
 use crate::layout::{Chunk, Layout, round_up};
 use std::marker::Model;
 

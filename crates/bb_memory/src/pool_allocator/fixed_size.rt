@@ -14,7 +14,7 @@ use crate::allocator::{
     AllocationError, AllocationGrowError, AllocationShrinkError, Allocator, BaseAllocator, Command,
     Reply, run_base, run_full,
 };
-use crate::index_set::counter::Counter;
+use crate::index_set::Counter;
 use crate::index_set::flags::Flags;
 use crate::layout::{Chunk, Layout};
 use crate::pool_allocator::buckets::{Buckets, count_buckets, may_be_cut};

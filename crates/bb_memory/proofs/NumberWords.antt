@@ -1,0 +1,239 @@
+-- Words of 64 bits as a set of numbers.
+use Rattle.std.proofs.Common.{◌≡◌, ◌≢◌, ℕ, ◌+◌, ◌-◌, ◌*◌, ◌/◌, ◌%◌, ◌^◌, ◌<◌, ◌≤◌, Bool, true, false, eqb, List, length, replicate, get_or, set, sym, ◌∙◌, ap, inl, inr, arith, ext_get_or, length-set, get_or-set_same, get_or-set_other, eq-eqb, w64}
+use Rattle.std.proofs.lemmas.List.{length-replicate, get_or-replicate}
+use Rattle.std.proofs.lemmas.List.FromFn.{length-map-range_with_len, get_or-map-range_with_len}
+use Rattle.std.proofs.lemmas.Bool.{cases_eq, cases_lt, false≢true}
+use Rattle.std.proofs.lemmas.Nat.Bits.{bit_at_set_same, bit_at_set_other, bit_at_clear_same, bit_at_clear_other, bit_at-zero, bit_at_ones, bit_at-trailing_ones, bit_at_mask_inside, bit_at_mask_below, ones_shl}
+use Rattle.std.proofs.lemmas.Option.{slice_get-get_or, slice_get_within}
+use Rattle.std.specs.Prelude.{bit_and, bit_or, Some, slice_get}
+use Rattle.std.specs.Int.{bit_at, bit_not, trailing_ones}
+use Rattle.bb_memory.specs.IndexWords.{index_words}
+use Rattle.bb_memory.specs.NumberSet.{Has, Lacks, IsFull}
+use Rattle.bb_memory.specs.Words.{has_bit, numbers_of, AreIndexWords, AreFull, IsWordSet}
+
+-- a set has a flag for each number below its bound
+pub length-numbers_of : (bound : ℕ) (words : List ℕ) → length (numbers_of bound words) ≡ bound
+unfolding numbers_of
+length-numbers_of bound words = length-map-range_with_len (has_bit words) 0 bound
+
+get_or-numbers_of : (bound : ℕ) (words : List ℕ) (n : ℕ) → n < bound → get_or (numbers_of bound words) n false ≡ has_bit words n
+unfolding numbers_of
+get_or-numbers_of bound words n below = get_or-map-range_with_len (has_bit words) 0 bound n n false below (omega arith)
+
+-- a number's flag is its bit
+slice_get-numbers_of : (bound : ℕ) (words : List ℕ) (n : ℕ) → n < bound → slice_get (numbers_of bound words) n ≡ Some (has_bit words n)
+slice_get-numbers_of bound words n below =
+    slice_get-get_or (numbers_of bound words) n false (omega (arith, length-numbers_of bound words)) ∙ ap Some (get_or-numbers_of bound words n below)
+
+-- a bit of a word becomes a flag, and its other bits stay
+abbrev Changes : ℕ → ℕ → ℕ → Bool → Type 0
+Changes old new bit flag = (eqb (bit_at new bit) 1 ≡ flag) × ((i : ℕ) → i < 64 → i ≢ bit → bit_at new i ≡ bit_at old i)
+
+set_bit : (word bit : ℕ) → bit < 64 → Changes word (bit_or word (1 * 2 ^ bit % 2 ^ 64)) bit true
+set_bit word bit low = (eq-eqb _ 1 (bit_at_set_same w64 word bit low), λ i within other. bit_at_set_other w64 word bit low i other)
+
+clear_bit : (word bit : ℕ) → bit < 64 → Changes word (bit_and word (bit_not w64 (1 * 2 ^ bit % 2 ^ 64))) bit false
+clear_bit word bit low =
+    (ap (λ x. eqb x 1) (bit_at_clear_same w64 word bit low), λ i within other. bit_at_clear_other w64 word bit low i within other)
+
+-- What a change of one bit does to the set.
+module _ (words : List ℕ) (at bit new : ℕ) (flag : Bool) (within : at < length words) (low : bit < 64)
+    (changes : Changes (get_or words at 0) new bit flag) where
+  has_bit-same : has_bit (set words at new) (at * 64 + bit) ≡ flag
+  has_bit-same =
+      let e : (at * 64 + bit) / 64 ≡ at = omega arith in
+      let f : (at * 64 + bit) % 64 ≡ bit = omega arith in
+      ap (λ x. eqb (bit_at (get_or (set words at new) x 0) ((at * 64 + bit) % 64)) 1) e
+      ∙ ap (λ x. eqb (bit_at (get_or (set words at new) at 0) x) 1) f
+      ∙ ap (λ x. eqb (bit_at x bit) 1) (get_or-set_same words at new 0 within)
+      ∙ changes.0
+
+  has_bit-other : (n : ℕ) → n ≢ at * 64 + bit → has_bit (set words at new) n ≡ has_bit words n
+  has_bit-other n other = elim (cases_eq (n / 64) at) [
+    | inl row ↦
+        ap (λ x. eqb (bit_at (get_or (set words at new) x 0) (n % 64)) 1) row
+        ∙ ap (λ x. eqb (bit_at x (n % 64)) 1) (get_or-set_same words at new 0 within)
+        ∙ ap (λ x. eqb x 1) (changes.1 (n % 64) (omega arith) (λ same. other (omega arith)))
+        ∙ ap (λ x. eqb (bit_at (get_or words x 0) (n % 64)) 1) (sym row)
+    | inr apart ↦ ap (λ x. eqb (bit_at x (n % 64)) 1) (get_or-set_other words at (n / 64) new 0 apart)
+  ]
+
+  numbers_of-set : (bound : ℕ) → at * 64 + bit < bound →
+      numbers_of bound (set words at new) ≡ set (numbers_of bound words) (at * 64 + bit) flag
+  numbers_of-set bound below =
+      let inside : at * 64 + bit < length (numbers_of bound words) = omega (arith, length-numbers_of bound words) in
+      ext_get_or false _ _
+      (length-numbers_of bound _ ∙ sym (length-numbers_of bound words) ∙ sym (length-set (numbers_of bound words) (at * 64 + bit) flag))
+      (λ n h.
+      let n_in : n < bound = omega (arith, h, length-numbers_of bound (set words at new)) in
+      get_or-numbers_of bound _ n n_in
+      ∙ (elim (cases_eq n (at * 64 + bit)) as (λ _. has_bit (set words at new) n ≡ get_or (set (numbers_of bound words) (at * 64 + bit) flag) n false) [
+        | inl same ↦ rw same (has_bit-same ∙ sym (get_or-set_same (numbers_of bound words) (at * 64 + bit) flag false inside))
+        | inr other ↦
+            has_bit-other n other ∙ sym (get_or-numbers_of bound words n n_in)
+            ∙ sym (get_or-set_other (numbers_of bound words) (at * 64 + bit) n flag false other)
+      ]))
+
+  -- a changed word that the cursor stands at is a set again
+  IsWordSet-set : (bound : ℕ) → at * 64 + bit < bound → AreIndexWords bound words → IsWordSet bound (set words at new) at
+  IsWordSet-set bound below are =
+      let len = length-set words at new in
+      record {
+        are = record {
+          count = len ∙ are.count;
+          past = λ n past h. has_bit-other n (omega arith) ∙ are.past n past (omega arith);
+        };
+        below = omega (arith, len);
+        full = λ past. absurd (omega (arith, len));
+      }
+
+-- the lowest clear bit of a word is that of a number below the bound, which isn't in the set
+lowest_clear : (bound : ℕ) (words : List ℕ) (at word : ℕ) → AreIndexWords bound words → at < length words → word ≡ get_or words at 0 →
+    word + 1 < 2 ^ 64 →
+    (trailing_ones w64 word < 64) × (at * 64 + trailing_ones w64 word < bound)
+    × Lacks (numbers_of bound words) (at * 64 + trailing_ones w64 word)
+lowest_clear bound words at word are within read not_full =
+    let bit = trailing_ones w64 word in
+    let lowest = bit_at-trailing_ones w64 word not_full in
+    let low : bit < 64 = lowest.0 in
+    let e : (at * 64 + bit) / 64 ≡ at = omega arith in
+    let f : (at * 64 + bit) % 64 ≡ bit = omega arith in
+    let clear : has_bit words (at * 64 + bit) ≡ false =
+    ap (λ x. eqb (bit_at (get_or words x 0) ((at * 64 + bit) % 64)) 1) e
+    ∙ ap (λ x. eqb (bit_at (get_or words at 0) x) 1) f
+    ∙ ap (λ x. eqb (bit_at x bit) 1) (sym read)
+    ∙ ap (λ x. eqb x 1) lowest.1 in
+    let below : at * 64 + bit < bound = elim (cases_lt (at * 64 + bit) bound) [
+      | inl is ↦ is
+      | inr past ↦ absurd (false≢true (sym clear ∙ are.past (at * 64 + bit) past (omega arith)))
+    ] in
+    (low, below, slice_get-numbers_of bound words _ below ∙ ap Some clear)
+
+-- with every word full, every number is in the set
+pub full_words : (bound : ℕ) (words : List ℕ) → AreIndexWords bound words → AreFull words 0 (length words) → IsFull (numbers_of bound words)
+full_words bound words are full n below =
+    let n_in : n < bound = omega (arith, below, length-numbers_of bound words) in
+    let at : n / 64 < length words = omega (arith, are.count) in
+    let is : has_bit words n ≡ true =
+    ap (λ x. eqb (bit_at x (n % 64)) 1) (full (n / 64) (omega arith) at) ∙ eq-eqb _ 1 (bit_at_ones 64 (n % 64) (omega arith)) in
+    slice_get-numbers_of bound words n n_in ∙ ap Some is
+
+-- the words with a number's bit clear
+abbrev pub without : List ℕ → ℕ → List ℕ
+without words number = set words (number / 64) (bit_and (get_or words (number / 64) 0) (bit_not w64 (1 * 2 ^ (number % 64) % 2 ^ 64)))
+
+-- a release: the number has a word, and what is left is the set without the number
+pub released : (bound : ℕ) (words : List ℕ) (number : ℕ) → AreIndexWords bound words → Has (numbers_of bound words) number →
+    (number / 64 < length words) × IsWordSet bound (without words number) (number / 64)
+    × (numbers_of bound (without words number) ≡ set (numbers_of bound words) number false)
+released bound words number are has =
+    let within : number < length (numbers_of bound words) = slice_get_within (numbers_of bound words) number true has in
+    let below : number < bound = omega (arith, length-numbers_of bound words) in
+    let at : number / 64 < length words = omega (arith, are.count) in
+    let same : (number / 64) * 64 + number % 64 ≡ number = omega arith in
+    let inside : (number / 64) * 64 + number % 64 < bound = omega arith in
+    let low : number % 64 < 64 = omega arith in
+    let changes = clear_bit (get_or words (number / 64) 0) (number % 64) low in (
+      at,
+      IsWordSet-set words (number / 64) (number % 64) _ false at low changes bound inside are,
+      numbers_of-set words (number / 64) (number % 64) _ false at low changes bound inside
+          ∙ ap (λ n. set (numbers_of bound words) n false) same,
+    )
+
+-- the words with the lowest clear bit of one word set
+abbrev pub with_lowest : List ℕ → ℕ → ℕ → List ℕ
+with_lowest words at word = set words at (bit_or word (1 * 2 ^ trailing_ones w64 word % 2 ^ 64))
+
+-- a taking from a word that isn't full: its number wasn't in the set, and what is left is the set with it
+pub taken : (bound : ℕ) (words : List ℕ) (at word : ℕ) → AreIndexWords bound words → at < length words → word ≡ get_or words at 0 →
+    word + 1 < 2 ^ 64 →
+    (trailing_ones w64 word < 64) × Lacks (numbers_of bound words) (at * 64 + trailing_ones w64 word)
+    × IsWordSet bound (with_lowest words at word) at
+    × (numbers_of bound (with_lowest words at word) ≡ set (numbers_of bound words) (at * 64 + trailing_ones w64 word) true)
+taken bound words at word are within read not_full =
+    let bit = trailing_ones w64 word in
+    let lowest = lowest_clear bound words at word are within read not_full in
+    let changes : Changes (get_or words at 0) (bit_or word (1 * 2 ^ bit % 2 ^ 64)) bit true = rw (← read) (set_bit word bit lowest.0) in (
+      lowest.0,
+      lowest.2,
+      IsWordSet-set words at bit _ true within lowest.0 changes bound lowest.1 are,
+      numbers_of-set words at bit _ true within lowest.0 changes bound lowest.1,
+    )
+
+-- no bit below the bound is set, and each past it is
+record AreFresh (bound : ℕ) (words : List ℕ) : Type 0 where
+  count : length words ≡ index_words bound
+  clear : (n : ℕ) → n < bound → has_bit words n ≡ false
+  past : (n : ℕ) → bound ≤ n → n < 64 * length words → has_bit words n ≡ true
+
+fresh : (bound : ℕ) (words : List ℕ) → AreFresh bound words → IsWordSet bound words 0 × (numbers_of bound words ≡ replicate bound false)
+fresh bound words are = (
+  record {
+    are = record { count = are.count; past = are.past };
+    below = omega arith;
+    full = λ none at from below. absurd (omega arith);
+  },
+  ext_get_or false _ _ (length-numbers_of bound words ∙ sym (length-replicate bound false))
+      (λ n h.
+      let n_in : n < bound = omega (arith, h, length-numbers_of bound words) in
+      get_or-numbers_of bound words n n_in ∙ are.clear n n_in ∙ sym (get_or-replicate bound n false false n_in)),
+)
+
+abbrev pub zeros : ℕ → List ℕ
+zeros count = replicate count 0
+
+has_bit-zeros : (count n : ℕ) → n / 64 < count → has_bit (zeros count) n ≡ false
+has_bit-zeros count n within =
+    ap (λ x. eqb (bit_at x (n % 64)) 1) (get_or-replicate count (n / 64) 0 0 within) ∙ ap (λ x. eqb x 1) (bit_at-zero (n % 64))
+
+-- words of zeros are the empty set where the bound is a multiple of 64
+pub fresh_whole : (bound count : ℕ) → count ≡ index_words bound → bound % 64 ≡ 0 →
+    IsWordSet bound (zeros count) 0 × (numbers_of bound (zeros count) ≡ replicate bound false)
+fresh_whole bound count is whole =
+    let len : length (zeros count) ≡ count = length-replicate count 0 in
+    fresh bound (zeros count)
+    (record {
+      count = len ∙ is;
+      clear = λ n below. has_bit-zeros count n (omega arith);
+      past = λ n past within. absurd (omega arith);
+    })
+
+-- the last word with its bits past the bound set
+abbrev pub last_word : ℕ → ℕ
+last_word bound = (2 ^ 64 - 1) * 2 ^ (bound % 64) % 2 ^ 64
+
+-- words of zeros with that last word are the empty set where it isn't
+pub fresh_part : (bound count : ℕ) → count ≡ index_words bound → bound % 64 ≢ 0 →
+    let words = set (zeros count) (count - 1) (last_word bound) in
+    IsWordSet bound words 0 × (numbers_of bound words ≡ replicate bound false)
+fresh_part bound count is part =
+    let used = bound % 64 in
+    let small : used ≤ 64 = omega arith in
+    let mask : ℕ = last_word bound in
+    let mask_is : mask ≡ 2 ^ 64 - 2 ^ used = ones_shl 64 used small in
+    let last : ℕ = count - 1 in
+    let words = set (zeros count) last mask in
+    let len0 : length (zeros count) ≡ count = length-replicate count 0 in
+    let len : length words ≡ length (zeros count) = length-set (zeros count) last mask in
+    let inside : last < length (zeros count) = omega arith in
+    let in_last : (n : ℕ) → n / 64 ≡ last → has_bit words n ≡ eqb (bit_at mask (n % 64)) 1 = λ n row.
+    ap (λ x. eqb (bit_at (get_or words x 0) (n % 64)) 1) row
+    ∙ ap (λ x. eqb (bit_at x (n % 64)) 1) (get_or-set_same (zeros count) last mask 0 inside) in
+    fresh bound words
+    (record {
+      count = len ∙ len0 ∙ is;
+      clear = λ n below. elim (cases_eq (n / 64) last) [
+        | inl row ↦
+            in_last n row
+            ∙ ap (λ x. eqb (bit_at x (n % 64)) 1) mask_is
+            ∙ ap (λ x. eqb x 1) (bit_at_mask_below used 64 (n % 64) (omega arith))
+        | inr other ↦
+            ap (λ x. eqb (bit_at x (n % 64)) 1) (get_or-set_other (zeros count) last (n / 64) mask 0 other)
+            ∙ has_bit-zeros count n (omega arith)
+      ];
+      past = λ n past within.
+          let row : n / 64 ≡ last = omega arith in
+          in_last n row
+          ∙ ap (λ x. eqb (bit_at x (n % 64)) 1) mask_is
+          ∙ eq-eqb _ 1 (bit_at_mask_inside used 64 (n % 64) (omega arith) (omega arith));
+    })
