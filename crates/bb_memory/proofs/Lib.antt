@@ -1,3 +1,4 @@
+mod Cuts
 mod NumberFlags
 mod NumberWords
 mod OneChunks

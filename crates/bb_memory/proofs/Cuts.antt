@@ -1,0 +1,129 @@
+-- Regions that are cut into buckets: how many there are, and where each one is.
+use Rattle.std.proofs.Common.{◌≡◌, ℕ, ◌+◌, ◌-◌, ◌*◌, ◌/◌, ◌<◌, ◌≤◌, ◌^◌, Bool, true, false, List, Option, Some, None, IsSome, length, refl, slice_set, arith, ap, sym, subst, ◌∙◌, inl, inr}
+use Rattle.std.specs.Option.{SomeIff}
+use Rattle.std.proofs.Math.Nat.{mul-div_cancel}
+use Rattle.std.proofs.lemmas.Bool.{cases_lt}
+use Rattle.std.proofs.lemmas.Option.{slice_get_within}
+use Rattle.bb_memory_base.specs.Chunk.{Chunk, IsChunk}
+use Rattle.bb_memory_base.specs.Region.{Region, IsRegion, region_end}
+use Rattle.bb_memory_base.specs.FirstPlace.{first_place}
+use Rattle.bb_memory_base.specs.PoolGeometry.{PoolGeometry, pool_geometry, bucket_place, stride, FillsRegion, IsCut}
+use Rattle.bb_memory_base.specs.declared.layout.Layout.{Layout}
+use Rattle.bb_memory_base.specs.LeastPlace.{least_place}
+use Rattle.bb_memory_base.proofs.PoolGeometries.{stride-above, first_place-above, room-quotient}
+use Rattle.bb_memory_base.proofs.SliceGets.{length-set_at}
+use Rattle.bb_memory.specs.NumberSet.{Has}
+use Rattle.bb_memory.specs.Pool.{MayBeCut, pool_of, with_flag}
+use Rattle.bb_memory.specs.Buckets.{IsLaidOut}
+
+-- STRIDES
+
+-- a stride is a number of the machine
+pub stride-small : (bucket : Layout) → stride bucket < 2 ^ 63
+unfolding least_place
+stride-small bucket = bucket.valid.fits
+
+pub stride-positive : (bucket : Layout) → 0 < bucket.size → 0 < stride bucket
+stride-positive bucket filled = omega (arith, stride-above bucket)
+
+-- HOW MANY BUCKETS
+
+-- how many buckets a region has room for
+abbrev pub room_for : Region → Layout → ℕ
+room_for region bucket = (region_end region - first_place region bucket) / stride bucket
+
+-- a region has room for one number of buckets alone
+pub fills-once : (region : Region) (bucket : Layout) (one other : ℕ) → FillsRegion (pool_geometry region bucket one) →
+    FillsRegion (pool_geometry region bucket other) → one ≡ other
+fills-once region bucket one other fills_one fills_other =
+    elim (cases_lt one other) [
+      | inl less ↦ absurd (omega (arith, (fills_one one).1 ((fills_other one).0 less)))
+      | inr least ↦ elim (cases_lt other one) [
+        | inl less ↦ absurd (omega (arith, (fills_other other).1 ((fills_one other).0 less)))
+        | inr most ↦ omega arith
+      ]
+    ]
+
+-- what is cut from a region by a layout fills that region by that layout
+cut-fills : (region : Region) (bucket : Layout) (geometry : PoolGeometry) → IsCut region bucket geometry →
+    FillsRegion (pool_geometry region bucket geometry.buckets)
+cut-fills region bucket geometry cut =
+    subst (λ (r : Region). FillsRegion (pool_geometry r bucket geometry.buckets)) cut.region
+    (subst (λ (b : Layout). FillsRegion (pool_geometry geometry.region b geometry.buckets)) cut.bucket cut.filled)
+
+-- a cut has as many buckets as the region has room for
+pub cut-room : (region : Region) (bucket : Layout) (geometry : PoolGeometry) → 0 < bucket.size →
+    IsCut region bucket geometry → geometry.buckets ≡ room_for region bucket
+cut-room region bucket geometry filled cut =
+    fills-once region bucket geometry.buckets (room_for region bucket) (cut-fills region bucket geometry cut)
+    (room-quotient region bucket filled)
+
+-- the cut with that many buckets
+pub room-cut : (region : Region) (bucket : Layout) → 0 < bucket.size →
+    IsCut region bucket (pool_geometry region bucket (room_for region bucket))
+room-cut region bucket filled = record { region = refl; bucket = refl; filled = room-quotient region bucket filled }
+
+pub may-be-cut : (region : Region) (bucket : Layout) → IsRegion region → first_place region bucket < 2 ^ 64 →
+    0 < bucket.size → room_for region bucket < 2 ^ 32 - 1 → MayBeCut region bucket
+may-be-cut region bucket is rounded filled few = record {
+  is_region = is;
+  rounded = rounded;
+  filled = filled;
+  few = λ geometry cut. let room = cut-room region bucket geometry filled cut in omega arith;
+}
+
+pub may-be-cut-few : (region : Region) (bucket : Layout) → MayBeCut region bucket → room_for region bucket < 2 ^ 32 - 1
+may-be-cut-few region bucket may =
+    may.few (pool_geometry region bucket (room_for region bucket)) (room-cut region bucket may.filled)
+
+-- WHERE A BUCKET IS
+
+-- bucket i has a byte and ends within the numbers of a machine
+pub bucket-chunk : (region : Region) (bucket : Layout) (held : List Bool) (first distance i len : ℕ) →
+    IsLaidOut region bucket held first distance → i < length held → len ≤ bucket.size →
+    IsChunk (record { place = first + i * distance; len = len })
+bucket-chunk region bucket held first distance i len laid below short =
+    let place : first + i * distance ≡ first_place region bucket + i * stride bucket = cc (laid.begins, laid.strides) in
+    let room = laid.room i below in
+    record {
+      place = omega (arith, place, first_place-above region bucket, laid.is_region.start);
+      end = omega (arith, place, room, stride-above bucket, laid.is_region.end);
+    }
+
+-- the same at the place of a held bucket
+pub held-chunk : (region : Region) (bucket : Layout) (held : List Bool) (first distance i place len : ℕ) →
+    IsLaidOut region bucket held first distance → Has held i →
+    place ≡ bucket_place (pool_geometry region bucket (length held)) i → len ≤ bucket.size →
+    IsChunk (record { place = place; len = len })
+held-chunk region bucket held first distance i place len laid has at short =
+    let here : first + i * distance ≡ place = cc (laid.begins, laid.strides, at) in
+    subst (λ (p : ℕ). IsChunk (record { place = p; len = len })) here
+    (bucket-chunk region bucket held first distance i len laid (slice_get_within held i true has) short)
+
+-- the number of the bucket at a place
+pub number-at : (region : Region) (bucket : Layout) (held : List Bool) (first distance i place : ℕ) →
+    IsLaidOut region bucket held first distance →
+    place ≡ bucket_place (pool_geometry region bucket (length held)) i → (place - first) / distance ≡ i
+number-at region bucket held first distance i place laid at =
+    let past : place - first ≡ i * stride bucket = omega (arith, laid.begins, at) in
+    ap (λ n. n / distance) past
+    ∙ ap (λ n. i * stride bucket / n) laid.strides
+    ∙ mul-div_cancel i (stride-positive bucket laid.filled)
+
+-- the pool whose set lost a number is the pool with that bucket free
+pub pool-freed : (region : Region) (bucket : Layout) (old new : List Bool) (i : ℕ) → new ≡ slice_set old i false →
+    pool_of (pool_geometry region bucket (length new)) new
+    ≡ with_flag (pool_of (pool_geometry region bucket (length old)) old) i false
+pool-freed region bucket old new i is =
+    let same : length new ≡ length old = ap length is ∙ length-set_at old i false in
+    cc
+
+-- TESTS THAT ANSWER A VALUE
+
+pub some-if : {T : Type 0} (o : Option T) (P : Type 0) (v : T) → SomeIff o P v → P → IsSome o
+some-if None P v unless is = absurd (unless is)
+some-if (Some x) P v told is = refl
+
+pub some-value : {T : Type 0} (o : Option T) (P : Type 0) (v x : T) → SomeIff o P v → o ≡ Some x → x ≡ v
+some-value None P v x unless same = cc
+some-value (Some y) P v x told same = let e : y ≡ v = told.1 in cc
