@@ -1,10 +1,10 @@
 -- Regions that are cut into buckets: how many there are, and where each one is.
-use Rattle.std.proofs.Common.{◌≡◌, ℕ, ◌+◌, ◌-◌, ◌*◌, ◌/◌, ◌<◌, ◌≤◌, ◌^◌, Bool, true, false, List, Option, Some, None, IsSome, length, refl, slice_set, arith, ap, sym, subst, ◌∙◌, inl, inr}
+use Rattle.std.proofs.Common.{◌≡◌, ℕ, ◌+◌, ◌-◌, ◌*◌, ◌/◌, ◌<◌, ◌≤◌, ◌^◌, Bool, true, false, List, Option, Some, None, IsSome, length, refl, slice_set, arith, ap, subst, ◌∙◌, inl, inr}
 use Rattle.std.specs.Option.{SomeIff}
 use Rattle.std.proofs.Math.Nat.{mul-div_cancel}
 use Rattle.std.proofs.lemmas.Bool.{cases_lt}
 use Rattle.std.proofs.lemmas.Option.{slice_get_within}
-use Rattle.bb_memory_base.specs.Chunk.{Chunk, IsChunk}
+use Rattle.bb_memory_base.specs.Chunk.{IsChunk}
 use Rattle.bb_memory_base.specs.Region.{Region, IsRegion, region_end}
 use Rattle.bb_memory_base.specs.FirstPlace.{first_place}
 use Rattle.bb_memory_base.specs.PoolGeometry.{PoolGeometry, pool_geometry, bucket_place, stride, FillsRegion, IsCut}

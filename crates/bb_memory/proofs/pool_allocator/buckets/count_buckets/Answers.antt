@@ -1,4 +1,4 @@
-use Rattle.std.proofs.Common.{◌≡◌, ◌+◌, ◌-◌, ◌/◌, ◌<◌, arith, subst, ℕ, sym}
+use Rattle.std.proofs.Common.{◌≡◌, ◌/◌, arith, subst, ℕ, sym}
 use Rattle.bb_memory_base.specs.Region.{Region, region_at}
 use Rattle.bb_memory_base.specs.FirstPlace.{first_place}
 use Rattle.bb_memory_base.specs.PoolGeometry.{IsCut, pool_geometry}

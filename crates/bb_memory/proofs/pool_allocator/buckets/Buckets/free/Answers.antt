@@ -1,4 +1,4 @@
-use Rattle.std.proofs.Common.{◌≡◌, ◌-◌, ◌/◌, arith}
+use Rattle.std.proofs.Common.{arith}
 use Rattle.bb_memory_base.specs.Region.{Region, region_at}
 use Rattle.bb_memory.proofs.Cuts.{stride-positive, number-at, pool-freed}
 use Rattle.bb_memory.proofs.pool_allocator.buckets.Buckets.free.Goals as goal

@@ -1,4 +1,4 @@
-use Rattle.std.proofs.Common.{◌≡◌, ◌≤◌, arith}
+use Rattle.std.proofs.Common.{◌≤◌, arith}
 use Rattle.bb_memory_base.specs.Region.{region_at}
 use Rattle.bb_memory.proofs.Cuts.{held-chunk, some-if}
 use Rattle.bb_memory.proofs.pool_allocator.buckets.Buckets.grow.Goals as goal

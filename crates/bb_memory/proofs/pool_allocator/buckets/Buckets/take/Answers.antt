@@ -1,6 +1,5 @@
-use Rattle.std.proofs.Common.{◌≡◌, ◌+◌, ◌*◌, ◌<◌, ◌≤◌, ◌^◌, false, length, arith}
+use Rattle.std.proofs.Common.{◌≤◌, false, arith}
 use Rattle.std.proofs.lemmas.Option.{slice_get_within}
-use Rattle.bb_memory_base.specs.Chunk.{Chunk, IsChunk}
 use Rattle.bb_memory_base.specs.Region.{region_at}
 use Rattle.bb_memory.proofs.Cuts.{bucket-chunk, some-if}
 use Rattle.bb_memory.proofs.pool_allocator.buckets.Buckets.take.Goals as goal
