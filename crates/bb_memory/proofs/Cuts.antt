@@ -1,8 +1,9 @@
 -- Regions that are cut into buckets: how many there are, and where each one is.
 use Rattle.std.proofs.Common.{◌≡◌, ℕ, ◌+◌, ◌-◌, ◌*◌, ◌/◌, ◌<◌, ◌≤◌, ◌^◌, Bool, true, false, List, Option, Some, None, IsSome, length, refl, slice_set, arith, ap, subst, ◌∙◌, inl, inr}
 use Rattle.std.specs.Option.{SomeIff}
-use Rattle.std.proofs.Math.Nat.{mul-div_cancel}
+use Rattle.std.proofs.Math.Nat.{mul-div_cancel, mul-le-mul_left}
 use Rattle.std.proofs.lemmas.Bool.{cases_lt}
+use Rattle.std.proofs.lemmas.Nat.{le-div}
 use Rattle.std.proofs.lemmas.Option.{slice_get_within}
 use Rattle.bb_memory_base.specs.Chunk.{IsChunk}
 use Rattle.bb_memory_base.specs.Region.{Region, IsRegion, region_end}
@@ -12,6 +13,7 @@ use Rattle.bb_memory_base.specs.declared.layout.Layout.{Layout}
 use Rattle.bb_memory_base.specs.LeastPlace.{least_place}
 use Rattle.bb_memory_base.proofs.PoolGeometries.{stride-above, first_place-above, room-quotient}
 use Rattle.bb_memory_base.proofs.SliceGets.{length-set_at}
+use Rattle.bb_memory.specs.IndexWords.{index_words}
 use Rattle.bb_memory.specs.NumberSet.{Has}
 use Rattle.bb_memory.specs.Pool.{MayBeCut, pool_of, with_flag}
 use Rattle.bb_memory.specs.Buckets.{IsLaidOut}
@@ -75,6 +77,25 @@ may-be-cut region bucket is rounded filled few = record {
 pub may-be-cut-few : (region : Region) (bucket : Layout) → MayBeCut region bucket → room_for region bucket < 2 ^ 32 - 1
 may-be-cut-few region bucket may =
     may.few (pool_geometry region bucket (room_for region bucket)) (room-cut region bucket may.filled)
+
+-- a cut has no more buckets than the bucket's size goes into the region's
+pub cut-most : (region : Region) (bucket : Layout) (geometry : PoolGeometry) → 0 < bucket.size →
+    IsCut region bucket geometry → geometry.buckets ≤ region.size / bucket.size
+cut-most region bucket geometry filled cut =
+    let count : ℕ = geometry.buckets in
+    elim (cases_lt 0 count) [
+      | inl some ↦
+          let last : count - 1 + 1 ≡ count = omega arith in
+          let room = (cut-fills region bucket geometry cut (count - 1)).0 (omega arith) in
+          let wide : count * bucket.size ≤ count * stride bucket = mul-le-mul_left count (stride-above bucket) in
+          let strides : (count - 1 + 1) * stride bucket ≡ count * stride bucket = ap (λ n. n * stride bucket) last in
+          le-div count region.size bucket.size filled (omega (arith, room, wide, strides, first_place-above region bucket))
+      | inr none ↦ omega arith
+    ]
+
+-- each number has no more index words than itself
+pub index_words-most : (numbers : ℕ) → index_words numbers ≤ numbers
+index_words-most numbers = omega arith
 
 -- WHERE A BUCKET IS
 
