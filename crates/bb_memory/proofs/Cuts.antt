@@ -1,9 +1,11 @@
 -- Regions that are cut into buckets: how many there are, and where each one is.
-use Rattle.std.proofs.Common.{◌≡◌, ℕ, ◌+◌, ◌-◌, ◌*◌, ◌/◌, ◌<◌, ◌≤◌, ◌^◌, Bool, true, false, List, Option, Some, None, IsSome, length, refl, slice_set, arith, ap, subst, ◌∙◌, inl, inr}
+use Rattle.std.proofs.Common.{◌≡◌, ℕ, ◌+◌, ◌-◌, ◌*◌, ◌/◌, ◌<◌, ◌≤◌, ◌^◌, Bool, true, false, IsTrue, w64, pow_pos, List, Option, Some, None, IsSome, length, refl, slice_set, arith, ap, sym, subst, ◌∙◌, inl, inr}
+use Rattle.std.specs.Int.{is_power_of_two, trailing_zeros}
 use Rattle.std.specs.Option.{SomeIff}
 use Rattle.std.proofs.Math.Nat.{mul-div_cancel, mul-le-mul_left}
-use Rattle.std.proofs.lemmas.Bool.{cases_lt}
+use Rattle.std.proofs.lemmas.Bool.{cases_eq, cases_lt}
 use Rattle.std.proofs.lemmas.Nat.{le-div}
+use Rattle.std.proofs.lemmas.Nat.Bits.{bit_at-trailing_zeros, bit_at-pow_other}
 use Rattle.std.proofs.lemmas.Option.{slice_get_within}
 use Rattle.bb_memory_base.specs.Chunk.{IsChunk}
 use Rattle.bb_memory_base.specs.Region.{Region, IsRegion, region_end}
@@ -11,12 +13,13 @@ use Rattle.bb_memory_base.specs.FirstPlace.{first_place}
 use Rattle.bb_memory_base.specs.PoolGeometry.{PoolGeometry, pool_geometry, bucket_place, stride, FillsRegion, IsCut}
 use Rattle.bb_memory_base.specs.declared.layout.Layout.{Layout}
 use Rattle.bb_memory_base.specs.LeastPlace.{least_place}
+use Rattle.bb_memory_base.proofs.PowersOfTwo.{power_of_two-from_test}
 use Rattle.bb_memory_base.proofs.PoolGeometries.{stride-above, first_place-above, room-quotient}
 use Rattle.bb_memory_base.proofs.SliceGets.{length-set_at}
 use Rattle.bb_memory.specs.IndexWords.{index_words}
 use Rattle.bb_memory.specs.NumberSet.{Has}
 use Rattle.bb_memory.specs.Pool.{MayBeCut, pool_of, with_flag}
-use Rattle.bb_memory.specs.Buckets.{IsLaidOut}
+use Rattle.bb_memory.specs.Buckets.{Shifts, IsLaidOut}
 
 -- STRIDES
 
@@ -97,13 +100,35 @@ cut-most region bucket geometry filled cut =
 pub index_words-most : (numbers : ℕ) → index_words numbers ≤ numbers
 index_words-most numbers = omega arith
 
+-- SHIFTS
+
+-- a power of two has as many zeros at its end as its exponent
+zeros-power : (k : ℕ) → 2 ^ k < 2 ^ 64 → (trailing_zeros w64 (2 ^ k) < 64) × (trailing_zeros w64 (2 ^ k) ≡ k)
+zeros-power k small =
+    let zeros : ℕ = trailing_zeros w64 (2 ^ k) in
+    let lowest = bit_at-trailing_zeros w64 (2 ^ k) (pow_pos k) small in (
+      lowest.0,
+      elim (cases_eq zeros k) [
+        | inl same ↦ same
+        | inr other ↦ absurd (omega (arith, bit_at-pow_other k zeros other, lowest.1))
+      ],
+    )
+
+-- to divide by a power of two is to shift by the zeros at its end
+pub shifts-zeros : (n : ℕ) → IsTrue (is_power_of_two n) → n < 2 ^ 64 → Shifts n (Some (trailing_zeros w64 n))
+shifts-zeros n test small =
+    let power = power_of_two-from_test n test in
+    let zeros = zeros-power power.0 (omega (arith, power.1)) in
+    subst (λ (m : ℕ). (trailing_zeros w64 m < 64) × (m ≡ 2 ^ trailing_zeros w64 m)) (sym power.1)
+    (zeros.0, ap (λ e. 2 ^ e) (sym zeros.1))
+
 -- WHERE A BUCKET IS
 
 -- bucket i has a byte and ends within the numbers of a machine
-pub bucket-chunk : (region : Region) (bucket : Layout) (held : List Bool) (first distance i len : ℕ) →
-    IsLaidOut region bucket held first distance → i < length held → len ≤ bucket.size →
+pub bucket-chunk : (region : Region) (bucket : Layout) (held : List Bool) (first distance : ℕ) (shift : Option ℕ) (i len : ℕ) →
+    IsLaidOut region bucket held first distance shift → i < length held → len ≤ bucket.size →
     IsChunk (record { place = first + i * distance; len = len })
-bucket-chunk region bucket held first distance i len laid below short =
+bucket-chunk region bucket held first distance shift i len laid below short =
     let place : first + i * distance ≡ first_place region bucket + i * stride bucket = cc (laid.begins, laid.strides) in
     let room = laid.room i below in
     record {
@@ -112,20 +137,20 @@ bucket-chunk region bucket held first distance i len laid below short =
     }
 
 -- the same at the place of a held bucket
-pub held-chunk : (region : Region) (bucket : Layout) (held : List Bool) (first distance i place len : ℕ) →
-    IsLaidOut region bucket held first distance → Has held i →
+pub held-chunk : (region : Region) (bucket : Layout) (held : List Bool) (first distance : ℕ) (shift : Option ℕ) (i place len : ℕ) →
+    IsLaidOut region bucket held first distance shift → Has held i →
     place ≡ bucket_place (pool_geometry region bucket (length held)) i → len ≤ bucket.size →
     IsChunk (record { place = place; len = len })
-held-chunk region bucket held first distance i place len laid has at short =
+held-chunk region bucket held first distance shift i place len laid has at short =
     let here : first + i * distance ≡ place = cc (laid.begins, laid.strides, at) in
     subst (λ (p : ℕ). IsChunk (record { place = p; len = len })) here
-    (bucket-chunk region bucket held first distance i len laid (slice_get_within held i true has) short)
+    (bucket-chunk region bucket held first distance shift i len laid (slice_get_within held i true has) short)
 
 -- the number of the bucket at a place
-pub number-at : (region : Region) (bucket : Layout) (held : List Bool) (first distance i place : ℕ) →
-    IsLaidOut region bucket held first distance →
+pub number-at : (region : Region) (bucket : Layout) (held : List Bool) (first distance : ℕ) (shift : Option ℕ) (i place : ℕ) →
+    IsLaidOut region bucket held first distance shift →
     place ≡ bucket_place (pool_geometry region bucket (length held)) i → (place - first) / distance ≡ i
-number-at region bucket held first distance i place laid at =
+number-at region bucket held first distance shift i place laid at =
     let past : place - first ≡ i * stride bucket = omega (arith, laid.begins, at) in
     ap (λ n. n / distance) past
     ∙ ap (λ n. i * stride bucket / n) laid.strides

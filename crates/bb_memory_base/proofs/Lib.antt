@@ -18,7 +18,7 @@ pub mod PoolLogSteps
 pub mod PoolPasses
 pub mod PoolRuns
 pub mod PoolSteps
-mod PowersOfTwo
+pub mod PowersOfTwo
 pub mod Runs
 pub mod SliceGets
 pub mod SliceSets

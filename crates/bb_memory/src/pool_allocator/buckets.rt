@@ -2,9 +2,10 @@
 ghost use Rattle.std.specs.Prelude.{◌≡◌, ℕ, ◌<◌, ◌≤◌, ◌^◌, ◌↔◌, IsTrue, length, Result};
 ghost use Rattle.bb_memory_base.specs.Region.{IsRegion, region_at};
 ghost use Rattle.bb_memory_base.specs.FirstPlace.{first_place};
-ghost use Rattle.bb_memory_base.specs.PoolGeometry.{HasRoom, IsCut, pool_geometry, stride};
+ghost use Rattle.bb_memory_base.specs.PoolGeometry.{HasRoom, IsCut, bucket_place, pool_geometry, stride};
 ghost use Rattle.bb_memory_base.specs.PoolObject.{MayGrow, MayShrink};
 ghost use Rattle.bb_memory.specs.Pool.{Frees, HoldsPlace, MayBeCut, MayRead, Takes, pool_of};
+ghost use Rattle.bb_memory.specs.Buckets.{Shifts};
 
 use crate::allocator::{AllocationError, AllocationGrowError, AllocationShrinkError};
 use crate::index_set::{Counter, IndexSet};
@@ -45,7 +46,17 @@ fn stride(bucket_layout: Layout) -> usize
     round_up(bucket_layout.size(), bucket_layout.align()).unwrap()
 }
 
-/// A region cut into buckets, with the set of the held ones.
+/// What a shift to the right has to be by to divide by this number, where the number is a power of two.
+fn shift_of(divisor: usize) -> Option<u32>
+    ensures { Shifts divisor result }
+{
+    if !divisor.is_power_of_two() {
+        return None;
+    }
+    Some(divisor.trailing_zeros())
+}
+
+/// A region cut into buckets, with the set of the held ones. There is a shift where the stride is a power of two.
 #[derive(Debug, Drop)]
 pub struct Buckets<S: IndexSet> {
     region_start: usize,
@@ -53,6 +64,7 @@ pub struct Buckets<S: IndexSet> {
     bucket: Layout,
     first: usize,
     stride: usize,
+    shift: Option<u32>,
     held: S,
 }
 
@@ -69,7 +81,7 @@ impl<S: IndexSet> Model for Buckets<S> {
         (length (S.numbers a.held))) (S.numbers a.held) };
 
     ghost invariant = { λ a. IsLaidOut (region_at a.region_start a.region_size) a.bucket
-        (S.numbers a.held) a.first a.stride };
+        (S.numbers a.held) a.first a.stride a.shift };
 }
 
 impl<S: IndexSet> Buckets<S> {
@@ -85,28 +97,33 @@ impl<S: IndexSet> Buckets<S> {
         ensures { result ≡ pool_of (pool_geometry (region_at start size) bucket_layout
             (length (S.numbers held))) (S.numbers held) }
     {
+        let stride = stride(bucket_layout);
         Buckets {
             region_start: start,
             region_size: size,
             bucket: bucket_layout,
             first: round_up(start, bucket_layout.align()).unwrap(),
-            stride: stride(bucket_layout),
+            stride,
+            shift: shift_of(stride),
             held,
         }
     }
 
+    #[inline]
     pub fn count(&self) -> u32
         ensures { result ≡ self.now.geometry.buckets }
     {
         self.held.bound()
     }
 
+    #[inline]
     pub fn bucket(&self) -> Layout
         ensures { result ≡ self.now.geometry.bucket }
     {
         self.bucket
     }
 
+    #[inline]
     pub fn region_size(&self) -> usize
         ensures { result ≡ self.now.geometry.region.size }
     {
@@ -114,6 +131,7 @@ impl<S: IndexSet> Buckets<S> {
     }
 
     /// Where the first bucket is.
+    #[inline]
     pub fn first(&self) -> usize
         ensures { result ≡ first_place self.now.geometry.region self.now.geometry.bucket }
     {
@@ -121,6 +139,7 @@ impl<S: IndexSet> Buckets<S> {
     }
 
     /// Takes a bucket that isn't held.
+    #[inline]
     pub fn take(&mut self, layout: Layout, counter: &mut Counter) -> Result<Chunk, AllocationError>
         requires { counter.old ≡ 0 }
         ensures taken { Takes self.old layout result self.new }
@@ -140,12 +159,27 @@ impl<S: IndexSet> Buckets<S> {
         Ok(Chunk::new(place, layout.size()).unwrap())
     }
 
+    /// The number of the held bucket at this place.
+    #[inline]
+    fn number(&self, place: usize) -> usize
+        requires { HoldsPlace self.now place }
+        ensures { (i : ℕ) → place ≡ bucket_place self.now.geometry i → result ≡ i }
+    {
+        let distance = place - self.first;
+        match self.shift {
+            Some(shift) => distance >> shift,
+            None => distance / self.stride,
+        }
+    }
+
     /// Frees the held bucket at this place.
+    #[inline]
     pub fn free(&mut self, place: usize)
         requires { HoldsPlace self.old place }
         ensures { Frees self.old place self.new }
     {
-        self.held.release((place - self.first) / self.stride);
+        let number = self.number(place);
+        self.held.release(number);
     }
 
     /// What the chunk at this place of a held bucket is answered that is to grow.

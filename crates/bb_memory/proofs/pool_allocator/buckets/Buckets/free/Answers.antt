@@ -1,23 +1,20 @@
-use Rattle.std.proofs.Common.{arith}
+use Rattle.std.proofs.Common.{◌≡◌, false, length, subst}
 use Rattle.bb_memory_base.specs.Region.{Region, region_at}
-use Rattle.bb_memory.proofs.Cuts.{stride-positive, number-at, pool-freed}
+use Rattle.bb_memory_base.specs.PoolGeometry.{pool_geometry}
+use Rattle.bb_memory.specs.Pool.{Pool, pool_of, with_flag}
+use Rattle.bb_memory.proofs.Cuts.{pool-freed}
 use Rattle.bb_memory.proofs.pool_allocator.buckets.Buckets.free.Goals as goal
-
-pub nonzero_div-place : goal.nonzero_div-place
-nonzero_div-place g c = omega (arith, stride-positive c.self.inside.bucket)
 
 pub release-requires : goal.release-requires
 release-requires g c =
-    let inside = c.self.inside in
-    let live = rw (← c.self.view_is) at c.requires in
-    let number = number-at (region_at inside.region_start inside.region_size) inside.bucket
-    (g.S.IndexSet.numbers inside.held) inside.first inside.stride live.0 c.args.place c.self.invariant live.2 in
-    rw number live.1
+    let has = rw (← c.self.view_is) at c.requires.1 in
+    rw (c.number-number.ensures c.requires.0 c.requires.2) has
 
 pub returns : goal.returns
-returns g c =
+returns g c = λ i has at.
     let inside = c.self.inside in
     let region : Region = region_at inside.region_start inside.region_size in
-    rw (← c.self.view_is) (λ i has at.
-    let number = number-at region inside.bucket (g.S.IndexSet.numbers inside.held) inside.first inside.stride i c.args.place c.self.invariant at in
-    pool-freed region inside.bucket (g.S.IndexSet.numbers inside.held) (g.S.IndexSet.numbers c.release.new.self) i (rw number at c.release.ensures))
+    let new = g.S.IndexSet.numbers c.release.new.self in
+    let freed = rw (c.number-number.ensures i at) at c.release.ensures in
+    subst (λ (p : Pool). pool_of (pool_geometry region inside.bucket (length new)) new ≡ with_flag p i false) c.self.view_is
+    (pool-freed region inside.bucket (g.S.IndexSet.numbers inside.held) new i freed)

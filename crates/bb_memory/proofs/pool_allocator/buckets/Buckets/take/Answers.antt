@@ -10,7 +10,7 @@ overflow_mul-place g c =
     let lacked = c.in-Some.ensures.lacked in
     let below = slice_get_within (g.S.IndexSet.numbers inside.held) c.in-Some.i false lacked in
     let chunk = bucket-chunk (region_at inside.region_start inside.region_size) inside.bucket
-    (g.S.IndexSet.numbers inside.held) inside.first inside.stride c.in-Some.i 0 c.self.invariant below (omega arith) in
+    (g.S.IndexSet.numbers inside.held) inside.first inside.stride inside.shift c.in-Some.i 0 c.self.invariant below (omega arith) in
     omega (arith, chunk.end)
 
 pub overflow_add-place : goal.overflow_add-place
@@ -19,7 +19,7 @@ overflow_add-place g c =
     let lacked = c.in-Some.ensures.lacked in
     let below = slice_get_within (g.S.IndexSet.numbers inside.held) c.in-Some.i false lacked in
     let chunk = bucket-chunk (region_at inside.region_start inside.region_size) inside.bucket
-    (g.S.IndexSet.numbers inside.held) inside.first inside.stride c.in-Some.i 0 c.self.invariant below (omega arith) in
+    (g.S.IndexSet.numbers inside.held) inside.first inside.stride inside.shift c.in-Some.i 0 c.self.invariant below (omega arith) in
     omega (arith, chunk.end)
 
 pub unwrap-requires : goal.unwrap-requires
@@ -29,5 +29,5 @@ unwrap-requires g c =
     let below = slice_get_within (g.S.IndexSet.numbers inside.held) c.in-Some.i false lacked in
     let short : c.size-3.result ≤ inside.bucket.size = omega arith in
     let chunk = bucket-chunk (region_at inside.region_start inside.region_size) inside.bucket
-    (g.S.IndexSet.numbers inside.held) inside.first inside.stride c.in-Some.i c.size-3.result c.self.invariant below short in
+    (g.S.IndexSet.numbers inside.held) inside.first inside.stride inside.shift c.in-Some.i c.size-3.result c.self.invariant below short in
     some-if c.new.result _ _ c.new.ensures chunk
