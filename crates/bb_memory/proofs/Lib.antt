@@ -2,3 +2,6 @@ mod Cuts
 mod NumberFlags
 mod NumberWords
 mod OneChunks
+mod PoolCalls
+mod Pools
+mod Positions

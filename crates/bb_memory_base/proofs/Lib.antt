@@ -6,7 +6,7 @@ pub mod BumpPositions
 pub mod BumpRuns
 pub mod BumpSteps
 pub mod BumpStretches
-mod Layouts
+pub mod Layouts
 pub mod LeastPlaces
 pub mod LiveLists
 pub mod PoolFlags

@@ -1,5 +1,5 @@
 -- Live lists of chunks in buckets.
-use Rattle.std.proofs.Common.{◌≡◌, ◌≢◌, ℕ, zero, suc, ◌+◌, ◌<◌, ◌≤◌, List, [], ◌∷◌, ◌++◌, length, get_or, refl, ap, ◌∙◌, arith, inl, inr, true, false, Bool}
+use Rattle.std.proofs.Common.{◌≡◌, ◌≢◌, ℕ, zero, suc, ◌+◌, ◌<◌, ◌≤◌, List, [], ◌∷◌, ◌++◌, length, get_or, refl, sym, ap, ◌∙◌, arith, inl, inr, true, false, Bool}
 use Rattle.std.specs.Prelude.{remove, All, AllPairs, ◌==◌, if◌then◌else◌}
 use Rattle.std.specs.List.{AllByRecursion}
 use Rattle.std.proofs.lemmas.Bool.{cases_lt}
@@ -9,6 +9,7 @@ use Rattle.std.proofs.lemmas.List.Elements.{All-push, All-from_recursion, recurs
 use Rattle.std.proofs.lemmas.List.Quantifiers.{all_pairs_push, all_pairs_remove}
 use Rattle.bb_memory_base.specs.Chunk.{Chunk, IsInside, AreApart}
 use Rattle.bb_memory_base.specs.LiveList.{IsSound}
+use Rattle.bb_memory_base.specs.ResizableObject.{PlacesDiffer}
 use Rattle.bb_memory_base.specs.PoolGeometry.{PoolGeometry, bucket_place, IsPoolGeometry}
 use Rattle.bb_memory_base.specs.PoolObject.{IsAt, MayGive, chunk_in}
 use Rattle.bb_memory_base.specs.declared.layout.Layout.{Layout}
@@ -30,7 +31,7 @@ pub record AreInBuckets (geometry : PoolGeometry) (live : List Chunk) : Type 0 w
   pub apart : AllPairs AreApart live
 
 -- a chunk in a bucket is inside the region
-inside_from_bucket : (geometry : PoolGeometry) → IsPoolGeometry geometry → (chunk : Chunk) →
+pub inside_from_bucket : (geometry : PoolGeometry) → IsPoolGeometry geometry → (chunk : Chunk) →
     IsInBucket geometry chunk → IsInside geometry.region chunk
 inside_from_bucket geometry is chunk in_bucket = record {
   above = omega (arith, first_place-above geometry.region geometry.bucket, in_bucket.placed);
@@ -60,6 +61,18 @@ apart_from_buckets geometry one other p q differ shared =
           let after = bucket_place-after geometry q.bucket p.bucket more in
           omega (arith, after, p.placed, q.placed, q.short, wide, shared.1.0, shared.2.1)
     ]
+
+-- chunks in buckets whose places differ are in different buckets
+pub AreInBuckets-from_places : (geometry : PoolGeometry) (live : List Chunk) → All (IsInBucket geometry) live →
+    PlacesDiffer live → AreInBuckets geometry live
+AreInBuckets-from_places geometry live each differ = record {
+  each = each;
+  apart = λ i j d before within.
+      let p = each i d (omega arith) in
+      let q = each j d within in
+      apart_from_buckets geometry (get_or live i d) (get_or live j d) p q
+      (λ same. differ i j d before within (p.placed ∙ ap (bucket_place geometry) same ∙ sym q.placed));
+}
 
 pub AreInBuckets-empty : (geometry : PoolGeometry) → AreInBuckets geometry []
 AreInBuckets-empty geometry = record {

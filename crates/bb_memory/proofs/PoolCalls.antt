@@ -1,0 +1,167 @@
+-- What a pool's requests and releases make of each live list that it stands for.
+use Rattle.std.proofs.Common.{◌≡◌, ◌≢◌, ℕ, suc, ◌+◌, ◌*◌, ◌/◌, ◌%◌, ◌^◌, ◌<◌, ◌≤◌, ◌↔◌, Bool, true, false, List, [], ◌∷◌, ◌++◌, length, Result, Ok, Err, refl, sym, ap, subst, ◌∙◌, arith, Some, inl, inr, div-add-mod', pow_pos, pow_mono, pow-add, pow-suc}
+use Rattle.std.specs.Prelude.{slice_get, slice_set, remove, IsOk, IfOk, OnErr}
+use Rattle.std.specs.Int.{IsPowerOfTwo}
+use Rattle.std.proofs.Math.Nat.{mul_assoc}
+use Rattle.std.proofs.lemmas.Bool.{cases_lt}
+use Rattle.std.proofs.lemmas.Nat.{mod-mul-add}
+use Rattle.bb_memory_base.specs.Region.{IsRegion}
+use Rattle.bb_memory_base.specs.Chunk.{Chunk, IsInside}
+use Rattle.bb_memory_base.specs.PoolGeometry.{PoolGeometry, bucket_place, IsPoolGeometry}
+use Rattle.bb_memory_base.specs.PoolObject.{IsHeld, IsWithin, chunk_in, MayAllocate}
+use Rattle.bb_memory_base.specs.declared.layout.Layout.{Layout}
+use Rattle.bb_memory_base.specs.declared.allocator.AllocationError.{AllocationError}
+use Rattle.bb_memory_base.specs.declared.allocator.AllocationError.TheVariants.{SizeIsZero, SizeTooLarge, AlignmentFailure, OutOfMemory}
+use Rattle.bb_memory_base.proofs.Layouts.{layout-plain}
+use Rattle.bb_memory_base.proofs.PoolGeometries.{bucket_place-aligned}
+use Rattle.bb_memory_base.proofs.SliceGets.{slice_get-set_same}
+use Rattle.bb_memory.specs.NumberSet.{Has, Lacks, IsFull}
+use Rattle.bb_memory.specs.Pool.{Pool, IsPool, StandsFor, HoldsPlace, Takes, Frees, with_flag, fresh_pool}
+use Rattle.bb_memory.proofs.Pools.{IsPool-with_flag, bucket-below, filled-at, held-inside, lacked-free, stands-given, stands-freed}
+
+-- POWERS OF TWO
+
+-- of two powers of two the lower one divides the higher one
+power-divides : (low high : ℕ) → IsPowerOfTwo low → IsPowerOfTwo high → low ≤ high → (k : ℕ) × (high ≡ k * low)
+power-divides low high p q le =
+    elim (cases_lt q.0 p.0) [
+      | inl below ↦ absurd (omega (arith, p.1, q.1, pow_pos q.0, pow-suc 2 q.0, pow_mono {m = suc q.0} {n = p.0} (omega arith)))
+      | inr above ↦
+          let parts : q.0 ≡ (q.0 - p.0) + p.0 = omega arith in
+          (2 ^ (q.0 - p.0), q.1 ∙ ap (λ j. 2 ^ j) parts ∙ pow-add 2 (q.0 - p.0) p.0 ∙ ap (λ m. 2 ^ (q.0 - p.0) * m) (sym p.1))
+    ]
+
+-- a multiple of a number is one of what divides it
+multiple-divides : (n low high k : ℕ) → 0 < low → high ≡ k * low → n % high ≡ 0 → n % low ≡ 0
+multiple-divides n low high k positive divides multiple =
+    let whole : n ≡ n / high * k * low + 0 =
+    omega (arith, div-add-mod' n high, multiple, ap (λ h. n / high * h) divides, mul_assoc (n / high) k low) in
+    ap (λ m. m % low) whole ∙ mod-mul-add (n / high * k) low 0 positive
+
+-- a bucket's place is a multiple of each alignment that isn't greater than the bucket's
+pub bucket_place-multiple : (geometry : PoolGeometry) (i : ℕ) (layout : Layout) →
+    layout.align ≤ geometry.bucket.align → bucket_place geometry i % layout.align ≡ 0
+bucket_place-multiple geometry i layout le =
+    let low = layout-plain layout.size layout.align in
+    let high = layout-plain geometry.bucket.size geometry.bucket.align in
+    let divides = power-divides layout.align geometry.bucket.align (low.0 layout.valid).0 (high.0 geometry.bucket.valid).0 le in
+    multiple-divides (bucket_place geometry i) layout.align geometry.bucket.align divides.0 layout.valid.positive divides.1
+    (bucket_place-aligned geometry i)
+
+-- REQUESTS
+
+pub Takes-answer : (pool : Pool) (layout : Layout) (answer : Result Chunk AllocationError) (new : Pool) → IsPool pool →
+    Takes pool layout answer new → (live : List Chunk) → StandsFor pool live → MayAllocate pool.geometry live layout answer
+Takes-answer pool layout (Ok chunk) new is (i, within, lacks, given, after) live stands = (
+  i,
+  record { within = within; bucket = bucket-below pool is i false lacks; free = lacked-free pool live is stands i lacks },
+  given,
+)
+Takes-answer pool layout (Err SizeTooLarge) new is takes live stands = takes.0
+Takes-answer pool layout (Err AlignmentFailure) new is takes live stands = (takes.0, takes.1)
+Takes-answer pool layout (Err OutOfMemory) new is (within, full, after) live stands =
+    (within, λ i below. stands.held i (full i (omega (arith, is.flags))))
+Takes-answer pool layout (Err SizeIsZero) new is takes live stands = absurd takes
+
+pub Takes-appended : (pool : Pool) (layout : Layout) (answer : Result Chunk AllocationError) (new : Pool) → IsPool pool →
+    Takes pool layout answer new →
+    IfOk answer (λ chunk. (live : List Chunk) → StandsFor pool live → StandsFor new (live ++ chunk ∷ []))
+Takes-appended pool layout (Ok chunk) new is (i, within, lacks, given, after) = λ live stands.
+    subst (λ (p : Pool). StandsFor p (live ++ chunk ∷ [])) (sym after)
+    (subst (λ (c : Chunk). StandsFor (with_flag pool i true) (live ++ c ∷ [])) (sym given)
+    (stands-given pool live layout i is stands within lacks))
+Takes-appended pool layout (Err error) new is takes = tt
+
+pub Takes-inside : (pool : Pool) (layout : Layout) (answer : Result Chunk AllocationError) (new : Pool) → IsPool pool →
+    Takes pool layout answer new → IfOk answer (IsInside pool.geometry.region)
+Takes-inside pool layout (Ok chunk) new is (i, within, lacks, given, after) =
+    let after : Pool = with_flag pool i true in
+    let here : Has after.held i = slice_get-set_same pool.held i true false lacks in
+    subst (IsInside pool.geometry.region) (sym given)
+    (held-inside after (IsPool-with_flag pool is i true) (chunk_in pool.geometry i layout) (i, here, refl) within.size)
+Takes-inside pool layout (Err error) new is takes = tt
+
+pub Takes-aligned : (pool : Pool) (layout : Layout) (answer : Result Chunk AllocationError) (new : Pool) →
+    Takes pool layout answer new → IfOk answer (λ chunk. chunk.place % layout.align ≡ 0)
+Takes-aligned pool layout (Ok chunk) new (i, within, lacks, given, after) =
+    ap (λ (c : Chunk). c.place % layout.align) given ∙ bucket_place-multiple pool.geometry i layout within.align
+Takes-aligned pool layout (Err error) new takes = tt
+
+pub Takes-bucket_aligned : (pool : Pool) (layout : Layout) (answer : Result Chunk AllocationError) (new : Pool) →
+    Takes pool layout answer new → IfOk answer (λ chunk. chunk.place % pool.geometry.bucket.align ≡ 0)
+Takes-bucket_aligned pool layout (Ok chunk) new (i, within, lacks, given, after) =
+    ap (λ (c : Chunk). c.place % pool.geometry.bucket.align) given ∙ bucket_place-aligned pool.geometry i
+Takes-bucket_aligned pool layout (Err error) new takes = tt
+
+pub Takes-long_enough : (pool : Pool) (layout : Layout) (answer : Result Chunk AllocationError) (new : Pool) →
+    Takes pool layout answer new → IfOk answer (λ chunk. layout.size ≤ chunk.len)
+Takes-long_enough pool layout (Ok chunk) new (i, within, lacks, given, after) =
+    omega (arith, ap (λ (c : Chunk). c.len) given)
+Takes-long_enough pool layout (Err error) new takes = tt
+
+-- there is a chunk exactly where the layout isn't too much for a bucket and some bucket isn't held
+pub Takes-accepted : (pool : Pool) (layout : Layout) (answer : Result Chunk AllocationError) (new : Pool) → IsPool pool →
+    Takes pool layout answer new →
+    IsOk answer ↔ (IsWithin pool.geometry.bucket layout × ((i : ℕ) × Lacks pool.held i))
+Takes-accepted pool layout (Ok chunk) new is (i, within, lacks, given, after) = (λ ok. (within, (i, lacks)), λ may. refl)
+Takes-accepted pool layout (Err SizeTooLarge) new is takes =
+    (λ ok. absurd (cc), λ may. absurd (let small = may.0.size in omega (arith, takes.0)))
+Takes-accepted pool layout (Err AlignmentFailure) new is takes =
+    (λ ok. absurd (cc), λ may. absurd (let small = may.0.align in omega (arith, takes.1)))
+Takes-accepted pool layout (Err OutOfMemory) new is (within, full, after) = (
+  λ ok. absurd (cc),
+  λ may. absurd (
+    let held = full may.1.0 (omega (arith, is.flags, bucket-below pool is may.1.0 false may.1.1)) in
+    let e : Some true ≡ Some false = sym held ∙ may.1.1 in
+    cc
+  ),
+)
+Takes-accepted pool layout (Err SizeIsZero) new is takes = absurd takes
+
+-- a refusal leaves all
+pub Takes-kept : (pool : Pool) (layout : Layout) (answer : Result Chunk AllocationError) (new : Pool) →
+    Takes pool layout answer new → OnErr answer (new ≡ pool)
+Takes-kept pool layout (Ok chunk) new takes = tt
+Takes-kept pool layout (Err SizeTooLarge) new takes = takes.1
+Takes-kept pool layout (Err AlignmentFailure) new takes = takes.2
+Takes-kept pool layout (Err OutOfMemory) new takes = takes.2
+Takes-kept pool layout (Err SizeIsZero) new takes = absurd takes
+
+-- where the buckets are doesn't change
+pub Takes-geometry : (pool : Pool) (layout : Layout) (answer : Result Chunk AllocationError) (new : Pool) →
+    Takes pool layout answer new → new.geometry ≡ pool.geometry
+Takes-geometry pool layout (Ok chunk) new (i, within, lacks, given, after) = ap (λ (p : Pool). p.geometry) after
+Takes-geometry pool layout (Err SizeTooLarge) new takes = ap (λ (p : Pool). p.geometry) takes.1
+Takes-geometry pool layout (Err AlignmentFailure) new takes = ap (λ (p : Pool). p.geometry) takes.2
+Takes-geometry pool layout (Err OutOfMemory) new takes = ap (λ (p : Pool). p.geometry) takes.2
+Takes-geometry pool layout (Err SizeIsZero) new takes = absurd takes
+
+-- what is left is a pool
+pub Takes-pool : (pool : Pool) (layout : Layout) (answer : Result Chunk AllocationError) (new : Pool) → IsPool pool →
+    Takes pool layout answer new → IsPool new
+Takes-pool pool layout (Ok chunk) new is (i, within, lacks, given, after) =
+    subst IsPool (sym after) (IsPool-with_flag pool is i true)
+Takes-pool pool layout (Err SizeTooLarge) new is takes = subst IsPool (sym takes.1) is
+Takes-pool pool layout (Err AlignmentFailure) new is takes = subst IsPool (sym takes.2) is
+Takes-pool pool layout (Err OutOfMemory) new is takes = subst IsPool (sym takes.2) is
+Takes-pool pool layout (Err SizeIsZero) new is takes = absurd takes
+
+-- RELEASES
+
+pub Frees-released : (pool : Pool) (place : ℕ) (new : Pool) → IsPool pool → Frees pool place new →
+    (live : List Chunk) (position : ℕ) (chunk : Chunk) → StandsFor pool live → slice_get live position ≡ Some chunk →
+    chunk.place ≡ place → StandsFor new (remove live position)
+Frees-released pool place new is frees live position chunk stands at there =
+    let fills = filled-at pool live stands position chunk at in
+    let after = frees fills.0 fills.1.held (sym there ∙ fills.1.placed) in
+    subst (λ (p : Pool). StandsFor p (remove live position)) (sym after)
+    (stands-freed pool live position fills.0 chunk is stands at fills.1)
+
+pub Frees-geometry : (pool : Pool) (place : ℕ) (new : Pool) → HoldsPlace pool place → Frees pool place new →
+    new.geometry ≡ pool.geometry
+Frees-geometry pool place new (i, held, placed) frees = ap (λ (p : Pool). p.geometry) (frees i held placed)
+
+pub Frees-pool : (pool : Pool) (place : ℕ) (new : Pool) → IsPool pool → HoldsPlace pool place → Frees pool place new →
+    IsPool new
+Frees-pool pool place new is (i, held, placed) frees =
+    subst IsPool (sym (frees i held placed)) (IsPool-with_flag pool is i false)
