@@ -1,5 +1,5 @@
 -- What a pool's requests and releases make of each live list that it stands for.
-use Rattle.std.proofs.Common.{◌≡◌, ◌≢◌, ℕ, suc, ◌+◌, ◌*◌, ◌/◌, ◌%◌, ◌^◌, ◌<◌, ◌≤◌, ◌↔◌, Bool, true, false, List, [], ◌∷◌, ◌++◌, length, Result, Ok, Err, refl, sym, ap, subst, ◌∙◌, arith, Some, inl, inr, div-add-mod', pow_pos, pow_mono, pow-add, pow-suc}
+use Rattle.std.proofs.Common.{◌≡◌, ◌≢◌, ℕ, suc, ◌+◌, ◌-◌, ◌*◌, ◌/◌, ◌%◌, ◌^◌, ◌<◌, ◌≤◌, ◌↔◌, Bool, true, false, List, [], ◌∷◌, ◌++◌, length, Result, Ok, Err, refl, sym, ap, subst, ◌∙◌, arith, Some, inl, inr, div-add-mod', pow_pos, pow_mono, pow-add, pow-suc}
 use Rattle.std.specs.Prelude.{slice_get, slice_set, remove, IsOk, IfOk, OnErr}
 use Rattle.std.specs.Int.{IsPowerOfTwo}
 use Rattle.std.proofs.Math.Nat.{mul_assoc}
@@ -8,16 +8,18 @@ use Rattle.std.proofs.lemmas.Nat.{mod-mul-add}
 use Rattle.bb_memory_base.specs.Region.{IsRegion}
 use Rattle.bb_memory_base.specs.Chunk.{Chunk, IsInside}
 use Rattle.bb_memory_base.specs.PoolGeometry.{PoolGeometry, bucket_place, IsPoolGeometry}
-use Rattle.bb_memory_base.specs.PoolObject.{IsHeld, IsWithin, chunk_in, MayAllocate}
+use Rattle.bb_memory_base.specs.PoolObject.{IsHeld, IsWithin, chunk_in, MayAllocate, MayGrow, MayShrink}
 use Rattle.bb_memory_base.specs.declared.layout.Layout.{Layout}
 use Rattle.bb_memory_base.specs.declared.allocator.AllocationError.{AllocationError}
 use Rattle.bb_memory_base.specs.declared.allocator.AllocationError.TheVariants.{SizeIsZero, SizeTooLarge, AlignmentFailure, OutOfMemory}
+use Rattle.bb_memory_base.specs.declared.allocator.AllocationGrowError.{AllocationGrowError}
+use Rattle.bb_memory_base.specs.declared.allocator.AllocationShrinkError.{AllocationShrinkError}
 use Rattle.bb_memory_base.proofs.Layouts.{layout-plain}
 use Rattle.bb_memory_base.proofs.PoolGeometries.{bucket_place-aligned}
 use Rattle.bb_memory_base.proofs.SliceGets.{slice_get-set_same}
 use Rattle.bb_memory.specs.NumberSet.{Has, Lacks, IsFull}
 use Rattle.bb_memory.specs.Pool.{Pool, IsPool, StandsFor, HoldsPlace, Takes, Frees, with_flag, fresh_pool}
-use Rattle.bb_memory.proofs.Pools.{IsPool-with_flag, bucket-below, filled-at, held-inside, lacked-free, stands-given, stands-freed}
+use Rattle.bb_memory.proofs.Pools.{IsPool-with_flag, bucket-below, filled-at, held-inside, lacked-free, stands-given, stands-freed, stands-resized}
 
 -- POWERS OF TWO
 
@@ -25,7 +27,7 @@ use Rattle.bb_memory.proofs.Pools.{IsPool-with_flag, bucket-below, filled-at, he
 power-divides : (low high : ℕ) → IsPowerOfTwo low → IsPowerOfTwo high → low ≤ high → (k : ℕ) × (high ≡ k * low)
 power-divides low high p q le =
     elim (cases_lt q.0 p.0) [
-      | inl below ↦ absurd (omega (arith, p.1, q.1, pow_pos q.0, pow-suc 2 q.0, pow_mono {m = suc q.0} {n = p.0} (omega arith)))
+      | inl below ↦ absurd (omega (arith, p.1, q.1, pow_pos q.0, pow-suc 2 q.0, pow_mono {i = suc q.0} {j = p.0} (omega arith)))
       | inr above ↦
           let parts : q.0 ≡ (q.0 - p.0) + p.0 = omega arith in
           (2 ^ (q.0 - p.0), q.1 ∙ ap (λ j. 2 ^ j) parts ∙ pow-add 2 (q.0 - p.0) p.0 ∙ ap (λ m. 2 ^ (q.0 - p.0) * m) (sym p.1))
@@ -165,3 +167,45 @@ pub Frees-pool : (pool : Pool) (place : ℕ) (new : Pool) → IsPool pool → Ho
     IsPool new
 Frees-pool pool place new is (i, held, placed) frees =
     subst IsPool (sym (frees i held placed)) (IsPool-with_flag pool is i false)
+
+-- RESIZES
+
+-- a resized chunk that keeps its place, and isn't longer than a bucket, is inside
+resized-inside : (pool : Pool) (place : ℕ) (resized : Chunk) → IsPool pool → HoldsPlace pool place → resized.place ≡ place →
+    resized.len ≤ pool.geometry.bucket.size → IsInside pool.geometry.region resized
+resized-inside pool place resized is holds same short =
+    held-inside pool is resized (subst (HoldsPlace pool) (sym same) holds) short
+
+pub MayGrow-inside : (pool : Pool) (place : ℕ) (old new : Layout) (answer : Result Chunk AllocationGrowError) → IsPool pool →
+    HoldsPlace pool place → MayGrow pool.geometry.bucket place old new answer →
+    IfOk answer (IsInside pool.geometry.region)
+MayGrow-inside pool place old new (Ok grown) is holds (longer, within, given) =
+    resized-inside pool place grown is holds (ap (λ (c : Chunk). c.place) given)
+    (let small = within.size in omega (arith, ap (λ (c : Chunk). c.len) given))
+MayGrow-inside pool place old new (Err error) is holds may = tt
+
+pub MayGrow-resized : (pool : Pool) (place : ℕ) (old new : Layout) (answer : Result Chunk AllocationGrowError) → IsPool pool →
+    MayGrow pool.geometry.bucket place old new answer →
+    IfOk answer (λ grown. (live : List Chunk) (position : ℕ) (chunk : Chunk) → StandsFor pool live →
+        slice_get live position ≡ Some chunk → chunk.place ≡ place → StandsFor pool (slice_set live position grown))
+MayGrow-resized pool place old new (Ok grown) is (longer, within, given) = λ live position chunk stands at there.
+    stands-resized pool live position chunk grown is stands at (ap (λ (c : Chunk). c.place) given ∙ sym there)
+    (let small = within.size in omega (arith, ap (λ (c : Chunk). c.len) given))
+MayGrow-resized pool place old new (Err error) is may = tt
+
+pub MayShrink-inside : (pool : Pool) (place : ℕ) (old new : Layout) (answer : Result Chunk AllocationShrinkError) →
+    IsPool pool → HoldsPlace pool place → old.size ≤ pool.geometry.bucket.size →
+    MayShrink pool.geometry.bucket place old new answer → IfOk answer (IsInside pool.geometry.region)
+MayShrink-inside pool place old new (Ok shrunk) is holds within (shorter, aligned, given) =
+    resized-inside pool place shrunk is holds (ap (λ (c : Chunk). c.place) given)
+    (omega (arith, ap (λ (c : Chunk). c.len) given))
+MayShrink-inside pool place old new (Err error) is holds within may = tt
+
+pub MayShrink-resized : (pool : Pool) (place : ℕ) (old new : Layout) (answer : Result Chunk AllocationShrinkError) →
+    IsPool pool → old.size ≤ pool.geometry.bucket.size → MayShrink pool.geometry.bucket place old new answer →
+    IfOk answer (λ shrunk. (live : List Chunk) (position : ℕ) (chunk : Chunk) → StandsFor pool live →
+        slice_get live position ≡ Some chunk → chunk.place ≡ place → StandsFor pool (slice_set live position shrunk))
+MayShrink-resized pool place old new (Ok shrunk) is within (shorter, aligned, given) = λ live position chunk stands at there.
+    stands-resized pool live position chunk shrunk is stands at (ap (λ (c : Chunk). c.place) given ∙ sym there)
+    (omega (arith, ap (λ (c : Chunk). c.len) given))
+MayShrink-resized pool place old new (Err error) is within may = tt

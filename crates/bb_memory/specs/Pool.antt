@@ -10,6 +10,7 @@ use Rattle.bb_memory_base.specs.PoolObject.{IsHeld, IsWithin, chunk_in}
 use Rattle.bb_memory_base.specs.declared.layout.Layout.{Layout}
 use Rattle.bb_memory_base.specs.declared.allocator.AllocationError.{AllocationError}
 use Rattle.bb_memory_base.specs.declared.allocator.AllocationError.TheVariants.{SizeIsZero, SizeTooLarge, AlignmentFailure, OutOfMemory}
+use Rattle.bb_memory.specs.IndexWords.{index_words}
 use Rattle.bb_memory.specs.NumberSet.{Has, Lacks, IsFull}
 
 -- where its buckets are, and the set of those that are held
@@ -96,6 +97,11 @@ pub record CountedPool : Type 0 where
 
 abbrev pub counted : Pool → ℕ → CountedPool
 counted pool reads = record { pool = pool; reads = reads }
+
+-- the pool is one, and its last request read each of its index words at most once
+pub record IsCountedPool (counted : CountedPool) : Type 0 where
+  pub is_pool : IsPool counted.pool
+  pub most : counted.reads ≤ index_words counted.pool.geometry.buckets
 
 -- what a request for the layout may have read of that many words: at most each once, at least one if there is one, and none
 -- where its size or its alignment is refused

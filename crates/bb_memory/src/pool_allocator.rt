@@ -95,15 +95,13 @@ pub struct PoolAllocator<A: LanguageAllocator> {
 }
 
 impl<A: LanguageAllocator> Model for PoolAllocator<A> {
-    ghost use Rattle.std.specs.Prelude.{◌≤◌};
-    ghost use Rattle.bb_memory.specs.IndexWords.{index_words};
-    ghost use Rattle.bb_memory.specs.Pool.{CountedPool, counted};
+    ghost use Rattle.bb_memory.specs.Pool.{CountedPool, IsCountedPool, counted};
 
     ghost Value = { CountedPool };
 
     ghost view = { λ a. counted a.buckets a.last_reads };
 
-    ghost invariant = { λ a. a.last_reads ≤ index_words a.buckets.geometry.buckets };
+    ghost invariant = { λ a. IsCountedPool (counted a.buckets a.last_reads) };
 }
 
 // What no index words have a part in is called by the bare name of the type.

@@ -39,11 +39,13 @@ pub struct FixedSizePoolAllocator<const MAX_NUMBER_OF_BUCKETS: usize> {
 }
 
 impl<const MAX_NUMBER_OF_BUCKETS: usize> Model for FixedSizePoolAllocator<MAX_NUMBER_OF_BUCKETS> {
-    ghost use Rattle.bb_memory.specs.Pool.{Pool};
+    ghost use Rattle.bb_memory.specs.Pool.{Pool, IsPool};
 
     ghost Value = { Pool };
 
     ghost view = { λ a. a.buckets };
+
+    ghost invariant = { λ a. IsPool a.buckets };
 }
 
 impl<const MAX_NUMBER_OF_BUCKETS: usize> FixedSizePoolAllocator<MAX_NUMBER_OF_BUCKETS> {
