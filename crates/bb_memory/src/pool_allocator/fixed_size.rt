@@ -135,6 +135,8 @@ impl<const MAX_NUMBER_OF_BUCKETS: usize> BaseAllocator
             → MayAllocate self.old.geometry live layout result }
         ensures appended { IfOk result (λ chunk. (live : List Chunk) → StandsFor self.old live
             → StandsFor self.new (live ++ chunk ∷ [])) }
+        ensures kept { OnErr result ((live : List Chunk) → StandsFor self.old live
+            → StandsFor self.new live) }
         ensures inside { IfOk result (IsInside self.old.geometry.region) }
         ensures aligned { IfOk result (λ chunk. chunk.place % layout.align ≡ 0) }
         ensures long_enough { IfOk result (λ chunk. layout.size ≤ chunk.len) }
@@ -144,7 +146,7 @@ impl<const MAX_NUMBER_OF_BUCKETS: usize> BaseAllocator
         ensures taken { Takes self.old layout result self.new }
         ensures accepted { IsOk result ↔ (IsWithin self.old.geometry.bucket layout
             × ((i : ℕ) × Lacks self.old.held i)) }
-        ensures kept { OnErr result (self.new ≡ self.old) }
+        ensures unchanged { OnErr result (self.new ≡ self.old) }
         ensures given { IfOk result (λ chunk. HoldsPlace self.new chunk.place) }
         ensures still_held { (place : ℕ) → HoldsPlace self.old place → HoldsPlace self.new place }
         ensures bucket_aligned { IfOk result
