@@ -19,7 +19,7 @@ use Rattle.bb_memory_base.proofs.PoolGeometries.{bucket_place-aligned}
 use Rattle.bb_memory_base.proofs.SliceGets.{slice_get-set_same}
 use Rattle.bb_memory.specs.NumberSet.{Has, Lacks, IsFull}
 use Rattle.bb_memory.specs.Pool.{Pool, IsPool, StandsFor, HoldsPlace, Takes, Frees, with_flag, fresh_pool}
-use Rattle.bb_memory.proofs.Pools.{IsPool-with_flag, bucket-below, filled-at, held-inside, lacked-free, stands-given, stands-freed, stands-resized}
+use Rattle.bb_memory.proofs.Pools.{Has-set_true, IsPool-with_flag, bucket-below, filled-at, held-inside, lacked-free, stands-given, stands-freed, stands-resized}
 
 -- POWERS OF TWO
 
@@ -119,6 +119,24 @@ Takes-accepted pool layout (Err OutOfMemory) new is (within, full, after) = (
   ),
 )
 Takes-accepted pool layout (Err SizeIsZero) new is takes = absurd takes
+
+-- the bucket that is given is held then
+pub Takes-given : (pool : Pool) (layout : Layout) (answer : Result Chunk AllocationError) (new : Pool) →
+    Takes pool layout answer new → IfOk answer (λ chunk. HoldsPlace new chunk.place)
+Takes-given pool layout (Ok chunk) new (i, within, lacks, given, after) =
+    subst (λ (p : Pool). HoldsPlace p chunk.place) (sym after)
+    (i, slice_get-set_same pool.held i true false lacks, ap (λ (c : Chunk). c.place) given)
+Takes-given pool layout (Err error) new takes = tt
+
+-- and each that was held still is
+pub Takes-still_held : (pool : Pool) (layout : Layout) (answer : Result Chunk AllocationError) (new : Pool) →
+    Takes pool layout answer new → (place : ℕ) → HoldsPlace pool place → HoldsPlace new place
+Takes-still_held pool layout (Ok chunk) new (i, within, lacks, given, after) place (j, has, placed) =
+    subst (λ (p : Pool). HoldsPlace p place) (sym after) (j, Has-set_true pool.held i j lacks has, placed)
+Takes-still_held pool layout (Err SizeTooLarge) new takes place holds = subst (λ (p : Pool). HoldsPlace p place) (sym takes.1) holds
+Takes-still_held pool layout (Err AlignmentFailure) new takes place holds = subst (λ (p : Pool). HoldsPlace p place) (sym takes.2) holds
+Takes-still_held pool layout (Err OutOfMemory) new takes place holds = subst (λ (p : Pool). HoldsPlace p place) (sym takes.2) holds
+Takes-still_held pool layout (Err SizeIsZero) new takes place holds = absurd takes
 
 -- a refusal leaves all
 pub Takes-kept : (pool : Pool) (layout : Layout) (answer : Result Chunk AllocationError) (new : Pool) →

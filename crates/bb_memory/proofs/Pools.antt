@@ -112,7 +112,8 @@ fresh-stands geometry = record {
 
 -- ONE MORE
 
-Has-set_true : (held : List Bool) (i j : ℕ) → Lacks held i → Has held j → Has (slice_set held i true) j
+-- a number that was in the set stays in it where another is put in
+pub Has-set_true : (held : List Bool) (i j : ℕ) → Lacks held i → Has held j → Has (slice_set held i true) j
 Has-set_true held i j lacks has = elim (same_or_not j i) [
   | inl same ↦ absurd (let e : Some true ≡ Some false = sym has ∙ (ap (slice_get held) same ∙ lacks) in cc)
   | inr apart ↦ slice_get-set_other held i j true apart ∙ has

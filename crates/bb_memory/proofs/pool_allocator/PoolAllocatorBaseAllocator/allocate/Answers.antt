@@ -1,6 +1,6 @@
 use Rattle.std.proofs.Common.{subst, ap}
 use Rattle.bb_memory.specs.Pool.{Pool, CountedPool, IsPool, Takes}
-use Rattle.bb_memory.proofs.PoolCalls.{Takes-answer, Takes-appended, Takes-inside, Takes-aligned, Takes-accepted, Takes-bucket_aligned, Takes-pool}
+use Rattle.bb_memory.proofs.PoolCalls.{Takes-answer, Takes-appended, Takes-inside, Takes-aligned, Takes-accepted, Takes-bucket_aligned, Takes-given, Takes-still_held}
 use Rattle.bb_memory.proofs.pool_allocator.PoolAllocatorBaseAllocator.allocate.Goals as goal
 
 pub returns-clause-answer : goal.returns-clause-answer
@@ -35,3 +35,13 @@ pub returns-clause-bucket_aligned : goal.returns-clause-bucket_aligned
 returns-clause-bucket_aligned g c =
     let takes = subst (λ (p : Pool). Takes p c.args.layout c.take-answer.result c.take-answer.new.self) (ap (λ (k : CountedPool). k.pool) c.self.view_is) c.take-answer.ensures.taken in
     Takes-bucket_aligned c.args.self.now.pool c.args.layout c.take-answer.result c.take-answer.new.self takes
+
+pub returns-clause-given : goal.returns-clause-given
+returns-clause-given g c =
+    let takes = subst (λ (p : Pool). Takes p c.args.layout c.take-answer.result c.take-answer.new.self) (ap (λ (k : CountedPool). k.pool) c.self.view_is) c.take-answer.ensures.taken in
+    Takes-given c.args.self.now.pool c.args.layout c.take-answer.result c.take-answer.new.self takes
+
+pub returns-clause-still_held : goal.returns-clause-still_held
+returns-clause-still_held g c =
+    let takes = subst (λ (p : Pool). Takes p c.args.layout c.take-answer.result c.take-answer.new.self) (ap (λ (k : CountedPool). k.pool) c.self.view_is) c.take-answer.ensures.taken in
+    Takes-still_held c.args.self.now.pool c.args.layout c.take-answer.result c.take-answer.new.self takes

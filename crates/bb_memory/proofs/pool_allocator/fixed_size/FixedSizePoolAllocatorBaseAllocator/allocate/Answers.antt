@@ -1,6 +1,6 @@
 use Rattle.std.proofs.Common.{subst}
 use Rattle.bb_memory.specs.Pool.{Pool, IsPool, Takes}
-use Rattle.bb_memory.proofs.PoolCalls.{Takes-answer, Takes-appended, Takes-inside, Takes-aligned, Takes-accepted, Takes-bucket_aligned, Takes-pool}
+use Rattle.bb_memory.proofs.PoolCalls.{Takes-answer, Takes-appended, Takes-inside, Takes-aligned, Takes-accepted, Takes-bucket_aligned, Takes-given, Takes-still_held}
 use Rattle.bb_memory.proofs.pool_allocator.fixed_size.FixedSizePoolAllocatorBaseAllocator.allocate.Goals as goal
 
 pub returns-clause-answer : goal.returns-clause-answer
@@ -35,3 +35,13 @@ pub returns-clause-bucket_aligned : goal.returns-clause-bucket_aligned
 returns-clause-bucket_aligned g c =
     let takes = subst (λ (p : Pool). Takes p c.args.layout c.take.result c.take.new.self) c.self.view_is c.take.ensures.taken in
     Takes-bucket_aligned c.args.self.now c.args.layout c.take.result c.take.new.self takes
+
+pub returns-clause-given : goal.returns-clause-given
+returns-clause-given g c =
+    let takes = subst (λ (p : Pool). Takes p c.args.layout c.take.result c.take.new.self) c.self.view_is c.take.ensures.taken in
+    Takes-given c.args.self.now c.args.layout c.take.result c.take.new.self takes
+
+pub returns-clause-still_held : goal.returns-clause-still_held
+returns-clause-still_held g c =
+    let takes = subst (λ (p : Pool). Takes p c.args.layout c.take.result c.take.new.self) c.self.view_is c.take.ensures.taken in
+    Takes-still_held c.args.self.now c.args.layout c.take.result c.take.new.self takes
