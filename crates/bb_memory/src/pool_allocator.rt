@@ -1,5 +1,5 @@
 //! Allocators that cut a region into buckets of one layout, and give a bucket for each request.
-ghost use Rattle.std.specs.Prelude.{◌≡◌, ◌∷◌, ◌++◌, [], List, ℕ, ◌*◌, ◌/◌, ◌<◌, ◌≤◌, ◌%◌, ◌^◌, ◌↔◌, IsOk, IfOk, IfErr, OnOk, OnErr, IsTrue, Some, slice_get, slice_set, remove};
+ghost use Rattle.std.specs.Prelude.{◌≡◌, ◌∷◌, ◌++◌, [], List, ℕ, ◌*◌, ◌/◌, ◌<◌, ◌≤◌, ◌%◌, ◌^◌, ◌↔◌, IsOk, IfOk, IfErr, OnOk, OnErr, IsTrue, Some, false, replicate, slice_get, slice_set, remove};
 ghost use Rattle.bb_memory_base.specs.Region.{region_at};
 ghost use Rattle.bb_memory_base.specs.Chunk.{Chunk, IsInside};
 ghost use Rattle.bb_memory_base.specs.LiveList.{IsSound};
@@ -22,7 +22,7 @@ pub use crate::allocator::{
     AllocationError, AllocationGrowError, AllocationShrinkError, Allocator, BaseAllocator,
 };
 use crate::allocator::{Command, Reply, run_base, run_full};
-use crate::index_set::Counter;
+use crate::index_set::{Counter, IndexSet};
 use crate::index_set::words::Words;
 use crate::layout::Chunk;
 pub use crate::layout::Layout;
@@ -55,6 +55,15 @@ impl Model for UninitPoolAllocator {
 }
 
 impl UninitPoolAllocator {
+    /// The buckets, over the empty set of their numbers.
+    fn with_none_held<S: IndexSet>(&self, held: S) -> Buckets<S>
+        requires { S.numbers held ≡ replicate self.now.buckets false }
+        ensures value { result ≡ fresh_pool self.now }
+        ensures empty { StandsFor result [] }
+    {
+        Buckets::new(self.bucket, self.start, self.size, held)
+    }
+
     /// Takes memory for the index words, and makes a pool with no bucket held. Its only refusal is `OutOfMemory`, where a
     /// request for memory was refused, and it hands the uninitialised pool back unchanged.
     pub fn init<A: LanguageAllocator>(
@@ -67,7 +76,7 @@ impl UninitPoolAllocator {
     {
         match Words::new(alloc, self.buckets) {
             Ok(held) => Ok(PoolAllocator {
-                buckets: Buckets::new(self.bucket, self.start, self.size, held),
+                buckets: self.with_none_held(held),
                 last_reads: 0,
             }),
             Err(_) => Err((self, AllocationError::OutOfMemory)),
