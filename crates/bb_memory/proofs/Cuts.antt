@@ -17,7 +17,7 @@ use Rattle.bb_memory_base.proofs.PowersOfTwo.{power_of_two-from_test}
 use Rattle.bb_memory_base.proofs.PoolGeometries.{stride-above, first_place-above, room-quotient}
 use Rattle.bb_memory_base.proofs.SliceGets.{length-set_at}
 use Rattle.bb_memory.specs.IndexWords.{index_words}
-use Rattle.bb_memory.specs.NumberSet.{Has}
+use Rattle.bb_memory.specs.NumberSet.{Has, Lacks}
 use Rattle.bb_memory.specs.Pool.{MayBeCut, pool_of, with_flag}
 use Rattle.bb_memory.specs.Buckets.{Shifts, IsLaidOut}
 
@@ -135,6 +135,13 @@ bucket-chunk region bucket held first distance shift i len laid below short =
       place = omega (arith, place, first_place-above region bucket, laid.is_region.start);
       end = omega (arith, place, room, stride-above bucket, laid.is_region.end);
     }
+
+-- the same of a bucket that isn't held
+pub lacked-chunk : (region : Region) (bucket : Layout) (held : List Bool) (first distance : ℕ) (shift : Option ℕ) (i len : ℕ) →
+    IsLaidOut region bucket held first distance shift → Lacks held i → len ≤ bucket.size →
+    IsChunk (record { place = first + i * distance; len = len })
+lacked-chunk region bucket held first distance shift i len laid lacks short =
+    bucket-chunk region bucket held first distance shift i len laid (slice_get_within held i false lacks) short
 
 -- the same at the place of a held bucket
 pub held-chunk : (region : Region) (bucket : Layout) (held : List Bool) (first distance : ℕ) (shift : Option ℕ) (i place len : ℕ) →

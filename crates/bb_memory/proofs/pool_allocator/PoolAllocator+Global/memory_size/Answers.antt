@@ -1,4 +1,4 @@
-use Rattle.std.proofs.Common.{◌≡◌, ◌/◌, ◌≤◌, arith, ap}
+use Rattle.std.proofs.Common.{◌≡◌, ◌/◌, arith, ap}
 use Rattle.bb_memory_base.specs.Region.{region_at}
 use Rattle.bb_memory.proofs.Cuts.{cut-most, index_words-most}
 use Rattle.bb_memory.proofs.pool_allocator.PoolAllocator+Global.memory_size.Goals as goal
