@@ -124,7 +124,7 @@ shifts-zeros n test small =
 
 -- WHERE A BUCKET IS
 
--- bucket i has a byte and ends within the numbers of a machine
+-- a chunk at the place of bucket i, and no longer than a bucket, is within the numbers of the machine
 pub bucket-chunk : (region : Region) (bucket : Layout) (held : List Bool) (first distance : ℕ) (shift : Option ℕ) (i len : ℕ) →
     IsLaidOut region bucket held first distance shift → i < length held → len ≤ bucket.size →
     IsChunk (record { place = first + i * distance; len = len })
@@ -144,7 +144,8 @@ lacked-chunk region bucket held first distance shift i len laid lacks short =
     bucket-chunk region bucket held first distance shift i len laid (slice_get_within held i false lacks) short
 
 -- the same at the place of a held bucket
-pub held-chunk : (region : Region) (bucket : Layout) (held : List Bool) (first distance : ℕ) (shift : Option ℕ) (i place len : ℕ) →
+pub held-chunk : (region : Region) (bucket : Layout) (held : List Bool) (first distance : ℕ) (shift : Option ℕ)
+    (i place len : ℕ) →
     IsLaidOut region bucket held first distance shift → Has held i →
     place ≡ bucket_place (pool_geometry region bucket (length held)) i → len ≤ bucket.size →
     IsChunk (record { place = place; len = len })

@@ -46,7 +46,7 @@ fn stride(bucket_layout: Layout) -> usize
     round_up(bucket_layout.size(), bucket_layout.align()).unwrap()
 }
 
-/// What a shift to the right has to be by to divide by this number, where the number is a power of two.
+/// By how many bits to shift to the right to divide by this number, where it is a power of two.
 fn shift_of(divisor: usize) -> Option<u32>
     ensures { Shifts divisor result }
 {

@@ -8,6 +8,6 @@ unwrap-requires g c =
     let inside = c.self.inside in
     let live = rw (← c.self.view_is) at c.requires in
     let short : c.size-5.result ≤ inside.bucket.size = omega arith in
-    let chunk = held-chunk (region_at inside.region_start inside.region_size) inside.bucket
-    (g.S.IndexSet.numbers inside.held) inside.first inside.stride inside.shift live.0 c.args.place c.size-5.result c.self.invariant live.1 live.2 short in
+    let chunk = held-chunk (region_at inside.region_start inside.region_size) inside.bucket (g.S.IndexSet.numbers inside.held)
+    inside.first inside.stride inside.shift live.0 c.args.place c.size-5.result c.self.invariant live.1 live.2 short in
     some-if c.new.result _ _ c.new.ensures chunk

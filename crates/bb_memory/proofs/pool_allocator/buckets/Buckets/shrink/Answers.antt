@@ -9,6 +9,6 @@ unwrap-requires g c =
     let live = rw (← c.self.view_is) at c.requires.live in
     let reserved = rw (← c.self.view_is) at c.requires.reserved in
     let short : c.size-3.result ≤ inside.bucket.size = omega arith in
-    let chunk = held-chunk (region_at inside.region_start inside.region_size) inside.bucket
-    (g.S.IndexSet.numbers inside.held) inside.first inside.stride inside.shift live.0 c.args.place c.size-3.result c.self.invariant live.1 live.2 short in
+    let chunk = held-chunk (region_at inside.region_start inside.region_size) inside.bucket (g.S.IndexSet.numbers inside.held)
+    inside.first inside.stride inside.shift live.0 c.args.place c.size-3.result c.self.invariant live.1 live.2 short in
     some-if c.new.result _ _ c.new.ensures chunk
