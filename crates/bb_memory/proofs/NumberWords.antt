@@ -9,7 +9,7 @@ use Rattle.std.specs.Prelude.{bit_and, bit_or, Some, slice_get}
 use Rattle.std.specs.Int.{bit_at, bit_not, trailing_ones}
 use Rattle.bb_memory.specs.IndexWords.{index_words}
 use Rattle.bb_memory.specs.NumberSet.{Has, Lacks, IsFull}
-use Rattle.bb_memory.specs.Words.{has_bit, numbers_of, AreIndexWords, AreFull, IsWordSet}
+use Rattle.bb_memory.specs.Words.{has_bit, numbers_of, AreFull, AreIndexWords, IsWordSet, SetsBit}
 
 -- a set has a flag for each number below its bound
 pub length-numbers_of : (bound : ℕ) (words : List ℕ) → length (numbers_of bound words) ≡ bound
@@ -36,56 +36,54 @@ clear_bit : (word bit : ℕ) → bit < 64 → Changes word (bit_and word (bit_no
 clear_bit word bit low =
     (ap (λ x. eqb x 1) (bit_at_clear_same w64 word bit low), λ i within other. bit_at_clear_other w64 word bit low i within other)
 
--- What a change of one bit does to the set.
-module _ (words : List ℕ) (at bit new : ℕ) (flag : Bool) (within : at < length words) (low : bit < 64)
-    (changes : Changes (get_or words at 0) new bit flag) where
-  has_bit-same : has_bit (set words at new) (at * 64 + bit) ≡ flag
-  has_bit-same =
-      let e : (at * 64 + bit) / 64 ≡ at = omega arith in
-      let f : (at * 64 + bit) % 64 ≡ bit = omega arith in
-      ap (λ x. eqb (bit_at (get_or (set words at new) x 0) ((at * 64 + bit) % 64)) 1) e
-      ∙ ap (λ x. eqb (bit_at (get_or (set words at new) at 0) x) 1) f
-      ∙ ap (λ x. eqb (bit_at x bit) 1) (get_or-set_same words at new 0 within)
-      ∙ changes.0
-
-  has_bit-other : (n : ℕ) → n ≢ at * 64 + bit → has_bit (set words at new) n ≡ has_bit words n
-  has_bit-other n other = elim (cases_eq (n / 64) at) [
+-- a number's bit changes with that bit of its word
+change : (words : List ℕ) (number new : ℕ) (flag : Bool) → number / 64 < length words →
+    Changes (get_or words (number / 64) 0) new (number % 64) flag → SetsBit words number flag (set words (number / 64) new)
+change words number new flag within changes = record {
+  len = length-set words (number / 64) new;
+  set = ap (λ x. eqb (bit_at x (number % 64)) 1) (get_or-set_same words (number / 64) new 0 within) ∙ changes.0;
+  others = λ n other. elim (cases_eq (n / 64) (number / 64)) [
     | inl row ↦
-        ap (λ x. eqb (bit_at (get_or (set words at new) x 0) (n % 64)) 1) row
-        ∙ ap (λ x. eqb (bit_at x (n % 64)) 1) (get_or-set_same words at new 0 within)
+        ap (λ x. eqb (bit_at (get_or (set words (number / 64) new) x 0) (n % 64)) 1) row
+        ∙ ap (λ x. eqb (bit_at x (n % 64)) 1) (get_or-set_same words (number / 64) new 0 within)
         ∙ ap (λ x. eqb x 1) (changes.1 (n % 64) (omega arith) (λ same. other (omega arith)))
         ∙ ap (λ x. eqb (bit_at (get_or words x 0) (n % 64)) 1) (sym row)
-    | inr apart ↦ ap (λ x. eqb (bit_at x (n % 64)) 1) (get_or-set_other words at (n / 64) new 0 apart)
-  ]
+    | inr apart ↦ ap (λ x. eqb (bit_at x (n % 64)) 1) (get_or-set_other words (number / 64) (n / 64) new 0 apart)
+  ];
+}
 
-  numbers_of-set : (bound : ℕ) → at * 64 + bit < bound →
-      numbers_of bound (set words at new) ≡ set (numbers_of bound words) (at * 64 + bit) flag
-  numbers_of-set bound below =
-      let inside : at * 64 + bit < length (numbers_of bound words) = omega (arith, length-numbers_of bound words) in
+-- a number's bit is cleared in its word
+pub cleared : (words : List ℕ) (number : ℕ) → number / 64 < length words →
+    SetsBit words number false (set words (number / 64) (bit_and (get_or words (number / 64) 0) (bit_not w64 (1 * 2 ^ (number % 64) % 2 ^ 64))))
+cleared words number within = change words number _ false within (clear_bit (get_or words (number / 64) 0) (number % 64) (omega arith))
+
+-- What a change of one number's bit does to a set that has the number below its bound.
+module _ (bound : ℕ) (words new : List ℕ) (number : ℕ) (flag : Bool) (below : number < bound) (sets : SetsBit words number flag new) where
+  numbers_of-set : numbers_of bound new ≡ set (numbers_of bound words) number flag
+  numbers_of-set =
+      let inside : number < length (numbers_of bound words) = omega (arith, length-numbers_of bound words) in
       ext_get_or false _ _
-      (length-numbers_of bound _ ∙ sym (length-numbers_of bound words) ∙ sym (length-set (numbers_of bound words) (at * 64 + bit) flag))
+      (length-numbers_of bound new ∙ sym (length-numbers_of bound words) ∙ sym (length-set (numbers_of bound words) number flag))
       (λ n h.
-      let n_in : n < bound = omega (arith, h, length-numbers_of bound (set words at new)) in
-      get_or-numbers_of bound _ n n_in
-      ∙ (elim (cases_eq n (at * 64 + bit)) as (λ _. has_bit (set words at new) n ≡ get_or (set (numbers_of bound words) (at * 64 + bit) flag) n false) [
-        | inl same ↦ rw same (has_bit-same ∙ sym (get_or-set_same (numbers_of bound words) (at * 64 + bit) flag false inside))
+      let n_in : n < bound = omega (arith, h, length-numbers_of bound new) in
+      get_or-numbers_of bound new n n_in
+      ∙ (elim (cases_eq n number) as (λ _. has_bit new n ≡ get_or (set (numbers_of bound words) number flag) n false) [
+        | inl same ↦ rw same (sets.set ∙ sym (get_or-set_same (numbers_of bound words) number flag false inside))
         | inr other ↦
-            has_bit-other n other ∙ sym (get_or-numbers_of bound words n n_in)
-            ∙ sym (get_or-set_other (numbers_of bound words) (at * 64 + bit) n flag false other)
+            sets.others n other ∙ sym (get_or-numbers_of bound words n n_in)
+            ∙ sym (get_or-set_other (numbers_of bound words) number n flag false other)
       ]))
 
-  -- a changed word that the cursor stands at is a set again
-  IsWordSet-set : (bound : ℕ) → at * 64 + bit < bound → AreIndexWords bound words → IsWordSet bound (set words at new) at
-  IsWordSet-set bound below are =
-      let len = length-set words at new in
-      record {
-        are = record {
-          count = len ∙ are.count;
-          past = λ n past h. has_bit-other n (omega arith) ∙ are.past n past (omega arith);
-        };
-        below = omega (arith, len);
-        full = λ past. absurd (omega (arith, len));
-      }
+  -- with the cursor at a word, it is a set again
+  IsWordSet-set : (cursor : ℕ) → cursor < length words → AreIndexWords bound words → IsWordSet bound new cursor
+  IsWordSet-set cursor within are = record {
+    are = record {
+      count = sets.len ∙ are.count;
+      past = λ n past h. sets.others n (omega arith) ∙ are.past n past (omega (arith, sets.len));
+    };
+    below = omega (arith, sets.len);
+    full = λ past. absurd (omega (arith, sets.len));
+  }
 
 -- the lowest clear bit of a word is that of a number below the bound, which isn't in the set
 lowest_clear : (bound : ℕ) (words : List ℕ) (at word : ℕ) → AreIndexWords bound words → at < length words → word ≡ get_or words at 0 →
@@ -118,33 +116,30 @@ full_words bound words are full n below =
     ap (λ x. eqb (bit_at x (n % 64)) 1) (full (n / 64) (omega arith) at) ∙ eq-eqb _ 1 (bit_at_ones 64 (n % 64) (omega arith)) in
     slice_get-numbers_of bound words n n_in ∙ ap Some is
 
--- the words with a number's bit clear
-abbrev pub without : List ℕ → ℕ → List ℕ
-without words number = set words (number / 64) (bit_and (get_or words (number / 64) 0) (bit_not w64 (1 * 2 ^ (number % 64) % 2 ^ 64)))
-
--- a release: the number has a word, and what is left is the set without the number
-pub released : (bound : ℕ) (words : List ℕ) (number : ℕ) → AreIndexWords bound words → Has (numbers_of bound words) number →
-    (number / 64 < length words) × IsWordSet bound (without words number) (number / 64)
-    × (numbers_of bound (without words number) ≡ set (numbers_of bound words) number false)
-released bound words number are has =
+-- a number of the set has a word
+pub has_word : (bound : ℕ) (words : List ℕ) (number : ℕ) → AreIndexWords bound words → Has (numbers_of bound words) number →
+    (number < bound) × (number / 64 < length words)
+has_word bound words number are has =
     let within : number < length (numbers_of bound words) = slice_get_within (numbers_of bound words) number true has in
     let below : number < bound = omega (arith, length-numbers_of bound words) in
-    let at : number / 64 < length words = omega (arith, are.count) in
-    let same : (number / 64) * 64 + number % 64 ≡ number = omega arith in
-    let inside : (number / 64) * 64 + number % 64 < bound = omega arith in
-    let low : number % 64 < 64 = omega arith in
-    let changes = clear_bit (get_or words (number / 64) 0) (number % 64) low in (
-      at,
-      IsWordSet-set words (number / 64) (number % 64) _ false at low changes bound inside are,
-      numbers_of-set words (number / 64) (number % 64) _ false at low changes bound inside
-          ∙ ap (λ n. set (numbers_of bound words) n false) same,
+    (below, omega (arith, are.count))
+
+-- a release: with the number's bit clear and the cursor at its word, it is the set without the number
+pub released : (bound : ℕ) (words new : List ℕ) (number : ℕ) → AreIndexWords bound words → Has (numbers_of bound words) number →
+    SetsBit words number false new →
+    IsWordSet bound new (number / 64) × (numbers_of bound new ≡ set (numbers_of bound words) number false)
+released bound words new number are has sets =
+    let there = has_word bound words number are has in (
+      IsWordSet-set bound words new number false there.0 sets (number / 64) there.1 are,
+      numbers_of-set bound words new number false there.0 sets,
     )
 
 -- the words with the lowest clear bit of one word set
 abbrev pub with_lowest : List ℕ → ℕ → ℕ → List ℕ
 with_lowest words at word = set words at (bit_or word (1 * 2 ^ trailing_ones w64 word % 2 ^ 64))
 
--- a taking from a word that isn't full: its number wasn't in the set, and what is left is the set with it
+-- A taking from a word that isn't full: its number wasn't in the set. With its bit set and the cursor at its word, it is the set
+-- with the number.
 pub taken : (bound : ℕ) (words : List ℕ) (at word : ℕ) → AreIndexWords bound words → at < length words → word ≡ get_or words at 0 →
     word + 1 < 2 ^ 64 →
     (trailing_ones w64 word < 64) × Lacks (numbers_of bound words) (at * 64 + trailing_ones w64 word)
@@ -153,11 +148,17 @@ pub taken : (bound : ℕ) (words : List ℕ) (at word : ℕ) → AreIndexWords b
 taken bound words at word are within read not_full =
     let bit = trailing_ones w64 word in
     let lowest = lowest_clear bound words at word are within read not_full in
-    let changes : Changes (get_or words at 0) (bit_or word (1 * 2 ^ bit % 2 ^ 64)) bit true = rw (← read) (set_bit word bit lowest.0) in (
-      lowest.0,
+    let low : bit < 64 = lowest.0 in
+    let e : (at * 64 + bit) / 64 ≡ at = omega arith in
+    let f : (at * 64 + bit) % 64 ≡ bit = omega arith in
+    let changes : Changes (get_or words ((at * 64 + bit) / 64) 0) (bit_or word (1 * 2 ^ bit % 2 ^ 64)) ((at * 64 + bit) % 64) true =
+    rw (e, f, ← read) (set_bit word bit low) in
+    let sets : SetsBit words (at * 64 + bit) true (with_lowest words at word) =
+    rw e at (change words (at * 64 + bit) (bit_or word (1 * 2 ^ bit % 2 ^ 64)) true (rw e within) changes) in (
+      low,
       lowest.2,
-      IsWordSet-set words at bit _ true within lowest.0 changes bound lowest.1 are,
-      numbers_of-set words at bit _ true within lowest.0 changes bound lowest.1,
+      IsWordSet-set bound words (with_lowest words at word) (at * 64 + bit) true lowest.1 sets at within are,
+      numbers_of-set bound words (with_lowest words at word) (at * 64 + bit) true lowest.1 sets,
     )
 
 -- no bit below the bound is set, and each past it is

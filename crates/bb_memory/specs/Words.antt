@@ -1,5 +1,5 @@
 -- A set of numbers below a bound, as the bits of words.
-use Rattle.std.specs.Prelude.{◌≡◌, ℕ, ◌-◌, ◌*◌, ◌/◌, ◌%◌, ◌^◌, ◌<◌, ◌≤◌, ◌==◌, Bool, true, List, length, map, slice_index}
+use Rattle.std.specs.Prelude.{◌≡◌, ◌≢◌, ℕ, ◌-◌, ◌*◌, ◌/◌, ◌%◌, ◌^◌, ◌<◌, ◌≤◌, ◌==◌, Bool, true, List, length, map, slice_index}
 use Rattle.std.specs.List.{range_with_len}
 use Rattle.std.specs.Int.{bit_at}
 use Rattle.bb_memory.specs.IndexWords.{index_words}
@@ -7,6 +7,12 @@ use Rattle.bb_memory.specs.IndexWords.{index_words}
 -- whether a number's bit is set: the bits are counted from the lowest of the first word
 abbrev pub has_bit : List ℕ → ℕ → Bool
 has_bit words number = bit_at (slice_index words (number / 64)) (number % 64) == 1
+
+-- the bit of this number becomes the flag, and no other bit changes
+pub record SetsBit (words : List ℕ) (number : ℕ) (flag : Bool) (new : List ℕ) : Type 0 where
+  pub len : length new ≡ length words
+  pub set : has_bit new number ≡ flag
+  pub others : (other : ℕ) → other ≢ number → has_bit new other ≡ has_bit words other
 
 -- the set: for each number below the bound, whether its bit is set
 unfoldable pub numbers_of : ℕ → List ℕ → List Bool

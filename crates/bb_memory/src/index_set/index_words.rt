@@ -1,8 +1,8 @@
 //! Words of 64 bits that a search reads only through a counter.
 //!
 //! Both types stand in one module: [`IndexWords::word`] alone reaches the words and the step that counts a read.
-ghost use Rattle.std.specs.Prelude.{◌≡◌, ◌+◌, ◌*◌, ◌/◌, ◌%◌, ◌^◌, ◌<◌, length, replicate, slice_index, slice_set, bit_and, IfOk};
-ghost use Rattle.std.specs.Int.{bit_not, w64};
+ghost use Rattle.std.specs.Prelude.{◌≡◌, ◌+◌, ◌/◌, ◌^◌, ◌<◌, false, length, replicate, slice_index, slice_set, IfOk};
+ghost use Rattle.bb_memory.specs.Words.{SetsBit};
 
 use std::alloc::{AllocError, Allocator};
 use std::marker::Model;
@@ -103,8 +103,7 @@ impl<A: Allocator> IndexWords<A> {
     #[inline]
     pub fn clear(&mut self, number: usize)
         requires { number / 64 < length self.old }
-        ensures { self.new ≡ slice_set self.old (number / 64)
-            (bit_and (slice_index self.old (number / 64)) (bit_not w64 (1 * 2 ^ (number % 64) % 2 ^ 64))) }
+        ensures { SetsBit self.old number false self.new }
     {
         self.words[number / 64] &= !(1u64 << (number % 64));
     }
