@@ -21,16 +21,24 @@ unfolding numbers_of
 get_or-numbers_of bound words n below = get_or-map-range_with_len (has_bit words) 0 bound n n false below (omega arith)
 
 -- a number's flag is its bit
-slice_get-numbers_of : (bound : ℕ) (words : List ℕ) (n : ℕ) → n < bound → slice_get (numbers_of bound words) n ≡ Some (has_bit words n)
+slice_get-numbers_of : (bound : ℕ) (words : List ℕ) (n : ℕ) → n < bound →
+    slice_get (numbers_of bound words) n ≡ Some (has_bit words n)
 slice_get-numbers_of bound words n below =
-    slice_get-get_or (numbers_of bound words) n false (omega (arith, length-numbers_of bound words)) ∙ ap Some (get_or-numbers_of bound words n below)
+    slice_get-get_or (numbers_of bound words) n false (omega (arith, length-numbers_of bound words))
+    ∙ ap Some (get_or-numbers_of bound words n below)
+
+-- there are as many words as numbers need
+pub word_count : (bound : ℕ) (words : List ℕ) (numbers : List Bool) → AreIndexWords bound words → numbers_of bound words ≡ numbers →
+    length words ≡ index_words (length numbers)
+word_count bound words numbers are is = omega (arith, are.count, length-numbers_of bound words, ap length is)
 
 -- a bit of a word becomes a flag, and its other bits stay
 abbrev Changes : ℕ → ℕ → ℕ → Bool → Type 0
 Changes old new bit flag = (eqb (bit_at new bit) 1 ≡ flag) × ((i : ℕ) → i < 64 → i ≢ bit → bit_at new i ≡ bit_at old i)
 
 set_bit : (word bit : ℕ) → bit < 64 → Changes word (bit_or word (1 * 2 ^ bit % 2 ^ 64)) bit true
-set_bit word bit low = (eq-eqb _ 1 (bit_at_set_same w64 word bit low), λ i within other. bit_at_set_other w64 word bit low i other)
+set_bit word bit low =
+    (eq-eqb _ 1 (bit_at_set_same w64 word bit low), λ i within other. bit_at_set_other w64 word bit low i other)
 
 clear_bit : (word bit : ℕ) → bit < 64 → Changes word (bit_and word (bit_not w64 (1 * 2 ^ bit % 2 ^ 64))) bit false
 clear_bit word bit low =
@@ -54,11 +62,14 @@ change words number new flag within changes = record {
 
 -- a number's bit is cleared in its word
 pub cleared : (words : List ℕ) (number : ℕ) → number / 64 < length words →
-    SetsBit words number false (set words (number / 64) (bit_and (get_or words (number / 64) 0) (bit_not w64 (1 * 2 ^ (number % 64) % 2 ^ 64))))
-cleared words number within = change words number _ false within (clear_bit (get_or words (number / 64) 0) (number % 64) (omega arith))
+    let word = get_or words (number / 64) 0 in
+    SetsBit words number false (set words (number / 64) (bit_and word (bit_not w64 (1 * 2 ^ (number % 64) % 2 ^ 64))))
+cleared words number within =
+    change words number _ false within (clear_bit (get_or words (number / 64) 0) (number % 64) (omega arith))
 
 -- What a change of one number's bit does to a set that has the number below its bound.
-module _ (bound : ℕ) (words new : List ℕ) (number : ℕ) (flag : Bool) (below : number < bound) (sets : SetsBit words number flag new) where
+module _ (bound : ℕ) (words new : List ℕ) (number : ℕ) (flag : Bool) (below : number < bound)
+    (sets : SetsBit words number flag new) where
   numbers_of-set : numbers_of bound new ≡ set (numbers_of bound words) number flag
   numbers_of-set =
       let inside : number < length (numbers_of bound words) = omega (arith, length-numbers_of bound words) in
@@ -108,7 +119,8 @@ lowest_clear bound words at word are within read not_full =
     (low, below, slice_get-numbers_of bound words _ below ∙ ap Some clear)
 
 -- with every word full, every number is in the set
-pub full_words : (bound : ℕ) (words : List ℕ) → AreIndexWords bound words → AreFull words 0 (length words) → IsFull (numbers_of bound words)
+pub full_words : (bound : ℕ) (words : List ℕ) → AreIndexWords bound words → AreFull words 0 (length words) →
+    IsFull (numbers_of bound words)
 full_words bound words are full n below =
     let n_in : n < bound = omega (arith, below, length-numbers_of bound words) in
     let at : n / 64 < length words = omega (arith, are.count) in
@@ -167,7 +179,8 @@ record AreFresh (bound : ℕ) (words : List ℕ) : Type 0 where
   clear : (n : ℕ) → n < bound → has_bit words n ≡ false
   past : (n : ℕ) → bound ≤ n → n < 64 * length words → has_bit words n ≡ true
 
-fresh : (bound : ℕ) (words : List ℕ) → AreFresh bound words → IsWordSet bound words 0 × (numbers_of bound words ≡ replicate bound false)
+fresh : (bound : ℕ) (words : List ℕ) → AreFresh bound words →
+    IsWordSet bound words 0 × (numbers_of bound words ≡ replicate bound false)
 fresh bound words are = (
   record {
     are = record { count = are.count; past = are.past };

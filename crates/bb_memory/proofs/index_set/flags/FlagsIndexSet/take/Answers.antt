@@ -6,4 +6,5 @@ pub returns-in-Some-clause-taken : goal.returns-in-Some-clause-taken
 returns-in-Some-clause-taken g c =
     let inside = c.self.inside in
     let fits : inside.bound ≤ length inside.flags = omega (arith, c.self.invariant.len) in
-    set_number inside.bound inside.flags c.args.self.now c.in-Some.number true false fits c.self.view_is (c.in-Some.ensures {u = tt}).lacked
+    let lacked = (c.in-Some.ensures {u = tt}).lacked in
+    set_number inside.bound inside.flags c.args.self.now c.in-Some.number true false fits c.self.view_is lacked

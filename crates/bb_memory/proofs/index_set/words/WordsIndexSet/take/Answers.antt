@@ -1,50 +1,50 @@
-use Rattle.std.proofs.Common.{ap, arith, length, subst, List, Bool}
-use Rattle.bb_memory.specs.Words.{numbers_of}
-use Rattle.bb_memory.specs.NumberSet.{IsFull}
-use Rattle.bb_memory.proofs.NumberWords.{taken, full_words, length-numbers_of}
+use Rattle.std.proofs.Common.{arith}
+use Rattle.bb_memory.proofs.NumberWords.{full_words, taken, word_count}
 use Rattle.bb_memory.proofs.index_set.words.WordsIndexSet.take.Goals as goal
 
 pub open_word-requires-clause-room : goal.open_word-requires-clause-room
-open_word-requires-clause-room g c =
-    omega (arith, c.self.invariant.are.count, c.self.ranges)
+open_word-requires-clause-room g c = omega (arith, c.self.invariant.are.count, c.self.ranges)
 
 pub invariant_of-self : goal.invariant_of-self
 invariant_of-self g c =
     let inside = c.self.inside in
     let found = c.in-Some.found in
     let told = c.in-Some.ensures {u = tt} in
-    rw (c.put.ensures, c.trailing_ones-bit.ensures) (taken inside.bound inside.words found.at found.word c.self.invariant.are told.at told.word told.not_full).2
+    let taking = taken inside.bound inside.words found.at found.word c.self.invariant.are told.at told.word told.not_full in
+    rw (c.put.ensures, c.trailing_ones-bit.ensures) taking.2
 
 pub returns-in-Some-clause-lacked : goal.returns-in-Some-clause-lacked
 returns-in-Some-clause-lacked g c =
     let inside = c.self.inside in
     let found = c.in-Some.found in
     let told = c.in-Some.ensures {u = tt} in
-    rw (← c.self.view_is, c.trailing_ones-bit.ensures) (taken inside.bound inside.words found.at found.word c.self.invariant.are told.at told.word told.not_full).1
+    let taking = taken inside.bound inside.words found.at found.word c.self.invariant.are told.at told.word told.not_full in
+    rw (← c.self.view_is, c.trailing_ones-bit.ensures) taking.1
 
 pub returns-in-Some-clause-taken : goal.returns-in-Some-clause-taken
 returns-in-Some-clause-taken g c =
     let inside = c.self.inside in
     let found = c.in-Some.found in
     let told = c.in-Some.ensures {u = tt} in
-    rw (← c.self.view_is, c.put.ensures, c.trailing_ones-bit.ensures)
-    (taken inside.bound inside.words found.at found.word c.self.invariant.are told.at told.word told.not_full).3
+    let taking = taken inside.bound inside.words found.at found.word c.self.invariant.are told.at told.word told.not_full in
+    rw (← c.self.view_is, c.put.ensures, c.trailing_ones-bit.ensures) taking.3
 
 pub returns-in-Some-clause-most : goal.returns-in-Some-clause-most
 returns-in-Some-clause-most g c =
-    omega (arith, c.open_word.ensures.most, c.self.invariant.are.count, length-numbers_of c.self.inside.bound c.self.inside.words, ap length c.self.view_is)
+    let inside = c.self.inside in
+    omega (arith, c.open_word.ensures.most, word_count inside.bound inside.words _ c.self.invariant.are c.self.view_is)
 
 pub returns-in-None-clause-full : goal.returns-in-None-clause-full
 returns-in-None-clause-full g c =
     let inside = c.self.inside in
-    let told = c.in-None.ensures {u = tt} in
-    let full : IsFull (numbers_of inside.bound inside.words) = full_words inside.bound inside.words c.self.invariant.are told.full in
-    subst (λ (held : List Bool). IsFull held) c.self.view_is full
+    rw (← c.self.view_is) (full_words inside.bound inside.words c.self.invariant.are (c.in-None.ensures {u = tt}).full)
 
 pub returns-in-None-clause-most : goal.returns-in-None-clause-most
 returns-in-None-clause-most g c =
-    omega (arith, c.open_word.ensures.most, c.self.invariant.are.count, length-numbers_of c.self.inside.bound c.self.inside.words, ap length c.self.view_is)
+    let inside = c.self.inside in
+    omega (arith, c.open_word.ensures.most, word_count inside.bound inside.words _ c.self.invariant.are c.self.view_is)
 
 pub returns-in-None-clause-least : goal.returns-in-None-clause-least
 returns-in-None-clause-least g c =
-    omega (arith, c.open_word.ensures.least, c.self.invariant.are.count, length-numbers_of c.self.inside.bound c.self.inside.words, ap length c.self.view_is)
+    let inside = c.self.inside in
+    omega (arith, c.open_word.ensures.least, word_count inside.bound inside.words _ c.self.invariant.are c.self.view_is)
