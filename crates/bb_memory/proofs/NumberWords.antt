@@ -173,7 +173,7 @@ taken bound words at word are within read not_full =
       numbers_of-set bound words (with_lowest words at word) (at * 64 + bit) true lowest.1 sets,
     )
 
--- no bit below the bound is set, and each past it is
+-- no bit below the bound is set, and each from the bound on is
 record AreFresh (bound : ℕ) (words : List ℕ) : Type 0 where
   count : length words ≡ index_words bound
   clear : (n : ℕ) → n < bound → has_bit words n ≡ false
@@ -212,7 +212,7 @@ fresh_whole bound count is whole =
       past = λ n past within. absurd (omega arith);
     })
 
--- the last word with its bits past the bound set
+-- the last word: its bits from the bound on are set
 abbrev pub last_word : ℕ → ℕ
 last_word bound = (2 ^ 64 - 1) * 2 ^ (bound % 64) % 2 ^ 64
 

@@ -22,7 +22,7 @@ numbers_of bound words = map (has_bit words) (range_with_len 0 bound)
 abbrev pub AreFull : List ℕ → ℕ → ℕ → Type 0
 AreFull words from to = (at : ℕ) → from ≤ at → at < to → slice_index words at ≡ 2 ^ 64 - 1
 
--- there are just the words that the bound needs, and their bits past it are set
+-- there are just the words that the bound needs, and their bits from the bound on are set
 pub record AreIndexWords (bound : ℕ) (words : List ℕ) : Type 0 where
   pub count : length words ≡ index_words bound
   pub past : (number : ℕ) → bound ≤ number → number < 64 * length words → has_bit words number ≡ true

@@ -1,4 +1,7 @@
 //! A set of numbers below a bound, from which any number that isn't in it can be taken.
+//!
+//! [`words::Words`] takes memory once, for a bit a number; [`flags::Flags`] takes none, and has an array with a flag a number.
+//! Both keep a cursor at what was given back last, so that a taking seldom looks further.
 pub mod flags;
 pub mod index_words;
 pub mod words;
@@ -16,6 +19,7 @@ pub trait IndexSet: Drop {
     /// How many words a set of this bound has that are read through a counter.
     ghost words: { ℕ → ℕ };
 
+    /// Every number that the set may have is below the bound.
     fn bound(&self) -> u32
         ensures { result ≡ length (numbers self.now) };
 

@@ -6,7 +6,7 @@ ghost use Rattle.bb_memory.specs.NumberSet.{Lacks, IsFull};
 use crate::index_set::{Counter, IndexSet};
 use std::marker::Model;
 
-/// A flag for each number below the bound; the flags past it are never read.
+/// A flag for each number below the bound; the flags from the bound on are never read.
 ///
 /// A taking looks first at the number at the cursor: the one that was given back or taken last, or 0. After a taking that found
 /// every number in the set the cursor is the bound, and further refusals look at no flag.

@@ -1,5 +1,5 @@
 //! A set of numbers as words of 64 bits.
-ghost use Rattle.std.specs.Prelude.{◌≡◌, ◌≢◌, ◌+◌, ◌-◌, ◌^◌, ◌<◌, ◌≤◌, false, length, replicate, slice_index, IfOk, IfSome, IfNone};
+ghost use Rattle.std.specs.Prelude.{◌≡◌, ◌+◌, ◌-◌, ◌^◌, ◌<◌, ◌≤◌, false, length, replicate, slice_index, IfOk, IfSome, IfNone};
 ghost use Rattle.bb_memory.specs.Words.{AreFull};
 
 use crate::index_set::index_words::IndexWords;
@@ -7,8 +7,8 @@ use crate::index_set::{Counter, IndexSet};
 use std::alloc::{AllocError, Allocator};
 use std::marker::Model;
 
-/// A bit for each number below the bound. The bits past it are set for good, so that a word with a clear bit has a number to
-/// give.
+/// A bit for each number below the bound. The bits from the bound on are set for good, so that a word with a clear bit has a
+/// number to give.
 ///
 /// A taking reads first the word at the cursor: that of the number that was given back or taken last, or word 0. After a taking
 /// that found every word full the cursor is the number of words, and further refusals read one word each.
