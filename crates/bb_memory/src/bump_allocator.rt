@@ -64,7 +64,7 @@ impl BumpAllocator {
     pub fn can_make(start: usize, size: usize) -> bool
         ensures { IsTrue result ↔ IsRegion (region_at start size) }
     {
-        start != 0 && start.checked_add(size).is_some()
+        crate::region::Region::can_make(start, size)
     }
 
     /// Where the region starts.

@@ -73,7 +73,7 @@ impl OneChunkAllocator {
     pub fn can_make(start: usize, size: usize) -> bool
         ensures { IsTrue result ↔ IsRegion (region_at start size) }
     {
-        start != 0 && start.checked_add(size).is_some()
+        crate::region::Region::can_make(start, size)
     }
 
     /// Whether no chunk is out.

@@ -1,5 +1,5 @@
 //! The bytes of a region, lent chunk by chunk.
-ghost use Rattle.std.specs.Prelude.{◌≡◌, ◌<◌, length, vec_len};
+ghost use Rattle.std.specs.Prelude.{◌≡◌, ◌<◌, ◌↔◌, IsTrue, length, vec_len};
 ghost use Rattle.std.specs.Borrow.{sem};
 ghost use Rattle.bb_memory_base.specs.Region.{IsRegion, region_at};
 ghost use Rattle.bb_memory_base.specs.Chunk.{IsInside};
@@ -38,12 +38,21 @@ impl Model for Region {
 }
 
 impl Region {
-    /// These bytes, from `start` on. The start has to be greater than 0, and start plus length at most `usize::MAX`.
+    /// These bytes, from `start` on. The start has to be greater than 0, and start plus length at most `usize::MAX`;
+    /// [`Region::can_make`] tests both.
     pub fn new(start: usize, bytes: Vec<u8>) -> Region
         requires { IsRegion (region_at start (vec_len bytes)) }
         ensures { result ≡ record { start = start; bytes = bytes.items } }
     {
         Region { start, bytes }
+    }
+
+    /// Whether there is a region of `len` bytes from `start` on: the start is greater than 0, and start plus length at most
+    /// `usize::MAX`.
+    pub fn can_make(start: usize, len: usize) -> bool
+        ensures { IsTrue result ↔ IsRegion (region_at start len) }
+    {
+        start != 0 && start.checked_add(len).is_some()
     }
 
     /// The place of the first byte.

@@ -40,7 +40,7 @@ impl Bounds {
     pub fn new(start: usize, size: usize) -> Option<Bounds>
         ensures { SomeIff result (IsRegion (region_at start size)) (region_at start size) }
     {
-        if !BumpAllocator::can_make(start, size) {
+        if !bb_memory::region::Region::can_make(start, size) {
             return None;
         }
         Some(Bounds { start, size })
