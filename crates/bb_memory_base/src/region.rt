@@ -1,10 +1,10 @@
 //! The bytes of a region, lent chunk by chunk.
-ghost use Rattle.std.specs.Prelude.{◌≡◌, ◌<◌, ◌↔◌, IsTrue, length, vec_len};
+ghost use Rattle.std.specs.Prelude.{◌≡◌, ◌<◌, ◌↔◌, ℕ, List, IsTrue, length, vec_len};
 ghost use Rattle.std.specs.Borrow.{sem};
 ghost use Rattle.bb_memory_base.specs.Region.{IsRegion, region_at};
-ghost use Rattle.bb_memory_base.specs.Chunk.{IsInside};
-ghost use Rattle.bb_memory_base.specs.HeldBytes.{held_region, bytes_in, ZeroesOnly};
-ghost use Rattle.bb_memory_base.specs.Lending.{LendsChunk};
+ghost use Rattle.bb_memory_base.specs.Chunk.{Chunk, IsInside};
+ghost use Rattle.bb_memory_base.specs.HeldBytes.{HeldBytes, held_region, bytes_in, ChangesOnly, ZeroesOnly};
+ghost use Rattle.bb_memory_base.specs.Lending.{LendsChunk, written};
 
 use crate::layout::Chunk;
 use std::marker::Model;
@@ -105,3 +105,11 @@ impl Region {
         self.chunk_mut(c).fill(0);
     }
 }
+
+/// What [`Region::chunk_mut`] says of the bytes that it lends, in plain words: once bytes as many as the chunk's are written
+/// there, the chunk has these, and every other byte is as it was. It does nothing: its contract is the law.
+pub fn region_law()
+    ensures { (held : HeldBytes) (chunk : Chunk) (bytes : List ℕ)
+        → IsInside (held_region held) chunk → length bytes ≡ chunk.len
+        → ChangesOnly held (written held chunk bytes) chunk bytes }
+{}
