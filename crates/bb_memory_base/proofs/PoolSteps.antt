@@ -98,7 +98,8 @@ length-step old step move (takes party bucket next free) = length-set old.holder
 length-step old step move (gives party bucket held) = length-set old.holders bucket None
 length-step old step move _ = refl
 
-length-after : (old : PoolState) (steps : List PoolStep) →
+-- steps leave as many flags as there were
+pub length-after : (old : PoolState) (steps : List PoolStep) →
     length (pool_after old steps).holders ≡ length old.holders
 length-after old [] = refl
 length-after old (step ∷ steps) =

@@ -6,17 +6,8 @@ use Rattle.std.specs.Prelude.{slice_get, unwrap_or}
 use Rattle.std.proofs.lemmas.Grind.{flat_map-append}
 use Rattle.std.proofs.lemmas.List.{append-nil, take_more}
 use Rattle.std.proofs.lemmas.Option.{unwrap_or-slice_get}
-use Rattle.bb_memory_base.proofs.PoolSteps.{kind_of, length-step}
-use Rattle.bb_memory_base.specs.PoolMachine.{PoolState, pool_step, pool_after}
-use Rattle.bb_memory_base.specs.declared.steps.pool.PoolStep.{PoolStep}
 use Rattle.memrun.proofs.Appending.{appends_again}
 use Rattle.memrun.specs.PoolStepScript.{holder_text}
-
--- steps leave as many buckets as there were
-pub length-after : (old : PoolState) (steps : List PoolStep) → length (pool_after old steps).holders ≡ length old.holders
-length-after old [] = refl
-length-after old (step ∷ steps) =
-    length-after (pool_step old step).state steps ∙ length-step old step (pool_step old step) (kind_of old step)
 
 -- the texts of one holder more
 texts-more : (holders : List (Option ℕ)) (i : ℕ) → i < length holders

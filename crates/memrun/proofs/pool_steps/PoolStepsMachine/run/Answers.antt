@@ -1,5 +1,5 @@
 use Rattle.std.proofs.Common.{arith}
-use Rattle.memrun.proofs.PoolShows.{length-after}
+use Rattle.bb_memory_base.proofs.PoolSteps.{length-after}
 use Rattle.memrun.proofs.pool_steps.PoolStepsMachine.run.Goals as goal
 
 pub invariant_of-self : goal.invariant_of-self
