@@ -11,21 +11,18 @@ use Rattle.bb_memory_base.specs.declared.steps.bump.BumpStep.TheVariants.{Read, 
 use Rattle.bb_memory_base.specs.declared.steps.bump.BumpOutcome.{BumpOutcome}
 use Rattle.bb_memory_base.specs.declared.steps.bump.BumpOutcome.TheVariants.{Sees, RefusedAtRead, Wins, Loses, RefusedAtLoss, Loaded, Cleared, Passed}
 use Rattle.memrun.specs.Grammar.{IsLayoutOfWords, layout_text}
+use Rattle.memrun.specs.Parties.{parties, IsParty}
 use Rattle.memrun.specs.declared.machine.Machine.{Ghosts}
 use Rattle.memrun.specs.declared.script.Line.{Line}
 use Rattle.memrun.specs.declared.script.Line.TheVariants as line
 
 -- LINES
 
--- one of the 64 parties
-abbrev pub IsParty : ℕ → Type 0
-IsParty party = party < 64
-
 -- one of the parties, and a layout whose numbers are numbers of the machine
 abbrev pub IsPartyRead : ℕ → Layout → Type 0
 IsPartyRead party layout = IsParty party × IsLayoutOfWords layout
 
--- its party is one of the 64, and its numbers are numbers of the machine
+-- its party is one of the parties, and its numbers are numbers of the machine
 abbrev pub IsStep : BumpStep → Type 0
 IsStep (Read party layout) = IsPartyRead party layout
 IsStep (Exchange party) = IsParty party
@@ -96,9 +93,9 @@ outcome_line Passed = codes "passed\n"
 
 -- THE MACHINE
 
--- where a script begins: nothing is used, and 64 parties are idle
+-- where a script begins: nothing is used, and all parties are idle
 abbrev pub script_scene : Region → BumpScene
-script_scene region = record { region = region; opening = 0; parties = 64 }
+script_scene region = record { region = region; opening = 0; parties = parties }
 
 -- the outcomes are those of the steps, and the world is the one that they leave
 abbrev pub StepsRun : BumpWorld → List BumpStep → List BumpOutcome → BumpWorld → Type 0

@@ -7,6 +7,7 @@ pub mod Kinds
 pub mod Lines
 pub mod LiveState
 pub mod OneChunkScript
+pub mod Parties
 pub mod PoolStepScript
 pub mod Program
 pub mod Replies

@@ -7,20 +7,14 @@ use Rattle.bb_memory_base.specs.declared.steps.pool.PoolOutcome.{PoolOutcome}
 use Rattle.bb_memory_base.specs.declared.steps.pool.PoolOutcome.TheVariants as outcome
 use Rattle.bb_memory_base.specs.declared.steps.pool.PoolStep.{PoolStep}
 use Rattle.bb_memory_base.specs.declared.steps.pool.PoolStep.TheVariants.{Try, GiveBack}
+use Rattle.memrun.specs.Parties.{parties, IsParty}
 use Rattle.memrun.specs.declared.machine.Machine.{Ghosts}
 use Rattle.memrun.specs.declared.script.Line.{Line}
 use Rattle.memrun.specs.declared.script.Line.TheVariants as line
 
--- how many parties there are
-abbrev pub parties : ℕ
-parties = 64
-
 -- a number of buckets that a script may ask for
 abbrev pub IsBucketCount : ℕ → Type 0
 IsBucketCount count = count ≤ 4096
-
-abbrev pub IsParty : ℕ → Type 0
-IsParty party = party < parties
 
 -- a number that may name a bucket
 abbrev pub IsBucket : ℕ → Type 0

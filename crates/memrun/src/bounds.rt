@@ -2,13 +2,14 @@
 ghost use Rattle.std.specs.Prelude.{◌≡◌, ◌↔◌, IfOk, IfSome, Some, None, []};
 ghost use Rattle.std.specs.Option.{SomeIff};
 ghost use Rattle.bb_memory_base.specs.Region.{Region, IsRegion, region_at};
-ghost use Rattle.bb_memory_base.specs.BumpMachine.{BumpScene};
 ghost use Rattle.bb_memory_base.specs.BumpWorld.{opened};
 ghost use Rattle.bb_memory_base.specs.BumpObject.{StandsFor as BumpStandsFor};
 ghost use Rattle.bb_memory.specs.OneChunk.{StandsFor as OneChunkStandsFor};
+ghost use Rattle.memrun.specs.BumpStepScript.{script_scene};
 ghost use Rattle.memrun.specs.Grammar.{region_text};
 
 use crate::number::number;
+use crate::parties::PARTIES;
 use crate::text::number_and_rest;
 use bb_memory::bump_allocator::BumpAllocator;
 use bb_memory::one_chunk_allocator::OneChunkAllocator;
@@ -73,11 +74,10 @@ impl Bounds {
         OneChunkAllocator::new(self.start, self.size)
     }
 
-    /// A bump world over the region, with 64 parties.
+    /// A bump world over the region, for the parties of a script.
     pub fn bump_world(self, alloc: Global) -> Result<BumpWorld, AllocError>
-        ensures { let scene : BumpScene = record { region = self; opening = 0; parties = 64 } in
-            IfOk result (λ world. world ≡ opened scene) }
+        ensures { IfOk result (λ world. world ≡ opened (script_scene self)) }
     {
-        BumpWorld::new(alloc, self.start, self.size, 64)
+        BumpWorld::new(alloc, self.start, self.size, PARTIES)
     }
 }

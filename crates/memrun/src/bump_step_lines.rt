@@ -1,13 +1,12 @@
 //! The lines of a script that drives a bump world by its steps.
 ghost use Rattle.std.specs.Prelude.{◌≡◌, ℕ, IfSome, Some};
-ghost use Rattle.std.specs.Option.{SomeIff};
-ghost use Rattle.std.specs.Fmt.{decimal};
 ghost use Rattle.bb_memory_base.specs.declared.layout.Layout.{Layout};
 ghost use Rattle.bb_memory_base.specs.declared.steps.bump.BumpStep.{BumpStep};
-ghost use Rattle.memrun.specs.BumpStepScript.{IsParty, IsPartyRead, IsStep, IsStepLine, exchange_line, load_line, party_read_text, read_line, step_line, step_line_text};
+ghost use Rattle.memrun.specs.BumpStepScript.{IsPartyRead, IsStep, IsStepLine, exchange_line, load_line, party_read_text, read_line, step_line, step_line_text};
+ghost use Rattle.memrun.specs.Parties.{IsParty};
 ghost use Rattle.memrun.specs.declared.script.Line.{Line};
 
-use crate::number::number;
+use crate::parties::{party_of, read_party};
 use crate::script::Line;
 use crate::text::{layout, number_and_rest};
 use bb_memory::layout::Layout;
@@ -78,23 +77,4 @@ fn read_party_and_layout(text: &[u8]) -> Option<(u32, Layout)>
 {
     let (number, rest) = number_and_rest(text)?;
     Some((party_of(number)?, layout(rest)?))
-}
-
-/// The party that a number names.
-fn read_party(text: &[u8]) -> Option<u32>
-    ensures written { IfSome result (λ party. IsParty party × (text.now ≡ decimal party)) }
-    ensures each { (party : ℕ) → IsParty party → text.now ≡ decimal party → result ≡ Some party }
-{
-    party_of(number(text)?)
-}
-
-/// The party of this number, where there is one.
-fn party_of(number: usize) -> Option<u32>
-    ensures { SomeIff result (IsParty number) number }
-{
-    if number < 64 {
-        Some(number as u32)
-    } else {
-        None
-    }
 }

@@ -14,6 +14,7 @@ mod lines;
 mod machine;
 mod number;
 mod one_chunk;
+mod parties;
 mod pool_step_lines;
 mod pool_steps;
 mod program;

@@ -2,16 +2,15 @@
 ghost use Rattle.std.specs.Prelude.{◌≡◌, ℕ, IfSome, Some};
 ghost use Rattle.std.specs.Option.{SomeIff};
 ghost use Rattle.bb_memory_base.specs.declared.steps.pool.PoolStep.{PoolStep};
-ghost use Rattle.memrun.specs.PoolStepScript.{IsParty, IsBucket, IsGiving, IsStep, try_line, giving_text, give_line, step_line, IsStepLine, step_line_text};
+ghost use Rattle.memrun.specs.PoolStepScript.{IsBucket, IsGiving, IsStep, try_line, giving_text, give_line, step_line, IsStepLine, step_line_text};
+ghost use Rattle.memrun.specs.Parties.{IsParty};
 ghost use Rattle.memrun.specs.declared.script.Line.{Line};
 
 use crate::number::number;
+use crate::parties::{party_of, read_party};
 use crate::script::Line;
 use crate::text::number_and_rest;
 use bb_memory::steps::PoolStep;
-
-/// How many parties take the steps.
-pub const PARTIES: u32 = 64;
 
 /// The line after the first that this text is.
 pub fn read_step_line(text: &[u8]) -> Option<Line<PoolStep>>
@@ -44,7 +43,7 @@ fn read_try(line: &[u8]) -> Option<u32>
     ensures each { (party : ℕ) → IsParty party → line.now ≡ try_line party
         → result ≡ Some party }
 {
-    party(number(line.strip_prefix(b"try ")?)?)
+    read_party(line.strip_prefix(b"try ")?)
 }
 
 /// The party that this line has give back a bucket, and the bucket.
@@ -65,18 +64,7 @@ fn giving(text: &[u8]) -> Option<(u32, u32)>
         → text.now ≡ giving_text party bucket → result ≡ Some (party, bucket) }
 {
     let (n, rest) = number_and_rest(text)?;
-    Some((party(n)?, bucket(number(rest)?)?))
-}
-
-/// The party of this number, where there is one.
-fn party(n: usize) -> Option<u32>
-    ensures { SomeIff result (IsParty n) n }
-{
-    if n < PARTIES as usize {
-        Some(n as u32)
-    } else {
-        None
-    }
+    Some((party_of(n)?, bucket(number(rest)?)?))
 }
 
 /// The number as one that may name a bucket, where it may.

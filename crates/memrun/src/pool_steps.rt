@@ -6,7 +6,8 @@ ghost use Rattle.memrun.specs.PoolStepScript.{holder_text, outcome_line};
 
 use crate::buckets::Buckets;
 use crate::machine::Machine;
-use crate::pool_step_lines::{PARTIES, read_step_line};
+use crate::parties::PARTIES;
+use crate::pool_step_lines::read_step_line;
 use crate::script::Line;
 use bb_memory::steps::{PoolOutcome, PoolStep, PoolWorld};
 use std::alloc::{AllocError, Global};
@@ -35,7 +36,8 @@ impl Model for PoolSteps {
 impl Machine for PoolSteps {
     ghost use Rattle.std.specs.Prelude.{◌≡◌};
     ghost use Rattle.bb_memory_base.specs.PoolMachine.{pool_opening};
-    ghost use Rattle.memrun.specs.PoolStepScript.{parties, IsStepLine, step_line_text, outcome_line, held_line, PoolRuns};
+    ghost use Rattle.memrun.specs.Parties.{parties};
+    ghost use Rattle.memrun.specs.PoolStepScript.{IsStepLine, step_line_text, outcome_line, held_line, PoolRuns};
 
     type Opening = Buckets;
 
