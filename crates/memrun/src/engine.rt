@@ -12,7 +12,7 @@ use crate::reading::read_script;
 use crate::script::Script;
 use crate::sending::send;
 use crate::status::{Failure, Status};
-use std::alloc::Global;
+use std::alloc::{AllocError, Global};
 use std::io::Write;
 
 /// Checks every line after the first, and then makes the machine and runs it.
@@ -63,10 +63,11 @@ fn write_refusal<W: Write>(alloc: Global, number: usize, writer: &mut W) -> Resu
     writer.flush().map_err(|_| Failure::Output)
 }
 
-fn refusal_line(number: usize, line: &mut Vec<u8>) -> Result<(), Failure>
+/// Renders a refusal behind what the line has. Only memory can be refused.
+fn refusal_line(number: usize, line: &mut Vec<u8>) -> Result<(), AllocError>
     ensures { OnOk result (line.new.items ≡ line.old.items ++ refusal_text number) }
 {
-    writeln!(line, "line {number}: refused").map_err(|_| Failure::Memory)
+    writeln!(line, "line {number}: refused").map_err(|_| AllocError)
 }
 
 /// Makes the machine of an opening and runs a script on it.
@@ -148,16 +149,18 @@ fn show<M: Machine, W: Write>(
     send(line, writer)
 }
 
-fn reply_line<M: Machine>(reply: &M::Reply, line: &mut Vec<u8>) -> Result<(), Failure>
+/// Renders a reply as the line. Only memory can be refused.
+fn reply_line<M: Machine>(reply: &M::Reply, line: &mut Vec<u8>) -> Result<(), AllocError>
     ensures { OnOk result (line.new.items ≡ M.reply_text reply.now) }
 {
     line.clear();
-    M::write_reply(reply, line).map_err(|_| Failure::Memory)
+    M::write_reply(reply, line).map_err(|_| AllocError)
 }
 
-fn state_line<M: Machine>(machine: &M, line: &mut Vec<u8>) -> Result<(), Failure>
+/// Renders the state as the line. Only memory can be refused.
+fn state_line<M: Machine>(machine: &M, line: &mut Vec<u8>) -> Result<(), AllocError>
     ensures { OnOk result (line.new.items ≡ M.state_text machine.now) }
 {
     line.clear();
-    machine.write_state(line).map_err(|_| Failure::Memory)
+    machine.write_state(line).map_err(|_| AllocError)
 }
