@@ -50,7 +50,7 @@ fills-once region bucket one other fills_one fills_other =
     ]
 
 -- what is cut from a region by a layout fills that region by that layout
-cut-fills : (region : Region) (bucket : Layout) (geometry : PoolGeometry) → IsCut region bucket geometry →
+pub cut-fills : (region : Region) (bucket : Layout) (geometry : PoolGeometry) → IsCut region bucket geometry →
     FillsRegion (pool_geometry region bucket geometry.buckets)
 cut-fills region bucket geometry cut =
     subst (λ (r : Region). FillsRegion (pool_geometry r bucket geometry.buckets)) cut.region

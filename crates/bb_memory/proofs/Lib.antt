@@ -1,7 +1,10 @@
 mod Cuts
+mod Geometries
 mod NumberFlags
 mod NumberWords
 mod OneChunks
+mod PoolAnswers
 mod PoolCalls
+mod PoolRuns
 mod Pools
 mod Positions
