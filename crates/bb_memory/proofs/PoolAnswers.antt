@@ -14,8 +14,8 @@ use Rattle.bb_memory_base.specs.declared.allocator.AllocationShrinkError.{Alloca
 use Rattle.bb_memory_base.specs.declared.allocator.AllocationShrinkError.TheVariants as shrink
 use Rattle.bb_memory_base.proofs.PoolGeometries.{bucket_place-aligned}
 use Rattle.bb_memory_base.proofs.PoolLists.{count_at, at_from_count, count_from_at, inside_from_bucket}
-use Rattle.bb_memory.proofs.Positions.{All-from_positions}
 use Rattle.bb_memory.proofs.PoolCalls.{bucket_place-multiple}
+use Rattle.bb_memory.proofs.Positions.{All-from_positions}
 
 -- REQUESTS
 
@@ -121,8 +121,10 @@ answer-len geometry live layout chunk (i, may, given) = ap (λ (c : Chunk). c.le
 pub answer-new : (geometry : PoolGeometry) (live : List Chunk) (layout : Layout) (chunk : Chunk) →
     MayAllocate geometry live layout (Ok chunk) → All (λ other. other.place ≢ chunk.place) live
 answer-new geometry live layout chunk (i, may, given) =
-    All-from_positions (λ (other : Chunk). other.place ≢ chunk.place) live (λ position other at same.
-        may.free (position, record { chunk = other; there = at; placed = same ∙ ap (λ (c : Chunk). c.place) given }))
+    let here : chunk.place ≡ bucket_place geometry i = ap (λ (c : Chunk). c.place) given in
+    let New : Chunk → Type 0 = λ other. other.place ≢ chunk.place in
+    All-from_positions New live
+    (λ position other at same. may.free (position, record { chunk = other; there = at; placed = same ∙ here }))
 
 pub answer-inside : (geometry : PoolGeometry) (live : List Chunk) (layout : Layout) (chunk : Chunk) →
     IsPoolGeometry geometry → MayAllocate geometry live layout (Ok chunk) → IsInside geometry.region chunk

@@ -28,8 +28,8 @@ use crate::layout::Chunk;
 pub use crate::layout::Layout;
 use crate::region::Region;
 use buckets::{Buckets, count_buckets, may_be_cut};
-pub use laws::{pool_geometry_law, pool_object_law};
 pub use fixed_size::{FixedSizePoolAllocator, run_base_fixed_pool, run_fixed_pool};
+pub use laws::{pool_geometry_law, pool_object_law};
 use std::alloc::{AllocError, Allocator as LanguageAllocator, Global};
 use std::marker::Model;
 
