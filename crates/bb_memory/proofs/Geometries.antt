@@ -22,7 +22,8 @@ pub one_cut : (region : Region) (bucket : Layout) (one other : PoolGeometry) →
     IsCut region bucket other → one ≡ other
 one_cut region bucket one other first second =
     let count : one.buckets ≡ other.buckets =
-    fills-once region bucket one.buckets other.buckets (cut-fills region bucket one first) (cut-fills region bucket other second) in
+    fills-once region bucket one.buckets other.buckets
+    (cut-fills region bucket one first) (cut-fills region bucket other second) in
     cut-parts region bucket one first
     ∙ ap (λ n. pool_geometry region bucket n) count
     ∙ sym (cut-parts region bucket other second)

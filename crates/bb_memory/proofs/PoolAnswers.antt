@@ -160,7 +160,8 @@ some_grow bucket place old new =
 -- a request to grow that is granted isn't refused
 grown_or_refused : (bucket : Layout) (place : ℕ) (old new : Layout) (grown : Chunk) (error : AllocationGrowError) →
     MayGrow bucket place old new (Ok grown) → ¬ MayGrow bucket place old new (Err error)
-grown_or_refused bucket place old new grown grow.GrowWouldShrink (longer, within, given) refused = omega (arith, longer, refused)
+grown_or_refused bucket place old new grown grow.GrowWouldShrink (longer, within, given) refused =
+    omega (arith, longer, refused)
 grown_or_refused bucket place old new grown grow.AlignmentFailure (longer, within, given) refused =
     let fine = within.align in omega (arith, refused.1)
 grown_or_refused bucket place old new grown grow.OutOfMemory (longer, within, given) refused =
@@ -170,8 +171,10 @@ grown_or_refused bucket place old new grown grow.OutOfMemory (longer, within, gi
 pub one_grow : (bucket : Layout) (place : ℕ) (old new : Layout) (one other : Result Chunk AllocationGrowError) →
     MayGrow bucket place old new one → MayGrow bucket place old new other → one ≡ other
 one_grow bucket place old new (Ok c) (Ok d) first second = ap Ok (first.2 ∙ sym second.2)
-one_grow bucket place old new (Ok c) (Err error) first second = absurd (grown_or_refused bucket place old new c error first second)
-one_grow bucket place old new (Err error) (Ok c) first second = absurd (grown_or_refused bucket place old new c error second first)
+one_grow bucket place old new (Ok c) (Err error) first second =
+    absurd (grown_or_refused bucket place old new c error first second)
+one_grow bucket place old new (Err error) (Ok c) first second =
+    absurd (grown_or_refused bucket place old new c error second first)
 one_grow bucket place old new (Err grow.GrowWouldShrink) (Err grow.GrowWouldShrink) first second = refl
 one_grow bucket place old new (Err grow.AlignmentFailure) (Err grow.AlignmentFailure) first second = refl
 one_grow bucket place old new (Err grow.OutOfMemory) (Err grow.OutOfMemory) first second = refl
