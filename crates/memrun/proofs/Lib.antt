@@ -7,6 +7,7 @@ mod Layouts
 mod LineEnds
 mod Numbers
 mod Openings
+mod PoolPlans
 mod PoolShows
 mod ScriptLines
 mod Sends

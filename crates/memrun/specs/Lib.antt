@@ -2,12 +2,15 @@ pub mod Batches
 pub mod BumpScript
 pub mod BumpStepScript
 pub mod Ending
+pub mod FixedPoolScript
 pub mod Grammar
 pub mod Kinds
 pub mod Lines
 pub mod LiveState
 pub mod OneChunkScript
 pub mod Parties
+pub mod PoolPlan
+pub mod PoolScript
 pub mod PoolStepScript
 pub mod Program
 pub mod Replies

@@ -6,15 +6,19 @@ use Rattle.memrun.specs.Transcript.{IsTranscript, IsLaterRefused, BeginsLaterOut
 use Rattle.memrun.specs.Kinds.{kind_line, IsKind}
 use Rattle.memrun.specs.BumpScript.{bump_machine}
 use Rattle.memrun.specs.OneChunkScript.{one_chunk_machine}
+use Rattle.memrun.specs.PoolScript.{pool_machine}
+use Rattle.memrun.specs.FixedPoolScript.{fixed_pool_machine}
 use Rattle.memrun.specs.BumpStepScript.{bump_world_machine}
 use Rattle.memrun.specs.PoolStepScript.{pool_world_machine}
 use Rattle.memrun.specs.declared.kind.Kind.{Kind}
-use Rattle.memrun.specs.declared.kind.Kind.TheVariants.{Bump, OneChunk, BumpSteps, PoolSteps}
+use Rattle.memrun.specs.declared.kind.Kind.TheVariants.{Bump, OneChunk, Pool, FixedPool, BumpSteps, PoolSteps}
 
 -- the text is what a script of this kind, with these lines behind the first, is answered
 abbrev pub Answers : Kind → List (List ℕ) → List ℕ → Type 0
 Answers (Bump region) rest text = IsTranscript bump_machine region rest text
 Answers (OneChunk region) rest text = IsTranscript one_chunk_machine region rest text
+Answers (Pool plan) rest text = IsTranscript pool_machine plan rest text
+Answers (FixedPool plan) rest text = IsTranscript fixed_pool_machine plan rest text
 Answers (BumpSteps region) rest text = IsTranscript bump_world_machine region rest text
 Answers (PoolSteps count) rest text = IsTranscript pool_world_machine count rest text
 
@@ -22,6 +26,8 @@ Answers (PoolSteps count) rest text = IsTranscript pool_world_machine count rest
 abbrev pub Refuses : Kind → List (List ℕ) → ℕ → Type 0
 Refuses (Bump region) rest number = IsLaterRefused bump_machine rest number
 Refuses (OneChunk region) rest number = IsLaterRefused one_chunk_machine rest number
+Refuses (Pool plan) rest number = IsLaterRefused pool_machine rest number
+Refuses (FixedPool plan) rest number = IsLaterRefused fixed_pool_machine rest number
 Refuses (BumpSteps region) rest number = IsLaterRefused bump_world_machine rest number
 Refuses (PoolSteps count) rest number = IsLaterRefused pool_world_machine rest number
 
@@ -29,6 +35,8 @@ Refuses (PoolSteps count) rest number = IsLaterRefused pool_world_machine rest n
 abbrev pub BeginsOutputOf : Kind → List (List ℕ) → List ℕ → Type 0
 BeginsOutputOf (Bump region) rest sent = BeginsLaterOutput bump_machine region rest sent
 BeginsOutputOf (OneChunk region) rest sent = BeginsLaterOutput one_chunk_machine region rest sent
+BeginsOutputOf (Pool plan) rest sent = BeginsLaterOutput pool_machine plan rest sent
+BeginsOutputOf (FixedPool plan) rest sent = BeginsLaterOutput fixed_pool_machine plan rest sent
 BeginsOutputOf (BumpSteps region) rest sent = BeginsLaterOutput bump_world_machine region rest sent
 BeginsOutputOf (PoolSteps count) rest sent = BeginsLaterOutput pool_world_machine count rest sent
 

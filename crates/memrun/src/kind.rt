@@ -3,17 +3,21 @@ ghost use Rattle.std.specs.Prelude.{◌≡◌, ℕ, IfSome, Some};
 ghost use Rattle.bb_memory_base.specs.Region.{Region, IsRegion};
 ghost use Rattle.memrun.specs.Grammar.{bump_line, bump_steps_line, one_chunk_line};
 ghost use Rattle.memrun.specs.Kinds.{IsKind, kind_line};
+ghost use Rattle.memrun.specs.PoolPlan.{PoolPlan, IsPoolPlan, fixed_pool_line, pool_line};
 ghost use Rattle.memrun.specs.PoolStepScript.{IsBucketCount, pool_steps_line};
 ghost use Rattle.memrun.specs.declared.kind.Kind.{Kind};
 
 use crate::bounds::Bounds;
 use crate::buckets::Buckets;
+use crate::pool_plan::PoolPlan;
 
 /// What a script drives, as its first line says.
 #[derive(Debug, Clone, Copy, PartialEq, Eq)]
 pub enum Kind {
     Bump(Bounds),
     OneChunk(Bounds),
+    Pool(PoolPlan),
+    FixedPool(PoolPlan),
     BumpSteps(Bounds),
     PoolSteps(Buckets),
 }
@@ -28,6 +32,12 @@ pub fn read_kind(line: &[u8]) -> Option<Kind>
     }
     if let Some(region) = read_one_chunk(line) {
         return Some(Kind::OneChunk(region));
+    }
+    if let Some(plan) = read_pool(line) {
+        return Some(Kind::Pool(plan));
+    }
+    if let Some(plan) = read_fixed_pool(line) {
+        return Some(Kind::FixedPool(plan));
     }
     if let Some(region) = read_bump_steps(line) {
         return Some(Kind::BumpSteps(region));
@@ -50,6 +60,22 @@ fn read_one_chunk(line: &[u8]) -> Option<Bounds>
         → result ≡ Some region }
 {
     Bounds::read(line.strip_prefix(b"one ")?)
+}
+
+fn read_pool(line: &[u8]) -> Option<PoolPlan>
+    ensures written { IfSome result (λ plan. IsPoolPlan plan × (line.now ≡ pool_line plan)) }
+    ensures each { (plan : PoolPlan) → IsPoolPlan plan → line.now ≡ pool_line plan
+        → result ≡ Some plan }
+{
+    PoolPlan::read(line.strip_prefix(b"pool ")?)
+}
+
+fn read_fixed_pool(line: &[u8]) -> Option<PoolPlan>
+    ensures written { IfSome result (λ plan. IsPoolPlan plan × (line.now ≡ fixed_pool_line plan)) }
+    ensures each { (plan : PoolPlan) → IsPoolPlan plan → line.now ≡ fixed_pool_line plan
+        → result ≡ Some plan }
+{
+    PoolPlan::read(line.strip_prefix(b"fixed ")?)
 }
 
 fn read_bump_steps(line: &[u8]) -> Option<Bounds>

@@ -14,6 +14,7 @@ use crate::pool_steps::PoolSteps;
 use crate::status::Status;
 use bb_memory::bump_allocator::BumpAllocator;
 use bb_memory::one_chunk_allocator::OneChunkAllocator;
+use bb_memory::pool_allocator::{FixedSizePoolAllocator, PoolAllocator};
 use bb_memory::steps::BumpWorld;
 use std::alloc::Global;
 use std::io;
@@ -98,6 +99,10 @@ fn run_kind<W: Write>(alloc: Global, kind: Kind, rest: &[u8], writer: &mut W) ->
     match kind {
         Kind::Bump(region) => drive::<Live<BumpAllocator>, W>(alloc, region, rest, writer),
         Kind::OneChunk(region) => drive::<Live<OneChunkAllocator>, W>(alloc, region, rest, writer),
+        Kind::Pool(plan) => drive::<Live<PoolAllocator<Global>>, W>(alloc, plan, rest, writer),
+        Kind::FixedPool(plan) => {
+            drive::<Live<FixedSizePoolAllocator<512>>, W>(alloc, plan, rest, writer)
+        }
         Kind::BumpSteps(region) => drive::<BumpWorld, W>(alloc, region, rest, writer),
         Kind::PoolSteps(buckets) => drive::<PoolSteps, W>(alloc, buckets, rest, writer),
     }

@@ -1,0 +1,48 @@
+//! A pool that a script drives.
+use crate::allocators::Scripted;
+use crate::pool_plan::PoolPlan;
+use bb_memory::allocator::{Command, Reply};
+use bb_memory::layout::Chunk;
+use bb_memory::pool_allocator::{PoolAllocator, run_pool};
+use std::alloc::{AllocError, Global};
+use std::io;
+use std::io::Write;
+
+impl Scripted for PoolAllocator<Global> {
+    ghost use Rattle.memrun.specs.PoolScript.{BeginsPool, CountedPoolRuns, pool_state};
+
+    type Opening = PoolPlan;
+
+    ghost opens = { BeginsPool };
+
+    ghost runs = { CountedPoolRuns };
+
+    ghost state_text = { pool_state };
+
+    fn make(alloc: Global, opening: PoolPlan) -> Result<Self, AllocError> {
+        opening.pool(alloc)
+    }
+
+    fn run(
+        &mut self,
+        live: &mut Vec<Chunk>,
+        commands: &[Command],
+    ) -> Result<Vec<Reply>, AllocError> {
+        let replies = run_pool(self, live, commands)?;
+        let _ = self.last_reads();
+        Ok(replies)
+    }
+
+    fn write_state<W: Write>(&self, live: usize, writer: &mut W) -> io::Result<()> {
+        let start = self.start_address();
+        let size = self.size();
+        let bucket = self.bucket_size();
+        let align = self.max_alignment();
+        let buckets = self.number_of_buckets();
+        let reads = self.last_reads();
+        writeln!(
+            writer,
+            "pool start {start} size {size} bucket {bucket} align {align} buckets {buckets} live {live} reads {reads}"
+        )
+    }
+}
