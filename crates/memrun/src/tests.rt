@@ -1,6 +1,7 @@
 //! Worked rows, faults of readers and writers, and refused memory.
 mod calls;
 mod faults;
+mod pool_rows;
 mod refused_in_turn;
 mod regions;
 mod rows;

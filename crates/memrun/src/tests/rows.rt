@@ -5,7 +5,7 @@ use std::alloc::{AllocError, Global};
 use std::test::Fail;
 
 /// The text with a line feed for each semicolon and the space behind it, and one at the end.
-fn lines(alloc: Global, text: &str) -> Result<Vec<u8>, AllocError> {
+pub(super) fn lines(alloc: Global, text: &str) -> Result<Vec<u8>, AllocError> {
     let mut bytes = Vec::new(alloc);
     if text.is_empty() {
         return Ok(bytes);
@@ -217,6 +217,21 @@ fn unreadable_scripts(rt: HostRuntime) -> Result<(), Fail> {
         (
             "script-too-many-buckets",
             b"steps-pool 4097\n".as_slice(),
+            1,
+        ),
+        (
+            "script-pool-at-bucket-limit",
+            b"pool 4096 4294967295 1 1\n".as_slice(),
+            1,
+        ),
+        (
+            "script-pool-bucket-size-zero",
+            b"pool 4096 1024 0 8\n".as_slice(),
+            1,
+        ),
+        (
+            "script-pool-start-past-top",
+            b"pool 18446744073709551600 15 1 4611686018427387904\n".as_slice(),
             1,
         ),
         ("a region at 0", b"bump 0 8\n".as_slice(), 1),
