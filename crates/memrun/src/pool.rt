@@ -29,6 +29,7 @@ impl Scripted for PoolAllocator<Global> {
         commands: &[Command],
     ) -> Result<Vec<Reply>, AllocError> {
         let replies = run_pool(self, live, commands)?;
+        // This bounds what `show` writes as the reads.
         let _ = self.last_reads();
         Ok(replies)
     }
