@@ -7,5 +7,3 @@ pub mod bump_allocator;
 mod index_set;
 pub mod one_chunk_allocator;
 pub mod pool_allocator;
-#[cfg(test)]
-mod tests;

@@ -2,6 +2,7 @@
 mod calls;
 mod faults;
 mod pool_rows;
+mod pools;
 mod refused_in_turn;
 mod regions;
 mod rows;

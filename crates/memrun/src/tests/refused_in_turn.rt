@@ -9,6 +9,7 @@ use bb_memory::allocator::{
 use bb_memory::bump_allocator::BumpAllocator;
 use bb_memory::layout::{Chunk, Layout};
 use bb_memory::one_chunk_allocator::OneChunkAllocator;
+use bb_memory::pool_allocator::PoolAllocator;
 use bb_memory::steps::{BumpOutcome, BumpStep, BumpWorld, PoolOutcome, PoolStep, PoolWorld};
 use std::test::Fail;
 
@@ -171,4 +172,31 @@ fn the_program_ends_with_status_4(rt: HostRuntime) {
             assert_eq!(rt; told.as_slice(), FIRST_PATH_LINES);
         }
     }
+}
+
+/// Row `pool-odd-start-getters`, after a refused `init` by a second one.
+#[test]
+fn init_hands_the_pool_back(rt: HostRuntime) -> Result<(), Fail> {
+    let bucket = Layout::from_size_align(128, 8)?;
+    if !PoolAllocator::can_make(bucket, 4097, 1024) {
+        return Err(Fail::from("no pool can be made of that"));
+    }
+    let uninit = PoolAllocator::new_uninit(bucket, 4097, 1024);
+    let made = match uninit.init(rt.alloc()) {
+        Ok(pool) => Ok(pool),
+        Err((handed_back, error)) => {
+            assert_eq!(rt; error, AllocationError::OutOfMemory);
+            handed_back.init(rt.alloc())
+        }
+    };
+    let Ok(pool) = made else {
+        return Err(Fail::from("init was refused with memory"));
+    };
+    assert_eq!(rt; (pool.start_address(), pool.number_of_buckets()), (4104, 7));
+    assert_eq!(rt;
+        (pool.size(), pool.bucket_size(), pool.max_alignment()),
+        (1024, 128, 8)
+    );
+    assert_eq!(rt; pool.last_reads(), 0);
+    Ok(())
 }

@@ -2,13 +2,13 @@
 ghost use Rattle.std.specs.Prelude.{◌≡◌, IfOk};
 ghost use Rattle.bb_memory_base.specs.Region.{region_at};
 
-use crate::allocator::{Command, Reply};
-use crate::layout::{Chunk, Layout};
-use crate::pool_allocator::{
+use bb_memory::allocator::{Command, Reply};
+use bb_memory::layout::{Chunk, Layout};
+use bb_memory::pool_allocator::{
     AllocationError, AllocationGrowError, Allocator, BaseAllocator, FixedSizePoolAllocator,
     PoolAllocator, run_base_fixed_pool, run_base_pool, run_fixed_pool, run_pool,
 };
-use crate::region::Region;
+use bb_memory::region::Region;
 use std::alloc::Global;
 use std::test::Fail;
 

@@ -1,3 +1,0 @@
-//! Worked rows, and refused memory.
-mod pools;
-mod refused_in_turn;
