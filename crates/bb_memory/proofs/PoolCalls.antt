@@ -1,14 +1,13 @@
 -- What a pool's requests and releases make of each live list that it stands for.
-use Rattle.std.proofs.Common.{◌≡◌, ◌≢◌, ℕ, suc, ◌+◌, ◌-◌, ◌*◌, ◌/◌, ◌%◌, ◌^◌, ◌<◌, ◌≤◌, ◌↔◌, Bool, true, false, List, [], ◌∷◌, ◌++◌, length, Result, Ok, Err, refl, sym, ap, subst, ◌∙◌, arith, Some, inl, inr, div-add-mod', pow_pos, pow_mono, pow-add, pow-suc}
+use Rattle.std.proofs.Common.{◌≡◌, ℕ, suc, ◌+◌, ◌-◌, ◌*◌, ◌/◌, ◌%◌, ◌^◌, ◌<◌, ◌≤◌, ◌↔◌, true, false, List, [], ◌∷◌, ◌++◌, Result, Ok, Err, refl, sym, ap, subst, ◌∙◌, arith, Some, inl, inr, div-add-mod', pow_pos, pow_mono, pow-add, pow-suc}
 use Rattle.std.specs.Prelude.{slice_get, slice_set, remove, IsOk, IfOk, OnErr}
 use Rattle.std.specs.Int.{IsPowerOfTwo}
 use Rattle.std.proofs.Math.Nat.{mul_assoc}
 use Rattle.std.proofs.lemmas.Bool.{cases_lt}
 use Rattle.std.proofs.lemmas.Nat.{mod-mul-add}
-use Rattle.bb_memory_base.specs.Region.{IsRegion}
 use Rattle.bb_memory_base.specs.Chunk.{Chunk, IsInside}
-use Rattle.bb_memory_base.specs.PoolGeometry.{PoolGeometry, bucket_place, IsPoolGeometry}
-use Rattle.bb_memory_base.specs.PoolObject.{IsHeld, IsWithin, chunk_in, MayAllocate, MayGrow, MayShrink}
+use Rattle.bb_memory_base.specs.PoolGeometry.{PoolGeometry, bucket_place}
+use Rattle.bb_memory_base.specs.PoolObject.{IsWithin, chunk_in, MayAllocate, MayGrow, MayShrink}
 use Rattle.bb_memory_base.specs.declared.layout.Layout.{Layout}
 use Rattle.bb_memory_base.specs.declared.allocator.AllocationError.{AllocationError}
 use Rattle.bb_memory_base.specs.declared.allocator.AllocationError.TheVariants.{SizeIsZero, SizeTooLarge, AlignmentFailure, OutOfMemory}
@@ -17,8 +16,8 @@ use Rattle.bb_memory_base.specs.declared.allocator.AllocationShrinkError.{Alloca
 use Rattle.bb_memory_base.proofs.Layouts.{layout-plain}
 use Rattle.bb_memory_base.proofs.PoolGeometries.{bucket_place-aligned}
 use Rattle.bb_memory_base.proofs.SliceGets.{slice_get-set_same}
-use Rattle.bb_memory.specs.NumberSet.{Has, Lacks, IsFull}
-use Rattle.bb_memory.specs.Pool.{Pool, IsPool, StandsFor, HoldsPlace, Takes, Frees, with_flag, fresh_pool}
+use Rattle.bb_memory.specs.NumberSet.{Has, Lacks}
+use Rattle.bb_memory.specs.Pool.{Pool, IsPool, StandsFor, HoldsPlace, Takes, Frees, with_flag}
 use Rattle.bb_memory.proofs.Pools.{Has-set_true, IsPool-with_flag, bucket-below, filled-at, held-inside, lacked-free, stands-given, stands-freed, stands-resized}
 
 -- POWERS OF TWO
@@ -113,10 +112,10 @@ Takes-accepted pool layout (Err AlignmentFailure) new is takes =
 Takes-accepted pool layout (Err OutOfMemory) new is (within, full, after) = (
   λ ok. absurd (cc),
   λ may. absurd (
-    let held = full may.1.0 (omega (arith, is.flags, bucket-below pool is may.1.0 false may.1.1)) in
-    let e : Some true ≡ Some false = sym held ∙ may.1.1 in
-    cc
-  ),
+      let held = full may.1.0 (omega (arith, is.flags, bucket-below pool is may.1.0 false may.1.1)) in
+      let e : Some true ≡ Some false = sym held ∙ may.1.1 in
+      cc
+      ),
 )
 Takes-accepted pool layout (Err SizeIsZero) new is takes = absurd takes
 
@@ -205,7 +204,7 @@ MayGrow-inside pool place old new (Err error) is holds may = tt
 pub MayGrow-resized : (pool : Pool) (place : ℕ) (old new : Layout) (answer : Result Chunk AllocationGrowError) → IsPool pool →
     MayGrow pool.geometry.bucket place old new answer →
     IfOk answer (λ grown. (live : List Chunk) (position : ℕ) (chunk : Chunk) → StandsFor pool live →
-        slice_get live position ≡ Some chunk → chunk.place ≡ place → StandsFor pool (slice_set live position grown))
+    slice_get live position ≡ Some chunk → chunk.place ≡ place → StandsFor pool (slice_set live position grown))
 MayGrow-resized pool place old new (Ok grown) is (longer, within, given) = λ live position chunk stands at there.
     stands-resized pool live position chunk grown is stands at (ap (λ (c : Chunk). c.place) given ∙ sym there)
     (let small = within.size in omega (arith, ap (λ (c : Chunk). c.len) given))
@@ -222,7 +221,7 @@ MayShrink-inside pool place old new (Err error) is holds within may = tt
 pub MayShrink-resized : (pool : Pool) (place : ℕ) (old new : Layout) (answer : Result Chunk AllocationShrinkError) →
     IsPool pool → old.size ≤ pool.geometry.bucket.size → MayShrink pool.geometry.bucket place old new answer →
     IfOk answer (λ shrunk. (live : List Chunk) (position : ℕ) (chunk : Chunk) → StandsFor pool live →
-        slice_get live position ≡ Some chunk → chunk.place ≡ place → StandsFor pool (slice_set live position shrunk))
+    slice_get live position ≡ Some chunk → chunk.place ≡ place → StandsFor pool (slice_set live position shrunk))
 MayShrink-resized pool place old new (Ok shrunk) is within (shorter, aligned, given) = λ live position chunk stands at there.
     stands-resized pool live position chunk shrunk is stands at (ap (λ (c : Chunk). c.place) given ∙ sym there)
     (omega (arith, ap (λ (c : Chunk). c.len) given))

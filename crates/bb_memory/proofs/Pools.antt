@@ -1,14 +1,12 @@
 -- The live lists that a pool stands for: of no chunk, of one more, of one less, and with one resized.
-use Rattle.std.proofs.Common.{◌≡◌, ◌≢◌, ℕ, zero, suc, ◌+◌, ◌<◌, ◌≤◌, Bool, true, false, List, [], ◌∷◌, ◌++◌, length, replicate, refl, sym, ap, subst, ◌∙◌, arith, Some, ◌⊎◌, inl, inr}
-use Rattle.std.specs.Prelude.{slice_get, slice_set, remove, All, AllPairs}
+use Rattle.std.proofs.Common.{◌≡◌, ◌≢◌, ℕ, zero, suc, ◌+◌, ◌<◌, ◌≤◌, Bool, true, false, List, [], ◌∷◌, ◌++◌, length, refl, sym, ap, subst, ◌∙◌, arith, Some, ◌⊎◌, inl, inr}
+use Rattle.std.specs.Prelude.{slice_get, slice_set, remove, All}
 use Rattle.std.proofs.lemmas.Bool.{cases_lt}
 use Rattle.std.proofs.lemmas.Option.{slice_get_within, slice_get-get_or, same_Some}
 use Rattle.std.proofs.lemmas.List.Elements.{All-push}
 use Rattle.std.proofs.lemmas.List.Kept.{AllPairs-cons}
 use Rattle.std.proofs.lemmas.List.Quantifiers.{all_pairs_push, all_pairs_remove}
-use Rattle.bb_memory_base.specs.Region.{IsRegion}
 use Rattle.bb_memory_base.specs.Chunk.{Chunk, IsInside}
-use Rattle.bb_memory_base.specs.LiveList.{IsSound}
 use Rattle.bb_memory_base.specs.ResizableObject.{PlacesDiffer}
 use Rattle.bb_memory_base.specs.PoolGeometry.{PoolGeometry, bucket_place, IsPoolGeometry}
 use Rattle.bb_memory_base.specs.PoolObject.{IsAt, IsHeld, IsWithin, chunk_in}
@@ -17,7 +15,7 @@ use Rattle.bb_memory_base.proofs.PoolGeometries.{bucket_place-apart}
 use Rattle.bb_memory_base.proofs.PoolLists.{IsInBucket, AreInBuckets-from_places, inside_from_bucket, sound_from_buckets}
 use Rattle.bb_memory_base.proofs.SliceGets.{slice_get-set, slice_get-set_other, slice_get-set_same, slice_get-replicated, length-set_at}
 use Rattle.bb_memory.specs.NumberSet.{Has, Lacks}
-use Rattle.bb_memory.specs.Pool.{Pool, IsPool, Fills, StandsFor, HoldsPlace, pool_of, fresh_pool, with_flag}
+use Rattle.bb_memory.specs.Pool.{Pool, IsPool, Fills, StandsFor, HoldsPlace, fresh_pool, with_flag}
 use Rattle.bb_memory.proofs.Positions.{All-at, All-from_positions, AllPairs-at, AllPairs-from_positions, slice_get-push_old, slice_get-push_new, slice_get-removed, slice_get-unremoved}
 
 -- two numbers are the same or not
@@ -137,15 +135,15 @@ stands-given pool live layout i is stands within lacks =
     all_pairs_push (λ (one other : Chunk). one.place ≢ other.place) live chunk stands.differ
     (λ k d below same. lacked-free pool live is stands i lacks (k, record { chunk = _; there = slice_get-get_or live k d below; placed = same })) in
     stands_from new (IsPool-with_flag pool is i true) (live ++ chunk ∷ []) filled differ (λ j has.
-        elim (slice_get-set pool.held i j true true has) [
-          | inl was ↦
-              let at = stands.held j was in
-              (at.0, record { chunk = at.1.chunk; there = slice_get-push_old live at.0 at.1.chunk chunk at.1.there; placed = at.1.placed })
-          | inr now ↦ (
-            length live,
-            record { chunk = chunk; there = slice_get-push_new live chunk; placed = ap (bucket_place pool.geometry) (sym now.0) },
-          )
-        ])
+    elim (slice_get-set pool.held i j true true has) [
+      | inl was ↦
+          let at = stands.held j was in
+          (at.0, record { chunk = at.1.chunk; there = slice_get-push_old live at.0 at.1.chunk chunk at.1.there; placed = at.1.placed })
+      | inr now ↦ (
+        length live,
+        record { chunk = chunk; there = slice_get-push_new live chunk; placed = ap (bucket_place pool.geometry) (sym now.0) },
+      )
+    ])
 
 -- ONE LESS
 
@@ -157,24 +155,24 @@ stands-freed pool live position i chunk is stands at fills =
     let here : slice_get new.held i ≡ Some false = slice_get-set_same pool.held i false true fills.held in
     let filled : All (λ (c : Chunk). (j : ℕ) × Fills new c j) (remove live position) =
     All-from_positions (λ (c : Chunk). (j : ℕ) × Fills new c j) (remove live position) (λ k other there.
-        let was = slice_get-removed live position k other there in
-        let b = filled-at pool live stands was.0 other was.2 in
-        let apart : b.0 ≢ i = λ same. places-apart live stands.differ was.0 position other chunk was.1 was.2 at
-        (b.1.placed ∙ ap (bucket_place pool.geometry) same ∙ sym fills.placed) in
-        (b.0, record { held = slice_get-set_other pool.held i b.0 false apart ∙ b.1.held; placed = b.1.placed; short = b.1.short })) in
+    let was = slice_get-removed live position k other there in
+    let b = filled-at pool live stands was.0 other was.2 in
+    let apart : b.0 ≢ i = λ same. places-apart live stands.differ was.0 position other chunk was.1 was.2 at
+    (b.1.placed ∙ ap (bucket_place pool.geometry) same ∙ sym fills.placed) in
+    (b.0, record { held = slice_get-set_other pool.held i b.0 false apart ∙ b.1.held; placed = b.1.placed; short = b.1.short })) in
     let differ : PlacesDiffer (remove live position) =
     all_pairs_remove (λ (one other : Chunk). one.place ≢ other.place) live position (slice_get_within live position chunk at) stands.differ in
     stands_from new (IsPool-with_flag pool is i false) (remove live position) filled differ (λ j has.
-        elim (same_or_not j i) [
-          | inl same ↦ absurd (let e : Some true ≡ Some false = sym has ∙ (ap (slice_get new.held) same ∙ here) in cc)
-          | inr apart ↦
-              let was = stands.held j (sym (slice_get-set_other pool.held i j false apart) ∙ has) in
-              let moved : was.0 ≢ position = λ same.
-              let c : was.1.chunk ≡ chunk = same_Some was.1.chunk chunk (sym was.1.there ∙ (ap (slice_get live) same ∙ at)) in
-              apart (one_bucket pool.geometry is.geometry j i (sym was.1.placed ∙ ap (λ (x : Chunk). x.place) c ∙ fills.placed)) in
-              let still = slice_get-unremoved live position was.0 was.1.chunk moved was.1.there in
-              (still.0, record { chunk = was.1.chunk; there = still.1; placed = was.1.placed })
-        ])
+    elim (same_or_not j i) [
+      | inl same ↦ absurd (let e : Some true ≡ Some false = sym has ∙ (ap (slice_get new.held) same ∙ here) in cc)
+      | inr apart ↦
+          let was = stands.held j (sym (slice_get-set_other pool.held i j false apart) ∙ has) in
+          let moved : was.0 ≢ position = λ same.
+          let c : was.1.chunk ≡ chunk = same_Some was.1.chunk chunk (sym was.1.there ∙ (ap (slice_get live) same ∙ at)) in
+          apart (one_bucket pool.geometry is.geometry j i (sym was.1.placed ∙ ap (λ (x : Chunk). x.place) c ∙ fills.placed)) in
+          let still = slice_get-unremoved live position was.0 was.1.chunk moved was.1.there in
+          (still.0, record { chunk = was.1.chunk; there = still.1; placed = was.1.placed })
+    ])
 
 -- ONE RESIZED
 
@@ -219,19 +217,19 @@ stands-resized pool live position chunk resized is stands at place short =
     let fills = filled-at pool live stands position chunk at in
     let filled : All (λ (c : Chunk). (j : ℕ) × Fills pool c j) new =
     All-from_positions (λ (c : Chunk). (j : ℕ) × Fills pool c j) new (λ k now there.
-        elim (slice_get-set live position k resized now there) [
-          | inl was ↦ filled-at pool live stands k now was
-          | inr set ↦ subst (λ (c : Chunk). (j : ℕ) × Fills pool c j) set.1
-              (fills.0, record { held = fills.1.held; placed = place ∙ fills.1.placed; short = short })
-        ]) in
+    elim (slice_get-set live position k resized now there) [
+      | inl was ↦ filled-at pool live stands k now was
+      | inr set ↦ subst (λ (c : Chunk). (j : ℕ) × Fills pool c j) set.1
+          (fills.0, record { held = fills.1.held; placed = place ∙ fills.1.placed; short = short })
+    ]) in
     let differ : PlacesDiffer new = AllPairs-from_positions (λ (one other : Chunk). one.place ≢ other.place) new
     (λ i j one other before at_i at_j same.
-        let p = resized-was live position chunk resized at place i one at_i in
-        let q = resized-was live position chunk resized at place j other at_j in
-        places-apart live stands.differ i j p.chunk q.chunk (λ e. omega arith) p.there q.there (p.placed ∙ (same ∙ sym q.placed))) in
+    let p = resized-was live position chunk resized at place i one at_i in
+    let q = resized-was live position chunk resized at place j other at_j in
+    places-apart live stands.differ i j p.chunk q.chunk (λ e. omega arith) p.there q.there (p.placed ∙ (same ∙ sym q.placed))) in
     stands_from pool is new filled differ (λ j has.
-        let was = stands.held j has in
-        (was.0, resized-is live position chunk resized at place was.0 (bucket_place pool.geometry j) was.1))
+    let was = stands.held j has in
+    (was.0, resized-is live position chunk resized at place was.0 (bucket_place pool.geometry j) was.1))
 
 -- SOME LIST
 
@@ -284,9 +282,9 @@ empty_chunks-differ geometry is i (true ∷ flags) =
     let R : Chunk → Chunk → Type 0 = λ one other. one.place ≢ other.place in
     AllPairs-cons R first rest
     (All-from_positions (R first) rest (λ k chunk at same.
-        let there = empty_chunks-are geometry (suc i) flags k chunk at in
-        let number : i ≡ suc i + there.number = one_bucket geometry is i (suc i + there.number) (same ∙ there.placed) in
-        omega arith))
+    let there = empty_chunks-are geometry (suc i) flags k chunk at in
+    let number : i ≡ suc i + there.number = one_bucket geometry is i (suc i + there.number) (same ∙ there.placed) in
+    omega arith))
     (empty_chunks-differ geometry is (suc i) flags)
 empty_chunks-differ geometry is i (false ∷ flags) = empty_chunks-differ geometry is (suc i) flags
 
@@ -323,13 +321,17 @@ stands_for_some pool is =
     let live : List Chunk = empty_chunks pool.geometry 0 pool.held in
     let filled : All (λ (c : Chunk). (i : ℕ) × Fills pool c i) live =
     All-from_positions (λ (c : Chunk). (i : ℕ) × Fills pool c i) live (λ k chunk at.
-        let there = empty_chunks-are pool.geometry 0 pool.held k chunk at in
-        let none : 0 + there.number ≡ there.number = omega arith in
-        (there.number, record {
-          held = there.held;
-          placed = there.placed ∙ ap (bucket_place pool.geometry) none;
-          short = omega (arith, there.short);
-        })) in
-    (live, stands_from pool is live filled (empty_chunks-differ pool.geometry is.geometry 0 pool.held) (λ i held.
-        let none : 0 + i ≡ i = omega arith in
-        subst (IsHeld pool.geometry live) none (empty_chunks-hold pool.geometry 0 pool.held i held)))
+    let there = empty_chunks-are pool.geometry 0 pool.held k chunk at in
+    let none : 0 + there.number ≡ there.number = omega arith in (
+      there.number,
+      record {
+        held = there.held;
+        placed = there.placed ∙ ap (bucket_place pool.geometry) none;
+        short = omega (arith, there.short);
+      },
+    )) in (
+      live,
+      stands_from pool is live filled (empty_chunks-differ pool.geometry is.geometry 0 pool.held) (λ i held.
+          let none : 0 + i ≡ i = omega arith in
+          subst (IsHeld pool.geometry live) none (empty_chunks-hold pool.geometry 0 pool.held i held)),
+    )

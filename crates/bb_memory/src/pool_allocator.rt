@@ -22,8 +22,8 @@ pub use crate::allocator::{
     AllocationError, AllocationGrowError, AllocationShrinkError, Allocator, BaseAllocator,
 };
 use crate::allocator::{Command, Reply, run_base, run_full};
-use crate::index_set::{Counter, IndexSet};
 use crate::index_set::words::Words;
+use crate::index_set::{Counter, IndexSet};
 use crate::layout::Chunk;
 pub use crate::layout::Layout;
 use crate::region::Region;

@@ -17,13 +17,12 @@ none_set region bucket held buckets is =
 pub returns-clause-value : goal.returns-clause-value
 returns-clause-value g c =
     let region : Region = region_at c.args.start c.args.size in
-    let whole : PoolGeometry = pool_geometry region c.args.bucket_layout c.count_buckets.result in
-    (
+    let whole : PoolGeometry = pool_geometry region c.args.bucket_layout c.count_buckets.result in (
       whole,
       c.count_buckets.ensures,
       c.new-2.ensures
-      ∙ none_set region c.args.bucket_layout c.new.result c.min-count.result c.new.ensures
-      ∙ ap (λ n. fresh_pool (pool_geometry region c.args.bucket_layout n)) c.min-count.ensures,
+          ∙ none_set region c.args.bucket_layout c.new.result c.min-count.result c.new.ensures
+          ∙ ap (λ n. fresh_pool (pool_geometry region c.args.bucket_layout n)) c.min-count.ensures,
     )
 
 pub returns-clause-empty : goal.returns-clause-empty
