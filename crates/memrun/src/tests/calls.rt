@@ -7,6 +7,8 @@ use bb_memory::allocator::{
 use bb_memory::bump_allocator::{BaseAllocator, BumpAllocator, bump_object_law, run_bump};
 use bb_memory::layout::{Chunk, Layout, layout_law, least_place_law, round_up};
 use bb_memory::one_chunk_allocator::{OneChunkAllocator, one_chunk_object_law, run_one_chunk};
+use bb_memory::pool_allocator::{pool_geometry_law, pool_object_law};
+use bb_memory::region::region_law;
 use bb_memory::steps::{bump_log_theorem, bump_theorem, pool_log_theorem, pool_theorem};
 use std::alloc::Global;
 use std::fmt::Display;
@@ -124,6 +126,9 @@ fn laws_do_nothing(_rt: HostRuntime) {
     least_place_law();
     bump_object_law();
     one_chunk_object_law();
+    pool_object_law();
+    pool_geometry_law();
+    region_law();
     bump_theorem();
     bump_log_theorem();
     pool_theorem();

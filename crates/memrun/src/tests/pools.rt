@@ -1,6 +1,7 @@
 //! The pools, each row by its name. Which free bucket is given is left open, so the tests speak of sets of places.
-ghost use Rattle.std.specs.Prelude.{◌≡◌, IfOk};
+ghost use Rattle.std.specs.Prelude.{◌≡◌, IfOk, IfSome};
 ghost use Rattle.bb_memory_base.specs.Region.{region_at};
+ghost use Rattle.bb_memory.specs.Pool.{HoldsPlace};
 
 use bb_memory::allocator::{Command, Reply};
 use bb_memory::layout::{Chunk, Layout};
@@ -10,6 +11,7 @@ use bb_memory::pool_allocator::{
 };
 use bb_memory::region::Region;
 use std::alloc::Global;
+use std::process::Abort;
 use std::test::Fail;
 
 /// A pool over a region.
@@ -18,7 +20,9 @@ fn pool_over(
     bucket: Layout,
     start: usize,
     size: usize,
-) -> Result<PoolAllocator<Global>, Fail> {
+) -> Result<PoolAllocator<Global>, Fail>
+    ensures { IfOk result (λ pool. pool.pool.geometry.region ≡ region_at start size) }
+{
     if !PoolAllocator::can_make(bucket, start, size) {
         return Err(Fail::from("no pool can be made of that"));
     }
@@ -48,7 +52,6 @@ fn pool_rounded_stride(rt: HostRuntime) -> Result<(), Fail> {
     let bucket = Layout::from_size_align(12, 8)?;
     let mut pool = pool_over(rt.alloc(), bucket, 4096, 64)?;
     assert_eq!(rt; (pool.number_of_buckets(), pool.bucket_size()), (4, 12));
-    assert_eq!(rt; PoolAllocator::memory_size(bucket, 64), 40);
     let mut places = [0; 4];
     for place in &mut places {
         *place = pool.allocate(bucket)?.place();
@@ -58,12 +61,43 @@ fn pool_rounded_stride(rt: HostRuntime) -> Result<(), Fail> {
     Ok(())
 }
 
-/// Rows `memory-size-eight-buckets` and `memory-size-below-one-bucket`.
+/// Rows `memory-size-eight-buckets`, `memory-size-unrounded` and `memory-size-below-one-bucket`.
 #[test]
 fn memory_sizes(rt: HostRuntime) -> Result<(), Fail> {
+    let wide = Layout::from_size_align(128, 8)?;
+    let odd = Layout::from_size_align(12, 8)?;
+    assert_eq!(rt; PoolAllocator::memory_size(wide, 1024), 64);
+    assert_eq!(rt; PoolAllocator::memory_size(odd, 64), 40);
+    assert_eq!(rt; PoolAllocator::memory_size(wide, 100), 0);
+    Ok(())
+}
+
+#[test]
+fn pool_odd_start_getters(rt: HostRuntime) -> Result<(), Fail> {
     let bucket = Layout::from_size_align(128, 8)?;
-    assert_eq!(rt; PoolAllocator::memory_size(bucket, 1024), 64);
-    assert_eq!(rt; PoolAllocator::memory_size(bucket, 100), 0);
+    let pool = pool_over(rt.alloc(), bucket, 4097, 1024)?;
+    assert_eq!(rt; (pool.start_address(), pool.number_of_buckets()), (4104, 7));
+    assert_eq!(rt;
+        (pool.size(), pool.bucket_size(), pool.max_alignment()),
+        (1024, 128, 8)
+    );
+    Ok(())
+}
+
+/// Calls of both pools that no row makes.
+#[test]
+fn pools_call_by_call(rt: HostRuntime) -> Result<(), Fail> {
+    let bucket = Layout::from_size_align(128, 8)?;
+    assert!(rt; !PoolAllocator::can_make(bucket, 0, 8));
+    assert!(rt; !FixedSizePoolAllocator::<4>::can_make(bucket, 4096, usize::MAX));
+    let mut pool = pool_over(rt.alloc(), bucket, 4096, 1024)?;
+    let place = pool.allocate(bucket)?.place();
+    assert_eq!(rt; pool.reserved(place), 128);
+    pool.stands_for_some_list();
+    let mut fixed = fixed_over::<4>(bucket, 4096, 1024)?;
+    let place = fixed.allocate(bucket)?.place();
+    assert_eq!(rt; fixed.reserved(place), 128);
+    fixed.stands_for_some_list();
     Ok(())
 }
 
@@ -89,30 +123,39 @@ fn fixed_constant_four(rt: HostRuntime) -> Result<(), Fail> {
     Ok(())
 }
 
+/// Takes every bucket of a pool of buckets of one byte at 4096, and answers the place that is looked for, once it was given.
+fn take_all(
+    rt: &impl Abort,
+    pool: &mut PoolAllocator<Global>,
+    places: &mut [usize],
+    wanted: usize,
+) -> Result<Option<usize>, Fail>
+    ensures { IfOk result (λ found. IfSome found (HoldsPlace pool.new.pool)) }
+{
+    let byte = Layout::from_size_align(1, 1)?;
+    let mut found = None;
+    for place in places.iter_mut() {
+        *place = pool.allocate(byte)?.place();
+        if *place == wanted {
+            found = Some(wanted);
+        }
+        assert!(rt; pool.last_reads() == 1 || pool.last_reads() == 2);
+    }
+    places.sort_unstable();
+    assert!(rt; places.iter().copied().eq(4096..4096 + places.len()));
+    assert_eq!(rt; pool.allocate(byte), Err(AllocationError::OutOfMemory));
+    Ok(found)
+}
+
 #[test]
 fn pool_sixty_five_buckets(rt: HostRuntime) -> Result<(), Fail> {
     let byte = Layout::from_size_align(1, 1)?;
     let mut pool = pool_over(rt.alloc(), byte, 4096, 65)?;
-    assert_eq!(rt; pool.last_reads(), 0);
-    let mut places = [0; 65];
-    let mut last = None;
-    for place in &mut places {
-        let chunk = pool.allocate(byte)?;
+    if let Some(place) = take_all(&rt, &mut pool, &mut [0; 65], 4160)? {
         assert!(rt; pool.last_reads() == 1 || pool.last_reads() == 2);
-        *place = chunk.place();
-        if chunk.place() == 4160 {
-            last = Some(chunk.place());
-        }
+        pool.deallocate_bucket(place);
     }
-    places.sort_unstable();
-    assert!(rt; places.iter().copied().eq(4096..4161));
-    assert_eq!(rt; pool.allocate(byte), Err(AllocationError::OutOfMemory));
-    assert!(rt; pool.last_reads() == 1 || pool.last_reads() == 2);
-    let Some(place) = last else {
-        return Err(Fail::from("bucket 64 was not given"));
-    };
-    pool.deallocate_bucket(place);
-    assert_eq!(rt; pool.allocate(byte)?.place(), 4160);
+    assert_eq!(rt; pool.allocate(byte), Ok(Chunk::new(4160, 1).unwrap()));
     assert!(rt; pool.last_reads() == 1 || pool.last_reads() == 2);
     Ok(())
 }
@@ -121,44 +164,27 @@ fn pool_sixty_five_buckets(rt: HostRuntime) -> Result<(), Fail> {
 fn pool_two_full_words(rt: HostRuntime) -> Result<(), Fail> {
     let byte = Layout::from_size_align(1, 1)?;
     let mut pool = pool_over(rt.alloc(), byte, 4096, 128)?;
-    let mut places = [0; 128];
-    let mut fifth = None;
-    for place in &mut places {
-        let chunk = pool.allocate(byte)?;
-        *place = chunk.place();
-        if chunk.place() == 4100 {
-            fifth = Some(chunk.place());
-        }
+    if let Some(place) = take_all(&rt, &mut pool, &mut [0; 128], 4100)? {
+        pool.deallocate(place, byte);
     }
-    places.sort_unstable();
-    assert!(rt; places.iter().copied().eq(4096..4224));
-    let Some(place) = fifth else {
-        return Err(Fail::from("bucket 4 was not given"));
-    };
-    pool.deallocate(place, byte);
-    assert_eq!(rt; pool.allocate(byte)?.place(), 4100);
+    assert_eq!(rt; pool.allocate(byte), Ok(Chunk::new(4100, 1).unwrap()));
     assert_eq!(rt; pool.allocate(byte), Err(AllocationError::OutOfMemory));
     Ok(())
 }
 
-/// A full pool is found full by one read once it was found so, and a bucket that is given back is found by one read.
+/// A pool that was found full is found so by one read, and a bucket that is given back is found by one read.
 #[test]
 fn one_read_where_all_are_held(rt: HostRuntime) -> Result<(), Fail> {
     let byte = Layout::from_size_align(1, 1)?;
     let mut pool = pool_over(rt.alloc(), byte, 4096, 320)?;
-    let mut some = None;
-    for _ in 0..320 {
-        some = Some(pool.allocate(byte)?.place());
-    }
-    assert_eq!(rt; pool.allocate(byte), Err(AllocationError::OutOfMemory));
+    let found = take_all(&rt, &mut pool, &mut [0; 320], 4300)?;
     assert_eq!(rt; pool.last_reads(), 5);
     assert_eq!(rt; pool.allocate(byte), Err(AllocationError::OutOfMemory));
     assert_eq!(rt; pool.last_reads(), 1);
-    let Some(place) = some else {
-        return Err(Fail::from("no bucket was given"));
-    };
-    pool.deallocate_bucket(place);
-    assert_eq!(rt; pool.allocate(byte)?.place(), place);
+    if let Some(place) = found {
+        pool.deallocate_bucket(place);
+    }
+    assert_eq!(rt; pool.allocate(byte), Ok(Chunk::new(4300, 1).unwrap()));
     assert_eq!(rt; pool.last_reads(), 1);
     Ok(())
 }
@@ -177,9 +203,6 @@ fn pool_zeroed(rt: HostRuntime) -> Result<(), Fail> {
         };
         assert_eq!(rt; *byte, wanted, "at {place}");
     }
-    let refused = pool.allocate_zeroed(Layout::from_size_align(129, 4)?, &mut region);
-    assert_eq!(rt; refused, Err(AllocationError::SizeTooLarge));
-    assert_eq!(rt; pool.last_reads(), 0);
     Ok(())
 }
 
@@ -238,7 +261,7 @@ fn a_refusal_shows_nothing(rt: HostRuntime) -> Result<(), Fail> {
     Ok(())
 }
 
-/// Under the run without resizes these are passed over.
+/// A resize is carried out by the run with resizes, and passed over by the other.
 #[test]
 fn runs_over_the_pools(rt: HostRuntime) -> Result<(), Fail> {
     let bucket = Layout::from_size_align(16, 8)?;
@@ -249,27 +272,30 @@ fn runs_over_the_pools(rt: HostRuntime) -> Result<(), Fail> {
         Command::Allocate(half),
         Command::Release(0),
     ];
-    let passed = [
-        Reply::Chunk(Chunk::new(4096, 8).unwrap()),
-        Reply::Passed,
-        Reply::Refused(AllocationError::OutOfMemory),
-        Reply::Released,
-    ];
-    let mut grown = passed;
-    grown[1] = Reply::Chunk(Chunk::new(4096, 16).unwrap());
+    let given = Reply::Chunk(Chunk::new(4096, 8).unwrap());
+    let refused = Reply::Refused(AllocationError::OutOfMemory);
+    let grown = Reply::Chunk(Chunk::new(4096, 16).unwrap());
+    let full = [given, grown, refused, Reply::Released];
+    let base = [given, Reply::Passed, refused, Reply::Released];
     let mut pool = pool_over(rt.alloc(), bucket, 4096, 16)?;
+    let mut live = Vec::new(rt.alloc());
+    assert_eq!(rt;
+        run_pool(&mut pool, &mut live, &commands)?.as_slice(),
+        full.as_slice()
+    );
+    assert_eq!(rt;
+        run_base_pool(&mut pool, &mut live, &commands)?.as_slice(),
+        base.as_slice()
+    );
     let mut fixed = fixed_over::<1>(bucket, 4096, 64)?;
     let mut live = Vec::new(rt.alloc());
-    let told = run_pool(&mut pool, &mut live, &commands)?;
-    assert_eq!(rt; told.as_slice(), grown.as_slice());
-    let told = run_base_pool(&mut pool, &mut live, &commands)?;
-    assert_eq!(rt; told.as_slice(), passed.as_slice());
-    assert!(rt; live.is_empty());
-    let mut live = Vec::new(rt.alloc());
-    let told = run_fixed_pool(&mut fixed, &mut live, &commands)?;
-    assert_eq!(rt; told.as_slice(), grown.as_slice());
-    let told = run_base_fixed_pool(&mut fixed, &mut live, &commands)?;
-    assert_eq!(rt; told.as_slice(), passed.as_slice());
-    assert!(rt; live.is_empty());
+    assert_eq!(rt;
+        run_fixed_pool(&mut fixed, &mut live, &commands)?.as_slice(),
+        full.as_slice()
+    );
+    assert_eq!(rt;
+        run_base_fixed_pool(&mut fixed, &mut live, &commands)?.as_slice(),
+        base.as_slice()
+    );
     Ok(())
 }
