@@ -1,4 +1,4 @@
--- Sets of numbers as words of 64 bits, and how many of the words a request reads.
+-- How many words of 64 bits keep a set of numbers.
 use Rattle.std.specs.Prelude.{ℕ, ◌+◌, ◌/◌}
 
 -- how many words hold a bit for each of so many numbers: the number of them divided by 64, rounded up

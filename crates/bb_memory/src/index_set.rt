@@ -24,7 +24,7 @@ pub trait IndexSet: Drop {
         ensures { result ≡ length (numbers self.now) };
 
     /// Puts a number that isn't in the set into it, and answers that number. There is none exactly where every number is
-    /// in the set. The counter ends at how many words were read.
+    /// in the set. The counter has to stand at 0, and ends at how many words were read.
     fn take(&mut self, counter: &mut Counter) -> Option<usize>
         requires { counter.old ≡ 0 }
         ensures lacked { IfSome result (Lacks (numbers self.old)) }
@@ -35,7 +35,7 @@ pub trait IndexSet: Drop {
         ensures most { counter.new ≤ words (length (numbers self.old)) }
         ensures least { 0 < words (length (numbers self.old)) → 0 < counter.new };
 
-    /// Takes a number out of the set, and no other.
+    /// Takes a number, which has to be in the set, out of it, and no other.
     fn release(&mut self, number: usize)
         requires { Has (numbers self.old) number }
         ensures { numbers self.new ≡ slice_set (numbers self.old) number false };

@@ -1,6 +1,6 @@
 //! Words of 64 bits that a search reads only through a counter.
 //!
-//! Both types stand in one module: [`IndexWords::word`] alone reaches the words and the step that counts a read.
+//! Both types stand in one module: [`IndexWords::word`] alone hands out a word, and it alone counts a read.
 ghost use Rattle.std.specs.Prelude.{◌≡◌, ◌+◌, ◌/◌, ◌^◌, ◌<◌, false, length, replicate, slice_index, slice_set, IfOk};
 ghost use Rattle.bb_memory.specs.Words.{SetsBit};
 
@@ -47,7 +47,7 @@ impl Counter {
     }
 }
 
-/// Words that nothing reads but [`IndexWords::word`]. Number n is bit n % 64 of word n / 64, counted from the lowest.
+/// Words that [`IndexWords::word`] alone hands out; a release changes a bit in place. Number n is bit n % 64 of word n / 64, counted from the lowest.
 #[derive(Drop)]
 pub struct IndexWords<A: Allocator> {
     words: Vec<u64, A>,
