@@ -1,7 +1,7 @@
 //! The pools, each row by its name. Which free bucket is given is left open, so the tests speak of sets of places.
-ghost use Rattle.std.specs.Prelude.{◌≡◌, IfOk, IfSome};
+ghost use Rattle.std.specs.Prelude.{◌≡◌, [], IfOk, IfSome};
 ghost use Rattle.bb_memory_base.specs.Region.{region_at};
-ghost use Rattle.bb_memory.specs.Pool.{HoldsPlace};
+ghost use Rattle.bb_memory.specs.Pool.{HoldsPlace, StandsFor};
 
 use bb_memory::allocator::{Command, Reply};
 use bb_memory::layout::{Chunk, Layout};
@@ -21,7 +21,8 @@ fn pool_over(
     start: usize,
     size: usize,
 ) -> Result<PoolAllocator<Global>, Fail>
-    ensures { IfOk result (λ pool. pool.pool.geometry.region ≡ region_at start size) }
+    ensures empty { IfOk result (λ pool. StandsFor pool.pool []) }
+    ensures region { IfOk result (λ pool. pool.pool.geometry.region ≡ region_at start size) }
 {
     if !PoolAllocator::can_make(bucket, start, size) {
         return Err(Fail::from("no pool can be made of that"));
@@ -38,8 +39,9 @@ fn fixed_over<const N: usize>(
     start: usize,
     size: usize,
 ) -> Result<FixedSizePoolAllocator<N>, Fail>
-    ensures { IfOk result (λ pool. (pool.geometry.region ≡ region_at start size)
-        × (pool.geometry.bucket ≡ bucket)) }
+    ensures empty { IfOk result (λ pool. StandsFor pool []) }
+    ensures region { IfOk result (λ pool. pool.geometry.region ≡ region_at start size) }
+    ensures bucket { IfOk result (λ pool. pool.geometry.bucket ≡ bucket) }
 {
     if !FixedSizePoolAllocator::<N>::can_make(bucket, start, size) {
         return Err(Fail::from("no pool can be made of that"));
