@@ -1,11 +1,12 @@
--- The live lists that releases and runs of the pool object lead to.
-use Rattle.std.proofs.Common.{◌≡◌, ℕ, zero, suc, ◌<◌, ◌≤◌, Bool, true, false, List, [], ◌∷◌, ◌++◌, Result, Ok, Err, Some, length, get_or, refl, sym, ◌∙◌, ap, subst, ◌⊎◌, inl, inr, arith}
-use Rattle.std.specs.Prelude.{slice_get, slice_set, remove, IsOk}
+-- The live lists that a pool stands for: where their chunks are, and what releases and runs of the pool object lead to.
+use Rattle.std.proofs.Common.{◌≡◌, ◌≢◌, ℕ, zero, suc, ◌%◌, ◌<◌, ◌≤◌, Bool, true, false, List, [], ◌∷◌, ◌++◌, Result, Ok, Err, Some, length, get_or, refl, sym, ◌∙◌, ap, subst, ◌⊎◌, inl, inr, arith}
+use Rattle.std.specs.Prelude.{slice_get, slice_set, remove, All, AllPairs, IsOk}
+use Rattle.std.proofs.lemmas.Bool.{cases_lt}
 use Rattle.std.proofs.lemmas.Option.{slice_get-get_or}
 use Rattle.bb_memory_base.specs.Chunk.{Chunk}
 use Rattle.bb_memory_base.specs.Run.{IsRun}
 use Rattle.bb_memory_base.specs.ResizableObject.{ResizableStep}
-use Rattle.bb_memory_base.specs.PoolGeometry.{PoolGeometry}
+use Rattle.bb_memory_base.specs.PoolGeometry.{PoolGeometry, bucket_place}
 use Rattle.bb_memory_base.specs.PoolObject.{IsWithin, MayGive, MayAllocate, chunk_in, pool_object}
 use Rattle.bb_memory_base.specs.declared.layout.Layout.{Layout}
 use Rattle.bb_memory_base.specs.declared.allocator.AllocationError.{AllocationError}
@@ -14,11 +15,48 @@ use Rattle.bb_memory_base.specs.declared.allocator.Command.{Command}
 use Rattle.bb_memory_base.specs.declared.allocator.Command.TheVariants.{Allocate, Release, Grow, Shrink}
 use Rattle.bb_memory_base.specs.declared.allocator.Reply.{Reply}
 use Rattle.bb_memory_base.specs.declared.allocator.Reply.TheVariants as reply
+use Rattle.bb_memory_base.proofs.PoolGeometries.{bucket_place-aligned, bucket_place-after}
 use Rattle.bb_memory_base.proofs.Runs.{IsRun-keeps}
 use Rattle.bb_memory_base.proofs.SliceGets.{slice_get-set_same}
 use Rattle.bb_memory.specs.NumberSet.{Has, Lacks}
-use Rattle.bb_memory.specs.Pool.{Pool, IsPool, StandsFor, pool_of, with_flag}
+use Rattle.bb_memory.specs.Pool.{Pool, IsPool, StandsFor, AreAStrideApart, pool_of, with_flag}
 use Rattle.bb_memory.proofs.Pools.{IsPool-with_flag, bucket-below, filled-at, lacked-free, stands-given, stands-freed, stands-resized}
+use Rattle.bb_memory.proofs.Positions.{All-from_positions, AllPairs-at, AllPairs-from_positions}
+
+-- PLACES
+
+-- each chunk begins at a multiple of the bucket's alignment
+pub places-aligned : (pool : Pool) (live : List Chunk) → StandsFor pool live →
+    All (λ chunk. chunk.place % pool.geometry.bucket.align ≡ 0) live
+places-aligned pool live stands =
+    let align : ℕ = pool.geometry.bucket.align in
+    All-from_positions (λ (c : Chunk). c.place % align ≡ 0) live (λ position chunk at.
+    let fills = filled-at pool live stands position chunk at in
+    ap (λ n. n % align) fills.1.placed ∙ bucket_place-aligned pool.geometry fills.0)
+
+-- chunks in two buckets are a stride apart
+buckets-apart : (geometry : PoolGeometry) (i j : ℕ) (one other : Chunk) → one.place ≡ bucket_place geometry i →
+    other.place ≡ bucket_place geometry j → one.place ≢ other.place → AreAStrideApart geometry.bucket one other
+buckets-apart geometry i j one other at_i at_j differ =
+    elim (cases_lt i j) [
+      | inl below ↦ inl (omega (arith, bucket_place-after geometry i j below, at_i, at_j))
+      | inr above ↦ elim (cases_lt j i) [
+        | inl more ↦ inr (omega (arith, bucket_place-after geometry j i more, at_i, at_j))
+        | inr less ↦
+            let same : i ≡ j = omega arith in
+            absurd (differ (at_i ∙ ap (bucket_place geometry) same ∙ sym at_j))
+      ]
+    ]
+
+-- any two chunks are a stride apart
+pub places-a_stride_apart : (pool : Pool) (live : List Chunk) → StandsFor pool live →
+    AllPairs (AreAStrideApart pool.geometry.bucket) live
+places-a_stride_apart pool live stands =
+    AllPairs-from_positions (AreAStrideApart pool.geometry.bucket) live (λ i j one other before at_i at_j.
+    let first = filled-at pool live stands i one at_i in
+    let second = filled-at pool live stands j other at_j in
+    let differ = AllPairs-at (λ (c d : Chunk). c.place ≢ d.place) live stands.differ i j one other before at_i at_j in
+    buckets-apart pool.geometry first.0 second.0 one other first.1.placed second.1.placed differ)
 
 -- RELEASES
 

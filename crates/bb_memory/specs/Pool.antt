@@ -1,11 +1,11 @@
 -- A pool, as its contracts see it.
-use Rattle.std.specs.Prelude.{◌≡◌, ℕ, ◌-◌, ◌≤◌, ◌<◌, ◌^◌, Bool, true, false, List, All, length, replicate, slice_set, Result, Ok, Err}
+use Rattle.std.specs.Prelude.{◌≡◌, ℕ, ◌-◌, ◌+◌, ◌≤◌, ◌<◌, ◌^◌, ◌⊎◌, Bool, true, false, List, All, length, replicate, slice_set, Result, Ok, Err}
 use Rattle.bb_memory_base.specs.Region.{Region, IsRegion}
 use Rattle.bb_memory_base.specs.Chunk.{Chunk}
 use Rattle.bb_memory_base.specs.LiveList.{IsSound}
 use Rattle.bb_memory_base.specs.FirstPlace.{first_place}
 use Rattle.bb_memory_base.specs.ResizableObject.{PlacesDiffer}
-use Rattle.bb_memory_base.specs.PoolGeometry.{PoolGeometry, bucket_place, IsCut, IsPoolGeometry}
+use Rattle.bb_memory_base.specs.PoolGeometry.{PoolGeometry, stride, bucket_place, IsCut, IsPoolGeometry}
 use Rattle.bb_memory_base.specs.PoolObject.{IsHeld, IsWithin, chunk_in}
 use Rattle.bb_memory_base.specs.declared.layout.Layout.{Layout}
 use Rattle.bb_memory_base.specs.declared.allocator.AllocationError.{AllocationError}
@@ -60,6 +60,11 @@ pub record StandsFor (pool : Pool) (live : List Chunk) : Type 0 where
   pub filled : All (λ chunk. (i : ℕ) × Fills pool chunk i) live
   pub differ : PlacesDiffer live
   pub held : (i : ℕ) → Has pool.held i → IsHeld pool.geometry live i
+
+-- one of the two places is at least a stride behind the other
+abbrev pub AreAStrideApart : Layout → Chunk → Chunk → Type 0
+AreAStrideApart bucket one other =
+    (one.place + stride bucket ≤ other.place) ⊎ (other.place + stride bucket ≤ one.place)
 
 -- the place is that of a held bucket
 abbrev pub HoldsPlace : Pool → ℕ → Type 0

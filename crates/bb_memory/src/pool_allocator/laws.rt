@@ -1,5 +1,5 @@
 //! What the definitions of the pool object and of its geometry say, in plain words.
-ghost use Rattle.std.specs.Prelude.{◌≡◌, ◌≢◌, ◌+◌, ◌<◌, ◌≤◌, ◌%◌, [], List, All, ℕ, Result, Ok, Err, IsOk, length, remove};
+ghost use Rattle.std.specs.Prelude.{◌≡◌, ◌≢◌, ◌+◌, ◌<◌, ◌≤◌, ◌%◌, [], List, All, AllPairs, ℕ, Result, Ok, Err, IsOk, length, remove};
 ghost use Rattle.bb_memory_base.specs.Region.{Region};
 ghost use Rattle.bb_memory_base.specs.Chunk.{Chunk, IsInside};
 ghost use Rattle.bb_memory_base.specs.Run.{IsRun};
@@ -12,7 +12,7 @@ ghost use Rattle.bb_memory_base.specs.declared.allocator.AllocationGrowError.{Al
 ghost use Rattle.bb_memory_base.specs.declared.allocator.AllocationShrinkError.{AllocationShrinkError};
 ghost use Rattle.bb_memory_base.specs.declared.allocator.Command.{Command};
 ghost use Rattle.bb_memory_base.specs.declared.allocator.Reply.{Reply};
-ghost use Rattle.bb_memory.specs.Pool.{IsPool, Pool, StandsFor, fresh_pool};
+ghost use Rattle.bb_memory.specs.Pool.{AreAStrideApart, IsPool, Pool, StandsFor, fresh_pool};
 
 /// What the definition of a pool's geometry says of every region and every layout of a bucket. A region is cut in one way
 /// alone, and into buckets of at least one byte it can always be cut. Each bucket begins at a multiple of its alignment, and
@@ -40,8 +40,9 @@ pub fn pool_geometry_law()
 /// What the definition of the pool object says of every geometry and every list of commands. There is an answer to each
 /// request: a chunk, or one refusal alone. A chunk that is given begins at a multiple of the asked alignment and of the bucket's,
 /// has exactly the asked size, and no live chunk has its place. There is exactly one answer to each resize. Where a chunk was
-/// just given back, no request that fits a bucket is refused. Each run from a live list that a pool stands for leads to such a
-/// list again, which is sound. It does nothing: its contract is the law.
+/// just given back, no request that fits a bucket is refused. In each live list that a pool stands for, every chunk begins at a
+/// multiple of the bucket's alignment, and no two begin less than a stride apart. Each run from such a list leads to such a list
+/// again, which is sound. It does nothing: its contract is the law.
 pub fn pool_object_law()
     // What a request may be answered.
     ensures some_answer { (geometry : PoolGeometry) (live : List Chunk) (layout : Layout)
@@ -87,6 +88,10 @@ pub fn pool_object_law()
 
     // The lists that a pool stands for.
     ensures fresh { (geometry : PoolGeometry) → StandsFor (fresh_pool geometry) [] }
+    ensures aligned_places { (pool : Pool) (live : List Chunk) → StandsFor pool live
+        → All (λ chunk. chunk.place % pool.geometry.bucket.align ≡ 0) live }
+    ensures stride_apart { (pool : Pool) (live : List Chunk) → StandsFor pool live
+        → AllPairs (AreAStrideApart pool.geometry.bucket) live }
     ensures release_makes_room { (pool : Pool) (live : List Chunk) (position : ℕ) (layout : Layout)
         (answer : Result Chunk AllocationError)
         → IsPool pool → StandsFor pool live → position < length live

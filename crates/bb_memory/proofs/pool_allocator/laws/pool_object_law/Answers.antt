@@ -1,6 +1,6 @@
 use Rattle.bb_memory.proofs.Pools.{fresh-stands}
 use Rattle.bb_memory.proofs.PoolAnswers.{some_answer, one_cause, given_or_refused, answer-aligned, answer-bucket_aligned, answer-len, answer-new, answer-inside, some_grow, one_grow, some_shrink, one_shrink}
-use Rattle.bb_memory.proofs.PoolRuns.{released-room, run-keeps}
+use Rattle.bb_memory.proofs.PoolRuns.{places-aligned, places-a_stride_apart, released-room, run-keeps}
 use Rattle.bb_memory.proofs.pool_allocator.laws.pool_object_law.Goals as goal
 
 pub returns-clause-some_answer : goal.returns-clause-some_answer
@@ -41,6 +41,12 @@ returns-clause-one_shrink c = one_shrink
 
 pub returns-clause-fresh : goal.returns-clause-fresh
 returns-clause-fresh c = fresh-stands
+
+pub returns-clause-aligned_places : goal.returns-clause-aligned_places
+returns-clause-aligned_places c = places-aligned
+
+pub returns-clause-stride_apart : goal.returns-clause-stride_apart
+returns-clause-stride_apart c = places-a_stride_apart
 
 pub returns-clause-release_makes_room : goal.returns-clause-release_makes_room
 returns-clause-release_makes_room c = released-room
