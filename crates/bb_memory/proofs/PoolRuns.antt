@@ -4,7 +4,7 @@ use Rattle.std.specs.Prelude.{slice_get, slice_set, remove, All, AllPairs, IsOk}
 use Rattle.std.proofs.lemmas.Bool.{cases_lt}
 use Rattle.std.proofs.lemmas.Option.{slice_get-get_or}
 use Rattle.bb_memory_base.specs.Chunk.{Chunk}
-use Rattle.bb_memory_base.specs.Run.{IsRun}
+use Rattle.bb_memory_base.specs.Run.{IsRun, Step}
 use Rattle.bb_memory_base.specs.ResizableObject.{ResizableStep}
 use Rattle.bb_memory_base.specs.PoolGeometry.{PoolGeometry, bucket_place}
 use Rattle.bb_memory_base.specs.PoolObject.{IsWithin, MayGive, MayAllocate, chunk_in, pool_object}
@@ -135,18 +135,29 @@ resized_list geometry live position chunk resized list at place short = record {
   stands = stands-resized (pool_of geometry list.held) live position chunk resized list.is list.stands at place short;
 }
 
--- each step from such a list leads to such a list
-step-keeps : (geometry : PoolGeometry) (old new : List Chunk) (command : Command) (answer : Reply) →
-    IsPoolList geometry old → ResizableStep (pool_object geometry) old command answer new → IsPoolList geometry new
-step-keeps geometry old new (Allocate layout) (reply.Chunk chunk) list step =
+-- each step without a resize leads from such a list to such a list
+base_step-keeps : (geometry : PoolGeometry) (old new : List Chunk) (command : Command) (answer : Reply) →
+    IsPoolList geometry old → Step (pool_object geometry).base old command answer new → IsPoolList geometry new
+base_step-keeps geometry old new (Allocate layout) (reply.Chunk chunk) list step =
     let may = step.answers in
     let left : new ≡ old ++ chunk_in geometry may.0 layout ∷ [] =
     step.leaves ∙ ap (λ (c : Chunk). old ++ c ∷ []) may.2 in
     same_list geometry (old ++ chunk_in geometry may.0 layout ∷ []) new left (given_list geometry old layout may.0 list may.1)
-step-keeps geometry old new (Allocate layout) (reply.Refused error) list step = same_list geometry old new step.leaves list
-step-keeps geometry old new (Release position) reply.Released list step =
+base_step-keeps geometry old new (Allocate layout) (reply.Refused error) list step = same_list geometry old new step.leaves list
+base_step-keeps geometry old new (Release position) reply.Released list step =
     same_list geometry (remove old position) new step.leaves (released_list geometry old position list step.within)
-step-keeps geometry old new (Release position) reply.Passed list step = same_list geometry old new step.1 list
+base_step-keeps geometry old new (Release position) reply.Passed list step = same_list geometry old new step.1 list
+base_step-keeps geometry old new (Grow position from to) reply.Passed list step = same_list geometry old new step list
+base_step-keeps geometry old new (Shrink position from to) reply.Passed list step = same_list geometry old new step list
+base_step-keeps geometry old new command other list step = absurd step
+
+-- so does each step of the pool object
+step-keeps : (geometry : PoolGeometry) (old new : List Chunk) (command : Command) (answer : Reply) →
+    IsPoolList geometry old → ResizableStep (pool_object geometry) old command answer new → IsPoolList geometry new
+step-keeps geometry old new (Allocate layout) answer list step =
+    base_step-keeps geometry old new (Allocate layout) answer list step
+step-keeps geometry old new (Release position) answer list step =
+    base_step-keeps geometry old new (Release position) answer list step
 step-keeps geometry old new (Grow position from to) (reply.Chunk resized) list (chunk, may, (longer, within, given), resizes) =
     let small = within.size in
     same_list geometry (slice_set old position resized) new resizes.leaves
@@ -165,13 +176,28 @@ step-keeps geometry old new (Shrink position from to) (reply.ShrinkRefused error
 step-keeps geometry old new (Shrink position from to) reply.Passed list step = same_list geometry old new step.1 list
 step-keeps geometry old new command other list step = absurd step
 
+-- where each step leads to such a list, so does each run
+keeps_from_steps : (step : List Chunk → Command → Reply → List Chunk → Type 0) (pool : Pool) →
+    ((old new : List Chunk) (command : Command) (answer : Reply) → IsPoolList pool.geometry old →
+    step old command answer new → IsPoolList pool.geometry new) → (live new : List Chunk) (commands : List Command)
+    (replies : List Reply) → IsPool pool → StandsFor pool live → IsRun step live commands replies new →
+    (left : Pool) × IsPool left × (left.geometry ≡ pool.geometry) × StandsFor left new
+keeps_from_steps step pool keeps live new commands replies is stands run =
+    let geometry : PoolGeometry = pool.geometry in
+    let from : IsPoolList geometry live = record { held = pool.held; is = is; stands = stands } in
+    let to = IsRun-keeps step (IsPoolList geometry) keeps live new commands replies from run in
+    (pool_of geometry to.held, to.is, refl, to.stands)
+
 -- each run from a list that a pool stands for leads to such a list
 pub run-keeps : (pool : Pool) (live new : List Chunk) (commands : List Command) (replies : List Reply) → IsPool pool →
     StandsFor pool live → IsRun (ResizableStep (pool_object pool.geometry)) live commands replies new →
     (left : Pool) × IsPool left × (left.geometry ≡ pool.geometry) × StandsFor left new
-run-keeps pool live new commands replies is stands run =
-    let geometry : PoolGeometry = pool.geometry in
-    let from : IsPoolList geometry live = record { held = pool.held; is = is; stands = stands } in
-    let step = ResizableStep (pool_object geometry) in
-    let to = IsRun-keeps step (IsPoolList geometry) (step-keeps geometry) live new commands replies from run in
-    (pool_of geometry to.held, to.is, refl, to.stands)
+run-keeps pool live new commands replies =
+    keeps_from_steps (ResizableStep (pool_object pool.geometry)) pool (step-keeps pool.geometry) live new commands replies
+
+-- so does each run without resizes
+pub base_run-keeps : (pool : Pool) (live new : List Chunk) (commands : List Command) (replies : List Reply) → IsPool pool →
+    StandsFor pool live → IsRun (Step (pool_object pool.geometry).base) live commands replies new →
+    (left : Pool) × IsPool left × (left.geometry ≡ pool.geometry) × StandsFor left new
+base_run-keeps pool live new commands replies =
+    keeps_from_steps (Step (pool_object pool.geometry).base) pool (base_step-keeps pool.geometry) live new commands replies

@@ -2,7 +2,7 @@
 ghost use Rattle.std.specs.Prelude.{◌≡◌, ◌≢◌, ◌+◌, ◌<◌, ◌≤◌, ◌%◌, [], List, All, AllPairs, ℕ, Result, Ok, Err, IsOk, length, remove};
 ghost use Rattle.bb_memory_base.specs.Region.{Region};
 ghost use Rattle.bb_memory_base.specs.Chunk.{Chunk, IsInside};
-ghost use Rattle.bb_memory_base.specs.Run.{IsRun};
+ghost use Rattle.bb_memory_base.specs.Run.{IsRun, Step};
 ghost use Rattle.bb_memory_base.specs.ResizableObject.{ResizableStep};
 ghost use Rattle.bb_memory_base.specs.PoolGeometry.{PoolGeometry, IsCut, IsPoolGeometry, at_most, bucket_place, stride};
 ghost use Rattle.bb_memory_base.specs.PoolObject.{IsWithin, MayAllocate, MayGrow, MayShrink, pool_object};
@@ -41,8 +41,8 @@ pub fn pool_geometry_law()
 /// request: a chunk, or one refusal alone. A chunk that is given begins at a multiple of the asked alignment and of the bucket's,
 /// has exactly the asked size, and no live chunk has its place. There is exactly one answer to each resize. Where a chunk was
 /// just given back, no request that fits a bucket is refused. In each live list that a pool stands for, every chunk begins at a
-/// multiple of the bucket's alignment, and no two begin less than a stride apart. Each run from such a list leads to such a list
-/// again, which is sound. It does nothing: its contract is the law.
+/// multiple of the bucket's alignment, and no two begin less than a stride apart. Each run from such a list, with resizes or
+/// without, leads to such a list again, which is sound. It does nothing: its contract is the law.
 pub fn pool_object_law()
     // What a request may be answered.
     ensures some_answer { (geometry : PoolGeometry) (live : List Chunk) (layout : Layout)
@@ -102,5 +102,10 @@ pub fn pool_object_law()
         (commands : List Command) (replies : List Reply)
         → IsPool pool → StandsFor pool live
         → IsRun (ResizableStep (pool_object pool.geometry)) live commands replies new
+        → (left : Pool) × IsPool left × (left.geometry ≡ pool.geometry) × StandsFor left new }
+    ensures keeps_sound_base { (pool : Pool) (live new : List Chunk)
+        (commands : List Command) (replies : List Reply)
+        → IsPool pool → StandsFor pool live
+        → IsRun (Step (pool_object pool.geometry).base) live commands replies new
         → (left : Pool) × IsPool left × (left.geometry ≡ pool.geometry) × StandsFor left new }
 {}

@@ -1,6 +1,6 @@
 use Rattle.bb_memory.proofs.Pools.{fresh-stands}
 use Rattle.bb_memory.proofs.PoolAnswers.{some_answer, one_cause, given_or_refused, answer-aligned, answer-bucket_aligned, answer-len, answer-new, answer-inside, some_grow, one_grow, some_shrink, one_shrink}
-use Rattle.bb_memory.proofs.PoolRuns.{places-aligned, places-a_stride_apart, released-room, run-keeps}
+use Rattle.bb_memory.proofs.PoolRuns.{places-aligned, places-a_stride_apart, released-room, run-keeps, base_run-keeps}
 use Rattle.bb_memory.proofs.pool_allocator.laws.pool_object_law.Goals as goal
 
 pub returns-clause-some_answer : goal.returns-clause-some_answer
@@ -53,3 +53,6 @@ returns-clause-release_makes_room c = released-room
 
 pub returns-clause-keeps_sound : goal.returns-clause-keeps_sound
 returns-clause-keeps_sound c = run-keeps
+
+pub returns-clause-keeps_sound_base : goal.returns-clause-keeps_sound_base
+returns-clause-keeps_sound_base c = base_run-keeps
