@@ -3,6 +3,7 @@ ghost use Rattle.std.specs.Prelude.{◌≡◌, ◌∷◌, ◌++◌, [], List, �
 ghost use Rattle.bb_memory_base.specs.Region.{region_at};
 ghost use Rattle.bb_memory_base.specs.Chunk.{Chunk, IsInside};
 ghost use Rattle.bb_memory_base.specs.LiveList.{IsSound};
+ghost use Rattle.bb_memory_base.specs.HeldBytes.{held_region, ZeroesOnly};
 ghost use Rattle.bb_memory_base.specs.Run.{IsRun, Step};
 ghost use Rattle.bb_memory_base.specs.ResizableObject.{ResizableStep};
 ghost use Rattle.bb_memory_base.specs.PoolGeometry.{PoolGeometry, IsCut, at_most};
@@ -18,6 +19,7 @@ use crate::index_set::Counter;
 use crate::index_set::flags::Flags;
 use crate::layout::{Chunk, Layout};
 use crate::pool_allocator::buckets::{Buckets, count_buckets, may_be_cut};
+use crate::region::Region;
 use std::alloc::AllocError;
 use std::marker::Model;
 
@@ -135,7 +137,7 @@ impl<const MAX_NUMBER_OF_BUCKETS: usize> BaseAllocator
             → MayAllocate self.old.geometry live layout result }
         ensures appended { IfOk result (λ chunk. (live : List Chunk) → StandsFor self.old live
             → StandsFor self.new (live ++ chunk ∷ [])) }
-        ensures kept { OnErr result ((live : List Chunk) → StandsFor self.old live
+        ensures still_stands { OnErr result ((live : List Chunk) → StandsFor self.old live
             → StandsFor self.new live) }
         ensures inside { IfOk result (IsInside self.old.geometry.region) }
         ensures aligned { IfOk result (λ chunk. chunk.place % layout.align ≡ 0) }
@@ -146,7 +148,7 @@ impl<const MAX_NUMBER_OF_BUCKETS: usize> BaseAllocator
         ensures taken { Takes self.old layout result self.new }
         ensures accepted { IsOk result ↔ (IsWithin self.old.geometry.bucket layout
             × ((i : ℕ) × Lacks self.old.held i)) }
-        ensures unchanged { OnErr result (self.new ≡ self.old) }
+        ensures kept { OnErr result (self.new ≡ self.old) }
         ensures given { IfOk result (λ chunk. HoldsPlace self.new chunk.place) }
         ensures still_held { (place : ℕ) → HoldsPlace self.old place → HoldsPlace self.new place }
         ensures bucket_aligned { IfOk result
@@ -166,6 +168,42 @@ impl<const MAX_NUMBER_OF_BUCKETS: usize> BaseAllocator
         ensures geometry { self.new.geometry ≡ self.old.geometry }
     {
         self.buckets.free(place);
+    }
+
+    /// Asks for a chunk as `allocate` does, and makes its bytes zero. Every other byte of the region stays, and after a
+    /// refusal all do. The region's start and size have to be those of the pool's maker.
+    fn allocate_zeroed(
+        &mut self,
+        layout: Layout,
+        region: &mut Region,
+    ) -> Result<Chunk, AllocationError>
+        requires same_region { held_region region.old ≡ self.old.geometry.region }
+        ensures answer { (live : List Chunk) → StandsFor self.old live
+            → MayAllocate self.old.geometry live layout result }
+        ensures appended { IfOk result (λ chunk. (live : List Chunk) → StandsFor self.old live
+            → StandsFor self.new (live ++ chunk ∷ [])) }
+        ensures still_stands { OnErr result ((live : List Chunk) → StandsFor self.old live
+            → StandsFor self.new live) }
+        ensures inside { IfOk result (IsInside self.old.geometry.region) }
+        ensures aligned { IfOk result (λ chunk. chunk.place % layout.align ≡ 0) }
+        ensures long_enough { IfOk result (λ chunk. layout.size ≤ chunk.len) }
+        ensures geometry { self.new.geometry ≡ self.old.geometry }
+
+        ensures taken { Takes self.old layout result self.new }
+        ensures accepted { IsOk result ↔ (IsWithin self.old.geometry.bucket layout
+            × ((i : ℕ) × Lacks self.old.held i)) }
+        ensures kept { OnErr result (self.new ≡ self.old) }
+        ensures given { IfOk result (λ chunk. HoldsPlace self.new chunk.place) }
+        ensures still_held { (place : ℕ) → HoldsPlace self.old place → HoldsPlace self.new place }
+        ensures bucket_aligned { IfOk result
+            (λ chunk. chunk.place % self.old.geometry.bucket.align ≡ 0) }
+
+        ensures zeroed { IfOk result (λ chunk. ZeroesOnly region.old region.new chunk) }
+        ensures bytes_kept { OnErr result (region.new ≡ region.old) }
+    {
+        let chunk = self.allocate(layout)?;
+        region.zero(chunk);
+        Ok(chunk)
     }
 
     fn stands_for_some_list(&self) {
