@@ -1,5 +1,5 @@
 -- What a pool's requests and releases make of each live list that it stands for.
-use Rattle.std.proofs.Common.{◌≡◌, ℕ, suc, ◌+◌, ◌-◌, ◌*◌, ◌/◌, ◌%◌, ◌^◌, ◌<◌, ◌≤◌, ◌↔◌, true, false, List, [], ◌∷◌, ◌++◌, Result, Ok, Err, refl, sym, ap, subst, ◌∙◌, arith, Some, inl, inr, div-add-mod', pow_pos, pow_mono, pow-add, pow-suc}
+use Rattle.std.proofs.Common.{◌≡◌, ◌≢◌, ℕ, suc, ◌+◌, ◌-◌, ◌*◌, ◌/◌, ◌%◌, ◌^◌, ◌<◌, ◌≤◌, ◌↔◌, true, false, List, [], ◌∷◌, ◌++◌, Result, Ok, Err, refl, sym, ap, subst, ◌∙◌, arith, Some, inl, inr, div-add-mod', pow_pos, pow_mono, pow-add, pow-suc}
 use Rattle.std.specs.Prelude.{slice_get, slice_set, remove, IsOk, IfOk, OnErr}
 use Rattle.std.specs.Int.{IsPowerOfTwo}
 use Rattle.std.proofs.Math.Nat.{mul_assoc}
@@ -15,10 +15,10 @@ use Rattle.bb_memory_base.specs.declared.allocator.AllocationGrowError.{Allocati
 use Rattle.bb_memory_base.specs.declared.allocator.AllocationShrinkError.{AllocationShrinkError}
 use Rattle.bb_memory_base.proofs.Layouts.{layout-plain}
 use Rattle.bb_memory_base.proofs.PoolGeometries.{bucket_place-aligned}
-use Rattle.bb_memory_base.proofs.SliceGets.{slice_get-set_same}
+use Rattle.bb_memory_base.proofs.SliceGets.{slice_get-set_other, slice_get-set_same}
 use Rattle.bb_memory.specs.NumberSet.{Has, Lacks}
 use Rattle.bb_memory.specs.Pool.{Pool, IsPool, StandsFor, HoldsPlace, Takes, Frees, with_flag}
-use Rattle.bb_memory.proofs.Pools.{Has-set_true, IsPool-with_flag, bucket-below, filled-at, held-inside, lacked-free, stands-given, stands-freed, stands-resized}
+use Rattle.bb_memory.proofs.Pools.{Has-set_true, IsPool-with_flag, bucket-below, filled-at, held-inside, lacked-free, one_bucket, stands-given, stands-freed, stands-resized}
 
 -- POWERS OF TWO
 
@@ -184,6 +184,30 @@ pub Frees-pool : (pool : Pool) (place : ℕ) (new : Pool) → IsPool pool → Ho
     IsPool new
 Frees-pool pool place new is (i, held, placed) frees =
     subst IsPool (sym (frees i held placed)) (IsPool-with_flag pool is i false)
+
+-- each other bucket that was held still is
+pub Frees-still_held : (pool : Pool) (place : ℕ) (new : Pool) → HoldsPlace pool place → Frees pool place new →
+    (other : ℕ) → HoldsPlace pool other → other ≢ place → HoldsPlace new other
+Frees-still_held pool place new (i, held, placed) frees other (j, has, there) differ =
+    let apart : j ≢ i = λ same. differ (there ∙ (ap (bucket_place pool.geometry) same ∙ sym placed)) in
+    subst (λ (p : Pool). HoldsPlace p other) (sym (frees i held placed))
+    (j, slice_get-set_other pool.held i j false apart ∙ has, there)
+
+-- the bucket at the place isn't held any more
+pub Frees-given_back : (pool : Pool) (place : ℕ) (new : Pool) → IsPool pool → HoldsPlace pool place →
+    Frees pool place new → ¬ HoldsPlace new place
+Frees-given_back pool place new is (i, held, placed) frees holds =
+    let still : HoldsPlace (with_flag pool i false) place =
+    subst (λ (p : Pool). HoldsPlace p place) (frees i held placed) holds in
+    let same : still.0 ≡ i = one_bucket pool.geometry is.geometry still.0 i (sym still.2 ∙ placed) in
+    let gone = slice_get-set_same pool.held i false true held in
+    absurd (let e : Some true ≡ Some false = sym still.1 ∙ (ap (slice_get (slice_set pool.held i false)) same ∙ gone) in cc)
+
+-- and so there is a bucket that isn't held
+pub Frees-room : (pool : Pool) (place : ℕ) (new : Pool) → HoldsPlace pool place → Frees pool place new →
+    (i : ℕ) × Lacks new.held i
+Frees-room pool place new (i, held, placed) frees =
+    (i, subst (λ (p : Pool). Lacks p.held i) (sym (frees i held placed)) (slice_get-set_same pool.held i false true held))
 
 -- RESIZES
 

@@ -1,5 +1,5 @@
 //! Allocators that cut a region into buckets of one layout, and give a bucket for each request.
-ghost use Rattle.std.specs.Prelude.{◌≡◌, ◌∷◌, ◌++◌, [], List, ℕ, ◌*◌, ◌/◌, ◌<◌, ◌≤◌, ◌%◌, ◌^◌, ◌↔◌, IsOk, IfOk, IfErr, OnOk, OnErr, IsTrue, Some, false, replicate, slice_get, slice_set, remove};
+ghost use Rattle.std.specs.Prelude.{◌≡◌, ◌≢◌, ◌∷◌, ◌++◌, [], List, ℕ, ◌*◌, ◌/◌, ◌<◌, ◌≤◌, ◌%◌, ◌^◌, ◌↔◌, IsOk, IfOk, IfErr, OnOk, OnErr, IsTrue, Some, false, replicate, slice_get, slice_set, remove};
 ghost use Rattle.bb_memory_base.specs.Region.{region_at};
 ghost use Rattle.bb_memory_base.specs.Chunk.{Chunk, IsInside};
 ghost use Rattle.bb_memory_base.specs.LiveList.{IsSound};
@@ -206,6 +206,10 @@ impl<A: LanguageAllocator> PoolAllocator<A> {
         ensures released { (live : List Chunk) (position : ℕ) (chunk : Chunk)
             → StandsFor self.old.pool live → slice_get live position ≡ Some chunk
             → chunk.place ≡ place → StandsFor self.new.pool (remove live position) }
+        ensures still_held { (other : ℕ) → HoldsPlace self.old.pool other → other ≢ place
+            → HoldsPlace self.new.pool other }
+        ensures given_back { ¬ HoldsPlace self.new.pool place }
+        ensures room { (i : ℕ) × Lacks self.new.pool.held i }
         ensures geometry { self.new.pool.geometry ≡ self.old.pool.geometry }
         ensures reads { self.new.reads ≡ self.old.reads }
     {
@@ -275,6 +279,10 @@ impl<A: LanguageAllocator> BaseAllocator for PoolAllocator<A> {
         ensures released { (live : List Chunk) (position : ℕ) (chunk : Chunk)
             → StandsFor self.old.pool live → slice_get live position ≡ Some chunk
             → chunk.place ≡ place → StandsFor self.new.pool (remove live position) }
+        ensures still_held { (other : ℕ) → HoldsPlace self.old.pool other → other ≢ place
+            → HoldsPlace self.new.pool other }
+        ensures given_back { ¬ HoldsPlace self.new.pool place }
+        ensures room { (i : ℕ) × Lacks self.new.pool.held i }
         ensures geometry { self.new.pool.geometry ≡ self.old.pool.geometry }
         ensures reads { self.new.reads ≡ self.old.reads }
     {

@@ -1,5 +1,5 @@
 //! A pool that keeps which of its buckets are held in an array of its own.
-ghost use Rattle.std.specs.Prelude.{◌≡◌, ◌∷◌, ◌++◌, [], List, ℕ, ◌-◌, ◌<◌, ◌≤◌, ◌%◌, ◌^◌, ◌↔◌, IsOk, IfOk, OnOk, OnErr, IsTrue, Some, slice_get, slice_set, remove};
+ghost use Rattle.std.specs.Prelude.{◌≡◌, ◌≢◌, ◌∷◌, ◌++◌, [], List, ℕ, ◌-◌, ◌<◌, ◌≤◌, ◌%◌, ◌^◌, ◌↔◌, IsOk, IfOk, OnOk, OnErr, IsTrue, Some, slice_get, slice_set, remove};
 ghost use Rattle.bb_memory_base.specs.Region.{region_at};
 ghost use Rattle.bb_memory_base.specs.Chunk.{Chunk, IsInside};
 ghost use Rattle.bb_memory_base.specs.LiveList.{IsSound};
@@ -165,6 +165,10 @@ impl<const MAX_NUMBER_OF_BUCKETS: usize> BaseAllocator
         ensures released { (live : List Chunk) (position : ℕ) (chunk : Chunk)
             → StandsFor self.old live → slice_get live position ≡ Some chunk
             → chunk.place ≡ place → StandsFor self.new (remove live position) }
+        ensures still_held { (other : ℕ) → HoldsPlace self.old other → other ≢ place
+            → HoldsPlace self.new other }
+        ensures given_back { ¬ HoldsPlace self.new place }
+        ensures room { (i : ℕ) × Lacks self.new.held i }
         ensures geometry { self.new.geometry ≡ self.old.geometry }
     {
         self.buckets.free(place);
