@@ -88,12 +88,12 @@ impl UninitPoolAllocator {
 /// [`UninitPoolAllocator::init`].
 ///
 /// ```
-/// let bucket = Layout::from_size_align(128, 8)?;
+/// let bucket = Layout::from_size_align(128, 8).unwrap();
 /// let Ok(mut pool) = PoolAllocator::new_uninit(bucket, 4096, 1024).init(alloc) else {
 ///     return Err(AllocationError::OutOfMemory);
 /// };
 /// assert_eq!(pool.number_of_buckets(), 8);
-/// let chunk = pool.allocate(Layout::from_size_align(48, 4)?)?;
+/// let chunk = pool.allocate(Layout::from_size_align(48, 4).unwrap())?;
 /// assert_eq!(chunk.len(), 48);
 /// pool.deallocate_bucket(chunk.place());
 /// ```
@@ -230,15 +230,15 @@ impl<A: LanguageAllocator> BaseAllocator for PoolAllocator<A> {
 
     ghost Geometry = { PoolGeometry };
 
-    ghost geometry = { λ counted. counted.pool.geometry };
+    ghost geometry = { λ pool. pool.pool.geometry };
 
     ghost region_of = { λ geometry. geometry.region };
 
     ghost may_allocate = { MayAllocate };
 
-    ghost stands_for = { λ counted. StandsFor counted.pool };
+    ghost stands_for = { λ pool. StandsFor pool.pool };
 
-    ghost may_release = { λ counted. HoldsPlace counted.pool };
+    ghost may_release = { λ pool. HoldsPlace pool.pool };
 
     /// A chunk of `layout.size()` bytes in a bucket that isn't held; which one is left open. It is refused in this order: with
     /// `SizeTooLarge` where the size is greater than the bucket's, with `AlignmentFailure` where the alignment is greater than
@@ -329,9 +329,9 @@ impl<A: LanguageAllocator> BaseAllocator for PoolAllocator<A> {
         let _ = &self.last_reads;
     }
 
-    ghost releases = { λ counted. held_place counted.pool };
+    ghost releases = { λ pool. held_place pool.pool };
 
-    ghost sound = { λ counted live stands. stands.sound };
+    ghost sound = { λ pool live stands. stands.sound };
 }
 
 impl<A: LanguageAllocator> Allocator for PoolAllocator<A> {
@@ -341,7 +341,7 @@ impl<A: LanguageAllocator> Allocator for PoolAllocator<A> {
 
     ghost Figures = { PoolGeometry };
 
-    ghost figures = { λ counted. counted.pool.geometry };
+    ghost figures = { λ pool. pool.pool.geometry };
 
     ghost reserved_at = { λ geometry place. geometry.bucket.size };
 
@@ -349,7 +349,7 @@ impl<A: LanguageAllocator> Allocator for PoolAllocator<A> {
 
     ghost may_shrink = { λ geometry live. MayShrink geometry.bucket };
 
-    /// The size of a bucket.
+    /// How many bytes are reserved for the chunk at this place, which has to be a held bucket's: the bucket's size.
     fn reserved(&self, _place: usize) -> usize
         requires { HoldsPlace self.now.pool _place }
         ensures { result ≡ self.now.pool.geometry.bucket.size }
@@ -359,7 +359,8 @@ impl<A: LanguageAllocator> Allocator for PoolAllocator<A> {
 
     /// Gives the chunk the new size, in its bucket. It is refused in this order: with `GrowWouldShrink` where the new size
     /// isn't greater than the old one, with `AlignmentFailure` where the new alignment is greater than the bucket's, and with
-    /// `OutOfMemory` where the new size is greater than the bucket's. The pool stays as it was.
+    /// `OutOfMemory` where the new size is greater than the bucket's. The pool stays as it was. The place has to be a held
+    /// bucket's and a multiple of the old alignment.
     fn grow(&mut self, place: usize, old: Layout, new: Layout) -> Result<Chunk, AllocationGrowError>
         requires live { HoldsPlace self.old.pool place }
         requires aligned { place % old.align ≡ 0 }
@@ -379,7 +380,8 @@ impl<A: LanguageAllocator> Allocator for PoolAllocator<A> {
 
     /// Gives the chunk exactly the new size. It is refused in this order: with `ShrinkWouldGrow` where the new size isn't
     /// smaller than the old one, and with `AlignmentFailure` where the new alignment is greater than the bucket's. The pool
-    /// stays as it was.
+    /// stays as it was. The place has to be a held bucket's and a multiple of the old alignment, and the old size at most the
+    /// bucket's.
     fn shrink(
         &mut self,
         place: usize,
@@ -406,11 +408,12 @@ impl<A: LanguageAllocator> Allocator for PoolAllocator<A> {
 
     ghost closes_up = { refl };
 
-    ghost distinct = { λ counted live stands. stands.differ };
+    ghost distinct = { λ pool live stands. stands.differ };
 }
 
 /// Applies the commands in order, as [`run_full`] does: the replies and the live list are a run of the pool object over the
-/// pool's geometry, and the list is sound afterwards.
+/// pool's geometry, and the list is sound afterwards. The pool has to stand for the live list. `AllocError` comes only where
+/// memory was refused, and then the pool and the list are as before.
 pub fn run_pool(
     allocator: &mut PoolAllocator<Global>,
     live: &mut Vec<Chunk>,
@@ -427,7 +430,8 @@ pub fn run_pool(
     run_full(allocator, live, commands)
 }
 
-/// The same without resizes, which are passed over, as [`run_base`] does.
+/// The same without resizes, which are passed over, as [`run_base`] does. The pool has to stand for the live list.
+/// `AllocError` comes only where memory was refused, and then the pool and the list are as before.
 pub fn run_base_pool(
     allocator: &mut PoolAllocator<Global>,
     live: &mut Vec<Chunk>,

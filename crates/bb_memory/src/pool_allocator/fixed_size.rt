@@ -24,7 +24,7 @@ use std::alloc::AllocError;
 use std::marker::Model;
 
 /// Gives buckets of one layout, at most `MAX_NUMBER_OF_BUCKETS` of them. Which are held is kept in an array of its own: it
-/// never takes memory. It may be moved to another thread.
+/// never takes memory.
 ///
 /// ```
 /// let bucket = Layout::from_size_align(128, 8)?;
@@ -235,7 +235,7 @@ impl<const MAX_NUMBER_OF_BUCKETS: usize> Allocator
 
     ghost may_shrink = { λ geometry live. MayShrink geometry.bucket };
 
-    /// The size of a bucket.
+    /// How many bytes are reserved for the chunk at this place, which has to be a held bucket's: the bucket's size.
     fn reserved(&self, _place: usize) -> usize
         requires { HoldsPlace self.now _place }
         ensures { result ≡ self.now.geometry.bucket.size }
@@ -245,7 +245,8 @@ impl<const MAX_NUMBER_OF_BUCKETS: usize> Allocator
 
     /// Gives the chunk the new size, in its bucket. It is refused in this order: with `GrowWouldShrink` where the new size
     /// isn't greater than the old one, with `AlignmentFailure` where the new alignment is greater than the bucket's, and with
-    /// `OutOfMemory` where the new size is greater than the bucket's. The pool stays as it was.
+    /// `OutOfMemory` where the new size is greater than the bucket's. The pool stays as it was. The place has to be a held
+    /// bucket's and a multiple of the old alignment.
     fn grow(&mut self, place: usize, old: Layout, new: Layout) -> Result<Chunk, AllocationGrowError>
         requires live { HoldsPlace self.old place }
         requires aligned { place % old.align ≡ 0 }
@@ -265,7 +266,8 @@ impl<const MAX_NUMBER_OF_BUCKETS: usize> Allocator
 
     /// Gives the chunk exactly the new size. It is refused in this order: with `ShrinkWouldGrow` where the new size isn't
     /// smaller than the old one, and with `AlignmentFailure` where the new alignment is greater than the bucket's. The pool
-    /// stays as it was.
+    /// stays as it was. The place has to be a held bucket's and a multiple of the old alignment, and the old size at most the
+    /// bucket's.
     fn shrink(
         &mut self,
         place: usize,
@@ -296,7 +298,8 @@ impl<const MAX_NUMBER_OF_BUCKETS: usize> Allocator
 }
 
 /// Applies the commands in order, as [`run_full`] does: the replies and the live list are a run of the pool object over the
-/// pool's geometry, and the list is sound afterwards.
+/// pool's geometry, and the list is sound afterwards. The pool has to stand for the live list. `AllocError` comes only where
+/// memory was refused, and then the pool and the list are as before.
 pub fn run_fixed_pool<const MAX_NUMBER_OF_BUCKETS: usize>(
     allocator: &mut FixedSizePoolAllocator<MAX_NUMBER_OF_BUCKETS>,
     live: &mut Vec<Chunk>,
@@ -313,7 +316,8 @@ pub fn run_fixed_pool<const MAX_NUMBER_OF_BUCKETS: usize>(
     run_full(allocator, live, commands)
 }
 
-/// The same without resizes, which are passed over, as [`run_base`] does.
+/// The same without resizes, which are passed over, as [`run_base`] does. The pool has to stand for the live list.
+/// `AllocError` comes only where memory was refused, and then the pool and the list are as before.
 pub fn run_base_fixed_pool<const MAX_NUMBER_OF_BUCKETS: usize>(
     allocator: &mut FixedSizePoolAllocator<MAX_NUMBER_OF_BUCKETS>,
     live: &mut Vec<Chunk>,
