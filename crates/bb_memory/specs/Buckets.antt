@@ -10,10 +10,10 @@ abbrev pub Shifts : ℕ → Option ℕ → Type 0
 Shifts divisor shift = IfSome shift (λ k. (k < 64) × (divisor ≡ 2 ^ k))
 
 -- the first bucket's place, the stride and its shift, and the region has room for each bucket
-pub record IsLaidOut (region : Region) (bucket : Layout) (held : List Bool) (first distance : ℕ) (shift : Option ℕ) : Type 0 where
+pub record IsLaidOut (region : Region) (bucket : Layout) (held : List Bool) (first step : ℕ) (shift : Option ℕ) : Type 0 where
   pub is_region : IsRegion region
   pub filled : 0 < bucket.size
   pub room : (i : ℕ) → i < length held → HasRoom region bucket i
   pub begins : first ≡ first_place region bucket
-  pub strides : distance ≡ stride bucket
-  pub shifts : Shifts distance shift
+  pub strides : step ≡ stride bucket
+  pub shifts : Shifts step shift

@@ -103,13 +103,13 @@ pub record CountedPool : Type 0 where
 abbrev pub counted : Pool → ℕ → CountedPool
 counted pool reads = record { pool = pool; reads = reads }
 
--- the pool is one, and its last request read each of its index words at most once
+-- the pool is one, and its last request made at most as many reads as it has index words
 pub record IsCountedPool (counted : CountedPool) : Type 0 where
   pub is_pool : IsPool counted.pool
   pub most : counted.reads ≤ index_words counted.pool.geometry.buckets
 
--- what a request for the layout may have read of that many words: at most each once, at least one if there is one, and none
--- where its size or its alignment is refused
+-- how many reads of so many words a request for the layout may have made: at most as many as there are words, at least one if
+-- there is one, and none where its size or its alignment is refused
 pub record MayRead (bucket layout : Layout) (words reads : ℕ) : Type 0 where
   pub most : reads ≤ words
   pub least : IsWithin bucket layout → 0 < words → 0 < reads

@@ -41,7 +41,7 @@ abbrev pub at_most : ℕ → PoolGeometry → PoolGeometry
 at_most constant geometry =
     pool_geometry geometry.region geometry.bucket (min geometry.buckets constant)
 
--- a bucket has a byte, and the region has room for each
+-- a bucket has a byte, and the region has room for each of its buckets
 pub record IsPoolGeometry (geometry : PoolGeometry) : Type 0 where
   pub filled : 0 < geometry.bucket.size
   pub room : (i : ℕ) → i < geometry.buckets → HasRoom geometry.region geometry.bucket i

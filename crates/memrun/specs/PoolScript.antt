@@ -28,12 +28,12 @@ pub record PoolRuns (old : Pool) (live : List Chunk) (commands : List Command) (
   pub geometry : new.geometry ≡ old.geometry
   pub stands : StandsFor new left
 
--- the same, and the last request read each index word at most once
+-- the same, and the last request made at most as many reads as there are index words
 pub record CountedPoolRuns (old : CountedPool) (live : List Chunk) (commands : List Command) (replies : List Reply) (new : CountedPool) (left : List Chunk) : Type 0 where
   pub runs : PoolRuns old.pool live commands replies new.pool left
   pub reads : new.reads ≤ index_words new.pool.geometry.buckets
 
--- what `show` writes of each pool with so many chunks live, and of what stands behind it
+-- the figures that `show` writes of either pool with so many chunks live, and then the rest of the line
 abbrev pub pool_figures : PoolGeometry → ℕ → List ℕ → List ℕ
 pool_figures geometry live rest =
     codes " size " ++ (decimal geometry.region.size ++ (codes " bucket " ++ (decimal geometry.bucket.size
