@@ -47,7 +47,8 @@ impl Counter {
     }
 }
 
-/// Words that [`IndexWords::word`] alone hands out; a release changes a bit in place. Number n is bit n % 64 of word n / 64, counted from the lowest.
+/// Words that [`IndexWords::word`] alone hands out; a release changes a bit in place. Number n is bit n % 64 of word n / 64,
+/// counted from the lowest.
 #[derive(Drop)]
 pub struct IndexWords<A: Allocator> {
     words: Vec<u64, A>,

@@ -27,13 +27,14 @@ use std::marker::Model;
 /// never takes memory.
 ///
 /// ```
-/// let bucket = Layout::from_size_align(128, 8)?;
+/// let bucket = Layout::from_size_align(128, 8).unwrap();
 /// let mut pool: FixedSizePoolAllocator<512> = FixedSizePoolAllocator::new(bucket, 4096, 1024);
-/// let layout = Layout::from_size_align(48, 4)?;
-/// let chunk = pool.allocate(layout)?;
-/// let grown = pool.grow(chunk.place(), layout, Layout::from_size_align(64, 4)?)?;
-/// assert_eq!((grown.place(), grown.len()), (chunk.place(), 64));
-/// pool.deallocate(grown.place(), layout);
+/// let small = Layout::from_size_align(48, 4).unwrap();
+/// let large = Layout::from_size_align(64, 4).unwrap();
+/// let chunk = pool.allocate(small)?;
+/// let grown = pool.grow(chunk.place(), small, large);
+/// assert!(grown.is_ok_and(|grown| grown.place() == chunk.place() && grown.len() == 64));
+/// pool.deallocate(chunk.place(), small);
 /// ```
 #[derive(Debug, Drop)]
 pub struct FixedSizePoolAllocator<const MAX_NUMBER_OF_BUCKETS: usize> {
