@@ -1,13 +1,11 @@
 -- Regions that are cut into buckets: how many there are, and where each one is.
-use Rattle.std.proofs.Common.{◌≡◌, ℕ, ◌+◌, ◌-◌, ◌*◌, ◌/◌, ◌<◌, ◌≤◌, ◌^◌, Bool, true, false, IsTrue, w64, pow_pos, List, Option, Some, None, IsSome, length, refl, slice_set, arith, ap, sym, subst, ◌∙◌, inl, inr}
+use Rattle.std.proofs.Common.{◌≡◌, ℕ, ◌+◌, ◌-◌, ◌*◌, ◌/◌, ◌<◌, ◌≤◌, ◌^◌, IsTrue, w64, pow_pos, Option, Some, None, IsSome, refl, arith, ap, sym, subst, ◌∙◌, inl, inr}
 use Rattle.std.specs.Int.{is_power_of_two, trailing_zeros}
 use Rattle.std.specs.Option.{SomeIff}
 use Rattle.std.proofs.Math.Nat.{mul-div_cancel, mul-le-mul_left}
 use Rattle.std.proofs.lemmas.Bool.{cases_eq, cases_lt}
 use Rattle.std.proofs.lemmas.Nat.{le-div}
 use Rattle.std.proofs.lemmas.Nat.Bits.{bit_at-trailing_zeros, bit_at-pow_other}
-use Rattle.std.proofs.lemmas.Option.{slice_get_within}
-use Rattle.bb_memory_base.specs.Chunk.{IsChunk}
 use Rattle.bb_memory_base.specs.Region.{Region, IsRegion, region_end}
 use Rattle.bb_memory_base.specs.FirstPlace.{first_place}
 use Rattle.bb_memory_base.specs.PoolGeometry.{PoolGeometry, pool_geometry, bucket_place, stride, FillsRegion, IsCut}
@@ -15,11 +13,9 @@ use Rattle.bb_memory_base.specs.declared.layout.Layout.{Layout}
 use Rattle.bb_memory_base.specs.LeastPlace.{least_place}
 use Rattle.bb_memory_base.proofs.PowersOfTwo.{power_of_two-from_test}
 use Rattle.bb_memory_base.proofs.PoolGeometries.{stride-above, first_place-above, room-quotient}
-use Rattle.bb_memory_base.proofs.SliceGets.{length-set_at}
 use Rattle.bb_memory.specs.IndexWords.{index_words}
-use Rattle.bb_memory.specs.NumberSet.{Has, Lacks}
-use Rattle.bb_memory.specs.Pool.{MayBeCut, pool_of, with_flag}
-use Rattle.bb_memory.specs.Buckets.{Shifts, IsLaidOut}
+use Rattle.bb_memory.specs.Pool.{MayBeCut}
+use Rattle.bb_memory.specs.Buckets.{Shifts}
 
 -- STRIDES
 
@@ -124,53 +120,12 @@ shifts-zeros n test small =
 
 -- WHERE A BUCKET IS
 
--- a chunk at the place of bucket i, and no longer than a bucket, is within the numbers of the machine
-pub bucket-chunk : (region : Region) (bucket : Layout) (held : List Bool) (first distance : ℕ) (shift : Option ℕ) (i len : ℕ) →
-    IsLaidOut region bucket held first distance shift → i < length held → len ≤ bucket.size →
-    IsChunk (record { place = first + i * distance; len = len })
-bucket-chunk region bucket held first distance shift i len laid below short =
-    let place : first + i * distance ≡ first_place region bucket + i * stride bucket = cc (laid.begins, laid.strides) in
-    let room = laid.room i below in
-    record {
-      place = omega (arith, place, first_place-above region bucket, laid.is_region.start);
-      end = omega (arith, place, room, stride-above bucket, laid.is_region.end);
-    }
-
--- the same of a bucket that isn't held
-pub lacked-chunk : (region : Region) (bucket : Layout) (held : List Bool) (first distance : ℕ) (shift : Option ℕ) (i len : ℕ) →
-    IsLaidOut region bucket held first distance shift → Lacks held i → len ≤ bucket.size →
-    IsChunk (record { place = first + i * distance; len = len })
-lacked-chunk region bucket held first distance shift i len laid lacks short =
-    bucket-chunk region bucket held first distance shift i len laid (slice_get_within held i false lacks) short
-
--- the same at the place of a held bucket
-pub held-chunk : (region : Region) (bucket : Layout) (held : List Bool) (first distance : ℕ) (shift : Option ℕ)
-    (i place len : ℕ) →
-    IsLaidOut region bucket held first distance shift → Has held i →
-    place ≡ bucket_place (pool_geometry region bucket (length held)) i → len ≤ bucket.size →
-    IsChunk (record { place = place; len = len })
-held-chunk region bucket held first distance shift i place len laid has at short =
-    let here : first + i * distance ≡ place = cc (laid.begins, laid.strides, at) in
-    subst (λ (p : ℕ). IsChunk (record { place = p; len = len })) here
-    (bucket-chunk region bucket held first distance shift i len laid (slice_get_within held i true has) short)
-
 -- the number of the bucket at a place
-pub number-at : (region : Region) (bucket : Layout) (held : List Bool) (first distance : ℕ) (shift : Option ℕ) (i place : ℕ) →
-    IsLaidOut region bucket held first distance shift →
-    place ≡ bucket_place (pool_geometry region bucket (length held)) i → (place - first) / distance ≡ i
-number-at region bucket held first distance shift i place laid at =
-    let past : place - first ≡ i * stride bucket = omega (arith, laid.begins, at) in
-    ap (λ n. n / distance) past
-    ∙ ap (λ n. i * stride bucket / n) laid.strides
-    ∙ mul-div_cancel i (stride-positive bucket laid.filled)
-
--- the pool whose set lost a number is the pool with that bucket free
-pub pool-freed : (region : Region) (bucket : Layout) (old new : List Bool) (i : ℕ) → new ≡ slice_set old i false →
-    pool_of (pool_geometry region bucket (length new)) new
-    ≡ with_flag (pool_of (pool_geometry region bucket (length old)) old) i false
-pool-freed region bucket old new i is =
-    let same : length new ≡ length old = ap length is ∙ length-set_at old i false in
-    cc
+pub number-at : (geometry : PoolGeometry) (i place : ℕ) → 0 < stride geometry.bucket → place ≡ bucket_place geometry i →
+    (place - first_place geometry.region geometry.bucket) / stride geometry.bucket ≡ i
+number-at geometry i place some at =
+    let past : place - first_place geometry.region geometry.bucket ≡ i * stride geometry.bucket = omega (arith, at) in
+    ap (λ n. n / stride geometry.bucket) past ∙ mul-div_cancel i some
 
 -- TESTS THAT ANSWER A VALUE
 

@@ -1,5 +1,7 @@
 mod Cuts
 mod Geometries
+mod Listings
+mod Measures
 mod NumberFlags
 mod NumberWords
 mod OneChunks
@@ -8,3 +10,16 @@ mod PoolCalls
 mod PoolRuns
 mod Pools
 mod Positions
+mod Seatings
+mod SharedBumpClosings
+mod SharedBumpKeeps
+mod SharedBumpMeetings
+mod SharedBumpParties
+mod SharedBumpRequests
+mod SharedBumpSeats
+mod SharedBumpTries
+mod SharedLogs
+mod SharedPasses
+mod SharedSeats
+mod SharedSteps
+mod SharedViews

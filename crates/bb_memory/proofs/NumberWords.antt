@@ -9,7 +9,7 @@ use Rattle.std.specs.Prelude.{bit_and, bit_or, Some, slice_get}
 use Rattle.std.specs.Int.{bit_at, bit_not, trailing_ones}
 use Rattle.bb_memory.specs.IndexWords.{index_words}
 use Rattle.bb_memory.specs.NumberSet.{Has, Lacks, IsFull}
-use Rattle.bb_memory.specs.Words.{has_bit, numbers_of, AreFull, AreIndexWords, IsWordSet, SetsBit}
+use Rattle.bb_memory.specs.Words.{has_bit, numbers_of, AreFull, AreIndexWords, SetsBit}
 
 -- a set has a flag for each number below its bound
 pub length-numbers_of : (bound : ℕ) (words : List ℕ) → length (numbers_of bound words) ≡ bound
@@ -85,15 +85,11 @@ module _ (bound : ℕ) (words new : List ℕ) (number : ℕ) (flag : Bool) (belo
             ∙ sym (get_or-set_other (numbers_of bound words) number n flag false other)
       ]))
 
-  -- with the cursor at a word, it is a set again
-  IsWordSet-set : (cursor : ℕ) → cursor < length words → AreIndexWords bound words → IsWordSet bound new cursor
-  IsWordSet-set cursor within are = record {
-    are = record {
-      count = sets.len ∙ are.count;
-      past = λ n past h. sets.others n (omega arith) ∙ are.past n past (omega (arith, sets.len));
-    };
-    below = omega (arith, sets.len);
-    full = λ past. absurd (omega (arith, sets.len));
+  -- they are words of the bound again
+  AreIndexWords-set : AreIndexWords bound words → AreIndexWords bound new
+  AreIndexWords-set are = record {
+    count = sets.len ∙ are.count;
+    past = λ n past h. sets.others n (omega arith) ∙ are.past n past (omega (arith, sets.len));
   }
 
 -- the lowest clear bit of a word is that of a number below the bound, which isn't in the set
@@ -136,13 +132,13 @@ has_word bound words number are has =
     let below : number < bound = omega (arith, length-numbers_of bound words) in
     (below, omega (arith, are.count))
 
--- a release: with the number's bit clear and the cursor at its word, it is the set without the number
+-- a release: with the number's bit clear it is the set without the number
 pub released : (bound : ℕ) (words new : List ℕ) (number : ℕ) → AreIndexWords bound words → Has (numbers_of bound words) number →
     SetsBit words number false new →
-    IsWordSet bound new (number / 64) × (numbers_of bound new ≡ set (numbers_of bound words) number false)
+    AreIndexWords bound new × (numbers_of bound new ≡ set (numbers_of bound words) number false)
 released bound words new number are has sets =
     let there = has_word bound words number are has in (
-      IsWordSet-set bound words new number false there.0 sets (number / 64) there.1 are,
+      AreIndexWords-set bound words new number false there.0 sets are,
       numbers_of-set bound words new number false there.0 sets,
     )
 
@@ -150,12 +146,11 @@ released bound words new number are has sets =
 abbrev pub with_lowest : List ℕ → ℕ → ℕ → List ℕ
 with_lowest words at word = set words at (bit_or word (1 * 2 ^ trailing_ones w64 word % 2 ^ 64))
 
--- A taking from a word that isn't full: its number wasn't in the set. With its bit set and the cursor at its word, it is the set
--- with the number.
+-- A taking from a word that isn't full: its number wasn't in the set. With its bit set it is the set with the number.
 pub taken : (bound : ℕ) (words : List ℕ) (at word : ℕ) → AreIndexWords bound words → at < length words → word ≡ get_or words at 0 →
     word + 1 < 2 ^ 64 →
     (trailing_ones w64 word < 64) × Lacks (numbers_of bound words) (at * 64 + trailing_ones w64 word)
-    × IsWordSet bound (with_lowest words at word) at
+    × AreIndexWords bound (with_lowest words at word)
     × (numbers_of bound (with_lowest words at word) ≡ set (numbers_of bound words) (at * 64 + trailing_ones w64 word) true)
 taken bound words at word are within read not_full =
     let bit = trailing_ones w64 word in
@@ -169,7 +164,7 @@ taken bound words at word are within read not_full =
     rw e at (change words (at * 64 + bit) (bit_or word (1 * 2 ^ bit % 2 ^ 64)) true (rw e within) changes) in (
       low,
       lowest.2,
-      IsWordSet-set bound words (with_lowest words at word) (at * 64 + bit) true lowest.1 sets at within are,
+      AreIndexWords-set bound words (with_lowest words at word) (at * 64 + bit) true lowest.1 sets are,
       numbers_of-set bound words (with_lowest words at word) (at * 64 + bit) true lowest.1 sets,
     )
 
@@ -179,14 +174,23 @@ record AreFresh (bound : ℕ) (words : List ℕ) : Type 0 where
   clear : (n : ℕ) → n < bound → has_bit words n ≡ false
   past : (n : ℕ) → bound ≤ n → n < 64 * length words → has_bit words n ≡ true
 
+-- none of the words is full
+abbrev pub NoneIsFull : List ℕ → Type 0
+NoneIsFull words = (at : ℕ) → at < length words → get_or words at 0 ≢ 2 ^ 64 - 1
+
 fresh : (bound : ℕ) (words : List ℕ) → AreFresh bound words →
-    IsWordSet bound words 0 × (numbers_of bound words ≡ replicate bound false)
+    AreIndexWords bound words × NoneIsFull words × (numbers_of bound words ≡ replicate bound false)
 fresh bound words are = (
-  record {
-    are = record { count = are.count; past = are.past };
-    below = omega arith;
-    full = λ none at from below. absurd (omega arith);
-  },
+  record { count = are.count; past = are.past },
+  λ at within full.
+      let first : (at * 64) / 64 ≡ at = omega arith in
+      let low : (at * 64) % 64 ≡ 0 = omega arith in
+      let set : has_bit words (at * 64) ≡ true =
+      ap (λ x. eqb (bit_at (get_or words x 0) ((at * 64) % 64)) 1) first
+      ∙ ap (λ x. eqb (bit_at (get_or words at 0) x) 1) low
+      ∙ ap (λ x. eqb (bit_at x 0) 1) full
+      ∙ eq-eqb _ 1 (bit_at_ones 64 0 (omega arith)) in
+      false≢true (sym (are.clear (at * 64) (omega (arith, are.count))) ∙ set),
   ext_get_or false _ _ (length-numbers_of bound words ∙ sym (length-replicate bound false))
       (λ n h.
       let n_in : n < bound = omega (arith, h, length-numbers_of bound words) in
@@ -202,7 +206,7 @@ has_bit-zeros count n within =
 
 -- words of zeros are the empty set where the bound is a multiple of 64
 pub fresh_whole : (bound count : ℕ) → count ≡ index_words bound → bound % 64 ≡ 0 →
-    IsWordSet bound (zeros count) 0 × (numbers_of bound (zeros count) ≡ replicate bound false)
+    AreIndexWords bound (zeros count) × NoneIsFull (zeros count) × (numbers_of bound (zeros count) ≡ replicate bound false)
 fresh_whole bound count is whole =
     let len : length (zeros count) ≡ count = length-replicate count 0 in
     fresh bound (zeros count)
@@ -219,7 +223,7 @@ last_word bound = (2 ^ 64 - 1) * 2 ^ (bound % 64) % 2 ^ 64
 -- words of zeros with that last word are the empty set where it isn't
 pub fresh_part : (bound count : ℕ) → count ≡ index_words bound → bound % 64 ≢ 0 →
     let words = set (zeros count) (count - 1) (last_word bound) in
-    IsWordSet bound words 0 × (numbers_of bound words ≡ replicate bound false)
+    AreIndexWords bound words × NoneIsFull words × (numbers_of bound words ≡ replicate bound false)
 fresh_part bound count is part =
     let used = bound % 64 in
     let small : used ≤ 64 = omega arith in

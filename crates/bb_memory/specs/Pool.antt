@@ -66,6 +66,10 @@ abbrev pub AreAStrideApart : Layout → Chunk → Chunk → Type 0
 AreAStrideApart bucket one other =
     (one.place + stride bucket ≤ other.place) ⊎ (other.place + stride bucket ≤ one.place)
 
+-- a whole bucket at one place ends at or before the other place, or the other way round
+abbrev pub AreABucketApart : Layout → ℕ → ℕ → Type 0
+AreABucketApart bucket one other = (one + bucket.size ≤ other) ⊎ (other + bucket.size ≤ one)
+
 -- the place is that of a held bucket
 abbrev pub HoldsPlace : Pool → ℕ → Type 0
 HoldsPlace pool place = (i : ℕ) × Has pool.held i × (place ≡ bucket_place pool.geometry i)

@@ -1,5 +1,5 @@
 -- A set of numbers below a bound, as the bits of words.
-use Rattle.std.specs.Prelude.{◌≡◌, ◌≢◌, ℕ, ◌-◌, ◌*◌, ◌/◌, ◌%◌, ◌^◌, ◌<◌, ◌≤◌, ◌==◌, Bool, true, List, length, map, slice_index}
+use Rattle.std.specs.Prelude.{◌≡◌, ◌≢◌, ℕ, ◌-◌, ◌*◌, ◌/◌, ◌%◌, ◌^◌, ◌<◌, ◌≤◌, ◌==◌, Bool, true, List, length, map, take, drop, slice_index}
 use Rattle.std.specs.List.{range_with_len}
 use Rattle.std.specs.Int.{bit_at}
 use Rattle.bb_memory.specs.IndexWords.{index_words}
@@ -27,8 +27,30 @@ pub record AreIndexWords (bound : ℕ) (words : List ℕ) : Type 0 where
   pub count : length words ≡ index_words bound
   pub past : (number : ℕ) → bound ≤ number → number < 64 * length words → has_bit words number ≡ true
 
--- The words hold a set. The cursor is the number of a word; or it is how many there are, and then every word is full.
-pub record IsWordSet (bound : ℕ) (words : List ℕ) (cursor : ℕ) : Type 0 where
+-- words, and behind them a list of some of their numbers
+pub record Slots : Type 0 where
+  pub words : List ℕ
+  pub listed : List ℕ
+
+abbrev pub slots_of : ℕ → List ℕ → Slots
+slots_of count slots = record { words = take count slots; listed = drop count slots }
+
+-- no other word than this changes
+pub record PutsAt (words : List ℕ) (at : ℕ) (new : List ℕ) : Type 0 where
+  pub len : length new ≡ length words
+  pub others : (other : ℕ) → other ≢ at → slice_index new other ≡ slice_index words other
+
+-- the first entries of the list, so many, name just the words that aren't full, each once
+pub record IsListing (words : List ℕ) (listed : List ℕ) (top : ℕ) : Type 0 where
+  pub fits : top ≤ length words
+  pub below : (k : ℕ) → k < top → slice_index listed k < length words
+  pub each : (k : ℕ) → k < top → slice_index words (slice_index listed k) ≢ 2 ^ 64 - 1
+  pub once : (i : ℕ) (k : ℕ) → i < k → k < top → slice_index listed i ≢ slice_index listed k
+  pub all : (at : ℕ) → at < length words → slice_index words at ≢ 2 ^ 64 - 1
+      → (k : ℕ) × (k < top) × (slice_index listed k ≡ at)
+
+-- the words hold a set, and those that aren't full are listed
+pub record IsWordSet (bound : ℕ) (words : List ℕ) (listed : List ℕ) (top : ℕ) : Type 0 where
   pub are : AreIndexWords bound words
-  pub below : cursor ≤ length words
-  pub full : length words ≤ cursor → AreFull words 0 (length words)
+  pub room : length listed ≡ length words
+  pub listing : IsListing words listed top

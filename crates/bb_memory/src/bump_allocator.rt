@@ -1,20 +1,24 @@
 //! An allocator that gives one chunk after another, and takes all of them back at once.
-ghost use Rattle.std.specs.Prelude.{◌≡◌, ◌∷◌, ◌++◌, [], List, All, ◌+◌, ◌-◌, ◌<◌, ◌≤◌, ◌^◌, ◌%◌, ◌↔◌, ℕ, IfOk, OnOk, OnErr, IsTrue, Some, Result, slice_get};
-ghost use Rattle.bb_memory_base.specs.Region.{Region, IsRegion, region_at};
+ghost use Rattle.std.specs.Prelude.{◌≡◌, ◌∷◌, ◌++◌, [], List, All, ◌+◌, ◌-◌, ◌<◌, ◌≤◌, ◌^◌, ◌%◌, ◌↔◌, ℕ, IsOk, IfOk, OnOk, OnErr, IfErr, IsTrue, Some, Result, length, slice_get};
+ghost use Rattle.bb_memory_base.specs.Region.{Region, IsRegion, region_at, region_end};
 ghost use Rattle.bb_memory_base.specs.Chunk.{Chunk, IsInside, chunk_end};
 ghost use Rattle.bb_memory_base.specs.LiveList.{IsSound};
 ghost use Rattle.bb_memory_base.specs.Run.{Step, IsRun};
-ghost use Rattle.bb_memory_base.specs.BumpObject.{MayAllocate, IsInOrder, StandsFor, bump_object, used_space};
+ghost use Rattle.bb_memory_base.specs.BumpObject.{MayAllocate, IsInOrder, StandsFor, bump_object, chunk_at_or_after, used_space};
+ghost use Rattle.bb_memory_base.specs.LeastPlace.{least_place};
 ghost use Rattle.bb_memory_base.specs.declared.layout.Layout.{Layout};
 ghost use Rattle.bb_memory_base.specs.declared.allocator.AllocationError.{AllocationError};
 ghost use Rattle.bb_memory_base.specs.declared.allocator.Command.{Command};
 ghost use Rattle.bb_memory_base.specs.declared.allocator.Reply.{Reply};
+ghost use Rattle.bb_memory_base.specs.declared.allocator.AllocationError.TheVariants.{OutOfMemory};
 ghost use Rattle.bb_memory.specs.Bump.{Bump, bump_of};
+ghost use Rattle.bb_memory.specs.SharedBump.{fresh_party, scene_at};
 
 pub use crate::allocator::{AllocationError, BaseAllocator};
 use crate::allocator::{Command, Reply, run_base};
 use crate::layout::{Chunk, Layout};
-use std::alloc::AllocError;
+use crate::shared_bump::{BumpParty, SharedBumpAllocator};
+use std::alloc::{AllocError, Global};
 use std::fmt;
 use std::marker::Model;
 
@@ -67,9 +71,23 @@ impl BumpAllocator {
         crate::region::Region::can_make(start, size)
     }
 
+    /// An allocator over the region of `size` bytes at `start`, of which `position` are used.
+    pub(crate) fn at_position(start: usize, size: usize, position: usize) -> Self
+        requires region { IsRegion (region_at start size) }
+        requires position { position ≤ size }
+        ensures { result ≡ bump_of start size position }
+    {
+        BumpAllocator {
+            start,
+            size,
+            current_position: position,
+        }
+    }
+
     /// Where the region starts.
     pub fn start_address(&self) -> usize
-        ensures { result ≡ self.now.region.start }
+        ensures value { result ≡ self.now.region.start }
+        ensures is_region { IsRegion self.now.region }
     {
         self.start
     }
@@ -95,6 +113,37 @@ impl BumpAllocator {
         ensures { result ≡ self.now.region.size }
     {
         self.size
+    }
+
+    /// Shares the bump among that many parties, at least one: what was used stays used, and each party begins with an empty
+    /// log. The only refusal is `OutOfMemory`, where the memory for the word or for the parties was refused; the allocator
+    /// then comes back as it was.
+    pub fn share(
+        self,
+        alloc: Global,
+        parties: u32,
+    ) -> Result<(SharedBumpAllocator, Vec<BumpParty>), (BumpAllocator, AllocationError)>
+        requires { 1 ≤ parties }
+
+        // The machine begins at this region and position, with these parties.
+        ensures scene { IfOk result (λ shared. shared.0.scene ≡ scene_at self.region self.used parties) }
+
+        // There are as many parties as asked, all of this shared bump, numbered from 0, with empty logs.
+        ensures parties { IfOk result (λ shared. length shared.1.items ≡ parties) }
+        ensures fresh { IfOk result (λ shared. (number : ℕ) → number < parties
+            → slice_get shared.1.items number ≡ Some (fresh_party shared.0 number)) }
+        ensures theirs { IfOk result (λ shared. All (λ party. party.allocator ≡ shared.0) shared.1.items) }
+
+        ensures kept { IfErr result (λ refused. refused.0 ≡ self) }
+        ensures refused { IfErr result (λ refused. refused.1 ≡ OutOfMemory) }
+    {
+        let start = self.start;
+        let size = self.size;
+        let position = self.current_position;
+        match SharedBumpAllocator::opened(alloc, start, size, position, parties) {
+            Ok(shared) => Ok(shared),
+            Err(AllocError) => Err((self, AllocationError::OutOfMemory)),
+        }
     }
 }
 
@@ -149,6 +198,16 @@ impl BaseAllocator for BumpAllocator {
         ensures aligned { IfOk result (λ chunk. chunk.place % layout.align ≡ 0) }
         ensures long_enough { IfOk result (λ chunk. layout.size ≤ chunk.len) }
         ensures geometry { self.new.region ≡ self.old.region }
+
+        // Each outcome by the value alone, both ways.
+        ensures accepted { IsOk result ↔ ((0 < layout.size)
+            × (chunk_end (chunk_at_or_after (self.old.region.start + self.old.used) layout)
+            ≤ region_end self.old.region)) }
+        ensures size_is_zero { (result ≡ Err AllocationError.SizeIsZero) ↔ (layout.size ≡ 0) }
+        ensures begins { IfOk result (λ chunk. chunk.place
+            ≡ least_place (self.old.region.start + self.old.used) layout.align) }
+        ensures exact_size { IfOk result (λ chunk. chunk.len ≡ layout.size) }
+        ensures behind { IfOk result (λ chunk. self.old.region.start + self.old.used ≤ chunk.place) }
 
         // What is used then ends with the chunk, and a refusal leaves everything.
         ensures used { IfOk result (λ chunk. self.new.region.start + self.new.used ≡ chunk_end chunk) }

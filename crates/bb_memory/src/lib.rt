@@ -4,6 +4,9 @@
 pub use bb_memory_base::{allocator, layout, region, steps};
 
 pub mod bump_allocator;
+pub mod heap_allocator;
 mod index_set;
 pub mod one_chunk_allocator;
 pub mod pool_allocator;
+pub mod shared_bump;
+pub mod shared_pool;

@@ -87,7 +87,8 @@ impl OneChunkAllocator {
 
     /// Where the region starts.
     pub fn start_address(&self) -> usize
-        ensures { result ≡ self.now.region.start }
+        ensures value { result ≡ self.now.region.start }
+        ensures is_region { IsRegion self.now.region }
     {
         self.start
     }
@@ -187,7 +188,7 @@ impl BaseAllocator for OneChunkAllocator {
 impl Allocator for OneChunkAllocator {
     ghost use Rattle.std.specs.Prelude.{refl};
     ghost use Rattle.bb_memory_base.specs.Region.{Region};
-    ghost use Rattle.bb_memory.specs.OneChunkLaws.{places_differ};
+    ghost use Rattle.bb_memory.specs.OneChunkLaws.{places_differ, covered, kept_is_live};
     ghost use Rattle.bb_memory.specs.OneChunkObject.{MayGrow, MayShrink, reserved_at};
 
     ghost Figures = { Region };
@@ -277,6 +278,10 @@ impl Allocator for OneChunkAllocator {
     ghost closes_up = { refl };
 
     ghost distinct = { λ one live stands. places_differ one.kept live stands.keeps };
+
+    ghost covered = { covered };
+
+    ghost only_live = { λ one live place stands out. kept_is_live one.kept live place stands.keeps out };
 }
 
 /// Applies the commands in order, as [`run_full`] does: the replies and the live list are a run of the one-chunk object over

@@ -12,10 +12,11 @@ ghost use Rattle.bb_memory_base.specs.PoolObject.{MayAllocate, MayGrow, MayShrin
 ghost use Rattle.bb_memory_base.specs.declared.allocator.AllocationError.{AllocationError};
 ghost use Rattle.bb_memory.specs.IndexWords.{index_words};
 ghost use Rattle.bb_memory.specs.NumberSet.{Lacks};
-ghost use Rattle.bb_memory.specs.Pool.{Frees, HoldsPlace, MayBeCut, MayRead, StandsFor, Takes, counted, fresh_pool};
+ghost use Rattle.bb_memory.specs.Pool.{AreABucketApart, Frees, HoldsPlace, MayBeCut, MayRead, StandsFor, Takes, counted, fresh_pool};
 
 mod buckets;
 mod fixed_size;
+pub(crate) mod geometry;
 mod laws;
 
 pub use crate::allocator::{
@@ -27,41 +28,38 @@ use crate::index_set::{Counter, IndexSet};
 use crate::layout::Chunk;
 pub use crate::layout::Layout;
 use crate::region::Region;
-use buckets::{Buckets, count_buckets, may_be_cut};
+use buckets::Buckets;
 pub use fixed_size::{FixedSizePoolAllocator, run_base_fixed_pool, run_fixed_pool};
-pub use laws::{pool_geometry_law, pool_object_law};
+use geometry::{Geometry, may_be_cut};
+pub use laws::{pool_count_law, pool_geometry_law, pool_held_law, pool_object_law};
 use std::alloc::{AllocError, Allocator as LanguageAllocator, Global};
 use std::marker::Model;
 
 /// A pool whose index words aren't made yet.
 #[derive(Drop)]
 pub struct UninitPoolAllocator {
-    bucket: Layout,
-    start: usize,
-    size: usize,
-    buckets: u32,
+    geometry: Geometry,
 }
 
 impl Model for UninitPoolAllocator {
-    ghost use Rattle.bb_memory_base.specs.Region.{region_at};
-    ghost use Rattle.bb_memory_base.specs.PoolGeometry.{PoolGeometry, pool_geometry};
+    ghost use Rattle.bb_memory_base.specs.PoolGeometry.{PoolGeometry};
     ghost use Rattle.bb_memory.specs.Pool.{IsUninit};
 
     ghost Value = { PoolGeometry };
 
-    ghost view = { λ a. pool_geometry (region_at a.start a.size) a.bucket a.buckets };
+    ghost view = { λ a. a.geometry };
 
-    ghost invariant = { λ a. IsUninit (pool_geometry (region_at a.start a.size) a.bucket a.buckets) };
+    ghost invariant = { λ a. IsUninit a.geometry };
 }
 
 impl UninitPoolAllocator {
     /// The buckets, over the empty set of their numbers.
-    fn with_none_held<S: IndexSet>(&self, held: S) -> Buckets<S>
-        requires { S.numbers held ≡ replicate self.now.buckets false }
-        ensures value { result ≡ fresh_pool self.now }
+    fn with_none_held<S: IndexSet>(self, held: S) -> Buckets<S>
+        requires { S.numbers held ≡ replicate self.buckets false }
+        ensures value { result ≡ fresh_pool self }
         ensures empty { StandsFor result [] }
     {
-        Buckets::new(self.bucket, self.start, self.size, held)
+        Buckets::new(self.geometry, held)
     }
 
     /// Takes memory for the index words, and makes a pool with no bucket held. Its only refusal is `OutOfMemory`, where a
@@ -74,7 +72,7 @@ impl UninitPoolAllocator {
         ensures empty { IfOk result (λ pool. StandsFor pool.pool []) }
         ensures refused { IfErr result (λ refusal. refusal ≡ (self, AllocationError.OutOfMemory)) }
     {
-        match Words::new(alloc, self.buckets) {
+        match Words::new(alloc, self.geometry.count()) {
             Ok(held) => Ok(PoolAllocator {
                 buckets: self.with_none_held(held),
                 last_reads: 0,
@@ -124,10 +122,7 @@ impl PoolAllocator<Global> {
         ensures { IsCut (region_at start size) bucket_layout result }
     {
         UninitPoolAllocator {
-            bucket: bucket_layout,
-            start,
-            size,
-            buckets: count_buckets(bucket_layout, start, size),
+            geometry: Geometry::new(bucket_layout, start, size),
         }
     }
 
@@ -200,6 +195,7 @@ impl<A: LanguageAllocator> PoolAllocator<A> {
     }
 
     /// Gives back the bucket at this place, which has to be held.
+    #[inline(always)]
     pub fn deallocate_bucket(&mut self, place: usize)
         requires { HoldsPlace self.old.pool place }
         ensures freed { Frees self.old.pool place self.new.pool }
@@ -244,6 +240,7 @@ impl<A: LanguageAllocator> BaseAllocator for PoolAllocator<A> {
     /// `SizeTooLarge` where the size is greater than the bucket's, with `AlignmentFailure` where the alignment is greater than
     /// the bucket's, and with `OutOfMemory` where every bucket is held. A refusal leaves the pool as it was, but for what
     /// `last_reads` answers.
+    #[inline(always)]
     fn allocate(&mut self, layout: Layout) -> Result<Chunk, AllocationError>
         ensures answer { (live : List Chunk) → StandsFor self.old.pool live
             → MayAllocate self.old.pool.geometry live layout result }
@@ -260,6 +257,9 @@ impl<A: LanguageAllocator> BaseAllocator for PoolAllocator<A> {
             × ((i : ℕ) × Lacks self.old.pool.held i)) }
         ensures kept { OnErr result (self.new.pool ≡ self.old.pool) }
         ensures given { IfOk result (λ chunk. HoldsPlace self.new.pool chunk.place) }
+        ensures was_free { IfOk result (λ chunk. ¬ HoldsPlace self.old.pool chunk.place) }
+        ensures apart { IfOk result (λ chunk. (place : ℕ) → HoldsPlace self.old.pool place
+            → AreABucketApart self.old.pool.geometry.bucket place chunk.place) }
         ensures still_held { (place : ℕ) → HoldsPlace self.old.pool place → HoldsPlace self.new.pool place }
         ensures bucket_aligned { IfOk result
             (λ chunk. chunk.place % self.old.pool.geometry.bucket.align ≡ 0) }
@@ -273,6 +273,7 @@ impl<A: LanguageAllocator> BaseAllocator for PoolAllocator<A> {
     }
 
     /// Gives back the bucket at this place, which has to be held. The layout decides nothing.
+    #[inline(always)]
     fn deallocate(&mut self, place: usize, _layout: Layout)
         requires { HoldsPlace self.old.pool place }
         ensures freed { Frees self.old.pool place self.new.pool }
@@ -311,6 +312,9 @@ impl<A: LanguageAllocator> BaseAllocator for PoolAllocator<A> {
             × ((i : ℕ) × Lacks self.old.pool.held i)) }
         ensures kept { OnErr result (self.new.pool ≡ self.old.pool) }
         ensures given { IfOk result (λ chunk. HoldsPlace self.new.pool chunk.place) }
+        ensures was_free { IfOk result (λ chunk. ¬ HoldsPlace self.old.pool chunk.place) }
+        ensures apart { IfOk result (λ chunk. (place : ℕ) → HoldsPlace self.old.pool place
+            → AreABucketApart self.old.pool.geometry.bucket place chunk.place) }
         ensures still_held { (place : ℕ) → HoldsPlace self.old.pool place → HoldsPlace self.new.pool place }
         ensures bucket_aligned { IfOk result
             (λ chunk. chunk.place % self.old.pool.geometry.bucket.align ≡ 0) }
@@ -335,6 +339,7 @@ impl<A: LanguageAllocator> BaseAllocator for PoolAllocator<A> {
 }
 
 impl<A: LanguageAllocator> Allocator for PoolAllocator<A> {
+    ghost use Rattle.bb_memory.specs.PoolLaws.{covered, held_is_live};
     ghost use Rattle.std.specs.Prelude.{refl};
     ghost use Rattle.bb_memory_base.specs.PoolGeometry.{PoolGeometry};
     ghost use Rattle.bb_memory_base.specs.PoolObject.{MayGrow, MayShrink};
@@ -409,6 +414,10 @@ impl<A: LanguageAllocator> Allocator for PoolAllocator<A> {
     ghost closes_up = { refl };
 
     ghost distinct = { λ pool live stands. stands.differ };
+
+    ghost covered = { λ pool. covered pool.pool };
+
+    ghost only_live = { λ pool. held_is_live pool.pool };
 }
 
 /// Applies the commands in order, as [`run_full`] does: the replies and the live list are a run of the pool object over the

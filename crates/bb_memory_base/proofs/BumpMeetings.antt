@@ -22,7 +22,7 @@ all_front : (P : Chunk → Type 0) (xs ys : List Chunk) → AllByRecursion P (xs
 all_front P [] ys all = tt
 all_front P (x ∷ xs) ys (here, rest) = (here, all_front P xs ys rest)
 
-all_rest : (P : Chunk → Type 0) (xs ys : List Chunk) → AllByRecursion P (xs ++ ys) → AllByRecursion P ys
+pub all_rest : (P : Chunk → Type 0) (xs ys : List Chunk) → AllByRecursion P (xs ++ ys) → AllByRecursion P ys
 all_rest P [] ys all = all
 all_rest P (x ∷ xs) ys (here, rest) = all_rest P xs ys rest
 
@@ -34,7 +34,7 @@ all_both : (P Q : Chunk → Type 0) (xs : List Chunk) → AllByRecursion P xs �
 all_both P Q [] ps qs = tt
 all_both P Q (x ∷ xs) (p, ps) (q, qs) = ((p, q), all_both P Q xs ps qs)
 
-all_map : (P Q : Chunk → Type 0) (xs : List Chunk) → ((x : Chunk) → P x → Q x) → AllByRecursion P xs → AllByRecursion Q xs
+pub all_map : (P Q : Chunk → Type 0) (xs : List Chunk) → ((x : Chunk) → P x → Q x) → AllByRecursion P xs → AllByRecursion Q xs
 all_map P Q [] f all = tt
 all_map P Q (x ∷ xs) f (here, rest) = (f x here, all_map P Q xs f rest)
 
@@ -44,7 +44,7 @@ all_own : (P : Chunk → Type 0) (own : Bool) (entry : BumpEntry) (log : List Bu
 all_own P true entry log here rest = all_append P (won_at entry.outcome) (chunks_won log) here rest
 all_own P false entry log here rest = rest
 
-all_in_log : (P : Chunk → Type 0) (party : ℕ) (history : List BumpEntry) → AllByRecursion P (chunks_won history) →
+pub all_in_log : (P : Chunk → Type 0) (party : ℕ) (history : List BumpEntry) → AllByRecursion P (chunks_won history) →
     AllByRecursion P (chunks_won (log_of party history))
 all_in_log P party [] all = tt
 all_in_log P party (entry ∷ history) all =
@@ -56,11 +56,11 @@ all_in_log P party (entry ∷ history) all =
 -- TWO LISTS
 
 -- each chunk of one list is apart from each of the other
-abbrev AllApart : List Chunk → List Chunk → Type 0
+abbrev pub AllApart : List Chunk → List Chunk → Type 0
 AllApart xs ys = AllByRecursion (λ x. AllByRecursion (AreApart x) ys) xs
 
 -- a list that follows another is apart from it
-apart_behind : (v : ℕ) (xs ys : List Chunk) → AllByRecursion (λ x. chunk_end x ≤ v) xs → AllByRecursion (λ y. v ≤ y.place) ys →
+pub apart_behind : (v : ℕ) (xs ys : List Chunk) → AllByRecursion (λ x. chunk_end x ≤ v) xs → AllByRecursion (λ y. v ≤ y.place) ys →
     AllApart xs ys
 apart_behind v [] ys below above = tt
 apart_behind v (x ∷ xs) ys (here, below) above = (
@@ -86,7 +86,7 @@ apart_append [] more ys first second = second
 apart_append (x ∷ xs) more ys (here, rest) second = (here, apart_append xs more ys rest second)
 
 -- chunks in order end no later than the last one
-in_order-below : (v : ℕ) (xs : List Chunk) → IsInOrder v xs → AllByRecursion (λ x. chunk_end x ≤ end_of_last v xs) xs
+pub in_order-below : (v : ℕ) (xs : List Chunk) → IsInOrder v xs → AllByRecursion (λ x. chunk_end x ≤ end_of_last v xs) xs
 in_order-below v [] ordered = tt
 in_order-below v (x ∷ xs) (here, rest) = (end_of_last-above (chunk_end x) xs rest, in_order-below (chunk_end x) xs rest)
 

@@ -1,5 +1,5 @@
 -- Which layouts there are.
-use Rattle.std.proofs.Common.{ℕ, ◌^◌, ◌<◌, ◌↔◌}
+use Rattle.std.proofs.Common.{ℕ, ◌^◌, ◌<◌, ◌↔◌, arith, refl}
 use Rattle.std.specs.Align.{IsLayout}
 use Rattle.std.specs.Int.{IsPowerOfTwo}
 use Rattle.bb_memory_base.specs.LeastPlace.{least_place}
@@ -16,3 +16,8 @@ layout-plain size align = (
     fits = fits;
   },
 )
+
+-- no bytes have a layout
+pub empty-valid : IsLayout 0 1
+unfolding lib.Count.ones
+empty-valid = record { power_of_two = refl; positive = omega arith; fits = omega arith }

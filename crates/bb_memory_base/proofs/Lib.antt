@@ -1,3 +1,5 @@
+pub mod ApartBytes
+pub mod BumpBounds
 pub mod BumpLogs
 pub mod BumpLosses
 pub mod BumpMeetings
@@ -8,12 +10,15 @@ pub mod BumpSteps
 pub mod BumpStretches
 pub mod Layouts
 pub mod LeastPlaces
+pub mod LiveBytes
 pub mod LiveLists
+pub mod OwnChunks
 pub mod PoolFlags
 pub mod PoolGeometries
 pub mod PoolHolders
 pub mod PoolLists
 pub mod PoolLogFacts
+pub mod PoolLogRuns
 pub mod PoolLogSteps
 pub mod PoolPasses
 pub mod PoolRuns
@@ -22,4 +27,6 @@ pub mod PowersOfTwo
 pub mod Runs
 pub mod SliceGets
 pub mod SliceSets
+pub mod SplitBytes
+pub mod UsualLayouts
 mod Written

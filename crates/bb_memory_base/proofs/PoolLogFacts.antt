@@ -7,7 +7,7 @@ use Rattle.std.proofs.lemmas.Option.{same_Some, none-some}
 use Rattle.std.proofs.lemmas.List.{length-map}
 use Rattle.std.proofs.lemmas.List.Elements.{recursion_from_All}
 use Rattle.bb_memory_base.specs.PoolMachine.{entry_of, PoolLog, PoolMachine, PoolState, PoolMove, PoolEntry, IsHolder, pool_step, pool_history, pool_opening, is_step_by, pool_log, state_after, history_of, log_of}
-use Rattle.bb_memory_base.specs.PoolLogs.{HoldsInLog, IsAllowed, LogsAgree}
+use Rattle.bb_memory_base.specs.PoolLogs.{CommonInterleaving, HoldsInLog, Interleaving, IsAllowed, LogsAgree}
 use Rattle.bb_memory_base.specs.declared.steps.pool.PoolStep.{PoolStep}
 use Rattle.bb_memory_base.proofs.SliceSets.{slice_get-same, slice_get-set_other, slice_get-set_same}
 use Rattle.bb_memory_base.proofs.PoolSteps.{IsNext, StepKind, takes, loses, is_refused, gives, passes, kind_of, length-state_after, test_apart}
@@ -161,3 +161,22 @@ length-flags machine flags logs agree =
     ap (λ (f : List Bool). length f) (sym agree.leaves)
     ∙ length-map (state_after machine agree.steps).holders (λ (h : Option ℕ). is_some h)
     ∙ length-state_after machine agree.steps
+
+-- INTERLEAVINGS
+
+-- the steps with which the logs agree are an interleaving of each log with others
+pub interleaved_log : (machine : PoolMachine) (flags : List Bool) (logs : List PoolLog) (party : ℕ) (log : PoolLog) →
+    LogsAgree machine flags logs → slice_get logs party ≡ Some log → Interleaving machine party log
+interleaved_log machine flags logs party log agree at =
+    record { steps = agree.steps; allowed = agree.allowed; logged = agree.each party log at }
+
+-- and of both of two
+pub interleaved_logs : (machine : PoolMachine) (flags : List Bool) (logs : List PoolLog) (party other : ℕ)
+    (log other_log : PoolLog) → LogsAgree machine flags logs → slice_get logs party ≡ Some log →
+    slice_get logs other ≡ Some other_log → CommonInterleaving machine party log other other_log
+interleaved_logs machine flags logs party other log other_log agree at other_at = record {
+  steps = agree.steps;
+  allowed = agree.allowed;
+  logged = agree.each party log at;
+  other_logged = agree.each other other_log other_at;
+}

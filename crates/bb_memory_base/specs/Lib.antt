@@ -19,3 +19,4 @@ pub mod PoolObject
 pub mod Region
 pub mod ResizableObject
 pub mod Run
+pub mod UsualLayout

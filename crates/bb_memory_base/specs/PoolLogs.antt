@@ -54,6 +54,20 @@ pub record LogsAgree (machine : PoolMachine) (flags : List Bool) (logs : List Po
   pub each : (party : ℕ) (log : PoolLog) → slice_get logs party ≡ Some log
       → log_of machine steps party ≡ log
 
+-- an interleaving of this party's log with some logs of the others: a list of steps, each allowed, that has as the party's steps
+-- exactly its log, in order
+pub record Interleaving (machine : PoolMachine) (party : ℕ) (log : PoolLog) : Type 0 where
+  pub steps : List PoolStep
+  pub allowed : All (λ entry. IsAllowed entry.outcome) (history_of machine steps)
+  pub logged : log_of machine steps party ≡ log
+
+-- an interleaving of both parties' logs with some logs of the others
+pub record CommonInterleaving (machine : PoolMachine) (party : ℕ) (log : PoolLog) (other : ℕ) (other_log : PoolLog) : Type 0 where
+  pub steps : List PoolStep
+  pub allowed : All (λ entry. IsAllowed entry.outcome) (history_of machine steps)
+  pub logged : log_of machine steps party ≡ log
+  pub other_logged : log_of machine steps other ≡ other_log
+
 -- the logs after one more entry of a party, whose log was this
 abbrev pub with_entry : List PoolLog → ℕ → PoolLog → PoolEntry → List PoolLog
 with_entry logs party log entry = slice_set logs party (log ++ entry ∷ [])

@@ -19,10 +19,11 @@ Step object old (Shrink position from to) reply.Passed new = new ≡ old
 -- no other reply is given
 Step object old command other new = ⊥
 
--- These replies to these commands, one step after another.
-abbrev pub IsRun : {C R : Type 0} → (List Chunk → C → R → List Chunk → Type 0) → List Chunk → List C → List R → List Chunk → Type 0
+-- These replies to these commands, one step after another. What a step goes on from is a live list here, and a book of
+-- samples in a crate above.
+abbrev pub IsRun : {S C R : Type 0} → (S → C → R → S → Type 0) → S → List C → List R → S → Type 0
 IsRun step old [] [] new = new ≡ old
-IsRun step old (command ∷ commands) (reply ∷ replies) new =
-    (mid : List Chunk) × step old command reply mid × IsRun step mid commands replies new
+IsRun {S = S} step old (command ∷ commands) (reply ∷ replies) new =
+    (mid : S) × step old command reply mid × IsRun step mid commands replies new
 IsRun step old [] (reply ∷ replies) new = ⊥
 IsRun step old (command ∷ commands) [] new = ⊥

@@ -115,6 +115,7 @@ pub trait BaseAllocator {
             → stands_for self.new (live ++ chunk ∷ [])) }
         ensures kept { OnErr result ((live : List Chunk) → stands_for self.old live
             → stands_for self.new live) }
+        ensures given { IfOk result (λ chunk. may_release self.new chunk.place) }
         ensures inside { IfOk result (IsInside (region_of (geometry self.old))) }
         ensures aligned { IfOk result (λ chunk. chunk.place % layout.align ≡ 0) }
         ensures long_enough { IfOk result (λ chunk. layout.size ≤ chunk.len) }
@@ -142,6 +143,7 @@ pub trait BaseAllocator {
             → stands_for self.new (live ++ chunk ∷ [])) }
         ensures kept { OnErr result ((live : List Chunk) → stands_for self.old live
             → stands_for self.new live) }
+        ensures given { IfOk result (λ chunk. may_release self.new chunk.place) }
         ensures inside { IfOk result (IsInside (region_of (geometry self.old))) }
         ensures aligned { IfOk result (λ chunk. chunk.place % layout.align ≡ 0) }
         ensures long_enough { IfOk result (λ chunk. layout.size ≤ chunk.len) }
@@ -283,4 +285,14 @@ pub trait Allocator: BaseAllocator {
 
     /// No two chunks of a list that it stands for have the same place.
     ghost distinct: { (allocator : Self) (live : List Chunk) → Self.stands_for allocator live → PlacesDiffer live };
+
+    /// No chunk of such a list is longer than what is reserved for it.
+    ghost covered: { (allocator : Self) (live : List Chunk) (position : ℕ) (chunk : Chunk)
+        → Self.stands_for allocator live → slice_get live position ≡ Some chunk
+        → chunk.len ≤ reserved_at (figures allocator) chunk.place };
+
+    /// What may be given back stands in each such list.
+    ghost only_live: { (allocator : Self) (live : List Chunk) (place : ℕ)
+        → Self.stands_for allocator live → Self.may_release allocator place
+        → (position : ℕ) × (chunk : Chunk) × (slice_get live position ≡ Some chunk) × (chunk.place ≡ place) };
 }

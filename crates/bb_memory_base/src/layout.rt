@@ -4,10 +4,11 @@ ghost use Rattle.std.specs.Align.{IsLayout};
 ghost use Rattle.std.specs.Int.{IsPowerOfTwo};
 ghost use Rattle.std.specs.Option.{SomeIff};
 ghost use Rattle.bb_memory_base.specs.LeastPlace.{least_place, IsLeastPlace};
+ghost use Rattle.bb_memory_base.specs.UsualLayout.{IsUsual};
 
 mod chunk;
 
-pub use chunk::Chunk;
+pub use chunk::{Chunk, given_law};
 use thiserror::Error;
 
 /// A size in bytes and an alignment, as `core::alloc::Layout` has them: the alignment is a power of two, and the size
@@ -35,6 +36,7 @@ impl Layout {
     pub fn from_size_align(size: usize, align: usize) -> Result<Layout, LayoutError>
         ensures accepted { IsOk result ↔ IsLayout size align }
         ensures value { IfOk result (λ layout. (layout.size ≡ size) × (layout.align ≡ align)) }
+        ensures usual { IsUsual size align → IsOk result }
     {
         if !align.is_power_of_two() {
             return Err(LayoutError {});
@@ -46,7 +48,10 @@ impl Layout {
     }
 
     /// The layout of no bytes, for a call in which the layout decides nothing.
-    pub(crate) fn empty() -> Layout {
+    pub fn empty() -> Layout
+        ensures size { result.size ≡ 0 }
+        ensures align { result.align ≡ 1 }
+    {
         Layout { size: 0, align: 1 }
     }
 

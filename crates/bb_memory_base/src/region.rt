@@ -1,8 +1,9 @@
 //! The bytes of a region, lent chunk by chunk.
-ghost use Rattle.std.specs.Prelude.{◌≡◌, ◌<◌, ◌↔◌, ℕ, List, IsTrue, length, vec_len};
+ghost use Rattle.std.specs.Prelude.{◌≡◌, ◌≢◌, ◌+◌, ◌∷◌, ◌++◌, [], ◌<◌, ◌≤◌, ◌↔◌, ℕ, List, Some, IsTrue, length, map, slice_get, slice_set, vec_len};
 ghost use Rattle.std.specs.Borrow.{sem};
 ghost use Rattle.bb_memory_base.specs.Region.{IsRegion, region_at};
-ghost use Rattle.bb_memory_base.specs.Chunk.{Chunk, IsInside};
+ghost use Rattle.bb_memory_base.specs.LiveList.{IsSound};
+ghost use Rattle.bb_memory_base.specs.Chunk.{Chunk, IsInside, AreApart};
 ghost use Rattle.bb_memory_base.specs.HeldBytes.{HeldBytes, held_region, bytes_in, ChangesOnly, ZeroesOnly};
 ghost use Rattle.bb_memory_base.specs.Lending.{LendsChunk, written};
 
@@ -57,7 +58,8 @@ impl Region {
 
     /// The place of the first byte.
     pub fn start_address(&self) -> usize
-        ensures { result ≡ self.now.start }
+        ensures value { result ≡ self.now.start }
+        ensures is_region { IsRegion (held_region self.now) }
     {
         self.start
     }
@@ -97,6 +99,31 @@ impl Region {
         self.bytes.slice_mut(from..from + c.len())
     }
 
+    /// Writes a chunk whole, which has to lie inside and to be as long as the bytes. Every other byte stays, and so do the
+    /// bytes of every chunk that is apart from it.
+    pub fn write(&mut self, c: Chunk, bytes: &[u8])
+        requires inside { IsInside (held_region self.old) c }
+        requires len { length bytes.now ≡ c.len }
+        ensures changes { ChangesOnly self.old self.new c bytes.now }
+        ensures written { bytes_in self.new c ≡ bytes.now }
+        ensures apart { (other : Chunk) → IsInside (held_region self.old) other → AreApart c other
+            → bytes_in self.new other ≡ bytes_in self.old other }
+        ensures region { held_region self.new ≡ held_region self.old }
+        ensures others { (live : List Chunk) (i k : ℕ) (other : Chunk) → IsSound (held_region self.old) live
+            → slice_get live i ≡ Some c → i ≢ k → slice_get live k ≡ Some other
+            → bytes_in self.new other ≡ bytes_in self.old other }
+        ensures contents { (live : List Chunk) (i : ℕ) → IsSound (held_region self.old) live
+            → slice_get live i ≡ Some c
+            → map (bytes_in self.new) live ≡ slice_set (map (bytes_in self.old) live) i bytes.now }
+        ensures given { (live : List Chunk) → IsSound (held_region self.old) (live ++ c ∷ [])
+            → map (bytes_in self.new) (live ++ c ∷ []) ≡ map (bytes_in self.old) live ++ bytes.now ∷ [] }
+        ensures extended { (place n : ℕ) → self.old.start ≤ place → place + n ≡ c.place
+            → bytes_in self.new (record { place = place; len = n + c.len })
+            ≡ bytes_in self.old (record { place = place; len = n }) ++ bytes.now }
+    {
+        self.chunk_mut(c).copy_from_slice(bytes);
+    }
+
     /// Makes the bytes of a chunk zero, which has to lie inside. Every other byte stays.
     pub fn zero(&mut self, c: Chunk)
         requires { IsInside (held_region self.old) c }
@@ -107,9 +134,40 @@ impl Region {
 }
 
 /// What [`Region::chunk_mut`] says of the bytes that it lends, in plain words: once bytes as many as the chunk's are written
-/// there, the chunk has these, and every other byte is as it was. It does nothing: its contract is the law.
+/// there, the chunk has these, and every other byte is as it was, so each chunk inside that is apart from it keeps its bytes.
+/// It does nothing: its contract is the law.
 pub fn region_law()
-    ensures { (held : HeldBytes) (chunk : Chunk) (bytes : List ℕ)
+    ensures written { (held : HeldBytes) (chunk : Chunk) (bytes : List ℕ)
         → IsInside (held_region held) chunk → length bytes ≡ chunk.len
         → ChangesOnly held (written held chunk bytes) chunk bytes }
+    ensures others { (old new : HeldBytes) (chunk other : Chunk) (bytes : List ℕ)
+        → ChangesOnly old new chunk bytes → IsInside (held_region old) chunk
+        → IsInside (held_region old) other → AreApart chunk other
+        → bytes_in new other ≡ bytes_in old other }
+{}
+
+/// What the chunks of a sound list hold, while one of them is written: its contents are set, and those of the others stay. It
+/// does nothing: its contract is the law.
+pub fn live_bytes_law()
+    ensures inside { (held : HeldBytes) (live : List Chunk) (i : ℕ) (chunk : Chunk)
+        → IsSound (held_region held) live → slice_get live i ≡ Some chunk
+        → IsInside (held_region held) chunk }
+    ensures apart { (held : HeldBytes) (live : List Chunk) (i j : ℕ) (one other : Chunk)
+        → IsSound (held_region held) live → slice_get live i ≡ Some one
+        → slice_get live j ≡ Some other → i ≢ j
+        → AreApart one other }
+    ensures others { (old new : HeldBytes) (live : List Chunk) (i k : ℕ) (chunk other : Chunk) (bytes : List ℕ)
+        → IsSound (held_region old) live → slice_get live i ≡ Some chunk → ChangesOnly old new chunk bytes
+        → i ≢ k → slice_get live k ≡ Some other → bytes_in new other ≡ bytes_in old other }
+    ensures contents { (old new : HeldBytes) (live : List Chunk) (i : ℕ) (chunk : Chunk) (bytes : List ℕ)
+        → IsSound (held_region old) live → slice_get live i ≡ Some chunk → ChangesOnly old new chunk bytes
+        → map (bytes_in new) live ≡ slice_set (map (bytes_in old) live) i bytes }
+{}
+
+/// A chunk's bytes are those of its parts, one behind the other. It does nothing: its contract is the law.
+pub fn split_bytes_law()
+    ensures { (held : HeldBytes) (place n m : ℕ) → held.start ≤ place
+        → bytes_in held (record { place = place; len = n + m })
+        ≡ bytes_in held (record { place = place; len = n })
+        ++ bytes_in held (record { place = place + n; len = m }) }
 {}

@@ -1,11 +1,16 @@
 //! Worked rows, faults of readers and writers, and refused memory.
 mod calls;
 mod faults;
+mod heap_blocks;
+mod loans;
 mod pool_rows;
 mod pools;
 mod refused_in_turn;
 mod regions;
 mod rows;
+mod shared_bumps;
+mod shared_pools;
+mod threads;
 
 /// The script of row `bump-first-path`, and what it writes.
 const FIRST_PATH: &[u8] =

@@ -1,48 +1,30 @@
-//! A set of numbers as an array of flags, which takes no memory.
-ghost use Rattle.std.specs.Prelude.{◌≡◌, ◌≤◌, ◌<◌, false, length, replicate, IfSome, IfNone};
-ghost use Rattle.bb_memory.specs.Flags.{HasAll};
-ghost use Rattle.bb_memory.specs.NumberSet.{Lacks, IsFull};
+//! A set of numbers as an array of those that aren't in it, which takes no memory.
+ghost use Rattle.std.specs.Prelude.{◌≡◌, ◌≤◌, ◌<◌, ◌-◌, ℕ, false, length, replicate, slice_index};
+ghost use Rattle.bb_memory.specs.Flags.{};
 
 use crate::index_set::{Counter, IndexSet};
 use std::marker::Model;
 
-/// A flag for each number below the bound; the flags from the bound on are never read.
+/// The numbers below the bound that aren't in the set, in the first entries of an array, so many; the others are never read.
 ///
-/// A taking looks first at the number at the cursor: the one that was given back or taken last, or 0. After a taking that found
-/// every number in the set the cursor is the bound, and further refusals look at no flag.
+/// A taking answers the one that was given back last. Nothing is searched.
 #[derive(Drop)]
 #[derive_where(Debug)]
 pub struct Flags<const N: usize> {
-    flags: [bool; N],
+    free: [u32; N],
     bound: u32,
-    #[derive_where(skip(Debug))]
-    cursor: usize,
+    left: usize,
 }
 
 impl<const N: usize> Model for Flags<N> {
     ghost use Rattle.std.specs.Prelude.{Bool, List, take};
-    ghost use Rattle.bb_memory.specs.Flags.{IsFlagSet};
+    ghost use Rattle.bb_memory.specs.Flags.{IsFreeList, held_numbers};
 
     ghost Value = { List Bool };
 
-    ghost view = { λ a. take a.bound a.flags };
+    ghost view = { λ a. held_numbers a.bound (take a.left a.free) };
 
-    ghost invariant = { λ a. IsFlagSet N a.bound a.flags a.cursor };
-}
-
-/// The first number from one up to another whose flag isn't set.
-fn first_unset(flags: &[bool], from: usize, to: usize) -> Option<usize>
-    requires { to ≤ length flags.now }
-    ensures below { IfSome result (λ number. number < to) }
-    ensures lacked { IfSome result (Lacks flags.now) }
-    ensures full { IfNone result (HasAll flags.now from to) }
-{
-    for number in from..to {
-        if !flags[number] {
-            return Some(number);
-        }
-    }
-    None
+    ghost invariant = { λ a. IsFreeList N a.bound a.free a.left };
 }
 
 impl<const N: usize> Flags<N> {
@@ -51,25 +33,14 @@ impl<const N: usize> Flags<N> {
         requires { bound ≤ N }
         ensures { result ≡ replicate bound false }
     {
+        let mut free = [0u32; N];
+        for k in 0..bound {
+            free[k as usize] = bound - 1 - k;
+        }
         Flags {
-            flags: [false; N],
+            free,
             bound,
-            cursor: 0,
-        }
-    }
-
-    /// A number that isn't in the set: the first from the cursor on, or else the first of all.
-    fn find(&self) -> Option<usize>
-        ensures lacked { IfSome result (Lacks self.now) }
-        ensures full { IfNone result (IsFull self.now) }
-    {
-        let bound = self.bound as usize;
-        if self.cursor == bound {
-            return None;
-        }
-        match first_unset(&self.flags, self.cursor, bound) {
-            Some(number) => Some(number),
-            None => first_unset(&self.flags, 0, self.cursor),
+            left: bound as usize,
         }
     }
 }
@@ -83,23 +54,22 @@ impl<const N: usize> IndexSet for Flags<N> {
         self.bound
     }
 
+    #[inline(always)]
     fn take(&mut self, _counter: &mut Counter) -> Option<usize> {
-        match self.find() {
-            Some(number) => {
-                self.flags[number] = true;
-                self.cursor = number;
-                Some(number)
-            }
-            None => {
-                self.cursor = self.bound as usize;
-                None
-            }
+        if self.left == 0 {
+            return None;
         }
+        let last = self.left - 1;
+        let number = self.free[last];
+        self.left = last;
+        Some(number as usize)
     }
 
-    /// The next taking looks at this number first.
+    /// The next taking answers this number.
+    #[inline(always)]
     fn release(&mut self, number: usize) {
-        self.flags[number] = false;
-        self.cursor = number;
+        let left = self.left;
+        self.free[left] = number as u32;
+        self.left = left + 1;
     }
 }

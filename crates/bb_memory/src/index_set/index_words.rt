@@ -1,8 +1,8 @@
-//! Words of 64 bits that a search reads only through a counter.
+//! Words of 64 bits that a search reads only through a counter, and a list of some of them.
 //!
 //! Both types stand in one module: [`IndexWords::word`] alone hands out a word, and it alone counts a read.
-ghost use Rattle.std.specs.Prelude.{◌≡◌, ◌+◌, ◌/◌, ◌^◌, ◌<◌, false, length, replicate, slice_index, slice_set, IfOk};
-ghost use Rattle.bb_memory.specs.Words.{SetsBit};
+ghost use Rattle.std.specs.Prelude.{◌≡◌, ◌≢◌, ℕ, ◌+◌, ◌-◌, ◌/◌, ◌^◌, ◌<◌, ◌≤◌, false, IsTrue, IsFalse, length, replicate, slice_index, slice_set, IfOk};
+ghost use Rattle.bb_memory.specs.Words.{SetsBit, PutsAt};
 
 use std::alloc::{AllocError, Allocator};
 use std::marker::Model;
@@ -48,64 +48,97 @@ impl Counter {
 }
 
 /// Words that [`IndexWords::word`] alone hands out; a release changes a bit in place. Number n is bit n % 64 of word n / 64,
-/// counted from the lowest.
+/// counted from the lowest. Behind them, in the same memory, is room for a list of as many words' numbers.
 #[derive(Drop)]
 pub struct IndexWords<A: Allocator> {
-    words: Vec<u64, A>,
+    slots: Vec<u64, A>,
+    count: usize,
 }
 
 impl<A: Allocator> Model for IndexWords<A> {
-    ghost use Rattle.std.specs.Prelude.{ℕ, List};
+    ghost use Rattle.std.specs.Prelude.{◌≤◌, length};
+    ghost use Rattle.bb_memory.specs.Words.{Slots, slots_of};
 
-    ghost Value = { List ℕ };
+    ghost Value = { Slots };
 
-    ghost view = { λ a. a.words.items };
+    ghost view = { λ a. slots_of a.count a.slots.items };
+
+    ghost invariant = { λ a. a.count ≤ length a.slots.items };
 }
 
 impl<A: Allocator> IndexWords<A> {
-    /// So many words, all zero. It is refused only where a request for memory was.
+    /// So many words, all zero, and room for the list. It is refused only where a request for memory was.
     pub fn new(alloc: A, len: usize) -> Result<Self, AllocError>
-        ensures { IfOk result (λ words. words ≡ replicate len 0) }
+        requires { len < 2 ^ 32 }
+        ensures zero { IfOk result (λ slots. slots.words ≡ replicate len 0) }
+        ensures room { IfOk result (λ slots. length slots.listed ≡ len) }
     {
-        let words = Vec::from_elem(alloc, 0u64, len)?;
-        Ok(IndexWords { words })
+        let slots = Vec::from_elem(alloc, 0u64, len + len)?;
+        Ok(IndexWords { slots, count: len })
     }
 
     /// How many words there are. No word is read.
-    #[inline]
+    #[inline(always)]
     pub fn len(&self) -> usize
-        ensures { result ≡ length self.now }
+        ensures { result ≡ length self.now.words }
     {
-        self.words.len()
+        self.count
     }
 
     /// Reads word i, and counts the read.
-    #[inline]
+    #[inline(always)]
     pub fn word(&self, i: usize, counter: &mut Counter) -> u64
-        requires index { i < length self.now }
+        requires index { i < length self.now.words }
         requires room { counter.old + 1 < 2 ^ 32 }
-        ensures value { result ≡ slice_index self.now i }
+        ensures value { result ≡ slice_index self.now.words i }
         ensures counted { counter.new ≡ counter.old + 1 }
     {
         counter.increment();
-        self.words[i]
+        self.slots[i]
     }
 
     /// Replaces word i.
-    #[inline]
+    #[inline(always)]
     pub fn put(&mut self, i: usize, word: u64)
-        requires { i < length self.old }
-        ensures { self.new ≡ slice_set self.old i word }
+        requires { i < length self.old.words }
+        ensures words { self.new.words ≡ slice_set self.old.words i word }
+        ensures listed { self.new.listed ≡ self.old.listed }
     {
-        self.words[i] = word;
+        self.slots[i] = word;
     }
 
-    /// Clears the bit of a number, and no other.
-    #[inline]
-    pub fn clear(&mut self, number: usize)
-        requires { number / 64 < length self.old }
-        ensures { SetsBit self.old number false self.new }
+    /// Clears the bit of a number, and no other, and says whether its word was full.
+    #[inline(always)]
+    pub fn clear(&mut self, number: usize) -> bool
+        requires { number / 64 < length self.old.words }
+        ensures bit { SetsBit self.old.words number false self.new.words }
+        ensures others { PutsAt self.old.words (number / 64) self.new.words }
+        ensures not_full { slice_index self.new.words (number / 64) ≢ 2 ^ 64 - 1 }
+        ensures listed { self.new.listed ≡ self.old.listed }
+        ensures was_full { IsTrue result → slice_index self.old.words (number / 64) ≡ 2 ^ 64 - 1 }
+        ensures was_open { IsFalse result → slice_index self.old.words (number / 64) ≢ 2 ^ 64 - 1 }
     {
-        self.words[number / 64] &= !(1u64 << (number % 64));
+        let word = self.slots[number / 64];
+        self.slots[number / 64] = word & !(1u64 << (number % 64));
+        word == u64::MAX
+    }
+
+    /// Entry k of the list.
+    #[inline(always)]
+    pub fn listed(&self, k: usize) -> usize
+        requires { k < length self.now.listed }
+        ensures { result ≡ slice_index self.now.listed k }
+    {
+        self.slots[self.count + k] as usize
+    }
+
+    /// Replaces entry k of the list.
+    #[inline(always)]
+    pub fn list(&mut self, k: usize, at: usize)
+        requires { k < length self.old.listed }
+        ensures words { self.new.words ≡ self.old.words }
+        ensures listed { self.new.listed ≡ slice_set self.old.listed k at }
+    {
+        self.slots[self.count + k] = at as u64;
     }
 }

@@ -9,7 +9,7 @@ ghost use Rattle.bb_memory_base.specs.ResizableObject.{ResizableStep};
 ghost use Rattle.bb_memory_base.specs.PoolGeometry.{PoolGeometry, IsCut, at_most};
 ghost use Rattle.bb_memory_base.specs.PoolObject.{MayAllocate, MayGrow, MayShrink, IsWithin, pool_object};
 ghost use Rattle.bb_memory.specs.NumberSet.{Lacks};
-ghost use Rattle.bb_memory.specs.Pool.{Frees, HoldsPlace, MayBeCut, StandsFor, Takes, fresh_pool};
+ghost use Rattle.bb_memory.specs.Pool.{Frees, AreABucketApart, HoldsPlace, MayBeCut, StandsFor, Takes, fresh_pool};
 
 use crate::allocator::{
     AllocationError, AllocationGrowError, AllocationShrinkError, Allocator, BaseAllocator, Command,
@@ -18,7 +18,8 @@ use crate::allocator::{
 use crate::index_set::Counter;
 use crate::index_set::flags::Flags;
 use crate::layout::{Chunk, Layout};
-use crate::pool_allocator::buckets::{Buckets, count_buckets, may_be_cut};
+use crate::pool_allocator::buckets::Buckets;
+use crate::pool_allocator::geometry::{Geometry, may_be_cut};
 use crate::region::Region;
 use std::alloc::AllocError;
 use std::marker::Model;
@@ -63,9 +64,12 @@ impl<const MAX_NUMBER_OF_BUCKETS: usize> FixedSizePoolAllocator<MAX_NUMBER_OF_BU
             × (result ≡ fresh_pool (at_most MAX_NUMBER_OF_BUCKETS whole)) }
         ensures empty { StandsFor result [] }
     {
-        let count = count_buckets(bucket_layout, start, size).min(MAX_NUMBER_OF_BUCKETS as u32);
+        let geometry = Geometry::new(bucket_layout, start, size).at_most(
+            MAX_NUMBER_OF_BUCKETS as u32,
+        );
+        let held = Flags::new(geometry.count());
         FixedSizePoolAllocator {
-            buckets: Buckets::new(bucket_layout, start, size, Flags::new(count)),
+            buckets: Buckets::new(geometry, held),
         }
     }
 
@@ -133,6 +137,7 @@ impl<const MAX_NUMBER_OF_BUCKETS: usize> BaseAllocator
     /// A chunk of `layout.size()` bytes in a bucket that isn't held; which one is left open. It is refused in this order: with
     /// `SizeTooLarge` where the size is greater than the bucket's, with `AlignmentFailure` where the alignment is greater than
     /// the bucket's, and with `OutOfMemory` where every bucket is held. A refusal leaves the pool as it was.
+    #[inline(always)]
     fn allocate(&mut self, layout: Layout) -> Result<Chunk, AllocationError>
         ensures answer { (live : List Chunk) → StandsFor self.old live
             → MayAllocate self.old.geometry live layout result }
@@ -151,6 +156,9 @@ impl<const MAX_NUMBER_OF_BUCKETS: usize> BaseAllocator
             × ((i : ℕ) × Lacks self.old.held i)) }
         ensures kept { OnErr result (self.new ≡ self.old) }
         ensures given { IfOk result (λ chunk. HoldsPlace self.new chunk.place) }
+        ensures was_free { IfOk result (λ chunk. ¬ HoldsPlace self.old chunk.place) }
+        ensures apart { IfOk result (λ chunk. (place : ℕ) → HoldsPlace self.old place
+            → AreABucketApart self.old.geometry.bucket place chunk.place) }
         ensures still_held { (place : ℕ) → HoldsPlace self.old place → HoldsPlace self.new place }
         ensures bucket_aligned { IfOk result
             (λ chunk. chunk.place % self.old.geometry.bucket.align ≡ 0) }
@@ -160,6 +168,7 @@ impl<const MAX_NUMBER_OF_BUCKETS: usize> BaseAllocator
     }
 
     /// Gives back the bucket at this place, which has to be held. The layout decides nothing.
+    #[inline(always)]
     fn deallocate(&mut self, place: usize, _layout: Layout)
         requires { HoldsPlace self.old place }
         ensures freed { Frees self.old place self.new }
@@ -199,6 +208,9 @@ impl<const MAX_NUMBER_OF_BUCKETS: usize> BaseAllocator
             × ((i : ℕ) × Lacks self.old.held i)) }
         ensures kept { OnErr result (self.new ≡ self.old) }
         ensures given { IfOk result (λ chunk. HoldsPlace self.new chunk.place) }
+        ensures was_free { IfOk result (λ chunk. ¬ HoldsPlace self.old chunk.place) }
+        ensures apart { IfOk result (λ chunk. (place : ℕ) → HoldsPlace self.old place
+            → AreABucketApart self.old.geometry.bucket place chunk.place) }
         ensures still_held { (place : ℕ) → HoldsPlace self.old place → HoldsPlace self.new place }
         ensures bucket_aligned { IfOk result
             (λ chunk. chunk.place % self.old.geometry.bucket.align ≡ 0) }
@@ -222,6 +234,7 @@ impl<const MAX_NUMBER_OF_BUCKETS: usize> BaseAllocator
 
 impl<const MAX_NUMBER_OF_BUCKETS: usize> Allocator
     for FixedSizePoolAllocator<MAX_NUMBER_OF_BUCKETS> {
+    ghost use Rattle.bb_memory.specs.PoolLaws.{covered, held_is_live};
     ghost use Rattle.std.specs.Prelude.{refl};
     ghost use Rattle.bb_memory_base.specs.PoolGeometry.{PoolGeometry};
     ghost use Rattle.bb_memory_base.specs.PoolObject.{MayGrow, MayShrink};
@@ -296,6 +309,10 @@ impl<const MAX_NUMBER_OF_BUCKETS: usize> Allocator
     ghost closes_up = { refl };
 
     ghost distinct = { λ pool live stands. stands.differ };
+
+    ghost covered = { λ pool. covered pool };
+
+    ghost only_live = { λ pool. held_is_live pool };
 }
 
 /// Applies the commands in order, as [`run_full`] does: the replies and the live list are a run of the pool object over the

@@ -1,6 +1,7 @@
 //! What the definitions of the pool object and of its geometry say, in plain words.
-ghost use Rattle.std.specs.Prelude.{◌≡◌, ◌≢◌, ◌+◌, ◌<◌, ◌≤◌, ◌%◌, [], List, All, AllPairs, ℕ, Result, Ok, Err, IsOk, length, remove};
-ghost use Rattle.bb_memory_base.specs.Region.{Region};
+ghost use Rattle.std.specs.Prelude.{◌≡◌, ◌≢◌, ◌+◌, ◌-◌, ◌/◌, ◌^◌, ◌<◌, ◌≤◌, ◌%◌, [], List, All, AllPairs, ℕ, Result, Ok, Err, Some, IsOk, length, remove, slice_get};
+ghost use Rattle.bb_memory_base.specs.Region.{Region, IsRegion, region_end};
+ghost use Rattle.bb_memory_base.specs.FirstPlace.{first_place};
 ghost use Rattle.bb_memory_base.specs.Chunk.{Chunk, IsInside};
 ghost use Rattle.bb_memory_base.specs.Run.{IsRun, Step};
 ghost use Rattle.bb_memory_base.specs.ResizableObject.{ResizableStep};
@@ -12,7 +13,7 @@ ghost use Rattle.bb_memory_base.specs.declared.allocator.AllocationGrowError.{Al
 ghost use Rattle.bb_memory_base.specs.declared.allocator.AllocationShrinkError.{AllocationShrinkError};
 ghost use Rattle.bb_memory_base.specs.declared.allocator.Command.{Command};
 ghost use Rattle.bb_memory_base.specs.declared.allocator.Reply.{Reply};
-ghost use Rattle.bb_memory.specs.Pool.{AreAStrideApart, IsPool, Pool, StandsFor, fresh_pool};
+ghost use Rattle.bb_memory.specs.Pool.{AreAStrideApart, HoldsPlace, IsPool, MayBeCut, Pool, StandsFor, fresh_pool};
 
 /// What the definition of a pool's geometry says of every region and every layout of a bucket. A region is cut in one way
 /// alone, and into buckets of at least one byte it can always be cut. Each bucket begins at a multiple of its alignment, and
@@ -108,4 +109,21 @@ pub fn pool_object_law()
         → IsPool pool → StandsFor pool live
         → IsRun (Step (pool_object pool.geometry).base) live commands replies new
         → (left : Pool) × IsPool left × (left.geometry ≡ pool.geometry) × StandsFor left new }
+{}
+
+/// What stands in a list that a pool stands for may be given back. It does nothing: its contract is the law.
+pub fn pool_held_law()
+    ensures { (pool : Pool) (live : List Chunk) (position : ℕ) (chunk : Chunk) → StandsFor pool live
+        → slice_get live position ≡ Some chunk → HoldsPlace pool chunk.place }
+{}
+
+/// How many buckets a region is cut into, as a quotient, and so when it may be cut. It does nothing: its contract is the law.
+pub fn pool_count_law()
+    ensures count { (region : Region) (bucket : Layout) (geometry : PoolGeometry) → 0 < bucket.size
+        → IsCut region bucket geometry
+        → geometry.buckets ≡ (region_end region - first_place region bucket) / stride bucket }
+    ensures may_be_cut { (region : Region) (bucket : Layout) → IsRegion region
+        → first_place region bucket < 2 ^ 64 → 0 < bucket.size
+        → (region_end region - first_place region bucket) / stride bucket < 2 ^ 32 - 1
+        → MayBeCut region bucket }
 {}

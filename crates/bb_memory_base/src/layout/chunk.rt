@@ -1,7 +1,9 @@
 //! Chunks, which are what is given.
-ghost use Rattle.std.specs.Prelude.{◌≡◌, ◌<◌, ◌≤◌, ◌%◌, IfSome};
+ghost use Rattle.std.specs.Prelude.{◌≡◌, ◌∷◌, ◌++◌, ◌<◌, ◌≤◌, ◌%◌, ◌↔◌, [], List, All, IsTrue, IfSome};
 ghost use Rattle.std.specs.Option.{SomeIff};
-ghost use Rattle.bb_memory_base.specs.Chunk.{Chunk, IsChunk, chunk_end};
+ghost use Rattle.bb_memory_base.specs.Chunk.{Chunk, IsChunk, AreApart, chunk_end};
+ghost use Rattle.bb_memory_base.specs.Region.{Region};
+ghost use Rattle.bb_memory_base.specs.LiveList.{IsSound};
 ghost use Rattle.bb_memory_base.specs.BumpObject.{chunk_at_or_after};
 ghost use Rattle.bb_memory_base.specs.HeldBytes.{part_behind};
 
@@ -72,6 +74,13 @@ impl Chunk {
         self.len
     }
 
+    /// Whether it has no bytes.
+    pub fn is_empty(&self) -> bool
+        ensures { IsTrue result ↔ (self.now.len ≡ 0) }
+    {
+        self.end() == self.place
+    }
+
     /// Place plus length.
     pub fn end(&self) -> usize
         ensures { result ≡ chunk_end self.now }
@@ -90,3 +99,11 @@ impl Chunk {
         }
     }
 }
+
+/// What the last chunks of a sound list are to the others: apart. It does nothing: its contract is the law.
+pub fn given_law()
+    ensures given { (region : Region) (live : List Chunk) (chunk : Chunk)
+        → IsSound region (live ++ chunk ∷ []) → All (AreApart chunk) live }
+    ensures last_two { (region : Region) (live : List Chunk) (one other : Chunk)
+        → IsSound region ((live ++ one ∷ []) ++ other ∷ []) → AreApart one other }
+{}

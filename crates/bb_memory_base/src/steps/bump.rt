@@ -7,7 +7,7 @@ ghost use Rattle.bb_memory_base.specs.BumpObject.{StandsFor, used_space};
 ghost use Rattle.bb_memory_base.specs.BumpMachine.{BumpScene, OngoingCall, IsIdle, IsFitting, IsInCall, exchange_move, left_by, read_move};
 ghost use Rattle.bb_memory_base.specs.BumpHistory.{BumpEntry, HasNoClear, IsLossAt, chunks_won, calls_begun_in, history_of, losses_in, log_of, outcome_after, stretch_after};
 ghost use Rattle.bb_memory_base.specs.BumpCalls.{IsCallRun, OpensWith, calls_after, calls_of, live_after};
-ghost use Rattle.bb_memory_base.specs.BumpLogs.{HasLog, Interleaving, LogsAgree, HasPositionUpTo, call_in, seen_in, with_entry};
+ghost use Rattle.bb_memory_base.specs.BumpLogs.{HasLog, Interleaving, LogsAgree, HasPositionUpTo, call_in, call_through, greatest_in, seen_in, with_entry};
 ghost use Rattle.bb_memory_base.specs.declared.layout.Layout.{Layout};
 ghost use Rattle.bb_memory_base.specs.declared.steps.bump.BumpStep.{BumpStep};
 ghost use Rattle.bb_memory_base.specs.declared.steps.bump.BumpStep.TheVariants.{Read, Exchange, Load};
@@ -90,6 +90,14 @@ pub fn bump_theorem()
         → outcome_after scene steps (Load party)
         ≡ Loaded (used_space scene.region (live_after scene live steps)) }
 
+    // At every step the position is at most the size, and so is what a call has seen.
+    ensures within { (scene : BumpScene) (steps : List BumpStep)
+        → scene.opening ≤ scene.region.size
+        → (left_by scene steps).position ≤ scene.region.size }
+    ensures seen_within { (scene : BumpScene) (steps : List BumpStep) (party : ℕ) (call : OngoingCall)
+        → scene.opening ≤ scene.region.size → IsInCall (left_by scene steps) party call
+        → call.seen ≤ scene.region.size }
+
     // At every step the list is sound: its chunks lie inside the region, and no two overlap.
     ensures sound { (scene : BumpScene) (live : List Chunk) (steps : List BumpStep)
         → OpensWith scene live
@@ -131,6 +139,14 @@ pub fn bump_log_theorem()
         → slice_get (left_by scene steps).parties party
         ≡ Some (call_in (log_of party (history_of scene steps))) }
 
+    // A longer log says what the shorter one says, and then the rest.
+    ensures call_grows { (log more : List BumpEntry)
+        → call_in (log ++ more) ≡ call_through (call_in log) more }
+    ensures seen_grows { (scene : BumpScene) (log more : List BumpEntry)
+        → seen_in scene (log ++ more) ≡ greatest_in scene.region (seen_in scene log) more }
+    ensures won_grows { (log more : List BumpEntry)
+        → chunks_won (log ++ more) ≡ chunks_won log ++ chunks_won more }
+
     // Logs that are all empty agree with the opening.
     ensures opening { (scene : BumpScene) (logs : List (List BumpEntry))
         → All (λ log. log ≡ []) logs
@@ -167,6 +183,27 @@ pub fn bump_log_theorem()
         → LogsAgree scene position logs
         → HasLog logs party log → HasLog logs other other_log → party ≢ other
         → All (λ chunk. All (AreApart chunk) (chunks_won other_log)) (chunks_won log) }
+
+    // The chunks of one party are a sound list.
+    ensures own { (scene : BumpScene) (position party : ℕ)
+        (logs : List (List BumpEntry)) (log : List BumpEntry)
+        → scene.opening ≤ scene.region.size
+        → LogsAgree scene position logs → HasLog logs party log
+        → IsSound scene.region (chunks_won log) }
+
+    // They are apart from each chunk of a list that the opening stands for.
+    ensures older { (scene : BumpScene) (live : List Chunk) (position party : ℕ)
+        (logs : List (List BumpEntry)) (log : List BumpEntry)
+        → scene.opening ≤ scene.region.size → OpensWith scene live
+        → LogsAgree scene position logs → HasLog logs party log
+        → All (λ older. All (AreApart older) (chunks_won log)) live }
+
+    // A bump at the position stands for what the opening stands for, and all chunks that were won since.
+    ensures since { (scene : BumpScene) (live : List Chunk) (position : ℕ)
+        (logs : List (List BumpEntry))
+        → scene.opening ≤ scene.region.size → OpensWith scene live
+        → (agree : LogsAgree scene position logs)
+        → StandsFor scene.region position (live ++ chunks_won (history_of scene agree.steps)) }
 
     // The position is at least each one that a party has found, or made by a win.
     ensures found { (scene : BumpScene) (position party : ℕ)

@@ -7,7 +7,7 @@ ghost use Rattle.bb_memory_base.specs.PoolGeometry.{PoolGeometry, pool_geometry,
 ghost use Rattle.bb_memory_base.specs.PoolObject.{IsHeld};
 ghost use Rattle.bb_memory_base.specs.PoolMachine.{PoolMachine, PoolEntry, PoolLog, entry_of, IsHolder, IsTaken, state_after, history_of, log_of};
 ghost use Rattle.bb_memory_base.specs.PoolCalls.{AreAsked, AreCalls, IsPoolRun, machine_of, IsRefusedAt, LosesAt, FoundHeld};
-ghost use Rattle.bb_memory_base.specs.PoolLogs.{HoldsInLog, IsAllowed, LogsAgree, loss_at, next_bucket, pass_in, with_entry};
+ghost use Rattle.bb_memory_base.specs.PoolLogs.{CommonInterleaving, HoldsInLog, Interleaving, IsAllowed, LogsAgree, loss_at, next_bucket, pass_in, with_entry};
 ghost use Rattle.bb_memory_base.specs.declared.layout.Layout.{Layout};
 ghost use Rattle.bb_memory_base.specs.declared.steps.pool.PoolStep.{PoolStep};
 ghost use Rattle.bb_memory_base.specs.declared.steps.pool.PoolStep.TheVariants.{Try, GiveBack};
@@ -166,9 +166,29 @@ pub fn pool_log_theorem()
     ensures count { (machine : PoolMachine) (flags : List Bool) (logs : List PoolLog)
         → LogsAgree machine flags logs → length flags ≡ machine.buckets }
 
+    // The takings and returns of steps that agree are a run of the pool object, and the flags taken are the buckets held.
+    ensures run { (geometry : PoolGeometry) (parties : ℕ) (flags : List Bool) (logs : List PoolLog)
+        (layouts : List Layout) → IsPoolGeometry geometry
+        → (agree : LogsAgree (machine_of geometry parties) flags logs)
+        → AreAsked geometry agree.steps layouts
+        → (live : List Chunk) × IsPoolRun geometry parties agree.steps layouts live
+        × ((bucket : ℕ) → bucket < geometry.buckets
+        → ((slice_get flags bucket ≡ Some true) ↔ IsHeld geometry live bucket)) }
+
     // A party that was not made has no step that is allowed.
     ensures nobody_else { (machine : PoolMachine) (steps : List PoolStep) (party : ℕ)
         → machine.parties ≤ party
         → All (λ entry. IsAllowed entry.outcome) (history_of machine steps)
         → log_of machine steps party ≡ [] }
+
+    // Each party's log stands in an interleaving with some logs of the others.
+    ensures interleaved { (machine : PoolMachine) (flags : List Bool) (logs : List PoolLog)
+        (party : ℕ) (log : PoolLog) → LogsAgree machine flags logs
+        → slice_get logs party ≡ Some log → Interleaving machine party log }
+
+    // Two parties' logs stand in one.
+    ensures both_interleaved { (machine : PoolMachine) (flags : List Bool) (logs : List PoolLog)
+        (party other : ℕ) (log other_log : PoolLog) → LogsAgree machine flags logs
+        → slice_get logs party ≡ Some log → slice_get logs other ≡ Some other_log
+        → CommonInterleaving machine party log other other_log }
 {}

@@ -43,7 +43,6 @@ impl PoolWorld {
     /// The machine with this many buckets and parties. All flags are free, and every party is idle. It is refused only
     /// where memory was.
     pub fn new(alloc: Global, buckets: u32, parties: u32) -> Result<Self, AllocError>
-        requires { 0 < parties }
         ensures { let machine : PoolMachine = record { buckets = buckets; parties = parties } in
             IfOk result (λ world. world ≡ pool_opening machine) }
     {

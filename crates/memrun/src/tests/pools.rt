@@ -15,7 +15,7 @@ use std::process::Abort;
 use std::test::Fail;
 
 /// A pool over a region.
-fn pool_over(
+pub(super) fn pool_over(
     alloc: Global,
     bucket: Layout,
     start: usize,

@@ -7,10 +7,12 @@ use bb_memory::allocator::{
     AllocationError, AllocationGrowError, Command, Reply, run_base, run_full,
 };
 use bb_memory::bump_allocator::BumpAllocator;
+use bb_memory::heap_allocator::HeapAllocator;
 use bb_memory::layout::{Chunk, Layout};
 use bb_memory::one_chunk_allocator::OneChunkAllocator;
 use bb_memory::pool_allocator::PoolAllocator;
 use bb_memory::steps::{BumpOutcome, BumpStep, BumpWorld, PoolOutcome, PoolStep, PoolWorld};
+use loan_book::{LoanBook, LoanCall, LoanError, LoanReply, run_loans};
 use std::test::Fail;
 
 /// The commands of row `bump-first-path`, up to its second `show`, as one batch.
@@ -198,5 +200,71 @@ fn init_hands_the_pool_back(rt: HostRuntime) -> Result<(), Fail> {
         (1024, 128, 8)
     );
     assert_eq!(rt; pool.last_reads(), 0);
+    Ok(())
+}
+
+#[test]
+fn loans_keep_the_book(rt: HostRuntime) -> Result<(), Fail> {
+    let mut book = LoanBook::new(rt.alloc(), OneChunkAllocator::new(4096, 64));
+    let whole = Chunk::new(4096, 64).unwrap();
+    let loaned = match book.loan(64) {
+        Err(LoanError::Memory) => {
+            assert!(rt; !book.is_out(0));
+            assert_eq!(rt; book.publish(0, 2), Err(LoanError::UnknownSample));
+            book.loan(64)
+        }
+        loaned => loaned,
+    };
+    assert_eq!(rt; loaned, Ok((0, whole)));
+    assert_eq!(rt; book.publish(0, 2), Ok(()));
+    assert_eq!(rt; book.give_back(0), Ok(false));
+    assert!(rt; book.is_out(0));
+    assert_eq!(rt; book.give_back(0), Ok(true));
+    assert!(rt; !book.is_out(0));
+    let calls = [LoanCall::Loan(1), LoanCall::GiveBack(1)];
+    let told = match run_loans(rt.alloc(), &mut book, &calls) {
+        Ok(told) => told,
+        Err(_) => {
+            assert!(rt; !book.is_out(1));
+            run_loans(rt.alloc(), &mut book, &calls)?
+        }
+    };
+    assert_eq!(rt;
+        told.as_slice(),
+        [LoanReply::Loaned(1, whole), LoanReply::Returned].as_slice()
+    );
+    Ok(())
+}
+
+#[test]
+fn heap_blocks_stay(rt: HostRuntime) -> Result<(), Fail> {
+    let heap = HeapAllocator::new(rt.alloc());
+    let four = Layout::from_size_align(4, 1)?;
+    let six = Layout::from_size_align(6, 1)?;
+    let mut block = match heap.allocate(four) {
+        Ok(block) => block,
+        Err(error) => {
+            assert_eq!(rt; error, AllocationError::OutOfMemory);
+            heap.allocate_zeroed(four)?
+        }
+    };
+    block.as_mut_slice().copy_from_slice(&[1, 2, 3, 4]);
+    let block = match heap.grow(block, four, six) {
+        Ok(block) => block,
+        Err((block, error)) => {
+            assert_eq!(rt; error, AllocationGrowError::OutOfMemory);
+            assert_eq!(rt; block.as_slice(), [1, 2, 3, 4].as_slice());
+            let Ok(block) = heap.grow_zeroed(block, four, six) else {
+                return Err(Fail::from("a second request was refused"));
+            };
+            block
+        }
+    };
+    assert_eq!(rt; block.as_slice(), [1, 2, 3, 4, 0, 0].as_slice());
+    let Ok(block) = heap.shrink(block, six, four) else {
+        return Err(Fail::from("a shrink asked for memory"));
+    };
+    assert_eq!(rt; block.as_slice(), [1, 2, 3, 4].as_slice());
+    heap.deallocate(block, four);
     Ok(())
 }

@@ -1,6 +1,6 @@
 use Rattle.std.proofs.Common.{subst, ap}
 use Rattle.bb_memory.specs.Pool.{Pool, CountedPool, IsPool, Takes}
-use Rattle.bb_memory.proofs.PoolCalls.{Takes-answer, Takes-appended, Takes-inside, Takes-aligned, Takes-accepted, Takes-bucket_aligned, Takes-given, Takes-still_held}
+use Rattle.bb_memory.proofs.PoolCalls.{Takes-answer, Takes-appended, Takes-inside, Takes-aligned, Takes-accepted, Takes-bucket_aligned, Takes-given, Takes-was_free, Takes-apart, Takes-still_held}
 use Rattle.bb_memory.proofs.pool_allocator.PoolAllocatorBaseAllocator.allocate.Goals as goal
 
 pub returns-clause-answer : goal.returns-clause-answer
@@ -45,3 +45,14 @@ pub returns-clause-still_held : goal.returns-clause-still_held
 returns-clause-still_held g c =
     let takes = subst (λ (p : Pool). Takes p c.args.layout c.take-answer.result c.take-answer.new.self) (ap (λ (k : CountedPool). k.pool) c.self.view_is) c.take-answer.ensures.taken in
     Takes-still_held c.args.self.now.pool c.args.layout c.take-answer.result c.take-answer.new.self takes
+
+pub returns-clause-was_free : goal.returns-clause-was_free
+returns-clause-was_free g c =
+    let is = subst IsPool (ap (λ (k : CountedPool). k.pool) c.self.view_is) c.self.invariant.is_pool in
+    let takes = subst (λ (p : Pool). Takes p c.args.layout c.take-answer.result c.take-answer.new.self) (ap (λ (k : CountedPool). k.pool) c.self.view_is) c.take-answer.ensures.taken in
+    Takes-was_free c.args.self.now.pool c.args.layout c.take-answer.result c.take-answer.new.self is takes
+
+pub returns-clause-apart : goal.returns-clause-apart
+returns-clause-apart g c =
+    let takes = subst (λ (p : Pool). Takes p c.args.layout c.take-answer.result c.take-answer.new.self) (ap (λ (k : CountedPool). k.pool) c.self.view_is) c.take-answer.ensures.taken in
+    Takes-apart c.args.self.now.pool c.args.layout c.take-answer.result c.take-answer.new.self takes

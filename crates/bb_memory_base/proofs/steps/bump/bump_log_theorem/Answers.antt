@@ -2,6 +2,9 @@ use Rattle.bb_memory_base.proofs.BumpLogs.{party_call, opening_agrees, read_agre
 use Rattle.bb_memory_base.proofs.BumpMeetings.{chunks_apart}
 use Rattle.bb_memory_base.proofs.BumpPositions.{position_above_log, seen_below, alone_exact, position_risen, position_within, call_sees, call_fits, interleaved, interleaving_stands}
 use Rattle.bb_memory_base.proofs.BumpRuns.{calls_run}
+use Rattle.bb_memory_base.proofs.OwnChunks.{own_sound, older_apart, agreed_stands}
+use Rattle.std.proofs.Common.{None}
+use Rattle.bb_memory_base.proofs.BumpBounds.{call_grows, seen_grows, won_grows}
 use Rattle.bb_memory_base.proofs.steps.bump.bump_log_theorem.Goals as goal
 
 pub returns-clause-call : goal.returns-clause-call
@@ -21,6 +24,15 @@ returns-clause-load c = load_agrees
 
 pub returns-clause-apart : goal.returns-clause-apart
 returns-clause-apart c = chunks_apart
+
+pub returns-clause-own : goal.returns-clause-own
+returns-clause-own c = own_sound
+
+pub returns-clause-older : goal.returns-clause-older
+returns-clause-older c = older_apart
+
+pub returns-clause-since : goal.returns-clause-since
+returns-clause-since c = agreed_stands
 
 pub returns-clause-found : goal.returns-clause-found
 returns-clause-found c = position_above_log
@@ -51,3 +63,12 @@ returns-clause-run c = λ scene live party position log interleaving. calls_run 
 
 pub returns-clause-stands : goal.returns-clause-stands
 returns-clause-stands c = interleaving_stands
+
+pub returns-clause-call_grows : goal.returns-clause-call_grows
+returns-clause-call_grows c = call_grows None
+
+pub returns-clause-seen_grows : goal.returns-clause-seen_grows
+returns-clause-seen_grows c = λ scene. seen_grows scene.region scene.opening
+
+pub returns-clause-won_grows : goal.returns-clause-won_grows
+returns-clause-won_grows c = won_grows

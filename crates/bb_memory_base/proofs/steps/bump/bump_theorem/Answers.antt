@@ -2,6 +2,7 @@ use Rattle.bb_memory_base.proofs.LiveLists.{stands_for_some}
 use Rattle.bb_memory_base.proofs.BumpRuns.{calls_run, calls_beginning, calls_stand, position_used, live_sound, load_finds}
 use Rattle.bb_memory_base.proofs.BumpStretches.{won_sound}
 use Rattle.bb_memory_base.proofs.BumpLosses.{losses_raise, losses_few}
+use Rattle.bb_memory_base.proofs.BumpBounds.{position_in_size, seen_in_size}
 use Rattle.bb_memory_base.proofs.steps.bump.bump_theorem.Goals as goal
 
 pub returns-clause-some_list : goal.returns-clause-some_list
@@ -33,3 +34,9 @@ returns-clause-raised c = losses_raise
 
 pub returns-clause-losses : goal.returns-clause-losses
 returns-clause-losses c = losses_few
+
+pub returns-clause-within : goal.returns-clause-within
+returns-clause-within c = position_in_size
+
+pub returns-clause-seen_within : goal.returns-clause-seen_within
+returns-clause-seen_within c = seen_in_size

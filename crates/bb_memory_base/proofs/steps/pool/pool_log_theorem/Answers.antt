@@ -1,5 +1,6 @@
-use Rattle.bb_memory_base.proofs.PoolLogFacts.{logs_apart, free_not_held, held_is_taken, taken_is_held_alone, length-flags, nobody_else}
+use Rattle.bb_memory_base.proofs.PoolLogFacts.{logs_apart, free_not_held, held_is_taken, taken_is_held_alone, length-flags, nobody_else, interleaved_log, interleaved_logs}
 use Rattle.bb_memory_base.proofs.PoolLogSteps.{opening_agrees, take_agrees, lose_agrees, give_agrees, log_pass}
+use Rattle.bb_memory_base.proofs.PoolLogRuns.{flags_run}
 use Rattle.bb_memory_base.proofs.steps.pool.pool_log_theorem.Goals as goal
 
 pub returns-clause-opening : goal.returns-clause-opening
@@ -34,3 +35,12 @@ returns-clause-count c = length-flags
 
 pub returns-clause-nobody_else : goal.returns-clause-nobody_else
 returns-clause-nobody_else c = nobody_else
+
+pub returns-clause-interleaved : goal.returns-clause-interleaved
+returns-clause-interleaved c = interleaved_log
+
+pub returns-clause-both_interleaved : goal.returns-clause-both_interleaved
+returns-clause-both_interleaved c = interleaved_logs
+
+pub returns-clause-run : goal.returns-clause-run
+returns-clause-run c = flags_run

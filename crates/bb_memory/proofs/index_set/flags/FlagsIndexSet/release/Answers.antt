@@ -1,9 +1,29 @@
-use Rattle.std.proofs.Common.{◌≤◌, arith, length, true, false}
-use Rattle.bb_memory.proofs.NumberFlags.{set_number}
+use Rattle.std.proofs.Common.{arith}
+use Rattle.bb_memory.proofs.NumberFlags.{more}
 use Rattle.bb_memory.proofs.index_set.flags.FlagsIndexSet.release.Goals as goal
+
+pub overflow_cast-self : goal.overflow_cast-self
+overflow_cast-self g c =
+    let inside = c.self.inside in
+    let has = rw (← c.self.view_is) at c.requires in
+    let put = more g.row.N inside.bound inside.free inside.left c.args.number c.self.invariant has in
+    omega (arith, put.0)
+
+pub bounds-self-inside-left : goal.bounds-self-inside-left
+bounds-self-inside-left g c =
+    let inside = c.self.inside in
+    let has = rw (← c.self.view_is) at c.requires in
+    let put = more g.row.N inside.bound inside.free inside.left c.args.number c.self.invariant has in
+    omega (arith, put.1, c.self.invariant.len)
+
+pub invariant_of-self : goal.invariant_of-self
+invariant_of-self g c =
+    let inside = c.self.inside in
+    let has = rw (← c.self.view_is) at c.requires in
+    (more g.row.N inside.bound inside.free inside.left c.args.number c.self.invariant has).2
 
 pub returns : goal.returns
 returns g c =
     let inside = c.self.inside in
-    let fits : inside.bound ≤ length inside.flags = omega (arith, c.self.invariant.len) in
-    set_number inside.bound inside.flags c.args.self.now c.args.number false true fits c.self.view_is c.requires
+    let has = rw (← c.self.view_is) at c.requires in
+    rw (← c.self.view_is) (more g.row.N inside.bound inside.free inside.left c.args.number c.self.invariant has).3

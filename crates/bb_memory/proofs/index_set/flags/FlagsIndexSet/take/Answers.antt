@@ -1,10 +1,23 @@
-use Rattle.std.proofs.Common.{◌≤◌, arith, length, true, false}
-use Rattle.bb_memory.proofs.NumberFlags.{set_number}
+use Rattle.std.proofs.Common.{◌<◌, ◌-◌, arith, refl, get_or}
+use Rattle.bb_memory.proofs.NumberFlags.{all_held, lacked, taken_off}
 use Rattle.bb_memory.proofs.index_set.flags.FlagsIndexSet.take.Goals as goal
 
-pub returns-in-Some-clause-taken : goal.returns-in-Some-clause-taken
-returns-in-Some-clause-taken g c =
+pub returns-then-self-eq0-clause-full : goal.returns-then-self-eq0-clause-full
+returns-then-self-eq0-clause-full g c =
     let inside = c.self.inside in
-    let fits : inside.bound ≤ length inside.flags = omega (arith, c.self.invariant.len) in
-    let lacked = (c.in-Some.ensures {u = tt}).lacked in
-    set_number inside.bound inside.flags c.args.self.now c.in-Some.number true false fits c.self.view_is lacked
+    rw (← c.self.view_is) (all_held inside.bound inside.free inside.left (omega arith))
+
+pub returns-clause-lacked : goal.returns-clause-lacked
+returns-clause-lacked g c =
+    let inside = c.self.inside in
+    let is = c.self.invariant in
+    let low : get_or inside.free (inside.left - 1) 0 < inside.bound = is.below (inside.left - 1) (omega arith) in
+    rw (← c.self.view_is) (lacked inside.bound inside.free inside.left (get_or inside.free (inside.left - 1) 0) (omega arith)
+    (omega (arith, is.len, is.fits, is.few)) refl low)
+
+pub returns-clause-taken : goal.returns-clause-taken
+returns-clause-taken g c =
+    let inside = c.self.inside in
+    let is = c.self.invariant in
+    let low : get_or inside.free (inside.left - 1) 0 < inside.bound = is.below (inside.left - 1) (omega arith) in
+    rw (← c.self.view_is) (taken_off g.row.N inside.bound inside.free inside.left (get_or inside.free (inside.left - 1) 0) is (omega arith) refl low)

@@ -1,10 +1,19 @@
-use Rattle.std.proofs.Common.{◌∙◌}
-use Rattle.std.proofs.lemmas.List.{get_or_default}
+use Rattle.std.proofs.Common.{◌≡◌, ◌/◌, ◌<◌, ◌∙◌, arith, sym, length, get_or, take}
+use Rattle.std.proofs.lemmas.List.{get_or_default, get_or-take, length-take-le}
+use Rattle.std.proofs.Math.Seq.{take-set-lt}
 use Rattle.bb_memory.proofs.NumberWords.{cleared}
 use Rattle.bb_memory.proofs.index_set.index_words.IndexWords.clear.Goals as goal
 
-pub returns : goal.returns
-returns g c =
+pub returns-clause-bit : goal.returns-clause-bit
+returns-clause-bit g c =
+    let items = c.self.inside.slots.items in
+    let count = c.self.inside.count in
+    let number = c.args.number in
     let within = rw (← c.self.view_is) at c.requires in
-    let read = c.index_mut.ensures.value ∙ get_or_default _ _ c.index_mut.result.now 0 within in
-    rw (← c.self.view_is, read) (cleared c.self.inside.words.items c.args.number within)
+    let len : length (take count items) ≡ count = length-take-le count items c.self.invariant in
+    let low : number / 64 < count = omega (arith, within, len) in
+    let inside : number / 64 < length items = omega (arith, low, c.self.invariant) in
+    let read : c.index-word.result.now ≡ get_or (take count items) (number / 64) 0 =
+    c.index-word.ensures ∙ get_or_default items (number / 64) c.index-word.result.now 0 inside
+    ∙ sym (get_or-take count items (number / 64) 0 low) in
+    rw (← c.self.view_is, read, take-set-lt) (cleared (take count items) number within)

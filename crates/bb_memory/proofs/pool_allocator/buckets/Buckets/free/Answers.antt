@@ -1,8 +1,6 @@
-use Rattle.std.proofs.Common.{◌≡◌, false, length, subst}
-use Rattle.bb_memory_base.specs.Region.{Region, region_at}
-use Rattle.bb_memory_base.specs.PoolGeometry.{pool_geometry}
+use Rattle.std.proofs.Common.{◌≡◌, Bool, false, List, ap, subst}
+use Rattle.bb_memory_base.specs.PoolGeometry.{PoolGeometry}
 use Rattle.bb_memory.specs.Pool.{Pool, pool_of, with_flag}
-use Rattle.bb_memory.proofs.Cuts.{pool-freed}
 use Rattle.bb_memory.proofs.pool_allocator.buckets.Buckets.free.Goals as goal
 
 pub release-requires : goal.release-requires
@@ -12,9 +10,8 @@ release-requires g c =
 
 pub returns : goal.returns
 returns g c = λ i has at.
-    let inside = c.self.inside in
-    let region : Region = region_at inside.region_start inside.region_size in
+    let geometry : PoolGeometry = c.self.inside.geometry in
     let new = g.S.IndexSet.numbers c.release.new.self in
     let freed = rw (c.number-number.ensures i at) at c.release.ensures in
-    subst (λ (p : Pool). pool_of (pool_geometry region inside.bucket (length new)) new ≡ with_flag p i false) c.self.view_is
-    (pool-freed region inside.bucket (g.S.IndexSet.numbers inside.held) new i freed)
+    subst (λ (p : Pool). pool_of geometry new ≡ with_flag p i false) c.self.view_is
+    (ap (λ (held : List Bool). pool_of geometry held) freed)

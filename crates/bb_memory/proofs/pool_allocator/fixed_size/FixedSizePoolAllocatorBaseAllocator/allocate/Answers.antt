@@ -1,6 +1,6 @@
 use Rattle.std.proofs.Common.{subst}
 use Rattle.bb_memory.specs.Pool.{Pool, IsPool, Takes}
-use Rattle.bb_memory.proofs.PoolCalls.{Takes-answer, Takes-appended, Takes-inside, Takes-aligned, Takes-accepted, Takes-bucket_aligned, Takes-given, Takes-still_held}
+use Rattle.bb_memory.proofs.PoolCalls.{Takes-answer, Takes-appended, Takes-inside, Takes-aligned, Takes-accepted, Takes-bucket_aligned, Takes-given, Takes-was_free, Takes-apart, Takes-still_held}
 use Rattle.bb_memory.proofs.pool_allocator.fixed_size.FixedSizePoolAllocatorBaseAllocator.allocate.Goals as goal
 
 pub returns-clause-answer : goal.returns-clause-answer
@@ -45,3 +45,14 @@ pub returns-clause-still_held : goal.returns-clause-still_held
 returns-clause-still_held g c =
     let takes = subst (λ (p : Pool). Takes p c.args.layout c.take.result c.take.new.self) c.self.view_is c.take.ensures.taken in
     Takes-still_held c.args.self.now c.args.layout c.take.result c.take.new.self takes
+
+pub returns-clause-was_free : goal.returns-clause-was_free
+returns-clause-was_free g c =
+    let is = subst IsPool c.self.view_is c.self.invariant in
+    let takes = subst (λ (p : Pool). Takes p c.args.layout c.take.result c.take.new.self) c.self.view_is c.take.ensures.taken in
+    Takes-was_free c.args.self.now c.args.layout c.take.result c.take.new.self is takes
+
+pub returns-clause-apart : goal.returns-clause-apart
+returns-clause-apart g c =
+    let takes = subst (λ (p : Pool). Takes p c.args.layout c.take.result c.take.new.self) c.self.view_is c.take.ensures.taken in
+    Takes-apart c.args.self.now c.args.layout c.take.result c.take.new.self takes

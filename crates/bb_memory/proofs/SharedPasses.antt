@@ -1,0 +1,148 @@
+-- What a whole pass, and a return, make of a log.
+use Rattle.std.proofs.Common.{◌≡◌, ◌≢◌, ℕ, zero, suc, ◌+◌, ◌<◌, ◌≤◌, Bool, true, false, true≢false, [], ◌∷◌, ◌++◌, refl, sym, ap, ◌∙◌, arith, Option, None}
+use Rattle.std.specs.Prelude.{fold, unwrap_or, nat_lt, ◌==◌, if◌then◌else◌}
+use Rattle.std.proofs.lemmas.Bool.Decides.{nat_tests}
+use Rattle.bb_memory_base.specs.PoolMachine.{PoolLog, entry_of}
+use Rattle.bb_memory_base.specs.PoolLogs.{held_after, HoldsInLog, pass_after, pass_in, next_bucket, loss_at}
+use Rattle.bb_memory_base.specs.declared.steps.pool.PoolStep.TheVariants.{Try}
+use Rattle.bb_memory_base.specs.declared.steps.pool.PoolOutcome.TheVariants.{Takes, Loses, RefusedAtLoss}
+use Rattle.bb_memory_base.proofs.PoolSteps.{test_same, test_apart}
+use Rattle.bb_memory.specs.SharedPool.{losses, taking_pass, refused_pass, return_of}
+
+abbrev pass_through : Option ℕ → PoolLog → Option ℕ
+pass_through pass log = fold (λ pass entry. pass_after pass entry.outcome) pass log
+
+abbrev held_through : ℕ → Bool → PoolLog → Bool
+held_through bucket held log = fold (λ held entry. held_after bucket held entry.outcome) held log
+
+pass-append : (pass : Option ℕ) (log more : PoolLog) →
+    pass_through pass (log ++ more) ≡ pass_through (pass_through pass log) more
+pass-append pass [] more = refl
+pass-append pass (entry ∷ log) more = pass-append (pass_after pass entry.outcome) log more
+
+held-append : (bucket : ℕ) (held : Bool) (log more : PoolLog) →
+    held_through bucket held (log ++ more) ≡ held_through bucket (held_through bucket held log) more
+held-append bucket held [] more = refl
+held-append bucket held (entry ∷ log) more = held-append bucket (held_after bucket held entry.outcome) log more
+
+-- LOSSES
+
+held-loss : (bucket lost : ℕ) (held more : Bool) →
+    held_after bucket held (if more then Loses lost else RefusedAtLoss lost) ≡ held
+held-loss bucket lost held true = refl
+held-loss bucket lost held false = refl
+
+-- losses change nothing of what is held
+held-losses : (buckets party lost bucket : ℕ) (held : Bool) →
+    held_through bucket held (losses buckets party lost) ≡ held
+held-losses buckets party zero bucket held = refl
+held-losses buckets party (suc lost) bucket held =
+    held-append bucket held (losses buckets party lost) (entry_of (Try party) (loss_at buckets lost) ∷ [])
+    ∙ held-loss bucket lost (held_through bucket held (losses buckets party lost)) (nat_lt (lost + 1) buckets)
+    ∙ held-losses buckets party lost bucket held
+
+-- so a log holds what it held before them
+pub same_held : (buckets party lost bucket : ℕ) (log : PoolLog) →
+    held_through bucket false (log ++ losses buckets party lost) ≡ held_through bucket false log
+same_held buckets party lost bucket log =
+    held-append bucket false log (losses buckets party lost)
+    ∙ held-losses buckets party lost bucket (held_through bucket false log)
+
+test_below : (m n : ℕ) → m < n → nat_lt m n ≡ true
+test_below m n below = grind (arith, nat_tests)
+
+test_not_below : (m n : ℕ) → n ≤ m → nat_lt m n ≡ false
+test_not_below m n least = grind (arith, nat_tests)
+
+-- after losses at some of the buckets the next one is tried
+next-losses : (buckets party lost : ℕ) → lost < buckets → unwrap_or (pass_through None (losses buckets party lost)) 0 ≡ lost
+next-losses buckets party zero below = refl
+next-losses buckets party (suc lost) below =
+    let before : Option ℕ = pass_through None (losses buckets party lost) in
+    ap (λ (pass : Option ℕ). unwrap_or pass 0) (
+    pass-append None (losses buckets party lost) (entry_of (Try party) (loss_at buckets lost) ∷ [])
+    ∙ ap (λ (more : Bool). pass_after before (if more then Loses lost else RefusedAtLoss lost))
+    (test_below (lost + 1) buckets (omega arith)))
+    ∙ (let same : lost + 1 ≡ suc lost = omega arith in same)
+
+pub next_after_losses : (buckets party lost : ℕ) (log : PoolLog) → pass_in log ≡ None → lost < buckets →
+    next_bucket (log ++ losses buckets party lost) ≡ lost
+next_after_losses buckets party lost log idle below =
+    ap (λ (pass : Option ℕ). unwrap_or pass 0) (
+    pass-append None log (losses buckets party lost)
+    ∙ ap (λ (pass : Option ℕ). pass_through pass (losses buckets party lost)) idle)
+    ∙ next-losses buckets party lost below
+
+-- WHOLE PASSES
+
+-- with all lost, a pass is over
+idle-losses : (buckets party : ℕ) → pass_through None (losses buckets party buckets) ≡ None
+idle-losses zero party = refl
+idle-losses (suc buckets) party =
+    let before : Option ℕ = pass_through None (losses (suc buckets) party buckets) in
+    pass-append None (losses (suc buckets) party buckets) (entry_of (Try party) (loss_at (suc buckets) buckets) ∷ [])
+    ∙ ap (λ (more : Bool). pass_after before (if more then Loses buckets else RefusedAtLoss buckets))
+    (test_not_below (buckets + 1) (suc buckets) (omega arith))
+
+pub idle_after_refusal : (buckets party : ℕ) (log : PoolLog) → pass_in log ≡ None →
+    pass_in (log ++ refused_pass buckets party) ≡ None
+idle_after_refusal buckets party log idle =
+    pass-append None log (losses buckets party buckets)
+    ∙ ap (λ (pass : Option ℕ). pass_through pass (losses buckets party buckets)) idle
+    ∙ idle-losses buckets party
+
+pub idle_after_taking : (buckets party bucket : ℕ) (log : PoolLog) → pass_in (log ++ taking_pass buckets party bucket) ≡ None
+idle_after_taking buckets party bucket log =
+    pass-append None log (taking_pass buckets party bucket)
+    ∙ pass-append (pass_in log) (losses buckets party bucket) (entry_of (Try party) (Takes bucket) ∷ [])
+
+-- a refused pass leaves the log holding what it held
+pub held_after_refusal : (buckets party bucket : ℕ) (log : PoolLog) → HoldsInLog bucket log →
+    HoldsInLog bucket (log ++ refused_pass buckets party)
+held_after_refusal buckets party bucket log held = same_held buckets party buckets bucket log ∙ held
+
+held-taking : (buckets party taken bucket : ℕ) (log : PoolLog) →
+    held_through bucket false (log ++ taking_pass buckets party taken)
+    ≡ (if taken == bucket then true else held_through bucket false log)
+held-taking buckets party taken bucket log =
+    let before : Bool = held_through bucket false log in
+    held-append bucket false log (taking_pass buckets party taken)
+    ∙ held-append bucket before (losses buckets party taken) (entry_of (Try party) (Takes taken) ∷ [])
+    ∙ ap (λ (held : Bool). if taken == bucket then true else held) (held-losses buckets party taken bucket before)
+
+-- a pass that takes a bucket leaves the log holding it
+pub holds_taken : (buckets party bucket : ℕ) (log : PoolLog) → HoldsInLog bucket (log ++ taking_pass buckets party bucket)
+holds_taken buckets party bucket log =
+    held-taking buckets party bucket bucket log
+    ∙ ap (λ (b : Bool). if b then true else held_through bucket false log) (test_same bucket bucket refl)
+
+either_true : (b : Bool) → (if b then true else true) ≡ true
+either_true true = refl
+either_true false = refl
+
+-- and what it held
+pub held_after_taking : (buckets party taken bucket : ℕ) (log : PoolLog) → HoldsInLog bucket log →
+    HoldsInLog bucket (log ++ taking_pass buckets party taken)
+held_after_taking buckets party taken bucket log held =
+    held-taking buckets party taken bucket log
+    ∙ ap (λ (b : Bool). if taken == bucket then true else b) held
+    ∙ either_true (taken == bucket)
+
+-- RETURNS
+
+pub idle_after_return : (party bucket : ℕ) (log : PoolLog) → pass_in log ≡ None → pass_in (log ++ return_of party bucket) ≡ None
+idle_after_return party bucket log idle = pass-append None log (return_of party bucket) ∙ idle
+
+-- a bucket that was given back isn't held
+pub not_held_after_return : (party bucket : ℕ) (log : PoolLog) → ¬ HoldsInLog bucket (log ++ return_of party bucket)
+not_held_after_return party bucket log held =
+    true≢false (sym held ∙ held-append bucket false log (return_of party bucket)
+    ∙ ap (λ (b : Bool). if b then false else held_through bucket false log) (test_same bucket bucket refl))
+
+-- every other one that was held still is
+pub held_after_return : (party returned bucket : ℕ) (log : PoolLog) → bucket ≢ returned → HoldsInLog bucket log →
+    HoldsInLog bucket (log ++ return_of party returned)
+held_after_return party returned bucket log other held =
+    held-append bucket false log (return_of party returned)
+    ∙ ap (λ (b : Bool). if b then false else held_through bucket false log) (test_apart returned bucket (λ same. other (sym same)))
+    ∙ held

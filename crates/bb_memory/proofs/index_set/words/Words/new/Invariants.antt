@@ -1,0 +1,10 @@
+use Rattle.std.proofs.Common.{◌≡◌, ◌-◌, ◌<◌, ℕ, length, replicate}
+use Rattle.std.specs.Prelude.{slice_index}
+use Rattle.bb_memory.proofs.index_set.words.Words.new.Given as goal
+
+abbrev pub invariant-loop-k : goal.invariant-loop-k
+invariant-loop-k g l = record {
+  words : l.words.words ≡ replicate l.count 0;
+  room : length l.words.listed ≡ l.count;
+  named : (j : ℕ) → j < l.k → slice_index l.words.listed j ≡ l.count - 1 - j;
+}

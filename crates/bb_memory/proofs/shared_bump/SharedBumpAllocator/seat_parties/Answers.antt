@@ -1,0 +1,61 @@
+use Rattle.std.proofs.Common.{◌≡◌, ℕ, ◌+◌, ◌≤◌, [], ◌∷◌, List, Some, length, length-append, arith, sym, ap, ◌∙◌, refl, subst}
+use Rattle.std.specs.Prelude.{All, slice_get}
+use Rattle.std.proofs.lemmas.List.Elements.{All-push}
+use Rattle.atomic_table.specs.Table.{Me}
+use Rattle.bb_memory.specs.SharedBump.{BumpParty, fresh_party}
+use Rattle.bb_memory.specs.SharedBumpFields.{party_of}
+use Rattle.bb_memory.specs.Seats.{first_of, others_of, standing_for, view_log}
+use Rattle.bb_memory.specs.SharedBumpRule.{NumberedLog, SeatView}
+use Rattle.bb_memory.proofs.Seatings.{fresh_more, given_more}
+use Rattle.bb_memory.proofs.SharedBumpParties.{party_seated}
+use Rattle.bb_memory.proofs.SharedBumpSeats.{gives_first}
+use Rattle.bb_memory.proofs.shared_bump.SharedBumpAllocator.seat_parties.Goals as goal
+
+pub split_seat-seat-requires : goal.split_seat-seat-requires
+split_seat-seat-requires c =
+    let fields = c.self.invariant in (
+      c.loop-number.invariant.table ∙ sym (ap (λ b. b.table) c.self.view_is),
+      omega (arith, fields.words),
+      gives_first c.self.inside.table.shared.key c.loop-number.rest.id c.loop-number.rest.me.0,
+    )
+
+pub invariant_of-push_reserved : goal.invariant_of-push_reserved
+invariant_of-push_reserved c =
+    let scene = c.args.self.now.scene in
+    let number = c.loop-number.number in
+    let is = c.loop-number.invariant.rest ∙ ap (λ (parties : List NumberedLog). (standing_for scene parties, [])) (fresh_more number c.args.parties (omega arith)) in
+    let seated = c.split_seat-seat.ensures.4 ∙ ap (λ (m : Me ℕ SeatView). (first_of m.0, [])) is in
+    party_seated c.split_seat-seat.result.table_id c.split_seat-seat.result.me scene number [] seated record {
+      number = omega (arith, c.requires.parties);
+      idle = refl;
+      history = record { steps = []; allowed = tt; leaves = refl; logged = refl };
+    }
+
+pub loop-number-preserved : goal.loop-number-preserved
+loop-number-preserved c =
+    let bump = c.args.self.now in
+    let scene = bump.scene in
+    let number = c.loop-number.number in
+    let count = c.args.parties in
+    let before = c.loop-number.invariant in
+    let split = c.split_seat-seat.ensures in
+    let is = before.rest ∙ ap (λ (parties : List NumberedLog). (standing_for scene parties, [])) (fresh_more number count (omega arith)) in
+    let seated = split.4 ∙ ap (λ (m : Me ℕ SeatView). (first_of m.0, [])) is in
+    let value : BumpParty = party_of c.split_seat-seat.result.table_id c.split_seat-seat.result.me number in
+    let value_is : value ≡ fresh_party bump number = λ j. record {
+      allocator = record { table = (split.3 ∙ before.table) j; scene = ap (λ (m : Me ℕ SeatView). m.0.figures) seated j };
+      number = number;
+      log = ap (λ (m : Me ℕ SeatView). view_log m.0) seated j;
+    } in
+    let items = c.push_reserved.ensures.items in
+    let more = given_more (fresh_party bump) c.loop-number.all.items value (λ j below. before.fresh j (omega arith)) (value_is ∙ ap (fresh_party bump) (sym before.long)) in
+    record {
+      table = split.0 ∙ before.table;
+      rest = split.2 ∙ ap (λ (m : Me ℕ SeatView). (others_of m.0, m.1)) is;
+      len = c.push_reserved.ensures.len ∙ ap (λ (m : ℕ). m + 1) before.len;
+      long = ap length items ∙ length-append c.loop-number.all.items (value ∷ []) ∙ ap (λ (m : ℕ). m + 1) before.long;
+      room = subst (λ (m : ℕ). count ≤ m) (sym c.push_reserved.ensures.capacity) before.room;
+      theirs = subst (All (λ (p : BumpParty). p.allocator ≡ bump)) (sym items)
+          (All-push (λ (p : BumpParty). p.allocator ≡ bump) c.loop-number.all.items value before.theirs (ap (λ (p : BumpParty). p.allocator) value_is));
+      fresh = λ j below. subst (λ (xs : List BumpParty). slice_get xs j ≡ Some (fresh_party bump j)) (sym items) (more j (omega arith));
+    }

@@ -1,0 +1,91 @@
+-- Seats of a table that threads share: which parties each stands for, with their logs, and that each party stands in one.
+use Rattle.std.specs.Prelude.{◌≡◌, ℕ, zero, suc, ◌+◌, ◌<◌, ◌==◌, Bool, true, false, List, [], ◌∷◌, ◌++◌, Some, slice_get}
+use mathlib.Core.Option.{some}
+use lib.ListN.{get_elem?}
+
+-- a party's number with its log, which has such entries
+pub record Numbered (E : Type 0) : Type 0 where
+  pub number : ℕ
+  pub log : List E
+
+abbrev pub numbered : {E : Type 0} → ℕ → List E → Numbered E
+numbered number log = record { number = number; log = log }
+
+-- what a seat knows: the figures of what is shared, and the parties that it stands for, which is one, but while parties are
+-- made or meet
+pub record Seat (F E : Type 0) : Type 0 where
+  pub figures : F
+  pub parties : List (Numbered E)
+
+abbrev pub standing_for : {F E : Type 0} → F → List (Numbered E) → Seat F E
+standing_for figures parties = record { figures = figures; parties = parties }
+
+-- the view of one party
+abbrev pub alone : {F E : Type 0} → F → ℕ → List E → Seat F E
+alone figures number log = standing_for figures (numbered number log ∷ [])
+
+-- the number and the log of the first party that a view stands for
+abbrev pub first_number : {E : Type 0} → List (Numbered E) → ℕ
+first_number [] = 0
+first_number (party ∷ parties) = party.number
+
+abbrev pub first_log : {E : Type 0} → List (Numbered E) → List E
+first_log [] = []
+first_log (party ∷ parties) = party.log
+
+abbrev pub number_of : {F E : Type 0} → Seat F E → ℕ
+number_of view = first_number view.parties
+
+abbrev pub view_log : {F E : Type 0} → Seat F E → List E
+view_log view = first_log view.parties
+
+-- WHICH LOGS THEY HAVE
+
+-- each of these parties was made, and its log is this
+abbrev pub HaveLogs : {E : Type 0} → ℕ → List (List E) → List (Numbered E) → Type 0
+HaveLogs made logs [] = Unit {0}
+HaveLogs made logs (party ∷ parties) =
+    (party.number < made) × (slice_get logs party.number ≡ Some party.log) × HaveLogs made logs parties
+
+abbrev pub one_if : Bool → ℕ
+one_if true = 1
+one_if false = 0
+
+-- how often a party stands in a list, and in all views
+abbrev pub times_in : {E : Type 0} → ℕ → List (Numbered E) → ℕ
+times_in number [] = 0
+times_in number (party ∷ parties) = one_if (party.number == number) + times_in number parties
+
+abbrev pub times_in_views : {F E : Type 0} → ℕ → List (Seat F E) → ℕ
+times_in_views number [] = 0
+times_in_views number (view ∷ views) = times_in number view.parties + times_in_views number views
+
+-- each party of a view has this log, and each party that was made stands in exactly one view; a dropped party's view stays
+pub record AreSeated {F E : Type 0} (made : ℕ) (logs : List (List E)) (views : List (Seat F E)) : Type 0 where
+  pub each : (seat : ℕ) (view : Seat F E) → get_elem? views seat ≡ some view → HaveLogs made logs view.parties
+  pub once : (number : ℕ) → number < made → times_in_views number views ≡ 1
+
+-- SPLITS AND JOINS
+
+-- so many parties, numbered from this one, which have made no step
+abbrev pub fresh_from : {E : Type 0} → ℕ → ℕ → List (Numbered E)
+fresh_from number zero = []
+fresh_from number (suc count) = numbered number [] ∷ fresh_from (number + 1) count
+
+abbrev pub head_of : {E : Type 0} → List (Numbered E) → List (Numbered E)
+head_of [] = []
+head_of (party ∷ parties) = party ∷ []
+
+abbrev pub tail_of : {E : Type 0} → List (Numbered E) → List (Numbered E)
+tail_of [] = []
+tail_of (party ∷ parties) = parties
+
+-- a view of the first party, of the others, and of the parties of two views
+abbrev pub first_of : {F E : Type 0} → Seat F E → Seat F E
+first_of view = standing_for view.figures (head_of view.parties)
+
+abbrev pub others_of : {F E : Type 0} → Seat F E → Seat F E
+others_of view = standing_for view.figures (tail_of view.parties)
+
+abbrev pub both_of : {F E : Type 0} → Seat F E → Seat F E → Seat F E
+both_of view other = standing_for view.figures (view.parties ++ other.parties)

@@ -1,0 +1,196 @@
+//! Where the buckets of a region are.
+ghost use Rattle.std.specs.Prelude.{◌≡◌, ◌<◌, ◌≤◌, ◌^◌, ◌↔◌, IfOk, IsTrue};
+ghost use Rattle.bb_memory_base.specs.Region.{region_at};
+ghost use Rattle.bb_memory_base.specs.Chunk.{Chunk, IsInside};
+ghost use Rattle.bb_memory_base.specs.FirstPlace.{first_place};
+ghost use Rattle.bb_memory_base.specs.PoolGeometry.{IsCut, at_most, bucket_place, pool_geometry, stride};
+ghost use Rattle.bb_memory_base.specs.PoolObject.{MayGrow, MayShrink};
+ghost use Rattle.bb_memory.specs.Buckets.{IsPlaceOfBucket};
+ghost use Rattle.bb_memory.specs.Pool.{MayBeCut};
+
+use crate::allocator::{AllocationGrowError, AllocationShrinkError};
+use crate::layout::{Chunk, Layout, round_up};
+use std::marker::Model;
+
+/// Whether a pool may be made of this region and these buckets.
+pub fn may_be_cut(bucket_layout: Layout, start: usize, size: usize) -> bool
+    ensures { IsTrue result ↔ MayBeCut (region_at start size) bucket_layout }
+{
+    if start == 0 || bucket_layout.size() == 0 {
+        return false;
+    }
+    let Some(end) = start.checked_add(size) else {
+        return false;
+    };
+    let Some(first) = round_up(start, bucket_layout.align()) else {
+        return false;
+    };
+    end.saturating_sub(first) / stride(bucket_layout) < u32::MAX as usize
+}
+
+/// How many buckets of this layout the region has room for.
+fn count_buckets(bucket_layout: Layout, start: usize, size: usize) -> u32
+    requires { MayBeCut (region_at start size) bucket_layout }
+    ensures { IsCut (region_at start size) bucket_layout
+        (pool_geometry (region_at start size) bucket_layout result) }
+{
+    let end = start + size;
+    let first = round_up(start, bucket_layout.align()).unwrap();
+    (end.saturating_sub(first) / stride(bucket_layout)) as u32
+}
+
+/// How far each bucket is from the next.
+fn stride(bucket_layout: Layout) -> usize
+    ensures { result ≡ stride bucket_layout }
+{
+    round_up(bucket_layout.size(), bucket_layout.align()).unwrap()
+}
+
+/// A region cut into buckets of one layout: all that it has room for, or the first of them.
+#[derive(Debug, Drop)]
+pub struct Geometry {
+    region_start: usize,
+    region_size: usize,
+    bucket: Layout,
+    first: usize,
+    stride: usize,
+    buckets: u32,
+}
+
+impl Model for Geometry {
+    ghost use Rattle.bb_memory_base.specs.Region.{region_at};
+    ghost use Rattle.bb_memory_base.specs.PoolGeometry.{PoolGeometry, pool_geometry};
+    ghost use Rattle.bb_memory.specs.Buckets.{IsMeasured};
+
+    ghost Value = { PoolGeometry };
+
+    ghost view = { λ a. pool_geometry (region_at a.region_start a.region_size) a.bucket a.buckets };
+
+    ghost invariant = { λ a. IsMeasured
+        (pool_geometry (region_at a.region_start a.region_size) a.bucket a.buckets) a.first a.stride };
+}
+
+impl Geometry {
+    /// All the buckets of this layout that the region of `size` bytes at `start` has room for.
+    pub fn new(bucket_layout: Layout, start: usize, size: usize) -> Self
+        requires { MayBeCut (region_at start size) bucket_layout }
+        ensures { IsCut (region_at start size) bucket_layout result }
+    {
+        Geometry {
+            region_start: start,
+            region_size: size,
+            bucket: bucket_layout,
+            first: round_up(start, bucket_layout.align()).unwrap(),
+            stride: stride(bucket_layout),
+            buckets: count_buckets(bucket_layout, start, size),
+        }
+    }
+
+    /// The first of these buckets, at most so many.
+    pub fn at_most(self, constant: u32) -> Self
+        ensures { result ≡ at_most constant self }
+    {
+        Geometry {
+            region_start: self.region_start,
+            region_size: self.region_size,
+            bucket: self.bucket,
+            first: self.first,
+            stride: self.stride,
+            buckets: self.buckets.min(constant),
+        }
+    }
+
+    /// How many buckets there are.
+    #[inline]
+    pub fn count(&self) -> u32
+        ensures { result ≡ self.now.buckets }
+    {
+        self.buckets
+    }
+
+    /// The layout of each bucket.
+    #[inline]
+    pub fn bucket(&self) -> Layout
+        ensures { result ≡ self.now.bucket }
+    {
+        self.bucket
+    }
+
+    /// How many bytes the region has.
+    #[inline]
+    pub fn region_size(&self) -> usize
+        ensures { result ≡ self.now.region.size }
+    {
+        self.region_size
+    }
+
+    /// Where the first bucket is.
+    #[inline]
+    pub fn first(&self) -> usize
+        ensures { result ≡ first_place self.now.region self.now.bucket }
+    {
+        self.first
+    }
+
+    /// How far each bucket is from the next.
+    #[inline]
+    pub fn stride(&self) -> usize
+        ensures value { result ≡ stride self.now.bucket }
+        ensures some { 0 < result }
+    {
+        self.stride
+    }
+
+    /// The first `len` bytes of a bucket.
+    #[inline]
+    pub fn chunk(&self, bucket: usize, len: usize) -> Chunk
+        requires below { bucket < self.now.buckets }
+        requires short { len ≤ self.now.bucket.size }
+        ensures value { let chunk : Chunk = record { place = bucket_place self.now bucket; len = len } in
+            result ≡ chunk }
+        ensures place { IsPlaceOfBucket self.now result.place }
+        ensures inside { IsInside self.now.region result }
+    {
+        let place = self.first + bucket * self.stride;
+        Chunk::new(place, len).unwrap()
+    }
+
+    /// What the chunk at a bucket's place is answered that is to grow.
+    pub fn grow(&self, place: usize, old: Layout, new: Layout) -> Result<Chunk, AllocationGrowError>
+        requires { IsPlaceOfBucket self.now place }
+        ensures answer { MayGrow self.now.bucket place old new result }
+        ensures inside { IfOk result (IsInside self.now.region) }
+    {
+        if old.size() >= new.size() {
+            return Err(AllocationGrowError::GrowWouldShrink);
+        }
+        if new.align() > self.bucket.align() {
+            return Err(AllocationGrowError::AlignmentFailure);
+        }
+        if new.size() > self.bucket.size() {
+            return Err(AllocationGrowError::OutOfMemory);
+        }
+        Ok(Chunk::new(place, new.size()).unwrap())
+    }
+
+    /// What the chunk at a bucket's place is answered that is to shrink.
+    pub fn shrink(
+        &self,
+        place: usize,
+        old: Layout,
+        new: Layout,
+    ) -> Result<Chunk, AllocationShrinkError>
+        requires place { IsPlaceOfBucket self.now place }
+        requires reserved { old.size ≤ self.now.bucket.size }
+        ensures answer { MayShrink self.now.bucket place old new result }
+        ensures inside { IfOk result (IsInside self.now.region) }
+    {
+        if old.size() <= new.size() {
+            return Err(AllocationShrinkError::ShrinkWouldGrow);
+        }
+        if new.align() > self.bucket.align() {
+            return Err(AllocationShrinkError::AlignmentFailure);
+        }
+        Ok(Chunk::new(place, new.size()).unwrap())
+    }
+}

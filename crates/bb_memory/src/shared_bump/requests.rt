@@ -1,0 +1,90 @@
+//! The steps of a request, on the seat of its party: a read, and exchanges until one wins or the layout no longer fits.
+ghost use Rattle.std.specs.Prelude.{◌≡◌, ◌+◌, ◌<◌, ◌≤◌, ◌%◌, [], false, true, IfSome, None, Some, MatchOption};
+ghost use Rattle.bb_memory_base.specs.Region.{region_end};
+ghost use Rattle.bb_memory_base.specs.Chunk.{IsInside, chunk_end};
+ghost use Rattle.bb_memory_base.specs.BumpMachine.{chunk_at, fits, position_behind};
+ghost use Rattle.bb_memory_base.specs.BumpLogs.{call_in};
+ghost use Rattle.bb_memory.specs.Seats.{alone, number_of, view_log};
+ghost use Rattle.bb_memory.specs.SharedBumpSteps.{TellsExchange, TellsRead};
+ghost use Rattle.bb_memory.specs.SharedBumpRequests.{HasRefused, HasWon, IsSeatOf};
+
+use super::SharedBumpAllocator;
+use super::rule::{Asked, Exchanges, Reads, View};
+use crate::layout::{Chunk, Layout};
+use atomic_table::Seat;
+
+impl SharedBumpAllocator {
+    /// Asks until it wins a chunk or is refused. The layout isn't of size 0.
+    pub(super) fn claim<L: Asked>(&self, seat: &mut Seat<u8, View>, layout: Layout) -> Option<Chunk>
+        requires seat { IsSeatOf self.now seat.old.table_id seat.old.me }
+        requires idle { call_in (view_log seat.old.me.0) ≡ None }
+        requires asks { 0 < layout.size }
+        requires asked { L.layout ≡ Some layout }
+        ensures table { seat.new.table_id ≡ seat.old.table_id }
+        ensures call { MatchOption result (HasRefused self.now.scene layout seat.old.me seat.new.me)
+            (HasWon self.now.scene layout seat.old.me seat.new.me) }
+        ensures aligned { IfSome result (λ chunk. chunk.place % layout.align ≡ 0) }
+        ensures inside { IfSome result (IsInside self.now.scene.region) }
+    {
+        let mut seen = self.read::<L>(seat, layout);
+        let mut chunk = match self.place(seen, layout) {
+            Some(chunk) => chunk,
+            None => return None,
+        };
+        loop {
+            let found = self.exchange(seat, layout, seen, chunk.end() - self.start);
+            if found == seen {
+                return Some(chunk);
+            }
+            seen = found;
+            match self.place(seen, layout) {
+                Some(next) => chunk = next,
+                None => return None,
+            }
+        }
+    }
+
+    /// The chunk that a layout gets at a position, where it fits there.
+    fn place(&self, position: usize, layout: Layout) -> Option<Chunk>
+        requires { position ≤ self.now.scene.region.size }
+        ensures fits { MatchOption result (fits self.now.scene.region position layout ≡ false)
+            (λ chunk. (fits self.now.scene.region position layout ≡ true)
+            × (chunk ≡ chunk_at self.now.scene.region position layout)) }
+        ensures aligned { IfSome result (λ chunk. chunk.place % layout.align ≡ 0) }
+        ensures inside { IfSome result (IsInside self.now.scene.region) }
+        ensures above { IfSome result (λ chunk. self.now.scene.region.start + position ≤ chunk.place) }
+    {
+        Chunk::at_or_after(self.start + position, layout, self.start + self.size)
+    }
+
+    /// The read that begins a request. For which layout it is, the step says by its type.
+    fn read<L: Asked>(&self, seat: &mut Seat<u8, View>, _layout: Layout) -> usize
+        requires seat { IsSeatOf self.now seat.old.table_id seat.old.me }
+        requires idle { call_in (view_log seat.old.me.0) ≡ None }
+        requires asks { 0 < _layout.size }
+        requires asked { L.layout ≡ Some _layout }
+        ensures table { seat.new.table_id ≡ seat.old.table_id }
+        ensures step { TellsRead _layout seat.old.me result seat.new.me }
+    {
+        self.table.shared.load::<Reads<L>>(seat, 0) as usize
+    }
+
+    /// An exchange of the request that the seat's party is in: `behind` is the end of its chunk at `seen`.
+    fn exchange(
+        &self,
+        seat: &mut Seat<u8, View>,
+        layout: Layout,
+        seen: usize,
+        behind: usize,
+    ) -> usize
+        requires seat { IsSeatOf self.now seat.old.table_id seat.old.me }
+        requires call { call_in (view_log seat.old.me.0) ≡ Some (record { layout = layout; seen = seen }) }
+        requires behind { behind ≡ position_behind self.now.scene.region (chunk_at self.now.scene.region seen layout) }
+        ensures table { seat.new.table_id ≡ seat.old.table_id }
+        ensures step { TellsExchange seat.old.me result seat.new.me }
+    {
+        self.table
+            .shared
+            .compare_exchange::<Exchanges>(seat, 0, seen as u64, behind as u64) as usize
+    }
+}

@@ -1,0 +1,213 @@
+//! Pools that threads share: each call takes its pool by `&`, and steps on one atomic flag for each bucket.
+ghost use Rattle.std.specs.Prelude.{◌≡◌, ◌≢◌, ◌<◌, ◌≤◌, ◌↔◌, ◌%◌, [], ℕ, Some, IsErr, IfOk, IfErr, OnErr, slice_get, vec_len};
+ghost use Rattle.bb_memory_base.specs.Region.{region_at};
+ghost use Rattle.bb_memory_base.specs.Chunk.{IsInside};
+ghost use Rattle.bb_memory_base.specs.FirstPlace.{first_place};
+ghost use Rattle.bb_memory_base.specs.PoolGeometry.{IsCut};
+ghost use Rattle.bb_memory_base.specs.PoolObject.{IsWithin, MayGrow, MayShrink};
+ghost use Rattle.bb_memory_base.specs.PoolLogs.{HoldsInLog};
+ghost use Rattle.bb_memory.specs.Pool.{MayBeCut};
+ghost use Rattle.bb_memory.specs.SharedPool.{AreInterleaved, HoldsAll, IsInterleaved, TakesBucket, chunk_of, logged, party_of, resized, return_of};
+
+mod bucket;
+mod buckets;
+mod fixed_size;
+mod party;
+mod rule;
+
+use crate::allocator::{AllocationError, AllocationGrowError, AllocationShrinkError};
+use crate::layout::{Chunk, Layout};
+use crate::pool_allocator::geometry::Geometry;
+pub use bucket::Bucket;
+use buckets::SharedBuckets;
+pub use fixed_size::SharedFixedSizePoolAllocator;
+pub use party::PoolParty;
+use std::alloc::Global;
+use std::marker::Model;
+
+/// Gives buckets of one layout to any number of threads. The pool is made for some number of parties, and each thread that
+/// takes or gives back buckets has one of them. No call waits for another, and none takes memory once the pool is made.
+///
+/// What a call promises is told by the party's log: the list of the atomic steps that the party made, each with what it found.
+/// Some interleaving of each party's log with logs of the others is always one that the pool machine allows.
+///
+/// ```
+/// let bucket = Layout::from_size_align(128, 8).unwrap();
+/// let (pool, mut parties) = SharedPoolAllocator::new(alloc, bucket, 4096, 1024, 1)?;
+/// let mut party = parties.pop().unwrap();
+/// let taken = pool.allocate(&mut party, Layout::from_size_align(48, 4).unwrap())?;
+/// assert_eq!(taken.number(), 0);
+/// assert_eq!(taken.chunk(), Chunk::new(4096, 48).unwrap());
+/// pool.deallocate_bucket(&mut party, taken);
+/// ```
+#[derive(Drop)]
+pub struct SharedPoolAllocator {
+    buckets: SharedBuckets,
+}
+
+impl Model for SharedPoolAllocator {
+    ghost use Rattle.bb_memory.specs.SharedPool.{SharedPool};
+
+    ghost Value = { SharedPool };
+
+    ghost view = { λ a. a.buckets };
+}
+
+impl SharedPoolAllocator {
+    /// A pool over the region of `size` bytes at `start`, cut into buckets of this layout, with no bucket held, and its
+    /// parties, numbered from 0. The start has to be greater than 0; start plus size, and the start rounded up to the bucket's
+    /// alignment, at most `usize::MAX`; the bucket's size greater than 0; the buckets fewer than `u32::MAX`, and the parties at
+    /// least 1. Its only refusal is `OutOfMemory`, where a request for memory was refused.
+    pub fn new(
+        alloc: Global,
+        bucket_layout: Layout,
+        start: usize,
+        size: usize,
+        parties: u32,
+    ) -> Result<(Self, Vec<PoolParty>), AllocationError>
+        requires cut { MayBeCut (region_at start size) bucket_layout }
+        requires some_party { 0 < parties }
+        ensures geometry { IfOk result (λ made. IsCut (region_at start size) bucket_layout made.0.geometry) }
+        ensures parties { IfOk result (λ made. made.0.parties ≡ parties) }
+        ensures as_many { IfOk result (λ made. vec_len made.1 ≡ parties) }
+        ensures each { IfOk result (λ made. (number : ℕ) → number < parties
+            → slice_get made.1.items number ≡ Some (party_of made.0 number [])) }
+        ensures refused { IfErr result (λ error. error ≡ AllocationError.OutOfMemory) }
+    {
+        let geometry = Geometry::new(bucket_layout, start, size);
+        let (buckets, all) = SharedBuckets::new(alloc, geometry, parties)?;
+        Ok((SharedPoolAllocator { buckets }, all))
+    }
+
+    /// Takes a bucket for the party, with a chunk of `layout.size()` bytes. It is refused in this order: with `SizeTooLarge`
+    /// where the size is greater than the bucket's, and with `AlignmentFailure` where the alignment is greater than the
+    /// bucket's, both without a step. Then it makes one pass: one exchange on each flag from bucket 0 up, until one is taken.
+    /// It is refused with `OutOfMemory` where all are lost. Where other parties step meanwhile, that doesn't mean that all
+    /// buckets were held at one moment. The party has to be this pool's.
+    pub fn allocate(
+        &self,
+        party: &mut PoolParty,
+        layout: Layout,
+    ) -> Result<Bucket<'_>, AllocationError>
+        requires { party.old.pool ≡ self.now }
+        ensures taken { TakesBucket party.old layout result party.new }
+        ensures same_party { (party.new.pool ≡ self.now) × (party.new.number ≡ party.old.number) }
+        ensures same_pool { IfOk result (λ bucket. bucket.pool ≡ self.now) }
+
+        // Of what the party's log holds.
+        ensures held { IfOk result (λ bucket. HoldsInLog bucket.number party.new.log) }
+        ensures still_held { (other : ℕ) → HoldsInLog other party.old.log → HoldsInLog other party.new.log }
+        ensures alone { self.now.parties ≡ 1 → IsWithin self.now.geometry.bucket layout
+            → (IsErr result ↔ HoldsAll self.now.geometry.buckets party.old.log) }
+        ensures interleaved { IsInterleaved party.new }
+    {
+        self.buckets.allocate(party, layout)
+    }
+
+    /// Gives back a bucket by one store, which makes its flag free. The party and the bucket have to be this pool's, and the
+    /// party's log has to hold the bucket: this party took it, and it wasn't given back since.
+    pub fn deallocate_bucket(&self, party: &mut PoolParty, bucket: Bucket<'_>)
+        requires party { party.old.pool ≡ self.now }
+        requires bucket { bucket.pool ≡ self.now }
+        requires held { HoldsInLog bucket.number party.old.log }
+        ensures returned { party.new ≡ logged party.old (return_of party.old.number bucket.entry.number) }
+        ensures same_party { (party.new.pool ≡ self.now) × (party.new.number ≡ party.old.number) }
+        ensures given_back { ¬ HoldsInLog bucket.entry.number party.new.log }
+        ensures still_held { (other : ℕ) → other ≢ bucket.entry.number → HoldsInLog other party.old.log
+            → HoldsInLog other party.new.log }
+        ensures interleaved { IsInterleaved party.new }
+    {
+        self.buckets.free(party, bucket);
+    }
+
+    /// Tells that two parties hold different buckets. It changes nothing: it loads a word, and adds nothing to a log. The
+    /// parties have to be this pool's.
+    pub fn meet(&self, one: &mut PoolParty, other: &mut PoolParty)
+        requires one { one.old.pool ≡ self.now }
+        requires other { other.old.pool ≡ self.now }
+        ensures kept { (one.new ≡ one.old) × (other.new ≡ other.old) }
+        ensures differ { one.old.number ≢ other.old.number }
+        ensures apart { (bucket : ℕ) → HoldsInLog bucket one.old.log → ¬ HoldsInLog bucket other.old.log }
+        ensures interleaved { AreInterleaved one.old other.old }
+    {
+        self.buckets.meet(one, other);
+    }
+
+    /// Gives the bucket's chunk the new size, in its bucket and without a step. It is refused in this order: with
+    /// `GrowWouldShrink` where the new size isn't greater than the old one, with `AlignmentFailure` where the new alignment is
+    /// greater than the bucket's, and with `OutOfMemory` where the new size is greater than the bucket's. A refusal changes
+    /// nothing. The bucket has to be this pool's, and its place a multiple of the old alignment.
+    pub fn grow(
+        &self,
+        bucket: &mut Bucket<'_>,
+        old: Layout,
+        new: Layout,
+    ) -> Result<Chunk, AllocationGrowError>
+        requires bucket { bucket.old.pool ≡ self.now }
+        requires aligned { (chunk_of bucket.old).place % old.align ≡ 0 }
+        ensures answer { MayGrow self.now.geometry.bucket (chunk_of bucket.old).place old new result }
+        ensures resized { IfOk result (λ grown. bucket.new ≡ resized bucket.old grown.len) }
+        ensures chunk { IfOk result (λ grown. chunk_of bucket.new ≡ grown) }
+        ensures inside { IfOk result (IsInside self.now.geometry.region) }
+        ensures kept { OnErr result (bucket.new ≡ bucket.old) }
+    {
+        self.buckets.grow(bucket, old, new)
+    }
+
+    /// Gives the bucket's chunk exactly the new size, without a step. It is refused in this order: with `ShrinkWouldGrow` where
+    /// the new size isn't smaller than the old one, and with `AlignmentFailure` where the new alignment is greater than the
+    /// bucket's. A refusal changes nothing. The bucket has to be this pool's, its place a multiple of the old alignment, and the
+    /// old size at most the bucket's.
+    pub fn shrink(
+        &self,
+        bucket: &mut Bucket<'_>,
+        old: Layout,
+        new: Layout,
+    ) -> Result<Chunk, AllocationShrinkError>
+        requires bucket { bucket.old.pool ≡ self.now }
+        requires aligned { (chunk_of bucket.old).place % old.align ≡ 0 }
+        requires reserved { old.size ≤ self.now.geometry.bucket.size }
+        ensures answer { MayShrink self.now.geometry.bucket (chunk_of bucket.old).place old new result }
+        ensures resized { IfOk result (λ shrunk. bucket.new ≡ resized bucket.old shrunk.len) }
+        ensures chunk { IfOk result (λ shrunk. chunk_of bucket.new ≡ shrunk) }
+        ensures inside { IfOk result (IsInside self.now.geometry.region) }
+        ensures kept { OnErr result (bucket.new ≡ bucket.old) }
+    {
+        self.buckets.shrink(bucket, old, new)
+    }
+
+    /// How many buckets there are.
+    pub fn number_of_buckets(&self) -> u32
+        ensures { result ≡ self.now.geometry.buckets }
+    {
+        self.buckets.count()
+    }
+
+    /// The size of a bucket in bytes, as it was asked for. The buckets are at least that far apart.
+    pub fn bucket_size(&self) -> usize
+        ensures { result ≡ self.now.geometry.bucket.size }
+    {
+        self.buckets.bucket().size()
+    }
+
+    /// The greatest alignment that a request may have, of which each bucket's place is a multiple.
+    pub fn max_alignment(&self) -> usize
+        ensures { result ≡ self.now.geometry.bucket.align }
+    {
+        self.buckets.bucket().align()
+    }
+
+    /// How many bytes the region has, as it was handed in.
+    pub fn size(&self) -> usize
+        ensures { result ≡ self.now.geometry.region.size }
+    {
+        self.buckets.region_size()
+    }
+
+    /// Where the first bucket is: the region's start, rounded up to the bucket's alignment.
+    pub fn start_address(&self) -> usize
+        ensures { result ≡ first_place self.now.geometry.region self.now.geometry.bucket }
+    {
+        self.buckets.first()
+    }
+}

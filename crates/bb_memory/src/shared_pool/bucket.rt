@@ -1,0 +1,48 @@
+//! Buckets that parties took.
+ghost use Rattle.std.specs.Prelude.{◌≡◌, ◌<◌, ◌≤◌};
+ghost use Rattle.bb_memory_base.specs.Chunk.{IsInside};
+ghost use Rattle.bb_memory.specs.SharedPool.{chunk_of, taken_bucket};
+
+use super::buckets::SharedBuckets;
+use crate::layout::Chunk;
+use std::marker::Model;
+
+/// A bucket that a party took of a shared pool, which it borrows. It is spent where it is given back; a dropped one stays
+/// held for good.
+#[derive(Drop)]
+pub struct Bucket<'a> {
+    pub(super) buckets: &'a SharedBuckets,
+    pub(super) number: u32,
+    pub(super) len: usize,
+}
+
+impl<'a> Model for Bucket<'a> {
+    ghost use Rattle.std.specs.Prelude.{◌<◌, ◌≤◌};
+    ghost use Rattle.bb_memory.specs.SharedPool.{TakenBucket, taken_bucket};
+
+    ghost Value = { TakenBucket };
+
+    ghost view = { λ a. taken_bucket a.buckets.now a.number a.len };
+
+    ghost invariant = { λ a. (a.number < a.buckets.now.geometry.buckets)
+        × (a.len ≤ a.buckets.now.geometry.bucket.size) };
+}
+
+impl<'a> Bucket<'a> {
+    /// The bucket's number in its pool, from 0.
+    pub fn number(&self) -> u32
+        ensures value { result ≡ self.now.number }
+        ensures below { result < self.now.pool.geometry.buckets }
+    {
+        self.number
+    }
+
+    /// The chunk in the bucket: it begins at the bucket's place, and has the length that was asked for last.
+    pub fn chunk(&self) -> Chunk
+        ensures value { result ≡ chunk_of self.now }
+        ensures short { result.len ≤ self.now.pool.geometry.bucket.size }
+        ensures inside { IsInside self.now.pool.geometry.region result }
+    {
+        self.buckets.chunk(self.number, self.len)
+    }
+}

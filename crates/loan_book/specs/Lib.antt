@@ -1,0 +1,5 @@
+pub mod Book
+pub mod Calls
+pub mod LoanBook
+pub mod Runs
+pub mod Sample

@@ -1,0 +1,28 @@
+-- A loan book over an allocator, as its contracts see it.
+use Rattle.std.specs.Prelude.{ℕ, ◌<◌, ◌^◌, List, Option, Some, None}
+use Rattle.std.specs.Option.{ForSome}
+use Rattle.bb_memory_base.specs.Chunk.{Chunk}
+use Rattle.loan_book.specs.Sample.{Sample}
+use Rattle.loan_book.specs.Book.{Book, IsBook, chunks_of}
+
+-- the allocator below, and the book
+pub record LoanBook (A : Type 0) : Type 0 where
+  pub allocator : A
+  pub book : Book
+
+-- how many samples were loaned where this is the next id: all of the 2 ^ 64 ids are used up where there is none
+abbrev pub loaned_before : Option ℕ → ℕ
+loaned_before None = 2 ^ 64
+loaned_before (Some id) = id
+
+abbrev pub book_of : Option ℕ → List Sample → Book
+book_of next out = record { loaned = loaned_before next; out = out }
+
+abbrev pub loan_book_of : {A : Type 0} → A → Option ℕ → List Sample → LoanBook A
+loan_book_of allocator next out = record { allocator = allocator; book = book_of next out }
+
+-- the allocator stands for exactly the chunks of the samples that are out, and the book is one that calls can lead to
+pub record IsLoanBook {A : Type 0} (stands_for : A → List Chunk → Type 0) (allocator : A) (next : Option ℕ) (out : List Sample) : Type 0 where
+  pub stands : stands_for allocator (chunks_of out)
+  pub book : IsBook (book_of next out)
+  pub next_fits : ForSome next (λ id. id < 2 ^ 64)

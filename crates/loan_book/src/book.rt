@@ -1,0 +1,200 @@
+//! Loan books.
+ghost use Rattle.std.specs.Prelude.{◌≡◌, ◌↔◌, ◌<◌, ◌≤◌, ◌^◌, false, [], List, length, IfOk, OnOk, OnErr, IfSome, IfNone, IsTrue};
+ghost use Rattle.bb_memory_base.specs.Chunk.{Chunk};
+ghost use Rattle.bb_memory_base.specs.LiveList.{IsSound};
+ghost use Rattle.loan_book.specs.Sample.{Sample};
+ghost use Rattle.loan_book.specs.Book.{IsBook, IsAt, IsOut, IsPublished, Waits, chunks_out};
+ghost use Rattle.loan_book.specs.Calls.{Loans, Publishes, GivesBack, without};
+ghost use Rattle.loan_book.specs.LoanBook.{loan_book_of};
+
+use crate::error::LoanError;
+use crate::sample::Sample;
+use bb_memory_base::allocator::Allocator;
+use bb_memory_base::layout::{Chunk, Layout};
+use std::alloc::Global;
+use std::collections::VecDeque;
+use std::marker::Model;
+
+/// The samples that are out, over an allocator that it owns. A sample's id is the number of samples that were loaned before
+/// it. Its chunk goes back to the allocator when the last of its readers has returned it.
+///
+/// The samples are kept in the order of their ids, which is the order of the loans, so a sample is found by halving. One
+/// that leaves moves those before it or those behind it, whichever are fewer: the oldest and the newest move none.
+///
+/// ```
+/// let mut book = LoanBook::new(alloc, allocator);
+/// let (id, chunk) = book.loan(48)?;
+/// assert_eq!(id, 0);
+/// book.publish(id, 2)?;
+/// assert_eq!(book.give_back(id), Ok(false));
+/// assert!(book.is_out(id));
+/// assert_eq!(book.give_back(id), Ok(true));
+/// assert_eq!(book.give_back(id), Err(LoanError::UnknownSample));
+/// ```
+#[derive(Drop)]
+pub struct LoanBook<A: Allocator> {
+    allocator: A,
+    /// The next sample's id, or `None` where the greatest one was loaned.
+    next: Option<u64>,
+    out: VecDeque<Sample>,
+}
+
+impl<A: Allocator> Model for LoanBook<A> {
+    ghost use Rattle.loan_book.specs.LoanBook.{LoanBook, IsLoanBook, loan_book_of};
+
+    ghost Value = { LoanBook A };
+
+    ghost view = { λ b. loan_book_of b.allocator b.next b.out.items };
+
+    ghost invariant = { λ b. IsLoanBook A.stands_for b.allocator b.next b.out.items };
+}
+
+impl<A: Allocator> LoanBook<A> {
+    /// A book over this allocator, of which no chunk may be out. The records of samples take their memory from `alloc`.
+    pub fn new(alloc: Global, allocator: A) -> Self
+        requires { A.stands_for allocator [] }
+        ensures allocator { result.allocator ≡ allocator }
+        ensures book { result.book ≡ record { loaned = 0; out = [] } }
+        ensures stands { A.stands_for result.allocator (chunks_out result.book) }
+    {
+        LoanBook {
+            allocator,
+            next: Some(0),
+            out: VecDeque::new(alloc),
+        }
+    }
+
+    /// Loans a chunk of at least `size` bytes, at any place, and answers the sample's id and its chunk. Ids count up from 0
+    /// in the order of the loans, and the id of a refused loan isn't used up.
+    ///
+    /// It is refused in this order: with `Size` where `size` exceeds `isize::MAX`, with `IdsExhausted` where the greatest
+    /// id was loaned before, with `Memory` where the memory for the sample's record was refused, and with `Allocation`
+    /// where the allocator refused. A refusal leaves the book as it was.
+    pub fn loan(&mut self, size: usize) -> Result<(u64, Chunk), LoanError>
+        ensures step { Loans (A.may_allocate (A.geometry self.old.allocator))
+            self.old.book size result self.new.book }
+        ensures too_large { (result ≡ Err LoanError.Size) ↔ (2 ^ 63 ≤ size) }
+        ensures exhausted { (result ≡ Err LoanError.IdsExhausted)
+            ↔ ((size < 2 ^ 63) × (2 ^ 64 ≤ self.old.book.loaned)) }
+        ensures stands { A.stands_for self.new.allocator (chunks_out self.new.book) }
+        ensures sound { IsSound (A.region_of (A.geometry self.old.allocator)) (chunks_out self.new.book) }
+        ensures geometry { A.geometry self.new.allocator ≡ A.geometry self.old.allocator }
+        ensures long_enough { IfOk result (λ loaned. size ≤ loaned.1.len) }
+        ensures kept { OnErr result ((live : List Chunk) → A.stands_for self.old.allocator live
+            → A.stands_for self.new.allocator live) }
+    {
+        let _ = &self.next;
+        let Ok(layout) = Layout::from_size_align(size, 1) else {
+            return Err(LoanError::Size);
+        };
+        let Some(id) = self.next else {
+            return Err(LoanError::IdsExhausted);
+        };
+        if self.out.reserve(1).is_err() {
+            return Err(LoanError::Memory);
+        }
+        match self.allocator.allocate(layout) {
+            Ok(chunk) => {
+                self.out.push_back_reserved(Sample::new(id, layout, chunk));
+                self.next = id.checked_add(1);
+                Ok((id, chunk))
+            }
+            Err(error) => Err(LoanError::Allocation(error)),
+        }
+    }
+
+    /// Publishes a sample that is out: it then waits for as many returns as it has readers.
+    ///
+    /// It is refused in this order: with `UnknownSample` where no sample of this id is out, with `AlreadyPublished` where it
+    /// was published before, and with `NoReaders` where `readers` is 0. A refusal leaves everything as it was.
+    pub fn publish(&mut self, id: u64, readers: u32) -> Result<(), LoanError>
+        ensures step { Publishes self.old.book id readers result self.new.book }
+        ensures unknown { (result ≡ Err LoanError.UnknownSample) ↔ (¬ IsOut self.old.book id) }
+        ensures published { (result ≡ Err LoanError.AlreadyPublished) ↔ IsPublished self.old.book id }
+        ensures no_readers { (result ≡ Err LoanError.NoReaders)
+            ↔ (IsOut self.old.book id × (¬ IsPublished self.old.book id) × (readers ≡ 0)) }
+        ensures stands { A.stands_for self.new.allocator (chunks_out self.new.book) }
+        ensures waits { OnOk result (Waits self.new.book id readers) }
+        ensures same_allocator { self.new.allocator ≡ self.old.allocator }
+        ensures kept { OnErr result (self.new ≡ self.old) }
+    {
+        let Some(position) = self.position(id) else {
+            return Err(LoanError::UnknownSample);
+        };
+        if self.out[position].is_published() {
+            return Err(LoanError::AlreadyPublished);
+        }
+        if readers == 0 {
+            return Err(LoanError::NoReaders);
+        }
+        self.out[position].wait_for(readers);
+        Ok(())
+    }
+
+    /// Returns a sample once. Where that was the last return that it waited for, its chunk goes back to the allocator, and
+    /// the answer is true. A sample that was never published waits for one return.
+    ///
+    /// It is refused, with `UnknownSample`, exactly where no sample of this id is out. A refusal leaves everything as it
+    /// was.
+    pub fn give_back(&mut self, id: u64) -> Result<bool, LoanError>
+        ensures step { GivesBack self.old.book id result self.new.book }
+        ensures unknown { (result ≡ Err LoanError.UnknownSample) ↔ (¬ IsOut self.old.book id) }
+        ensures leaves { IfOk result (λ left. IsTrue left ↔ (¬ IsOut self.new.book id)) }
+        ensures stands { A.stands_for self.new.allocator (chunks_out self.new.book) }
+        ensures geometry { A.geometry self.new.allocator ≡ A.geometry self.old.allocator }
+        ensures same_allocator { IfOk result (λ left. left ≡ false → self.new.allocator ≡ self.old.allocator) }
+        ensures kept { OnErr result (self.new ≡ self.old) }
+    {
+        let Some(position) = self.position(id) else {
+            return Err(LoanError::UnknownSample);
+        };
+        let to_come = self.out[position].returns_to_come();
+        if to_come > 1 {
+            self.out[position].wait_for(to_come - 1);
+            return Ok(false);
+        }
+        self.take_out(position);
+        Ok(true)
+    }
+
+    /// Whether a sample of this id is out.
+    pub fn is_out(&self, id: u64) -> bool
+        ensures answer { IsTrue result ↔ IsOut self.now.book id }
+        ensures stands { A.stands_for self.now.allocator (chunks_out self.now.book) }
+    {
+        let _ = &self.next;
+        self.position(id).is_some()
+    }
+
+    /// Does nothing. It is the proof of what holds of every loan book: the allocator stands for exactly the chunks of the
+    /// samples that are out, these are sound (each lies inside the allocator's region, and no two overlap), and the ids of
+    /// the samples rise.
+    pub fn law(&self)
+        ensures stands { A.stands_for self.now.allocator (chunks_out self.now.book) }
+        ensures sound { IsSound (A.region_of (A.geometry self.now.allocator)) (chunks_out self.now.book) }
+        ensures book { IsBook self.now.book }
+    {
+        let _ = &self.next;
+    }
+
+    /// Where the sample of this id stands among those that are out.
+    fn position(&self, id: u64) -> Option<usize>
+        ensures found { IfSome result (λ position. (sample : Sample) × IsAt self.now.book id position sample) }
+        ensures absent { IfNone result (¬ IsOut self.now.book id) }
+    {
+        self.out
+            .binary_search_by_key(&id, |sample| sample.id())
+            .ok()
+    }
+
+    /// Takes out the sample at a position, and gives its chunk back.
+    fn take_out(&mut self, position: usize)
+        requires { position < length self.old.book.out }
+        ensures book { self.new.book ≡ without self.old.book position }
+        ensures stands { A.stands_for self.new.allocator (chunks_out self.new.book) }
+        ensures geometry { A.geometry self.new.allocator ≡ A.geometry self.old.allocator }
+    {
+        let sample = self.out.remove(position).unwrap();
+        self.allocator.deallocate(sample.place(), sample.layout());
+    }
+}

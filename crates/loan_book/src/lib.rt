@@ -1,0 +1,13 @@
+//! Samples that are loaned from an allocator and have several readers: a sample goes back to the allocator when the last
+//! of its readers has returned it. The crate stands on the trait [`Allocator`](bb_memory_base::allocator::Allocator)
+//! alone, and names no allocator.
+#![tactic(auto)]
+
+mod book;
+mod error;
+mod run;
+mod sample;
+
+pub use book::LoanBook;
+pub use error::LoanError;
+pub use run::{LoanCall, LoanReply, run_loans};

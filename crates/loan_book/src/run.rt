@@ -1,0 +1,98 @@
+//! Calls of a loan book one after the other.
+ghost use Rattle.std.specs.Prelude.{◌≡◌, ◌+◌, ◌<◌, ◌↔◌, ℕ, IfOk, OnOk, OnErr};
+ghost use Rattle.bb_memory_base.specs.Run.{IsRun};
+ghost use Rattle.bb_memory_base.specs.LiveList.{IsSound};
+ghost use Rattle.loan_book.specs.Book.{chunks_out, IsOut, Waits};
+ghost use Rattle.loan_book.specs.Runs.{BookStep, loans_in, returns_in};
+
+use crate::book::LoanBook;
+use crate::error::LoanError;
+use bb_memory_base::allocator::Allocator;
+use bb_memory_base::layout::Chunk;
+use std::alloc::{AllocError, Global};
+
+/// What is asked of a loan book.
+#[derive(Debug, Clone, Copy, PartialEq, Eq)]
+pub enum LoanCall {
+    /// A loan of so many bytes.
+    Loan(usize),
+    /// The sample of this id is published for so many readers.
+    Publish(u64, u32),
+    /// The sample of this id is returned once.
+    GiveBack(u64),
+    /// Whether the sample of this id is out.
+    IsOut(u64),
+}
+
+/// What a loan book answers to a call.
+#[derive(Debug, Clone, Copy, PartialEq, Eq)]
+pub enum LoanReply {
+    /// The sample's id and its chunk.
+    Loaned(u64, Chunk),
+    Published,
+    /// The return was the last one, and the sample's chunk went back.
+    Returned,
+    /// Further returns are to come.
+    Kept,
+    /// Whether the sample is out.
+    Out(bool),
+    Refused(LoanError),
+}
+
+/// Makes one call.
+fn apply<A: Allocator>(book: &mut LoanBook<A>, call: LoanCall) -> LoanReply
+    ensures step { BookStep (A.may_allocate (A.geometry book.old.allocator))
+        book.old.book call result book.new.book }
+    ensures geometry { A.geometry book.new.allocator ≡ A.geometry book.old.allocator }
+{
+    match call {
+        LoanCall::Loan(size) => match book.loan(size) {
+            Ok(loaned) => LoanReply::Loaned(loaned.0, loaned.1),
+            Err(error) => LoanReply::Refused(error),
+        },
+        LoanCall::Publish(id, readers) => match book.publish(id, readers) {
+            Ok(()) => LoanReply::Published,
+            Err(error) => LoanReply::Refused(error),
+        },
+        LoanCall::GiveBack(id) => match book.give_back(id) {
+            Ok(true) => LoanReply::Returned,
+            Ok(false) => LoanReply::Kept,
+            Err(error) => LoanReply::Refused(error),
+        },
+        LoanCall::IsOut(id) => LoanReply::Out(book.is_out(id)),
+    }
+}
+
+/// Makes the calls in order, and answers one reply a call. Afterwards the allocator stands for exactly the chunks of the
+/// samples that are out. A sample that waited for so many returns before is still out exactly where fewer of the calls
+/// return it, so one that was published for r readers goes back at the r-th return and not before.
+///
+/// Memory for the replies is reserved first, from `alloc`. Where it is refused, no call is made, and everything is as before.
+pub fn run_loans<A: Allocator>(
+    alloc: Global,
+    book: &mut LoanBook<A>,
+    calls: &[LoanCall],
+) -> Result<Vec<LoanReply>, AllocError>
+    ensures run { IfOk result (λ replies.
+        IsRun (BookStep (A.may_allocate (A.geometry book.old.allocator)))
+        book.old.book calls.now replies.items book.new.book) }
+    ensures counted { IfOk result (λ replies.
+        book.new.book.loaned ≡ book.old.book.loaned + loans_in replies.items) }
+    ensures returned { OnOk result ((id returns : ℕ)
+        → Waits book.old.book id returns → 0 < returns
+        → (IsOut book.new.book id ↔ returns_in id calls.now < returns)) }
+    ensures stands { OnOk result (A.stands_for book.new.allocator (chunks_out book.new.book)) }
+    ensures sound { OnOk result (IsSound (A.region_of (A.geometry book.old.allocator))
+        (chunks_out book.new.book)) }
+    ensures geometry { A.geometry book.new.allocator ≡ A.geometry book.old.allocator }
+    ensures kept { OnErr result (book.new ≡ book.old) }
+{
+    book.law();
+    let mut replies = Vec::with_capacity(alloc, calls.len())?;
+    for call in calls {
+        let reply = apply(book, *call);
+        replies.push_reserved(reply);
+    }
+    book.law();
+    Ok(replies)
+}

@@ -1,0 +1,82 @@
+//! One sample that is out.
+ghost use Rattle.std.specs.Prelude.{◌≡◌, ◌<◌, ◌↔◌, None, Some, IsSome, IsTrue};
+ghost use Rattle.loan_book.specs.Sample.{Sample, returns_to_come};
+
+use bb_memory_base::layout::{Chunk, Layout};
+use std::marker::Model;
+
+/// A sample that is out.
+#[derive(Drop)]
+pub(crate) struct Sample {
+    id: u64,
+    /// What the allocator was asked for, and gets told again at the return.
+    layout: Layout,
+    chunk: Chunk,
+    /// How many returns are to come, or `None` until the sample is published.
+    returns: Option<u32>,
+}
+
+impl Model for Sample {
+    ghost use Rattle.std.specs.Prelude.{◌<◌};
+    ghost use Rattle.loan_book.specs.Sample.{Sample, returns_to_come};
+
+    ghost Value = { Sample };
+
+    ghost view = { λ s. record { id = s.id; chunk = s.chunk; returns = s.returns } };
+
+    ghost invariant = { λ s. 0 < returns_to_come s.returns };
+}
+
+impl Sample {
+    /// A sample that wasn't published yet.
+    pub(crate) fn new(id: u64, layout: Layout, chunk: Chunk) -> Sample
+        ensures { result ≡ record { id = id; chunk = chunk; returns = None } }
+    {
+        Sample {
+            id,
+            layout,
+            chunk,
+            returns: None,
+        }
+    }
+
+    pub(crate) fn id(&self) -> u64
+        ensures { result ≡ self.now.id }
+    {
+        self.id
+    }
+
+    pub(crate) fn is_published(&self) -> bool
+        ensures { IsTrue result ↔ IsSome self.now.returns }
+    {
+        self.returns.is_some()
+    }
+
+    /// How many returns are to come, at least one: a sample that was never published waits for one.
+    pub(crate) fn returns_to_come(&self) -> u32
+        ensures value { result ≡ returns_to_come self.now.returns }
+        ensures some { 0 < result }
+    {
+        self.returns.unwrap_or(1)
+    }
+
+    /// Has the sample wait for so many returns, which aren't 0.
+    pub(crate) fn wait_for(&mut self, returns: u32)
+        requires { 0 < returns }
+        ensures { self.new ≡ record self.old { returns = Some returns } }
+    {
+        self.returns = Some(returns);
+    }
+
+    /// Where its chunk begins.
+    pub(crate) fn place(&self) -> usize
+        ensures { result ≡ self.now.chunk.place }
+    {
+        self.chunk.place()
+    }
+
+    /// What the allocator was asked for.
+    pub(crate) fn layout(&self) -> Layout {
+        self.layout
+    }
+}

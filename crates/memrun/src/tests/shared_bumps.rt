@@ -1,0 +1,51 @@
+//! The bump that threads share, each row by its name.
+use bb_memory::allocator::AllocationError;
+use bb_memory::bump_allocator::{BaseAllocator, BumpAllocator};
+use bb_memory::layout::{Chunk, Layout};
+use std::test::Fail;
+
+#[test]
+fn share_two_parties(rt: HostRuntime) -> Result<(), Fail> {
+    let Ok((shared, mut parties)) = BumpAllocator::new(4096, 64).share(rt.alloc(), 2) else {
+        return Err(Fail::from("share"));
+    };
+    let mut second = parties.pop().unwrap();
+    let mut first = parties.pop().unwrap();
+    assert!(rt; parties.is_empty());
+    assert_eq!(rt; (first.number(), second.number()), (0, 1));
+    let forty = Layout::from_size_align(40, 1)?;
+    let chunk = Chunk::new(4096, 40).unwrap();
+    assert_eq!(rt; shared.allocate(&mut first, forty), Ok(chunk));
+    assert_eq!(rt; shared.used_space(&mut second), 40);
+    assert_eq!(rt;
+        shared.allocate(&mut second, forty),
+        Err(AllocationError::OutOfMemory)
+    );
+    let none = Layout::from_size_align(0, 1)?;
+    assert_eq!(rt;
+        shared.allocate(&mut second, none),
+        Err(AllocationError::SizeIsZero)
+    );
+    shared.meet(&mut first, &mut second);
+    let bump = shared.into_owner(second);
+    assert_eq!(rt;
+        (bump.start_address(), bump.total_space(), bump.used_space()),
+        (4096, 64, 40)
+    );
+    Ok(())
+}
+
+#[test]
+fn share_keeps_position(rt: HostRuntime) -> Result<(), Fail> {
+    let mut bump = BumpAllocator::new(4096, 64);
+    bump.allocate(Layout::from_size_align(40, 1)?)?;
+    let Ok((shared, mut parties)) = bump.share(rt.alloc(), 2) else {
+        return Err(Fail::from("share"));
+    };
+    let mut second = parties.pop().unwrap();
+    let mut first = parties.pop().unwrap();
+    assert_eq!(rt; shared.used_space(&mut second), 40);
+    assert_eq!(rt; shared.free_space(&mut first), 24);
+    assert_eq!(rt; (shared.start_address(), shared.total_space()), (4096, 64));
+    Ok(())
+}
