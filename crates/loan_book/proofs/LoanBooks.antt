@@ -50,13 +50,13 @@ module _ {A : Type 0} (stands_for : A → List Chunk → Type 0) where
       })
 
   pub IsLoanBook-set : (allocator : A) (next : Option ℕ) (out : List Sample) (position : ℕ) (sample new : Sample) (returns : ℕ) →
-      slice_get out position ≡ Some sample → new ≡ record sample { returns = Some returns } →
+      slice_get out position ≡ Some sample → new ≡ record sample { returns = Some returns } → 0 < returns →
       IsLoanBook stands_for allocator next out → IsLoanBook stands_for allocator next (slice_set out position new)
-  IsLoanBook-set allocator next out position sample new returns at changed is =
+  IsLoanBook-set allocator next out position sample new returns at changed some is =
       let changed_to : Sample = record sample { returns = Some returns } in
       rw changed (record {
         stands = subst (stands_for allocator) (sym (chunks-set out position sample changed_to at refl)) is.stands;
-        book = IsBook-set (book_of next out) position sample returns at is.book;
+        book = IsBook-set (book_of next out) position sample returns at some is.book;
         next_fits = is.next_fits;
       })
 

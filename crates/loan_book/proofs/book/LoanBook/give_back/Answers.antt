@@ -8,6 +8,7 @@ use Rattle.bb_memory_base.proofs.SliceGets.{slice_get-set_same}
 use Rattle.loan_book.specs.Book.{Book, IsBook, IsAt, IsOut}
 use Rattle.loan_book.proofs.BookSteps.{removed-is-gone}
 use Rattle.loan_book.proofs.LoanBooks.{read_at, waits_for, IsLoanBook-set}
+use Rattle.loan_book.proofs.Books.{sample-waits}
 use Rattle.loan_book.proofs.book.LoanBook.give_back.Goals as goal
 
 pub invariant_of-self : goal.invariant_of-self
@@ -18,19 +19,19 @@ invariant_of-self g c =
     let at : slice_get samples position ≡ Some sample = rw (ap (λ (b : LoanBook g.row.A.Denot). b.book.out) c.self.view_is) c.in-Some.ensures.found.1.at in
     let left = c.returns_to_come-to_come.result - 1 in
     let changed = waits_for samples position left sample c.index_mut.result.now c.wait_for.new.self at c.index_mut.ensures.value c.wait_for.ensures in
-    IsLoanBook-set g.A.BaseAllocator.stands_for c.self.inside.allocator c.self.inside.next samples position sample c.wait_for.new.self left at changed c.self.invariant
+    IsLoanBook-set g.A.BaseAllocator.stands_for c.self.inside.allocator c.self.inside.next samples position sample c.wait_for.new.self left at changed (omega arith) c.self.invariant
 
 pub returns-then-to_come-gt1-clause-stands : goal.returns-then-to_come-gt1-clause-stands
 returns-then-to_come-gt1-clause-stands g c = (invariant_of-self g c).stands
 
-pub returns-then-to_come-gt1-clause-step : goal.returns-then-to_come-gt1-clause-step
-returns-then-to_come-gt1-clause-step g c =
+pub returns-then-to_come-gt1-clause-answer : goal.returns-then-to_come-gt1-clause-answer
+returns-then-to_come-gt1-clause-answer g c =
     let samples = c.self.inside.out.items in
     let position = c.in-Some.position in
     let sample = c.in-Some.ensures.found.0 in
     let at : slice_get samples position ≡ Some sample = rw (ap (λ (b : LoanBook g.row.A.Denot). b.book.out) c.self.view_is) c.in-Some.ensures.found.1.at in
     let read = read_at samples position sample c.index.result.now at c.index.ensures in
-    let to_come : c.returns_to_come-to_come.result ≡ returns_to_come sample.returns = c.returns_to_come-to_come.ensures.value ∙ ap (λ (s : Sample). returns_to_come s.returns) read in
+    let to_come : c.returns_to_come-to_come.result ≡ returns_to_come sample.returns = c.returns_to_come-to_come.ensures ∙ ap (λ (s : Sample). returns_to_come s.returns) read in
     let left = c.returns_to_come-to_come.result - 1 in
     let changed = waits_for samples position left sample c.index_mut.result.now c.wait_for.new.self at c.index_mut.ensures.value c.wait_for.ensures in
     let more : 1 < returns_to_come sample.returns = omega arith in
@@ -40,14 +41,15 @@ returns-then-to_come-gt1-clause-step g c =
 pub take_out-requires : goal.take_out-requires
 take_out-requires g c = slice_get_within c.args.self.now.book.out c.in-Some.position c.in-Some.ensures.found.0 c.in-Some.ensures.found.1.at
 
-pub returns-clause-step : goal.returns-clause-step
-returns-clause-step g c =
+pub returns-clause-answer : goal.returns-clause-answer
+returns-clause-answer g c =
     let samples = c.self.inside.out.items in
     let position = c.in-Some.position in
     let sample = c.in-Some.ensures.found.0 in
     let at : slice_get samples position ≡ Some sample = rw (ap (λ (b : LoanBook g.row.A.Denot). b.book.out) c.self.view_is) c.in-Some.ensures.found.1.at in
     let read = read_at samples position sample c.index.result.now at c.index.ensures in
-    let to_come : c.returns_to_come-to_come.result ≡ returns_to_come sample.returns = c.returns_to_come-to_come.ensures.value ∙ ap (λ (s : Sample). returns_to_come s.returns) read in
+    let to_come : c.returns_to_come-to_come.result ≡ returns_to_come sample.returns = c.returns_to_come-to_come.ensures ∙ ap (λ (s : Sample). returns_to_come s.returns) read in
+    let some = sample-waits (book_of c.self.inside.next samples) position sample c.self.invariant.book at in
     let last : returns_to_come sample.returns ≡ 1 = omega arith in
     (position, sample, c.in-Some.ensures.found.1, last, c.take_out.ensures.book)
 
