@@ -150,8 +150,9 @@ impl<A: Allocator> LoanBook<A> {
             return Err(LoanError::UnknownSample);
         };
         let to_come = self.out[position].returns_to_come();
-        if to_come > 1 {
-            self.out[position].wait_for(to_come - 1);
+        let left = to_come - 1;
+        if left > 0 {
+            self.out[position].wait_for(left);
             return Ok(false);
         }
         self.take_out(position);
