@@ -27,14 +27,14 @@ impl Model for HeapBlock {
 impl HeapBlock {
     /// How many bytes there are.
     pub fn len(&self) -> usize
-        ensures { result ≡ length self.now }
+        ensures length { result ≡ length self.now }
     {
         self.bytes.len()
     }
 
     /// The bytes.
     pub fn as_slice(&self) -> &[u8]
-        ensures { result.now ≡ self.now }
+        ensures bytes { result.now ≡ self.now }
     {
         self.bytes.as_slice()
     }
@@ -42,7 +42,7 @@ impl HeapBlock {
     /// Lends the bytes: what is written there is what the block then holds.
     pub fn as_mut_slice(&mut self) -> &mut [u8]
         ensures* writes_back { sem 𝓛 (LendsBlock self.entry result) }
-        ensures value { result.now ≡ self.old }
+        ensures bytes { result.now ≡ self.old }
     {
         self.bytes.as_mut_slice()
     }
@@ -72,7 +72,7 @@ impl HeapAllocator {
     /// A block of `layout.size()` zero bytes. It is refused, in this order, with `SizeIsZero` where the size is 0, and with
     /// `OutOfMemory` where memory was refused.
     pub fn allocate(&self, layout: Layout) -> Result<HeapBlock, AllocationError>
-        ensures { MayAllocate layout result }
+        ensures answer { MayAllocate layout result }
     {
         if layout.size() == 0 {
             return Err(AllocationError::SizeIsZero);
@@ -85,7 +85,7 @@ impl HeapAllocator {
 
     /// The same as `allocate`, whose blocks are all zero.
     pub fn allocate_zeroed(&self, layout: Layout) -> Result<HeapBlock, AllocationError>
-        ensures { MayAllocate layout result }
+        ensures answer { MayAllocate layout result }
     {
         self.allocate(layout)
     }
@@ -103,7 +103,7 @@ impl HeapAllocator {
         new: Layout,
     ) -> Result<HeapBlock, (HeapBlock, AllocationGrowError)>
         requires { old.size ≡ length block }
-        ensures { MayGrow block old new result }
+        ensures answer { MayGrow block old new result }
     {
         let mut block = block;
         if old.size() >= new.size() {
@@ -127,7 +127,7 @@ impl HeapAllocator {
         new: Layout,
     ) -> Result<HeapBlock, (HeapBlock, AllocationGrowError)>
         requires { old.size ≡ length block }
-        ensures { MayGrow block old new result }
+        ensures answer { MayGrow block old new result }
     {
         self.grow(block, old, new)
     }
@@ -142,7 +142,7 @@ impl HeapAllocator {
         new: Layout,
     ) -> Result<HeapBlock, (HeapBlock, AllocationShrinkError)>
         requires { old.size ≡ length block }
-        ensures { MayShrink block old new result }
+        ensures answer { MayShrink block old new result }
     {
         let mut block = block;
         if old.size() <= new.size() {
@@ -159,5 +159,6 @@ impl HeapAllocator {
 /// What [`HeapBlock::as_mut_slice`] says of the bytes that it lends, in plain words: once bytes as many as the block's are
 /// written there, they are the block's. It does nothing: its contract is the law.
 pub fn heap_law()
-    ensures { (block bytes : List ℕ) → length bytes ≡ length block → written block bytes ≡ bytes }
+    ensures written { (block bytes : List ℕ) → length bytes ≡ length block
+        → written block bytes ≡ bytes }
 {}

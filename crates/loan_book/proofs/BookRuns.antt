@@ -1,218 +1,221 @@
--- What a run of calls keeps, and what it does to one sample.
-use Rattle.std.proofs.Common.{◌≡◌, ◌≢◌, ℕ, zero, suc, ◌+◌, ◌-◌, ◌<◌, Bool, true, false, List, [], ◌∷◌, refl, ap, sym, ◌∙◌, subst, arith, add-zero, None, Result, Ok, Err}
-use Rattle.std.specs.Prelude.{◌==◌, if◌then◌else◌, ◌↔◌}
+-- What a run of calls does to one sample, and which ids it gives.
+use Rattle.std.proofs.Common.{◌≡◌, ◌≢◌, ℕ, zero, suc, ◌+◌, ◌-◌, ◌<◌, Bool, true, false, cond, List, [], ◌∷◌, refl, ap, sym, ◌∙◌, subst, arith, Option, None, Some, Result, Ok, Err}
+use Rattle.std.specs.Prelude.{◌==◌, ◌↔◌}
 use Rattle.std.proofs.lemmas.Bool.Decides.{nat_tests}
 use Rattle.std.proofs.lemmas.List.Sums.{sum_by-cons}
 use Rattle.bb_memory_base.specs.Chunk.{Chunk}
 use Rattle.bb_memory_base.specs.Run.{IsRun}
 use Rattle.loan_book.specs.declared.error.LoanError.{LoanError}
-use Rattle.loan_book.specs.declared.error.LoanError.TheVariants.{Size, IdsExhausted, Memory, Allocation, UnknownSample, AlreadyPublished, NoReaders}
 use Rattle.loan_book.specs.declared.run.LoanCall.{LoanCall}
 use Rattle.loan_book.specs.declared.run.LoanCall.TheVariants as call
 use Rattle.loan_book.specs.declared.run.LoanReply.{LoanReply}
 use Rattle.loan_book.specs.declared.run.LoanReply.TheVariants as reply
 use Rattle.loan_book.specs.Sample.{Sample, returns_to_come}
-use Rattle.loan_book.specs.Book.{Book, IsBook, IsAt, IsOut, Waits}
+use Rattle.loan_book.specs.Book.{Book, IsBook, IsAt, IsOut, HasReturns, IsUnpublished}
 use Rattle.loan_book.specs.Calls.{Answers, with_sample, with_returns, without, Loans, Publishes, GivesBack}
-use Rattle.loan_book.specs.Runs.{BookStep, returns_of, returns_in, loans_of, loans_in}
-use Rattle.loan_book.proofs.Books.{IsBook-push, IsBook-set, IsBook-remove}
-use Rattle.loan_book.proofs.BookSteps.{WaitsOrIsGone, push-keeps, set-keeps, own-set, own-remove, remove-keeps, own-publish, gone-nowhere}
-use Rattle.std.proofs.lemmas.Option.{slice_get_within}
+use Rattle.loan_book.specs.Runs.{BookStep, is_return_of, returns_in, is_publish_of, publishes_in}
+use Rattle.loan_book.proofs.Books.{sample-waits}
+use Rattle.loan_book.proofs.BookLeads.{loan-leads, publish-leads, give-leads, step-sound}
+use Rattle.loan_book.proofs.BookSteps.{HasOrIsGone, push-keeps, set-keeps, own-set, own-remove, remove-keeps, gone-nowhere, one_returns}
 
--- what holds of a book and of the one that a loan leads to
-loan-leads : (may_allocate : Answers) (P : Book → Type 0) (old new : Book) (size : ℕ) (answer : Result (ℕ × Chunk) LoanError) →
-    P old → ((chunk : Chunk) → P (with_sample old chunk)) → Loans may_allocate old size answer new → P new
-loan-leads may_allocate P old new size (Ok (id, chunk)) here loaned (fits, may, numbered, same) = subst P (sym same) (loaned chunk)
-loan-leads may_allocate P old new size (Err Size) here loaned (large, same) = subst P (sym same) here
-loan-leads may_allocate P old new size (Err IdsExhausted) here loaned (fits, used, same) = subst P (sym same) here
-loan-leads may_allocate P old new size (Err Memory) here loaned (fits, left, same) = subst P (sym same) here
-loan-leads may_allocate P old new size (Err (Allocation error)) here loaned (fits, may, same) = subst P (sym same) here
-loan-leads may_allocate P old new size (Err UnknownSample) here loaned none = absurd none
-loan-leads may_allocate P old new size (Err AlreadyPublished) here loaned none = absurd none
-loan-leads may_allocate P old new size (Err NoReaders) here loaned none = absurd none
+-- how often a call counts
+abbrev once : Bool → ℕ
+once counts = cond counts 1 0
 
--- the same of a publish
-publish-leads : (P : Book → Type 0) (old new : Book) (id readers : ℕ) (answer : Result (Unit {0}) LoanError) →
-    P old → ((position : ℕ) (sample : Sample) → IsAt old id position sample → sample.returns ≡ None → P (with_returns old position sample readers)) →
-    Publishes old id readers answer new → P new
-publish-leads P old new id readers (Ok done) here published (i, sample, at, unpublished, some, same) =
-    subst P (sym same) (published i sample at unpublished)
-publish-leads P old new id readers (Err UnknownSample) here published (unknown, same) = subst P (sym same) here
-publish-leads P old new id readers (Err AlreadyPublished) here published (i, sample, at, some, same) = subst P (sym same) here
-publish-leads P old new id readers (Err NoReaders) here published (i, sample, at, unpublished, none, same) = subst P (sym same) here
-publish-leads P old new id readers (Err Size) here published none = absurd none
-publish-leads P old new id readers (Err IdsExhausted) here published none = absurd none
-publish-leads P old new id readers (Err Memory) here published none = absurd none
-publish-leads P old new id readers (Err (Allocation error)) here published none = absurd none
+-- a published sample that waits for n returns, where it is gone once that is none
+abbrev after : ℕ → Option (Option ℕ)
+after zero = None
+after (suc n) = Some (Some (suc n))
 
--- the same of a return
-give-leads : (P : Book → Type 0) (old new : Book) (id : ℕ) (answer : Result Bool LoanError) →
-    (¬ IsOut old id → P old) →
-    ((position : ℕ) (sample : Sample) → IsAt old id position sample → returns_to_come sample.returns ≡ 1 → P (without old position)) →
-    ((position : ℕ) (sample : Sample) → IsAt old id position sample → 1 < returns_to_come sample.returns →
-    P (with_returns old position sample (returns_to_come sample.returns - 1))) →
-    GivesBack old id answer new → P new
-give-leads P old new id (Ok true) unknown last more (i, sample, at, one, same) = subst P (sym same) (last i sample at one)
-give-leads P old new id (Ok false) unknown last more (i, sample, at, several, same) = subst P (sym same) (more i sample at several)
-give-leads P old new id (Err UnknownSample) unknown last more (none, same) = subst P (sym same) (unknown none)
-give-leads P old new id (Err Size) unknown last more none = absurd none
-give-leads P old new id (Err IdsExhausted) unknown last more none = absurd none
-give-leads P old new id (Err Memory) unknown last more none = absurd none
-give-leads P old new id (Err (Allocation error)) unknown last more none = absurd none
-give-leads P old new id (Err AlreadyPublished) unknown last more none = absurd none
-give-leads P old new id (Err NoReaders) unknown last more none = absurd none
+after-some : (n : ℕ) → 0 < n → Some (Some n) ≡ after n
+after-some zero some = absurd (omega arith)
+after-some (suc n) some = refl
 
--- each change keeps a book a book
-loan-sound : (may_allocate : Answers) (old new : Book) (size : ℕ) (answer : Result (ℕ × Chunk) LoanError) → IsBook old →
-    Loans may_allocate old size answer new → IsBook new
-loan-sound may_allocate old new size answer is = loan-leads may_allocate IsBook old new size answer is (λ chunk. IsBook-push old chunk is)
+after-published : (n : ℕ) → after n ≢ Some None
+after-published zero same = cc
+after-published (suc n) same = cc
 
-publish-sound : (old new : Book) (id readers : ℕ) (answer : Result (Unit {0}) LoanError) → IsBook old →
-    Publishes old id readers answer new → IsBook new
-publish-sound old new id readers answer is =
-    publish-leads IsBook old new id readers answer is (λ i sample at unpublished. IsBook-set old i sample readers at.at is)
+-- what each call does to the sample of an id
 
-give-sound : (old new : Book) (id : ℕ) (answer : Result Bool LoanError) → IsBook old → GivesBack old id answer new → IsBook new
-give-sound old new id answer is =
-    give-leads IsBook old new id answer (λ unknown. is)
-    (λ i sample at last. IsBook-remove old i (slice_get_within old.out i sample at.at) is)
-    (λ i sample at more. IsBook-set old i sample (returns_to_come sample.returns - 1) at.at is)
+loan-keeps : (may_allocate : Answers) (old new : Book) (size id : ℕ) (left : Option (Option ℕ)) (answer : Result (ℕ × Chunk) LoanError) →
+    HasOrIsGone old id left → Loans may_allocate old size answer new → HasOrIsGone new id left
+loan-keeps may_allocate old new size id left answer kept =
+    loan-leads may_allocate (λ book. HasOrIsGone book id left) old new size answer kept (λ chunk. push-keeps old chunk id left kept)
 
-pub step-sound : (may_allocate : Answers) (old new : Book) (call : LoanCall) (reply : LoanReply) → IsBook old →
-    BookStep may_allocate old call reply new → IsBook new
-step-sound may_allocate old new (call.Loan size) (reply.Loaned id chunk) is step = loan-sound may_allocate old new size (Ok (id, chunk)) is step
-step-sound may_allocate old new (call.Loan size) (reply.Refused error) is step = loan-sound may_allocate old new size (Err error) is step
-step-sound may_allocate old new (call.Publish id readers) reply.Published is step = publish-sound old new id readers (Ok tt) is step
-step-sound may_allocate old new (call.Publish id readers) (reply.Refused error) is step = publish-sound old new id readers (Err error) is step
-step-sound may_allocate old new (call.GiveBack id) reply.Returned is step = give-sound old new id (Ok true) is step
-step-sound may_allocate old new (call.GiveBack id) reply.Kept is step = give-sound old new id (Ok false) is step
-step-sound may_allocate old new (call.GiveBack id) (reply.Refused error) is step = give-sound old new id (Err error) is step
-step-sound may_allocate old new (call.IsOut id) (reply.Out answer) is step = subst IsBook (sym step.1) is
-step-sound may_allocate old new call reply is none = absurd none
+-- an unpublished sample is published by no publish but its own
+not-its-own : (old : Book) (id other position : ℕ) (sample : Sample) (left : Option (Option ℕ)) → IsBook old → HasOrIsGone old id left →
+    (other ≡ id → left ≢ Some None) → IsAt old other position sample → sample.returns ≡ None → other ≢ id
+not-its-own old id other position sample None is kept elsewhere here unpublished same =
+    gone-nowhere old id position sample kept (record { at = here.at; has_id = here.has_id ∙ same })
+not-its-own old id other position sample (Some returns) is kept elsewhere here unpublished same =
+    let there : HasReturns old id None = (position, sample, record { at = here.at; has_id = here.has_id ∙ same }, unpublished) in
+    elsewhere same (ap Some (one_returns old id returns None is kept there))
 
--- what each step of a book does to the sample that waits for n returns
-
-loan-waits : (may_allocate : Answers) (old new : Book) (size id n : ℕ) (answer : Result (ℕ × Chunk) LoanError) → WaitsOrIsGone old id n →
-    Loans may_allocate old size answer new → WaitsOrIsGone new id n
-loan-waits may_allocate old new size id n answer kept =
-    loan-leads may_allocate (λ book. WaitsOrIsGone book id n) old new size answer kept (λ chunk. push-keeps old chunk id n kept)
-
-publish-waits : (old new : Book) (other readers id n : ℕ) (answer : Result (Unit {0}) LoanError) → IsBook old → WaitsOrIsGone old id n →
-    Publishes old other readers answer new → WaitsOrIsGone new id n
-publish-waits old new other readers id n answer is kept =
-    publish-leads (λ book. WaitsOrIsGone book id n) old new other readers answer kept (λ i sample at unpublished.
-    set-keeps old id other i sample readers n at
-    (λ same. own-publish old id i sample n is (record { at = at.at; has_id = at.has_id ∙ same }) unpublished kept) kept)
+publish-keeps : (old new : Book) (other readers id : ℕ) (left : Option (Option ℕ)) (answer : Result (Unit {0}) LoanError) → IsBook old →
+    HasOrIsGone old id left → (other ≡ id → left ≢ Some None) → Publishes old other readers answer new → HasOrIsGone new id left
+publish-keeps old new other readers id left answer is kept elsewhere =
+    publish-leads (λ book. HasOrIsGone book id left) old new other readers answer kept (λ i sample at unpublished some.
+    set-keeps old id other i sample readers left at (not-its-own old id other i sample left is kept elsewhere at unpublished) kept)
 
 -- a return of another sample
-give-other : (old new : Book) (other id n : ℕ) (answer : Result Bool LoanError) → other ≢ id → WaitsOrIsGone old id n →
-    GivesBack old other answer new → WaitsOrIsGone new id n
-give-other old new other id n answer apart kept =
-    give-leads (λ book. WaitsOrIsGone book id n) old new other answer (λ unknown. kept)
-    (λ i sample at last. remove-keeps old id other i sample n at apart kept)
-    (λ i sample at more. set-keeps old id other i sample (returns_to_come sample.returns - 1) n at apart kept)
+give-other : (old new : Book) (other id : ℕ) (left : Option (Option ℕ)) (answer : Result Bool LoanError) → other ≢ id →
+    HasOrIsGone old id left → GivesBack old other answer new → HasOrIsGone new id left
+give-other old new other id left answer apart kept =
+    give-leads (λ book. HasOrIsGone book id left) old new other answer (λ unknown. kept)
+    (λ i sample at last. remove-keeps old id other i sample left at apart kept)
+    (λ i sample at more. set-keeps old id other i sample (returns_to_come sample.returns - 1) left at apart kept)
 
--- a return of the sample itself
-give-own : (old new : Book) (id n : ℕ) (answer : Result Bool LoanError) → IsBook old → WaitsOrIsGone old id n →
-    GivesBack old id answer new → WaitsOrIsGone new id (n - 1)
-give-own old new id zero answer is kept step =
-    give-leads (λ book. WaitsOrIsGone book id zero) old new id answer (λ unknown. kept)
-    (λ i sample at last. absurd (gone-nowhere old id i sample kept at))
-    (λ i sample at more. absurd (gone-nowhere old id i sample kept at))
-    step
-give-own old new id (suc n) answer is kept step =
-    let one_less : n ≡ suc n - 1 = omega arith in
-    subst (λ k. WaitsOrIsGone new id k) one_less
-    (give-leads (λ book. WaitsOrIsGone book id n) old new id answer (λ unknown. absurd (unknown (kept.0, kept.1, kept.2)))
-    (λ i sample at last. own-remove old id i sample n is at last kept)
-    (λ i sample at more. own-set old id i sample n is at more kept)
-    step)
+-- a return of the sample itself, which is out
+give-own : (old new : Book) (id : ℕ) (returns : Option ℕ) (answer : Result Bool LoanError) → IsBook old → HasReturns old id returns →
+    GivesBack old id answer new → HasOrIsGone new id (after (returns_to_come returns - 1))
+give-own old new id returns answer is has =
+    let own = λ (i : ℕ) (sample : Sample) (at : IsAt old id i sample). ap returns_to_come (one_returns old id sample.returns returns is (i, sample, at, refl) has) in
+    give-leads (λ book. HasOrIsGone book id (after (returns_to_come returns - 1))) old new id answer
+    (λ unknown. absurd (unknown (has.0, has.1, has.2)))
+    (λ i sample at one. subst (λ n. HasOrIsGone (without old i) id (after (n - 1))) (sym one ∙ own i sample at) (own-remove old id i sample is at))
+    (λ i sample at more. let left = returns_to_come sample.returns - 1 in
+    subst (λ n. HasOrIsGone (with_returns old i sample left) id (after (n - 1))) (own i sample at)
+    (subst (λ k. HasOrIsGone (with_returns old i sample left) id k) (after-some left (omega (arith, more))) (own-set old id i sample left at)))
 
--- a return, of whichever sample
-give-waits : (old new : Book) (other id n : ℕ) (answer : Result Bool LoanError) → IsBook old → WaitsOrIsGone old id n →
-    GivesBack old other answer new → (same : Bool) → (other == id) ≡ same → WaitsOrIsGone new id (n - (if same then 1 else 0))
+-- a return of a sample that is gone
+give-gone : (old new : Book) (id : ℕ) (answer : Result Bool LoanError) → HasOrIsGone old id None → GivesBack old id answer new →
+    HasOrIsGone new id None
+give-gone old new id answer gone =
+    give-leads (λ book. HasOrIsGone book id None) old new id answer (λ unknown. gone)
+    (λ i sample at last. absurd (gone-nowhere old id i sample gone at))
+    (λ i sample at more. absurd (gone-nowhere old id i sample gone at))
+
+-- a published sample waits for one return less after each return of it
+
+give-published : (old new : Book) (id n : ℕ) (answer : Result Bool LoanError) → IsBook old → HasOrIsGone old id (after n) →
+    GivesBack old id answer new → HasOrIsGone new id (after (n - 1))
+give-published old new id zero answer is kept step = give-gone old new id answer kept step
+give-published old new id (suc n) answer is kept step = give-own old new id (Some (suc n)) answer is kept step
+
+nothing-waits : (book : Book) (id n : ℕ) → HasOrIsGone book id (after n) → HasOrIsGone book id (after (n - 0))
+nothing-waits book id n kept = let none : n ≡ n - 0 = omega arith in subst (λ k. HasOrIsGone book id (after k)) none kept
+
+give-waits : (old new : Book) (other id n : ℕ) (answer : Result Bool LoanError) → IsBook old → HasOrIsGone old id (after n) →
+    GivesBack old other answer new → (same : Bool) → (other == id) ≡ same → HasOrIsGone new id (after (n - once same))
 give-waits old new other id n answer is kept step true same =
     let own : other ≡ id = grind (arith, nat_tests) in
-    give-own old new id n answer is kept (subst (λ k. GivesBack old k answer new) own step)
+    give-published old new id n answer is kept (subst (λ k. GivesBack old k answer new) own step)
 give-waits old new other id n answer is kept step false apart =
-    let none : n ≡ n - 0 = omega arith in
-    subst (λ k. WaitsOrIsGone new id k) none (give-other old new other id n answer (grind (arith, nat_tests)) kept step)
+    nothing-waits new id n (give-other old new other id (after n) answer (grind (arith, nat_tests)) kept step)
 
-nothing-waits : (book : Book) (id n : ℕ) → WaitsOrIsGone book id n → WaitsOrIsGone book id (n - 0)
-nothing-waits book id n kept = let none : n ≡ n - 0 = omega arith in subst (λ k. WaitsOrIsGone book id k) none kept
-
-step-waits : (may_allocate : Answers) (old new : Book) (call : LoanCall) (reply : LoanReply) (id n : ℕ) → IsBook old → WaitsOrIsGone old id n →
-    BookStep may_allocate old call reply new → WaitsOrIsGone new id (n - returns_of id call)
-step-waits may_allocate old new (call.Loan size) (reply.Loaned given chunk) id n is kept step = nothing-waits new id n (loan-waits may_allocate old new size id n (Ok (given, chunk)) kept step)
-step-waits may_allocate old new (call.Loan size) (reply.Refused error) id n is kept step = nothing-waits new id n (loan-waits may_allocate old new size id n (Err error) kept step)
-step-waits may_allocate old new (call.Publish other readers) reply.Published id n is kept step = nothing-waits new id n (publish-waits old new other readers id n (Ok tt) is kept step)
-step-waits may_allocate old new (call.Publish other readers) (reply.Refused error) id n is kept step = nothing-waits new id n (publish-waits old new other readers id n (Err error) is kept step)
+step-waits : (may_allocate : Answers) (old new : Book) (call : LoanCall) (reply : LoanReply) (id n : ℕ) → IsBook old →
+    HasOrIsGone old id (after n) → BookStep may_allocate old call reply new → HasOrIsGone new id (after (n - once (is_return_of id call)))
+step-waits may_allocate old new (call.Loan size) (reply.Loaned given chunk) id n is kept step =
+    nothing-waits new id n (loan-keeps may_allocate old new size id (after n) (Ok (given, chunk)) kept step)
+step-waits may_allocate old new (call.Loan size) (reply.Refused error) id n is kept step =
+    nothing-waits new id n (loan-keeps may_allocate old new size id (after n) (Err error) kept step)
+step-waits may_allocate old new (call.Publish other readers) reply.Published id n is kept step =
+    nothing-waits new id n (publish-keeps old new other readers id (after n) (Ok tt) is kept (λ same. after-published n) step)
+step-waits may_allocate old new (call.Publish other readers) (reply.Refused error) id n is kept step =
+    nothing-waits new id n (publish-keeps old new other readers id (after n) (Err error) is kept (λ same. after-published n) step)
 step-waits may_allocate old new (call.GiveBack other) reply.Returned id n is kept step = give-waits old new other id n (Ok true) is kept step (other == id) refl
 step-waits may_allocate old new (call.GiveBack other) reply.Kept id n is kept step = give-waits old new other id n (Ok false) is kept step (other == id) refl
 step-waits may_allocate old new (call.GiveBack other) (reply.Refused error) id n is kept step = give-waits old new other id n (Err error) is kept step (other == id) refl
-step-waits may_allocate old new (call.IsOut other) (reply.Out answer) id n is kept step = nothing-waits new id n (subst (λ book. WaitsOrIsGone book id n) (sym step.1) kept)
+step-waits may_allocate old new (call.IsOut other) (reply.Out answer) id n is kept step =
+    nothing-waits new id n (subst (λ book. HasOrIsGone book id (after n)) (sym step.1) kept)
 step-waits may_allocate old new call reply id n is kept none = absurd none
 
 run-waits : (may_allocate : Answers) (old new : Book) (calls : List LoanCall) (replies : List LoanReply) (id n : ℕ) → IsBook old →
-    WaitsOrIsGone old id n → IsRun (BookStep may_allocate) old calls replies new → WaitsOrIsGone new id (n - returns_in id calls)
-run-waits may_allocate old new [] [] id n is kept same = nothing-waits new id n (subst (λ book. WaitsOrIsGone book id n) (sym same) kept)
+    HasOrIsGone old id (after n) → IsRun (BookStep may_allocate) old calls replies new → HasOrIsGone new id (after (n - returns_in id calls))
+run-waits may_allocate old new [] [] id n is kept same = nothing-waits new id n (subst (λ book. HasOrIsGone book id (after n)) (sym same) kept)
 run-waits may_allocate old new (call ∷ calls) (reply ∷ replies) id n is kept (mid, step, rest) =
+    let one = once (is_return_of id call) in
     let first = step-waits may_allocate old mid call reply id n is kept step in
-    let both : (n - returns_of id call) - returns_in id calls ≡ n - returns_in id (call ∷ calls) = omega (arith, sum_by-cons (returns_of id) call calls) in
-    subst (λ k. WaitsOrIsGone new id k) both
-    (run-waits may_allocate mid new calls replies id (n - returns_of id call) (step-sound may_allocate old mid call reply is step) first rest)
+    let both : (n - one) - returns_in id calls ≡ n - returns_in id (call ∷ calls) = omega (arith, sum_by-cons (λ x. once (is_return_of id x)) call calls) in
+    subst (λ k. HasOrIsGone new id (after k)) both
+    (run-waits may_allocate mid new calls replies id (n - one) (step-sound may_allocate old mid call reply is step) first rest)
 run-waits may_allocate old new [] (reply ∷ replies) id n is kept none = absurd none
 run-waits may_allocate old new (call ∷ calls) [] id n is kept none = absurd none
 
-out-waits : (book : Book) (id n : ℕ) → WaitsOrIsGone book id n → IsOut book id ↔ (0 < n)
+out-waits : (book : Book) (id n : ℕ) → HasOrIsGone book id (after n) → IsOut book id ↔ (0 < n)
 out-waits book id zero (gone, used) = (λ out. absurd (gone out), λ some. absurd (omega arith))
 out-waits book id (suc n) (i, sample, at, waits) = (λ out. omega arith, λ some. (i, sample, at))
 
+-- no sample waits for 0 returns
+none-waits : (book : Book) (id : ℕ) → IsBook book → ¬ HasReturns book id (Some 0)
+none-waits book id is (i, sample, at, waits) =
+    let some = sample-waits book i sample is at.at in
+    let none = ap returns_to_come waits in
+    omega arith
+
 -- a sample that waits for so many returns is out after a run exactly where fewer of its calls return it
 pub run-returns : (may_allocate : Answers) (old new : Book) (calls : List LoanCall) (replies : List LoanReply) (id returns : ℕ) → IsBook old →
-    0 < returns → Waits old id returns → IsRun (BookStep may_allocate) old calls replies new → IsOut new id ↔ (returns_in id calls < returns)
-run-returns may_allocate old new calls replies id zero is some waits run = absurd (omega arith)
-run-returns may_allocate old new calls replies id (suc n) is some waits run =
+    HasReturns old id (Some returns) → IsRun (BookStep may_allocate) old calls replies new →
+    IsOut new id ↔ (returns_in id calls < returns)
+run-returns may_allocate old new calls replies id zero is waits run = absurd (none-waits old id is waits)
+run-returns may_allocate old new calls replies id (suc n) is waits run =
     let out = out-waits new id (suc n - returns_in id calls) (run-waits may_allocate old new calls replies id (suc n) is waits run) in
     (λ there. let left = out.0 there in omega arith, λ fewer. out.1 (omega arith))
 
--- how many samples were loaned
+-- an unpublished sample is gone after its first return
 
-loan-refused : (may_allocate : Answers) (old new : Book) (size : ℕ) (error : LoanError) → Loans may_allocate old size (Err error) new →
-    new.loaned ≡ old.loaned + 0
-loan-refused may_allocate old new size Size (large, same) = ap (λ (book : Book). book.loaned) same ∙ sym (add-zero old.loaned)
-loan-refused may_allocate old new size IdsExhausted (fits, used, same) = ap (λ (book : Book). book.loaned) same ∙ sym (add-zero old.loaned)
-loan-refused may_allocate old new size Memory (fits, left, same) = ap (λ (book : Book). book.loaned) same ∙ sym (add-zero old.loaned)
-loan-refused may_allocate old new size (Allocation error) (fits, may, same) = ap (λ (book : Book). book.loaned) same ∙ sym (add-zero old.loaned)
-loan-refused may_allocate old new size UnknownSample none = absurd none
-loan-refused may_allocate old new size AlreadyPublished none = absurd none
-loan-refused may_allocate old new size NoReaders none = absurd none
+give-first : (old new : Book) (other id : ℕ) (answer : Result Bool LoanError) → IsBook old → IsUnpublished old id →
+    (other == id) ≡ true → GivesBack old other answer new → HasOrIsGone new id None
+give-first old new other id answer is unpublished same step =
+    let own : other ≡ id = grind (arith, nat_tests) in
+    give-own old new id None answer is unpublished (subst (λ k. GivesBack old k answer new) own step)
 
-give-loans : (old new : Book) (id : ℕ) (answer : Result Bool LoanError) → GivesBack old id answer new → new.loaned ≡ old.loaned + 0
-give-loans old new id answer =
-    give-leads (λ book. book.loaned ≡ old.loaned + 0) old new id answer (λ unknown. sym (add-zero old.loaned))
-    (λ i sample at last. sym (add-zero old.loaned)) (λ i sample at more. sym (add-zero old.loaned))
+step-first : (may_allocate : Answers) (old new : Book) (call : LoanCall) (reply : LoanReply) (id : ℕ) → IsBook old →
+    IsUnpublished old id → is_return_of id call ≡ true → BookStep may_allocate old call reply new → HasOrIsGone new id None
+step-first may_allocate old new (call.GiveBack other) reply.Returned id is unpublished same step = give-first old new other id (Ok true) is unpublished same step
+step-first may_allocate old new (call.GiveBack other) reply.Kept id is unpublished same step = give-first old new other id (Ok false) is unpublished same step
+step-first may_allocate old new (call.GiveBack other) (reply.Refused error) id is unpublished same step = give-first old new other id (Err error) is unpublished same step
+step-first may_allocate old new (call.GiveBack other) reply id is unpublished same none = absurd none
+step-first may_allocate old new call reply id is unpublished other step = cc
 
-step-loans : (may_allocate : Answers) (old new : Book) (call : LoanCall) (reply : LoanReply) → BookStep may_allocate old call reply new →
-    new.loaned ≡ old.loaned + loans_of reply
-step-loans may_allocate old new (call.Loan size) (reply.Loaned id chunk) (fits, may, numbered, same) = ap (λ (book : Book). book.loaned) same
-step-loans may_allocate old new (call.Loan size) (reply.Refused error) step =
-    loan-refused may_allocate old new size error step
-step-loans may_allocate old new (call.Publish id readers) reply.Published step =
-    publish-leads (λ book. book.loaned ≡ old.loaned + 0) old new id readers (Ok tt) (sym (add-zero old.loaned)) (λ i sample at unpublished. sym (add-zero old.loaned)) step
-step-loans may_allocate old new (call.Publish id readers) (reply.Refused error) step =
-    publish-leads (λ book. book.loaned ≡ old.loaned + 0) old new id readers (Err error) (sym (add-zero old.loaned)) (λ i sample at unpublished. sym (add-zero old.loaned)) step
-step-loans may_allocate old new (call.GiveBack id) reply.Returned step = give-loans old new id (Ok true) step
-step-loans may_allocate old new (call.GiveBack id) reply.Kept step = give-loans old new id (Ok false) step
-step-loans may_allocate old new (call.GiveBack id) (reply.Refused error) step = give-loans old new id (Err error) step
-step-loans may_allocate old new (call.IsOut id) (reply.Out answer) (tells, same) = ap (λ (book : Book). book.loaned) same ∙ sym (add-zero old.loaned)
-step-loans may_allocate old new call reply none = absurd none
+-- any other call but a publish of it leaves it unpublished
+step-unpublished : (may_allocate : Answers) (old new : Book) (call : LoanCall) (reply : LoanReply) (id : ℕ) → IsBook old →
+    IsUnpublished old id → is_return_of id call ≡ false → is_publish_of id call ≡ false → BookStep may_allocate old call reply new → IsUnpublished new id
+step-unpublished may_allocate old new (call.Loan size) (reply.Loaned given chunk) id is kept apart other step =
+    loan-keeps may_allocate old new size id (Some None) (Ok (given, chunk)) kept step
+step-unpublished may_allocate old new (call.Loan size) (reply.Refused error) id is kept apart other step =
+    loan-keeps may_allocate old new size id (Some None) (Err error) kept step
+step-unpublished may_allocate old new (call.Publish that readers) reply.Published id is kept apart other step =
+    publish-keeps old new that readers id (Some None) (Ok tt) is kept (λ same. absurd (grind (arith, nat_tests))) step
+step-unpublished may_allocate old new (call.Publish that readers) (reply.Refused error) id is kept apart other step =
+    publish-keeps old new that readers id (Some None) (Err error) is kept (λ same. absurd (grind (arith, nat_tests))) step
+step-unpublished may_allocate old new (call.GiveBack that) reply.Returned id is kept apart other step = give-other old new that id (Some None) (Ok true) (grind (arith, nat_tests)) kept step
+step-unpublished may_allocate old new (call.GiveBack that) reply.Kept id is kept apart other step = give-other old new that id (Some None) (Ok false) (grind (arith, nat_tests)) kept step
+step-unpublished may_allocate old new (call.GiveBack that) (reply.Refused error) id is kept apart other step = give-other old new that id (Some None) (Err error) (grind (arith, nat_tests)) kept step
+step-unpublished may_allocate old new (call.IsOut that) (reply.Out answer) id is kept apart other step = subst (λ book. IsUnpublished book id) (sym step.1) kept
+step-unpublished may_allocate old new call reply id is kept apart other none = absurd none
 
--- each reply that loans a sample counts
-pub run-loans : (may_allocate : Answers) (old new : Book) (calls : List LoanCall) (replies : List LoanReply) →
-    IsRun (BookStep may_allocate) old calls replies new → new.loaned ≡ old.loaned + loans_in replies
-run-loans may_allocate old new [] [] same = ap (λ (book : Book). book.loaned) same ∙ sym (add-zero old.loaned)
-run-loans may_allocate old new (call ∷ calls) (reply ∷ replies) (mid, step, rest) =
-    omega (arith, sum_by-cons loans_of reply replies, step-loans may_allocate old mid call reply step, run-loans may_allocate mid new calls replies rest)
-run-loans may_allocate old new [] (reply ∷ replies) none = absurd none
-run-loans may_allocate old new (call ∷ calls) [] none = absurd none
+run-first : (may_allocate : Answers) (old mid new : Book) (call : LoanCall) (calls : List LoanCall) (reply : LoanReply) (replies : List LoanReply) (id : ℕ) →
+    IsBook old → IsUnpublished old id → BookStep may_allocate old call reply mid → IsRun (BookStep may_allocate) mid calls replies new →
+    publishes_in id (call ∷ calls) ≡ 0 → (publishes_in id calls ≡ 0 → IsUnpublished mid id → IsOut new id ↔ (returns_in id calls ≡ 0)) →
+    (returned published : Bool) → is_return_of id call ≡ returned → is_publish_of id call ≡ published →
+    IsOut new id ↔ (returns_in id (call ∷ calls) ≡ 0)
+run-first may_allocate old mid new call calls reply replies id is unpublished step rest none further true published own whether =
+    let gone = step-first may_allocate old mid call reply id is unpublished own step in
+    let still = out-waits new id (0 - returns_in id calls) (run-waits may_allocate mid new calls replies id 0 (step-sound may_allocate old mid call reply is step) gone rest) in
+    let counted = sum_by-cons (λ x. once (is_return_of id x)) call calls in
+    let one : once (is_return_of id call) ≡ 1 = ap once own in
+    (λ out. let some = still.0 out in absurd (omega arith), λ nothing. absurd (omega arith))
+run-first may_allocate old mid new call calls reply replies id is unpublished step rest none further false true other own =
+    let counted = sum_by-cons (λ x. once (is_publish_of id x)) call calls in
+    let one : once (is_publish_of id call) ≡ 1 = ap once own in
+    absurd (omega arith)
+run-first may_allocate old mid new call calls reply replies id is unpublished step rest none further false false other another =
+    let publishes = sum_by-cons (λ x. once (is_publish_of id x)) call calls in
+    let returns = sum_by-cons (λ x. once (is_return_of id x)) call calls in
+    let no_return : once (is_return_of id call) ≡ 0 = ap once other in
+    let out = further (omega arith) (step-unpublished may_allocate old mid call reply id is unpublished other another step) in
+    (λ there. let left = out.0 there in omega arith, λ nothing. out.1 (omega arith))
+
+-- a sample that was never published is out after a run that doesn't publish it exactly where none of its calls returns it
+pub run-unpublished : (may_allocate : Answers) (old new : Book) (calls : List LoanCall) (replies : List LoanReply) (id : ℕ) → IsBook old →
+    IsUnpublished old id → publishes_in id calls ≡ 0 → IsRun (BookStep may_allocate) old calls replies new →
+    IsOut new id ↔ (returns_in id calls ≡ 0)
+run-unpublished may_allocate old new [] [] id is unpublished none same =
+    (λ out. refl, λ nothing. subst (λ book. IsOut book id) (sym same) (unpublished.0, unpublished.1, unpublished.2))
+run-unpublished may_allocate old new (call ∷ calls) (reply ∷ replies) id is unpublished none (mid, step, rest) =
+    run-first may_allocate old mid new call calls reply replies id is unpublished step rest none
+    (λ none_left unpublished_there. run-unpublished may_allocate mid new calls replies id (step-sound may_allocate old mid call reply is step) unpublished_there none_left rest)
+    (is_return_of id call) (is_publish_of id call) refl refl
+run-unpublished may_allocate old new [] (reply ∷ replies) id is unpublished none other = absurd other
+run-unpublished may_allocate old new (call ∷ calls) [] id is unpublished none other = absurd other

@@ -1,12 +1,12 @@
 -- What a step of a book keeps, and what it does to one sample.
-use Rattle.std.proofs.Common.{◌≡◌, ◌≢◌, ℕ, zero, suc, ◌-◌, ◌<◌, ap, sym, ◌∙◌, subst, arith, Some, None, Option, IsSome, inl, inr}
+use Rattle.std.proofs.Common.{◌≡◌, ◌≢◌, ℕ, ◌<◌, refl, ap, sym, ◌∙◌, subst, arith, Some, None, Option, inl, inr}
 use Rattle.std.specs.Prelude.{slice_get}
 use Rattle.std.proofs.lemmas.Bool.{cases_lt}
 use Rattle.std.proofs.lemmas.Option.{slice_get_within, get_or_from_slice_get}
 use Rattle.bb_memory_base.specs.Chunk.{Chunk}
 use Rattle.bb_memory_base.proofs.SliceGets.{slice_get-set, slice_get-set_other, slice_get-set_same}
-use Rattle.loan_book.specs.Sample.{Sample, returns_to_come}
-use Rattle.loan_book.specs.Book.{Book, IsBook, IsAt, IsOut, IsPublished, Waits}
+use Rattle.loan_book.specs.Sample.{Sample}
+use Rattle.loan_book.specs.Book.{Book, IsBook, IsAt, IsOut, HasReturns, IsPublished, IsUnpublished}
 use Rattle.loan_book.specs.Calls.{with_sample, with_returns, without}
 use Rattle.loan_book.proofs.Positions.{slice_get-push, slice_get-pushed, slice_get-remove, slice_get-removed}
 
@@ -32,14 +32,15 @@ one_sample book id i j one other is here there =
     let at = subst (λ k. slice_get book.out k ≡ Some one) same here.at in
     cc
 
--- a sample that is out unpublished is published nowhere
-pub unpublished-nowhere : (book : Book) (id position : ℕ) (sample : Sample) → IsBook book → IsAt book id position sample →
-    sample.returns ≡ None → ¬ IsPublished book id
-unpublished-nowhere book id position sample is here unpublished (i, found, there, published) =
-    let same = one_sample book id position i sample found is here there in
-    let none = sym (ap (λ (s : Sample). s.returns) same) ∙ unpublished in
-    let no : IsSome {T = ℕ} None = subst (λ (r : Option ℕ). IsSome r) none published in
-    cc
+-- a sample that is out has its own returns to come alone
+pub one_returns : (book : Book) (id : ℕ) (one other : Option ℕ) → IsBook book → HasReturns book id one → HasReturns book id other → one ≡ other
+one_returns book id one other is (i, sample, here, is_one) (j, found, there, is_other) =
+    sym is_one ∙ ap (λ (s : Sample). s.returns) (one_sample book id i j sample found is here there) ∙ is_other
+
+-- an unpublished sample isn't published
+pub unpublished-nowhere : (book : Book) (id : ℕ) → IsBook book → IsUnpublished book id → ¬ IsPublished book id
+unpublished-nowhere book id is unpublished (returns, published) =
+    let same = one_returns book id None (Some returns) is unpublished published in cc
 
 -- a sample that is out was loaned
 pub loaned_before_now : (book : Book) (id position : ℕ) (sample : Sample) → IsBook book → IsAt book id position sample → id < book.loaned
@@ -49,14 +50,14 @@ loaned_before_now book id position sample is here =
     let given : sample.id < book.loaned = rw read at below in
     omega (arith, here.has_id)
 
--- the sample of this id waits for so many returns; where that is none, it is gone, and its id was used up
-abbrev pub WaitsOrIsGone : Book → ℕ → ℕ → Type 0
-WaitsOrIsGone book id zero = (¬ IsOut book id) × (id < book.loaned)
-WaitsOrIsGone book id (suc n) = Waits book id (suc n)
+-- the sample of this id is out with such returns to come; where there are none such, it is gone, and its id was used up
+abbrev pub HasOrIsGone : Book → ℕ → Option (Option ℕ) → Type 0
+HasOrIsGone book id None = (¬ IsOut book id) × (id < book.loaned)
+HasOrIsGone book id (Some returns) = HasReturns book id returns
 
 -- one more sample
-pub push-keeps : (book : Book) (chunk : Chunk) (id n : ℕ) → WaitsOrIsGone book id n → WaitsOrIsGone (with_sample book chunk) id n
-push-keeps book chunk id zero (gone, used) = (
+pub push-keeps : (book : Book) (chunk : Chunk) (id : ℕ) (left : Option (Option ℕ)) → HasOrIsGone book id left → HasOrIsGone (with_sample book chunk) id left
+push-keeps book chunk id None (gone, used) = (
   λ (i, sample, there). let fresh : Sample = record { id = book.loaned; chunk = chunk; returns = None } in
       elim (slice_get-pushed book.out i sample fresh there.at) [
         | inl old ↦ gone (i, sample, record { at = old; has_id = there.has_id })
@@ -64,7 +65,7 @@ push-keeps book chunk id zero (gone, used) = (
       ],
   omega arith,
 )
-push-keeps book chunk id (suc n) (i, sample, here, waits) =
+push-keeps book chunk id (Some left) (i, sample, here, waits) =
     let fresh : Sample = record { id = book.loaned; chunk = chunk; returns = None } in
     (i, sample, record { at = slice_get-push book.out i sample fresh here.at; has_id = here.has_id }, waits)
 
@@ -79,11 +80,11 @@ was_out_before_set book id other position sample returns here (i, found, there) 
     ]
 
 -- another sample is set
-pub set-keeps : (book : Book) (id other position : ℕ) (sample : Sample) (returns n : ℕ) → IsAt book other position sample → other ≢ id →
-    WaitsOrIsGone book id n → WaitsOrIsGone (with_returns book position sample returns) id n
-set-keeps book id other position sample returns zero here apart (gone, used) =
+pub set-keeps : (book : Book) (id other position : ℕ) (sample : Sample) (returns : ℕ) (left : Option (Option ℕ)) → IsAt book other position sample → other ≢ id →
+    HasOrIsGone book id left → HasOrIsGone (with_returns book position sample returns) id left
+set-keeps book id other position sample returns None here apart (gone, used) =
     (λ out. gone (was_out_before_set book id other position sample returns here out), used)
-set-keeps book id other position sample returns (suc n) here apart (i, found, there, waits) =
+set-keeps book id other position sample returns (Some left) here apart (i, found, there, waits) =
     let waiting : Sample = record sample { returns = Some returns } in
     let elsewhere : i ≢ position = λ same.
     let at = subst (λ k. slice_get book.out k ≡ Some found) same there.at in
@@ -92,23 +93,15 @@ set-keeps book id other position sample returns (suc n) here apart (i, found, th
     (i, found, record { at = slice_get-set_other book.out position i waiting elsewhere ∙ there.at; has_id = there.has_id }, waits)
 
 -- a sample that is gone stands nowhere
-pub gone-nowhere : (book : Book) (id position : ℕ) (sample : Sample) → WaitsOrIsGone book id zero → ¬ IsAt book id position sample
+pub gone-nowhere : (book : Book) (id position : ℕ) (sample : Sample) → HasOrIsGone book id None → ¬ IsAt book id position sample
 gone-nowhere book id position sample (gone, used) here = gone (position, sample, here)
 
--- the sample itself is returned once, and more returns are to come
-pub own-set : (book : Book) (id position : ℕ) (sample : Sample) (n : ℕ) → IsBook book → IsAt book id position sample →
-    1 < returns_to_come sample.returns → WaitsOrIsGone book id (suc n) →
-    WaitsOrIsGone (with_returns book position sample (returns_to_come sample.returns - 1)) id n
-own-set book id position sample zero is here more (i, found, there, waits) =
-    let same = one_sample book id position i sample found is here there in
-    let one : returns_to_come sample.returns ≡ 1 = ap (λ (s : Sample). returns_to_come s.returns) same ∙ ap returns_to_come waits in
-    absurd (omega arith)
-own-set book id position sample (suc n) is here more (i, found, there, waits) =
-    let same = one_sample book id position i sample found is here there in
-    let come : returns_to_come sample.returns ≡ suc (suc n) = ap (λ (s : Sample). returns_to_come s.returns) same ∙ ap returns_to_come waits in
-    let left : returns_to_come sample.returns - 1 ≡ suc n = omega arith in
-    let waiting : Sample = record sample { returns = Some (returns_to_come sample.returns - 1) } in
-    (position, waiting, record { at = slice_get-set_same book.out position waiting sample here.at; has_id = here.has_id }, ap (λ (k : ℕ). Some k) left)
+-- the sample itself waits for so many returns
+pub own-set : (book : Book) (id position : ℕ) (sample : Sample) (returns : ℕ) → IsAt book id position sample →
+    HasReturns (with_returns book position sample returns) id (Some returns)
+own-set book id position sample returns here =
+    let waiting : Sample = record sample { returns = Some returns } in
+    (position, waiting, record { at = slice_get-set_same book.out position waiting sample here.at; has_id = here.has_id }, refl)
 
 -- a sample that was taken out is out no more
 pub removed-is-gone : (book : Book) (id position : ℕ) (sample : Sample) → IsBook book → IsAt book id position sample →
@@ -117,38 +110,25 @@ removed-is-gone book id position sample is here (k, found, there) =
     let before = slice_get-removed book.out position k found there.at in
     before.2 (one_position book id before.0 position found sample is (record { at = before.1; has_id = there.has_id }) here)
 
--- the sample itself is returned the last time
-pub own-remove : (book : Book) (id position : ℕ) (sample : Sample) (n : ℕ) → IsBook book → IsAt book id position sample →
-    returns_to_come sample.returns ≡ 1 → WaitsOrIsGone book id (suc n) → WaitsOrIsGone (without book position) id n
-own-remove book id position sample zero is here last kept =
+-- so it is gone
+pub own-remove : (book : Book) (id position : ℕ) (sample : Sample) → IsBook book → IsAt book id position sample →
+    HasOrIsGone (without book position) id None
+own-remove book id position sample is here =
     (removed-is-gone book id position sample is here, loaned_before_now book id position sample is here)
-own-remove book id position sample (suc n) is here last (i, found, there, waits) =
-    let same = one_sample book id position i sample found is here there in
-    let come : returns_to_come sample.returns ≡ suc (suc n) = ap (λ (s : Sample). returns_to_come s.returns) same ∙ ap returns_to_come waits in
-    absurd (omega arith)
 
 -- another sample is taken out
-pub remove-keeps : (book : Book) (id other position : ℕ) (sample : Sample) (n : ℕ) → IsAt book other position sample → other ≢ id →
-    WaitsOrIsGone book id n → WaitsOrIsGone (without book position) id n
-remove-keeps book id other position sample zero here apart (gone, used) = (
+pub remove-keeps : (book : Book) (id other position : ℕ) (sample : Sample) (left : Option (Option ℕ)) → IsAt book other position sample → other ≢ id →
+    HasOrIsGone book id left → HasOrIsGone (without book position) id left
+remove-keeps book id other position sample None here apart (gone, used) = (
   λ (k, found, there).
       let before = slice_get-removed book.out position k found there.at in
       gone (before.0, found, record { at = before.1; has_id = there.has_id }),
   used,
 )
-remove-keeps book id other position sample (suc n) here apart (i, found, there, waits) =
+remove-keeps book id other position sample (Some left) here apart (i, found, there, waits) =
     let elsewhere : i ≢ position = λ same.
     let at = subst (λ k. slice_get book.out k ≡ Some found) same there.at in
     let equal : found ≡ sample = cc in
     apart (sym here.has_id ∙ sym (ap (λ (s : Sample). s.id) equal) ∙ there.has_id) in
-    let left = slice_get-remove book.out position i found there.at elsewhere in
-    (left.0, found, record { at = left.1; has_id = there.has_id }, waits)
-
--- the sample itself can't be published, as it waits already
-pub own-publish : (book : Book) (id position : ℕ) (sample : Sample) (n : ℕ) → IsBook book → IsAt book id position sample →
-    sample.returns ≡ None → ¬ WaitsOrIsGone book id n
-own-publish book id position sample zero is here unpublished (gone, used) = gone (position, sample, here)
-own-publish book id position sample (suc n) is here unpublished (i, found, there, waits) =
-    let same = one_sample book id position i sample found is here there in
-    let returns = ap (λ (s : Sample). s.returns) same in
-    cc
+    let stays = slice_get-remove book.out position i found there.at elsewhere in
+    (stays.0, found, record { at = stays.1; has_id = there.has_id }, waits)

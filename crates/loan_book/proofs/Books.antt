@@ -3,11 +3,12 @@ use Rattle.std.proofs.Common.{◌≡◌, ℕ, zero, suc, ◌+◌, ◌<◌, List,
 use Rattle.std.specs.Prelude.{slice_get, slice_set}
 use Rattle.std.specs.List.{remove}
 use Rattle.std.proofs.lemmas.List.{map-append, take-map, drop-map}
-use Rattle.std.proofs.lemmas.List.Elements.{All-push, All-append, All-take, All-drop, All-weaker}
+use Rattle.std.proofs.lemmas.List.Elements.{All-push, All-append, All-set, All-take, All-drop, All-weaker}
 use Rattle.std.proofs.lemmas.List.Quantifiers.{all_pairs_push, all_pairs_remove}
+use Rattle.std.proofs.lemmas.Option.{slice_get_within, get_or_from_slice_get}
 use Rattle.bb_memory_base.specs.Chunk.{Chunk}
 use Rattle.bb_memory_base.proofs.SliceGets.{length-set_at}
-use Rattle.loan_book.specs.Sample.{Sample}
+use Rattle.loan_book.specs.Sample.{Sample, returns_to_come}
 use Rattle.loan_book.specs.Book.{Book, IsBook, chunks_of}
 use Rattle.loan_book.specs.Calls.{with_sample, with_returns, without}
 
@@ -46,7 +47,15 @@ pub IsBook-fresh : IsBook (record { loaned = 0; out = [] })
 IsBook-fresh = record {
   rising = λ i j d before within. absurd (omega arith);
   loaned = λ k d within. absurd (omega arith);
+  waiting = λ k d within. absurd (omega arith);
 }
+
+-- each sample of a book waits for a return
+pub sample-waits : (book : Book) (position : ℕ) (sample : Sample) → IsBook book → slice_get book.out position ≡ Some sample →
+    0 < returns_to_come sample.returns
+sample-waits book position sample is at =
+    let waits = is.waiting position sample (slice_get_within book.out position sample at) in
+    subst (λ (s : Sample). 0 < returns_to_come s.returns) (get_or_from_slice_get book.out position sample sample at) waits
 
 pub IsBook-push : (book : Book) (chunk : Chunk) → IsBook book → IsBook (with_sample book chunk)
 IsBook-push book chunk is =
@@ -56,17 +65,19 @@ IsBook-push book chunk is =
       loaned = All-push (λ s. s.id < book.loaned + 1) book.out sample
           (All-weaker (λ s. s.id < book.loaned) (λ s. s.id < book.loaned + 1) (λ s below. omega (arith, below)) book.out is.loaned)
           (omega arith);
+      waiting = All-push (λ s. 0 < returns_to_come s.returns) book.out sample is.waiting (omega arith);
     }
 
 pub IsBook-set : (book : Book) (position : ℕ) (sample : Sample) (returns : ℕ) → slice_get book.out position ≡ Some sample →
-    IsBook book → IsBook (with_returns book position sample returns)
-IsBook-set book position sample returns at is =
+    0 < returns → IsBook book → IsBook (with_returns book position sample returns)
+IsBook-set book position sample returns at some is =
     let new : Sample = record sample { returns = Some returns } in
     let same = id-set book.out position sample new at refl in
     let long = length-set_at book.out position new in
     record {
       rising = λ i j d before within. rw (same i d, same j d) (is.rising i j d before (omega (arith, long, within)));
       loaned = λ k d within. rw (same k d) (is.loaned k d (omega (arith, long, within)));
+      waiting = All-set (λ s. 0 < returns_to_come s.returns) book.out position new some is.waiting;
     }
 
 pub IsBook-remove : (book : Book) (position : ℕ) → position < length book.out → IsBook book → IsBook (without book position)
@@ -74,4 +85,6 @@ IsBook-remove book position within is = record {
   rising = all_pairs_remove (λ one other. one.id < other.id) book.out position within is.rising;
   loaned = let P : Sample → Type 0 = λ sample. sample.id < book.loaned in
       All-append P (take position book.out) (drop (suc position) book.out) (All-take P position book.out is.loaned) (All-drop P (suc position) book.out is.loaned);
+  waiting = let P : Sample → Type 0 = λ sample. 0 < returns_to_come sample.returns in
+      All-append P (take position book.out) (drop (suc position) book.out) (All-take P position book.out is.waiting) (All-drop P (suc position) book.out is.waiting);
 }

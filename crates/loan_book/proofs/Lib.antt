@@ -1,7 +1,10 @@
+pub mod BookLeads
 pub mod BookRuns
 pub mod BookSteps
 pub mod Books
 pub mod LoanBooks
+pub mod LoanedIds
+pub mod OneAnswers
 pub mod Positions
 pub mod Searches
 pub mod Sizes

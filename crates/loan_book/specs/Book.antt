@@ -1,7 +1,7 @@
 -- Books: how many samples were loaned so far, and those that are out.
-use Rattle.std.specs.Prelude.{◌≡◌, ℕ, ◌<◌, List, map, Some, IsSome, All, AllPairs, slice_get}
+use Rattle.std.specs.Prelude.{◌≡◌, ℕ, ◌<◌, List, map, Option, Some, None, IsSome, All, AllPairs, slice_get}
 use Rattle.bb_memory_base.specs.Chunk.{Chunk}
-use Rattle.loan_book.specs.Sample.{Sample}
+use Rattle.loan_book.specs.Sample.{Sample, returns_to_come}
 
 pub record Book : Type 0 where
   -- how many samples were loaned so far, which is the next sample's id
@@ -16,10 +16,14 @@ chunks_of samples = map (λ sample. sample.chunk) samples
 abbrev pub chunks_out : Book → List Chunk
 chunks_out book = chunks_of book.out
 
--- the ids rise, so each is there once, and each was given to a sample that was loaned
+-- what holds of every book that calls lead to
 pub record IsBook (book : Book) : Type 0 where
+  -- the ids rise, so each is there once
   pub rising : AllPairs (λ one other. one.id < other.id) book.out
+  -- each was given to a sample that was loaned
   pub loaned : All (λ sample. sample.id < book.loaned) book.out
+  -- each sample waits for a return
+  pub waiting : All (λ sample. 0 < returns_to_come sample.returns) book.out
 
 -- the sample of this id stands at a position of the book
 pub record IsAt (book : Book) (id position : ℕ) (sample : Sample) : Type 0 where
@@ -30,10 +34,14 @@ pub record IsAt (book : Book) (id position : ℕ) (sample : Sample) : Type 0 whe
 abbrev pub IsOut : Book → ℕ → Type 0
 IsOut book id = (position : ℕ) × (sample : Sample) × IsAt book id position sample
 
--- the sample of this id is out, and waits for so many returns
-abbrev pub Waits : Book → ℕ → ℕ → Type 0
-Waits book id returns = (position : ℕ) × (sample : Sample) × IsAt book id position sample × (sample.returns ≡ Some returns)
+-- the sample of this id is out, and so many returns of it are to come
+abbrev pub HasReturns : Book → ℕ → Option ℕ → Type 0
+HasReturns book id returns = (position : ℕ) × (sample : Sample) × IsAt book id position sample × (sample.returns ≡ returns)
 
 -- the sample of this id is out, and was published
 abbrev pub IsPublished : Book → ℕ → Type 0
-IsPublished book id = (position : ℕ) × (sample : Sample) × IsAt book id position sample × IsSome sample.returns
+IsPublished book id = (returns : ℕ) × HasReturns book id (Some returns)
+
+-- the sample of this id is out, and wasn't published yet
+abbrev pub IsUnpublished : Book → ℕ → Type 0
+IsUnpublished book id = HasReturns book id None

@@ -1,13 +1,13 @@
 -- What a loan book may answer to each call, and the book that it then is. Each cause of a refusal stands behind those
 -- that come before it.
-use Rattle.std.specs.Prelude.{◌≡◌, ℕ, ◌+◌, ◌-◌, ◌<◌, ◌≤◌, ◌^◌, Bool, true, false, List, [], ◌∷◌, ◌++◌, Some, None, IsSome, Result, Ok, Err, remove, slice_set}
+use Rattle.std.specs.Prelude.{◌≡◌, ℕ, ◌+◌, ◌-◌, ◌<◌, ◌≤◌, ◌^◌, Bool, true, false, List, [], ◌∷◌, ◌++◌, Some, None, Result, Ok, Err, remove, slice_set}
 use Rattle.bb_memory_base.specs.Chunk.{Chunk}
 use Rattle.bb_memory_base.specs.declared.layout.Layout.{Layout}
 use Rattle.bb_memory_base.specs.declared.allocator.AllocationError.{AllocationError}
 use Rattle.loan_book.specs.declared.error.LoanError.{LoanError}
 use Rattle.loan_book.specs.declared.error.LoanError.TheVariants.{Size, IdsExhausted, Memory, Allocation, UnknownSample, AlreadyPublished, NoReaders}
 use Rattle.loan_book.specs.Sample.{Sample, returns_to_come}
-use Rattle.loan_book.specs.Book.{Book, chunks_out, IsAt, IsOut}
+use Rattle.loan_book.specs.Book.{Book, chunks_out, IsAt, IsOut, IsPublished, IsUnpublished}
 
 -- what an allocator may answer to a request on a live list
 abbrev pub Answers : Type 1
@@ -44,27 +44,19 @@ Loans may_allocate old size (Err IdsExhausted) new = (size < 2 ^ 63) × (2 ^ 64 
 Loans may_allocate old size (Err Memory) new = (size < 2 ^ 63) × (old.loaned < 2 ^ 64) × (new ≡ old)
 Loans may_allocate old size (Err (Allocation error)) new =
     (old.loaned < 2 ^ 64) × MayAnswer may_allocate old size (Err error) × (new ≡ old)
--- it never refuses so
-Loans may_allocate old size (Err UnknownSample) new = ⊥
-Loans may_allocate old size (Err AlreadyPublished) new = ⊥
-Loans may_allocate old size (Err NoReaders) new = ⊥
+-- no other answer is given
+Loans may_allocate old size answer new = ⊥
 
 -- `publish(id, readers)`
 abbrev pub Publishes : Book → ℕ → ℕ → Result (Unit {0}) LoanError → Book → Type 0
 Publishes old id readers (Ok done) new =
-    (position : ℕ) × (sample : Sample) × IsAt old id position sample
-    × (sample.returns ≡ None) × (0 < readers) × (new ≡ with_returns old position sample readers)
+    (position : ℕ) × (sample : Sample) × IsAt old id position sample × (sample.returns ≡ None)
+    × (0 < readers) × (new ≡ with_returns old position sample readers)
 Publishes old id readers (Err UnknownSample) new = (¬ IsOut old id) × (new ≡ old)
-Publishes old id readers (Err AlreadyPublished) new =
-    (position : ℕ) × (sample : Sample) × IsAt old id position sample × IsSome sample.returns × (new ≡ old)
-Publishes old id readers (Err NoReaders) new =
-    (position : ℕ) × (sample : Sample) × IsAt old id position sample
-    × (sample.returns ≡ None) × (readers ≡ 0) × (new ≡ old)
--- it never refuses so
-Publishes old id readers (Err Size) new = ⊥
-Publishes old id readers (Err IdsExhausted) new = ⊥
-Publishes old id readers (Err Memory) new = ⊥
-Publishes old id readers (Err (Allocation error)) new = ⊥
+Publishes old id readers (Err AlreadyPublished) new = IsPublished old id × (new ≡ old)
+Publishes old id readers (Err NoReaders) new = IsUnpublished old id × (readers ≡ 0) × (new ≡ old)
+-- no other answer is given
+Publishes old id readers answer new = ⊥
 
 -- `give_back(id)`: true where the sample leaves the book
 abbrev pub GivesBack : Book → ℕ → Result Bool LoanError → Book → Type 0
@@ -76,10 +68,5 @@ GivesBack old id (Ok false) new =
     × (1 < returns_to_come sample.returns)
     × (new ≡ with_returns old position sample (returns_to_come sample.returns - 1))
 GivesBack old id (Err UnknownSample) new = (¬ IsOut old id) × (new ≡ old)
--- it never refuses so
-GivesBack old id (Err Size) new = ⊥
-GivesBack old id (Err IdsExhausted) new = ⊥
-GivesBack old id (Err Memory) new = ⊥
-GivesBack old id (Err (Allocation error)) new = ⊥
-GivesBack old id (Err AlreadyPublished) new = ⊥
-GivesBack old id (Err NoReaders) new = ⊥
+-- no other answer is given
+GivesBack old id answer new = ⊥

@@ -1,5 +1,5 @@
 -- Calls of a loan book one after the other, with one reply each.
-use Rattle.std.specs.Prelude.{◌≡◌, ℕ, true, false, List, IsTrue, ◌↔◌, Ok, Err, ◌==◌, if◌then◌else◌, sum_by}
+use Rattle.std.specs.Prelude.{◌≡◌, ℕ, Bool, true, false, List, Option, Some, None, IsTrue, ◌↔◌, Ok, Err, ◌==◌, count_by, filter_map}
 use Rattle.loan_book.specs.declared.run.LoanCall.{LoanCall}
 use Rattle.loan_book.specs.declared.run.LoanCall.TheVariants.{Loan, Publish, GiveBack, IsOut}
 use Rattle.loan_book.specs.declared.run.LoanReply.{LoanReply}
@@ -21,20 +21,29 @@ BookStep may_allocate old (IsOut id) (Out answer) new = (IsTrue answer ↔ books
 -- no other reply is given
 BookStep may_allocate old call reply new = ⊥
 
--- how many returns of the sample of this id a call is
-abbrev pub returns_of : ℕ → LoanCall → ℕ
-returns_of id (GiveBack other) = if other == id then 1 else 0
-returns_of id call = 0
+-- whether a call returns the sample of this id
+abbrev pub is_return_of : ℕ → LoanCall → Bool
+is_return_of id (GiveBack other) = other == id
+is_return_of id call = false
 
 -- how many returns of it these calls are
 abbrev pub returns_in : ℕ → List LoanCall → ℕ
-returns_in id calls = sum_by (returns_of id) calls
+returns_in id calls = count_by (is_return_of id) calls
 
--- how many loans a reply is
-abbrev pub loans_of : LoanReply → ℕ
-loans_of (Loaned id chunk) = 1
-loans_of reply = 0
+-- whether a call publishes the sample of this id
+abbrev pub is_publish_of : ℕ → LoanCall → Bool
+is_publish_of id (Publish other readers) = other == id
+is_publish_of id call = false
 
--- how many samples these replies loan
-abbrev pub loans_in : List LoanReply → ℕ
-loans_in replies = sum_by loans_of replies
+-- how often these calls publish it
+abbrev pub publishes_in : ℕ → List LoanCall → ℕ
+publishes_in id calls = count_by (is_publish_of id) calls
+
+-- the id that a reply gives
+abbrev pub id_of : LoanReply → Option ℕ
+id_of (Loaned id chunk) = Some id
+id_of reply = None
+
+-- the ids that these replies give, in order
+abbrev pub ids_in : List LoanReply → List ℕ
+ids_in replies = filter_map id_of replies

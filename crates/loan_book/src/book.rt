@@ -1,9 +1,10 @@
 //! Loan books.
-ghost use Rattle.std.specs.Prelude.{◌≡◌, ◌↔◌, ◌<◌, ◌≤◌, ◌^◌, false, [], List, length, IfOk, OnOk, OnErr, IfSome, IfNone, IsTrue};
+ghost use Rattle.std.specs.Prelude.{◌≡◌, ◌↔◌, ◌<◌, ◌≤◌, ◌^◌, ℕ, false, [], List, Result, length, IfOk, OnOk, OnErr, IfSome, IfNone, IsTrue};
 ghost use Rattle.bb_memory_base.specs.Chunk.{Chunk};
 ghost use Rattle.bb_memory_base.specs.LiveList.{IsSound};
 ghost use Rattle.loan_book.specs.Sample.{Sample};
-ghost use Rattle.loan_book.specs.Book.{IsBook, IsAt, IsOut, IsPublished, Waits, chunks_out};
+ghost use Rattle.loan_book.specs.declared.error.LoanError.{LoanError};
+ghost use Rattle.loan_book.specs.Book.{Book, IsBook, IsAt, IsOut, HasReturns, IsPublished, IsUnpublished, chunks_out};
 ghost use Rattle.loan_book.specs.Calls.{Loans, Publishes, GivesBack, without};
 ghost use Rattle.loan_book.specs.LoanBook.{loan_book_of};
 
@@ -71,10 +72,10 @@ impl<A: Allocator> LoanBook<A> {
     /// id was loaned before, with `Memory` where the memory for the sample's record was refused, and with `Allocation`
     /// where the allocator refused. A refusal leaves the book as it was.
     pub fn loan(&mut self, size: usize) -> Result<(u64, Chunk), LoanError>
-        ensures step { Loans (A.may_allocate (A.geometry self.old.allocator))
+        ensures answer { Loans (A.may_allocate (A.geometry self.old.allocator))
             self.old.book size result self.new.book }
         ensures too_large { (result ≡ Err LoanError.Size) ↔ (2 ^ 63 ≤ size) }
-        ensures exhausted { (result ≡ Err LoanError.IdsExhausted)
+        ensures ids_exhausted { (result ≡ Err LoanError.IdsExhausted)
             ↔ ((size < 2 ^ 63) × (2 ^ 64 ≤ self.old.book.loaned)) }
         ensures stands { A.stands_for self.new.allocator (chunks_out self.new.book) }
         ensures sound { IsSound (A.region_of (A.geometry self.old.allocator)) (chunks_out self.new.book) }
@@ -108,13 +109,13 @@ impl<A: Allocator> LoanBook<A> {
     /// It is refused in this order: with `UnknownSample` where no sample of this id is out, with `AlreadyPublished` where it
     /// was published before, and with `NoReaders` where `readers` is 0. A refusal leaves everything as it was.
     pub fn publish(&mut self, id: u64, readers: u32) -> Result<(), LoanError>
-        ensures step { Publishes self.old.book id readers result self.new.book }
-        ensures unknown { (result ≡ Err LoanError.UnknownSample) ↔ (¬ IsOut self.old.book id) }
-        ensures published { (result ≡ Err LoanError.AlreadyPublished) ↔ IsPublished self.old.book id }
+        ensures answer { Publishes self.old.book id readers result self.new.book }
+        ensures unknown_sample { (result ≡ Err LoanError.UnknownSample) ↔ (¬ IsOut self.old.book id) }
+        ensures already_published { (result ≡ Err LoanError.AlreadyPublished) ↔ IsPublished self.old.book id }
         ensures no_readers { (result ≡ Err LoanError.NoReaders)
-            ↔ (IsOut self.old.book id × (¬ IsPublished self.old.book id) × (readers ≡ 0)) }
+            ↔ (IsUnpublished self.old.book id × (readers ≡ 0)) }
         ensures stands { A.stands_for self.new.allocator (chunks_out self.new.book) }
-        ensures waits { OnOk result (Waits self.new.book id readers) }
+        ensures waits { OnOk result (HasReturns self.new.book id (Some readers)) }
         ensures same_allocator { self.new.allocator ≡ self.old.allocator }
         ensures kept { OnErr result (self.new ≡ self.old) }
     {
@@ -137,8 +138,8 @@ impl<A: Allocator> LoanBook<A> {
     /// It is refused, with `UnknownSample`, exactly where no sample of this id is out. A refusal leaves everything as it
     /// was.
     pub fn give_back(&mut self, id: u64) -> Result<bool, LoanError>
-        ensures step { GivesBack self.old.book id result self.new.book }
-        ensures unknown { (result ≡ Err LoanError.UnknownSample) ↔ (¬ IsOut self.old.book id) }
+        ensures answer { GivesBack self.old.book id result self.new.book }
+        ensures unknown_sample { (result ≡ Err LoanError.UnknownSample) ↔ (¬ IsOut self.old.book id) }
         ensures leaves { IfOk result (λ left. IsTrue left ↔ (¬ IsOut self.new.book id)) }
         ensures stands { A.stands_for self.new.allocator (chunks_out self.new.book) }
         ensures geometry { A.geometry self.new.allocator ≡ A.geometry self.old.allocator }
@@ -149,8 +150,9 @@ impl<A: Allocator> LoanBook<A> {
             return Err(LoanError::UnknownSample);
         };
         let to_come = self.out[position].returns_to_come();
-        if to_come > 1 {
-            self.out[position].wait_for(to_come - 1);
+        let left = to_come - 1;
+        if left > 0 {
+            self.out[position].wait_for(left);
             return Ok(false);
         }
         self.take_out(position);
@@ -167,12 +169,16 @@ impl<A: Allocator> LoanBook<A> {
     }
 
     /// Does nothing. It is the proof of what holds of every loan book: the allocator stands for exactly the chunks of the
-    /// samples that are out, these are sound (each lies inside the allocator's region, and no two overlap), and the ids of
-    /// the samples rise.
+    /// samples that are out, these are sound (each lies inside the allocator's region, and no two overlap), the ids of
+    /// the samples rise, and each sample waits for a return. Each answer that a loan may have leads to one book.
     pub fn law(&self)
         ensures stands { A.stands_for self.now.allocator (chunks_out self.now.book) }
         ensures sound { IsSound (A.region_of (A.geometry self.now.allocator)) (chunks_out self.now.book) }
         ensures book { IsBook self.now.book }
+        ensures loans_one_book { (size : ℕ) (answer : Result (ℕ × Chunk) LoanError) (new next : Book)
+            → Loans (A.may_allocate (A.geometry self.now.allocator)) self.now.book size answer new
+            → Loans (A.may_allocate (A.geometry self.now.allocator)) self.now.book size answer next
+            → new ≡ next }
     {
         let _ = &self.next;
     }

@@ -5,9 +5,11 @@
 
 mod book;
 mod error;
+mod laws;
 mod run;
 mod sample;
 
 pub use book::LoanBook;
 pub use error::LoanError;
+pub use laws::{equality_law, one_answer_law};
 pub use run::{LoanCall, LoanReply, run_loans};

@@ -1,9 +1,10 @@
 //! Calls of a loan book one after the other.
-ghost use Rattle.std.specs.Prelude.{◌≡◌, ◌+◌, ◌<◌, ◌↔◌, ℕ, IfOk, OnOk, OnErr};
+ghost use Rattle.std.specs.Prelude.{◌≡◌, ◌+◌, ◌<◌, ◌↔◌, ℕ, length, IfOk, OnOk, OnErr};
+ghost use Rattle.std.specs.List.{range_with_len};
 ghost use Rattle.bb_memory_base.specs.Run.{IsRun};
 ghost use Rattle.bb_memory_base.specs.LiveList.{IsSound};
-ghost use Rattle.loan_book.specs.Book.{chunks_out, IsOut, Waits};
-ghost use Rattle.loan_book.specs.Runs.{BookStep, loans_in, returns_in};
+ghost use Rattle.loan_book.specs.Book.{chunks_out, IsBook, IsOut, HasReturns, IsUnpublished};
+ghost use Rattle.loan_book.specs.Runs.{BookStep, ids_in, returns_in, publishes_in};
 
 use crate::book::LoanBook;
 use crate::error::LoanError;
@@ -64,8 +65,9 @@ fn apply<A: Allocator>(book: &mut LoanBook<A>, call: LoanCall) -> LoanReply
 }
 
 /// Makes the calls in order, and answers one reply a call. Afterwards the allocator stands for exactly the chunks of the
-/// samples that are out. A sample that waited for so many returns before is still out exactly where fewer of the calls
-/// return it, so one that was published for r readers goes back at the r-th return and not before.
+/// samples that are out. The ids that are given count up from the number of samples that were loaned before. A published
+/// sample that waited for so many returns is still out exactly where fewer of the calls return it, so one that was published
+/// for r readers goes back at the r-th return and not before. One that isn't published goes back at its first return.
 ///
 /// Memory for the replies is reserved first, from `alloc`. Where it is refused, no call is made, and everything is as before.
 pub fn run_loans<A: Allocator>(
@@ -77,10 +79,16 @@ pub fn run_loans<A: Allocator>(
         IsRun (BookStep (A.may_allocate (A.geometry book.old.allocator)))
         book.old.book calls.now replies.items book.new.book) }
     ensures counted { IfOk result (λ replies.
-        book.new.book.loaned ≡ book.old.book.loaned + loans_in replies.items) }
+        book.new.book.loaned ≡ book.old.book.loaned + length (ids_in replies.items)) }
+    ensures ids { IfOk result (λ replies. ids_in replies.items
+        ≡ range_with_len book.old.book.loaned (length (ids_in replies.items))) }
     ensures returned { OnOk result ((id returns : ℕ)
-        → Waits book.old.book id returns → 0 < returns
-        → (IsOut book.new.book id ↔ returns_in id calls.now < returns)) }
+        → HasReturns book.old.book id (Some returns)
+        → (IsOut book.new.book id ↔ (returns_in id calls.now < returns))) }
+    ensures unpublished { OnOk result ((id : ℕ)
+        → IsUnpublished book.old.book id → publishes_in id calls.now ≡ 0
+        → (IsOut book.new.book id ↔ (returns_in id calls.now ≡ 0))) }
+    ensures book { OnOk result (IsBook book.new.book) }
     ensures stands { OnOk result (A.stands_for book.new.allocator (chunks_out book.new.book)) }
     ensures sound { OnOk result (IsSound (A.region_of (A.geometry book.old.allocator))
         (chunks_out book.new.book)) }

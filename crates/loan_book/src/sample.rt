@@ -1,5 +1,5 @@
 //! One sample that is out.
-ghost use Rattle.std.specs.Prelude.{◌≡◌, ◌<◌, ◌↔◌, None, Some, IsSome, IsTrue};
+ghost use Rattle.std.specs.Prelude.{◌≡◌, ◌↔◌, None, Some, IsSome, IsTrue};
 ghost use Rattle.loan_book.specs.Sample.{Sample, returns_to_come};
 
 use bb_memory_base::layout::{Chunk, Layout};
@@ -17,14 +17,11 @@ pub(crate) struct Sample {
 }
 
 impl Model for Sample {
-    ghost use Rattle.std.specs.Prelude.{◌<◌};
-    ghost use Rattle.loan_book.specs.Sample.{Sample, returns_to_come};
+    ghost use Rattle.loan_book.specs.Sample.{Sample};
 
     ghost Value = { Sample };
 
     ghost view = { λ s. record { id = s.id; chunk = s.chunk; returns = s.returns } };
-
-    ghost invariant = { λ s. 0 < returns_to_come s.returns };
 }
 
 impl Sample {
@@ -52,17 +49,15 @@ impl Sample {
         self.returns.is_some()
     }
 
-    /// How many returns are to come, at least one: a sample that was never published waits for one.
+    /// How many returns are to come: a sample that was never published waits for one.
     pub(crate) fn returns_to_come(&self) -> u32
-        ensures value { result ≡ returns_to_come self.now.returns }
-        ensures some { 0 < result }
+        ensures { result ≡ returns_to_come self.now.returns }
     {
         self.returns.unwrap_or(1)
     }
 
-    /// Has the sample wait for so many returns, which aren't 0.
+    /// Has the sample wait for so many returns.
     pub(crate) fn wait_for(&mut self, returns: u32)
-        requires { 0 < returns }
         ensures { self.new ≡ record self.old { returns = Some returns } }
     {
         self.returns = Some(returns);

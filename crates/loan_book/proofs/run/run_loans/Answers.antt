@@ -3,7 +3,8 @@ use Rattle.std.proofs.lemmas.List.{take_more}
 use Rattle.bb_memory_base.proofs.Runs.{IsRun-push}
 use Rattle.loan_book.specs.declared.run.LoanCall.TheVariants.{Loan}
 use Rattle.loan_book.specs.Runs.{BookStep}
-use Rattle.loan_book.proofs.BookRuns.{run-loans, run-returns}
+use Rattle.loan_book.proofs.BookRuns.{run-returns, run-unpublished}
+use Rattle.loan_book.proofs.LoanedIds.{run-counted, run-ids}
 use Rattle.loan_book.proofs.run.run_loans.Goals as goal
 
 pub loop-call-preserved : goal.loop-call-preserved
@@ -31,12 +32,28 @@ returns-clause-counted g c =
     let calls = c.args.calls.now in
     let all : take c.loop-call.call-index calls ≡ calls = take_all c.loop-call.call-index calls (omega arith) in
     let run = rw all at c.loop-call.invariant.run in
-    run-loans (A.may_allocate (A.geometry c.args.book.now.allocator)) c.args.book.now.book c.loop-call.book.book calls c.loop-call.replies.items run
+    run-counted (A.may_allocate (A.geometry c.args.book.now.allocator)) c.args.book.now.book c.loop-call.book.book calls c.loop-call.replies.items run
 
-pub returns-clause-returned : goal.returns-clause-returned
-returns-clause-returned g c id returns waits some =
+pub returns-clause-ids : goal.returns-clause-ids
+returns-clause-ids g c =
     let A = g.A.BaseAllocator in
     let calls = c.args.calls.now in
     let all : take c.loop-call.call-index calls ≡ calls = take_all c.loop-call.call-index calls (omega arith) in
     let run = rw all at c.loop-call.invariant.run in
-    run-returns (A.may_allocate (A.geometry c.args.book.now.allocator)) c.args.book.now.book c.loop-call.book.book calls c.loop-call.replies.items id returns c.law.ensures.book some waits run
+    run-ids (A.may_allocate (A.geometry c.args.book.now.allocator)) c.args.book.now.book c.loop-call.book.book calls c.loop-call.replies.items run
+
+pub returns-clause-returned : goal.returns-clause-returned
+returns-clause-returned g c id returns waits =
+    let A = g.A.BaseAllocator in
+    let calls = c.args.calls.now in
+    let all : take c.loop-call.call-index calls ≡ calls = take_all c.loop-call.call-index calls (omega arith) in
+    let run = rw all at c.loop-call.invariant.run in
+    run-returns (A.may_allocate (A.geometry c.args.book.now.allocator)) c.args.book.now.book c.loop-call.book.book calls c.loop-call.replies.items id returns c.law.ensures.book waits run
+
+pub returns-clause-unpublished : goal.returns-clause-unpublished
+returns-clause-unpublished g c id unpublished none =
+    let A = g.A.BaseAllocator in
+    let calls = c.args.calls.now in
+    let all : take c.loop-call.call-index calls ≡ calls = take_all c.loop-call.call-index calls (omega arith) in
+    let run = rw all at c.loop-call.invariant.run in
+    run-unpublished (A.may_allocate (A.geometry c.args.book.now.allocator)) c.args.book.now.book c.loop-call.book.book calls c.loop-call.replies.items id c.law.ensures.book unpublished none run

@@ -16,8 +16,8 @@ invariant_of-self-in-Ok-allocate g c =
     IsLoanBook-loaned g.A.BaseAllocator.stands_for c.self.inside.allocator c.allocate.new.self c.self.inside.next c.checked_add-self-inside.result out c.push_back_reserved.new.self.items id chunk
     c.in-Some.is c.checked_add-self-inside.ensures pushed c.self.invariant (c.in-Ok-allocate.ensures.appended (chunks_of out) c.self.invariant.stands)
 
-pub returns-in-Ok-allocate-clause-step : goal.returns-in-Ok-allocate-clause-step
-returns-in-Ok-allocate-clause-step g c =
+pub returns-in-Ok-allocate-clause-answer : goal.returns-in-Ok-allocate-clause-answer
+returns-in-Ok-allocate-clause-answer g c =
     let out = c.self.inside.out.items in
     let id = c.in-Some.id in
     let chunk = c.in-Ok-allocate.chunk in
@@ -28,8 +28,8 @@ returns-in-Ok-allocate-clause-step g c =
     rw (← c.self.view_is, ← loaned, one_more, pushed)
     (within, (c.in-Ok.layout, c.in-Ok.ensures.value.0, c.in-Ok.ensures.value.1, c.in-Ok-allocate.ensures.answer (chunks_of out) c.self.invariant.stands), refl, refl)
 
-pub returns-in-Err-clause-step : goal.returns-in-Err-clause-step
-returns-in-Err-clause-step g c =
+pub returns-in-Err-clause-answer : goal.returns-in-Err-clause-answer
+returns-in-Err-clause-answer g c =
     let out = c.self.inside.out.items in
     let id = c.in-Some.id in
     let within = c.self.invariant.next_fits id c.in-Some.is in
@@ -40,13 +40,13 @@ returns-in-Err-clause-step g c =
 too_large : (size : ℕ) → ¬ IsLayout size 1 → 2 ^ 63 ≤ size
 too_large size refused = elim (cases_lt size (2 ^ 63)) [ inl below ↦ absurd (refused (layout-of_bytes size below)) | inr above ↦ above ]
 
-pub returns-in_default-clause-step : goal.returns-in_default-clause-step
-returns-in_default-clause-step g c = (too_large c.args.size (λ layout. let accepted = c.in_default.ensures.accepted.1 layout in cc), refl)
+pub returns-in_default-clause-answer : goal.returns-in_default-clause-answer
+returns-in_default-clause-answer g c = (too_large c.args.size (λ layout. let accepted = c.in_default.ensures.accepted.1 layout in cc), refl)
 
 pub returns-in_default-clause-too_large : goal.returns-in_default-clause-too_large
 returns-in_default-clause-too_large g c = (λ same. too_large c.args.size (λ layout. let accepted = c.in_default.ensures.accepted.1 layout in cc), λ above. refl)
 
-pub returns-in_default-clause-exhausted : goal.returns-in_default-clause-exhausted
-returns-in_default-clause-exhausted g c =
+pub returns-in_default-clause-ids_exhausted : goal.returns-in_default-clause-ids_exhausted
+returns-in_default-clause-ids_exhausted g c =
     let above = too_large c.args.size (λ layout. let accepted = c.in_default.ensures.accepted.1 layout in cc) in
     (λ same. cc, λ (below, used). absurd (omega (arith, below)))

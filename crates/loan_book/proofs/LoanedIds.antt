@@ -1,0 +1,82 @@
+-- Which ids a run of calls gives, and how many.
+use Rattle.std.proofs.Common.{◌≡◌, ℕ, suc, ◌+◌, Bool, true, false, List, [], ◌∷◌, length, refl, ap, sym, ◌∙◌, arith, add-zero, Option, None, Some, Result, Ok, Err}
+use Rattle.std.specs.List.{range_with_len, cons_option}
+use Rattle.std.proofs.lemmas.List.FromFn.{length-range_with_len}
+use Rattle.bb_memory_base.specs.Chunk.{Chunk}
+use Rattle.bb_memory_base.specs.Run.{IsRun}
+use Rattle.loan_book.specs.declared.error.LoanError.{LoanError}
+use Rattle.loan_book.specs.declared.error.LoanError.TheVariants.{Size, IdsExhausted, Memory, Allocation}
+use Rattle.loan_book.specs.declared.run.LoanCall.{LoanCall}
+use Rattle.loan_book.specs.declared.run.LoanCall.TheVariants as call
+use Rattle.loan_book.specs.declared.run.LoanReply.{LoanReply}
+use Rattle.loan_book.specs.declared.run.LoanReply.TheVariants as reply
+use Rattle.loan_book.specs.Book.{Book}
+use Rattle.loan_book.specs.Calls.{Answers, Loans, GivesBack}
+use Rattle.loan_book.specs.Runs.{BookStep, id_of, ids_in}
+use Rattle.loan_book.proofs.BookLeads.{publish-leads, give-leads}
+
+-- a call that gives an id gives the number of loans, and counts one; another leaves the number
+abbrev Counts : ℕ → ℕ → Option ℕ → Type 0
+Counts loaned next (Some id) = (id ≡ loaned) × (next ≡ loaned + 1)
+Counts loaned next None = next ≡ loaned
+
+same_book : (old new : Book) → new ≡ old → new.loaned ≡ old.loaned
+same_book old new same = ap (λ (book : Book). book.loaned) same
+
+loan-refused : (may_allocate : Answers) (old new : Book) (size : ℕ) (error : LoanError) → Loans may_allocate old size (Err error) new →
+    new.loaned ≡ old.loaned
+loan-refused may_allocate old new size Size (large, same) = same_book old new same
+loan-refused may_allocate old new size IdsExhausted (fits, used, same) = same_book old new same
+loan-refused may_allocate old new size Memory (fits, left, same) = same_book old new same
+loan-refused may_allocate old new size (Allocation error) (fits, may, same) = same_book old new same
+loan-refused may_allocate old new size error none = absurd none
+
+give-counts : (old new : Book) (id : ℕ) (answer : Result Bool LoanError) → GivesBack old id answer new → new.loaned ≡ old.loaned
+give-counts old new id answer =
+    give-leads (λ book. book.loaned ≡ old.loaned) old new id answer (λ unknown. refl) (λ i sample at last. refl) (λ i sample at more. refl)
+
+step-counts : (may_allocate : Answers) (old new : Book) (call : LoanCall) (reply : LoanReply) → BookStep may_allocate old call reply new →
+    Counts old.loaned new.loaned (id_of reply)
+step-counts may_allocate old new (call.Loan size) (reply.Loaned id chunk) (fits, may, numbered, same) = (numbered, ap (λ (book : Book). book.loaned) same)
+step-counts may_allocate old new (call.Loan size) (reply.Refused error) step = loan-refused may_allocate old new size error step
+step-counts may_allocate old new (call.Publish id readers) reply.Published step =
+    publish-leads (λ book. book.loaned ≡ old.loaned) old new id readers (Ok tt) refl (λ i sample at unpublished some. refl) step
+step-counts may_allocate old new (call.Publish id readers) (reply.Refused error) step =
+    publish-leads (λ book. book.loaned ≡ old.loaned) old new id readers (Err error) refl (λ i sample at unpublished some. refl) step
+step-counts may_allocate old new (call.GiveBack id) reply.Returned step = give-counts old new id (Ok true) step
+step-counts may_allocate old new (call.GiveBack id) reply.Kept step = give-counts old new id (Ok false) step
+step-counts may_allocate old new (call.GiveBack id) (reply.Refused error) step = give-counts old new id (Err error) step
+step-counts may_allocate old new (call.IsOut id) (reply.Out answer) (tells, same) = same_book old new same
+step-counts may_allocate old new call reply none = absurd none
+
+-- these ids count up from the number of loans before, and lead to the number after
+abbrev CountUp : ℕ → ℕ → List ℕ → Type 0
+CountUp loaned next ids = (n : ℕ) × (next ≡ loaned + n) × (ids ≡ range_with_len loaned n)
+
+count-on : (loaned mid next : ℕ) (given : Option ℕ) (ids : List ℕ) → Counts loaned mid given → CountUp mid next ids → CountUp loaned next (cons_option given ids)
+count-on loaned mid next None ids same (n, counted, up) = (n, counted ∙ ap (λ k. k + n) same, up ∙ ap (λ k. range_with_len k n) same)
+count-on loaned mid next (Some id) ids (first, one_more) (n, counted, up) =
+    (suc n, omega arith, ap (λ k. k ∷ ids) first ∙ ap (λ rest. loaned ∷ rest) (up ∙ ap (λ k. range_with_len k n) one_more))
+
+count-run : (may_allocate : Answers) (old new : Book) (calls : List LoanCall) (replies : List LoanReply) →
+    IsRun (BookStep may_allocate) old calls replies new → CountUp old.loaned new.loaned (ids_in replies)
+count-run may_allocate old new [] [] same = (0, same_book old new same ∙ sym (add-zero old.loaned), refl)
+count-run may_allocate old new (call ∷ calls) (reply ∷ replies) (mid, step, rest) =
+    count-on old.loaned mid.loaned new.loaned (id_of reply) (ids_in replies) (step-counts may_allocate old mid call reply step)
+    (count-run may_allocate mid new calls replies rest)
+count-run may_allocate old new [] (reply ∷ replies) none = absurd none
+count-run may_allocate old new (call ∷ calls) [] none = absurd none
+
+-- each id that is given counts as one loan
+pub run-counted : (may_allocate : Answers) (old new : Book) (calls : List LoanCall) (replies : List LoanReply) →
+    IsRun (BookStep may_allocate) old calls replies new → new.loaned ≡ old.loaned + length (ids_in replies)
+run-counted may_allocate old new calls replies run =
+    let up = count-run may_allocate old new calls replies run in
+    up.1 ∙ ap (λ k. old.loaned + k) (sym (ap length up.2 ∙ length-range_with_len old.loaned up.0))
+
+-- and the ids count up from the number of loans before
+pub run-ids : (may_allocate : Answers) (old new : Book) (calls : List LoanCall) (replies : List LoanReply) →
+    IsRun (BookStep may_allocate) old calls replies new → ids_in replies ≡ range_with_len old.loaned (length (ids_in replies))
+run-ids may_allocate old new calls replies run =
+    let up = count-run may_allocate old new calls replies run in
+    up.2 ∙ ap (λ k. range_with_len old.loaned k) (sym (ap length up.2 ∙ length-range_with_len old.loaned up.0))

@@ -1,0 +1,112 @@
+-- Each call has one answer alone, or leads to one book at least.
+use Rattle.std.proofs.Common.{◌≡◌, ℕ, ◌<◌, ◌-◌, Bool, true, false, refl, ap, sym, ◌∙◌, subst, arith, None, Result, Ok, Err}
+use Rattle.bb_memory_base.specs.Chunk.{Chunk}
+use Rattle.loan_book.specs.declared.error.LoanError.{LoanError}
+use Rattle.loan_book.specs.declared.error.LoanError.TheVariants.{Size, IdsExhausted, Memory, Allocation, UnknownSample, AlreadyPublished, NoReaders}
+use Rattle.loan_book.specs.Sample.{Sample, returns_to_come}
+use Rattle.loan_book.specs.Book.{Book, IsBook, IsAt, IsOut, IsPublished, IsUnpublished}
+use Rattle.loan_book.specs.Calls.{Answers, Loans, Publishes, GivesBack, with_returns, without}
+use Rattle.loan_book.proofs.BookSteps.{one_position, one_sample, unpublished-nowhere}
+
+pub loan-one_book : (may_allocate : Answers) (old : Book) (size : ℕ) (answer : Result (ℕ × Chunk) LoanError) (new next : Book) →
+    Loans may_allocate old size answer new → Loans may_allocate old size answer next → new ≡ next
+loan-one_book may_allocate old size (Ok (id, chunk)) new next (fits, may, numbered, same) (fits_too, may_too, numbered_too, same_too) = same ∙ sym same_too
+loan-one_book may_allocate old size (Err Size) new next (large, same) (large_too, same_too) = same ∙ sym same_too
+loan-one_book may_allocate old size (Err IdsExhausted) new next (fits, used, same) (fits_too, used_too, same_too) = same ∙ sym same_too
+loan-one_book may_allocate old size (Err Memory) new next (fits, left, same) (fits_too, left_too, same_too) = same ∙ sym same_too
+loan-one_book may_allocate old size (Err (Allocation error)) new next (fits, may, same) (fits_too, may_too, same_too) = same ∙ sym same_too
+loan-one_book may_allocate old size answer new next none none_too = absurd none
+
+is_out : (book : Book) (id : ℕ) → IsPublished book id → IsOut book id
+is_out book id (returns, (i, sample, at, has)) = (i, sample, at)
+
+-- when each answer to a publish comes
+abbrev PublishCause : Book → ℕ → ℕ → Result (Unit {0}) LoanError → Type 0
+PublishCause book id readers (Ok done) = IsUnpublished book id × (0 < readers)
+PublishCause book id readers (Err UnknownSample) = ¬ IsOut book id
+PublishCause book id readers (Err AlreadyPublished) = IsPublished book id
+PublishCause book id readers (Err NoReaders) = IsUnpublished book id × (readers ≡ 0)
+PublishCause book id readers answer = ⊥
+
+publish-cause : (old : Book) (id readers : ℕ) (answer : Result (Unit {0}) LoanError) (new : Book) → Publishes old id readers answer new →
+    PublishCause old id readers answer
+publish-cause old id readers (Ok done) new (i, sample, at, unpublished, some, same) = ((i, sample, at, unpublished), some)
+publish-cause old id readers (Err UnknownSample) new (gone, same) = gone
+publish-cause old id readers (Err AlreadyPublished) new (published, same) = published
+publish-cause old id readers (Err NoReaders) new (unpublished, none, same) = (unpublished, none)
+publish-cause old id readers answer new none = absurd none
+
+module _ (book : Book) (is : IsBook book) (id readers : ℕ) where
+  apart : IsUnpublished book id → ¬ IsPublished book id
+  apart = unpublished-nowhere book id is
+
+  one-cause : (one other : Result (Unit {0}) LoanError) → PublishCause book id readers one → PublishCause book id readers other → one ≡ other
+  one-cause (Ok done) (Ok done_too) first second = refl
+  one-cause (Ok done) (Err UnknownSample) (there, some) gone = absurd (gone (there.0, there.1, there.2))
+  one-cause (Ok done) (Err AlreadyPublished) (there, some) published = absurd (apart there published)
+  one-cause (Ok done) (Err NoReaders) (there, some) (there_too, none) = absurd (omega arith)
+  one-cause (Err UnknownSample) (Ok done) gone (there, some) = absurd (gone (there.0, there.1, there.2))
+  one-cause (Err UnknownSample) (Err UnknownSample) gone second = refl
+  one-cause (Err UnknownSample) (Err AlreadyPublished) gone published = absurd (gone (is_out book id published))
+  one-cause (Err UnknownSample) (Err NoReaders) gone (there, none) = absurd (gone (there.0, there.1, there.2))
+  one-cause (Err AlreadyPublished) (Ok done) published (there, some) = absurd (apart there published)
+  one-cause (Err AlreadyPublished) (Err UnknownSample) published gone = absurd (gone (is_out book id published))
+  one-cause (Err AlreadyPublished) (Err AlreadyPublished) published second = refl
+  one-cause (Err AlreadyPublished) (Err NoReaders) published (there, none) = absurd (apart there published)
+  one-cause (Err NoReaders) (Ok done) (there, none) (there_too, some) = absurd (omega arith)
+  one-cause (Err NoReaders) (Err UnknownSample) (there, none) gone = absurd (gone (there.0, there.1, there.2))
+  one-cause (Err NoReaders) (Err AlreadyPublished) (there, none) published = absurd (apart there published)
+  one-cause (Err NoReaders) (Err NoReaders) first second = refl
+  one-cause (Ok done) other first none = absurd none
+  one-cause (Err UnknownSample) other first none = absurd none
+  one-cause (Err AlreadyPublished) other first none = absurd none
+  one-cause (Err NoReaders) other first none = absurd none
+  one-cause one other none second = absurd none
+
+  same-set : (i j returns : ℕ) (sample found : Sample) → IsAt book id i sample → IsAt book id j found →
+      with_returns book i sample returns ≡ with_returns book j found returns
+  same-set i j returns sample found here there =
+      ap (λ k. with_returns book k sample returns) (one_position book id i j sample found is here there)
+      ∙ ap (λ s. with_returns book j s returns) (one_sample book id i j sample found is here there)
+
+  publish-one_book : (answer : Result (Unit {0}) LoanError) (new next : Book) →
+      Publishes book id readers answer new → Publishes book id readers answer next → new ≡ next
+  publish-one_book (Ok done) new next (i, sample, at, unpublished, some, same) (j, found, there, unpublished_too, some_too, same_too) =
+      same ∙ same-set i j readers sample found at there ∙ sym same_too
+  publish-one_book (Err UnknownSample) new next (gone, same) (gone_too, same_too) = same ∙ sym same_too
+  publish-one_book (Err AlreadyPublished) new next (published, same) (published_too, same_too) = same ∙ sym same_too
+  publish-one_book (Err NoReaders) new next (there, none, same) (there_too, none_too, same_too) = same ∙ sym same_too
+  publish-one_book answer new next none none_too = absurd none
+
+  to_come : (i j : ℕ) (sample found : Sample) → IsAt book id i sample → IsAt book id j found →
+      returns_to_come sample.returns ≡ returns_to_come found.returns
+  to_come i j sample found here there = ap (λ (s : Sample). returns_to_come s.returns) (one_sample book id i j sample found is here there)
+
+  pub give-one : (one other : Result Bool LoanError) (new next : Book) → GivesBack book id one new → GivesBack book id other next →
+      (one ≡ other) × (new ≡ next)
+  give-one (Ok true) (Ok true) new next (i, sample, at, last, same) (j, found, there, last_too, same_too) =
+      (refl, same ∙ ap (λ k. without book k) (one_position book id i j sample found is at there) ∙ sym same_too)
+  give-one (Ok true) (Ok false) new next (i, sample, at, last, same) (j, found, there, more, same_too) =
+      let come = to_come i j sample found at there in absurd (omega arith)
+  give-one (Ok false) (Ok true) new next (i, sample, at, more, same) (j, found, there, last, same_too) =
+      let come = to_come i j sample found at there in absurd (omega arith)
+  give-one (Ok false) (Ok false) new next (i, sample, at, more, same) (j, found, there, more_too, same_too) = (
+    refl,
+    same ∙ ap (λ n. with_returns book i sample (n - 1)) (to_come i j sample found at there)
+        ∙ same-set i j (returns_to_come found.returns - 1) sample found at there ∙ sym same_too,
+  )
+  give-one (Ok true) (Err UnknownSample) new next (i, sample, at, last, same) (gone, same_too) = absurd (gone (i, sample, at))
+  give-one (Ok false) (Err UnknownSample) new next (i, sample, at, more, same) (gone, same_too) = absurd (gone (i, sample, at))
+  give-one (Err UnknownSample) (Ok true) new next (gone, same) (j, found, there, last, same_too) = absurd (gone (j, found, there))
+  give-one (Err UnknownSample) (Ok false) new next (gone, same) (j, found, there, more, same_too) = absurd (gone (j, found, there))
+  give-one (Err UnknownSample) (Err UnknownSample) new next (gone, same) (gone_too, same_too) = (refl, same ∙ sym same_too)
+  give-one (Ok true) other new next first none = absurd none
+  give-one (Ok false) other new next first none = absurd none
+  give-one (Err UnknownSample) other new next first none = absurd none
+  give-one one other new next none second = absurd none
+
+pub publish-one : (book : Book) (is : IsBook book) (id readers : ℕ) (one other : Result (Unit {0}) LoanError) (new next : Book) →
+    Publishes book id readers one new → Publishes book id readers other next → (one ≡ other) × (new ≡ next)
+publish-one book is id readers one other new next first second =
+    let same = one-cause book is id readers one other (publish-cause book id readers one new first) (publish-cause book id readers other next second) in
+    (same, publish-one_book book is id readers one new next first (subst (λ a. Publishes book id readers a next) (sym same) second))

@@ -1,0 +1,35 @@
+//! What holds of every book and every answer. Nothing here does anything: each contract is a law.
+ghost use Rattle.std.specs.Prelude.{◌≡◌, ◌↔◌, ℕ, Bool, Result, IsTrue};
+ghost use Rattle.loan_book.specs.declared.error.LoanError.{LoanError};
+ghost use Rattle.loan_book.specs.declared.run.LoanCall.{LoanCall};
+ghost use Rattle.loan_book.specs.declared.run.LoanReply.{LoanReply};
+ghost use Rattle.loan_book.specs.Book.{Book, IsBook};
+ghost use Rattle.loan_book.specs.Calls.{Publishes, GivesBack};
+
+use crate::error::LoanError;
+use crate::run::{LoanCall, LoanReply};
+
+/// A book has one answer alone to each `publish` and each `give_back`, and leads to one book. A `loan` may have several:
+/// which chunk is given is the allocator's to say, and nothing foretells that memory is refused. Each of its answers leads
+/// to one book, too, by [`LoanBook::law`](crate::LoanBook::law). It does nothing: its contract is the law.
+pub fn one_answer_law()
+    ensures publish { (book : Book) (id readers : ℕ)
+        (one other : Result (Unit {0}) LoanError) (new next : Book) → IsBook book
+        → Publishes book id readers one new → Publishes book id readers other next
+        → (one ≡ other) × (new ≡ next) }
+    ensures give_back { (book : Book) (id : ℕ)
+        (one other : Result Bool LoanError) (new next : Book) → IsBook book
+        → GivesBack book id one new → GivesBack book id other next
+        → (one ≡ other) × (new ≡ next) }
+{}
+
+/// Errors, calls and replies are equal, by `==`, exactly where they are the same variant with the same fields. It does
+/// nothing: its contract is the law.
+pub fn equality_law()
+    ensures errors { (one other : LoanError)
+        → IsTrue (⟦<LoanError as PartialEq>⟧.eq one other) ↔ (one ≡ other) }
+    ensures calls { (one other : LoanCall)
+        → IsTrue (⟦<LoanCall as PartialEq>⟧.eq one other) ↔ (one ≡ other) }
+    ensures replies { (one other : LoanReply)
+        → IsTrue (⟦<LoanReply as PartialEq>⟧.eq one other) ↔ (one ≡ other) }
+{}
