@@ -1,13 +1,14 @@
 -- The numbers that aren't in a set, as the first entries of an array.
 use Rattle.std.proofs.Common.{◌≡◌, ◌≢◌, ℕ, ◌+◌, ◌-◌, ◌≤◌, ◌<◌, Bool, true, false, eqb, List, [], ◌∷◌, ◌++◌, length, get_or, set, take, replicate, refl, ap, sym, ◌∙◌, arith, inl, inr, ext_get_or, length-set, get_or-set_same, get_or-set_other, eq-eqb}
-use Rattle.std.specs.Prelude.{Some, slice_get, not, ◌||◌}
+use Rattle.std.specs.Prelude.{Some, slice_get, not, ◌||◌, IsTrue, ◌↔◌}
 use Rattle.std.specs.List.{list_any}
 use Rattle.std.proofs.lemmas.Bool.{cases_eq, ne_eqb, false≢true}
-use Rattle.std.proofs.lemmas.List.{length-take-le, length-replicate, get_or-take, get_or-replicate, get_or_default, take-set, get_or_append_left, get_or_push, length_push}
+use Rattle.std.proofs.lemmas.List.{length-take-le, length-replicate, get_or-take, get_or-replicate, get_or_default, take-set, take-replicate, get_or_append_left, get_or_push, length_push}
 use Rattle.std.proofs.lemmas.List.FromFn.{length-map-range_with_len, get_or-map-range_with_len}
 use Rattle.std.proofs.lemmas.List.Folds.{list_any_at, list_any_more, list_any_none}
 use Rattle.std.proofs.lemmas.Option.{slice_get_within, slice_get-get_or, get_or_from_slice_get}
-use Rattle.bb_memory.specs.Flags.{is_held, held_numbers, IsFreeList}
+use Rattle.std.proofs.Math.Seq.{take-set-lt}
+use Rattle.bb_memory.specs.Flags.{is_held, held_numbers, IsFreeList, AreFlags}
 use Rattle.bb_memory.specs.NumberSet.{Has, Lacks, IsFull}
 use Rattle.bb_memory.proofs.Listings.{few}
 
@@ -196,3 +197,57 @@ none_held room bound free fits len named = (
       list_any_at (eqb n) (take bound free) (bound - 1 - n) 0 (omega (arith, short)) (eq-eqb n (get_or (take bound free) (bound - 1 - n) 0) (sym read)) in
       get_or-held_numbers bound (take bound free) n n_in ∙ ap not there ∙ sym (get_or-replicate bound n false false n_in)),
 )
+
+-- THE FLAGS
+
+-- a number's flag is set in both
+changed_flags : (room bound : ℕ) (held : List Bool) (old new : List Bool) (number : ℕ) (flag : Bool) → number < bound →
+    take bound held ≡ old → new ≡ set old number flag → take bound (set held number flag) ≡ new
+changed_flags room bound held old new number flag below same after =
+    take-set-lt bound held number flag below ∙ (ap (λ (l : List Bool). set l number flag) same ∙ sym after)
+
+-- the last entry is taken, and its flag is set
+pub flags_taken : (room bound : ℕ) (held : List Bool) (free : List ℕ) (left number : ℕ) → AreFlags room bound held free left →
+    0 < left → number ≡ get_or free (left - 1) 0 → number < bound → AreFlags room bound (set held number true) free (left - 1)
+flags_taken room bound held free left number is some last below = record {
+  listed = less room bound free left is.listed some;
+  len = length-set held number true ∙ is.len;
+  flags = changed_flags room bound held _ _ number true below is.flags (taken_off room bound free left number is.listed some last below);
+}
+
+-- a number is put behind the entries, and its flag is cleared
+pub flags_released : (room bound : ℕ) (held : List Bool) (free : List ℕ) (left number : ℕ) → AreFlags room bound held free left →
+    Has (held_numbers bound (take left free)) number →
+    AreFlags room bound (set held number false) (set free left number) (left + 1)
+flags_released room bound held free left number is has =
+    let put = more room bound free left number is.listed has in record {
+      listed = put.2;
+      len = length-set held number false ∙ is.len;
+      flags = changed_flags room bound held _ _ number false put.0 is.flags put.3;
+    }
+
+-- none is set at first
+pub flags_fresh : (room bound : ℕ) (free : List ℕ) → bound ≤ room → length free ≡ room →
+    ((k : ℕ) → k < bound → get_or free k 0 ≡ bound - 1 - k) → AreFlags room bound (replicate room false) free bound
+flags_fresh room bound free fits len named =
+    let fresh = none_held room bound free fits len named in record {
+      listed = fresh.0;
+      len = length-replicate room false;
+      flags = take-replicate bound room false fits ∙ sym fresh.1;
+    }
+
+-- a number's flag says whether it is in the set
+flag_tells : (room bound : ℕ) (held : List Bool) (free : List ℕ) (left number : ℕ) → AreFlags room bound held free left →
+    number < bound → slice_get (held_numbers bound (take left free)) number ≡ Some (get_or held number false)
+flag_tells room bound held free left number is below =
+    let fits = is.listed.fits in
+    let len : length (take bound held) ≡ bound = length-take-le bound held (omega (arith, is.len)) in
+    ap (λ (l : List Bool). slice_get l number) (sym is.flags)
+    ∙ (slice_get-get_or (take bound held) number false (omega (arith, len))
+    ∙ ap Some (get_or-take bound held number false below))
+
+pub has_flag : (room bound : ℕ) (held : List Bool) (free : List ℕ) (left number : ℕ) → AreFlags room bound held free left →
+    number < bound → IsTrue (get_or held number false) ↔ Has (held_numbers bound (take left free)) number
+has_flag room bound held free left number is below =
+    let told = flag_tells room bound held free left number is below in
+    (λ set. told ∙ ap Some set, λ has. let e : Some (get_or held number false) ≡ Some true = sym told ∙ has in cc)

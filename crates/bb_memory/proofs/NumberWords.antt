@@ -5,7 +5,7 @@ use Rattle.std.proofs.lemmas.List.FromFn.{length-map-range_with_len, get_or-map-
 use Rattle.std.proofs.lemmas.Bool.{cases_eq, cases_lt, false≢true}
 use Rattle.std.proofs.lemmas.Nat.Bits.{bit_at_set_same, bit_at_set_other, bit_at_clear_same, bit_at_clear_other, bit_at-zero, bit_at_ones, bit_at-trailing_ones, bit_at_mask_inside, bit_at_mask_below, ones_shl}
 use Rattle.std.proofs.lemmas.Option.{slice_get-get_or, slice_get_within}
-use Rattle.std.specs.Prelude.{bit_and, bit_or, Some, slice_get}
+use Rattle.std.specs.Prelude.{bit_and, bit_or, Some, slice_get, IsTrue, ◌↔◌}
 use Rattle.std.specs.Int.{bit_at, bit_not, trailing_ones}
 use Rattle.bb_memory.specs.IndexWords.{index_words}
 use Rattle.bb_memory.specs.NumberSet.{Has, Lacks, IsFull}
@@ -123,6 +123,20 @@ full_words bound words are full n below =
     let is : has_bit words n ≡ true =
     ap (λ x. eqb (bit_at x (n % 64)) 1) (full (n / 64) (omega arith) at) ∙ eq-eqb _ 1 (bit_at_ones 64 (n % 64) (omega arith)) in
     slice_get-numbers_of bound words n n_in ∙ ap Some is
+
+-- a number below the bound has a word
+pub has_bound : (bound : ℕ) (words : List ℕ) (number : ℕ) (numbers : List Bool) → AreIndexWords bound words →
+    numbers_of bound words ≡ numbers → number < length numbers → (number < bound) × (number / 64 < length words)
+has_bound bound words number numbers are same within =
+    let below : number < bound = omega (arith, within, ap (λ (l : List Bool). length l) same, length-numbers_of bound words) in
+    (below, omega (arith, are.count))
+
+-- its bit says whether it is in the set
+pub bit_tells : (bound : ℕ) (words : List ℕ) (number : ℕ) → number < bound →
+    IsTrue (has_bit words number) ↔ Has (numbers_of bound words) number
+bit_tells bound words number below =
+    let told = slice_get-numbers_of bound words number below in
+    (λ set. told ∙ ap Some set, λ has. let e : Some (has_bit words number) ≡ Some true = sym told ∙ has in cc)
 
 -- a number of the set has a word
 pub has_word : (bound : ℕ) (words : List ℕ) (number : ℕ) → AreIndexWords bound words → Has (numbers_of bound words) number →

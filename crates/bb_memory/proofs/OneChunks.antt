@@ -163,6 +163,13 @@ answer-whole region live layout chunk told =
     let len = ap (λ (k : Chunk). k.len) told.2 in
     (omega (arith, place, len), omega (arith, place, len))
 
+pub answer-inside : (region : Region) (live : List Chunk) (layout : Layout) (chunk : Chunk) →
+    MayAllocate region live layout (Ok chunk) → IsInside region chunk
+answer-inside region live layout chunk told =
+    let byte = answer-byte region live layout chunk told in
+    let whole = answer-whole region live layout chunk told in
+    record { above = byte.above; below = omega (arith, whole.1) }
+
 -- it has at least the asked size
 pub answer-long : (region : Region) (live : List Chunk) (layout : Layout) (chunk : Chunk) →
     MayAllocate region live layout (Ok chunk) → layout.size ≤ chunk.len

@@ -14,10 +14,10 @@ use Rattle.bb_memory_base.specs.declared.allocator.AllocationError.TheVariants.{
 use Rattle.bb_memory_base.specs.declared.allocator.AllocationGrowError.{AllocationGrowError}
 use Rattle.bb_memory_base.specs.declared.allocator.AllocationShrinkError.{AllocationShrinkError}
 use Rattle.bb_memory_base.proofs.Layouts.{layout-plain}
-use Rattle.bb_memory_base.proofs.PoolGeometries.{bucket_place-aligned, bucket_place-after, stride-above}
+use Rattle.bb_memory_base.proofs.PoolGeometries.{bucket_place-aligned, bucket_place-after}
 use Rattle.bb_memory_base.proofs.SliceGets.{slice_get-set_other, slice_get-set_same}
 use Rattle.bb_memory.specs.NumberSet.{Has, Lacks}
-use Rattle.bb_memory.specs.Pool.{Pool, IsPool, StandsFor, HoldsPlace, AreABucketApart, Takes, Frees, with_flag}
+use Rattle.bb_memory.specs.Pool.{Pool, IsPool, StandsFor, HoldsPlace, AreAStrideApart, Takes, Frees, with_flag}
 use Rattle.bb_memory.proofs.Pools.{Has-set_true, IsPool-with_flag, bucket-below, filled-at, held-inside, lacked-free, one_bucket, stands-given, stands-freed, stands-resized}
 
 -- POWERS OF TWO
@@ -136,20 +136,19 @@ Takes-was_free pool layout (Ok chunk) new is (i, within, lacks, given, after) = 
     absurd (let e : Some true ≡ Some false = sym holds.1 ∙ (ap (slice_get pool.held) same ∙ lacks) in cc)
 Takes-was_free pool layout (Err error) new is takes = tt
 
--- and it is a whole bucket apart from each that was
+-- and it is a stride apart from each that was
 pub Takes-apart : (pool : Pool) (layout : Layout) (answer : Result Chunk AllocationError) (new : Pool) →
     Takes pool layout answer new →
-    IfOk answer (λ chunk. (place : ℕ) → HoldsPlace pool place → AreABucketApart pool.geometry.bucket place chunk.place)
+    IfOk answer (λ chunk. (place : ℕ) → HoldsPlace pool place → AreAStrideApart pool.geometry.bucket place chunk.place)
 Takes-apart pool layout (Ok chunk) new (i, within, lacks, given, after) = λ place holds.
     let differ : holds.0 ≢ i =
     λ same. absurd (let e : Some true ≡ Some false = sym holds.1 ∙ (ap (slice_get pool.held) same ∙ lacks) in cc) in
-    let wide = stride-above pool.geometry.bucket in
     let at : chunk.place ≡ bucket_place pool.geometry i = ap (λ (c : Chunk). c.place) given in
     elim (cases_lt holds.0 i) [
-      | inl below ↦ inl (omega (arith, bucket_place-after pool.geometry holds.0 i below, wide, at, holds.2))
+      | inl below ↦ inl (omega (arith, bucket_place-after pool.geometry holds.0 i below, at, holds.2))
       | inr above ↦
           let more : i < holds.0 = omega (arith, above, differ) in
-          inr (omega (arith, bucket_place-after pool.geometry i holds.0 more, wide, at, holds.2))
+          inr (omega (arith, bucket_place-after pool.geometry i holds.0 more, at, holds.2))
     ]
 Takes-apart pool layout (Err error) new takes = tt
 

@@ -36,7 +36,7 @@ places-aligned pool live stands =
 
 -- chunks in two buckets are a stride apart
 buckets-apart : (geometry : PoolGeometry) (i j : ℕ) (one other : Chunk) → one.place ≡ bucket_place geometry i →
-    other.place ≡ bucket_place geometry j → one.place ≢ other.place → AreAStrideApart geometry.bucket one other
+    other.place ≡ bucket_place geometry j → one.place ≢ other.place → AreAStrideApart geometry.bucket one.place other.place
 buckets-apart geometry i j one other at_i at_j differ =
     elim (cases_lt i j) [
       | inl below ↦ inl (omega (arith, bucket_place-after geometry i j below, at_i, at_j))
@@ -50,9 +50,9 @@ buckets-apart geometry i j one other at_i at_j differ =
 
 -- any two chunks are a stride apart
 pub places-a_stride_apart : (pool : Pool) (live : List Chunk) → StandsFor pool live →
-    AllPairs (AreAStrideApart pool.geometry.bucket) live
+    AllPairs (λ one other. AreAStrideApart pool.geometry.bucket one.place other.place) live
 places-a_stride_apart pool live stands =
-    AllPairs-from_positions (AreAStrideApart pool.geometry.bucket) live (λ i j one other before at_i at_j.
+    AllPairs-from_positions (λ (one other : Chunk). AreAStrideApart pool.geometry.bucket one.place other.place) live (λ i j one other before at_i at_j.
     let first = filled-at pool live stands i one at_i in
     let second = filled-at pool live stands j other at_j in
     let differ = AllPairs-at (λ (c d : Chunk). c.place ≢ d.place) live stands.differ i j one other before at_i at_j in

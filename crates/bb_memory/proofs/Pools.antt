@@ -1,7 +1,7 @@
 -- The live lists that a pool stands for: of no chunk, of one more, of one less, and with one resized.
 use Rattle.std.proofs.Common.{◌≡◌, ◌≢◌, ℕ, zero, suc, ◌+◌, ◌<◌, ◌≤◌, Bool, true, false, List, [], ◌∷◌, ◌++◌, length, refl, sym, ap, subst, ◌∙◌, arith, Some, ◌⊎◌, inl, inr}
 use Rattle.std.specs.Prelude.{slice_get, slice_set, remove, All}
-use Rattle.std.proofs.lemmas.Bool.{cases_lt}
+use Rattle.std.proofs.lemmas.Bool.{cases_eq, cases_lt}
 use Rattle.std.proofs.lemmas.Option.{slice_get_within, slice_get-get_or, same_Some}
 use Rattle.std.proofs.lemmas.List.Elements.{All-push}
 use Rattle.std.proofs.lemmas.List.Kept.{AllPairs-cons}
@@ -18,13 +18,6 @@ use Rattle.bb_memory.specs.NumberSet.{Has, Lacks}
 use Rattle.bb_memory.specs.Pool.{Pool, IsPool, Fills, StandsFor, HoldsPlace, fresh_pool, with_flag}
 use Rattle.bb_memory.proofs.Positions.{All-at, All-from_positions, AllPairs-at, AllPairs-from_positions, slice_get-push_old, slice_get-push_new, slice_get-removed, slice_get-unremoved}
 
--- two numbers are the same or not
-same_or_not : (m n : ℕ) → (m ≡ n) ⊎ (m ≢ n)
-same_or_not m n = elim (cases_lt m n) [
-  | inl below ↦ inr (λ same. omega arith)
-  | inr above ↦ elim (cases_lt n m) [ inl less ↦ inr (λ same. omega arith) | inr same ↦ inl (omega arith) ]
-]
-
 -- BUCKETS
 
 -- a held bucket is one of the pool's
@@ -35,7 +28,7 @@ bucket-below pool is i flag at = omega (arith, is.flags, slice_get_within pool.h
 -- a bucket has one number
 pub one_bucket : (geometry : PoolGeometry) → IsPoolGeometry geometry → (i j : ℕ) →
     bucket_place geometry i ≡ bucket_place geometry j → i ≡ j
-one_bucket geometry is i j same = elim (same_or_not i j) [
+one_bucket geometry is i j same = elim (cases_eq i j) [
   | inl equal ↦ equal
   | inr apart ↦ absurd (bucket_place-apart geometry is i j apart same)
 ]
@@ -112,7 +105,7 @@ fresh-stands geometry = record {
 
 -- a number that was in the set stays in it where another is put in
 pub Has-set_true : (held : List Bool) (i j : ℕ) → Lacks held i → Has held j → Has (slice_set held i true) j
-Has-set_true held i j lacks has = elim (same_or_not j i) [
+Has-set_true held i j lacks has = elim (cases_eq j i) [
   | inl same ↦ absurd (let e : Some true ≡ Some false = sym has ∙ (ap (slice_get held) same ∙ lacks) in cc)
   | inr apart ↦ slice_get-set_other held i j true apart ∙ has
 ]
@@ -163,7 +156,7 @@ stands-freed pool live position i chunk is stands at fills =
     let differ : PlacesDiffer (remove live position) =
     all_pairs_remove (λ (one other : Chunk). one.place ≢ other.place) live position (slice_get_within live position chunk at) stands.differ in
     stands_from new (IsPool-with_flag pool is i false) (remove live position) filled differ (λ j has.
-    elim (same_or_not j i) [
+    elim (cases_eq j i) [
       | inl same ↦ absurd (let e : Some true ≡ Some false = sym has ∙ (ap (slice_get new.held) same ∙ here) in cc)
       | inr apart ↦
           let was = stands.held j (sym (slice_get-set_other pool.held i j false apart) ∙ has) in
@@ -193,7 +186,7 @@ resized-was live position chunk resized at place k now there =
 -- a chunk of the list has its place in the resized list
 resized-is : (live : List Chunk) (position : ℕ) (chunk resized : Chunk) → slice_get live position ≡ Some chunk →
     resized.place ≡ chunk.place → (k place : ℕ) → IsAt live k place → IsAt (slice_set live position resized) k place
-resized-is live position chunk resized at place k q was = elim (same_or_not k position) [
+resized-is live position chunk resized at place k q was = elim (cases_eq k position) [
   | inl same ↦
       let c : was.chunk ≡ chunk = same_Some was.chunk chunk (sym was.there ∙ (ap (slice_get live) same ∙ at)) in
       record {

@@ -1,5 +1,5 @@
 -- A pool, as its contracts see it.
-use Rattle.std.specs.Prelude.{◌≡◌, ℕ, ◌-◌, ◌+◌, ◌≤◌, ◌<◌, ◌^◌, ◌⊎◌, Bool, true, false, List, All, length, replicate, slice_set, Result, Ok, Err}
+use Rattle.std.specs.Prelude.{◌≡◌, ℕ, ◌-◌, ◌+◌, ◌≤◌, ◌<◌, ◌^◌, ◌⊎◌, Bool, true, false, List, All, length, min, replicate, slice_set, Result, Ok, Err}
 use Rattle.bb_memory_base.specs.Region.{Region, IsRegion}
 use Rattle.bb_memory_base.specs.Chunk.{Chunk}
 use Rattle.bb_memory_base.specs.LiveList.{IsSound}
@@ -62,13 +62,8 @@ pub record StandsFor (pool : Pool) (live : List Chunk) : Type 0 where
   pub held : (i : ℕ) → Has pool.held i → IsHeld pool.geometry live i
 
 -- one of the two places is at least a stride behind the other
-abbrev pub AreAStrideApart : Layout → Chunk → Chunk → Type 0
-AreAStrideApart bucket one other =
-    (one.place + stride bucket ≤ other.place) ⊎ (other.place + stride bucket ≤ one.place)
-
--- a whole bucket at one place ends at or before the other place, or the other way round
-abbrev pub AreABucketApart : Layout → ℕ → ℕ → Type 0
-AreABucketApart bucket one other = (one + bucket.size ≤ other) ⊎ (other + bucket.size ≤ one)
+abbrev pub AreAStrideApart : Layout → ℕ → ℕ → Type 0
+AreAStrideApart bucket one other = (one + stride bucket ≤ other) ⊎ (other + stride bucket ≤ one)
 
 -- the place is that of a held bucket
 abbrev pub HoldsPlace : Pool → ℕ → Type 0
@@ -107,14 +102,13 @@ pub record CountedPool : Type 0 where
 abbrev pub counted : Pool → ℕ → CountedPool
 counted pool reads = record { pool = pool; reads = reads }
 
--- the pool is one, and its last request made at most as many reads as it has index words
+-- the pool is one, and its last request read at most as many index words as it has
 pub record IsCountedPool (counted : CountedPool) : Type 0 where
   pub is_pool : IsPool counted.pool
   pub most : counted.reads ≤ index_words counted.pool.geometry.buckets
 
--- how many reads of so many words a request for the layout may have made: at most as many as there are words, at least one if
--- there is one, and none where its size or its alignment is refused
-pub record MayRead (bucket layout : Layout) (words reads : ℕ) : Type 0 where
-  pub most : reads ≤ words
-  pub least : IsWithin bucket layout → 0 < words → 0 < reads
-  pub none : ¬ IsWithin bucket layout → reads ≡ 0
+-- how many words a request for the layout reads, of so many: one if there is one, and none where its size or its alignment is
+-- refused
+pub record Reads (bucket layout : Layout) (words reads : ℕ) : Type 0 where
+  pub searched : IsWithin bucket layout → reads ≡ min words 1
+  pub refused : ¬ IsWithin bucket layout → reads ≡ 0

@@ -2,6 +2,7 @@
 ghost use Rattle.std.specs.Prelude.{◌≡◌, ◌∷◌, ◌++◌, [], List, All, ◌+◌, ◌-◌, ◌<◌, ◌≤◌, ◌^◌, ◌%◌, ◌↔◌, ℕ, IsOk, IfOk, OnOk, OnErr, IfErr, IsTrue, Some, Result, length, slice_get};
 ghost use Rattle.bb_memory_base.specs.Region.{Region, IsRegion, region_at, region_end};
 ghost use Rattle.bb_memory_base.specs.Chunk.{Chunk, IsInside, chunk_end};
+ghost use Rattle.bb_memory_base.specs.HeldBytes.{held_region, ZeroesOnly};
 ghost use Rattle.bb_memory_base.specs.LiveList.{IsSound};
 ghost use Rattle.bb_memory_base.specs.Run.{Step, IsRun};
 ghost use Rattle.bb_memory_base.specs.BumpObject.{MayAllocate, IsInOrder, StandsFor, bump_object, chunk_at_or_after, used_space};
@@ -17,6 +18,7 @@ ghost use Rattle.bb_memory.specs.SharedBump.{fresh_party, scene_at};
 pub use crate::allocator::{AllocationError, BaseAllocator};
 use crate::allocator::{Command, Reply, run_base};
 use crate::layout::{Chunk, Layout};
+use crate::region;
 use crate::shared_bump::{BumpParty, SharedBumpAllocator};
 use std::alloc::{AllocError, Global};
 use std::fmt;
@@ -68,7 +70,7 @@ impl BumpAllocator {
     pub fn can_make(start: usize, size: usize) -> bool
         ensures { IsTrue result ↔ IsRegion (region_at start size) }
     {
-        crate::region::Region::can_make(start, size)
+        region::Region::can_make(start, size)
     }
 
     /// An allocator over the region of `size` bytes at `start`, of which `position` are used.
@@ -194,6 +196,8 @@ impl BaseAllocator for BumpAllocator {
         ensures appended { IfOk result (λ chunk. (live : List Chunk)
             → StandsFor self.old.region self.old.used live
             → StandsFor self.new.region self.new.used (live ++ chunk ∷ [])) }
+        ensures kept { OnErr result ((live : List Chunk) → StandsFor self.old.region self.old.used live
+            → StandsFor self.new.region self.new.used live) }
         ensures inside { IfOk result (IsInside self.old.region) }
         ensures aligned { IfOk result (λ chunk. chunk.place % layout.align ≡ 0) }
         ensures long_enough { IfOk result (λ chunk. layout.size ≤ chunk.len) }
@@ -211,7 +215,7 @@ impl BaseAllocator for BumpAllocator {
 
         // What is used then ends with the chunk, and a refusal leaves everything.
         ensures used { IfOk result (λ chunk. self.new.region.start + self.new.used ≡ chunk_end chunk) }
-        ensures kept { OnErr result (self.new ≡ self.old) }
+        ensures still { OnErr result (self.new ≡ self.old) }
     {
         if layout.size() == 0 {
             return Err(AllocationError::SizeIsZero);
@@ -231,7 +235,53 @@ impl BaseAllocator for BumpAllocator {
         self.current_position = 0;
     }
 
+    /// Asks for a chunk as `allocate` does, and makes its bytes zero. Every other byte of the region stays, and after a
+    /// refusal all do. The region's start and size have to be those of the bump's maker.
+    fn allocate_zeroed(
+        &mut self,
+        layout: Layout,
+        region: &mut region::Region,
+    ) -> Result<Chunk, AllocationError>
+        requires same_region { held_region region.old ≡ self.old.region }
+        ensures answer { (live : List Chunk) → StandsFor self.old.region self.old.used live
+            → MayAllocate self.old.region live layout result }
+        ensures appended { IfOk result (λ chunk. (live : List Chunk)
+            → StandsFor self.old.region self.old.used live
+            → StandsFor self.new.region self.new.used (live ++ chunk ∷ [])) }
+        ensures kept { OnErr result ((live : List Chunk) → StandsFor self.old.region self.old.used live
+            → StandsFor self.new.region self.new.used live) }
+        ensures inside { IfOk result (IsInside self.old.region) }
+        ensures aligned { IfOk result (λ chunk. chunk.place % layout.align ≡ 0) }
+        ensures long_enough { IfOk result (λ chunk. layout.size ≤ chunk.len) }
+        ensures geometry { self.new.region ≡ self.old.region }
+
+        // Each outcome by the value alone, both ways.
+        ensures accepted { IsOk result ↔ ((0 < layout.size)
+            × (chunk_end (chunk_at_or_after (self.old.region.start + self.old.used) layout)
+            ≤ region_end self.old.region)) }
+        ensures size_is_zero { (result ≡ Err AllocationError.SizeIsZero) ↔ (layout.size ≡ 0) }
+        ensures begins { IfOk result (λ chunk. chunk.place
+            ≡ least_place (self.old.region.start + self.old.used) layout.align) }
+        ensures exact_size { IfOk result (λ chunk. chunk.len ≡ layout.size) }
+        ensures behind { IfOk result (λ chunk. self.old.region.start + self.old.used ≤ chunk.place) }
+
+        // What is used then ends with the chunk, and a refusal leaves everything.
+        ensures used { IfOk result (λ chunk. self.new.region.start + self.new.used ≡ chunk_end chunk) }
+        ensures still { OnErr result (self.new ≡ self.old) }
+
+        ensures zeroed { IfOk result (λ chunk. ZeroesOnly region.old region.new chunk) }
+        ensures bytes_kept { OnErr result (region.new ≡ region.old) }
+    {
+        let chunk = self.allocate(layout)?;
+        region.zero(chunk);
+        Ok(chunk)
+    }
+
     fn stands_for_some_list(&self) {
+        let _ = &self.start;
+    }
+
+    fn answers_fit(&self) {
         let _ = &self.start;
     }
 
@@ -275,6 +325,9 @@ pub fn bump_object_law()
     ensures exact_size { (region : Region) (live : List Chunk) (layout : Layout) (chunk : Chunk)
         → MayAllocate region live layout (Ok chunk)
         → chunk.len ≡ layout.size }
+    ensures inside { (region : Region) (live : List Chunk) (layout : Layout) (chunk : Chunk)
+        → IsInOrder region.start live → MayAllocate region live layout (Ok chunk)
+        → IsInside region chunk }
     ensures after_all { (region : Region) (live : List Chunk) (layout : Layout) (chunk : Chunk)
         → IsInOrder region.start live → MayAllocate region live layout (Ok chunk)
         → All (λ other. chunk_end other ≤ chunk.place) live }

@@ -1,7 +1,7 @@
 //! A set of numbers below a bound, from which any number that isn't in it can be taken.
 //!
 //! [`words::Words`] takes memory once, for a bit a number; [`flags::Flags`] takes none, and has an array with a flag a number.
-//! Both keep a cursor at what was given back last, so that a taking seldom looks further.
+//! Both keep a list of where a number is free, so that nothing is searched.
 pub mod flags;
 pub mod index_words;
 pub mod words;
@@ -10,7 +10,7 @@ pub use crate::index_set::index_words::Counter;
 
 /// A set of numbers below a bound. It is empty when it is made.
 pub trait IndexSet: Drop {
-    ghost use Rattle.std.specs.Prelude.{◌≡◌, ◌<◌, ◌≤◌, ℕ, Bool, true, false, List, length, slice_set, IfSome, IfNone};
+    ghost use Rattle.std.specs.Prelude.{◌≡◌, ◌<◌, ◌↔◌, ℕ, Bool, true, false, List, length, min, slice_set, IsTrue, IfSome, IfNone};
     ghost use Rattle.bb_memory.specs.NumberSet.{Has, Lacks, IsFull};
 
     /// A flag for each number below the bound: whether it is in the set.
@@ -24,19 +24,23 @@ pub trait IndexSet: Drop {
         ensures { result ≡ length (numbers self.now) };
 
     /// Puts a number that isn't in the set into it, and answers that number. There is none exactly where every number is
-    /// in the set. The counter has to stand at 0, and ends at how many words were read.
+    /// in the set. The counter has to stand at 0, and ends at how many words were read: one, or none where there is none.
     fn take(&mut self, counter: &mut Counter) -> Option<usize>
         requires { counter.old ≡ 0 }
         ensures lacked { IfSome result (Lacks (numbers self.old)) }
         ensures taken { IfSome result (λ number. numbers self.new
             ≡ slice_set (numbers self.old) number true) }
         ensures full { IfNone result (IsFull (numbers self.old)) }
-        ensures kept { IfNone result (numbers self.new ≡ numbers self.old) }
-        ensures most { counter.new ≤ words (length (numbers self.old)) }
-        ensures least { 0 < words (length (numbers self.old)) → 0 < counter.new };
+        ensures still { IfNone result (numbers self.new ≡ numbers self.old) }
+        ensures counted { counter.new ≡ min (words (length (numbers self.old))) 1 };
 
     /// Takes a number, which has to be in the set, out of it, and no other.
     fn release(&mut self, number: usize)
         requires { Has (numbers self.old) number }
         ensures { numbers self.new ≡ slice_set (numbers self.old) number false };
+
+    /// Whether a number below the bound is in the set. No word is read through a counter.
+    fn has(&self, number: usize) -> bool
+        requires { number < length (numbers self.now) }
+        ensures { IsTrue result ↔ Has (numbers self.now) number };
 }

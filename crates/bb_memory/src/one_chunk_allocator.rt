@@ -3,6 +3,7 @@ ghost use Rattle.std.specs.Prelude.{◌≡◌, ◌∷◌, ◌++◌, [], List, �
 ghost use Rattle.bb_memory_base.specs.Region.{Region, IsRegion, region_at, region_end};
 ghost use Rattle.bb_memory_base.specs.Chunk.{Chunk, IsInside, chunk_end};
 ghost use Rattle.bb_memory_base.specs.FirstPlace.{first_place};
+ghost use Rattle.bb_memory_base.specs.HeldBytes.{held_region, part_behind, ZeroesOnly};
 ghost use Rattle.bb_memory_base.specs.LiveList.{IsSound};
 ghost use Rattle.bb_memory_base.specs.Run.{IsRun};
 ghost use Rattle.bb_memory_base.specs.ResizableObject.{ResizableStep};
@@ -21,6 +22,7 @@ pub use crate::allocator::{
 use crate::allocator::{Command, Reply, run_full};
 use crate::layout::Chunk;
 pub use crate::layout::Layout;
+use crate::region;
 use std::alloc::AllocError;
 use std::marker::Model;
 
@@ -73,7 +75,7 @@ impl OneChunkAllocator {
     pub fn can_make(start: usize, size: usize) -> bool
         ensures { IsTrue result ↔ IsRegion (region_at start size) }
     {
-        crate::region::Region::can_make(start, size)
+        region::Region::can_make(start, size)
     }
 
     /// Whether no chunk is out.
@@ -83,6 +85,23 @@ impl OneChunkAllocator {
             → (IsTrue result ↔ (live ≡ [])) }
     {
         self.kept_place.is_none()
+    }
+
+    /// Whether the chunk that is out has this place, so that it may be given back: true exactly where `deallocate` may be
+    /// called with the place.
+    ///
+    /// ```
+    /// let mut one = OneChunkAllocator::new(4096, 1024);
+    /// let chunk = one.allocate(Layout::from_size_align(48, 4)?)?;
+    /// assert!(one.holds(chunk.place()));
+    /// assert!(!one.holds(chunk.place() + 1));
+    /// ```
+    pub fn holds(&self, place: usize) -> bool
+        ensures value { IsTrue result ↔ (self.now.kept ≡ Some place) }
+        ensures may_release { IsTrue result
+            ↔ ⟦<OneChunkAllocator as BaseAllocator>⟧.may_release self.now place }
+    {
+        self.kept_place == Some(place)
     }
 
     /// Where the region starts.
@@ -132,6 +151,8 @@ impl BaseAllocator for OneChunkAllocator {
             → MayAllocate self.old.region live layout result }
         ensures appended { IfOk result (λ chunk. (live : List Chunk) → StandsFor self.old live
             → StandsFor self.new (live ++ chunk ∷ [])) }
+        ensures kept { OnErr result ((live : List Chunk) → StandsFor self.old live
+            → StandsFor self.new live) }
         ensures inside { IfOk result (IsInside self.old.region) }
         ensures aligned { IfOk result (λ chunk. chunk.place % layout.align ≡ 0) }
         ensures long_enough { IfOk result (λ chunk. layout.size ≤ chunk.len) }
@@ -148,7 +169,7 @@ impl BaseAllocator for OneChunkAllocator {
         ensures begins { IfOk result (λ chunk. chunk.place ≡ first_place self.old.region layout) }
         ensures ends { IfOk result (λ chunk. chunk_end chunk ≡ region_end self.old.region) }
         ensures keeps_place { IfOk result (λ chunk. self.new.kept ≡ Some chunk.place) }
-        ensures kept { OnErr result (self.new ≡ self.old) }
+        ensures still { OnErr result (self.new ≡ self.old) }
     {
         if self.kept_place.is_some() {
             return Err(AllocationError::OutOfMemory);
@@ -175,7 +196,51 @@ impl BaseAllocator for OneChunkAllocator {
         self.kept_place = None;
     }
 
+    /// Asks for a chunk as `allocate` does, and makes its bytes zero. Every other byte of the region stays, and after a
+    /// refusal all do. The region's start and size have to be those of the allocator's maker.
+    fn allocate_zeroed(
+        &mut self,
+        layout: Layout,
+        region: &mut region::Region,
+    ) -> Result<Chunk, AllocationError>
+        requires same_region { held_region region.old ≡ self.old.region }
+        ensures answer { (live : List Chunk) → StandsFor self.old live
+            → MayAllocate self.old.region live layout result }
+        ensures appended { IfOk result (λ chunk. (live : List Chunk) → StandsFor self.old live
+            → StandsFor self.new (live ++ chunk ∷ [])) }
+        ensures kept { OnErr result ((live : List Chunk) → StandsFor self.old live
+            → StandsFor self.new live) }
+        ensures inside { IfOk result (IsInside self.old.region) }
+        ensures aligned { IfOk result (λ chunk. chunk.place % layout.align ≡ 0) }
+        ensures long_enough { IfOk result (λ chunk. layout.size ≤ chunk.len) }
+        ensures geometry { self.new.region ≡ self.old.region }
+
+        // Each outcome by the value alone, both ways.
+        ensures accepted { IsOk result
+            ↔ ((self.old.kept ≡ None) × HasRoom self.old.region layout) }
+        ensures refused { (result ≡ Err AllocationError.OutOfMemory)
+            ↔ (IsSome self.old.kept ⊎ LacksRoom self.old.region layout) }
+
+        // The chunk begins at the layout's place, which is then kept, and ends where the region does. A refusal leaves
+        // everything.
+        ensures begins { IfOk result (λ chunk. chunk.place ≡ first_place self.old.region layout) }
+        ensures ends { IfOk result (λ chunk. chunk_end chunk ≡ region_end self.old.region) }
+        ensures keeps_place { IfOk result (λ chunk. self.new.kept ≡ Some chunk.place) }
+        ensures still { OnErr result (self.new ≡ self.old) }
+
+        ensures zeroed { IfOk result (λ chunk. ZeroesOnly region.old region.new chunk) }
+        ensures bytes_kept { OnErr result (region.new ≡ region.old) }
+    {
+        let chunk = self.allocate(layout)?;
+        region.zero(chunk);
+        Ok(chunk)
+    }
+
     fn stands_for_some_list(&self) {
+        let _ = &self.start;
+    }
+
+    fn answers_fit(&self) {
         let _ = &self.start;
     }
 
@@ -226,7 +291,7 @@ impl Allocator for OneChunkAllocator {
         ensures long_enough { IfOk result (λ grown. new.size ≤ grown.len) }
         ensures within { IfOk result (λ grown. grown.len ≤ reserved_at self.old.region place) }
         ensures inside { IfOk result (IsInside self.old.region) }
-        ensures kept { self.new ≡ self.old }
+        ensures still { self.new ≡ self.old }
     {
         if old.size() >= new.size() {
             return Err(AllocationGrowError::GrowWouldShrink);
@@ -258,10 +323,11 @@ impl Allocator for OneChunkAllocator {
             → StandsFor self.old live → slice_get live position ≡ Some chunk
             → chunk.place ≡ place → StandsFor self.new (slice_set live position shrunk)) }
         ensures same_place { IfOk result (λ shrunk. shrunk.place ≡ place) }
+        ensures shorter { IfOk result (λ shrunk. shrunk.len < old.size) }
         ensures long_enough { IfOk result (λ shrunk. new.size ≤ shrunk.len) }
         ensures within { IfOk result (λ shrunk. shrunk.len ≤ reserved_at self.old.region place) }
         ensures inside { IfOk result (IsInside self.old.region) }
-        ensures kept { self.new ≡ self.old }
+        ensures still { self.new ≡ self.old }
     {
         let _ = &self.start;
         if old.size() <= new.size() {
@@ -271,6 +337,38 @@ impl Allocator for OneChunkAllocator {
             return Err(AllocationShrinkError::AlignmentFailure);
         }
         Ok(chunk_between(place, place + new.size()))
+    }
+
+    /// Grows the chunk as `grow` does, and makes the bytes behind its old size zero, up to the region's end. Every other byte of
+    /// the region stays, and after a refusal all do. The region's start and size have to be those of the allocator's maker.
+    fn grow_zeroed(
+        &mut self,
+        place: usize,
+        old: Layout,
+        new: Layout,
+        region: &mut region::Region,
+    ) -> Result<Chunk, AllocationGrowError>
+        requires live { self.old.kept ≡ Some place }
+        requires aligned { place % old.align ≡ 0 }
+        requires same_region { held_region region.old ≡ self.old.region }
+        ensures answer { MayGrow self.old.region place old new result }
+        ensures resized { IfOk result (λ grown. (live : List Chunk) (position : ℕ) (chunk : Chunk)
+            → StandsFor self.old live → slice_get live position ≡ Some chunk
+            → chunk.place ≡ place → StandsFor self.new (slice_set live position grown)) }
+        ensures same_place { IfOk result (λ grown. grown.place ≡ place) }
+        ensures longer { IfOk result (λ grown. old.size < grown.len) }
+        ensures long_enough { IfOk result (λ grown. new.size ≤ grown.len) }
+        ensures within { IfOk result (λ grown. grown.len ≤ reserved_at self.old.region place) }
+        ensures inside { IfOk result (IsInside self.old.region) }
+        ensures still { self.new ≡ self.old }
+
+        ensures zeroed { IfOk result
+            (λ grown. ZeroesOnly region.old region.new (part_behind old.size grown)) }
+        ensures bytes_kept { OnErr result (region.new ≡ region.old) }
+    {
+        let grown = self.grow(place, old, new)?;
+        region.zero(grown.behind(old.size()));
+        Ok(grown)
     }
 
     ghost fixed = { λ one other same. same };
@@ -331,6 +429,9 @@ pub fn one_chunk_object_law()
     ensures long_enough { (region : Region) (live : List Chunk) (layout : Layout) (chunk : Chunk)
         → MayAllocate region live layout (Ok chunk)
         → layout.size ≤ chunk.len }
+    ensures inside { (region : Region) (live : List Chunk) (layout : Layout) (chunk : Chunk)
+        → MayAllocate region live layout (Ok chunk)
+        → IsInside region chunk }
     ensures whole_rest { (region : Region) (live : List Chunk) (layout : Layout) (chunk : Chunk)
         → MayAllocate region live layout (Ok chunk)
         → (0 < chunk.len) × (chunk_end chunk ≡ region_end region) }

@@ -4,7 +4,7 @@ ghost use Rattle.bb_memory_base.specs.Region.{region_at};
 ghost use Rattle.bb_memory_base.specs.Chunk.{Chunk, IsInside};
 ghost use Rattle.bb_memory_base.specs.LiveList.{IsSound};
 ghost use Rattle.bb_memory_base.specs.FirstPlace.{first_place};
-ghost use Rattle.bb_memory_base.specs.HeldBytes.{held_region, ZeroesOnly};
+ghost use Rattle.bb_memory_base.specs.HeldBytes.{held_region, part_behind, ZeroesOnly};
 ghost use Rattle.bb_memory_base.specs.Run.{IsRun, Step};
 ghost use Rattle.bb_memory_base.specs.ResizableObject.{ResizableStep};
 ghost use Rattle.bb_memory_base.specs.PoolGeometry.{PoolGeometry, IsCut};
@@ -12,7 +12,7 @@ ghost use Rattle.bb_memory_base.specs.PoolObject.{MayAllocate, MayGrow, MayShrin
 ghost use Rattle.bb_memory_base.specs.declared.allocator.AllocationError.{AllocationError};
 ghost use Rattle.bb_memory.specs.IndexWords.{index_words};
 ghost use Rattle.bb_memory.specs.NumberSet.{Lacks};
-ghost use Rattle.bb_memory.specs.Pool.{AreABucketApart, Frees, HoldsPlace, MayBeCut, MayRead, StandsFor, Takes, counted, fresh_pool};
+ghost use Rattle.bb_memory.specs.Pool.{AreAStrideApart, Frees, HoldsPlace, MayBeCut, Reads, StandsFor, Takes, counted, fresh_pool};
 
 mod buckets;
 mod fixed_size;
@@ -75,7 +75,7 @@ impl UninitPoolAllocator {
         match Words::new(alloc, self.geometry.count()) {
             Ok(held) => Ok(PoolAllocator {
                 buckets: self.with_none_held(held),
-                last_reads: 0,
+                last_search: Counter::new(),
             }),
             Err(_) => Err((self, AllocationError::OutOfMemory)),
         }
@@ -98,7 +98,7 @@ impl UninitPoolAllocator {
 #[derive(Drop)]
 pub struct PoolAllocator<A: LanguageAllocator> {
     buckets: Buckets<Words<A>>,
-    last_reads: u32,
+    last_search: Counter,
 }
 
 impl<A: LanguageAllocator> Model for PoolAllocator<A> {
@@ -106,9 +106,9 @@ impl<A: LanguageAllocator> Model for PoolAllocator<A> {
 
     ghost Value = { CountedPool };
 
-    ghost view = { λ a. counted a.buckets a.last_reads };
+    ghost view = { λ a. counted a.buckets a.last_search };
 
-    ghost invariant = { λ a. IsCountedPool (counted a.buckets a.last_reads) };
+    ghost invariant = { λ a. IsCountedPool (counted a.buckets a.last_search) };
 }
 
 // What no index words have a part in is called by the bare name of the type.
@@ -184,14 +184,31 @@ impl<A: LanguageAllocator> PoolAllocator<A> {
         self.buckets.first()
     }
 
-    /// How many index words the last `allocate` or `allocate_zeroed` read: 0 before the first, and where the size or the
-    /// alignment was refused. It is never more than an eighth of [`PoolAllocator::memory_size`], nor than the number of
+    /// Whether this is the place of a held bucket, which may be given back: true exactly where `deallocate` may be called with the
+    /// place. Nothing is searched, and no read is counted.
+    ///
+    /// ```
+    /// let chunk = pool.allocate(Layout::from_size_align(48, 4).unwrap())?;
+    /// assert!(pool.holds(chunk.place()));
+    /// assert!(!pool.holds(chunk.place() + 1));
+    /// ```
+    #[inline(always)]
+    pub fn holds(&self, place: usize) -> bool
+        ensures value { IsTrue result ↔ HoldsPlace self.now.pool place }
+        ensures may_release { IsTrue result
+            ↔ ⟦<PoolAllocator<A> as BaseAllocator>⟧.may_release self.now place }
+    {
+        self.buckets.holds(place)
+    }
+
+    /// How many index words the last `allocate` or `allocate_zeroed` read: one where it looked for a free bucket in a pool that
+    /// has a bucket, and 0 before the first, and where the size or the alignment was refused. It is never more than an eighth of [`PoolAllocator::memory_size`], nor than the number of
     /// buckets divided by 64, rounded up.
     pub fn last_reads(&self) -> u32
         ensures value { result ≡ self.now.reads }
         ensures most { result ≤ index_words self.now.pool.geometry.buckets }
     {
-        self.last_reads
+        self.last_search.count()
     }
 
     /// Gives back the bucket at this place, which has to be held.
@@ -246,6 +263,8 @@ impl<A: LanguageAllocator> BaseAllocator for PoolAllocator<A> {
             → MayAllocate self.old.pool.geometry live layout result }
         ensures appended { IfOk result (λ chunk. (live : List Chunk) → StandsFor self.old.pool live
             → StandsFor self.new.pool (live ++ chunk ∷ [])) }
+        ensures kept { OnErr result ((live : List Chunk) → StandsFor self.old.pool live
+            → StandsFor self.new.pool live) }
         ensures inside { IfOk result (IsInside self.old.pool.geometry.region) }
         ensures aligned { IfOk result (λ chunk. chunk.place % layout.align ≡ 0) }
         ensures long_enough { IfOk result (λ chunk. layout.size ≤ chunk.len) }
@@ -255,20 +274,22 @@ impl<A: LanguageAllocator> BaseAllocator for PoolAllocator<A> {
         ensures taken { Takes self.old.pool layout result self.new.pool }
         ensures accepted { IsOk result ↔ (IsWithin self.old.pool.geometry.bucket layout
             × ((i : ℕ) × Lacks self.old.pool.held i)) }
-        ensures kept { OnErr result (self.new.pool ≡ self.old.pool) }
+        ensures still { OnErr result (self.new.pool ≡ self.old.pool) }
         ensures given { IfOk result (λ chunk. HoldsPlace self.new.pool chunk.place) }
         ensures was_free { IfOk result (λ chunk. ¬ HoldsPlace self.old.pool chunk.place) }
         ensures apart { IfOk result (λ chunk. (place : ℕ) → HoldsPlace self.old.pool place
-            → AreABucketApart self.old.pool.geometry.bucket place chunk.place) }
+            → AreAStrideApart self.old.pool.geometry.bucket place chunk.place) }
         ensures still_held { (place : ℕ) → HoldsPlace self.old.pool place → HoldsPlace self.new.pool place }
         ensures bucket_aligned { IfOk result
             (λ chunk. chunk.place % self.old.pool.geometry.bucket.align ≡ 0) }
-        ensures reads { MayRead self.old.pool.geometry.bucket layout
+        ensures reads { Reads self.old.pool.geometry.bucket layout
             (index_words self.old.pool.geometry.buckets) self.new.reads }
+        ensures one_read { IsWithin self.old.pool.geometry.bucket layout
+            → 0 < self.old.pool.geometry.buckets → self.new.reads ≡ 1 }
     {
         let mut counter = Counter::new();
         let answer = self.buckets.take(layout, &mut counter);
-        self.last_reads = counter.count();
+        self.last_search = counter;
         answer
     }
 
@@ -302,6 +323,8 @@ impl<A: LanguageAllocator> BaseAllocator for PoolAllocator<A> {
             → MayAllocate self.old.pool.geometry live layout result }
         ensures appended { IfOk result (λ chunk. (live : List Chunk) → StandsFor self.old.pool live
             → StandsFor self.new.pool (live ++ chunk ∷ [])) }
+        ensures kept { OnErr result ((live : List Chunk) → StandsFor self.old.pool live
+            → StandsFor self.new.pool live) }
         ensures inside { IfOk result (IsInside self.old.pool.geometry.region) }
         ensures aligned { IfOk result (λ chunk. chunk.place % layout.align ≡ 0) }
         ensures long_enough { IfOk result (λ chunk. layout.size ≤ chunk.len) }
@@ -310,16 +333,18 @@ impl<A: LanguageAllocator> BaseAllocator for PoolAllocator<A> {
         ensures taken { Takes self.old.pool layout result self.new.pool }
         ensures accepted { IsOk result ↔ (IsWithin self.old.pool.geometry.bucket layout
             × ((i : ℕ) × Lacks self.old.pool.held i)) }
-        ensures kept { OnErr result (self.new.pool ≡ self.old.pool) }
+        ensures still { OnErr result (self.new.pool ≡ self.old.pool) }
         ensures given { IfOk result (λ chunk. HoldsPlace self.new.pool chunk.place) }
         ensures was_free { IfOk result (λ chunk. ¬ HoldsPlace self.old.pool chunk.place) }
         ensures apart { IfOk result (λ chunk. (place : ℕ) → HoldsPlace self.old.pool place
-            → AreABucketApart self.old.pool.geometry.bucket place chunk.place) }
+            → AreAStrideApart self.old.pool.geometry.bucket place chunk.place) }
         ensures still_held { (place : ℕ) → HoldsPlace self.old.pool place → HoldsPlace self.new.pool place }
         ensures bucket_aligned { IfOk result
             (λ chunk. chunk.place % self.old.pool.geometry.bucket.align ≡ 0) }
-        ensures reads { MayRead self.old.pool.geometry.bucket layout
+        ensures reads { Reads self.old.pool.geometry.bucket layout
             (index_words self.old.pool.geometry.buckets) self.new.reads }
+        ensures one_read { IsWithin self.old.pool.geometry.bucket layout
+            → 0 < self.old.pool.geometry.buckets → self.new.reads ≡ 1 }
 
         ensures zeroed { IfOk result (λ chunk. ZeroesOnly region.old region.new chunk) }
         ensures bytes_kept { OnErr result (region.new ≡ region.old) }
@@ -330,7 +355,11 @@ impl<A: LanguageAllocator> BaseAllocator for PoolAllocator<A> {
     }
 
     fn stands_for_some_list(&self) {
-        let _ = &self.last_reads;
+        let _ = &self.last_search;
+    }
+
+    fn answers_fit(&self) {
+        let _ = &self.last_search;
     }
 
     ghost releases = { λ pool. held_place pool.pool };
@@ -378,7 +407,7 @@ impl<A: LanguageAllocator> Allocator for PoolAllocator<A> {
         ensures long_enough { IfOk result (λ grown. new.size ≤ grown.len) }
         ensures within { IfOk result (λ grown. grown.len ≤ self.old.pool.geometry.bucket.size) }
         ensures inside { IfOk result (IsInside self.old.pool.geometry.region) }
-        ensures kept { self.new ≡ self.old }
+        ensures still { self.new ≡ self.old }
     {
         self.buckets.grow(place, old, new)
     }
@@ -401,12 +430,45 @@ impl<A: LanguageAllocator> Allocator for PoolAllocator<A> {
             → StandsFor self.old.pool live → slice_get live position ≡ Some chunk
             → chunk.place ≡ place → StandsFor self.new.pool (slice_set live position shrunk)) }
         ensures same_place { IfOk result (λ shrunk. shrunk.place ≡ place) }
+        ensures shorter { IfOk result (λ shrunk. shrunk.len < old.size) }
         ensures long_enough { IfOk result (λ shrunk. new.size ≤ shrunk.len) }
         ensures within { IfOk result (λ shrunk. shrunk.len ≤ self.old.pool.geometry.bucket.size) }
         ensures inside { IfOk result (IsInside self.old.pool.geometry.region) }
-        ensures kept { self.new ≡ self.old }
+        ensures still { self.new ≡ self.old }
     {
         self.buckets.shrink(place, old, new)
+    }
+
+    /// Grows the chunk as `grow` does, and makes the bytes behind its old size zero, up to the new one. Every other byte of the
+    /// region stays, and after a refusal all do. The region's start and size have to be those of the pool's maker.
+    fn grow_zeroed(
+        &mut self,
+        place: usize,
+        old: Layout,
+        new: Layout,
+        region: &mut Region,
+    ) -> Result<Chunk, AllocationGrowError>
+        requires live { HoldsPlace self.old.pool place }
+        requires aligned { place % old.align ≡ 0 }
+        requires same_region { held_region region.old ≡ self.old.pool.geometry.region }
+        ensures answer { MayGrow self.old.pool.geometry.bucket place old new result }
+        ensures resized { IfOk result (λ grown. (live : List Chunk) (position : ℕ) (chunk : Chunk)
+            → StandsFor self.old.pool live → slice_get live position ≡ Some chunk
+            → chunk.place ≡ place → StandsFor self.new.pool (slice_set live position grown)) }
+        ensures same_place { IfOk result (λ grown. grown.place ≡ place) }
+        ensures longer { IfOk result (λ grown. old.size < grown.len) }
+        ensures long_enough { IfOk result (λ grown. new.size ≤ grown.len) }
+        ensures within { IfOk result (λ grown. grown.len ≤ self.old.pool.geometry.bucket.size) }
+        ensures inside { IfOk result (IsInside self.old.pool.geometry.region) }
+        ensures still { self.new ≡ self.old }
+
+        ensures zeroed { IfOk result
+            (λ grown. ZeroesOnly region.old region.new (part_behind old.size grown)) }
+        ensures bytes_kept { OnErr result (region.new ≡ region.old) }
+    {
+        let grown = self.grow(place, old, new)?;
+        region.zero(grown.behind(old.size()));
+        Ok(grown)
     }
 
     ghost fixed = { λ one other same. same };

@@ -3,7 +3,7 @@ use Rattle.std.proofs.Common.{◌≡◌, ℕ, ◌-◌, ◌≤◌, ◌%◌, List,
 use Rattle.std.specs.List.{All}
 use Rattle.std.proofs.lemmas.Bool.{cases_lt}
 use Rattle.bb_memory_base.specs.Region.{Region, region_end}
-use Rattle.bb_memory_base.specs.Chunk.{Chunk, chunk_end}
+use Rattle.bb_memory_base.specs.Chunk.{Chunk, chunk_end, IsInside}
 use Rattle.bb_memory_base.specs.Run.{Step, IsRun}
 use Rattle.bb_memory_base.specs.BumpObject.{end_of_last, next_chunk, MayAllocate, bump_object, IsInOrder, StandsFor}
 use Rattle.bb_memory_base.specs.declared.layout.Layout.{Layout}
@@ -14,7 +14,7 @@ use Rattle.bb_memory_base.specs.declared.allocator.Command.TheVariants.{Allocate
 use Rattle.bb_memory_base.specs.declared.allocator.Reply.{Reply}
 use Rattle.bb_memory_base.specs.declared.allocator.Reply.TheVariants as reply
 use Rattle.bb_memory_base.proofs.LeastPlaces.{least_place-is, least_place-multiple}
-use Rattle.bb_memory_base.proofs.LiveLists.{all_end_by, StandsFor-push, StandsFor-empty}
+use Rattle.bb_memory_base.proofs.LiveLists.{all_end_by, StandsFor-push, StandsFor-empty, end_of_last-above}
 use Rattle.bb_memory_base.proofs.Runs.{IsRun-keeps}
 
 -- there is an answer to each request
@@ -65,6 +65,14 @@ answer-aligned region live layout chunk told =
 pub answer-len : (region : Region) (live : List Chunk) (layout : Layout) (chunk : Chunk) →
     MayAllocate region live layout (Ok chunk) → chunk.len ≡ layout.size
 answer-len region live layout chunk told = ap (λ (k : Chunk). k.len) told.2
+
+-- it is inside the region, where the list is in order
+pub answer-inside : (region : Region) (live : List Chunk) (layout : Layout) (chunk : Chunk) →
+    IsInOrder region.start live → MayAllocate region live layout (Ok chunk) → IsInside region chunk
+answer-inside region live layout chunk ordered told = record {
+  above = omega (arith, answer-after region live layout chunk told, end_of_last-above region.start live ordered);
+  below = told.1;
+}
 
 -- it begins at or after the end of each chunk of a list in order
 pub answer-after_all : (region : Region) (live : List Chunk) (layout : Layout) (chunk : Chunk) →

@@ -1,6 +1,12 @@
 -- Runs, one step longer, and what each step of one keeps.
-use Rattle.std.proofs.Common.{List, [], ◌∷◌, ◌++◌, refl, sym, subst}
-use Rattle.bb_memory_base.specs.Run.{IsRun}
+use Rattle.std.proofs.Common.{◌≡◌, zero, suc, List, [], ◌∷◌, ◌++◌, length, refl, sym, subst, arith}
+use Rattle.bb_memory_base.specs.Chunk.{Chunk}
+use Rattle.bb_memory_base.specs.Run.{IsRun, EachGiven}
+use Rattle.bb_memory_base.specs.declared.layout.Layout.{Layout}
+use Rattle.bb_memory_base.specs.declared.allocator.Command.{Command}
+use Rattle.bb_memory_base.specs.declared.allocator.Command.TheVariants.{Allocate}
+use Rattle.bb_memory_base.specs.declared.allocator.Reply.{Reply}
+use Rattle.bb_memory_base.specs.declared.allocator.Reply.TheVariants as reply
 
 -- a run goes on by one step
 pub IsRun-push : {S C R : Type 0} (step : S → C → R → S → Type 0) (old mid new : S)
@@ -23,3 +29,17 @@ IsRun-keeps step P keeps old new (c ∷ commands) (r ∷ replies) holds (then, f
     IsRun-keeps step P keeps then new commands replies (keeps old then c r holds first) rest
 IsRun-keeps step P keeps old new [] (r ∷ replies) holds none = absurd none
 IsRun-keeps step P keeps old new (c ∷ commands) [] holds none = absurd none
+
+-- what is said of each chunk that was given, of one command more
+pub EachGiven-push : (Suits : Layout → Chunk → Type 0) (commands : List Command) (replies : List Reply)
+    (command : Command) (answer : Reply) → length commands ≡ length replies → EachGiven Suits commands replies →
+    ((layout : Layout) (chunk : Chunk) → command ≡ Allocate layout → answer ≡ reply.Chunk chunk → Suits layout chunk) →
+    EachGiven Suits (commands ++ command ∷ []) (replies ++ answer ∷ [])
+EachGiven-push Suits [] [] command answer same each last zero layout chunk asked given = last layout chunk (cc) (cc)
+EachGiven-push Suits [] [] command answer same each last (suc i) layout chunk asked given = absurd (cc)
+EachGiven-push Suits (c ∷ commands) (r ∷ replies) command answer same each last zero layout chunk asked given =
+    each zero layout chunk asked given
+EachGiven-push Suits (c ∷ commands) (r ∷ replies) command answer same each last (suc i) layout chunk asked given =
+    EachGiven-push Suits commands replies command answer (omega arith) (λ j. each (suc j)) last i layout chunk asked given
+EachGiven-push Suits [] (r ∷ replies) command answer same each last i layout chunk asked given = absurd (omega arith)
+EachGiven-push Suits (c ∷ commands) [] command answer same each last i layout chunk asked given = absurd (omega arith)

@@ -6,6 +6,7 @@ pub mod BumpObject
 pub mod BumpWorld
 pub mod Chunk
 pub mod FirstPlace
+pub mod Fitting
 pub mod HeldBytes
 pub mod LeastPlace
 pub mod Lending

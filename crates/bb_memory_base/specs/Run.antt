@@ -1,7 +1,8 @@
 -- Runs: commands applied one after the other to an object, with one reply each.
-use Rattle.std.specs.Prelude.{◌≡◌, ◌≤◌, List, [], ◌∷◌, length, Ok, Err}
+use Rattle.std.specs.Prelude.{◌≡◌, ℕ, ◌≤◌, List, [], ◌∷◌, length, Some, Ok, Err, slice_get}
 use Rattle.bb_memory_base.specs.Chunk.{Chunk}
 use Rattle.bb_memory_base.specs.Object.{Object, Allocates, Releases}
+use Rattle.bb_memory_base.specs.declared.layout.Layout.{Layout}
 use Rattle.bb_memory_base.specs.declared.allocator.Command.{Command}
 use Rattle.bb_memory_base.specs.declared.allocator.Command.TheVariants.{Allocate, Release, Grow, Shrink}
 use Rattle.bb_memory_base.specs.declared.allocator.Reply.{Reply}
@@ -27,3 +28,9 @@ IsRun {S = S} step old (command ∷ commands) (reply ∷ replies) new =
     (mid : S) × step old command reply mid × IsRun step mid commands replies new
 IsRun step old [] (reply ∷ replies) new = ⊥
 IsRun step old (command ∷ commands) [] new = ⊥
+
+-- each chunk that was replied to a request is to the asked layout as this says
+abbrev pub EachGiven : (Layout → Chunk → Type 0) → List Command → List Reply → Type 0
+EachGiven Suits commands replies =
+    (i : ℕ) (layout : Layout) (chunk : Chunk) → slice_get commands i ≡ Some (Allocate layout) →
+    slice_get replies i ≡ Some (reply.Chunk chunk) → Suits layout chunk

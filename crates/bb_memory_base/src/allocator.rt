@@ -76,7 +76,7 @@ pub enum Reply {
 /// What it may answer is stated by an object that holds live chunks alone (`geometry`, `may_allocate`), so that a
 /// crate may bring an allocator with an object of its own.
 pub trait BaseAllocator {
-    ghost use Rattle.std.specs.Prelude.{◌≡◌, ◌∷◌, ◌++◌, ◌≤◌, ◌%◌, ℕ, Some, [], List, Result, Bool, IfOk, OnErr, slice_get};
+    ghost use Rattle.std.specs.Prelude.{◌≡◌, ◌∷◌, ◌++◌, ◌≤◌, ◌%◌, ℕ, Some, [], List, Result, Ok, Bool, IfOk, OnErr, slice_get};
     ghost use Rattle.bb_memory_base.specs.Region.{Region, IsRegion};
     ghost use Rattle.bb_memory_base.specs.Chunk.{Chunk, IsInside};
     ghost use Rattle.bb_memory_base.specs.LiveList.{IsSound};
@@ -161,6 +161,19 @@ pub trait BaseAllocator {
     fn stands_for_some_list(&self)
         ensures { (live : List Chunk) × stands_for self.now live };
 
+    /// Does nothing. It is the proof that whatever may be answered to a request as a chunk is inside the region, at a multiple
+    /// of the asked alignment, and at least as long as asked.
+    fn answers_fit(&self)
+        ensures inside { (live : List Chunk) (layout : Layout) (chunk : Chunk) → stands_for self.now live
+            → may_allocate (geometry self.now) live layout (Ok chunk)
+            → IsInside (region_of (geometry self.now)) chunk }
+        ensures aligned { (live : List Chunk) (layout : Layout) (chunk : Chunk) → stands_for self.now live
+            → may_allocate (geometry self.now) live layout (Ok chunk)
+            → chunk.place % layout.align ≡ 0 }
+        ensures long_enough { (live : List Chunk) (layout : Layout) (chunk : Chunk) → stands_for self.now live
+            → may_allocate (geometry self.now) live layout (Ok chunk)
+            → layout.size ≤ chunk.len };
+
     /// What stands at a position of such a list may be given back.
     ghost releases: { (allocator : Self) (live : List Chunk) (position : ℕ) (chunk : Chunk)
         → stands_for allocator live → slice_get live position ≡ Some chunk
@@ -217,7 +230,7 @@ pub trait Allocator: BaseAllocator {
         ensures long_enough { IfOk result (λ grown. new.size ≤ grown.len) }
         ensures within { IfOk result (λ grown. grown.len ≤ reserved_at (figures self.old) place) }
         ensures inside { IfOk result (IsInside (Self.region_of (Self.geometry self.old))) }
-        ensures kept { self.new ≡ self.old };
+        ensures still { self.new ≡ self.old };
 
     /// Gives the live chunk at this place a smaller size. The place has to be a multiple of the old alignment, and the old
     /// size at most what is reserved.
@@ -237,10 +250,11 @@ pub trait Allocator: BaseAllocator {
             → Self.stands_for self.old live → slice_get live position ≡ Some chunk
             → chunk.place ≡ place → Self.stands_for self.new (slice_set live position shrunk)) }
         ensures same_place { IfOk result (λ shrunk. shrunk.place ≡ place) }
+        ensures shorter { IfOk result (λ shrunk. shrunk.len < old.size) }
         ensures long_enough { IfOk result (λ shrunk. new.size ≤ shrunk.len) }
         ensures within { IfOk result (λ shrunk. shrunk.len ≤ reserved_at (figures self.old) place) }
         ensures inside { IfOk result (IsInside (Self.region_of (Self.geometry self.old))) }
-        ensures kept { self.new ≡ self.old };
+        ensures still { self.new ≡ self.old };
 
     /// Grows a chunk as `grow` does, and makes the bytes behind its old size zero, up to the end of what is answered. Every
     /// other byte of the region stays, and after a refusal all do. The region's start and size have to be those of the
@@ -266,7 +280,7 @@ pub trait Allocator: BaseAllocator {
         ensures long_enough { IfOk result (λ grown. new.size ≤ grown.len) }
         ensures within { IfOk result (λ grown. grown.len ≤ reserved_at (figures self.old) place) }
         ensures inside { IfOk result (IsInside (Self.region_of (Self.geometry self.old))) }
-        ensures kept { self.new ≡ self.old }
+        ensures still { self.new ≡ self.old }
 
         ensures zeroed { IfOk result
             (λ grown. ZeroesOnly region.old region.new (part_behind old.size grown)) }

@@ -3,6 +3,7 @@
 #![tactic(auto)]
 
 pub mod allocator;
+pub mod equality;
 pub mod layout;
 pub mod region;
 pub mod steps;

@@ -1,16 +1,18 @@
-//! A set of numbers as an array of those that aren't in it, which takes no memory.
+//! A set of numbers as an array of flags, with an array of the numbers that aren't in it, which takes no memory.
 ghost use Rattle.std.specs.Prelude.{◌≡◌, ◌≤◌, ◌<◌, ◌-◌, ℕ, false, length, replicate, slice_index};
 ghost use Rattle.bb_memory.specs.Flags.{};
 
 use crate::index_set::{Counter, IndexSet};
 use std::marker::Model;
 
-/// The numbers below the bound that aren't in the set, in the first entries of an array, so many; the others are never read.
+/// A flag for each number, and the numbers below the bound that aren't in the set, in the first entries of an array, so many;
+/// the others are never read.
 ///
-/// A taking answers the one that was given back last. Nothing is searched.
+/// A taking answers the number that was given back last, and sets its flag. Nothing is searched.
 #[derive(Drop)]
 #[derive_where(Debug)]
 pub struct Flags<const N: usize> {
+    held: [bool; N],
     free: [u32; N],
     bound: u32,
     left: usize,
@@ -18,13 +20,13 @@ pub struct Flags<const N: usize> {
 
 impl<const N: usize> Model for Flags<N> {
     ghost use Rattle.std.specs.Prelude.{Bool, List, take};
-    ghost use Rattle.bb_memory.specs.Flags.{IsFreeList, held_numbers};
+    ghost use Rattle.bb_memory.specs.Flags.{AreFlags, held_numbers};
 
     ghost Value = { List Bool };
 
     ghost view = { λ a. held_numbers a.bound (take a.left a.free) };
 
-    ghost invariant = { λ a. IsFreeList N a.bound a.free a.left };
+    ghost invariant = { λ a. AreFlags N a.bound a.held a.free a.left };
 }
 
 impl<const N: usize> Flags<N> {
@@ -38,6 +40,7 @@ impl<const N: usize> Flags<N> {
             free[k as usize] = bound - 1 - k;
         }
         Flags {
+            held: [false; N],
             free,
             bound,
             left: bound as usize,
@@ -60,9 +63,10 @@ impl<const N: usize> IndexSet for Flags<N> {
             return None;
         }
         let last = self.left - 1;
-        let number = self.free[last];
+        let number = self.free[last] as usize;
         self.left = last;
-        Some(number as usize)
+        self.held[number] = true;
+        Some(number)
     }
 
     /// The next taking answers this number.
@@ -71,5 +75,11 @@ impl<const N: usize> IndexSet for Flags<N> {
         let left = self.left;
         self.free[left] = number as u32;
         self.left = left + 1;
+        self.held[number] = false;
+    }
+
+    #[inline(always)]
+    fn has(&self, number: usize) -> bool {
+        self.held[number]
     }
 }

@@ -2,7 +2,7 @@
 //!
 //! Both types stand in one module: [`IndexWords::word`] alone hands out a word, and it alone counts a read.
 ghost use Rattle.std.specs.Prelude.{◌≡◌, ◌≢◌, ℕ, ◌+◌, ◌-◌, ◌/◌, ◌^◌, ◌<◌, ◌≤◌, false, IsTrue, IsFalse, length, replicate, slice_index, slice_set, IfOk};
-ghost use Rattle.bb_memory.specs.Words.{SetsBit, PutsAt};
+ghost use Rattle.bb_memory.specs.Words.{SetsBit, PutsAt, has_bit};
 
 use std::alloc::{AllocError, Allocator};
 use std::marker::Model;
@@ -47,7 +47,7 @@ impl Counter {
     }
 }
 
-/// Words that [`IndexWords::word`] alone hands out; a release changes a bit in place. Number n is bit n % 64 of word n / 64,
+/// Words that [`IndexWords::word`] alone hands out; a release changes a bit in place, and a bit is told by itself. Number n is bit n % 64 of word n / 64,
 /// counted from the lowest. Behind them, in the same memory, is room for a list of as many words' numbers.
 #[derive(Drop)]
 pub struct IndexWords<A: Allocator> {
@@ -105,6 +105,15 @@ impl<A: Allocator> IndexWords<A> {
         ensures listed { self.new.listed ≡ self.old.listed }
     {
         self.slots[i] = word;
+    }
+
+    /// Whether the bit of a number is set. It is read in place, and isn't counted.
+    #[inline(always)]
+    pub fn has(&self, number: usize) -> bool
+        requires { number / 64 < length self.now.words }
+        ensures { result ≡ has_bit self.now.words number }
+    {
+        self.slots[number / 64] >> (number % 64) & 1 == 1
     }
 
     /// Clears the bit of a number, and no other, and says whether its word was full.

@@ -91,4 +91,9 @@ impl<A: Allocator> IndexSet for Words<A> {
             self.top += 1;
         }
     }
+
+    #[inline(always)]
+    fn has(&self, number: usize) -> bool {
+        self.words.has(number)
+    }
 }

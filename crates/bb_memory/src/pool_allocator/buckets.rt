@@ -1,10 +1,10 @@
 //! What both pools are: the buckets of a region, and a set of those that are held.
-ghost use Rattle.std.specs.Prelude.{◌≡◌, ℕ, ◌≤◌, length};
+ghost use Rattle.std.specs.Prelude.{◌≡◌, ℕ, ◌<◌, ◌≤◌, ◌/◌, ◌↔◌, length, IsTrue, IfSome, IfNone};
 ghost use Rattle.bb_memory_base.specs.FirstPlace.{first_place};
-ghost use Rattle.bb_memory_base.specs.PoolGeometry.{bucket_place};
+ghost use Rattle.bb_memory_base.specs.PoolGeometry.{bucket_place, stride};
 ghost use Rattle.bb_memory_base.specs.PoolObject.{MayGrow, MayShrink};
-ghost use Rattle.bb_memory.specs.Pool.{Frees, HoldsPlace, MayRead, Takes, pool_of};
-ghost use Rattle.bb_memory.specs.Buckets.{Shifts};
+ghost use Rattle.bb_memory.specs.Pool.{Frees, HoldsPlace, Reads, Takes, pool_of};
+ghost use Rattle.bb_memory.specs.Buckets.{IsPlaceOfBucket, Shifts};
 
 use super::geometry::Geometry;
 use crate::allocator::{AllocationError, AllocationGrowError, AllocationShrinkError};
@@ -91,7 +91,7 @@ impl<S: IndexSet> Buckets<S> {
     pub fn take(&mut self, layout: Layout, counter: &mut Counter) -> Result<Chunk, AllocationError>
         requires { counter.old ≡ 0 }
         ensures taken { Takes self.old layout result self.new }
-        ensures reads { MayRead self.old.geometry.bucket layout
+        ensures reads { Reads self.old.geometry.bucket layout
             (S.words self.old.geometry.buckets) counter.new }
     {
         if layout.size() > self.bucket().size() {
@@ -106,16 +106,55 @@ impl<S: IndexSet> Buckets<S> {
         Ok(self.geometry.chunk(i, layout.size()))
     }
 
+    /// How many whole strides there are in a distance.
+    #[inline(always)]
+    fn strides(&self, distance: usize) -> usize
+        ensures value { result ≡ distance / stride self.now.geometry.bucket }
+        ensures some { 0 < stride self.now.geometry.bucket }
+    {
+        match self.shift {
+            Some(shift) => distance >> shift,
+            None => distance / self.geometry.stride(),
+        }
+    }
+
     /// The number of the held bucket at this place.
     #[inline(always)]
     fn number(&self, place: usize) -> usize
         requires { HoldsPlace self.now place }
         ensures { (i : ℕ) → place ≡ bucket_place self.now.geometry i → result ≡ i }
     {
-        let distance = place - self.geometry.first();
-        match self.shift {
-            Some(shift) => distance >> shift,
-            None => distance / self.geometry.stride(),
+        self.strides(place - self.geometry.first())
+    }
+
+    /// The number of the bucket at this place, or `None` where no bucket is there.
+    #[inline(always)]
+    fn number_at(&self, place: usize) -> Option<usize>
+        ensures below { IfSome result (λ i. i < self.now.geometry.buckets) }
+        ensures there { IfSome result (λ i. place ≡ bucket_place self.now.geometry i) }
+        ensures one { IfSome result (λ i. (j : ℕ) → place ≡ bucket_place self.now.geometry j → j ≡ i) }
+        ensures none { IfNone result (¬ IsPlaceOfBucket self.now.geometry place) }
+    {
+        let distance = place.checked_sub(self.geometry.first())?;
+        let number = self.strides(distance);
+        if number >= self.count() as usize {
+            return None;
+        }
+        let chunk = self.geometry.chunk(number, 0);
+        if chunk.place() != place {
+            return None;
+        }
+        Some(number)
+    }
+
+    /// Whether this is the place of a held bucket.
+    #[inline(always)]
+    pub fn holds(&self, place: usize) -> bool
+        ensures { IsTrue result ↔ HoldsPlace self.now place }
+    {
+        match self.number_at(place) {
+            Some(number) => self.held.has(number),
+            None => false,
         }
     }
 

@@ -3,13 +3,13 @@ ghost use Rattle.std.specs.Prelude.{◌≡◌, ◌≢◌, ◌∷◌, ◌++◌, [
 ghost use Rattle.bb_memory_base.specs.Region.{region_at};
 ghost use Rattle.bb_memory_base.specs.Chunk.{Chunk, IsInside};
 ghost use Rattle.bb_memory_base.specs.LiveList.{IsSound};
-ghost use Rattle.bb_memory_base.specs.HeldBytes.{held_region, ZeroesOnly};
+ghost use Rattle.bb_memory_base.specs.HeldBytes.{held_region, part_behind, ZeroesOnly};
 ghost use Rattle.bb_memory_base.specs.Run.{IsRun, Step};
 ghost use Rattle.bb_memory_base.specs.ResizableObject.{ResizableStep};
 ghost use Rattle.bb_memory_base.specs.PoolGeometry.{PoolGeometry, IsCut, at_most};
 ghost use Rattle.bb_memory_base.specs.PoolObject.{MayAllocate, MayGrow, MayShrink, IsWithin, pool_object};
 ghost use Rattle.bb_memory.specs.NumberSet.{Lacks};
-ghost use Rattle.bb_memory.specs.Pool.{Frees, AreABucketApart, HoldsPlace, MayBeCut, StandsFor, Takes, fresh_pool};
+ghost use Rattle.bb_memory.specs.Pool.{Frees, AreAStrideApart, HoldsPlace, MayBeCut, StandsFor, Takes, fresh_pool};
 
 use crate::allocator::{
     AllocationError, AllocationGrowError, AllocationShrinkError, Allocator, BaseAllocator, Command,
@@ -108,6 +108,23 @@ impl<const MAX_NUMBER_OF_BUCKETS: usize> FixedSizePoolAllocator<MAX_NUMBER_OF_BU
     {
         self.buckets.region_size()
     }
+
+    /// Whether this is the place of a held bucket, which may be given back: true exactly where `deallocate` may be called with the
+    /// place. Nothing is searched.
+    ///
+    /// ```
+    /// let chunk = pool.allocate(Layout::from_size_align(48, 4).unwrap())?;
+    /// assert!(pool.holds(chunk.place()));
+    /// assert!(!pool.holds(chunk.place() + 1));
+    /// ```
+    #[inline(always)]
+    pub fn holds(&self, place: usize) -> bool
+        ensures value { IsTrue result ↔ HoldsPlace self.now place }
+        ensures may_release { IsTrue result
+            ↔ ⟦<FixedSizePoolAllocator<MAX_NUMBER_OF_BUCKETS> as BaseAllocator>⟧.may_release self.now place }
+    {
+        self.buckets.holds(place)
+    }
 }
 
 impl<const MAX_NUMBER_OF_BUCKETS: usize> BaseAllocator
@@ -143,7 +160,7 @@ impl<const MAX_NUMBER_OF_BUCKETS: usize> BaseAllocator
             → MayAllocate self.old.geometry live layout result }
         ensures appended { IfOk result (λ chunk. (live : List Chunk) → StandsFor self.old live
             → StandsFor self.new (live ++ chunk ∷ [])) }
-        ensures still_stands { OnErr result ((live : List Chunk) → StandsFor self.old live
+        ensures kept { OnErr result ((live : List Chunk) → StandsFor self.old live
             → StandsFor self.new live) }
         ensures inside { IfOk result (IsInside self.old.geometry.region) }
         ensures aligned { IfOk result (λ chunk. chunk.place % layout.align ≡ 0) }
@@ -154,11 +171,11 @@ impl<const MAX_NUMBER_OF_BUCKETS: usize> BaseAllocator
         ensures taken { Takes self.old layout result self.new }
         ensures accepted { IsOk result ↔ (IsWithin self.old.geometry.bucket layout
             × ((i : ℕ) × Lacks self.old.held i)) }
-        ensures kept { OnErr result (self.new ≡ self.old) }
+        ensures still { OnErr result (self.new ≡ self.old) }
         ensures given { IfOk result (λ chunk. HoldsPlace self.new chunk.place) }
         ensures was_free { IfOk result (λ chunk. ¬ HoldsPlace self.old chunk.place) }
         ensures apart { IfOk result (λ chunk. (place : ℕ) → HoldsPlace self.old place
-            → AreABucketApart self.old.geometry.bucket place chunk.place) }
+            → AreAStrideApart self.old.geometry.bucket place chunk.place) }
         ensures still_held { (place : ℕ) → HoldsPlace self.old place → HoldsPlace self.new place }
         ensures bucket_aligned { IfOk result
             (λ chunk. chunk.place % self.old.geometry.bucket.align ≡ 0) }
@@ -196,7 +213,7 @@ impl<const MAX_NUMBER_OF_BUCKETS: usize> BaseAllocator
             → MayAllocate self.old.geometry live layout result }
         ensures appended { IfOk result (λ chunk. (live : List Chunk) → StandsFor self.old live
             → StandsFor self.new (live ++ chunk ∷ [])) }
-        ensures still_stands { OnErr result ((live : List Chunk) → StandsFor self.old live
+        ensures kept { OnErr result ((live : List Chunk) → StandsFor self.old live
             → StandsFor self.new live) }
         ensures inside { IfOk result (IsInside self.old.geometry.region) }
         ensures aligned { IfOk result (λ chunk. chunk.place % layout.align ≡ 0) }
@@ -206,11 +223,11 @@ impl<const MAX_NUMBER_OF_BUCKETS: usize> BaseAllocator
         ensures taken { Takes self.old layout result self.new }
         ensures accepted { IsOk result ↔ (IsWithin self.old.geometry.bucket layout
             × ((i : ℕ) × Lacks self.old.held i)) }
-        ensures kept { OnErr result (self.new ≡ self.old) }
+        ensures still { OnErr result (self.new ≡ self.old) }
         ensures given { IfOk result (λ chunk. HoldsPlace self.new chunk.place) }
         ensures was_free { IfOk result (λ chunk. ¬ HoldsPlace self.old chunk.place) }
         ensures apart { IfOk result (λ chunk. (place : ℕ) → HoldsPlace self.old place
-            → AreABucketApart self.old.geometry.bucket place chunk.place) }
+            → AreAStrideApart self.old.geometry.bucket place chunk.place) }
         ensures still_held { (place : ℕ) → HoldsPlace self.old place → HoldsPlace self.new place }
         ensures bucket_aligned { IfOk result
             (λ chunk. chunk.place % self.old.geometry.bucket.align ≡ 0) }
@@ -224,6 +241,10 @@ impl<const MAX_NUMBER_OF_BUCKETS: usize> BaseAllocator
     }
 
     fn stands_for_some_list(&self) {
+        let _ = &self.buckets;
+    }
+
+    fn answers_fit(&self) {
         let _ = &self.buckets;
     }
 
@@ -273,7 +294,7 @@ impl<const MAX_NUMBER_OF_BUCKETS: usize> Allocator
         ensures long_enough { IfOk result (λ grown. new.size ≤ grown.len) }
         ensures within { IfOk result (λ grown. grown.len ≤ self.old.geometry.bucket.size) }
         ensures inside { IfOk result (IsInside self.old.geometry.region) }
-        ensures kept { self.new ≡ self.old }
+        ensures still { self.new ≡ self.old }
     {
         self.buckets.grow(place, old, new)
     }
@@ -296,12 +317,45 @@ impl<const MAX_NUMBER_OF_BUCKETS: usize> Allocator
             → StandsFor self.old live → slice_get live position ≡ Some chunk
             → chunk.place ≡ place → StandsFor self.new (slice_set live position shrunk)) }
         ensures same_place { IfOk result (λ shrunk. shrunk.place ≡ place) }
+        ensures shorter { IfOk result (λ shrunk. shrunk.len < old.size) }
         ensures long_enough { IfOk result (λ shrunk. new.size ≤ shrunk.len) }
         ensures within { IfOk result (λ shrunk. shrunk.len ≤ self.old.geometry.bucket.size) }
         ensures inside { IfOk result (IsInside self.old.geometry.region) }
-        ensures kept { self.new ≡ self.old }
+        ensures still { self.new ≡ self.old }
     {
         self.buckets.shrink(place, old, new)
+    }
+
+    /// Grows the chunk as `grow` does, and makes the bytes behind its old size zero, up to the new one. Every other byte of the
+    /// region stays, and after a refusal all do. The region's start and size have to be those of the pool's maker.
+    fn grow_zeroed(
+        &mut self,
+        place: usize,
+        old: Layout,
+        new: Layout,
+        region: &mut Region,
+    ) -> Result<Chunk, AllocationGrowError>
+        requires live { HoldsPlace self.old place }
+        requires aligned { place % old.align ≡ 0 }
+        requires same_region { held_region region.old ≡ self.old.geometry.region }
+        ensures answer { MayGrow self.old.geometry.bucket place old new result }
+        ensures resized { IfOk result (λ grown. (live : List Chunk) (position : ℕ) (chunk : Chunk)
+            → StandsFor self.old live → slice_get live position ≡ Some chunk
+            → chunk.place ≡ place → StandsFor self.new (slice_set live position grown)) }
+        ensures same_place { IfOk result (λ grown. grown.place ≡ place) }
+        ensures longer { IfOk result (λ grown. old.size < grown.len) }
+        ensures long_enough { IfOk result (λ grown. new.size ≤ grown.len) }
+        ensures within { IfOk result (λ grown. grown.len ≤ self.old.geometry.bucket.size) }
+        ensures inside { IfOk result (IsInside self.old.geometry.region) }
+        ensures still { self.new ≡ self.old }
+
+        ensures zeroed { IfOk result
+            (λ grown. ZeroesOnly region.old region.new (part_behind old.size grown)) }
+        ensures bytes_kept { OnErr result (region.new ≡ region.old) }
+    {
+        let grown = self.grow(place, old, new)?;
+        region.zero(grown.behind(old.size()));
+        Ok(grown)
     }
 
     ghost fixed = { λ one other same. same };

@@ -92,7 +92,7 @@ pub fn pool_object_law()
     ensures aligned_places { (pool : Pool) (live : List Chunk) → StandsFor pool live
         → All (λ chunk. chunk.place % pool.geometry.bucket.align ≡ 0) live }
     ensures stride_apart { (pool : Pool) (live : List Chunk) → StandsFor pool live
-        → AllPairs (AreAStrideApart pool.geometry.bucket) live }
+        → AllPairs (λ one other. AreAStrideApart pool.geometry.bucket one.place other.place) live }
     ensures release_makes_room { (pool : Pool) (live : List Chunk) (position : ℕ) (layout : Layout)
         (answer : Result Chunk AllocationError)
         → IsPool pool → StandsFor pool live → position < length live

@@ -1,8 +1,11 @@
 //! Runs of commands over any allocator.
-ghost use Rattle.std.specs.Prelude.{◌≡◌, ◌+◌, ◌<◌, ◌≤◌, List, IfOk, OnOk, OnErr, vec_len, vec_capacity};
+ghost use Rattle.std.specs.Prelude.{◌≡◌, ◌+◌, ◌<◌, ◌≤◌, ◌%◌, List, IfOk, OnOk, OnErr, vec_len, vec_capacity};
+ghost use Rattle.bb_memory_base.specs.Chunk.{Chunk, IsInside};
 ghost use Rattle.bb_memory_base.specs.LiveList.{IsSound};
 ghost use Rattle.bb_memory_base.specs.Object.{object_of};
-ghost use Rattle.bb_memory_base.specs.Run.{Step, IsRun};
+ghost use Rattle.bb_memory_base.specs.Run.{Step, IsRun, EachGiven};
+ghost use Rattle.bb_memory_base.specs.declared.layout.Layout.{Layout};
+ghost use Rattle.bb_memory_base.specs.Fitting.{Fits};
 ghost use Rattle.bb_memory_base.specs.ResizableObject.{ResizableStep, resizable_object_of};
 
 use super::{Allocator, BaseAllocator, Command, Reply};
@@ -19,6 +22,8 @@ fn apply_allocate<A: BaseAllocator>(
     requires room { vec_len live.old < vec_capacity live.old }
     ensures step { Step (object_of A.RELEASE_EMPTIES (A.may_allocate (A.geometry allocator.old)))
         live.old.items (Command.Allocate layout) result live.new.items }
+    ensures fits { (chunk : Chunk) → result ≡ Reply.Chunk chunk
+        → Fits (A.region_of (A.geometry allocator.old)) layout chunk }
     ensures stands { A.stands_for allocator.new live.new.items }
     ensures geometry { A.geometry allocator.new ≡ A.geometry allocator.old }
     ensures len { vec_len live.new ≤ vec_len live.old + 1 }
@@ -65,6 +70,8 @@ fn apply_base<A: BaseAllocator>(allocator: &mut A, live: &mut Vec<Chunk>, comman
     requires room { vec_len live.old < vec_capacity live.old }
     ensures step { Step (object_of A.RELEASE_EMPTIES (A.may_allocate (A.geometry allocator.old)))
         live.old.items command result live.new.items }
+    ensures fits { (layout : Layout) (chunk : Chunk) → command ≡ Command.Allocate layout
+        → result ≡ Reply.Chunk chunk → Fits (A.region_of (A.geometry allocator.old)) layout chunk }
     ensures stands { A.stands_for allocator.new live.new.items }
     ensures geometry { A.geometry allocator.new ≡ A.geometry allocator.old }
     ensures len { vec_len live.new ≤ vec_len live.old + 1 }
@@ -94,6 +101,12 @@ pub fn run_base<A: BaseAllocator>(
         live.old.items commands.now replies.items live.new.items) }
     ensures stands { OnOk result (A.stands_for allocator.new live.new.items) }
     ensures sound { OnOk result (IsSound (A.region_of (A.geometry allocator.old)) live.new.items) }
+    ensures inside { IfOk result (λ replies.
+        EachGiven (λ layout. IsInside (A.region_of (A.geometry allocator.old))) commands.now replies.items) }
+    ensures aligned { IfOk result (λ replies.
+        EachGiven (λ layout chunk. chunk.place % layout.align ≡ 0) commands.now replies.items) }
+    ensures long_enough { IfOk result (λ replies.
+        EachGiven (λ layout chunk. layout.size ≤ chunk.len) commands.now replies.items) }
     ensures geometry { A.geometry allocator.new ≡ A.geometry allocator.old }
     ensures kept { OnErr result ((allocator.new ≡ allocator.old) × (live.new.items ≡ live.old.items)) }
 {
@@ -120,7 +133,7 @@ fn apply_grow<A: Allocator>(
         (A.may_grow (A.figures allocator.old)) (A.may_shrink (A.figures allocator.old)))
         live.old.items (Command.Grow position old new) result live.new.items }
     ensures stands { A.stands_for allocator.new live.new.items }
-    ensures kept { allocator.new ≡ allocator.old }
+    ensures still { allocator.new ≡ allocator.old }
     ensures len { vec_len live.new ≡ vec_len live.old }
     ensures capacity { vec_capacity live.old ≤ vec_capacity live.new }
 {
@@ -153,7 +166,7 @@ fn apply_shrink<A: Allocator>(
         (A.may_grow (A.figures allocator.old)) (A.may_shrink (A.figures allocator.old)))
         live.old.items (Command.Shrink position old new) result live.new.items }
     ensures stands { A.stands_for allocator.new live.new.items }
-    ensures kept { allocator.new ≡ allocator.old }
+    ensures still { allocator.new ≡ allocator.old }
     ensures len { vec_len live.new ≡ vec_len live.old }
     ensures capacity { vec_capacity live.old ≤ vec_capacity live.new }
 {
@@ -181,6 +194,8 @@ fn apply_full<A: Allocator>(allocator: &mut A, live: &mut Vec<Chunk>, command: C
         (A.may_allocate (A.geometry allocator.old)) (A.reserved_at (A.figures allocator.old))
         (A.may_grow (A.figures allocator.old)) (A.may_shrink (A.figures allocator.old)))
         live.old.items command result live.new.items }
+    ensures fits { (layout : Layout) (chunk : Chunk) → command ≡ Command.Allocate layout
+        → result ≡ Reply.Chunk chunk → Fits (A.region_of (A.geometry allocator.old)) layout chunk }
     ensures stands { A.stands_for allocator.new live.new.items }
     ensures geometry { A.geometry allocator.new ≡ A.geometry allocator.old }
     ensures len { vec_len live.new ≤ vec_len live.old + 1 }
@@ -210,6 +225,12 @@ pub fn run_full<A: Allocator>(
         live.old.items commands.now replies.items live.new.items) }
     ensures stands { OnOk result (A.stands_for allocator.new live.new.items) }
     ensures sound { OnOk result (IsSound (A.region_of (A.geometry allocator.old)) live.new.items) }
+    ensures inside { IfOk result (λ replies.
+        EachGiven (λ layout. IsInside (A.region_of (A.geometry allocator.old))) commands.now replies.items) }
+    ensures aligned { IfOk result (λ replies.
+        EachGiven (λ layout chunk. chunk.place % layout.align ≡ 0) commands.now replies.items) }
+    ensures long_enough { IfOk result (λ replies.
+        EachGiven (λ layout chunk. layout.size ≤ chunk.len) commands.now replies.items) }
     ensures geometry { A.geometry allocator.new ≡ A.geometry allocator.old }
     ensures kept { OnErr result ((allocator.new ≡ allocator.old) × (live.new.items ≡ live.old.items)) }
 {

@@ -88,8 +88,8 @@ impl Chunk {
         self.place + self.len
     }
 
-    /// What lies behind its first bytes.
-    pub(crate) fn behind(&self, size: usize) -> Chunk
+    /// What lies behind its first `size` bytes, of which it has to have so many.
+    pub fn behind(&self, size: usize) -> Chunk
         requires { size ≤ self.now.len }
         ensures { result ≡ part_behind size self.now }
     {

@@ -1,4 +1,4 @@
-use Rattle.bb_memory_base.proofs.BumpObjects.{some_answer, one_answer, answer-aligned, answer-after_all, answer-len, run-keeps}
+use Rattle.bb_memory_base.proofs.BumpObjects.{some_answer, one_answer, answer-aligned, answer-inside, answer-after_all, answer-len, run-keeps}
 use Rattle.bb_memory.proofs.bump_allocator.bump_object_law.Goals as goal
 
 pub returns-clause-some_answer : goal.returns-clause-some_answer
@@ -18,3 +18,6 @@ returns-clause-exact_size c = answer-len
 
 pub returns-clause-keeps_sound : goal.returns-clause-keeps_sound
 returns-clause-keeps_sound c = run-keeps
+
+pub returns-clause-inside : goal.returns-clause-inside
+returns-clause-inside c = answer-inside

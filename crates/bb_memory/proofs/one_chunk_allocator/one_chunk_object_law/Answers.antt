@@ -1,4 +1,4 @@
-use Rattle.bb_memory.proofs.OneChunks.{some_answer, one_answer, some_grow, one_grow, some_shrink, one_shrink, answer-aligned, answer-long, answer-whole, run-keeps}
+use Rattle.bb_memory.proofs.OneChunks.{some_answer, one_answer, some_grow, one_grow, some_shrink, one_shrink, answer-aligned, answer-inside, answer-long, answer-whole, run-keeps}
 use Rattle.bb_memory.proofs.one_chunk_allocator.one_chunk_object_law.Goals as goal
 
 pub returns-clause-some_answer : goal.returns-clause-some_answer
@@ -30,3 +30,6 @@ returns-clause-whole_rest c = answer-whole
 
 pub returns-clause-keeps_sound : goal.returns-clause-keeps_sound
 returns-clause-keeps_sound c = run-keeps
+
+pub returns-clause-inside : goal.returns-clause-inside
+returns-clause-inside c = answer-inside

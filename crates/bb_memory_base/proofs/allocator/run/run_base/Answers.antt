@@ -1,8 +1,9 @@
 use Rattle.std.proofs.Common.{◌≡◌, ◌+◌, ◌∷◌, ◌++◌, [], take, ap, sym, ◌∙◌, subst, arith}
-use Rattle.std.proofs.lemmas.List.{take_more}
+use Rattle.std.proofs.lemmas.List.{take_more, take_all, length-take-le}
 use Rattle.bb_memory_base.specs.Object.{object_of}
 use Rattle.bb_memory_base.specs.Run.{Step}
-use Rattle.bb_memory_base.proofs.Runs.{IsRun-push}
+use Rattle.bb_memory_base.specs.Fitting.{Fits}
+use Rattle.bb_memory_base.proofs.Runs.{IsRun-push, EachGiven-push}
 use Rattle.bb_memory_base.proofs.allocator.run.run_base.Goals as goal
 
 pub loop-command-preserved : goal.loop-command-preserved
@@ -19,9 +20,27 @@ loop-command-preserved g c =
     c.loop-command.invariant.geometry c.apply_base-reply.ensures.step in
     record {
       run = rw (done, c.push_reserved.ensures.items) (IsRun-push (step_at (A.geometry c.args.allocator.now)) c.args.live.now.items live c.apply_base-reply.new.live.items (take i commands) c.loop-command.replies.items command c.apply_base-reply.result c.loop-command.invariant.run step);
+      fits = rw (done, c.push_reserved.ensures.items) (EachGiven-push (Fits (A.region_of (A.geometry c.args.allocator.now))) (take i commands) c.loop-command.replies.items command c.apply_base-reply.result
+          (omega (arith, length-take-le i commands (omega arith))) c.loop-command.invariant.fits
+          (λ layout chunk asked given. subst (λ (geometry : A.Geometry). Fits (A.region_of geometry) layout chunk) c.loop-command.invariant.geometry (c.apply_base-reply.ensures.fits layout chunk asked given)));
       stands = c.apply_base-reply.ensures.stands;
       geometry = c.apply_base-reply.ensures.geometry ∙ c.loop-command.invariant.geometry;
       room = omega arith;
       told = omega arith;
       space = omega arith;
     }
+
+pub returns-clause-inside : goal.returns-clause-inside
+returns-clause-inside g c = λ i layout chunk asked given.
+    let all = take_all c.loop-command.command-index c.args.commands.now (omega arith) in
+    (c.loop-command.invariant.fits i layout chunk (rw all asked) given).inside
+
+pub returns-clause-aligned : goal.returns-clause-aligned
+returns-clause-aligned g c = λ i layout chunk asked given.
+    let all = take_all c.loop-command.command-index c.args.commands.now (omega arith) in
+    (c.loop-command.invariant.fits i layout chunk (rw all asked) given).aligned
+
+pub returns-clause-long_enough : goal.returns-clause-long_enough
+returns-clause-long_enough g c = λ i layout chunk asked given.
+    let all = take_all c.loop-command.command-index c.args.commands.now (omega arith) in
+    (c.loop-command.invariant.fits i layout chunk (rw all asked) given).long_enough

@@ -1,6 +1,7 @@
 use Rattle.std.proofs.Common.{◌≡◌, ◌+◌, ◌≤◌, take, length, vec_len, vec_capacity}
 use Rattle.bb_memory_base.specs.Object.{object_of}
-use Rattle.bb_memory_base.specs.Run.{Step, IsRun}
+use Rattle.bb_memory_base.specs.Run.{Step, IsRun, EachGiven}
+use Rattle.bb_memory_base.specs.Fitting.{Fits}
 use Rattle.bb_memory_base.proofs.allocator.run.run_base.Given as goal
 
 -- the commands so far are a run, and there is room for what is left
@@ -10,6 +11,7 @@ invariant-loop-command g l =
     record {
       run : IsRun (Step (object_of A.RELEASE_EMPTIES (A.may_allocate (A.geometry l.fn.allocator))))
           l.fn.live.items (take l.command-index l.commands) l.replies.items l.live.items;
+      fits : EachGiven (Fits (A.region_of (A.geometry l.fn.allocator))) (take l.command-index l.commands) l.replies.items;
       stands : A.stands_for l.allocator l.live.items;
       geometry : A.geometry l.allocator ≡ A.geometry l.fn.allocator;
       room : vec_len l.live + length l.commands ≤ vec_capacity l.live + l.command-index;

@@ -1,7 +1,8 @@
 use Rattle.std.proofs.Common.{◌≡◌, ◌+◌, ◌∷◌, ◌++◌, [], take, ap, sym, ◌∙◌, subst, arith}
-use Rattle.std.proofs.lemmas.List.{take_more}
+use Rattle.std.proofs.lemmas.List.{take_more, take_all, length-take-le}
 use Rattle.bb_memory_base.specs.ResizableObject.{ResizableStep, resizable_object_of}
-use Rattle.bb_memory_base.proofs.Runs.{IsRun-push}
+use Rattle.bb_memory_base.specs.Fitting.{Fits}
+use Rattle.bb_memory_base.proofs.Runs.{IsRun-push, EachGiven-push}
 use Rattle.bb_memory_base.proofs.allocator.run.run_full.Goals as goal
 
 -- two equations as one of pairs
@@ -26,9 +27,27 @@ loop-command-preserved g c =
     let step = subst (λ (x : A.Geometry × B.Figures). step_at x live command reply left) (pair same figures) c.apply_full-reply.ensures.step in
     record {
       run = rw (done, c.push_reserved.ensures.items) (IsRun-push (step_at (A.geometry c.args.allocator.now, B.figures c.args.allocator.now)) c.args.live.now.items live left (take i commands) c.loop-command.replies.items command reply c.loop-command.invariant.run step);
+      fits = rw (done, c.push_reserved.ensures.items) (EachGiven-push (Fits (A.region_of (A.geometry c.args.allocator.now))) (take i commands) c.loop-command.replies.items command c.apply_full-reply.result
+          (omega (arith, length-take-le i commands (omega arith))) c.loop-command.invariant.fits
+          (λ layout chunk asked given. subst (λ (geometry : A.Geometry). Fits (A.region_of geometry) layout chunk) c.loop-command.invariant.geometry (c.apply_full-reply.ensures.fits layout chunk asked given)));
       stands = c.apply_full-reply.ensures.stands;
       geometry = c.apply_full-reply.ensures.geometry ∙ same;
       room = omega arith;
       told = omega arith;
       space = omega arith;
     }
+
+pub returns-clause-inside : goal.returns-clause-inside
+returns-clause-inside g c = λ i layout chunk asked given.
+    let all = take_all c.loop-command.command-index c.args.commands.now (omega arith) in
+    (c.loop-command.invariant.fits i layout chunk (rw all asked) given).inside
+
+pub returns-clause-aligned : goal.returns-clause-aligned
+returns-clause-aligned g c = λ i layout chunk asked given.
+    let all = take_all c.loop-command.command-index c.args.commands.now (omega arith) in
+    (c.loop-command.invariant.fits i layout chunk (rw all asked) given).aligned
+
+pub returns-clause-long_enough : goal.returns-clause-long_enough
+returns-clause-long_enough g c = λ i layout chunk asked given.
+    let all = take_all c.loop-command.command-index c.args.commands.now (omega arith) in
+    (c.loop-command.invariant.fits i layout chunk (rw all asked) given).long_enough

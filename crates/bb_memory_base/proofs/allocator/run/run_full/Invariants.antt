@@ -1,6 +1,7 @@
 use Rattle.std.proofs.Common.{◌≡◌, ◌+◌, ◌≤◌, take, length, vec_len, vec_capacity}
-use Rattle.bb_memory_base.specs.Run.{IsRun}
+use Rattle.bb_memory_base.specs.Run.{IsRun, EachGiven}
 use Rattle.bb_memory_base.specs.ResizableObject.{ResizableStep, resizable_object_of}
+use Rattle.bb_memory_base.specs.Fitting.{Fits}
 use Rattle.bb_memory_base.proofs.allocator.run.run_full.Given as goal
 
 -- the commands so far are a run, and there is room for what is left
@@ -12,6 +13,7 @@ invariant-loop-command g l =
     record {
       run : IsRun (ResizableStep (resizable_object_of (A.may_allocate (A.geometry l.fn.allocator)) (B.reserved_at figures) (B.may_grow figures) (B.may_shrink figures)))
           l.fn.live.items (take l.command-index l.commands) l.replies.items l.live.items;
+      fits : EachGiven (Fits (A.region_of (A.geometry l.fn.allocator))) (take l.command-index l.commands) l.replies.items;
       stands : A.stands_for l.allocator l.live.items;
       geometry : A.geometry l.allocator ≡ A.geometry l.fn.allocator;
       room : vec_len l.live + length l.commands ≤ vec_capacity l.live + l.command-index;

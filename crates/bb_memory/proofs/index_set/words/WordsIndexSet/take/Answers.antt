@@ -13,22 +13,13 @@ returns-then-self-eq0-clause-full g c =
     let none = none_listed inside.words.words inside.words.listed inside.top c.self.invariant.listing (omega arith) in
     rw (← c.self.view_is) (full_words inside.bound inside.words.words c.self.invariant.are none)
 
-pub returns-then-self-eq0-clause-most : goal.returns-then-self-eq0-clause-most
-returns-then-self-eq0-clause-most g c =
+pub returns-then-self-eq0-clause-counted : goal.returns-then-self-eq0-clause-counted
+returns-then-self-eq0-clause-counted g c =
     let inside = c.self.inside in
     let count : length inside.words.words ≡ index_words (length c.args.self.now) = word_count inside.bound inside.words.words _ c.self.invariant.are c.self.view_is in
     elim c.if-len-gt0.branch [
       | then-len-gt0 w ↦ omega (arith, count, w.word.ensures.counted, c.len.ensures, c.requires)
-      | else-len-gt0 w ↦ omega (arith, count, c.requires)
-    ]
-
-pub returns-then-self-eq0-clause-least : goal.returns-then-self-eq0-clause-least
-returns-then-self-eq0-clause-least g c = λ some.
-    let inside = c.self.inside in
-    let count : length inside.words.words ≡ index_words (length c.args.self.now) = word_count inside.bound inside.words.words _ c.self.invariant.are c.self.view_is in
-    elim c.if-len-gt0.branch [
-      | then-len-gt0 w ↦ omega (arith, w.word.ensures.counted)
-      | else-len-gt0 w ↦ omega (arith, count, some, c.len.ensures)
+      | else-len-gt0 w ↦ omega (arith, count, c.len.ensures, c.requires)
     ]
 
 pub invariant_of-self : goal.invariant_of-self
@@ -100,8 +91,8 @@ returns-clause-taken g c =
       | else-left w ↦ w.self-is ∙ put
     ]
 
-pub returns-clause-most : goal.returns-clause-most
-returns-clause-most g c =
+pub returns-clause-counted : goal.returns-clause-counted
+returns-clause-counted g c =
     let inside = c.self.inside in
     let count : length inside.words.words ≡ index_words (length c.args.self.now) = word_count inside.bound inside.words.words _ c.self.invariant.are c.self.view_is in
     let below = c.self.invariant.listing.below (inside.top - 1) (omega arith) in

@@ -1,0 +1,13 @@
+use Rattle.std.proofs.Common.{subst, ap}
+use Rattle.bb_memory.specs.Pool.{CountedPool, IsPool}
+use Rattle.bb_memory.proofs.PoolAnswers.{answer-aligned, answer-inside}
+use Rattle.bb_memory.proofs.pool_allocator.PoolAllocatorBaseAllocator.answers_fit.Goals as goal
+
+pub returns-clause-inside : goal.returns-clause-inside
+returns-clause-inside g c = λ live layout chunk stands may.
+    let is = subst IsPool (ap (λ (k : CountedPool). k.pool) c.self.view_is) c.self.invariant.is_pool in
+    answer-inside c.args.self.now.pool.geometry live layout chunk is.geometry may
+
+pub returns-clause-aligned : goal.returns-clause-aligned
+returns-clause-aligned g c = λ live layout chunk stands may.
+    answer-aligned c.args.self.now.pool.geometry live layout chunk may
