@@ -102,10 +102,12 @@ impl SharedBumpAllocator {
         // What is added to the party's log says what the answer is.
         ensures answer { MayTake party.old layout result party.new }
 
-        // The party stays this allocator's, and some interleaving has its log.
+        // The party stays this allocator's, and some interleaving has its log. So what `shared_bump_law`
+        // says holds of it.
         ensures party { party.new.allocator ≡ self.now }
         ensures number { party.new.number ≡ party.old.number }
         ensures interleaved { IsInterleaved party.new }
+        ensures is_party { IsParty party.new }
 
         // The chunk is the one that the log has won since; a refusal wins none.
         ensures won { IfOk result (λ chunk.
@@ -143,6 +145,7 @@ impl SharedBumpAllocator {
         ensures party { party.new.allocator ≡ self.now }
         ensures number { party.new.number ≡ party.old.number }
         ensures interleaved { IsInterleaved party.new }
+        ensures is_party { IsParty party.new }
         ensures seen { seen_by party.old ≤ result }
         ensures within { result ≤ self.now.scene.region.size }
     {
@@ -157,6 +160,7 @@ impl SharedBumpAllocator {
         ensures party { party.new.allocator ≡ self.now }
         ensures number { party.new.number ≡ party.old.number }
         ensures interleaved { IsInterleaved party.new }
+        ensures is_party { IsParty party.new }
         ensures seen { seen_by party.old ≤ self.now.scene.region.size - result }
         ensures within { result ≤ self.now.scene.region.size }
     {
