@@ -11,6 +11,7 @@ mod PoolRuns
 mod Pools
 mod Positions
 mod Seatings
+mod SharedBumpAnswers
 mod SharedBumpClosings
 mod SharedBumpKeeps
 mod SharedBumpMeetings

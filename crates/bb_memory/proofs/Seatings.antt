@@ -10,16 +10,16 @@ use Rattle.bb_memory.specs.Seats.{AreSeated, HaveLogs, Numbered, Seat, alone, bo
 
 -- HOW OFTEN A PARTY STANDS IN VIEWS
 
-times_in_views-set : {F E : Type 0} (number : ℕ) (views : List (Seat F E)) (seat : ℕ) (old new : Seat F E) →
+times_in_views-set : {S E : Type 0} (number : ℕ) (views : List (Seat S E)) (seat : ℕ) (old new : Seat S E) →
     get_elem? views seat ≡ some old →
     times_in_views number (set views seat new) + times_in number old.parties ≡ times_in_views number views + times_in number new.parties
 times_in_views-set number [] seat old new at = absurd (some-ne-none old (sym at))
-times_in_views-set {F = F} {E = E} number (view ∷ views) zero old new at =
-    let same = ap (λ (v : Seat F E). times_in number v.parties) (some-injective view old at) in omega arith
+times_in_views-set {S = S} {E = E} number (view ∷ views) zero old new at =
+    let same = ap (λ (v : Seat S E). times_in number v.parties) (some-injective view old at) in omega arith
 times_in_views-set number (view ∷ views) (suc seat) old new at =
     let rest = times_in_views-set number views seat old new at in omega arith
 
-times_in_views-push : {F E : Type 0} (number : ℕ) (views : List (Seat F E)) (view : Seat F E) →
+times_in_views-push : {S E : Type 0} (number : ℕ) (views : List (Seat S E)) (view : Seat S E) →
     times_in_views number (views ++ view ∷ []) ≡ times_in_views number views + times_in number view.parties
 times_in_views-push number [] view = omega arith
 times_in_views-push number (first ∷ views) view = let rest = times_in_views-push number views view in omega arith
@@ -29,24 +29,24 @@ times_in-append number [] ys = omega arith
 times_in-append number (x ∷ xs) ys = let rest = times_in-append number xs ys in omega arith
 
 -- a view has no more of them than all views
-pub times_in-at : {F E : Type 0} (number : ℕ) (views : List (Seat F E)) (seat : ℕ) (view : Seat F E) → get_elem? views seat ≡ some view →
+pub times_in-at : {S E : Type 0} (number : ℕ) (views : List (Seat S E)) (seat : ℕ) (view : Seat S E) → get_elem? views seat ≡ some view →
     times_in number view.parties ≤ times_in_views number views
 times_in-at number [] seat view at = absurd (some-ne-none view (sym at))
-times_in-at {F = F} {E = E} number (first ∷ views) zero view at =
-    let same = ap (λ (v : Seat F E). times_in number v.parties) (some-injective first view at) in omega arith
+times_in-at {S = S} {E = E} number (first ∷ views) zero view at =
+    let same = ap (λ (v : Seat S E). times_in number v.parties) (some-injective first view at) in omega arith
 times_in-at number (first ∷ views) (suc seat) view at = let rest = times_in-at number views seat view at in omega arith
 
 -- nor have two
-times_in-two : {F E : Type 0} (number : ℕ) (views : List (Seat F E)) (seat other : ℕ) (view there : Seat F E) → seat ≢ other →
+times_in-two : {S E : Type 0} (number : ℕ) (views : List (Seat S E)) (seat other : ℕ) (view there : Seat S E) → seat ≢ other →
     get_elem? views seat ≡ some view → get_elem? views other ≡ some there →
     times_in number view.parties + times_in number there.parties ≤ times_in_views number views
 times_in-two number [] seat other view there apart at at_other = absurd (some-ne-none view (sym at))
 times_in-two number (first ∷ views) zero zero view there apart at at_other = absurd (apart refl)
-times_in-two {F = F} {E = E} number (first ∷ views) zero (suc other) view there apart at at_other =
-    let same = ap (λ (v : Seat F E). times_in number v.parties) (some-injective first view at) in
+times_in-two {S = S} {E = E} number (first ∷ views) zero (suc other) view there apart at at_other =
+    let same = ap (λ (v : Seat S E). times_in number v.parties) (some-injective first view at) in
     let rest = times_in-at number views other there at_other in omega arith
-times_in-two {F = F} {E = E} number (first ∷ views) (suc seat) zero view there apart at at_other =
-    let same = ap (λ (v : Seat F E). times_in number v.parties) (some-injective first there at_other) in
+times_in-two {S = S} {E = E} number (first ∷ views) (suc seat) zero view there apart at at_other =
+    let same = ap (λ (v : Seat S E). times_in number v.parties) (some-injective first there at_other) in
     let rest = times_in-at number views seat view at in omega arith
 times_in-two number (first ∷ views) (suc seat) (suc other) view there apart at at_other =
     let rest = times_in-two number views seat other view there (λ same. apart (ap suc same)) at at_other in omega arith
@@ -62,12 +62,12 @@ times_in-own : {E : Type 0} (number : ℕ) (log : List E) → times_in number (n
 times_in-own number log = let one = one_same number number refl in omega arith
 
 -- two parties of one seat are two
-pub two_parties : {F E : Type 0} (made : ℕ) (logs : List (List E)) (views : List (Seat F E)) (seat : ℕ) (figures : F) (one other : Numbered E) →
-    AreSeated made logs views → get_elem? views seat ≡ some (standing_for figures (one ∷ other ∷ [])) → one.number ≢ other.number
-two_parties made logs views seat figures one other seated at same =
-    let view = standing_for figures (one ∷ other ∷ []) in
+pub two_parties : {S E : Type 0} (made : ℕ) (logs : List (List E)) (views : List (Seat S E)) (seat : ℕ) (scene : S) (one other : Numbered E) →
+    AreSeated made logs views → get_elem? views seat ≡ some (standing_for scene (one ∷ other ∷ [])) → one.number ≢ other.number
+two_parties made logs views seat scene one other seated at same =
+    let view = standing_for scene (one ∷ other ∷ []) in
     let within = times_in-at one.number views seat view at in
-    let most = seated.once one.number (seated.each seat view at).0 in
+    let most = seated.once one.number (seated.known seat view at).0 in
     let first = one_same one.number one.number refl in
     let second = one_same other.number one.number (sym same) in omega arith
 
@@ -106,42 +106,42 @@ times_in-parts number (party ∷ parties) = omega arith
 -- ONE STEP
 
 -- the log of a party that stands alone in its seat becomes another
-pub seated_step : {F E : Type 0} (made : ℕ) (logs : List (List E)) (views : List (Seat F E)) (seat : ℕ) (figures : F) (number : ℕ) (log new : List E) →
-    AreSeated made logs views → get_elem? views seat ≡ some (alone figures number log) →
-    AreSeated made (slice_set logs number new) (set views seat (alone figures number new))
-seated_step {F = F} {E = E} made logs views seat figures number log new seated at =
-    let mine = seated.each seat (alone figures number log) at in record {
-      each = λ other found there. elim (at_set views seat other (alone figures number new) found there) [
+pub seated_step : {S E : Type 0} (made : ℕ) (logs : List (List E)) (views : List (Seat S E)) (seat : ℕ) (scene : S) (number : ℕ) (log new : List E) →
+    AreSeated made logs views → get_elem? views seat ≡ some (alone scene number log) →
+    AreSeated made (slice_set logs number new) (set views seat (alone scene number new))
+seated_step {S = S} {E = E} made logs views seat scene number log new seated at =
+    let mine = seated.known seat (alone scene number log) at in record {
+      known = λ other found there. elim (at_set views seat other (alone scene number new) found there) [
         | inl here ↦
-            subst (λ (v : Seat F E). HaveLogs made (slice_set logs number new) v.parties) here.1
+            subst (λ (v : Seat S E). HaveLogs made (slice_set logs number new) v.parties) here.1
             (mine.0, slice_get-set_same logs number new log mine.1, tt)
         | inr elsewhere ↦
-            let two = times_in-two number views other seat found (alone figures number log) elsewhere.0 elsewhere.1 at in
+            let two = times_in-two number views other seat found (alone scene number log) elsewhere.0 elsewhere.1 at in
             let one = times_in-own number log in
             let most = seated.once number mine.0 in
-            others_keep made logs new number found.parties (omega arith) (seated.each other found elsewhere.1)
+            others_keep made logs new number found.parties (omega arith) (seated.known other found elsewhere.1)
       ];
       once = λ party below.
-          let placed = times_in_views-set party views seat (alone figures number log) (alone figures number new) at in
+          let placed = times_in_views-set party views seat (alone scene number log) (alone scene number new) at in
           let one = seated.once party below in omega arith;
     }
 
 -- SPLITS AND JOINS
 
 -- a view is split in two where each party goes to one of the two
-seated_split : {F E : Type 0} (made : ℕ) (logs : List (List E)) (views : List (Seat F E)) (seat : ℕ) (view left right : Seat F E) →
+seated_split : {S E : Type 0} (made : ℕ) (logs : List (List E)) (views : List (Seat S E)) (seat : ℕ) (view left right : Seat S E) →
     ((number : ℕ) → times_in number left.parties + times_in number right.parties ≡ times_in number view.parties) →
     (HaveLogs made logs view.parties → HaveLogs made logs left.parties × HaveLogs made logs right.parties) →
     AreSeated made logs views → get_elem? views seat ≡ some view →
     AreSeated made logs (set views seat left ++ right ∷ [])
-seated_split {F = F} {E = E} made logs views seat view left right count parts seated at =
-    let own = parts (seated.each seat view at) in
-    let Known : Seat F E → Type 0 = λ v. HaveLogs made logs v.parties in
-    let first : List (Seat F E) = set views seat left in record {
-      each = λ other found there. elim (at_snoc first right found other there) [
+seated_split {S = S} {E = E} made logs views seat view left right count parts seated at =
+    let own = parts (seated.known seat view at) in
+    let Known : Seat S E → Type 0 = λ v. HaveLogs made logs v.parties in
+    let first : List (Seat S E) = set views seat left in record {
+      known = λ other found there. elim (at_snoc first right found other there) [
         | inl before ↦ elim (at_set views seat other left found before) [
           | inl here ↦ subst Known here.1 own.0
-          | inr elsewhere ↦ seated.each other found elsewhere.1
+          | inr elsewhere ↦ seated.known other found elsewhere.1
         ]
         | inr last ↦ subst Known last own.1
       ];
@@ -152,37 +152,37 @@ seated_split {F = F} {E = E} made logs views seat view left right count parts se
           let one = seated.once number below in omega arith;
     }
 
-pub seated_others : {F E : Type 0} (made : ℕ) (logs : List (List E)) (views : List (Seat F E)) (seat : ℕ) (view : Seat F E) →
+pub seated_others : {S E : Type 0} (made : ℕ) (logs : List (List E)) (views : List (Seat S E)) (seat : ℕ) (view : Seat S E) →
     AreSeated made logs views → get_elem? views seat ≡ some view → AreSeated made logs (set views seat (others_of view) ++ first_of view ∷ [])
 seated_others made logs views seat view = seated_split made logs views seat view (others_of view) (first_of view)
     (λ number. let parts = times_in-parts number view.parties in omega arith)
     (λ have. let parts = have-parts made logs view.parties have in (parts.1, parts.0))
 
-pub seated_first : {F E : Type 0} (made : ℕ) (logs : List (List E)) (views : List (Seat F E)) (seat : ℕ) (view : Seat F E) →
+pub seated_first : {S E : Type 0} (made : ℕ) (logs : List (List E)) (views : List (Seat S E)) (seat : ℕ) (view : Seat S E) →
     AreSeated made logs views → get_elem? views seat ≡ some view → AreSeated made logs (set views seat (first_of view) ++ others_of view ∷ [])
 seated_first made logs views seat view = seated_split made logs views seat view (first_of view) (others_of view)
     (λ number. times_in-parts number view.parties) (λ have. have-parts made logs view.parties have)
 
 -- two views are joined: one has the parties of both, and the other none
-pub seated_both : {F E : Type 0} (made : ℕ) (logs : List (List E)) (views : List (Seat F E)) (seat : ℕ) (view : Seat F E) (other : ℕ) (guest : Seat F E)
-    (none : F) → AreSeated made logs views → get_elem? views seat ≡ some view → other ≢ seat →
+pub seated_both : {S E : Type 0} (made : ℕ) (logs : List (List E)) (views : List (Seat S E)) (seat : ℕ) (view : Seat S E) (other : ℕ) (guest : Seat S E)
+    (none : S) → AreSeated made logs views → get_elem? views seat ≡ some view → other ≢ seat →
     get_elem? (set views seat (both_of view guest)) other ≡ some guest →
     AreSeated made logs (set (set views seat (both_of view guest)) other (standing_for none []))
-seated_both {F = F} {E = E} made logs views seat view other guest none seated at apart there =
-    let Known : Seat F E → Type 0 = λ v. HaveLogs made logs v.parties in
+seated_both {S = S} {E = E} made logs views seat view other guest none seated at apart there =
+    let Known : Seat S E → Type 0 = λ v. HaveLogs made logs v.parties in
     let both = both_of view guest in
-    let spent : Seat F E = standing_for none [] in
-    let first : List (Seat F E) = set views seat both in
+    let spent : Seat S E = standing_for none [] in
+    let first : List (Seat S E) = set views seat both in
     let was : get_elem? views other ≡ some guest = elim (at_set views seat other both guest there) [
       | inl here ↦ absurd (apart here.0)
       | inr elsewhere ↦ elsewhere.1
     ] in record {
-      each = λ third found is. elim (at_set first other third spent found is) [
+      known = λ third found is. elim (at_set first other third spent found is) [
         | inl here ↦ subst Known here.1 tt
         | inr rest ↦ elim (at_set views seat third both found rest.1) [
           | inl joined ↦ subst Known joined.1
-              (have-append made logs view.parties guest.parties (seated.each seat view at) (seated.each other guest was))
-          | inr elsewhere ↦ seated.each third found elsewhere.1
+              (have-append made logs view.parties guest.parties (seated.known seat view at) (seated.known other guest was))
+          | inr elsewhere ↦ seated.known third found elsewhere.1
         ]
       ];
       once = λ number below.
@@ -219,16 +219,16 @@ fresh_once E number from (suc count) low high =
     ]
 
 -- all parties stand in the first seat
-pub seated_opening : {F : Type 0} (E : Type 0) (made : ℕ) (figures : F) →
-    AreSeated {F = F} {E = E} made (replicate made []) (standing_for figures (fresh_from 0 made) ∷ [])
-seated_opening {F = F} E made figures = record {
-  each = first;
+pub seated_opening : {S : Type 0} (E : Type 0) (made : ℕ) (scene : S) →
+    AreSeated {S = S} {E = E} made (replicate made []) (standing_for scene (fresh_from 0 made) ∷ [])
+seated_opening {S = S} E made scene = record {
+  known = first;
   once = λ number below. let one = fresh_once E number 0 made (omega arith) (omega arith) in omega arith;
 }
   where
-    first : (seat : ℕ) (view : Seat F E) → get_elem? (standing_for figures (fresh_from 0 made) ∷ []) seat ≡ some view →
+    first : (seat : ℕ) (view : Seat S E) → get_elem? (standing_for scene (fresh_from 0 made) ∷ []) seat ≡ some view →
         HaveLogs {E = E} made (replicate made []) view.parties
-    first zero view is = subst (λ (v : Seat F E). HaveLogs {E = E} made (replicate made []) v.parties) (some-injective _ _ is)
+    first zero view is = subst (λ (v : Seat S E). HaveLogs {E = E} made (replicate made []) v.parties) (some-injective _ _ is)
         (fresh_have E made 0 made (omega arith))
     first (suc seat) view is = absurd (some-ne-none view (sym is))
 

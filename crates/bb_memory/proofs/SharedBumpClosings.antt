@@ -4,37 +4,37 @@ use mathlib.Core.Option.{some, some-injective}
 use lib.ListN.{get_elem?}
 use Rattle.atomic_table.specs.Table.{State, Final, Seen}
 use Rattle.bb_memory_base.specs.BumpMachine.{BumpScene}
-use Rattle.bb_memory_base.specs.BumpHistory.{BumpEntry}
+use Rattle.bb_memory_base.specs.BumpHistory.{BumpLog}
 use Rattle.bb_memory_base.specs.BumpLogs.{HasLog, Interleaving, seen_in}
 use Rattle.bb_memory_base.proofs.BumpPositions.{alone_exact, interleaved}
 use Rattle.bb_memory.specs.Seats.{alone}
-use Rattle.bb_memory.specs.SharedBumpRule.{SeatView, WordAndLogsAgree}
+use Rattle.bb_memory.specs.SharedBumpRule.{SeatView, WordsAndLogsAgree}
 use Rattle.bb_memory.proofs.SharedBumpKeeps.{known}
 
 -- the last position, to a party with this log
-pub record IsLast (scene : BumpScene) (party : ℕ) (log : List BumpEntry) (position : ℕ) : Type 0 where
-  pub history : Interleaving scene party log position
+pub record IsLast (scene : BumpScene) (party : ℕ) (log : BumpLog) (position : ℕ) : Type 0 where
+  pub interleaved : Interleaving scene party log position
   pub seen : seen_in scene log ≤ position
   pub within : position ≤ scene.region.size
   pub exact : scene.parties ≡ 1 → position ≡ seen_in scene log
 
-last_known : (scene : BumpScene) (state : State ℕ SeatView) (rule : WordAndLogsAgree scene state) (seat party : ℕ) (log : List BumpEntry) →
+last_known : (scene : BumpScene) (state : State ℕ SeatView) (rule : WordsAndLogsAgree scene state) (seat party : ℕ) (log : BumpLog) →
     get_elem? state.views seat ≡ some (alone scene party log) → IsLast scene party log rule.position
 last_known scene state rule seat party log at =
     let know = known scene state rule seat party log at in record {
-      history = interleaved scene rule.position party rule.logs log rule.agree know.own;
+      interleaved = interleaved scene rule.position rule.logs party log rule.agree know.own;
       seen = know.seen;
       within = know.within;
       exact = λ one. let there = know.there in let first : party ≡ 0 = omega arith in
           alone_exact scene rule.position rule.logs log one rule.agree (subst (λ (p : ℕ). HasLog rule.logs p log) first know.own);
     }
 
-pub closes : (scene : BumpScene) (seat party : ℕ) (log : List BumpEntry) (view : SeatView) (words homes : List ℕ) (position : ℕ) →
-    view ≡ alone scene party log → Final (Seen (WordAndLogsAgree scene) seat view) words homes → get_elem? words 0 ≡ some position →
+pub closes : (scene : BumpScene) (seat party : ℕ) (log : BumpLog) (view : SeatView) (words homes : List ℕ) (position : ℕ) →
+    view ≡ alone scene party log → Final (Seen (WordsAndLogsAgree scene) seat view) words homes → get_elem? words 0 ≡ some position →
     IsLast scene party log position
 closes scene seat party log view words homes position is last at =
     let state = last.0 in
     let rule = last.1.0 in
     let there = last.1.1 ∙ ap some is in
-    let found : rule.position ≡ position = some-injective _ _ (ap (λ (l : List ℕ). get_elem? l 0) (sym rule.word ∙ last.2) ∙ at) in
+    let found : rule.position ≡ position = some-injective _ _ (ap (λ (l : List ℕ). get_elem? l 0) (sym rule.words ∙ last.2) ∙ at) in
     subst (IsLast scene party log) found (last_known scene state rule seat party log there)

@@ -1,5 +1,5 @@
 -- Each atomic step keeps word and logs in agreement.
-use Rattle.std.proofs.Common.{◌≡◌, ◌≢◌, ℕ, ◌<◌, ◌≤◌, List, [], Bool, true, false, set, get_or, eqb, refl, sym, ap, ◌∙◌, subst, arith, eq-eqb, ne_eqb, Option, Some, None}
+use Rattle.std.proofs.Common.{◌≡◌, ◌≢◌, ℕ, ◌<◌, ◌≤◌, List, [], ◌∷◌, ◌++◌, Bool, true, false, set, get_or, eqb, refl, sym, ap, ◌∙◌, subst, arith, eq-eqb, ne_eqb, Option, Some, None}
 use Rattle.std.specs.Prelude.{◌==◌, if◌then◌else◌}
 use mathlib.Core.Option.{none, some}
 use prog.Atomic.{either}
@@ -8,85 +8,86 @@ use Rattle.atomic_table.specs.Table.{State, Me, keeps, Allows, step, carried_aft
 use Rattle.atomic_table.proofs.Lists.{exchanged}
 use Rattle.std.proofs.lemmas.Option.{same_Some}
 use Rattle.bb_memory_base.specs.BumpMachine.{BumpScene, OngoingCall, chunk_at, ending, exchange_move, fits, position_behind, read_move, seeing}
-use Rattle.bb_memory_base.specs.BumpHistory.{BumpEntry}
+use Rattle.bb_memory_base.specs.BumpHistory.{BumpEntry, BumpLog, entry_of}
 use Rattle.bb_memory_base.specs.BumpLogs.{HasLog, Interleaving, LogsAgree, call_in, greater_of, position_in, seen_in, with_entry}
 use Rattle.bb_memory_base.specs.declared.layout.Layout.{Layout}
 use Rattle.bb_memory_base.specs.declared.steps.bump.BumpStep.{BumpStep}
 use Rattle.bb_memory_base.specs.declared.steps.bump.BumpStep.TheVariants.{Read, Exchange, Load}
 use Rattle.bb_memory_base.specs.declared.steps.bump.BumpOutcome.{BumpOutcome}
 use Rattle.bb_memory_base.specs.declared.steps.bump.BumpOutcome.TheVariants.{Sees, RefusedAtRead, Wins, Loses, RefusedAtLoss, Loaded}
-use Rattle.bb_memory_base.proofs.SliceGets.{slice_get-set_same}
+use Rattle.bb_memory_base.proofs.SliceGets.{length-set_at, slice_get-set_same}
 use Rattle.bb_memory_base.proofs.BumpLogs.{read_agrees, exchange_agrees, load_agrees}
 use Rattle.bb_memory_base.proofs.BumpPositions.{interleaved, position_within, seen_below}
 use Rattle.bb_memory_base.proofs.BumpRuns.{chunk_at-above}
 use Rattle.bb_memory.specs.Seats.{alone}
-use Rattle.bb_memory.specs.SharedBumpRule.{SeatView, WordAndLogsAgree}
-use Rattle.bb_memory.specs.SharedBumpSteps.{Tells, exchanges, loads, logged, reads}
+use Rattle.bb_memory.specs.SharedBumpRule.{SeatView, WordsAndLogsAgree}
+use Rattle.bb_memory.specs.SharedBumpSteps.{Tells, exchanges, loads, reads}
 use Rattle.bb_memory.proofs.Seatings.{seated_step}
 use Rattle.bb_memory.proofs.SharedLogs.{seen_next}
 
 -- ONE STEP
 
 -- what the rule says of a party whose log this is
-pub record IsKnown (scene : BumpScene) (state : State ℕ SeatView) (rule : WordAndLogsAgree scene state) (party : ℕ)
-    (log : List BumpEntry) : Type 0 where
+pub record IsKnown (scene : BumpScene) (state : State ℕ SeatView) (rule : WordsAndLogsAgree scene state) (party : ℕ)
+    (log : BumpLog) : Type 0 where
   pub there : party < scene.parties
   pub own : HasLog rule.logs party log
   pub word : get_or state.words 0 0 ≡ rule.position
   pub seen : seen_in scene log ≤ rule.position
   pub within : rule.position ≤ scene.region.size
 
-pub known_as : (scene : BumpScene) (state : State ℕ SeatView) (rule : WordAndLogsAgree scene state) (party : ℕ) (log : List BumpEntry) →
+pub known_as : (scene : BumpScene) (state : State ℕ SeatView) (rule : WordsAndLogsAgree scene state) (party : ℕ) (log : BumpLog) →
     party < scene.parties → HasLog rule.logs party log → IsKnown scene state rule party log
 known_as scene state rule party log there own = record {
   there = there;
   own = own;
-  word = ap (λ (words : List ℕ). get_or words 0 0) rule.word;
-  seen = seen_below scene rule.position party rule.logs log rule.agree own;
+  word = ap (λ (words : List ℕ). get_or words 0 0) rule.words;
+  seen = seen_below scene rule.position rule.logs party log rule.agree own;
   within = position_within scene rule.position rule.logs rule.opened rule.agree;
 }
 
-pub known : (scene : BumpScene) (state : State ℕ SeatView) (rule : WordAndLogsAgree scene state) (seat party : ℕ) (log : List BumpEntry) →
+pub known : (scene : BumpScene) (state : State ℕ SeatView) (rule : WordsAndLogsAgree scene state) (seat party : ℕ) (log : BumpLog) →
     get_elem? state.views seat ≡ some (alone scene party log) → IsKnown scene state rule party log
 known scene state rule seat party log at =
-    let have = rule.seated.each seat (alone scene party log) at in known_as scene state rule party log have.0 have.1
+    let have = rule.seated.known seat (alone scene party log) at in known_as scene state rule party log have.0 have.1
 
 -- the rule after a step of the machine, which leaves this position
-step_keeps : (scene : BumpScene) (state : State ℕ SeatView) (rule : WordAndLogsAgree scene state) (seat party : ℕ)
-    (log : List BumpEntry) (kind : BumpStep) (outcome : BumpOutcome) (left : ℕ) →
+step_keeps : (scene : BumpScene) (state : State ℕ SeatView) (rule : WordsAndLogsAgree scene state) (seat party : ℕ)
+    (log : BumpLog) (kind : BumpStep) (outcome : BumpOutcome) (left : ℕ) →
     get_elem? state.views seat ≡ some (alone scene party log) →
-    LogsAgree scene left (with_entry rule.logs party log kind outcome) →
-    WordAndLogsAgree scene record {
+    LogsAgree scene left (with_entry rule.logs party log (entry_of kind outcome)) →
+    WordsAndLogsAgree scene record {
       words = set state.words 0 left;
       homes = state.homes;
-      views = set state.views seat (alone scene party (logged log kind outcome));
+      views = set state.views seat (alone scene party (log ++ entry_of kind outcome ∷ []));
     }
 step_keeps scene state rule seat party log kind outcome left at agree =
     record {
-      logs = with_entry rule.logs party log kind outcome;
       position = left;
+      logs = with_entry rule.logs party log (entry_of kind outcome);
       agree = agree;
-      word = ap (λ (words : List ℕ). set words 0 left) rule.word;
+      words = ap (λ (words : List ℕ). set words 0 left) rule.words;
       opened = rule.opened;
-      seated = seated_step scene.parties rule.logs state.views seat scene party log (logged log kind outcome) rule.seated at;
+      one_a_party = length-set_at rule.logs party (log ++ entry_of kind outcome ∷ []) ∙ rule.one_a_party;
+      seated = seated_step scene.parties rule.logs state.views seat scene party log (log ++ entry_of kind outcome ∷ []) rule.seated at;
     }
 
 -- A step of the machine, as the table asks for it: `left` is what it does to the word, of which the party has then seen the
 -- result.
-step_tells : (scene : BumpScene) (slots seat party : ℕ) (log : List BumpEntry) (left : ℕ → ℕ) (kind : BumpStep)
+step_tells : (scene : BumpScene) (slots seat party : ℕ) (log : BumpLog) (left : ℕ → ℕ) (kind : BumpStep)
     (outcome : ℕ → BumpOutcome) →
-    ((logs : List (List BumpEntry)) (found : ℕ) → party < scene.parties → HasLog logs party log → LogsAgree scene found logs →
-    LogsAgree scene (left found) (with_entry logs party log kind (outcome found))) →
+    ((logs : List BumpLog) (found : ℕ) → party < scene.parties → HasLog logs party log → LogsAgree scene found logs →
+    LogsAgree scene (left found) (with_entry logs party log (entry_of kind (outcome found)))) →
     ((found : ℕ) → seen_in scene log ≤ found → greater_of (seen_in scene log) (position_in scene.region (outcome found)) ≡ left found) →
-    Allows (WordAndLogsAgree scene) slots seat (alone scene party log, []) 0 left (λ found me. Tells scene party log kind (outcome found) found me)
+    Allows (WordsAndLogsAgree scene) slots seat (alone scene party log, []) 0 left (λ found me. Tells scene party log kind (outcome found) found me)
 step_tells scene slots seat party log left kind outcome fit sees state rule _ at _ =
     let know = known scene state rule seat party log at in
     let word = know.word in
     let seen = know.seen in
     let within = know.within in
     let found : ℕ = get_or state.words 0 0 in
-    let logs = with_entry rule.logs party log kind (outcome found) in
-    let new = logged log kind (outcome found) in
+    let logs = with_entry rule.logs party log (entry_of kind (outcome found)) in
+    let new = log ++ entry_of kind (outcome found) ∷ [] in
     let agree : LogsAgree scene (left found) logs =
     fit rule.logs found know.there know.own (subst (λ (n : ℕ). LogsAgree scene n rule.logs) (sym word) rule.agree) in
     let above : seen_in scene log ≤ found = omega arith in
@@ -96,11 +97,13 @@ step_tells scene slots seat party log left kind outcome fit sees state rule _ at
       tt,
       step_keeps scene state rule seat party log kind (outcome found) (left found) at agree,
       record {
-        seat = refl;
+        seat = record {
+          is = refl;
+          interleaved = subst (Interleaving scene party new) (sym (sees found above) ∙ sym (seen_next scene log kind (outcome found)))
+              (interleaved scene (left found) logs party new agree own);
+        };
         seen = above;
         within = omega arith;
-        history = subst (Interleaving scene party new) (sym (sees found above) ∙ sym (seen_next scene log kind (outcome found)))
-            (interleaved scene (left found) party logs new agree own);
       },
     )
 
@@ -109,13 +112,13 @@ greater_of-found seen found above = omega arith
 
 -- LOADS
 
-pub loads_as : (scene : BumpScene) (slots seat party : ℕ) (log : List BumpEntry) (me : Me ℕ SeatView) → me ≡ (alone scene party log, []) →
+pub loads_as : (scene : BumpScene) (slots seat party : ℕ) (log : BumpLog) (me : Me ℕ SeatView) → me ≡ (alone scene party log, []) →
     call_in log ≡ None →
-    Allows (WordAndLogsAgree scene) slots seat me 0 (λ found. found) (loads (step slots 0 0 0 none) me)
+    Allows (WordsAndLogsAgree scene) slots seat me 0 (λ found. found) (loads (step slots 0 0 0 none) me)
 loads_as scene slots seat party log me is idle =
-    subst (λ (m : Me ℕ SeatView). Allows (WordAndLogsAgree scene) slots seat m 0 (λ found. found) (loads (step slots 0 0 0 none) m)) (sym is)
+    subst (λ (m : Me ℕ SeatView). Allows (WordsAndLogsAgree scene) slots seat m 0 (λ found. found) (loads (step slots 0 0 0 none) m)) (sym is)
     (step_tells scene slots seat party log (λ found. found) (Load party) Loaded
-    (λ logs found there own agree. load_agrees scene found party logs log agree own there idle)
+    (λ logs found there own agree. load_agrees scene found logs party log agree own there idle)
     (λ found. greater_of-found (seen_in scene log) found))
 
 -- READS
@@ -126,14 +129,14 @@ read_sees : (scene : BumpScene) (seen found : ℕ) (layout : Layout) (fitting : 
 read_sees scene seen found layout true above = omega arith
 read_sees scene seen found layout false above = omega arith
 
-pub reads_as : (scene : BumpScene) (slots seat party : ℕ) (layout : Layout) (asked : Option Layout) (log : List BumpEntry) (me : Me ℕ SeatView) →
+pub reads_as : (scene : BumpScene) (slots seat party : ℕ) (layout : Layout) (asked : Option Layout) (log : BumpLog) (me : Me ℕ SeatView) →
     me ≡ (alone scene party log, []) → call_in log ≡ None → 0 < layout.size → asked ≡ Some layout →
-    Allows (WordAndLogsAgree scene) slots seat me 0 (λ found. found) (reads asked (step slots 0 0 0 none) me)
+    Allows (WordsAndLogsAgree scene) slots seat me 0 (λ found. found) (reads asked (step slots 0 0 0 none) me)
 reads_as scene slots seat party layout asked log me is idle asks for_it =
-    subst (λ (m : Me ℕ SeatView × Option Layout). Allows (WordAndLogsAgree scene) slots seat m.0 0 (λ found. found) (reads m.1 (step slots 0 0 0 none) m.0))
+    subst (λ (m : Me ℕ SeatView × Option Layout). Allows (WordsAndLogsAgree scene) slots seat m.0 0 (λ found. found) (reads m.1 (step slots 0 0 0 none) m.0))
     (λ i. (sym is i, sym for_it i))
     (step_tells scene slots seat party log (λ found. found) (Read party layout) (λ found. (read_move scene.region found layout).outcome)
-    (λ logs found there own agree. read_agrees scene found party logs log layout agree own there idle asks)
+    (λ logs found there own agree. read_agrees scene found logs party log layout agree own there idle asks)
     (λ found. read_sees scene (seen_in scene log) found layout (fits scene.region found layout)))
 
 -- EXCHANGES
@@ -171,27 +174,27 @@ exchange_sees scene seen found call true fitting above = omega (arith, chunk_at-
 exchange_sees scene seen found call false true above = omega arith
 exchange_sees scene seen found call false false above = omega arith
 
-exchanges_at : (scene : BumpScene) (slots seat party : ℕ) (call : OngoingCall) (behind : ℕ) (log : List BumpEntry) → call_in log ≡ Some call →
+exchanges_at : (scene : BumpScene) (slots seat party : ℕ) (call : OngoingCall) (behind : ℕ) (log : BumpLog) → call_in log ≡ Some call →
     behind ≡ position_behind scene.region (chunk_at scene.region call.seen call.layout) →
-    Allows (WordAndLogsAgree scene) slots seat (alone scene party log, []) 0 (λ found. either (eqb found call.seen) behind found)
+    Allows (WordsAndLogsAgree scene) slots seat (alone scene party log, []) 0 (λ found. either (eqb found call.seen) behind found)
     (λ found me. Tells scene party log (Exchange party) (exchange_move scene.region found call).outcome found me)
 exchanges_at scene slots seat party call behind log in_call is =
     let left : ℕ → ℕ = λ found. either (eqb found call.seen) behind found in
     let outcome : ℕ → BumpOutcome = λ found. (exchange_move scene.region found call).outcome in
     step_tells scene slots seat party log left (Exchange party) outcome
-    (λ logs found there own agree. subst (λ (n : ℕ). LogsAgree scene n (with_entry logs party log (Exchange party) (outcome found)))
+    (λ logs found there own agree. subst (λ (n : ℕ). LogsAgree scene n (with_entry logs party log (entry_of (Exchange party) (outcome found))))
     (sym (exchange_word scene found behind call is))
-    (exchange_agrees scene found party logs log call agree own there in_call))
+    (exchange_agrees scene found logs party log call agree own there in_call))
     (λ found above. exchange_sees scene (seen_in scene log) found call (found == call.seen) (fits scene.region found call.layout) above
     ∙ sym (exchange_word scene found behind call is))
 
-pub exchanges_as : (scene : BumpScene) (slots seat party : ℕ) (layout : Layout) (seen behind : ℕ) (log : List BumpEntry) (me : Me ℕ SeatView) →
+pub exchanges_as : (scene : BumpScene) (slots seat party : ℕ) (layout : Layout) (seen behind : ℕ) (log : BumpLog) (me : Me ℕ SeatView) →
     me ≡ (alone scene party log, []) → call_in log ≡ Some (record { layout = layout; seen = seen }) →
     behind ≡ position_behind scene.region (chunk_at scene.region seen layout) →
-    Allows (WordAndLogsAgree scene) slots seat me 0 (λ found. either (eqb found seen) behind found) (exchanges (step slots 0 seen behind none) me)
+    Allows (WordsAndLogsAgree scene) slots seat me 0 (λ found. either (eqb found seen) behind found) (exchanges (step slots 0 seen behind none) me)
 exchanges_as scene slots seat party layout seen behind log me is in_call behind_is =
     let call : OngoingCall = record { layout = layout; seen = seen } in
-    subst (λ (m : Me ℕ SeatView). Allows (WordAndLogsAgree scene) slots seat m 0 (λ found. either (eqb found seen) behind found) (exchanges (step slots 0 seen behind none) m)) (sym is)
+    subst (λ (m : Me ℕ SeatView). Allows (WordsAndLogsAgree scene) slots seat m 0 (λ found. either (eqb found seen) behind found) (exchanges (step slots 0 seen behind none) m)) (sym is)
     (λ state rule long at small.
     let x = exchanges_at scene slots seat party call behind log in_call behind_is state rule long at small in
     let found : ℕ = get_or state.words 0 0 in (

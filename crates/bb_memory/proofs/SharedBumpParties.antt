@@ -1,48 +1,93 @@
 -- From what a step tells to what its party is then.
-use Rattle.std.proofs.Common.{◌≡◌, ℕ, List, [], refl, sym, ap, ◌∙◌, subst, Some, None}
+use Rattle.std.proofs.Common.{◌≡◌, ℕ, ◌<◌, List, [], ◌∷◌, ◌++◌, refl, sym, ap, ◌∙◌, subst, Option, Some, None}
 use Rattle.atomic_table.specs.Seated.{TableId}
-use Rattle.atomic_table.specs.Table.{Me}
-use Rattle.bb_memory_base.specs.BumpMachine.{BumpScene, OngoingCall, exchange_move, read_move}
-use Rattle.bb_memory_base.specs.BumpHistory.{BumpEntry}
+use Rattle.atomic_table.specs.Table.{Me, Step}
+use Rattle.bb_memory_base.specs.BumpMachine.{BumpScene}
+use Rattle.bb_memory_base.specs.BumpHistory.{BumpLog, entry_of}
 use Rattle.bb_memory_base.specs.BumpLogs.{call_in}
 use Rattle.bb_memory_base.specs.declared.layout.Layout.{Layout}
-use Rattle.bb_memory_base.specs.declared.steps.bump.BumpStep.TheVariants.{Read, Exchange, Load}
+use Rattle.bb_memory_base.specs.declared.steps.bump.BumpStep.TheVariants.{Load}
 use Rattle.bb_memory_base.specs.declared.steps.bump.BumpOutcome.TheVariants.{Loaded}
-use Rattle.bb_memory.specs.SharedBump.{IsParty}
-use Rattle.bb_memory.specs.SharedBumpFields.{IsSeated, IsSeatedParty}
-use Rattle.bb_memory.specs.Seats.{alone, view_log}
-use Rattle.bb_memory.specs.SharedBumpRule.{SeatView}
-use Rattle.bb_memory.specs.SharedBumpSteps.{Tells, TellsExchange, TellsLoad, TellsRead, logged}
+use Rattle.bb_memory.specs.Seats.{alone, number_of, view_log}
+use Rattle.bb_memory.specs.SharedBump.{BumpParty, IsParty, IsSharedScene, with_entries}
+use Rattle.bb_memory.specs.SharedBumpRule.{IsPartySeat, IsSeatOf, IsSeatOfIdle, SeatView, party_in}
+use Rattle.bb_memory.specs.SharedBumpSteps.{TellsExchange, TellsLoad, TellsRead, reads}
 use Rattle.bb_memory.proofs.SharedLogs.{call_next}
 
--- a seat that stands for one party, with this log
-abbrev pub StandsFor : Me ℕ SeatView → BumpScene → ℕ → List BumpEntry → Type 0
-StandsFor me scene party log = me ≡ (alone scene party log, [])
+-- SEATS
 
--- a seat of one party, in the scene that it is known to have
-pub seated_in : (me : Me ℕ SeatView) (scene : BumpScene) (party : ℕ) → IsSeated me party → me.0.figures ≡ scene → StandsFor me scene party (view_log me.0)
-seated_in me scene party seated same = seated ∙ ap (λ (s : BumpScene). (alone s party (view_log me.0), [])) same
+-- a seat's own number and log are those of the party that it stands for
+pub seat_own : (scene : BumpScene) (number : ℕ) (log : BumpLog) (me : Me ℕ SeatView) → IsSeatOf scene number log me →
+    IsSeatOf scene (number_of me.0) (view_log me.0) me
+seat_own scene number log me of =
+    subst (λ (m : Me ℕ SeatView). IsSeatOf scene (number_of m.0) (view_log m.0) m) (sym of.is)
+    record { is = refl; interleaved = of.interleaved }
+
+pub seat_own_idle : (scene : BumpScene) (number : ℕ) (log : BumpLog) (me : Me ℕ SeatView) → IsSeatOfIdle scene number log me →
+    IsSeatOfIdle scene (number_of me.0) (view_log me.0) me
+seat_own_idle scene number log me of = record {
+  seat = seat_own scene number log me of.seat;
+  idle = subst (λ (m : Me ℕ SeatView). call_in (view_log m.0) ≡ None) (sym of.seat.is) of.idle;
+}
+
+-- a party's seat, in the scene that it is known to have
+pub seat_in : (me : Me ℕ SeatView) (scene : BumpScene) (number : ℕ) → IsPartySeat number me → me.0.scene ≡ scene →
+    IsSeatOfIdle scene number (view_log me.0) me
+seat_in me scene number fields same =
+    subst (λ (s : BumpScene). IsSeatOfIdle s number (view_log me.0) me) same fields.seat
 
 -- a party's fields, by what its seat stands for
-pub party_seated : (table : TableId) (me : Me ℕ SeatView) (scene : BumpScene) (party : ℕ) (log : List BumpEntry) → StandsFor me scene party log →
-    IsParty (record { allocator = record { table = table; scene = scene }; number = party; log = log }) → IsSeatedParty table me party
-party_seated table me scene party log is holds =
-    subst (λ (m : Me ℕ SeatView). IsSeatedParty table m party) (sym is) record { seat = refl; party = holds }
+pub party_seat : (scene : BumpScene) (number : ℕ) (log : BumpLog) (me : Me ℕ SeatView) → IsSeatOfIdle scene number log me →
+    number < scene.parties → IsSharedScene scene → IsPartySeat number me
+party_seat scene number log me of below shared =
+    subst (λ (m : Me ℕ SeatView). IsPartySeat number m) (sym of.seat.is) record {
+      seat = record { seat = record { is = refl; interleaved = of.seat.interleaved }; idle = of.idle };
+      below = below;
+      shared = shared;
+    }
 
--- what a step by such a seat tells
-pub told_load : (me new : Me ℕ SeatView) (scene : BumpScene) (party found : ℕ) (log : List BumpEntry) → StandsFor me scene party log →
-    TellsLoad me found new → Tells scene party log (Load party) (Loaded found) found new
-told_load me new scene party found log is told = subst (λ (m : Me ℕ SeatView). TellsLoad m found new) is told
+-- what contracts know of the party of such fields
+pub party_known : (table : TableId) (number : ℕ) (me : Me ℕ SeatView) → IsPartySeat number me → IsParty (party_in table number me.0)
+party_known table number me fields = record {
+  scene = fields.shared;
+  number = fields.below;
+  idle = fields.seat.idle;
+  interleaved = fields.seat.seat.interleaved;
+}
 
-pub told_read : (me new : Me ℕ SeatView) (scene : BumpScene) (party found : ℕ) (layout : Layout) (log : List BumpEntry) → StandsFor me scene party log →
-    TellsRead layout me found new → Tells scene party log (Read party layout) (read_move scene.region found layout).outcome found new
-told_read me new scene party found layout log is told = subst (λ (m : Me ℕ SeatView). TellsRead layout m found new) is told
+-- the party of a seat whose log has these more entries
+pub entries_added : (table was : TableId) (number own : ℕ) (scene : BumpScene) (added : BumpLog) (old new : Me ℕ SeatView) (party : BumpParty) →
+    table ≡ was → new ≡ (alone scene own (view_log old.0 ++ added), []) → party_in was number old.0 ≡ party →
+    party.allocator.scene ≡ scene → party_in table number new.0 ≡ with_entries party added
+entries_added table was number own scene added old new party same is view_is scene_is = λ i. record {
+  allocator = record {
+    table = (same ∙ ap (λ (p : BumpParty). p.allocator.table) view_is) i;
+    scene = (ap (λ (m : Me ℕ SeatView). m.0.scene) is ∙ sym scene_is) i;
+  };
+  number = ap (λ (p : BumpParty). p.number) view_is i;
+  log = (ap (λ (m : Me ℕ SeatView). view_log m.0) is ∙ ap (λ (p : BumpParty). p.log ++ added) view_is) i;
+}
 
-pub told_exchange : (me new : Me ℕ SeatView) (scene : BumpScene) (party found : ℕ) (call : OngoingCall) (log : List BumpEntry) → StandsFor me scene party log →
-    call_in log ≡ Some call → TellsExchange me found new →
-    Tells scene party log (Exchange party) (exchange_move scene.region found call).outcome found new
-told_exchange me new scene party found call log is in_call told = (subst (λ (m : Me ℕ SeatView). TellsExchange m found new) is told) call in_call
+-- STEPS
+
+-- what a step by a seat tells of the party that it stands for
+pub told_load : (scene : BumpScene) (number : ℕ) (log : BumpLog) (found : ℕ) (me new : Me ℕ SeatView) → IsSeatOf scene number log me →
+    TellsLoad me.0.scene (number_of me.0) (view_log me.0) found new → TellsLoad scene number log found new
+told_load scene number log found me new of told =
+    subst (λ (m : Me ℕ SeatView). TellsLoad m.0.scene (number_of m.0) (view_log m.0) found new) of.is told
+
+pub told_read : (scene : BumpScene) (number : ℕ) (log : BumpLog) (layout : Layout) (found : ℕ) (asked : Option Layout) (play : Step ℕ)
+    (me new : Me ℕ SeatView) → IsSeatOf scene number log me → asked ≡ Some layout → reads asked play me found new →
+    TellsRead scene number log layout found new
+told_read scene number log layout found asked play me new of for_it told =
+    subst (λ (m : Me ℕ SeatView). TellsRead m.0.scene (number_of m.0) (view_log m.0) layout found new) of.is
+    (subst (λ (a : Option Layout). reads a play me found new) for_it told)
+
+pub told_exchange : (scene : BumpScene) (number : ℕ) (log : BumpLog) (found : ℕ) (me new : Me ℕ SeatView) → IsSeatOf scene number log me →
+    TellsExchange me.0.scene (number_of me.0) (view_log me.0) found new → TellsExchange scene number log found new
+told_exchange scene number log found me new of told =
+    subst (λ (m : Me ℕ SeatView). TellsExchange m.0.scene (number_of m.0) (view_log m.0) found new) of.is told
 
 -- a load leaves its party idle
-pub load_rests : (party found : ℕ) (log : List BumpEntry) → call_in log ≡ None → call_in (logged log (Load party) (Loaded found)) ≡ None
-load_rests party found log idle = call_next log (Load party) (Loaded found) ∙ idle
+pub load_rests : (number found : ℕ) (log : BumpLog) → call_in log ≡ None → call_in (log ++ entry_of (Load number) (Loaded found) ∷ []) ≡ None
+load_rests number found log idle = call_next log (Load number) (Loaded found) ∙ idle

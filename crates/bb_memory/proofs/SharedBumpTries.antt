@@ -6,14 +6,14 @@ use Rattle.std.proofs.lemmas.List.Elements.{All-from_recursion}
 use Rattle.bb_memory_base.specs.Region.{Region}
 use Rattle.bb_memory_base.specs.Chunk.{Chunk}
 use Rattle.bb_memory_base.specs.BumpMachine.{BumpScene}
-use Rattle.bb_memory_base.specs.BumpHistory.{BumpEntry, chunks_won, is_loss, losses_in}
+use Rattle.bb_memory_base.specs.BumpHistory.{BumpEntry, BumpLog, chunks_won, entry_of, is_loss, losses_in}
 use Rattle.bb_memory_base.specs.BumpLogs.{HasPositionUpTo, seen_in}
 use Rattle.bb_memory_base.specs.declared.layout.Layout.{Layout}
 use Rattle.bb_memory_base.specs.declared.steps.bump.BumpStep.TheVariants.{Read, Exchange}
 use Rattle.bb_memory_base.specs.declared.steps.bump.BumpOutcome.TheVariants.{Sees, Loses}
 use Rattle.bb_memory_base.proofs.BumpBounds.{won_grows}
-use Rattle.bb_memory.specs.SharedBump.{HasPositionFrom, IsTried, Rises, entry, losses_at}
-use Rattle.bb_memory.specs.SharedBumpRequests.{IsCounted}
+use Rattle.bb_memory.specs.SharedBump.{HasPositionFrom, IsTried, Rises, losses_at}
+use Rattle.bb_memory.specs.SharedBumpSteps.{IsCounted}
 use Rattle.bb_memory.proofs.SharedLogs.{losses_in-cons}
 
 pub rises_above : (seen : ℕ) (positions : List ℕ) (last : ℕ) → Rises seen positions last → length positions + seen ≤ last
@@ -25,12 +25,12 @@ rises_more seen [] last next rises less = (omega arith, refl)
 rises_more seen (position ∷ positions) last next rises less = (rises.0, rises_more position positions last next rises.1 less)
 
 pub losses_more : (party next : ℕ) (positions : List ℕ) →
-    losses_at party (positions ++ next ∷ []) ≡ losses_at party positions ++ entry (Exchange party) (Loses next) ∷ []
+    losses_at party (positions ++ next ∷ []) ≡ losses_at party positions ++ entry_of (Exchange party) (Loses next) ∷ []
 losses_more party next [] = refl
 losses_more party next (position ∷ positions) =
-    ap (λ (log : List BumpEntry). entry (Exchange party) (Loses position) ∷ log) (losses_more party next positions)
+    ap (λ (log : BumpLog). entry_of (Exchange party) (Loses position) ∷ log) (losses_more party next positions)
 
-all_push : (P : BumpEntry → Type 0) (log : List BumpEntry) (last : BumpEntry) → AllByRecursion P log → P last → AllByRecursion P (log ++ last ∷ [])
+all_push : (P : BumpEntry → Type 0) (log : BumpLog) (last : BumpEntry) → AllByRecursion P log → P last → AllByRecursion P (log ++ last ∷ [])
 all_push P [] last all here = (here, tt)
 all_push P (first ∷ log) last (now, rest) here = (now, all_push P log last rest here)
 
@@ -53,20 +53,20 @@ losses_counted : (party : ℕ) (positions : List ℕ) (last : BumpEntry) →
 losses_counted party [] last = let one = losses_in-cons last [] in omega arith
 losses_counted party (position ∷ positions) last =
     let rest = losses_counted party positions last in
-    let here = losses_in-cons (entry (Exchange party) (Loses position)) (losses_at party positions ++ last ∷ []) in omega arith
+    let here = losses_in-cons (entry_of (Exchange party) (Loses position)) (losses_at party positions ++ last ∷ []) in omega arith
 
 losses_won : (party : ℕ) (positions : List ℕ) → chunks_won (losses_at party positions) ≡ []
 losses_won party [] = refl
 losses_won party (position ∷ positions) = losses_won party positions
 
 -- what was tried, and then the step that decides
-module _ (scene : BumpScene) (party : ℕ) (layout : Layout) (log tried : List BumpEntry) (last : ℕ)
+module _ (scene : BumpScene) (party : ℕ) (layout : Layout) (log tried : BumpLog) (last : ℕ)
     (tries : IsTried scene.region party layout tried last) (least : seen_in scene log ≤ tries.first) where
   abbrev first_entry : BumpEntry
-  first_entry = entry (Read party layout) (Sees tries.first)
+  first_entry = entry_of (Read party layout) (Sees tries.first)
 
   entries_then : (decides : BumpEntry) → tried ++ decides ∷ [] ≡ first_entry ∷ (losses_at party tries.losses ++ decides ∷ [])
-  entries_then decides = ap (λ (entries : List BumpEntry). entries ++ decides ∷ []) tries.entries
+  entries_then decides = ap (λ (entries : BumpLog). entries ++ decides ∷ []) tries.entries
 
   pub tried_counted : (decides : BumpEntry) → HasPositionFrom (seen_in scene log) scene.region decides →
       HasPositionUpTo scene.region.size scene.region decides → (if is_loss decides.outcome then 1 else 0) + last ≤ scene.region.size →

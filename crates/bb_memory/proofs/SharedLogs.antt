@@ -1,26 +1,24 @@
 -- What a party's log says once entries are added to it.
-use Rattle.std.proofs.Common.{◌≡◌, ◌+◌, List, [], ◌∷◌, None}
+use Rattle.std.proofs.Common.{◌≡◌, ◌+◌, [], ◌∷◌, ◌++◌, None}
 use Rattle.std.specs.Prelude.{if◌then◌else◌}
 use Rattle.std.proofs.lemmas.List.Sums.{sum_by-cons}
 use Rattle.bb_memory_base.specs.BumpMachine.{BumpScene}
-use Rattle.bb_memory_base.specs.BumpHistory.{BumpEntry, losses_in, is_loss}
+use Rattle.bb_memory_base.specs.BumpHistory.{BumpEntry, BumpLog, entry_of, losses_in, is_loss}
 use Rattle.bb_memory_base.specs.BumpLogs.{call_after, call_in, greater_of, position_in, seen_in}
 use Rattle.bb_memory_base.specs.declared.steps.bump.BumpStep.{BumpStep}
 use Rattle.bb_memory_base.specs.declared.steps.bump.BumpOutcome.{BumpOutcome}
 use Rattle.bb_memory_base.proofs.BumpBounds.{call_grows, seen_grows}
-use Rattle.bb_memory.specs.SharedBump.{entry}
-use Rattle.bb_memory.specs.SharedBumpSteps.{logged}
 
 -- the call of a party whose log has one more entry
-pub call_next : (log : List BumpEntry) (step : BumpStep) (outcome : BumpOutcome) →
-    call_in (logged log step outcome) ≡ call_after (call_in log) (entry step outcome)
-call_next log step outcome = call_grows None log (entry step outcome ∷ [])
+pub call_next : (log : BumpLog) (step : BumpStep) (outcome : BumpOutcome) →
+    call_in (log ++ entry_of step outcome ∷ []) ≡ call_after (call_in log) (entry_of step outcome)
+call_next log step outcome = call_grows None log (entry_of step outcome ∷ [])
 
 -- what a party has seen whose log has one more entry
-pub seen_next : (scene : BumpScene) (log : List BumpEntry) (step : BumpStep) (outcome : BumpOutcome) →
-    seen_in scene (logged log step outcome) ≡ greater_of (seen_in scene log) (position_in scene.region outcome)
-seen_next scene log step outcome = seen_grows scene.region scene.opening log (entry step outcome ∷ [])
+pub seen_next : (scene : BumpScene) (log : BumpLog) (step : BumpStep) (outcome : BumpOutcome) →
+    seen_in scene (log ++ entry_of step outcome ∷ []) ≡ greater_of (seen_in scene log) (position_in scene.region outcome)
+seen_next scene log step outcome = seen_grows scene.region scene.opening log (entry_of step outcome ∷ [])
 
-pub losses_in-cons : (first : BumpEntry) (log : List BumpEntry) →
+pub losses_in-cons : (first : BumpEntry) (log : BumpLog) →
     losses_in (first ∷ log) ≡ (if is_loss first.outcome then 1 else 0) + losses_in log
 losses_in-cons first log = sum_by-cons (λ (e : BumpEntry). if is_loss e.outcome then 1 else 0) first log

@@ -93,7 +93,7 @@ tries_flag : (figures : PoolFigures) (slots seat number bucket : ℕ) (log : Poo
     (flag : Bool) → slice_get rule.flags bucket ≡ Some flag →
     Allowed figures state seat slots bucket (alone figures number log, []) (word_of flag)
 tries_flag figures slots seat number bucket log next state rule at are false free =
-    let mine = rule.seated.each seat (alone figures number log) at in
+    let mine = rule.seated.known seat (alone figures number log) at in
     let entry : PoolEntry = entry_of (Try number) (Takes bucket) in
     let flags : List Bool = slice_set rule.flags bucket true in
     let agree = take_agrees (machine_in figures) rule.flags rule.logs number bucket log rule.agree mine.0 mine.1 next free in (
@@ -111,7 +111,7 @@ tries_flag figures slots seat number bucket log next state rule at are false fre
       ),
     )
 tries_flag figures slots seat number bucket log next state rule at are true taken =
-    let mine = rule.seated.each seat (alone figures number log) at in
+    let mine = rule.seated.known seat (alone figures number log) at in
     let entry : PoolEntry = entry_of (Try number) (loss_at figures.geometry.buckets bucket) in
     let agree = lose_agrees (machine_in figures) rule.flags rule.logs number bucket log rule.agree mine.0 mine.1 next taken in (
       alone figures number (log ++ entry ∷ []),
@@ -160,7 +160,7 @@ returns : (figures : PoolFigures) (slots seat number bucket : ℕ) (log : PoolLo
     Allows (WordsAndLogsAgree figures) slots seat (alone figures number log, []) bucket (λ _. 0)
     (λ _. tells_return (step slots bucket 0 0 none) (alone figures number log, []) 0)
 returns figures slots seat number bucket log held state rule homes at fits =
-    let mine = rule.seated.each seat (alone figures number log) at in
+    let mine = rule.seated.known seat (alone figures number log) at in
     let entry : PoolEntry = entry_of (GiveBack number bucket) (Gives bucket) in
     let flags : List Bool = slice_set rule.flags bucket false in
     let agree = give_agrees (machine_in figures) rule.flags rule.logs number bucket log rule.agree mine.1 held in (
@@ -189,7 +189,7 @@ have_met : (figures : PoolFigures) (state : State ℕ SeatView) (rule : WordsAnd
     HaveMet figures one other
 have_met figures state rule seat one other at =
     let machine = machine_in figures in
-    let known = rule.seated.each seat (standing_for figures (one ∷ other ∷ [])) at in
+    let known = rule.seated.known seat (standing_for figures (one ∷ other ∷ [])) at in
     let apart = two_parties figures.parties rule.logs state.views seat figures one other rule.seated at in
     record {
       differ = apart;

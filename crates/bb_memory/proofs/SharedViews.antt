@@ -41,7 +41,7 @@ gathers figures seat other view guest state rule at apart there = record {
   agree = rule.agree;
   one_a_party = rule.one_a_party;
   words = rule.words;
-  seated = seated_both figures.parties rule.logs state.views seat view other guest nobody.figures rule.seated at apart there;
+  seated = seated_both figures.parties rule.logs state.views seat view other guest nobody.scene rule.seated at apart there;
 }
 
 all_empty : (n : ℕ) → All (λ (log : PoolLog). log ≡ []) (replicate n [])

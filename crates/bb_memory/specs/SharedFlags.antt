@@ -24,7 +24,7 @@ SeatView = Seat PoolFigures PoolEntry
 
 -- the party of a seat in the table
 abbrev pub party_in : TableId → ℕ → SeatView → Party
-party_in table number view = party_of (pool_at table view.figures) number (view_log view)
+party_in table number view = party_of (pool_at table view.scene) number (view_log view)
 
 -- the seat stands for this party alone, whose log some interleaving has
 pub record IsSeatOf (figures : PoolFigures) (number : ℕ) (log : PoolLog) (me : Me ℕ SeatView) : Type 0 where
@@ -38,7 +38,7 @@ pub record IsSeatOfIdle (figures : PoolFigures) (number : ℕ) (log : PoolLog) (
 
 -- the seat of an idle party with this number
 pub record IsPartySeat (number : ℕ) (me : Me ℕ SeatView) : Type 0 where
-  pub seat : IsSeatOfIdle me.0.figures (number_of me.0) (view_log me.0) me
+  pub seat : IsSeatOfIdle me.0.scene (number_of me.0) (view_log me.0) me
   pub numbered : number_of me.0 ≡ number
 
 -- THE RULE
@@ -94,14 +94,14 @@ pub record HasLost (figures : PoolFigures) (number : ℕ) (log : PoolLog) (bucke
 -- an exchange from free to taken, which finds the flag free or not
 abbrev pub tells_try : Step ℕ → Me ℕ SeatView → ℕ → Me ℕ SeatView → Type 0
 tells_try step old found new =
-    (found ≡ 0 → HasTaken old.0.figures (number_of old.0) (view_log old.0) step.word new)
-    × (found ≢ 0 → HasLost old.0.figures (number_of old.0) (view_log old.0) step.word new)
+    (found ≡ 0 → HasTaken old.0.scene (number_of old.0) (view_log old.0) step.word new)
+    × (found ≢ 0 → HasLost old.0.scene (number_of old.0) (view_log old.0) step.word new)
 
 -- a store of free
 abbrev pub tells_return : Step ℕ → Me ℕ SeatView → ℕ → Me ℕ SeatView → Type 0
 tells_return step old found new =
     let number = number_of old.0 in
-    IsSeatOf old.0.figures number (view_log old.0 ++ return_of number step.word) new
+    IsSeatOf old.0.scene number (view_log old.0 ++ return_of number step.word) new
 
 -- two parties are different ones, no bucket is held in both logs, and one interleaving has both
 pub record HaveMet (figures : PoolFigures) (one other : NumberedLog) : Type 0 where
@@ -116,7 +116,7 @@ FirstTwoHaveMet figures _ = Unit {0}
 
 -- a load by a seat that stands for two
 abbrev pub tells_meeting : Step ℕ → Me ℕ SeatView → ℕ → Me ℕ SeatView → Type 0
-tells_meeting step old found new = (new ≡ old) × FirstTwoHaveMet old.0.figures old.0.parties
+tells_meeting step old found new = (new ≡ old) × FirstTwoHaveMet old.0.scene old.0.parties
 
 -- PASSES
 

@@ -125,13 +125,14 @@ impl BumpAllocator {
         alloc: Global,
         parties: u32,
     ) -> Result<(SharedBumpAllocator, Vec<BumpParty>), (BumpAllocator, AllocationError)>
-        requires { 1 ≤ parties }
+        requires parties { 1 ≤ parties }
 
         // The machine begins at this region and position, with these parties.
         ensures scene { IfOk result (λ shared. shared.0.scene ≡ scene_at self.region self.used parties) }
 
         // There are as many parties as asked, all of this shared bump, numbered from 0, with empty logs.
-        ensures parties { IfOk result (λ shared. length shared.1.items ≡ parties) }
+        ensures parties { IfOk result (λ shared. shared.0.scene.parties ≡ parties) }
+        ensures as_many { IfOk result (λ shared. length shared.1.items ≡ parties) }
         ensures fresh { IfOk result (λ shared. (number : ℕ) → number < parties
             → slice_get shared.1.items number ≡ Some (fresh_party shared.0 number)) }
         ensures theirs { IfOk result (λ shared. All (λ party. party.allocator ≡ shared.0) shared.1.items) }

@@ -1,19 +1,24 @@
 //! The bump that threads share: its word is the position, and each thread steps with a party of its own.
-ghost use Rattle.std.specs.Prelude.{◌≡◌, ◌+◌, ◌-◌, ◌<◌, ◌≤◌, ◌%◌, ◌∷◌, ◌++◌, [], ℕ, All, IfOk, OnErr, Some, length, slice_get, vec_len, vec_capacity};
+ghost use Rattle.std.specs.Prelude.{◌≡◌, ◌≢◌, ◌-◌, ◌<◌, ◌≤◌, ◌%◌, ◌∷◌, ◌++◌, [], ℕ, List, All, IfOk, OnErr, Some, length, slice_get, vec_len, vec_capacity};
 ghost use Rattle.bb_memory_base.specs.Region.{IsRegion, region_at};
-ghost use Rattle.bb_memory_base.specs.Chunk.{IsInside};
-ghost use Rattle.bb_memory_base.specs.BumpHistory.{chunks_won, losses_in};
-ghost use Rattle.bb_memory_base.specs.BumpLogs.{Interleaving, seen_in};
-ghost use Rattle.bb_memory.specs.SharedBump.{AgreeTogether, HasHistory, HaveChunksApart, IsFoundBy, IsParty, IsRequest, IsSharedScene, added_since, fresh_party, load_entry, scene_at, seen_by};
+ghost use Rattle.bb_memory_base.specs.Chunk.{AreApart, Chunk, IsInside};
+ghost use Rattle.bb_memory_base.specs.LiveList.{IsSound};
+ghost use Rattle.bb_memory_base.specs.BumpObject.{StandsFor};
+ghost use Rattle.bb_memory_base.specs.BumpHistory.{BumpLog, chunks_won, history_of, losses_in};
+ghost use Rattle.bb_memory_base.specs.BumpCalls.{IsCallRun, OpensWith, calls_of, live_after};
+ghost use Rattle.bb_memory_base.specs.BumpLogs.{Interleaving};
+ghost use Rattle.bb_memory.specs.SharedBump.{AreInterleaved, BumpParty, HaveChunksApart, IsFoundBy, IsInterleaved, IsParty, IsSharedScene, MayTake, fresh_party, load_entry, scene_at, seen_by, with_entries};
 ghost use Rattle.bb_memory.specs.Seats.{fresh_from, standing_for};
 
-mod requests;
+mod party;
+mod position;
 mod rule;
 
 use crate::allocator::AllocationError;
 use crate::bump_allocator::BumpAllocator;
 use crate::layout::{Chunk, Layout};
 use atomic_table::{Seat, Table};
+pub use party::BumpParty;
 use rule::{Agreement, Gather, GiveFirst, KeepFirst, Loads, Meets, Scene, View};
 use std::alloc::{AllocError, Global};
 use std::marker::{Brand, Model};
@@ -23,7 +28,7 @@ use std::marker::{Brand, Model};
 ///
 /// A party's log has its own atomic steps on the position, in order, each with what it found. Whatever the threads do, word
 /// and logs agree: the steps of all parties together are one list that the bump machine allows, which leaves the word. So
-/// what `bump_log_theorem` says of logs holds of these, and a party's history ([`HasHistory`] in clauses) is such a list.
+/// what `bump_log_theorem` says of logs holds of these; [`shared_bump_law`] says what a user has of it.
 ///
 /// ```
 /// let (shared, mut parties) = BumpAllocator::new(4096, 64).share(alloc, 2)?;
@@ -45,42 +50,11 @@ impl Model for SharedBumpAllocator {
 
     ghost Value = { SharedBump };
 
-    ghost use Rattle.bb_memory.specs.SharedBumpFields.{IsSharedBump};
+    ghost use Rattle.bb_memory.specs.SharedBumpRule.{IsSharedBump};
 
     ghost view = { λ a. record { table = a.table.shared.table_id; scene = a.table.shared.key } };
 
     ghost invariant = { λ a. IsSharedBump a.table.shared.table_id a.table.shared.key a.start a.size };
-}
-
-/// The right of one user to step on a shared bump: its number, and its log, which has no bytes.
-#[derive(Drop)]
-pub struct BumpParty {
-    seat: Seat<u8, View>,
-    number: u32,
-}
-
-impl Model for BumpParty {
-    ghost use Rattle.bb_memory.specs.SharedBump.{BumpParty};
-
-    ghost Value = { BumpParty };
-
-    ghost use Rattle.bb_memory.specs.SharedBumpFields.{IsSeatedParty, party_of};
-
-    ghost view = { λ p. party_of p.seat.table_id p.seat.me p.number };
-
-    ghost invariant = { λ p. IsSeatedParty p.seat.table_id p.seat.me p.number };
-}
-
-impl BumpParty {
-    /// Which party of its allocator it is, from 0.
-    pub fn number(&self) -> u32
-        ensures value { result ≡ self.now.number }
-
-        // It is below the number of parties. The party is in no call, and has a history.
-        ensures party { IsParty self.now }
-    {
-        self.number
-    }
 }
 
 impl SharedBumpAllocator {
@@ -96,7 +70,8 @@ impl SharedBumpAllocator {
         requires position { position ≤ size }
         requires parties { 1 ≤ parties }
         ensures scene { IfOk result (λ made. made.0.scene ≡ scene_at (region_at start size) position parties) }
-        ensures parties { IfOk result (λ made. length made.1.items ≡ parties) }
+        ensures parties { IfOk result (λ made. made.0.scene.parties ≡ parties) }
+        ensures as_many { IfOk result (λ made. length made.1.items ≡ parties) }
         ensures fresh { IfOk result (λ made. (number : ℕ) → number < parties
             → slice_get made.1.items number ≡ Some (fresh_party made.0 number)) }
         ensures theirs { IfOk result (λ made. All (λ party. party.allocator ≡ made.0) made.1.items) }
@@ -124,34 +99,34 @@ impl SharedBumpAllocator {
     pub fn allocate(&self, party: &mut BumpParty, layout: Layout) -> Result<Chunk, AllocationError>
         requires party { party.old.allocator ≡ self.now }
 
-        // The party stays this allocator's, and its log is only added to.
+        // What is added to the party's log says what the answer is.
+        ensures answer { MayTake party.old layout result party.new }
+
+        // The party stays this allocator's, and some interleaving has its log. So what `shared_bump_law`
+        // says holds of it.
         ensures party { party.new.allocator ≡ self.now }
         ensures number { party.new.number ≡ party.old.number }
-        ensures logged { party.new.log ≡ party.old.log ++ added_since party.old.log party.new.log }
-
-        // What is added says what the answer is.
-        ensures answer { IsRequest self.now.scene.region party.old.number layout result
-            (added_since party.old.log party.new.log) }
-
-        // Each position that it finds is at least what the party had seen, and at most the size.
-        ensures found { IsFoundBy party.old (added_since party.old.log party.new.log) }
-
-        // It loses at most as many exchanges as the region has bytes.
-        ensures losses { losses_in (added_since party.old.log party.new.log) ≤ self.now.scene.region.size }
-
-        // An allowed list of steps from the opening has exactly this log as the party's.
-        ensures history { HasHistory party.new }
+        ensures interleaved { IsInterleaved party.new }
+        ensures is_party { IsParty party.new }
 
         // The chunk is the one that the log has won since; a refusal wins none.
         ensures won { IfOk result (λ chunk.
             chunks_won party.new.log ≡ chunks_won party.old.log ++ chunk ∷ []) }
         ensures none_won { OnErr result (chunks_won party.new.log ≡ chunks_won party.old.log) }
 
+        // Each position that it finds is at least what the party had seen, and at most the size.
+        ensures found { (added : BumpLog) → party.new ≡ with_entries party.old added
+            → IsFoundBy party.old added }
+
+        // It loses at most as many exchanges as the region has bytes.
+        ensures losses { (added : BumpLog) → party.new ≡ with_entries party.old added
+            → losses_in added ≤ self.now.scene.region.size }
+
         ensures inside { IfOk result (IsInside self.now.scene.region) }
         ensures aligned { IfOk result (λ chunk. chunk.place % layout.align ≡ 0) }
         ensures exact_size { IfOk result (λ chunk. chunk.len ≡ layout.size) }
     {
-        // A party's history is known from here on, also where no step is made.
+        // What holds of every party is known from here on, also where no step is made.
         let _ = &party.number;
         if layout.size() == 0 {
             return Err(AllocationError::SizeIsZero);
@@ -166,12 +141,13 @@ impl SharedBumpAllocator {
     /// one load found.
     pub fn used_space(&self, party: &mut BumpParty) -> usize
         requires party { party.old.allocator ≡ self.now }
+        ensures logged { party.new ≡ with_entries party.old (load_entry party.old.number result) }
         ensures party { party.new.allocator ≡ self.now }
         ensures number { party.new.number ≡ party.old.number }
-        ensures logged { party.new.log ≡ party.old.log ++ load_entry party.old.number result }
+        ensures interleaved { IsInterleaved party.new }
+        ensures is_party { IsParty party.new }
         ensures seen { seen_by party.old ≤ result }
         ensures within { result ≤ self.now.scene.region.size }
-        ensures history { HasHistory party.new }
     {
         self.table.shared.load::<Loads>(&mut party.seat, 0) as usize
     }
@@ -179,20 +155,21 @@ impl SharedBumpAllocator {
     /// How many bytes are behind the last chunk: the total less what one load found to be used.
     pub fn free_space(&self, party: &mut BumpParty) -> usize
         requires party { party.old.allocator ≡ self.now }
+        ensures logged { let used = self.now.scene.region.size - result in
+            party.new ≡ with_entries party.old (load_entry party.old.number used) }
         ensures party { party.new.allocator ≡ self.now }
         ensures number { party.new.number ≡ party.old.number }
-        ensures logged { let used = self.now.scene.region.size - result in
-            party.new.log ≡ party.old.log ++ load_entry party.old.number used }
+        ensures interleaved { IsInterleaved party.new }
+        ensures is_party { IsParty party.new }
         ensures seen { seen_by party.old ≤ self.now.scene.region.size - result }
         ensures within { result ≤ self.now.scene.region.size }
-        ensures history { HasHistory party.new }
     {
         self.size - self.used_space(party)
     }
 
     /// Where the region starts.
     pub fn start_address(&self) -> usize
-        ensures { result ≡ self.now.scene.region.start }
+        ensures value { result ≡ self.now.scene.region.start }
     {
         self.start
     }
@@ -200,6 +177,7 @@ impl SharedBumpAllocator {
     /// How many bytes the region has. The position at the opening is at most that, and there is a party.
     pub fn total_space(&self) -> usize
         ensures value { result ≡ self.now.scene.region.size }
+        ensures region { IsRegion self.now.scene.region }
         ensures scene { IsSharedScene self.now.scene }
     {
         self.size
@@ -208,12 +186,12 @@ impl SharedBumpAllocator {
     /// Two parties meet: no chunk of the one overlaps one of the other. It answers nothing and changes nothing; it loads the
     /// position, which is in no log.
     pub fn meet(&self, a: &mut BumpParty, b: &mut BumpParty)
-        requires first { a.old.allocator ≡ self.now }
-        requires second { b.old.allocator ≡ self.now }
-        ensures first_kept { a.new ≡ a.old }
-        ensures second_kept { b.new ≡ b.old }
+        requires a { a.old.allocator ≡ self.now }
+        requires b { b.old.allocator ≡ self.now }
+        ensures kept { (a.new ≡ a.old) × (b.new ≡ b.old) }
+        ensures differ { a.old.number ≢ b.old.number }
         ensures apart { HaveChunksApart a.old.log b.old.log }
-        ensures together { AgreeTogether self.now.scene a.old.number b.old.number a.old.log b.old.log }
+        ensures interleaved { AreInterleaved a.old b.old }
     {
         let shared = &self.table.shared;
         let guest = shared.split_seat::<GiveFirst>(&mut b.seat);
@@ -233,7 +211,7 @@ impl SharedBumpAllocator {
         ensures exact { self.scene.parties ≡ 1 → result.used ≡ seen_by party }
     {
         let SharedBumpAllocator { table, start, size } = self;
-        let BumpParty { seat, number: _ } = party;
+        let BumpParty { number: _, seat } = party;
         let closed = table.close_with(seat);
         let position = closed.word(0) as usize;
         closed.free();
@@ -247,14 +225,56 @@ impl SharedBumpAllocator {
         requires parties { parties ≡ self.now.scene.parties }
         requires empty { all.old.items ≡ [] }
         requires room { (vec_len all.old ≡ 0) × (parties ≤ vec_capacity all.old) }
-        ensures parties { length all.new.items ≡ parties }
+        ensures as_many { length all.new.items ≡ parties }
         ensures fresh { (number : ℕ) → number < parties
             → slice_get all.new.items number ≡ Some (fresh_party self.now number) }
         ensures theirs { All (λ party. party.allocator ≡ self.now) all.new.items }
     {
         for number in 0..parties {
             let seat = self.table.shared.split_seat::<GiveFirst>(&mut rest);
-            all.push_reserved(BumpParty { seat, number });
+            all.push_reserved(BumpParty { number, seat });
         }
     }
 }
+
+/// What a user of a shared bump has of each party, and of two that met, whatever the threads did. It does nothing: its
+/// contract is the law.
+///
+/// A party's history is the interleaving of its log that [`IsParty`] tells: a list of allowed steps from the opening, in
+/// which the party's steps are exactly its log. A list that the opening stands for is one that was live before the bump was
+/// shared.
+pub fn shared_bump_law()
+    // The chunks that a party's log has won are a sound list of the region.
+    ensures own { (party : BumpParty)
+        → IsParty party
+        → IsSound party.allocator.scene.region (chunks_won party.log) }
+
+    // Each is apart from each chunk that was live before the bump was shared.
+    ensures older { (party : BumpParty) (live : List Chunk)
+        → IsParty party → OpensWith party.allocator.scene live
+        → All (λ older. All (AreApart older) (chunks_won party.log)) live }
+
+    // The calls of its history are a run of the bump object from that list.
+    ensures run { (party : BumpParty) (live : List Chunk) (is : IsParty party)
+        → let scene = party.allocator.scene in
+        let steps = is.interleaved.steps in
+        OpensWith scene live
+        → IsCallRun scene.region live (calls_of scene steps) (live_after scene live steps) }
+
+    // The run leads to that list with the chunks that were won since behind it.
+    ensures since { (party : BumpParty) (live : List Chunk) (is : IsParty party)
+        → let scene = party.allocator.scene in
+        let steps = is.interleaved.steps in
+        live_after scene live steps ≡ live ++ chunks_won (history_of scene steps) }
+
+    // A bump that has used what the party has seen stands for it.
+    ensures stands { (party : BumpParty) (live : List Chunk) (is : IsParty party)
+        → let scene = party.allocator.scene in
+        OpensWith scene live
+        → StandsFor scene.region (seen_by party) (live_after scene live is.interleaved.steps) }
+
+    // No chunk of one party overlaps a chunk of another that it met.
+    ensures apart { (a b : BumpParty)
+        → IsParty a → AreInterleaved a b → a.number ≢ b.number
+        → HaveChunksApart a.log b.log }
+{}

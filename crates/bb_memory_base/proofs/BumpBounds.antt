@@ -6,7 +6,7 @@ use Rattle.bb_memory_base.specs.Region.{Region, region_end}
 use Rattle.bb_memory_base.specs.Chunk.{Chunk, chunk_end}
 use Rattle.bb_memory_base.specs.declared.steps.bump.BumpStep.{BumpStep}
 use Rattle.bb_memory_base.specs.BumpMachine.{BumpScene, OngoingCall, IsInCall, chunk_at, left_by}
-use Rattle.bb_memory_base.specs.BumpHistory.{BumpEntry, won_at, chunks_won}
+use Rattle.bb_memory_base.specs.BumpHistory.{BumpEntry, BumpLog, won_at, chunks_won}
 use Rattle.bb_memory_base.specs.BumpLogs.{call_after, call_through, greatest_in, greater_of, position_in}
 use Rattle.bb_memory_base.proofs.LiveLists.{StandsFor-within}
 use Rattle.bb_memory_base.proofs.BumpRuns.{chunk_at-above}
@@ -27,14 +27,14 @@ seen_in_size scene steps party call within is =
     let ends = leb-true (chunk_end chunk) (region_end scene.region) fit.fitting in
     omega (arith, ends, chunk_at-above scene.region call.seen call.layout)
 
-pub call_grows : (call : Option OngoingCall) (log more : List BumpEntry) → call_through call (log ++ more) ≡ call_through (call_through call log) more
+pub call_grows : (call : Option OngoingCall) (log more : BumpLog) → call_through call (log ++ more) ≡ call_through (call_through call log) more
 call_grows call [] more = refl
 call_grows call (entry ∷ log) more = call_grows (call_after call entry) log more
 
-pub seen_grows : (region : Region) (seen : ℕ) (log more : List BumpEntry) → greatest_in region seen (log ++ more) ≡ greatest_in region (greatest_in region seen log) more
+pub seen_grows : (region : Region) (seen : ℕ) (log more : BumpLog) → greatest_in region seen (log ++ more) ≡ greatest_in region (greatest_in region seen log) more
 seen_grows region seen [] more = refl
 seen_grows region seen (entry ∷ log) more = seen_grows region (greater_of seen (position_in region entry.outcome)) log more
 
-pub won_grows : (log more : List BumpEntry) → chunks_won (log ++ more) ≡ chunks_won log ++ chunks_won more
+pub won_grows : (log more : BumpLog) → chunks_won (log ++ more) ≡ chunks_won log ++ chunks_won more
 won_grows [] more = refl
 won_grows (entry ∷ log) more = ap (λ (l : List Chunk). won_at entry.outcome ++ l) (won_grows log more) ∙ sym (append_assoc (won_at entry.outcome) (chunks_won log) (chunks_won more))

@@ -2,18 +2,19 @@
 use Rattle.std.proofs.Common.{◌≡◌, ◌≢◌, ℕ, zero, suc, ◌<◌, List, [], ◌∷◌, ◌++◌, append-nil, refl, sym, ap, ◌∙◌, subst, arith, ⊎_elim, ◌⊎◌, Bool, true, false, Option, Some, None}
 use Rattle.std.specs.Prelude.{slice_get, slice_set, ◌==◌, if◌then◌else◌, option_map}
 use Rattle.std.specs.List.{All, AllByRecursion}
-use Rattle.std.proofs.lemmas.List.Elements.{recursion_from_All}
+use Rattle.std.proofs.lemmas.List.Elements.{All-push, recursion_from_All}
 use Rattle.std.proofs.lemmas.Option.{same_Some}
 use Rattle.bb_memory_base.specs.Region.{Region}
 use Rattle.bb_memory_base.specs.Chunk.{Chunk}
 use Rattle.bb_memory_base.specs.BumpMachine.{OngoingCall, BumpState, BumpMove, BumpScene, opening_state, chunk_at, fits, position_behind, read_move, exchange_move, ending, seeing, passed, moved, read, exchange, load, bump_step, bump_after, left_by}
-use Rattle.bb_memory_base.specs.BumpHistory.{BumpEntry, entry_of, bump_history, history_of, is_by, log_of}
+use Rattle.bb_memory_base.specs.BumpHistory.{BumpEntry, BumpLog, entry_of, entry_at, bump_history, history_of, is_by, entries_by, log_of}
 use Rattle.bb_memory_base.specs.BumpLogs.{call_seeing, call_after, call_through, call_in, IsAllowed, AllAllowed, HasLog, LogsAgree, with_entry}
 use Rattle.bb_memory_base.specs.declared.layout.Layout.{Layout}
 use Rattle.bb_memory_base.specs.declared.steps.bump.BumpStep.{BumpStep}
 use Rattle.bb_memory_base.specs.declared.steps.bump.BumpStep.TheVariants.{Read, Exchange, Load}
 use Rattle.bb_memory_base.specs.declared.steps.bump.BumpOutcome.TheVariants.{Sees, RefusedAtRead, Wins, Loses, RefusedAtLoss, Loaded}
 use Rattle.bb_memory_base.proofs.SliceGets.{slice_get-set_other, slice_get-set_same, slice_get-replicate}
+use Rattle.bb_memory_base.proofs.BumpAllowed.{none_allowed}
 use Rattle.bb_memory_base.proofs.BumpSteps.{same_from_test, test_same, test_apart, StepView, step_view, sees, refuses_read, wins, loses, refuses_loss, loads, clears, passes, others_stay, written}
 
 -- THE CALL OF A PARTY
@@ -22,7 +23,7 @@ use Rattle.bb_memory_base.proofs.BumpSteps.{same_from_test, test_same, test_apar
 own_call : (region : Region) (state : BumpState) (step : BumpStep) (move : BumpMove) (party : ℕ) (now : Option OngoingCall) →
     StepView region state step move →
     is_by party step ≡ true → slice_get state.parties party ≡ Some now →
-    slice_get move.state.parties party ≡ Some (call_after now (record { step = step; outcome = move.outcome }))
+    slice_get move.state.parties party ≡ Some (call_after now (entry_of step move.outcome))
 own_call region state step move party now (sees other layout idle asks fit) by at =
     written state other party None (Some (record { layout = layout; seen = state.position })) by idle
 own_call region state step move party now (refuses_read other layout idle asks fit) by at = written state other party None None by idle
@@ -39,31 +40,31 @@ own_call region state step move party now (passes other) by at = at
 step_call : (region : Region) (state : BumpState) (step : BumpStep) (party : ℕ) (now : Option OngoingCall) (own : Bool) →
     is_by party step ≡ own →
     slice_get state.parties party ≡ Some now →
-    slice_get (bump_step region state step).state.parties party ≡ Some (if own then call_after now (entry_of region state step) else now)
+    slice_get (bump_step region state step).state.parties party ≡ Some (if own then call_after now (entry_at region state step) else now)
 step_call region state step party now true by at =
     own_call region state step (bump_step region state step) party now (step_view region state step) by at
 step_call region state step party now false by at =
     others_stay region state step (bump_step region state step) party (step_view region state step) by ∙ at
 
-call_through-own : (own : Bool) (now : Option OngoingCall) (entry : BumpEntry) (log : List BumpEntry) →
+call_through-own : (own : Bool) (now : Option OngoingCall) (entry : BumpEntry) (log : BumpLog) →
     call_through (if own then call_after now entry else now) log ≡ call_through now (if own then entry ∷ log else log)
 call_through-own true now entry log = refl
 call_through-own false now entry log = refl
 
 call_of_log : (region : Region) (state : BumpState) (steps : List BumpStep) (party : ℕ) (now : Option OngoingCall) →
     slice_get state.parties party ≡ Some now →
-    slice_get (bump_after region state steps).parties party ≡ Some (call_through now (log_of party (bump_history region state steps)))
+    slice_get (bump_after region state steps).parties party ≡ Some (call_through now (entries_by party (bump_history region state steps)))
 call_of_log region state [] party now at = at
 call_of_log region state (step ∷ steps) party now at =
     let own = is_by party step in
-    let entry = entry_of region state step in
+    let entry = entry_at region state step in
     let next = (bump_step region state step).state in
     let later : Option OngoingCall = if own then call_after now entry else now in
     call_of_log region next steps party later (step_call region state step party now own refl at)
-    ∙ ap Some (call_through-own own now entry (log_of party (bump_history region next steps)))
+    ∙ ap Some (call_through-own own now entry (entries_by party (bump_history region next steps)))
 
 pub party_call : (scene : BumpScene) (steps : List BumpStep) (party : ℕ) → party < scene.parties →
-    slice_get (left_by scene steps).parties party ≡ Some (call_in (log_of party (history_of scene steps)))
+    slice_get (left_by scene steps).parties party ≡ Some (call_in (log_of scene steps party))
 party_call scene steps party within =
     call_of_log scene.region (opening_state scene) steps party None (slice_get-replicate scene.parties party None within)
 
@@ -71,10 +72,10 @@ party_call scene steps party within =
 
 history-push : (region : Region) (state : BumpState) (steps : List BumpStep) (step : BumpStep) →
     bump_history region state (steps ++ step ∷ []) ≡
-    bump_history region state steps ++ entry_of region (bump_after region state steps) step ∷ []
+    bump_history region state steps ++ entry_at region (bump_after region state steps) step ∷ []
 history-push region state [] step = refl
 history-push region state (first ∷ steps) step =
-    ap (λ (history : List BumpEntry). entry_of region state first ∷ history)
+    ap (λ (history : List BumpEntry). entry_at region state first ∷ history)
     (history-push region (bump_step region state first).state steps step)
 
 after-push : (region : Region) (state : BumpState) (steps : List BumpStep) (step : BumpStep) →
@@ -88,51 +89,46 @@ own-append true entry xs ys = refl
 own-append false entry xs ys = refl
 
 log-push : (party : ℕ) (history : List BumpEntry) (entry : BumpEntry) →
-    log_of party (history ++ entry ∷ []) ≡ log_of party history ++ (if is_by party entry.step then entry ∷ [] else [])
+    entries_by party (history ++ entry ∷ []) ≡ entries_by party history ++ (if is_by party entry.step then entry ∷ [] else [])
 log-push party [] entry = refl
 log-push party (first ∷ history) entry =
-    ap (λ (log : List BumpEntry). if is_by party first.step then first ∷ log else log) (log-push party history entry)
-    ∙ own-append (is_by party first.step) first (log_of party history) (if is_by party entry.step then entry ∷ [] else [])
-
-allowed-push : (history : List BumpEntry) (entry : BumpEntry) → AllAllowed history → IsAllowed entry.outcome →
-    AllAllowed (history ++ entry ∷ [])
-allowed-push [] entry all last = (last, tt)
-allowed-push (first ∷ history) entry (here, rest) last = (here, allowed-push history entry rest last)
+    ap (λ (log : BumpLog). if is_by party first.step then first ∷ log else log) (log-push party history entry)
+    ∙ own-append (is_by party first.step) first (entries_by party history) (if is_by party entry.step then entry ∷ [] else [])
 
 same_or_apart : (m n : ℕ) → (m ≡ n) ⊎ (m ≢ n)
 same_or_apart m n = grind arith
 
 -- an allowed step of a party adds its entry to the party's log, and to no other
-agree_step : (scene : BumpScene) (position party : ℕ) (logs : List (List BumpEntry)) (log : List BumpEntry) (step : BumpStep)
+agree_step : (scene : BumpScene) (position : ℕ) (logs : List BumpLog) (party : ℕ) (log : BumpLog) (step : BumpStep)
     (agree : LogsAgree scene position logs) →
     HasLog logs party log → is_by party step ≡ true → ((other : ℕ) → other ≢ party → is_by other step ≡ false) →
     let move = bump_step scene.region (left_by scene agree.steps) step in
-    IsAllowed move.outcome → LogsAgree scene move.state.position (with_entry logs party log step move.outcome)
-agree_step scene position party logs log step agree at own others allowed =
+    IsAllowed move.outcome → LogsAgree scene move.state.position (with_entry logs party log (entry_of step move.outcome))
+agree_step scene position logs party log step agree at own others allowed =
     let state = opening_state scene in
     let history = history_of scene agree.steps in
-    let entry : BumpEntry = entry_of scene.region (left_by scene agree.steps) step in
+    let entry : BumpEntry = entry_at scene.region (left_by scene agree.steps) step in
     let longer : history_of scene (agree.steps ++ step ∷ []) ≡ history ++ entry ∷ [] = history-push scene.region state agree.steps step in
     record {
       steps = agree.steps ++ step ∷ [];
-      allowed = subst AllAllowed (sym longer) (allowed-push history entry agree.allowed allowed);
+      allowed = subst AllAllowed (sym longer) (All-push (λ (e : BumpEntry). IsAllowed e.outcome) history entry agree.allowed allowed);
       leaves = ap (λ (left : BumpState). left.position) (after-push scene.region state agree.steps step);
       each = λ other there is.
-          let added : log_of other (history_of scene (agree.steps ++ step ∷ [])) ≡
-          log_of other history ++ (if is_by other step then entry ∷ [] else []) =
-          ap (log_of other) longer ∙ log-push other history entry in
+          let added : log_of scene (agree.steps ++ step ∷ []) other ≡
+          entries_by other history ++ (if is_by other step then entry ∷ [] else []) =
+          ap (entries_by other) longer ∙ log-push other history entry in
           ⊎_elim
           (λ (same : other ≡ party).
           let now : slice_get (slice_set logs party (log ++ entry ∷ [])) other ≡ Some (log ++ entry ∷ []) =
           ap (slice_get (slice_set logs party (log ++ entry ∷ []))) same ∙ slice_get-set_same logs party (log ++ entry ∷ []) log at in
           added
-          ∙ ap (λ (mine : Bool). log_of other history ++ (if mine then entry ∷ [] else [])) (ap (λ (p : ℕ). is_by p step) same ∙ own)
+          ∙ ap (λ (mine : Bool). entries_by other history ++ (if mine then entry ∷ [] else [])) (ap (λ (p : ℕ). is_by p step) same ∙ own)
           ∙ ap (λ (before : List BumpEntry). before ++ entry ∷ []) (agree.each other log (ap (slice_get logs) same ∙ at))
           ∙ same_Some _ _ (sym now ∙ is))
           (λ (apart : other ≢ party).
           added
-          ∙ ap (λ (mine : Bool). log_of other history ++ (if mine then entry ∷ [] else [])) (others other apart)
-          ∙ append-nil (log_of other history)
+          ∙ ap (λ (mine : Bool). entries_by other history ++ (if mine then entry ∷ [] else [])) (others other apart)
+          ∙ append-nil (entries_by other history)
           ∙ agree.each other there (sym (slice_get-set_other logs party other (log ++ entry ∷ []) apart) ∙ is))
           (same_or_apart other party);
     }
@@ -157,72 +153,72 @@ exchange_allowed position behind chunk layout false true = tt
 exchange_allowed position behind chunk layout false false = tt
 
 -- what a party is in, in the steps of an agreement
-pub agreed_call : (scene : BumpScene) (position party : ℕ) (logs : List (List BumpEntry)) (log : List BumpEntry)
+pub agreed_call : (scene : BumpScene) (position : ℕ) (logs : List BumpLog) (party : ℕ) (log : BumpLog)
     (call : Option OngoingCall) (agree : LogsAgree scene position logs) →
     HasLog logs party log → party < scene.parties → call_in log ≡ call → slice_get (left_by scene agree.steps).parties party ≡ Some call
-agreed_call scene position party logs log call agree at within is =
+agreed_call scene position logs party log call agree at within is =
     party_call scene agree.steps party within ∙ ap (λ (own : List BumpEntry). Some (call_in own)) (agree.each party log at) ∙ ap Some is
 
 -- the step is the party's, and no other's
 not_others : (party other : ℕ) → other ≢ party → (party == other) ≡ false
 not_others party other apart = test_apart party other (λ same. apart (sym same))
 
-pub read_agrees : (scene : BumpScene) (position party : ℕ) (logs : List (List BumpEntry)) (log : List BumpEntry) (layout : Layout) →
+pub read_agrees : (scene : BumpScene) (position : ℕ) (logs : List BumpLog) (party : ℕ) (log : BumpLog) (layout : Layout) →
     LogsAgree scene position logs → HasLog logs party log → party < scene.parties → call_in log ≡ None → 0 < layout.size →
-    LogsAgree scene position (with_entry logs party log (Read party layout) (read_move scene.region position layout).outcome)
-read_agrees scene position party logs log layout agree at within is asks =
+    LogsAgree scene position (with_entry logs party log (entry_of (Read party layout) (read_move scene.region position layout).outcome))
+read_agrees scene position logs party log layout agree at within is asks =
     let region = scene.region in
     let state = left_by scene agree.steps in
-    let idle = agreed_call scene position party logs log None agree at within is in
+    let idle = agreed_call scene position logs party log None agree at within is in
     let some_size : (layout.size == 0) ≡ false = test_apart layout.size 0 (λ none. omega arith) in
     let moves : bump_step region state (Read party layout) ≡ moved state party (read_move region state.position layout) =
     ap (read region state party layout) idle
     ∙ ap (λ (empty : Bool). if empty then passed state else moved state party (read_move region state.position layout)) some_size in
     let fitting = fits region state.position layout in
     let allowed = subst (λ (move : BumpMove). IsAllowed move.outcome) (sym moves) (read_allowed state.position layout fitting) in
-    let step = agree_step scene position party logs log (Read party layout) agree at (test_same party party refl)
+    let step = agree_step scene position logs party log (Read party layout) agree at (test_same party party refl)
     (not_others party) allowed in
     let made = subst (λ (move : BumpMove). LogsAgree scene move.state.position
-    (with_entry logs party log (Read party layout) move.outcome)) moves step in
+    (with_entry logs party log (entry_of (Read party layout) move.outcome))) moves step in
     let kept = subst (λ (left : ℕ). LogsAgree scene left
-    (with_entry logs party log (Read party layout) (read_move region state.position layout).outcome))
+    (with_entry logs party log (entry_of (Read party layout) (read_move region state.position layout).outcome)))
     (read_stays state.position layout fitting) made in
     subst (λ (found : ℕ). LogsAgree scene found
-    (with_entry logs party log (Read party layout) (read_move region found layout).outcome)) agree.leaves kept
+    (with_entry logs party log (entry_of (Read party layout) (read_move region found layout).outcome))) agree.leaves kept
 
-pub exchange_agrees : (scene : BumpScene) (position party : ℕ) (logs : List (List BumpEntry)) (log : List BumpEntry) (call : OngoingCall) →
+pub exchange_agrees : (scene : BumpScene) (position : ℕ) (logs : List BumpLog) (party : ℕ) (log : BumpLog) (call : OngoingCall) →
     LogsAgree scene position logs → HasLog logs party log → party < scene.parties → call_in log ≡ Some call →
     LogsAgree scene (exchange_move scene.region position call).position
-    (with_entry logs party log (Exchange party) (exchange_move scene.region position call).outcome)
-exchange_agrees scene position party logs log call agree at within is =
+    (with_entry logs party log (entry_of (Exchange party) (exchange_move scene.region position call).outcome))
+exchange_agrees scene position logs party log call agree at within is =
     let region = scene.region in
     let state = left_by scene agree.steps in
-    let in_call = agreed_call scene position party logs log (Some call) agree at within is in
+    let in_call = agreed_call scene position logs party log (Some call) agree at within is in
     let moves : bump_step region state (Exchange party) ≡ moved state party (exchange_move region state.position call) =
     ap (exchange region state party) in_call in
     let chunk = chunk_at region state.position call.layout in
     let allowed = subst (λ (move : BumpMove). IsAllowed move.outcome) (sym moves)
     (exchange_allowed state.position (position_behind region chunk) chunk call.layout (state.position == call.seen)
     (fits region state.position call.layout)) in
-    let step = agree_step scene position party logs log (Exchange party) agree at (test_same party party refl) (not_others party) allowed in
+    let step = agree_step scene position logs party log (Exchange party) agree at (test_same party party refl) (not_others party) allowed in
     let made = subst (λ (move : BumpMove). LogsAgree scene move.state.position
-    (with_entry logs party log (Exchange party) move.outcome)) moves step in
+    (with_entry logs party log (entry_of (Exchange party) move.outcome))) moves step in
     subst (λ (found : ℕ). LogsAgree scene (exchange_move region found call).position
-    (with_entry logs party log (Exchange party) (exchange_move region found call).outcome)) agree.leaves made
+    (with_entry logs party log (entry_of (Exchange party) (exchange_move region found call).outcome))) agree.leaves made
 
-pub load_agrees : (scene : BumpScene) (position party : ℕ) (logs : List (List BumpEntry)) (log : List BumpEntry) →
+pub load_agrees : (scene : BumpScene) (position : ℕ) (logs : List BumpLog) (party : ℕ) (log : BumpLog) →
     LogsAgree scene position logs → HasLog logs party log → party < scene.parties → call_in log ≡ None →
-    LogsAgree scene position (with_entry logs party log (Load party) (Loaded position))
-load_agrees scene position party logs log agree at within is =
+    LogsAgree scene position (with_entry logs party log (entry_of (Load party) (Loaded position)))
+load_agrees scene position logs party log agree at within is =
     let state = left_by scene agree.steps in
-    let idle = agreed_call scene position party logs log None agree at within is in
+    let idle = agreed_call scene position logs party log None agree at within is in
     let moves : bump_step scene.region state (Load party) ≡ record { outcome = Loaded state.position; state = state } =
     ap (load state) idle in
     let allowed = subst (λ (move : BumpMove). IsAllowed move.outcome) (sym moves) tt in
-    let step = agree_step scene position party logs log (Load party) agree at (test_same party party refl) (not_others party) allowed in
+    let step = agree_step scene position logs party log (Load party) agree at (test_same party party refl) (not_others party) allowed in
     let made = subst (λ (move : BumpMove). LogsAgree scene move.state.position
-    (with_entry logs party log (Load party) move.outcome)) moves step in
-    subst (λ (found : ℕ). LogsAgree scene found (with_entry logs party log (Load party) (Loaded found))) agree.leaves made
+    (with_entry logs party log (entry_of (Load party) move.outcome))) moves step in
+    subst (λ (found : ℕ). LogsAgree scene found (with_entry logs party log (entry_of (Load party) (Loaded found)))) agree.leaves made
 
 -- AT THE OPENING
 
@@ -232,11 +228,11 @@ element_of_all P (y ∷ ys) zero x all at = subst P (same_Some y x at) all.0
 element_of_all P (y ∷ ys) (suc i) x all at = element_of_all P ys i x all.1 at
 
 -- logs that are all empty agree with the opening
-pub opening_agrees : (scene : BumpScene) (logs : List (List BumpEntry)) → All (λ log. log ≡ []) logs → LogsAgree scene scene.opening logs
+pub opening_agrees : (scene : BumpScene) (logs : List BumpLog) → All (λ log. log ≡ []) logs → LogsAgree scene scene.opening logs
 opening_agrees scene logs empty = record {
   steps = [];
-  allowed = tt;
+  allowed = none_allowed;
   leaves = refl;
-  each = λ party log at. sym (element_of_all (λ (log : List BumpEntry). log ≡ []) logs party log
+  each = λ party log at. sym (element_of_all (λ (log : BumpLog). log ≡ []) logs party log
       (recursion_from_All (λ log. log ≡ []) logs empty) at);
 }

@@ -5,7 +5,7 @@ use Rattle.std.proofs.lemmas.List.Sums.{sum_by-cons}
 use Rattle.std.proofs.lemmas.Option.{same_Some}
 use Rattle.bb_memory_base.specs.Region.{Region}
 use Rattle.bb_memory_base.specs.BumpMachine.{OngoingCall, BumpState, BumpMove, BumpScene, IsIdle, IsInCall, opening_state, bump_step, bump_after, left_by}
-use Rattle.bb_memory_base.specs.BumpHistory.{BumpEntry, entry_of, bump_history, stretch_after, outcome_after, log_of, is_by, HasNoClear, is_loss, is_beginning, IsLossAt, losses_in, calls_begun_in}
+use Rattle.bb_memory_base.specs.BumpHistory.{BumpEntry, BumpLog, entry_at, bump_history, stretch_after, outcome_after, entries_by, is_by, HasNoClear, is_loss, is_beginning, IsLossAt, losses_in, calls_begun_in}
 use Rattle.bb_memory_base.specs.declared.steps.bump.BumpStep.{BumpStep}
 use Rattle.bb_memory_base.specs.declared.steps.bump.BumpStep.TheVariants.{Exchange}
 use Rattle.bb_memory_base.proofs.LiveLists.{StandsFor-within}
@@ -142,12 +142,12 @@ idle_turn region state step party false by not now =
 -- OVER A STRETCH
 
 losses_from : Region → BumpState → List BumpStep → ℕ → ℕ
-losses_from region state steps party = losses_in (log_of party (bump_history region state steps))
+losses_from region state steps party = losses_in (entries_by party (bump_history region state steps))
 
 begun_from : Region → BumpState → List BumpStep → ℕ → ℕ
-begun_from region state steps party = calls_begun_in (log_of party (bump_history region state steps))
+begun_from region state steps party = calls_begun_in (entries_by party (bump_history region state steps))
 
-count_own : (own : Bool) (counted : BumpEntry → Bool) (entry : BumpEntry) (log : List BumpEntry) →
+count_own : (own : Bool) (counted : BumpEntry → Bool) (entry : BumpEntry) (log : BumpLog) →
     count_by counted (if own then entry ∷ log else log) ≡ weight own (counted entry) + count_by counted log
 count_own true counted entry log = sum_by-cons (λ entry. if counted entry then 1 else 0) entry log
 count_own false counted entry log = omega arith
@@ -158,8 +158,8 @@ losses_from-cons : (region : Region) (state : BumpState) (step : BumpStep) (step
     (bump_step region state step).state steps party
 unfolding losses_from
 losses_from-cons region state step steps party =
-    count_own (is_by party step) (λ entry. is_loss entry.outcome) (entry_of region state step)
-    (log_of party (bump_history region (bump_step region state step).state steps))
+    count_own (is_by party step) (λ entry. is_loss entry.outcome) (entry_at region state step)
+    (entries_by party (bump_history region (bump_step region state step).state steps))
 
 begun_from-cons : (region : Region) (state : BumpState) (step : BumpStep) (steps : List BumpStep) (party : ℕ) →
     begun_from region state (step ∷ steps) party ≡
@@ -167,8 +167,8 @@ begun_from-cons : (region : Region) (state : BumpState) (step : BumpStep) (steps
     (bump_step region state step).state steps party
 unfolding begun_from
 begun_from-cons region state step steps party =
-    count_own (is_by party step) (λ entry. is_beginning entry.outcome) (entry_of region state step)
-    (log_of party (bump_history region (bump_step region state step).state steps))
+    count_own (is_by party step) (λ entry. is_beginning entry.outcome) (entry_at region state step)
+    (entries_by party (bump_history region (bump_step region state step).state steps))
 
 losses_from-nil : (region : Region) (state : BumpState) (party : ℕ) → losses_from region state [] party ≡ 0
 unfolding losses_from
@@ -236,8 +236,8 @@ one_call_loses_little region state (step ∷ steps) party none now few =
 
 pub losses_few : (scene : BumpScene) (before stretch : List BumpStep) (party : ℕ) → scene.opening ≤ scene.region.size →
     IsIdle (left_by scene before) party → HasNoClear stretch →
-    calls_begun_in (log_of party (stretch_after scene before stretch)) ≤ 1 →
-    losses_in (log_of party (stretch_after scene before stretch)) ≤ scene.region.size
+    calls_begun_in (entries_by party (stretch_after scene before stretch)) ≤ 1 →
+    losses_in (entries_by party (stretch_after scene before stretch)) ≤ scene.region.size
 unfolding losses_from begun_from
 losses_few scene before stretch party within idle none few =
     let state = left_by scene before in

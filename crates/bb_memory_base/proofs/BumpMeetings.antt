@@ -6,15 +6,16 @@ use Rattle.std.proofs.lemmas.List.Elements.{All-from_recursion}
 use Rattle.bb_memory_base.specs.Chunk.{Chunk, chunk_end, AreApart}
 use Rattle.bb_memory_base.specs.BumpObject.{end_of_last, IsInOrder}
 use Rattle.bb_memory_base.specs.BumpMachine.{BumpScene, opening_state}
-use Rattle.bb_memory_base.specs.BumpHistory.{BumpEntry, history_of, is_by, log_of, won_at, chunks_won}
-use Rattle.bb_memory_base.specs.BumpLogs.{HasLog, LogsAgree}
+use Rattle.bb_memory_base.specs.BumpHistory.{BumpEntry, BumpLog, history_of, is_by, entries_by, log_of, won_at, chunks_won}
+use Rattle.bb_memory_base.specs.BumpLogs.{HasLog, LogsAgree, CommonInterleaving}
 use Rattle.bb_memory_base.specs.declared.steps.bump.BumpStep.{BumpStep}
 use Rattle.bb_memory_base.specs.declared.steps.bump.BumpStep.TheVariants.{Read, Exchange, Load, Clear}
 use Rattle.bb_memory_base.proofs.LiveLists.{all_above, end_of_last-above, in_order-front, in_order-rest, stands_for_some}
 use Rattle.bb_memory_base.proofs.BumpSteps.{same_from_test}
 use Rattle.bb_memory_base.proofs.BumpRuns.{fitting_at_opening}
 use Rattle.bb_memory_base.proofs.BumpStretches.{stretch_stands}
-use Rattle.bb_memory_base.proofs.BumpPositions.{no_clear_when_allowed}
+use Rattle.bb_memory_base.proofs.BumpAllowed.{no_clear_when_allowed}
+use Rattle.bb_memory_base.proofs.BumpPositions.{both_interleaved}
 
 -- FACTS OF EACH CHUNK
 
@@ -39,18 +40,18 @@ all_map P Q [] f all = tt
 all_map P Q (x ∷ xs) f (here, rest) = (f x here, all_map P Q xs f rest)
 
 -- what holds of all that was won holds of what one party won
-all_own : (P : Chunk → Type 0) (own : Bool) (entry : BumpEntry) (log : List BumpEntry) → AllByRecursion P (won_at entry.outcome) →
+all_own : (P : Chunk → Type 0) (own : Bool) (entry : BumpEntry) (log : BumpLog) → AllByRecursion P (won_at entry.outcome) →
     AllByRecursion P (chunks_won log) → AllByRecursion P (chunks_won (if own then entry ∷ log else log))
 all_own P true entry log here rest = all_append P (won_at entry.outcome) (chunks_won log) here rest
 all_own P false entry log here rest = rest
 
 pub all_in_log : (P : Chunk → Type 0) (party : ℕ) (history : List BumpEntry) → AllByRecursion P (chunks_won history) →
-    AllByRecursion P (chunks_won (log_of party history))
+    AllByRecursion P (chunks_won (entries_by party history))
 all_in_log P party [] all = tt
 all_in_log P party (entry ∷ history) all =
     let won = won_at entry.outcome in
     let rest = chunks_won history in
-    all_own P (is_by party entry.step) entry (log_of party history) (all_front P won rest all)
+    all_own P (is_by party entry.step) entry (entries_by party history) (all_front P won rest all)
     (all_in_log P party history (all_rest P won rest all))
 
 -- TWO LISTS
@@ -93,7 +94,7 @@ in_order-below v (x ∷ xs) (here, rest) = (end_of_last-above (chunk_end x) xs r
 -- TWO LOGS
 
 -- one more entry, which is at most one party's
-apart_entry : (own others : Bool) (entry : BumpEntry) (log other_log : List BumpEntry) → ((own ≡ true) → (others ≡ true) → ⊥) →
+apart_entry : (own others : Bool) (entry : BumpEntry) (log other_log : BumpLog) → ((own ≡ true) → (others ≡ true) → ⊥) →
     AllApart (won_at entry.outcome) (chunks_won other_log) → AllApart (won_at entry.outcome) (chunks_won log) →
     AllApart (chunks_won log) (chunks_won other_log) →
     AllApart (chunks_won (if own then entry ∷ log else log)) (chunks_won (if others then entry ∷ other_log else other_log))
@@ -114,7 +115,7 @@ one_party party other (Load p) apart own others = apart (sym (same_from_test p p
 one_party party other Clear apart own others = cc
 
 logs_apart : (v party other : ℕ) (history : List BumpEntry) → party ≢ other → IsInOrder v (chunks_won history) →
-    AllApart (chunks_won (log_of party history)) (chunks_won (log_of other history))
+    AllApart (chunks_won (entries_by party history)) (chunks_won (entries_by other history))
 logs_apart v party other [] apart ordered = tt
 logs_apart v party other (entry ∷ history) apart ordered =
     let won = won_at entry.outcome in
@@ -122,27 +123,34 @@ logs_apart v party other (entry ∷ history) apart ordered =
     let rest = in_order-rest v won later ordered in
     let below = in_order-below v won (in_order-front v won later ordered) in
     let above = all_above (end_of_last v won) (end_of_last v won) later (omega arith) rest in
-    let behind = λ (p : ℕ). apart_behind (end_of_last v won) won (chunks_won (log_of p history)) below
+    let behind = λ (p : ℕ). apart_behind (end_of_last v won) won (chunks_won (entries_by p history)) below
     (all_in_log (λ y. end_of_last v won ≤ y.place) p history above) in
-    apart_entry (is_by party entry.step) (is_by other entry.step) entry (log_of party history) (log_of other history)
+    apart_entry (is_by party entry.step) (is_by other entry.step) entry (entries_by party history) (entries_by other history)
     (one_party party other entry.step apart)
     (behind other) (behind party) (logs_apart (end_of_last v won) party other history apart rest)
 
-pub chunks_apart : (scene : BumpScene) (position party other : ℕ) (logs : List (List BumpEntry)) (log other_log : List BumpEntry) →
-    scene.opening ≤ scene.region.size → LogsAgree scene position logs → HasLog logs party log → HasLog logs other other_log →
-    party ≢ other →
+-- where one interleaving has both logs, their chunks are apart
+pub common_apart : (scene : BumpScene) (position party : ℕ) (log : BumpLog) (other : ℕ) (other_log : BumpLog) →
+    scene.opening ≤ scene.region.size → CommonInterleaving scene party log other other_log position → party ≢ other →
     All (λ chunk. All (AreApart chunk) (chunks_won other_log)) (chunks_won log)
-chunks_apart scene position party other logs log other_log within agree own others apart =
-    let history = history_of scene agree.steps in
+common_apart scene position party log other other_log within common apart =
+    let history = history_of scene common.steps in
     let some = stands_for_some scene.region scene.opening within in
-    let none = no_clear_when_allowed scene.region (opening_state scene) agree.steps agree.allowed in
-    let stands = stretch_stands scene.region (opening_state scene) some.0 agree.steps none some.1 (fitting_at_opening scene) in
+    let none = no_clear_when_allowed scene.region (opening_state scene) common.steps common.allowed in
+    let stands = stretch_stands scene.region (opening_state scene) some.0 common.steps none some.1 (fitting_at_opening scene) in
     let ordered = in_order-rest scene.region.start some.0 (chunks_won history) stands.in_order in
     let both = logs_apart (end_of_last scene.region.start some.0) party other history apart ordered in
-    let first = subst (λ (l : List BumpEntry). AllApart (chunks_won l) (chunks_won (log_of other history)))
-    (agree.each party log own) both in
-    let second = subst (λ (l : List BumpEntry). AllApart (chunks_won log) (chunks_won l)) (agree.each other other_log others) first in
+    let first = subst (λ (l : BumpLog). AllApart (chunks_won l) (chunks_won (entries_by other history))) common.logged both in
+    let second = subst (λ (l : BumpLog). AllApart (chunks_won log) (chunks_won l)) common.other_logged first in
     let won = chunks_won other_log in
     All-from_recursion (λ chunk. All (AreApart chunk) won) (chunks_won log)
     (all_map (λ chunk. AllByRecursion (AreApart chunk) won) (λ chunk. All (AreApart chunk) won) (chunks_won log)
     (λ chunk. All-from_recursion (AreApart chunk) won) second)
+
+pub chunks_apart : (scene : BumpScene) (position : ℕ) (logs : List BumpLog) (party : ℕ) (log : BumpLog) (other : ℕ) (other_log : BumpLog) →
+    scene.opening ≤ scene.region.size → LogsAgree scene position logs → HasLog logs party log → HasLog logs other other_log →
+    party ≢ other →
+    All (λ chunk. All (AreApart chunk) (chunks_won other_log)) (chunks_won log)
+chunks_apart scene position logs party log other other_log within agree own others apart =
+    common_apart scene position party log other other_log within
+    (both_interleaved scene position logs party log other other_log agree own others) apart

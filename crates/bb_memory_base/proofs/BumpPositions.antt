@@ -8,35 +8,19 @@ use Rattle.bb_memory_base.specs.Region.{Region}
 use Rattle.bb_memory_base.specs.Chunk.{Chunk}
 use Rattle.bb_memory_base.specs.BumpObject.{StandsFor}
 use Rattle.bb_memory_base.specs.BumpMachine.{OngoingCall, BumpState, BumpMove, BumpScene, IsInCall, IsFitting, opening_state, bump_step, bump_after, left_by}
-use Rattle.bb_memory_base.specs.BumpHistory.{BumpEntry, entry_of, bump_history, history_of, is_by, log_of, HasNoClear}
+use Rattle.bb_memory_base.specs.BumpHistory.{BumpEntry, BumpLog, entry_at, bump_history, history_of, is_by, entries_by}
 use Rattle.bb_memory_base.specs.BumpCalls.{OpensWith, live_after}
-use Rattle.bb_memory_base.specs.BumpLogs.{IsAllowed, AllAllowed, HasLog, LogsAgree, Interleaving, HasPositionUpTo, position_in, greater_of, greatest_in, seen_in, call_in}
+use Rattle.bb_memory_base.specs.BumpLogs.{IsAllowed, AllAllowed, HasLog, LogsAgree, Interleaving, CommonInterleaving, HasPositionUpTo, position_in, greater_of, greatest_in, seen_in, call_in}
 use Rattle.bb_memory_base.specs.declared.steps.bump.BumpStep.{BumpStep}
 use Rattle.bb_memory_base.specs.declared.steps.bump.BumpStep.TheVariants.{Read, Exchange, Load, Clear}
 use Rattle.bb_memory_base.proofs.LiveLists.{StandsFor-within}
-use Rattle.bb_memory_base.proofs.SliceGets.{length-set_at, slice_get-replicated, slice_get-single}
+use Rattle.bb_memory_base.proofs.SliceGets.{slice_get-replicated, slice_get-single}
 use Rattle.bb_memory_base.proofs.BumpSteps.{test_same, StepView, step_view, sees, refuses_read, wins, loses, refuses_loss, loads, clears, passes}
 use Rattle.bb_memory_base.proofs.BumpRuns.{chunk_at-above, calls_stand, fitting_after, fitting_at_opening}
 use Rattle.bb_memory_base.proofs.BumpStretches.{healthy_after, stretch_rises}
 use Rattle.bb_memory_base.proofs.BumpLosses.{SeesNoMore, stretch_sees}
+use Rattle.bb_memory_base.proofs.BumpAllowed.{first_allowed, rest_allowed, no_clear_when_allowed, parties_stay}
 use Rattle.bb_memory_base.proofs.BumpLogs.{agreed_call}
-
--- STEPS OF PARTIES ALONE
-
-no_clear_first : (region : Region) (state : BumpState) (step : BumpStep) (steps : List BumpStep) →
-    IsAllowed (bump_step region state step).outcome →
-    HasNoClear steps → HasNoClear (step ∷ steps)
-no_clear_first region state (Read party layout) steps allowed none = none
-no_clear_first region state (Exchange party) steps allowed none = none
-no_clear_first region state (Load party) steps allowed none = none
-no_clear_first region state Clear steps allowed none = absurd allowed
-
--- allowed steps of parties have no clear
-pub no_clear_when_allowed : (region : Region) (state : BumpState) (steps : List BumpStep) →
-    AllAllowed (bump_history region state steps) → HasNoClear steps
-no_clear_when_allowed region state [] allowed = tt
-no_clear_when_allowed region state (step ∷ steps) (here, rest) =
-    no_clear_first region state step steps here (no_clear_when_allowed region (bump_step region state step).state steps rest)
 
 -- POSITIONS IN A LOG
 
@@ -66,7 +50,9 @@ greater_below seen bound (Some position) below found_below = omega arith
 history_below : (region : Region) (state : BumpState) (steps : List BumpStep) → AllAllowed (bump_history region state steps) →
     AllByRecursion (HasPositionUpTo (bump_after region state steps).position region) (bump_history region state steps)
 history_below region state [] allowed = tt
-history_below region state (step ∷ steps) (here, rest) =
+history_below region state (step ∷ steps) allowed =
+    let here = first_allowed region state step steps allowed in
+    let rest = rest_allowed region state step steps allowed in
     let move = bump_step region state step in
     let left = (bump_after region move.state steps).position in
     let leaves = step_leaves region state step move (step_view region state step) here in
@@ -76,20 +62,20 @@ history_below region state (step ∷ steps) (here, rest) =
       history_below region move.state steps rest,
     )
 
-all_own : (P : BumpEntry → Type 0) (own : Bool) (entry : BumpEntry) (log : List BumpEntry) → P entry → AllByRecursion P log →
+all_own : (P : BumpEntry → Type 0) (own : Bool) (entry : BumpEntry) (log : BumpLog) → P entry → AllByRecursion P log →
     AllByRecursion P (if own then entry ∷ log else log)
 all_own P true entry log here rest = (here, rest)
 all_own P false entry log here rest = rest
 
 all_in_log : (P : BumpEntry → Type 0) (party : ℕ) (history : List BumpEntry) → AllByRecursion P history →
-    AllByRecursion P (log_of party history)
+    AllByRecursion P (entries_by party history)
 all_in_log P party [] all = tt
 all_in_log P party (entry ∷ history) (here, rest) =
-    all_own P (is_by party entry.step) entry (log_of party history) here (all_in_log P party history rest)
+    all_own P (is_by party entry.step) entry (entries_by party history) here (all_in_log P party history rest)
 
-log_below : (scene : BumpScene) (position party : ℕ) (logs : List (List BumpEntry)) (log : List BumpEntry) → LogsAgree scene position logs →
+log_below : (scene : BumpScene) (position : ℕ) (logs : List BumpLog) (party : ℕ) (log : BumpLog) → LogsAgree scene position logs →
     HasLog logs party log → AllByRecursion (HasPositionUpTo position scene.region) log
-log_below scene position party logs log agree at =
+log_below scene position logs party log agree at =
     let history = history_of scene agree.steps in
     let left = (left_by scene agree.steps).position in
     let all = history_below scene.region (opening_state scene) agree.steps agree.allowed in
@@ -97,18 +83,18 @@ log_below scene position party logs log agree at =
     let mine = subst (AllByRecursion (HasPositionUpTo left scene.region)) (agree.each party log at) own in
     subst (λ (bound : ℕ). AllByRecursion (HasPositionUpTo bound scene.region) log) agree.leaves mine
 
-pub position_above_log : (scene : BumpScene) (position party : ℕ) (logs : List (List BumpEntry)) (log : List BumpEntry) →
+pub position_above_log : (scene : BumpScene) (position : ℕ) (logs : List BumpLog) (party : ℕ) (log : BumpLog) →
     LogsAgree scene position logs → HasLog logs party log → All (HasPositionUpTo position scene.region) log
-position_above_log scene position party logs log agree at =
-    All-from_recursion (HasPositionUpTo position scene.region) log (log_below scene position party logs log agree at)
+position_above_log scene position logs party log agree at =
+    All-from_recursion (HasPositionUpTo position scene.region) log (log_below scene position logs party log agree at)
 
-pub position_risen : (scene : BumpScene) (position : ℕ) (logs : List (List BumpEntry)) → LogsAgree scene position logs →
+pub position_risen : (scene : BumpScene) (position : ℕ) (logs : List BumpLog) → LogsAgree scene position logs →
     scene.opening ≤ position
 position_risen scene position logs agree =
     let none = no_clear_when_allowed scene.region (opening_state scene) agree.steps agree.allowed in
     omega (arith, stretch_rises scene.region (opening_state scene) agree.steps none, agree.leaves)
 
-pub position_within : (scene : BumpScene) (position : ℕ) (logs : List (List BumpEntry)) → scene.opening ≤ scene.region.size →
+pub position_within : (scene : BumpScene) (position : ℕ) (logs : List BumpLog) → scene.opening ≤ scene.region.size →
     LogsAgree scene position logs → position ≤ scene.region.size
 position_within scene position logs within agree =
     let healthy = healthy_after scene agree.steps within in
@@ -122,30 +108,30 @@ nobody_at_opening scene party call is =
     let none : None ≡ Some call = slice_get-replicated scene.parties party None (Some call) is in absurd (cc)
 
 -- a call that is under way has seen no more than the position
-pub call_sees : (scene : BumpScene) (position party : ℕ) (logs : List (List BumpEntry)) (log : List BumpEntry)
+pub call_sees : (scene : BumpScene) (position : ℕ) (logs : List BumpLog) (party : ℕ) (log : BumpLog)
     (call : OngoingCall) → LogsAgree scene position logs →
     HasLog logs party log → party < scene.parties → call_in log ≡ Some call → call.seen ≤ position
-call_sees scene position party logs log call agree at inside is =
+call_sees scene position logs party log call agree at inside is =
     let state = opening_state scene in
     let none = no_clear_when_allowed scene.region state agree.steps agree.allowed in
     let fresh : SeesNoMore (opening_state scene) party = λ other now. nobody_at_opening scene party other now in
     omega (
       arith,
       stretch_sees scene.region state agree.steps party none fresh call
-          (agreed_call scene position party logs log (Some call) agree at inside is),
+          (agreed_call scene position logs party log (Some call) agree at inside is),
       agree.leaves,
     )
 
-pub call_fits : (scene : BumpScene) (position party : ℕ) (logs : List (List BumpEntry)) (log : List BumpEntry)
+pub call_fits : (scene : BumpScene) (position : ℕ) (logs : List BumpLog) (party : ℕ) (log : BumpLog)
     (call : OngoingCall) → LogsAgree scene position logs →
     HasLog logs party log → party < scene.parties → call_in log ≡ Some call → IsFitting scene.region call
-call_fits scene position party logs log call agree at inside is =
+call_fits scene position logs party log call agree at inside is =
     fitting_after scene.region (opening_state scene) agree.steps (fitting_at_opening scene) party call
-    (agreed_call scene position party logs log (Some call) agree at inside is)
+    (agreed_call scene position logs party log (Some call) agree at inside is)
 
 -- WHAT A PARTY HAS SEEN
 
-greatest_in-below : (region : Region) (seen bound : ℕ) (log : List BumpEntry) → seen ≤ bound → AllByRecursion (HasPositionUpTo bound region) log →
+greatest_in-below : (region : Region) (seen bound : ℕ) (log : BumpLog) → seen ≤ bound → AllByRecursion (HasPositionUpTo bound region) log →
     greatest_in region seen log ≤ bound
 greatest_in-below region seen bound [] below all = below
 greatest_in-below region seen bound (entry ∷ log) below (here, rest) =
@@ -153,11 +139,11 @@ greatest_in-below region seen bound (entry ∷ log) below (here, rest) =
     greatest_in-below region (greater_of seen found) bound log (greater_below seen bound found below here) rest
 
 -- a party has seen no more than the position
-pub seen_below : (scene : BumpScene) (position party : ℕ) (logs : List (List BumpEntry)) (log : List BumpEntry) →
+pub seen_below : (scene : BumpScene) (position : ℕ) (logs : List BumpLog) (party : ℕ) (log : BumpLog) →
     LogsAgree scene position logs → HasLog logs party log → seen_in scene log ≤ position
-seen_below scene position party logs log agree at =
+seen_below scene position logs party log agree at =
     greatest_in-below scene.region scene.opening position log (position_risen scene position logs agree)
-    (log_below scene position party logs log agree at)
+    (log_below scene position logs party log agree at)
 
 -- ONE PARTY ALONE
 
@@ -179,33 +165,23 @@ own_alone region state step move (loads party idle) allowed one = test_same part
 own_alone region state step move clears allowed one = absurd allowed
 own_alone region state step move (passes other) allowed one = absurd allowed
 
--- no step changes how many parties there are
-parties_stay : (region : Region) (state : BumpState) (step : BumpStep) (move : BumpMove) → StepView region state step move →
-    length move.state.parties ≡ length state.parties
-parties_stay region state step move (sees party layout idle asks fit) = length-set_at state.parties party _
-parties_stay region state step move (refuses_read party layout idle asks fit) = length-set_at state.parties party _
-parties_stay region state step move (wins party call is same) = length-set_at state.parties party _
-parties_stay region state step move (loses party call is apart fit) = length-set_at state.parties party _
-parties_stay region state step move (refuses_loss party call is apart fit) = length-set_at state.parties party _
-parties_stay region state step move (loads party idle) = refl
-parties_stay region state step move clears = refl
-parties_stay region state step move (passes other) = refl
-
 greatest_alone : (region : Region) (state : BumpState) (steps : List BumpStep) → length state.parties ≡ 1 →
     AllAllowed (bump_history region state steps) →
-    greatest_in region state.position (log_of 0 (bump_history region state steps)) ≡ (bump_after region state steps).position
+    greatest_in region state.position (entries_by 0 (bump_history region state steps)) ≡ (bump_after region state steps).position
 greatest_alone region state [] one allowed = refl
-greatest_alone region state (step ∷ steps) one (here, rest) =
+greatest_alone region state (step ∷ steps) one allowed =
+    let here = first_allowed region state step steps allowed in
+    let rest = rest_allowed region state step steps allowed in
     let move = bump_step region state step in
     let view = step_view region state step in
-    let entry = entry_of region state step in
-    let later = log_of 0 (bump_history region move.state steps) in
+    let entry = entry_at region state step in
+    let later = entries_by 0 (bump_history region move.state steps) in
     ap (λ (own : Bool). greatest_in region state.position (if own then entry ∷ later else later))
     (own_alone region state step move view here one)
     ∙ ap (λ (position : ℕ). greatest_in region position later) (step_leaves region state step move view here)
     ∙ greatest_alone region move.state steps (parties_stay region state step move view ∙ one) rest
 
-pub alone_exact : (scene : BumpScene) (position : ℕ) (logs : List (List BumpEntry)) (log : List BumpEntry) → scene.parties ≡ 1 →
+pub alone_exact : (scene : BumpScene) (position : ℕ) (logs : List BumpLog) (log : BumpLog) → scene.parties ≡ 1 →
     LogsAgree scene position logs → HasLog logs 0 log →
     position ≡ seen_in scene log
 alone_exact scene position logs log one agree at =
@@ -214,15 +190,26 @@ alone_exact scene position logs log one agree at =
 
 -- INTERLEAVINGS
 
-pub interleaved : (scene : BumpScene) (position party : ℕ) (logs : List (List BumpEntry)) (log : List BumpEntry) →
+pub interleaved : (scene : BumpScene) (position : ℕ) (logs : List BumpLog) (party : ℕ) (log : BumpLog) →
     LogsAgree scene position logs → HasLog logs party log →
     Interleaving scene party log position
-interleaved scene position party logs log agree at =
+interleaved scene position logs party log agree at =
     record { steps = agree.steps; allowed = agree.allowed; leaves = agree.leaves; logged = agree.each party log at }
 
-pub interleaving_stands : (scene : BumpScene) (live : List Chunk) (party position : ℕ) (log : List BumpEntry)
+pub both_interleaved : (scene : BumpScene) (position : ℕ) (logs : List BumpLog) (party : ℕ) (log : BumpLog) (other : ℕ) (other_log : BumpLog) →
+    LogsAgree scene position logs → HasLog logs party log → HasLog logs other other_log →
+    CommonInterleaving scene party log other other_log position
+both_interleaved scene position logs party log other other_log agree at other_at = record {
+  steps = agree.steps;
+  allowed = agree.allowed;
+  leaves = agree.leaves;
+  logged = agree.each party log at;
+  other_logged = agree.each other other_log other_at;
+}
+
+pub interleaving_stands : (scene : BumpScene) (position party : ℕ) (log : BumpLog) (live : List Chunk)
     (interleaving : Interleaving scene party log position) →
     OpensWith scene live → StandsFor scene.region position (live_after scene live interleaving.steps)
-interleaving_stands scene live party position log interleaving opens =
+interleaving_stands scene position party log live interleaving opens =
     subst (λ (left : ℕ). StandsFor scene.region left (live_after scene live interleaving.steps)) interleaving.leaves
     (calls_stand scene live interleaving.steps opens)

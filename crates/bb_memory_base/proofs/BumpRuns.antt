@@ -26,7 +26,7 @@ pub record MakesCalls (region : Region) (live : List Chunk) (calls : List BumpCa
   pub run : IsCallRun region live calls (left_by_calls live calls)
   pub stands : StandsFor region position (left_by_calls live calls)
 
-left_by_calls-append : (live : List Chunk) (first then : List BumpCall) →
+pub left_by_calls-append : (live : List Chunk) (first then : List BumpCall) →
     left_by_calls live (first ++ then) ≡ left_by_calls (left_by_calls live first) then
 left_by_calls-append live [] then = refl
 left_by_calls-append live (Allocate layout answer ∷ first) then = left_by_calls-append (appended live answer) first then

@@ -1,16 +1,18 @@
 -- Stretches of steps with no clear: the position rises, and the chunks won are a sound list.
-use Rattle.std.proofs.Common.{◌≤◌, List, [], ◌∷◌, ◌++◌, append_assoc, append-nil, sym, subst, arith}
+use Rattle.std.proofs.Common.{◌≡◌, ◌≤◌, List, [], ◌∷◌, ◌++◌, append_assoc, append-nil, sym, ap, ◌∙◌, subst, arith}
 use Rattle.bb_memory_base.specs.Region.{Region}
 use Rattle.bb_memory_base.specs.Chunk.{Chunk}
 use Rattle.bb_memory_base.specs.LiveList.{IsSound}
 use Rattle.bb_memory_base.specs.BumpObject.{end_of_last, StandsFor}
-use Rattle.bb_memory_base.specs.BumpMachine.{BumpState, BumpMove, BumpScene, AllFitting, opening_state, bump_step, bump_after, left_by}
-use Rattle.bb_memory_base.specs.BumpHistory.{bump_history, stretch_after, HasNoClear, won_at, chunks_won}
+use Rattle.bb_memory_base.specs.BumpMachine.{BumpState, BumpMove, BumpScene, AllFitting, chunk_at, opening_state, bump_step, bump_after, left_by}
+use Rattle.bb_memory_base.specs.BumpHistory.{bump_history, history_of, stretch_after, HasNoClear, won_at, chunks_won}
+use Rattle.bb_memory_base.specs.BumpCalls.{asked_by, bump_calls, decided, layout_in, left_by_calls, live_after}
 use Rattle.bb_memory_base.specs.declared.steps.bump.BumpStep.{BumpStep}
 use Rattle.bb_memory_base.specs.declared.steps.bump.BumpStep.TheVariants.{Read, Exchange, Load, Clear}
+use Rattle.bb_memory_base.specs.declared.steps.bump.BumpOutcome.TheVariants.{Wins, RefusedAtLoss}
 use Rattle.bb_memory_base.proofs.LiveLists.{end_of_last-above, end_of_last-append, in_order-rest, sound_from_order, stands_for_some, StandsFor-end, StandsFor-within}
 use Rattle.bb_memory_base.proofs.BumpSteps.{StepView, step_view, sees, refuses_read, wins, loses, refuses_loss, loads, clears, passes, all_fitting-step}
-use Rattle.bb_memory_base.proofs.BumpRuns.{StandsFor-won, chunk_at-above, fits_when_seen, calls_stand, fitting_after, fitting_at_opening}
+use Rattle.bb_memory_base.proofs.BumpRuns.{StandsFor-won, chunk_at-above, fits_when_seen, calls_stand, fitting_after, fitting_at_opening, left_by_calls-append}
 
 abbrev pub IsClear : BumpStep → Type 0
 IsClear Clear = Unit {0}
@@ -62,6 +64,21 @@ step_stands region state live step move clears not stands fitting = absurd (not 
 step_stands region state live step move (passes other) not stands fitting =
     subst (StandsFor region state.position) (sym (append-nil live)) stands
 
+-- so does the object's list, whatever it is
+step_grows : (region : Region) (state : BumpState) (live : List Chunk) (step : BumpStep) (move : BumpMove) →
+    StepView region state step move → ¬ IsClear step →
+    left_by_calls live (decided move.outcome (asked_by state step)) ≡ live ++ won_at move.outcome
+step_grows region state live step move (sees party layout idle asks fit) not = sym (append-nil live)
+step_grows region state live step move (refuses_read party layout idle asks fit) not = sym (append-nil live)
+step_grows region state live step move (wins party call is same) not =
+    ap (λ now. left_by_calls live (decided (Wins (chunk_at region state.position call.layout)) (layout_in now))) is
+step_grows region state live step move (loses party call is apart fit) not = sym (append-nil live)
+step_grows region state live step move (refuses_loss party call is apart fit) not =
+    ap (λ now. left_by_calls live (decided (RefusedAtLoss state.position) (layout_in now))) is ∙ sym (append-nil live)
+step_grows region state live step move (loads party idle) not = sym (append-nil live)
+step_grows region state live step move clears not = absurd (not tt)
+step_grows region state live step move (passes other) not = sym (append-nil live)
+
 -- the position doesn't fall
 pub position_rises : (region : Region) (state : BumpState) (step : BumpStep) (move : BumpMove) → StepView region state step move →
     ¬ IsClear step → state.position ≤ move.state.position
@@ -101,6 +118,23 @@ stretch_stands region state live (step ∷ steps) none stands fitting =
     (step_stands region state live step move view parts.0 stands fitting) (all_fitting-step region state step move view fitting) in
     subst (StandsFor region (bump_after region move.state steps).position)
     (append_assoc live won (chunks_won (bump_history region move.state steps))) rest
+
+pub stretch_grows : (region : Region) (state : BumpState) (live : List Chunk) (steps : List BumpStep) → HasNoClear steps →
+    left_by_calls live (bump_calls region state steps) ≡ live ++ chunks_won (bump_history region state steps)
+stretch_grows region state live [] none = sym (append-nil live)
+stretch_grows region state live (step ∷ steps) none =
+    let parts = not_clear step steps none in
+    let move = bump_step region state step in
+    let calls = decided move.outcome (asked_by state step) in
+    let later = chunks_won (bump_history region move.state steps) in
+    left_by_calls-append live calls (bump_calls region move.state steps)
+    ∙ stretch_grows region move.state (left_by_calls live calls) steps parts.1
+    ∙ ap (λ (list : List Chunk). list ++ later) (step_grows region state live step move (step_view region state step) parts.0)
+    ∙ append_assoc live (won_at move.outcome) later
+
+pub live_grows : (scene : BumpScene) (live : List Chunk) (steps : List BumpStep) → HasNoClear steps →
+    live_after scene live steps ≡ live ++ chunks_won (history_of scene steps)
+live_grows scene live steps = stretch_grows scene.region (opening_state scene) live steps
 
 -- the chunks won from a healthy state on are a sound list
 sound_from : (region : Region) (state : BumpState) (steps : List BumpStep) → IsHealthy region state → HasNoClear steps →

@@ -1,4 +1,5 @@
 pub mod ApartBytes
+pub mod BumpAllowed
 pub mod BumpBounds
 pub mod BumpLogs
 pub mod BumpLosses

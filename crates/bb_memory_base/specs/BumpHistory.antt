@@ -13,14 +13,18 @@ pub record BumpEntry : Type 0 where
   pub step : BumpStep
   pub outcome : BumpOutcome
 
-abbrev pub entry_of : Region → BumpState → BumpStep → BumpEntry
-entry_of region state step = record { step = step; outcome = (bump_step region state step).outcome }
+abbrev pub entry_of : BumpStep → BumpOutcome → BumpEntry
+entry_of step outcome = record { step = step; outcome = outcome }
+
+-- what a step in this state is entered as
+abbrev pub entry_at : Region → BumpState → BumpStep → BumpEntry
+entry_at region state step = entry_of step (bump_step region state step).outcome
 
 -- the entries of a list of steps, in order
 abbrev pub bump_history : Region → BumpState → List BumpStep → List BumpEntry
 bump_history region state [] = []
 bump_history region state (step ∷ steps) =
-    entry_of region state step ∷ bump_history region (bump_step region state step).state steps
+    entry_at region state step ∷ bump_history region (bump_step region state step).state steps
 
 -- the history of a list of steps from the opening
 abbrev pub history_of : BumpScene → List BumpStep → List BumpEntry
@@ -43,9 +47,17 @@ is_by party (Exchange other) = other == party
 is_by party (Load other) = other == party
 is_by party Clear = false
 
--- a party's log: its own entries, in order
-abbrev pub log_of : ℕ → List BumpEntry → List BumpEntry
-log_of party history = filter (λ entry. is_by party entry.step) history
+-- a party's log: its own steps, in order, each with what it found
+abbrev pub BumpLog : Type 0
+BumpLog = List BumpEntry
+
+-- a party's own entries of a history
+abbrev pub entries_by : ℕ → List BumpEntry → BumpLog
+entries_by party history = filter (λ entry. is_by party entry.step) history
+
+-- a party's log in a list of steps from the opening
+abbrev pub log_of : BumpScene → List BumpStep → ℕ → BumpLog
+log_of scene steps party = entries_by party (history_of scene steps)
 
 -- CLEARS, WINS AND LOSSES
 
@@ -81,8 +93,8 @@ is_beginning (Sees position) = true
 is_beginning _ = false
 
 -- how many exchanges a log has lost, and how many calls that go on it has begun
-abbrev pub losses_in : List BumpEntry → ℕ
+abbrev pub losses_in : BumpLog → ℕ
 losses_in log = count_by (λ entry. is_loss entry.outcome) log
 
-abbrev pub calls_begun_in : List BumpEntry → ℕ
+abbrev pub calls_begun_in : BumpLog → ℕ
 calls_begun_in log = count_by (λ entry. is_beginning entry.outcome) log

@@ -1,4 +1,4 @@
-//! The rule of a shared bump's word, and what each atomic step on it tells.
+//! The rule of a shared bump's word, the steps on it, and how seats are dealt.
 use atomic_table::{Join, Play, Split, TableRule};
 use std::marker::{Brand, Model, PhantomData};
 
@@ -31,13 +31,13 @@ impl Model for View {
     ghost view = { λ v. nobody };
 }
 
-/// Word and logs agree.
+/// The word and the logs of the parties agree.
 pub(crate) struct Agreement;
 
 impl TableRule<u8, View, Scene> for Agreement {
-    ghost use Rattle.bb_memory.specs.SharedBumpRule.{WordAndLogsAgree, all_parties};
+    ghost use Rattle.bb_memory.specs.SharedBumpRule.{WordsAndLogsAgree, all_parties};
 
-    ghost holds = { WordAndLogsAgree };
+    ghost holds = { WordsAndLogsAgree };
 
     ghost first = { all_parties };
 }

@@ -5,9 +5,9 @@ ghost use Rattle.bb_memory_base.specs.Chunk.{Chunk, AreApart};
 ghost use Rattle.bb_memory_base.specs.LiveList.{IsSound};
 ghost use Rattle.bb_memory_base.specs.BumpObject.{StandsFor, used_space};
 ghost use Rattle.bb_memory_base.specs.BumpMachine.{BumpScene, OngoingCall, IsIdle, IsFitting, IsInCall, exchange_move, left_by, read_move};
-ghost use Rattle.bb_memory_base.specs.BumpHistory.{BumpEntry, HasNoClear, IsLossAt, chunks_won, calls_begun_in, history_of, losses_in, log_of, outcome_after, stretch_after};
+ghost use Rattle.bb_memory_base.specs.BumpHistory.{BumpLog, HasNoClear, IsLossAt, chunks_won, calls_begun_in, entries_by, entry_of, history_of, log_of, losses_in, outcome_after, stretch_after};
 ghost use Rattle.bb_memory_base.specs.BumpCalls.{IsCallRun, OpensWith, calls_after, calls_of, live_after};
-ghost use Rattle.bb_memory_base.specs.BumpLogs.{HasLog, Interleaving, LogsAgree, HasPositionUpTo, call_in, call_through, greatest_in, seen_in, with_entry};
+ghost use Rattle.bb_memory_base.specs.BumpLogs.{AllAllowed, CommonInterleaving, HasLog, Interleaving, LogsAgree, HasPositionUpTo, call_in, call_through, greatest_in, seen_in, with_entry};
 ghost use Rattle.bb_memory_base.specs.declared.layout.Layout.{Layout};
 ghost use Rattle.bb_memory_base.specs.declared.steps.bump.BumpStep.{BumpStep};
 ghost use Rattle.bb_memory_base.specs.declared.steps.bump.BumpStep.TheVariants.{Read, Exchange, Load};
@@ -108,6 +108,11 @@ pub fn bump_theorem()
         → scene.opening ≤ scene.region.size → HasNoClear stretch
         → IsSound scene.region (chunks_won (stretch_after scene before stretch)) }
 
+    // So the object's list is the one before with the chunks won behind it.
+    ensures since { (scene : BumpScene) (live : List Chunk) (steps : List BumpStep)
+        → HasNoClear steps
+        → live_after scene live steps ≡ live ++ chunks_won (history_of scene steps) }
+
     // Each loss raises what a call has seen: where no clear came since the call began, an exchange
     // that is lost finds a greater position than the call has seen.
     ensures raised { (scene : BumpScene) (before stretch : List BumpStep)
@@ -123,8 +128,8 @@ pub fn bump_theorem()
     ensures losses { (scene : BumpScene) (before stretch : List BumpStep) (party : ℕ)
         → scene.opening ≤ scene.region.size
         → IsIdle (left_by scene before) party → HasNoClear stretch
-        → calls_begun_in (log_of party (stretch_after scene before stretch)) ≤ 1
-        → losses_in (log_of party (stretch_after scene before stretch)) ≤ scene.region.size }
+        → calls_begun_in (entries_by party (stretch_after scene before stretch)) ≤ 1
+        → losses_in (entries_by party (stretch_after scene before stretch)) ≤ scene.region.size }
 {}
 
 /// What can be told from the logs of parties, as a bump is that threads share: its word is the position, and each thread
@@ -137,134 +142,175 @@ pub fn bump_log_theorem()
     ensures call { (scene : BumpScene) (steps : List BumpStep) (party : ℕ)
         → party < scene.parties
         → slice_get (left_by scene steps).parties party
-        ≡ Some (call_in (log_of party (history_of scene steps))) }
+        ≡ Some (call_in (log_of scene steps party)) }
 
     // A longer log says what the shorter one says, and then the rest.
-    ensures call_grows { (log more : List BumpEntry)
+    ensures call_grows { (log more : BumpLog)
         → call_in (log ++ more) ≡ call_through (call_in log) more }
-    ensures seen_grows { (scene : BumpScene) (log more : List BumpEntry)
+    ensures seen_grows { (scene : BumpScene) (log more : BumpLog)
         → seen_in scene (log ++ more) ≡ greatest_in scene.region (seen_in scene log) more }
-    ensures won_grows { (log more : List BumpEntry)
+    ensures won_grows { (log more : BumpLog)
         → chunks_won (log ++ more) ≡ chunks_won log ++ chunks_won more }
 
     // Logs that are all empty agree with the opening.
-    ensures opening { (scene : BumpScene) (logs : List (List BumpEntry))
+    ensures opening { (scene : BumpScene) (logs : List BumpLog)
         → All (λ log. log ≡ []) logs
         → LogsAgree scene scene.opening logs }
 
     // Whatever position an idle party's read finds, the logs agree with it once the read is entered.
-    ensures read { (scene : BumpScene) (position party : ℕ)
-        (logs : List (List BumpEntry)) (log : List BumpEntry) (layout : Layout)
+    ensures read { (scene : BumpScene) (position : ℕ) (logs : List BumpLog)
+        (party : ℕ) (log : BumpLog) (layout : Layout)
         → let move = read_move scene.region position layout in
+        let entry = entry_of (Read party layout) move.outcome in
         LogsAgree scene position logs → HasLog logs party log → party < scene.parties
         → call_in log ≡ None → 0 < layout.size
-        → LogsAgree scene position (with_entry logs party log (Read party layout) move.outcome) }
+        → LogsAgree scene position (with_entry logs party log entry) }
 
     // Whatever position an exchange finds, the logs agree with the one that it leaves once the
     // exchange is entered.
-    ensures exchange { (scene : BumpScene) (position party : ℕ)
-        (logs : List (List BumpEntry)) (log : List BumpEntry) (call : OngoingCall)
+    ensures exchange { (scene : BumpScene) (position : ℕ) (logs : List BumpLog)
+        (party : ℕ) (log : BumpLog) (call : OngoingCall)
         → let move = exchange_move scene.region position call in
+        let entry = entry_of (Exchange party) move.outcome in
         LogsAgree scene position logs → HasLog logs party log → party < scene.parties
         → call_in log ≡ Some call
-        → LogsAgree scene move.position (with_entry logs party log (Exchange party) move.outcome) }
+        → LogsAgree scene move.position (with_entry logs party log entry) }
 
     // Whatever position an idle party's load finds, the logs agree with it once the load is entered.
-    ensures load { (scene : BumpScene) (position party : ℕ)
-        (logs : List (List BumpEntry)) (log : List BumpEntry)
-        → LogsAgree scene position logs → HasLog logs party log → party < scene.parties
+    ensures load { (scene : BumpScene) (position : ℕ) (logs : List BumpLog)
+        (party : ℕ) (log : BumpLog)
+        → let entry = entry_of (Load party) (Loaded position) in
+        LogsAgree scene position logs → HasLog logs party log → party < scene.parties
         → call_in log ≡ None
-        → LogsAgree scene position (with_entry logs party log (Load party) (Loaded position)) }
+        → LogsAgree scene position (with_entry logs party log entry) }
 
     // No chunk of one party overlaps a chunk of another.
-    ensures apart { (scene : BumpScene) (position party other : ℕ)
-        (logs : List (List BumpEntry)) (log other_log : List BumpEntry)
+    ensures apart { (scene : BumpScene) (position : ℕ) (logs : List BumpLog)
+        (party : ℕ) (log : BumpLog) (other : ℕ) (other_log : BumpLog)
         → scene.opening ≤ scene.region.size
         → LogsAgree scene position logs
         → HasLog logs party log → HasLog logs other other_log → party ≢ other
         → All (λ chunk. All (AreApart chunk) (chunks_won other_log)) (chunks_won log) }
 
-    // The chunks of one party are a sound list.
-    ensures own { (scene : BumpScene) (position party : ℕ)
-        (logs : List (List BumpEntry)) (log : List BumpEntry)
-        → scene.opening ≤ scene.region.size
-        → LogsAgree scene position logs → HasLog logs party log
-        → IsSound scene.region (chunks_won log) }
-
-    // They are apart from each chunk of a list that the opening stands for.
-    ensures older { (scene : BumpScene) (live : List Chunk) (position party : ℕ)
-        (logs : List (List BumpEntry)) (log : List BumpEntry)
-        → scene.opening ≤ scene.region.size → OpensWith scene live
-        → LogsAgree scene position logs → HasLog logs party log
-        → All (λ older. All (AreApart older) (chunks_won log)) live }
-
-    // A bump at the position stands for what the opening stands for, and all chunks that were won since.
-    ensures since { (scene : BumpScene) (live : List Chunk) (position : ℕ)
-        (logs : List (List BumpEntry))
-        → scene.opening ≤ scene.region.size → OpensWith scene live
-        → (agree : LogsAgree scene position logs)
-        → StandsFor scene.region position (live ++ chunks_won (history_of scene agree.steps)) }
-
-    // The position is at least each one that a party has found, or made by a win.
-    ensures found { (scene : BumpScene) (position party : ℕ)
-        (logs : List (List BumpEntry)) (log : List BumpEntry)
-        → LogsAgree scene position logs → HasLog logs party log
-        → All (HasPositionUpTo position scene.region) log }
-
-    // So it is at least what a party has seen.
-    ensures seen { (scene : BumpScene) (position party : ℕ)
-        (logs : List (List BumpEntry)) (log : List BumpEntry)
-        → LogsAgree scene position logs → HasLog logs party log
-        → seen_in scene log ≤ position }
-
-    // It is exactly that where there is one party.
-    ensures alone { (scene : BumpScene) (position : ℕ)
-        (logs : List (List BumpEntry)) (log : List BumpEntry)
+    // Where there is one party, the position is exactly what it has seen.
+    ensures alone { (scene : BumpScene) (position : ℕ) (logs : List BumpLog) (log : BumpLog)
         → scene.parties ≡ 1
         → LogsAgree scene position logs → HasLog logs 0 log
         → position ≡ seen_in scene log }
 
-    // The position is never below the opening.
-    ensures risen { (scene : BumpScene) (position : ℕ) (logs : List (List BumpEntry))
+    // The position is at least each one that a party has found, or made by a win.
+    ensures found { (scene : BumpScene) (position : ℕ) (logs : List BumpLog)
+        (party : ℕ) (log : BumpLog)
+        → LogsAgree scene position logs → HasLog logs party log
+        → All (HasPositionUpTo position scene.region) log }
+
+    // So it is at least what a party has seen.
+    ensures seen { (scene : BumpScene) (position : ℕ) (logs : List BumpLog)
+        (party : ℕ) (log : BumpLog)
+        → LogsAgree scene position logs → HasLog logs party log
+        → seen_in scene log ≤ position }
+
+    // It is never below the opening.
+    ensures risen { (scene : BumpScene) (position : ℕ) (logs : List BumpLog)
         → LogsAgree scene position logs
         → scene.opening ≤ position }
 
-    // The position is never above the region's size.
-    ensures within { (scene : BumpScene) (position : ℕ) (logs : List (List BumpEntry))
+    // It is never above the region's size.
+    ensures within { (scene : BumpScene) (position : ℕ) (logs : List BumpLog)
         → scene.opening ≤ scene.region.size → LogsAgree scene position logs
         → position ≤ scene.region.size }
 
     // A call that is under way has seen no more than the position.
-    ensures call_seen { (scene : BumpScene) (position party : ℕ)
-        (logs : List (List BumpEntry)) (log : List BumpEntry) (call : OngoingCall)
+    ensures call_seen { (scene : BumpScene) (position : ℕ) (logs : List BumpLog)
+        (party : ℕ) (log : BumpLog) (call : OngoingCall)
         → LogsAgree scene position logs → HasLog logs party log → party < scene.parties
         → call_in log ≡ Some call
         → call.seen ≤ position }
 
     // It asks for something, which fits at what it has seen.
-    ensures call_fits { (scene : BumpScene) (position party : ℕ)
-        (logs : List (List BumpEntry)) (log : List BumpEntry) (call : OngoingCall)
+    ensures call_fits { (scene : BumpScene) (position : ℕ) (logs : List BumpLog)
+        (party : ℕ) (log : BumpLog) (call : OngoingCall)
         → LogsAgree scene position logs → HasLog logs party log → party < scene.parties
         → call_in log ≡ Some call
         → IsFitting scene.region call }
 
-    // An interleaving of each party's log with some logs of the others leaves the position.
-    ensures interleaved { (scene : BumpScene) (position party : ℕ)
-        (logs : List (List BumpEntry)) (log : List BumpEntry)
+    // The chunks of one party are a sound list.
+    ensures own { (scene : BumpScene) (position : ℕ) (logs : List BumpLog)
+        (party : ℕ) (log : BumpLog)
+        → scene.opening ≤ scene.region.size
+        → LogsAgree scene position logs → HasLog logs party log
+        → IsSound scene.region (chunks_won log) }
+
+    // They are apart from each chunk of a list that the opening stands for.
+    ensures older { (scene : BumpScene) (position : ℕ) (logs : List BumpLog)
+        (party : ℕ) (log : BumpLog) (live : List Chunk)
+        → OpensWith scene live
+        → LogsAgree scene position logs → HasLog logs party log
+        → All (λ older. All (AreApart older) (chunks_won log)) live }
+
+    // The object's list is the one that was live at the opening, with all chunks that were won since
+    // behind it.
+    ensures since { (scene : BumpScene) (position : ℕ) (logs : List BumpLog) (live : List Chunk)
+        (agree : LogsAgree scene position logs)
+        → live_after scene live agree.steps
+        ≡ live ++ chunks_won (history_of scene agree.steps) }
+
+    // A bump at the position stands for it.
+    ensures since_stands { (scene : BumpScene) (position : ℕ) (logs : List BumpLog)
+        (live : List Chunk)
+        → OpensWith scene live
+        → (agree : LogsAgree scene position logs)
+        → StandsFor scene.region position (live ++ chunks_won (history_of scene agree.steps)) }
+
+    // A party that was not made has no step that is allowed.
+    ensures nobody_else { (scene : BumpScene) (steps : List BumpStep) (party : ℕ)
+        → scene.parties ≤ party → AllAllowed (history_of scene steps)
+        → log_of scene steps party ≡ [] }
+
+    // Each party's log stands in an interleaving with some logs of the others, which leaves the
+    // position.
+    ensures interleaved { (scene : BumpScene) (position : ℕ) (logs : List BumpLog)
+        (party : ℕ) (log : BumpLog)
         → LogsAgree scene position logs → HasLog logs party log
         → Interleaving scene party log position }
 
-    // The calls of such an interleaving are a run of the bump object, from each live list that the
-    // opening stands for.
-    ensures run { (scene : BumpScene) (live : List Chunk) (party position : ℕ)
-        (log : List BumpEntry) (interleaving : Interleaving scene party log position)
+    // Two parties' logs stand in one.
+    ensures both_interleaved { (scene : BumpScene) (position : ℕ) (logs : List BumpLog)
+        (party : ℕ) (log : BumpLog) (other : ℕ) (other_log : BumpLog)
+        → LogsAgree scene position logs → HasLog logs party log → HasLog logs other other_log
+        → CommonInterleaving scene party log other other_log position }
+
+    // The calls of an interleaving are a run of the bump object, from each live list that the opening
+    // stands for.
+    ensures run { (scene : BumpScene) (position party : ℕ) (log : BumpLog) (live : List Chunk)
+        (interleaving : Interleaving scene party log position)
         → OpensWith scene live
         → IsCallRun scene.region live (calls_of scene interleaving.steps)
         (live_after scene live interleaving.steps) }
 
-    // A bump at the position stands for the live list that this run leaves.
-    ensures stands { (scene : BumpScene) (live : List Chunk) (party position : ℕ)
-        (log : List BumpEntry) (interleaving : Interleaving scene party log position)
+    // A bump at the position that it leaves stands for the live list that this run leaves.
+    ensures stands { (scene : BumpScene) (position party : ℕ) (log : BumpLog) (live : List Chunk)
+        (interleaving : Interleaving scene party log position)
         → OpensWith scene live
         → StandsFor scene.region position (live_after scene live interleaving.steps) }
+
+    // One interleaving is enough for what is said of chunks: for `own`, `older`, `since` and `apart`.
+    ensures interleaved_own { (scene : BumpScene) (position party : ℕ) (log : BumpLog)
+        → scene.opening ≤ scene.region.size
+        → Interleaving scene party log position
+        → IsSound scene.region (chunks_won log) }
+    ensures interleaved_older { (scene : BumpScene) (position party : ℕ) (log : BumpLog)
+        (live : List Chunk)
+        → OpensWith scene live
+        → Interleaving scene party log position
+        → All (λ older. All (AreApart older) (chunks_won log)) live }
+    ensures interleaved_since { (scene : BumpScene) (position party : ℕ) (log : BumpLog)
+        (live : List Chunk) (interleaving : Interleaving scene party log position)
+        → live_after scene live interleaving.steps
+        ≡ live ++ chunks_won (history_of scene interleaving.steps) }
+    ensures interleaved_apart { (scene : BumpScene) (position party : ℕ) (log : BumpLog)
+        (other : ℕ) (other_log : BumpLog)
+        → scene.opening ≤ scene.region.size
+        → CommonInterleaving scene party log other other_log position → party ≢ other
+        → All (λ chunk. All (AreApart chunk) (chunks_won other_log)) (chunks_won log) }
 {}

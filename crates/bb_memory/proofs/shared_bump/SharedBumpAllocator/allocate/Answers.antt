@@ -1,36 +1,52 @@
-use Rattle.std.proofs.Common.{[], ◌∷◌, append-nil, ap, sym, ◌∙◌}
+use Rattle.std.proofs.Common.{[], ◌∷◌, append-nil, ap, ◌∙◌}
 use Rattle.bb_memory_base.specs.BumpHistory.{chunks_won}
-use Rattle.bb_memory.proofs.SharedBumpRequests.{ended_by, found_by, won_then}
+use Rattle.bb_memory.specs.Seats.{number_of, view_log}
+use Rattle.bb_memory.proofs.SharedBumpAnswers.{ended_by, found_by, lost_by, nothing_found, nothing_lost, won_by}
 use Rattle.bb_memory.proofs.shared_bump.SharedBumpAllocator.allocate.Goals.{in-Some, in-None}
 use Rattle.bb_memory.proofs.shared_bump.SharedBumpAllocator.allocate.Goals as goal
+
+pub returns-then-size-eq0-clause-found : goal.returns-then-size-eq0-clause-found
+returns-then-size-eq0-clause-found c = nothing_found c.args.party.now
+
+pub returns-then-size-eq0-clause-losses : goal.returns-then-size-eq0-clause-losses
+returns-then-size-eq0-clause-losses c = λ added. nothing_lost c.args.party.now added c.args.self.now.scene.region.size
 
 pub returns-clause-found : goal.returns-clause-found
 returns-clause-found c =
     let scene = c.args.self.now.scene in
     let old = c.party.inside.seat.me in
-    let ended = ended_by scene c.args.layout old c.claim.new.seat.me c.claim.result c.claim.ensures.call in
-    found_by scene old c.claim.new.seat.me ended.0 c.args.party.now ended.1 (ap (λ b. b.scene) c.requires.party) (sym (ap (λ p. p.log) c.party.view_is))
+    let new = c.claim.new.seat.me in
+    let ended = ended_by scene (number_of old.0) (view_log old.0) c.args.layout new c.claim.result c.claim.ensures.call in
+    found_by scene c.claim.new.seat.table_id c.party.inside.seat.table_id c.party.inside.number old new c.args.party.now
+    c.claim.ensures.table c.party.view_is (ap (λ b. b.scene) c.requires.party) ended.0 ended.1
 
-pub returns-clause-won : goal.returns-clause-won
-returns-clause-won c =
+pub returns-clause-losses : goal.returns-clause-losses
+returns-clause-losses c =
     let scene = c.args.self.now.scene in
     let old = c.party.inside.seat.me in
     let new = c.claim.new.seat.me in
-    let log_is = sym (ap (λ p. p.log) c.party.view_is) in
+    let ended = ended_by scene (number_of old.0) (view_log old.0) c.args.layout new c.claim.result c.claim.ensures.call in
+    lost_by scene c.claim.new.seat.table_id c.party.inside.seat.table_id c.party.inside.number old new c.args.party.now
+    c.claim.ensures.table c.party.view_is (ap (λ b. b.scene) c.requires.party) ended.0 ended.1
+
+pub returns-clause-won : goal.returns-clause-won
+returns-clause-won c =
+    let old = c.party.inside.seat.me in
+    let chunks = won_by c.args.self.now.scene c.claim.new.seat.table_id c.party.inside.seat.table_id c.party.inside.number old
+    c.claim.new.seat.me c.args.party.now c.claim.ensures.table c.party.view_is (ap (λ b. b.scene) c.requires.party) in
     elim c.match-claim.branch [
       | in-Some w ↦ (let won = w.in-Some.ensures.call in
-          rw w.result-is (won_then scene old new won.added c.args.party.now.log (w.in-Some.chunk ∷ []) won.ended log_is won.chunks))
+          rw w.result-is (chunks won.added (w.in-Some.chunk ∷ []) won.ended won.chunks))
       | in-None w ↦ rw w.result-is tt
     ]
 
 pub returns-clause-none_won : goal.returns-clause-none_won
 returns-clause-none_won c =
-    let scene = c.args.self.now.scene in
     let old = c.party.inside.seat.me in
-    let new = c.claim.new.seat.me in
-    let log_is = sym (ap (λ p. p.log) c.party.view_is) in
+    let chunks = won_by c.args.self.now.scene c.claim.new.seat.table_id c.party.inside.seat.table_id c.party.inside.number old
+    c.claim.new.seat.me c.args.party.now c.claim.ensures.table c.party.view_is (ap (λ b. b.scene) c.requires.party) in
     elim c.match-claim.branch [
       | in-Some w ↦ rw w.result-is tt
       | in-None w ↦ (let refused = w.in-None.ensures.call in
-          rw w.result-is (won_then scene old new refused.added c.args.party.now.log [] refused.ended log_is refused.chunks ∙ append-nil (chunks_won c.args.party.now.log)))
+          rw w.result-is (chunks refused.added [] refused.ended refused.chunks ∙ append-nil (chunks_won c.args.party.now.log)))
     ]

@@ -1,40 +1,49 @@
 use Rattle.std.proofs.Common.{◌∙◌, arith}
+use Rattle.bb_memory.specs.Seats.{number_of, view_log}
 use Rattle.bb_memory.proofs.SharedBumpRequests.{begins, goes_on, raises, refused_at_once, refused_later, wins}
 use Rattle.bb_memory.proofs.shared_bump.SharedBumpAllocator.claim.Goals as goal
 
 pub returns-in-None-clause-call : goal.returns-in-None-clause-call
 returns-in-None-clause-call g c =
-    refused_at_once c.args.seat.now.me c.read-seen.new.seat.me c.args.self.now.scene c.args.layout c.read-seen.result
-    c.requires.seat.alone c.read-seen.ensures.step c.in-None.ensures.fits
+    let me = c.args.seat.now.me in
+    refused_at_once c.args.self.now.scene (number_of me.0) (view_log me.0) c.args.layout c.read-seen.result c.read-seen.new.seat.me
+    c.read-seen.ensures.step c.in-None.ensures.fits
 
 pub loop-seen-init : goal.loop-seen-init
-loop-seen-init g c = record {
-  table = c.read-seen.ensures.table;
-  trying = begins c.args.seat.now.me c.read-seen.new.seat.me c.args.self.now.scene c.args.layout c.read-seen.result
-      c.requires.seat.alone c.read-seen.ensures.step c.in-Some.ensures.fits.0;
-  placed = c.in-Some.ensures.fits.1;
-  inside = c.in-Some.ensures.inside;
-  aligned = c.in-Some.ensures.aligned;
-}
+loop-seen-init g c =
+    let me = c.args.seat.now.me in record {
+      table = c.read-seen.ensures.table;
+      trying = begins c.args.self.now.scene (number_of me.0) (view_log me.0) c.args.layout c.read-seen.result
+          c.read-seen.new.seat.me c.read-seen.ensures.step c.in-Some.ensures.fits.0;
+      placed = c.in-Some.ensures.fits.1;
+      inside = c.in-Some.ensures.inside;
+      aligned = c.in-Some.ensures.aligned;
+    }
 
 pub returns-then-found-seen-clause-call : goal.returns-then-found-seen-clause-call
 returns-then-found-seen-clause-call g c =
+    let me = c.args.seat.now.me in
     let before = c.loop-seen.invariant in
-    wins c.args.seat.now.me c.loop-seen.seat.me c.exchange-found.new.seat.me c.args.self.now.scene c.args.layout c.loop-seen.seen c.exchange-found.result
-    before.trying c.exchange-found.ensures.step c.loop-seen.chunk c.if-found-seen.true before.placed before.inside.below
+    wins c.args.self.now.scene (number_of me.0) (view_log me.0) c.args.layout c.loop-seen.seen c.exchange-found.result
+    c.loop-seen.seat.me c.exchange-found.new.seat.me before.trying c.exchange-found.ensures.step
+    c.loop-seen.chunk c.if-found-seen.true before.placed before.inside.below
 
 pub returns-in-None-place-clause-call : goal.returns-in-None-place-clause-call
 returns-in-None-place-clause-call g c =
+    let me = c.args.seat.now.me in
     let before = c.loop-seen.invariant in
-    refused_later c.args.seat.now.me c.loop-seen.seat.me c.exchange-found.new.seat.me c.args.self.now.scene c.args.layout c.loop-seen.seen c.exchange-found.result
-    before.trying c.exchange-found.ensures.step c.if-found-seen.false c.in-None-place.ensures.fits
+    refused_later c.args.self.now.scene (number_of me.0) (view_log me.0) c.args.layout c.loop-seen.seen c.exchange-found.result
+    c.loop-seen.seat.me c.exchange-found.new.seat.me before.trying c.exchange-found.ensures.step
+    c.if-found-seen.false c.in-None-place.ensures.fits
 
 pub loop-seen-preserved : goal.loop-seen-preserved
 loop-seen-preserved g c =
+    let me = c.args.seat.now.me in
     let before = c.loop-seen.invariant in record {
       table = c.exchange-found.ensures.table ∙ before.table;
-      trying = goes_on c.args.seat.now.me c.loop-seen.seat.me c.exchange-found.new.seat.me c.args.self.now.scene c.args.layout c.loop-seen.seen c.exchange-found.result
-          before.trying c.exchange-found.ensures.step c.if-found-seen.false c.in-Some-place.ensures.fits.0;
+      trying = goes_on c.args.self.now.scene (number_of me.0) (view_log me.0) c.args.layout c.loop-seen.seen c.exchange-found.result
+          c.loop-seen.seat.me c.exchange-found.new.seat.me before.trying c.exchange-found.ensures.step
+          c.if-found-seen.false c.in-Some-place.ensures.fits.0;
       placed = c.in-Some-place.ensures.fits.1;
       inside = c.in-Some-place.ensures.inside;
       aligned = c.in-Some-place.ensures.aligned;
@@ -42,12 +51,14 @@ loop-seen-preserved g c =
 
 pub place-requires-in-loop-seen : goal.place-requires-in-loop-seen
 place-requires-in-loop-seen g c =
-    (raises c.args.seat.now.me c.loop-seen.seat.me c.exchange-found.new.seat.me c.args.self.now.scene c.args.layout c.loop-seen.seen c.exchange-found.result
-    c.loop-seen.invariant.trying c.exchange-found.ensures.step).1
+    let me = c.args.seat.now.me in
+    (raises c.args.self.now.scene (number_of me.0) (view_log me.0) c.args.layout c.loop-seen.seen c.exchange-found.result
+    c.loop-seen.seat.me c.exchange-found.new.seat.me c.loop-seen.invariant.trying c.exchange-found.ensures.step).1
 
 pub loop-seen-smaller : goal.loop-seen-smaller
 loop-seen-smaller g c =
-    let up = raises c.args.seat.now.me c.loop-seen.seat.me c.exchange-found.new.seat.me c.args.self.now.scene c.args.layout c.loop-seen.seen c.exchange-found.result
-    c.loop-seen.invariant.trying c.exchange-found.ensures.step in
+    let me = c.args.seat.now.me in
+    let up = raises c.args.self.now.scene (number_of me.0) (view_log me.0) c.args.layout c.loop-seen.seen c.exchange-found.result
+    c.loop-seen.seat.me c.exchange-found.new.seat.me c.loop-seen.invariant.trying c.exchange-found.ensures.step in
     let apart = c.if-found-seen.false in
     omega (arith, up, apart)

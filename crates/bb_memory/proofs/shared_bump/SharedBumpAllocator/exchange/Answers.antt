@@ -2,17 +2,23 @@ use Rattle.std.proofs.Common.{[], sym, ap, ◌∙◌, arith}
 use Rattle.bb_memory_base.specs.BumpMachine.{BumpScene, chunk_at, position_behind}
 use Rattle.bb_memory.specs.Seats.{alone, number_of, view_log}
 use Rattle.bb_memory.proofs.SharedBumpKeeps.{exchanges_as}
+use Rattle.bb_memory.proofs.SharedBumpParties.{told_exchange}
 use Rattle.bb_memory.proofs.shared_bump.SharedBumpAllocator.exchange.Goals as goal
 
 pub compare_exchange-requires : goal.compare_exchange-requires
 compare_exchange-requires c =
     let fields = c.self.invariant in
     let me = c.args.seat.now.me in
-    let seat = c.requires.seat in
     let scene = ap (λ b. b.scene) c.self.view_is in (
-      seat.of_table ∙ sym (ap (λ b. b.table) c.self.view_is),
+      c.requires.table ∙ sym (ap (λ b. b.table) c.self.view_is),
       omega (arith, fields.words),
       exchanges_as c.self.inside.table.shared.key _ _ (number_of me.0) c.args.layout c.args.seen c.args.behind (view_log me.0) me
-          (seat.alone ∙ ap (λ s. (alone s (number_of me.0) (view_log me.0), [])) (sym scene)) c.requires.call
+          (c.requires.seat.is ∙ ap (λ s. (alone s (number_of me.0) (view_log me.0), [])) (sym scene)) c.requires.call
           (c.requires.behind ∙ ap (λ (s : BumpScene). position_behind s.region (chunk_at s.region c.args.seen c.args.layout)) (sym scene)),
     )
+
+pub returns-clause-step : goal.returns-clause-step
+returns-clause-step c =
+    let me = c.args.seat.now.me in
+    told_exchange c.args.self.now.scene (number_of me.0) (view_log me.0) c.compare_exchange.result me c.compare_exchange.new.seat.me
+    c.requires.seat c.compare_exchange.ensures.2

@@ -2,12 +2,12 @@ use Rattle.std.proofs.Common.{◌≡◌, ℕ, ◌+◌, ◌≤◌, [], ◌∷◌,
 use Rattle.std.specs.Prelude.{All, slice_get}
 use Rattle.std.proofs.lemmas.List.Elements.{All-push}
 use Rattle.atomic_table.specs.Table.{Me}
-use Rattle.bb_memory.specs.SharedBump.{BumpParty, fresh_party}
-use Rattle.bb_memory.specs.SharedBumpFields.{party_of}
+use Rattle.bb_memory.specs.SharedBump.{BumpParty, IsSharedScene, SharedBump, fresh_party}
 use Rattle.bb_memory.specs.Seats.{first_of, others_of, standing_for, view_log}
-use Rattle.bb_memory.specs.SharedBumpRule.{NumberedLog, SeatView}
+use Rattle.bb_memory.specs.SharedBumpRule.{NumberedLog, SeatView, party_in}
+use Rattle.bb_memory_base.proofs.BumpAllowed.{none_allowed}
 use Rattle.bb_memory.proofs.Seatings.{fresh_more, given_more}
-use Rattle.bb_memory.proofs.SharedBumpParties.{party_seated}
+use Rattle.bb_memory.proofs.SharedBumpParties.{party_seat}
 use Rattle.bb_memory.proofs.SharedBumpSeats.{gives_first}
 use Rattle.bb_memory.proofs.shared_bump.SharedBumpAllocator.seat_parties.Goals as goal
 
@@ -25,11 +25,13 @@ invariant_of-push_reserved c =
     let number = c.loop-number.number in
     let is = c.loop-number.invariant.rest ∙ ap (λ (parties : List NumberedLog). (standing_for scene parties, [])) (fresh_more number c.args.parties (omega arith)) in
     let seated = c.split_seat-seat.ensures.4 ∙ ap (λ (m : Me ℕ SeatView). (first_of m.0, [])) is in
-    party_seated c.split_seat-seat.result.table_id c.split_seat-seat.result.me scene number [] seated record {
-      number = omega (arith, c.requires.parties);
+    party_seat scene number [] c.split_seat-seat.result.me
+    record {
+      seat = record { is = seated; interleaved = record { steps = []; allowed = none_allowed; leaves = refl; logged = refl } };
       idle = refl;
-      history = record { steps = []; allowed = tt; leaves = refl; logged = refl };
     }
+    (omega (arith, c.requires.parties))
+    (subst IsSharedScene (ap (λ (b : SharedBump). b.scene) c.self.view_is) c.self.invariant.shared)
 
 pub loop-number-preserved : goal.loop-number-preserved
 loop-number-preserved c =
@@ -41,9 +43,9 @@ loop-number-preserved c =
     let split = c.split_seat-seat.ensures in
     let is = before.rest ∙ ap (λ (parties : List NumberedLog). (standing_for scene parties, [])) (fresh_more number count (omega arith)) in
     let seated = split.4 ∙ ap (λ (m : Me ℕ SeatView). (first_of m.0, [])) is in
-    let value : BumpParty = party_of c.split_seat-seat.result.table_id c.split_seat-seat.result.me number in
+    let value : BumpParty = party_in c.split_seat-seat.result.table_id number c.split_seat-seat.result.me.0 in
     let value_is : value ≡ fresh_party bump number = λ j. record {
-      allocator = record { table = (split.3 ∙ before.table) j; scene = ap (λ (m : Me ℕ SeatView). m.0.figures) seated j };
+      allocator = record { table = (split.3 ∙ before.table) j; scene = ap (λ (m : Me ℕ SeatView). m.0.scene) seated j };
       number = number;
       log = ap (λ (m : Me ℕ SeatView). view_log m.0) seated j;
     } in

@@ -1,8 +1,9 @@
+use Rattle.bb_memory_base.proofs.BumpAllowed.{nobody_else}
 use Rattle.bb_memory_base.proofs.BumpLogs.{party_call, opening_agrees, read_agrees, exchange_agrees, load_agrees}
-use Rattle.bb_memory_base.proofs.BumpMeetings.{chunks_apart}
-use Rattle.bb_memory_base.proofs.BumpPositions.{position_above_log, seen_below, alone_exact, position_risen, position_within, call_sees, call_fits, interleaved, interleaving_stands}
+use Rattle.bb_memory_base.proofs.BumpMeetings.{chunks_apart, common_apart}
+use Rattle.bb_memory_base.proofs.BumpPositions.{position_above_log, seen_below, alone_exact, position_risen, position_within, call_sees, call_fits, interleaved, both_interleaved, interleaving_stands}
 use Rattle.bb_memory_base.proofs.BumpRuns.{calls_run}
-use Rattle.bb_memory_base.proofs.OwnChunks.{own_sound, older_apart, agreed_stands}
+use Rattle.bb_memory_base.proofs.OwnChunks.{own_sound, older_apart, agreed_since, agreed_stands, interleaved_own, interleaved_older, interleaved_since}
 use Rattle.std.proofs.Common.{None}
 use Rattle.bb_memory_base.proofs.BumpBounds.{call_grows, seen_grows, won_grows}
 use Rattle.bb_memory_base.proofs.steps.bump.bump_log_theorem.Goals as goal
@@ -32,7 +33,28 @@ pub returns-clause-older : goal.returns-clause-older
 returns-clause-older c = older_apart
 
 pub returns-clause-since : goal.returns-clause-since
-returns-clause-since c = agreed_stands
+returns-clause-since c = agreed_since
+
+pub returns-clause-since_stands : goal.returns-clause-since_stands
+returns-clause-since_stands c = agreed_stands
+
+pub returns-clause-nobody_else : goal.returns-clause-nobody_else
+returns-clause-nobody_else c = nobody_else
+
+pub returns-clause-both_interleaved : goal.returns-clause-both_interleaved
+returns-clause-both_interleaved c = both_interleaved
+
+pub returns-clause-interleaved_own : goal.returns-clause-interleaved_own
+returns-clause-interleaved_own c = interleaved_own
+
+pub returns-clause-interleaved_older : goal.returns-clause-interleaved_older
+returns-clause-interleaved_older c = interleaved_older
+
+pub returns-clause-interleaved_since : goal.returns-clause-interleaved_since
+returns-clause-interleaved_since c = interleaved_since
+
+pub returns-clause-interleaved_apart : goal.returns-clause-interleaved_apart
+returns-clause-interleaved_apart c = common_apart
 
 pub returns-clause-found : goal.returns-clause-found
 returns-clause-found c = position_above_log
@@ -59,7 +81,7 @@ pub returns-clause-interleaved : goal.returns-clause-interleaved
 returns-clause-interleaved c = interleaved
 
 pub returns-clause-run : goal.returns-clause-run
-returns-clause-run c = λ scene live party position log interleaving. calls_run scene live interleaving.steps
+returns-clause-run c = λ scene position party log live interleaving. calls_run scene live interleaving.steps
 
 pub returns-clause-stands : goal.returns-clause-stands
 returns-clause-stands c = interleaving_stands

@@ -1,6 +1,6 @@
 use Rattle.bb_memory_base.proofs.LiveLists.{stands_for_some}
 use Rattle.bb_memory_base.proofs.BumpRuns.{calls_run, calls_beginning, calls_stand, position_used, live_sound, load_finds}
-use Rattle.bb_memory_base.proofs.BumpStretches.{won_sound}
+use Rattle.bb_memory_base.proofs.BumpStretches.{live_grows, won_sound}
 use Rattle.bb_memory_base.proofs.BumpLosses.{losses_raise, losses_few}
 use Rattle.bb_memory_base.proofs.BumpBounds.{position_in_size, seen_in_size}
 use Rattle.bb_memory_base.proofs.steps.bump.bump_theorem.Goals as goal
@@ -28,6 +28,9 @@ returns-clause-sound c = live_sound
 
 pub returns-clause-won : goal.returns-clause-won
 returns-clause-won c = won_sound
+
+pub returns-clause-since : goal.returns-clause-since
+returns-clause-since c = live_grows
 
 pub returns-clause-raised : goal.returns-clause-raised
 returns-clause-raised c = losses_raise

@@ -36,9 +36,9 @@ load-requires c =
     let me = c.one.inside.seat.me in
     let other = c.other.inside.seat.me in
     let pool = ap (λ (p : Party). p.pool) c.one.view_is ∙ c.requires.one ∙ sym c.self.view_is in
-    let figures : me.0.figures ≡ key = ap figures_of pool ∙ sym c.self.invariant.0 in
+    let figures : me.0.scene ≡ key = ap figures_of pool ∙ sym c.self.invariant.0 in
     let is = c.one.invariant.seat.seat.is ∙ ap (λ (f : PoolFigures). (alone f (number_of me.0) (view_log me.0), [])) figures in
-    let both = gathered key other.0.figures (number_of me.0) (number_of other.0) (view_log me.0) (view_log other.0) me other
+    let both = gathered key other.0.scene (number_of me.0) (number_of other.0) (view_log me.0) (view_log other.0) me other
     c.split_seat-guest.result.me c.join_seat.new.seat.me is c.other.invariant.seat.seat.is c.split_seat-guest.ensures.4
     c.join_seat.ensures.2 in (
       c.join_seat.ensures.0 ∙ ap (λ (p : SharedPool). p.table) pool,

@@ -1,12 +1,13 @@
-//! The steps of a request, on the seat of its party: a read, and exchanges until one wins or the layout no longer fits.
+//! The steps on the position, at the seat of their party. A request is a read, and exchanges until one wins or the layout no
+//! longer fits.
 ghost use Rattle.std.specs.Prelude.{◌≡◌, ◌+◌, ◌<◌, ◌≤◌, ◌%◌, [], false, true, IfSome, None, Some, MatchOption};
 ghost use Rattle.bb_memory_base.specs.Region.{region_end};
 ghost use Rattle.bb_memory_base.specs.Chunk.{IsInside, chunk_end};
 ghost use Rattle.bb_memory_base.specs.BumpMachine.{chunk_at, fits, position_behind};
 ghost use Rattle.bb_memory_base.specs.BumpLogs.{call_in};
-ghost use Rattle.bb_memory.specs.Seats.{alone, number_of, view_log};
-ghost use Rattle.bb_memory.specs.SharedBumpSteps.{TellsExchange, TellsRead};
-ghost use Rattle.bb_memory.specs.SharedBumpRequests.{HasRefused, HasWon, IsSeatOf};
+ghost use Rattle.bb_memory.specs.Seats.{number_of, view_log};
+ghost use Rattle.bb_memory.specs.SharedBumpRule.{IsSeatOf, IsSeatOfIdle};
+ghost use Rattle.bb_memory.specs.SharedBumpSteps.{HasRefused, HasWon, TellsExchange, TellsRead};
 
 use super::SharedBumpAllocator;
 use super::rule::{Asked, Exchanges, Reads, View};
@@ -16,13 +17,15 @@ use atomic_table::Seat;
 impl SharedBumpAllocator {
     /// Asks until it wins a chunk or is refused. The layout isn't of size 0.
     pub(super) fn claim<L: Asked>(&self, seat: &mut Seat<u8, View>, layout: Layout) -> Option<Chunk>
-        requires seat { IsSeatOf self.now seat.old.table_id seat.old.me }
-        requires idle { call_in (view_log seat.old.me.0) ≡ None }
+        requires table { seat.old.table_id ≡ self.now.table }
+        requires seat { IsSeatOfIdle self.now.scene (number_of seat.old.me.0) (view_log seat.old.me.0)
+            seat.old.me }
         requires asks { 0 < layout.size }
         requires asked { L.layout ≡ Some layout }
         ensures table { seat.new.table_id ≡ seat.old.table_id }
-        ensures call { MatchOption result (HasRefused self.now.scene layout seat.old.me seat.new.me)
-            (HasWon self.now.scene layout seat.old.me seat.new.me) }
+        ensures call { MatchOption result
+            (HasRefused self.now.scene (number_of seat.old.me.0) (view_log seat.old.me.0) layout seat.new.me)
+            (HasWon self.now.scene (number_of seat.old.me.0) (view_log seat.old.me.0) layout seat.new.me) }
         ensures aligned { IfSome result (λ chunk. chunk.place % layout.align ≡ 0) }
         ensures inside { IfSome result (IsInside self.now.scene.region) }
     {
@@ -59,12 +62,14 @@ impl SharedBumpAllocator {
 
     /// The read that begins a request. For which layout it is, the step says by its type.
     fn read<L: Asked>(&self, seat: &mut Seat<u8, View>, _layout: Layout) -> usize
-        requires seat { IsSeatOf self.now seat.old.table_id seat.old.me }
-        requires idle { call_in (view_log seat.old.me.0) ≡ None }
+        requires table { seat.old.table_id ≡ self.now.table }
+        requires seat { IsSeatOfIdle self.now.scene (number_of seat.old.me.0) (view_log seat.old.me.0)
+            seat.old.me }
         requires asks { 0 < _layout.size }
         requires asked { L.layout ≡ Some _layout }
         ensures table { seat.new.table_id ≡ seat.old.table_id }
-        ensures step { TellsRead _layout seat.old.me result seat.new.me }
+        ensures step { TellsRead self.now.scene (number_of seat.old.me.0) (view_log seat.old.me.0) _layout
+            result seat.new.me }
     {
         self.table.shared.load::<Reads<L>>(seat, 0) as usize
     }
@@ -77,11 +82,14 @@ impl SharedBumpAllocator {
         seen: usize,
         behind: usize,
     ) -> usize
-        requires seat { IsSeatOf self.now seat.old.table_id seat.old.me }
+        requires table { seat.old.table_id ≡ self.now.table }
+        requires seat { IsSeatOf self.now.scene (number_of seat.old.me.0) (view_log seat.old.me.0)
+            seat.old.me }
         requires call { call_in (view_log seat.old.me.0) ≡ Some (record { layout = layout; seen = seen }) }
         requires behind { behind ≡ position_behind self.now.scene.region (chunk_at self.now.scene.region seen layout) }
         ensures table { seat.new.table_id ≡ seat.old.table_id }
-        ensures step { TellsExchange seat.old.me result seat.new.me }
+        ensures step { TellsExchange self.now.scene (number_of seat.old.me.0) (view_log seat.old.me.0) result
+            seat.new.me }
     {
         self.table
             .shared

@@ -1,0 +1,96 @@
+-- What a request that has ended says of its answer and of its party.
+use Rattle.std.proofs.Common.{◌≡◌, ℕ, ◌≤◌, List, [], ◌∷◌, ◌++◌, length, refl, sym, ap, ◌∙◌, subst, append-nil, arith, Option, Some, None, Ok, Err}
+use Rattle.std.specs.Prelude.{◌<◌, MatchOption, drop}
+use Rattle.std.specs.List.{All}
+use Rattle.std.proofs.Math.Seq.{drop-append_seam}
+use Rattle.std.proofs.lemmas.List.Elements.{All-nil}
+use Rattle.atomic_table.specs.Seated.{TableId}
+use Rattle.atomic_table.specs.Table.{Me}
+use Rattle.bb_memory_base.specs.Chunk.{Chunk}
+use Rattle.bb_memory_base.specs.BumpMachine.{BumpScene}
+use Rattle.bb_memory_base.specs.BumpHistory.{BumpLog, chunks_won, losses_in}
+use Rattle.bb_memory_base.specs.BumpLogs.{HasPositionUpTo}
+use Rattle.bb_memory_base.specs.declared.layout.Layout.{Layout}
+use Rattle.bb_memory_base.specs.declared.allocator.AllocationError.TheVariants.{OutOfMemory}
+use Rattle.bb_memory_base.proofs.BumpBounds.{won_grows}
+use Rattle.bb_memory.specs.Seats.{number_of, view_log}
+use Rattle.bb_memory.specs.SharedBump.{BumpParty, HasPositionFrom, IsFoundBy, IsRefused, IsWon, MayTake, seen_by, with_entries}
+use Rattle.bb_memory.specs.SharedBumpRule.{IsPartySeat, SeatView, party_in}
+use Rattle.bb_memory.specs.SharedBumpSteps.{HasEnded, HasRefused, HasWon, IsCounted}
+use Rattle.bb_memory.proofs.SharedBumpParties.{entries_added}
+
+-- ENTRIES
+
+-- what was added to a party's log is told by the party
+added_once : (party : BumpParty) (added other : BumpLog) → with_entries party other ≡ with_entries party added → other ≡ added
+added_once party added other same =
+    sym (drop-append_seam party.log other)
+    ∙ ap (λ (p : BumpParty). drop (length party.log) p.log) same
+    ∙ drop-append_seam party.log added
+
+nothing_added : (party : BumpParty) (added : BumpLog) → party ≡ with_entries party added → [] ≡ added
+nothing_added party added same =
+    added_once party added []
+    ((λ i. record { allocator = party.allocator; number = party.number; log = append-nil party.log i }) ∙ same)
+
+counted_found : (scene : BumpScene) (log added : BumpLog) (party : BumpParty) → IsCounted scene log added →
+    party.allocator.scene ≡ scene → log ≡ party.log → IsFoundBy party added
+counted_found scene log added party counted scene_is log_is =
+    subst (λ (x : BumpScene × BumpLog). IsFoundBy (record { allocator = record { table = party.allocator.table; scene = x.0 }; number = party.number; log = x.1 }) added)
+    (λ i. (sym scene_is i, log_is i))
+    record { seen = counted.seen; within = counted.within }
+
+-- where no step was made
+pub nothing_found : (party : BumpParty) (added : BumpLog) → party ≡ with_entries party added → IsFoundBy party added
+nothing_found party added same =
+    subst (IsFoundBy party) (nothing_added party added same) record {
+      seen = All-nil (HasPositionFrom (seen_by party) party.allocator.scene.region);
+      within = All-nil (HasPositionUpTo party.allocator.scene.region.size party.allocator.scene.region);
+    }
+
+pub nothing_lost : (party : BumpParty) (added : BumpLog) (most : ℕ) → party ≡ with_entries party added → losses_in added ≤ most
+nothing_lost party added most same =
+    subst (λ (entries : BumpLog). losses_in entries ≤ most) (nothing_added party added same) (none most)
+  where
+    none : (most : ℕ) → losses_in [] ≤ most
+    none most = omega arith
+
+-- REQUESTS THAT MADE STEPS
+
+-- what a request that made steps has added
+pub ended_by : (scene : BumpScene) (number : ℕ) (log : BumpLog) (layout : Layout) (new : Me ℕ SeatView) (answer : Option Chunk) →
+    MatchOption answer (HasRefused scene number log layout new) (HasWon scene number log layout new) →
+    (added : BumpLog) × HasEnded scene number log added new
+ended_by scene number log layout new None refused = (refused.added, refused.ended)
+ended_by scene number log layout new (Some chunk) won = (won.added, won.ended)
+
+-- a party before a request and after it, by its fields
+module _ (scene : BumpScene) (table was : TableId) (number : ℕ) (old new : Me ℕ SeatView) (party : BumpParty)
+    (same : table ≡ was) (view_is : party_in was number old.0 ≡ party)
+    (scene_is : party.allocator.scene ≡ scene) where
+  log_is : view_log old.0 ≡ party.log
+  log_is = ap (λ (p : BumpParty). p.log) view_is
+
+  then : (added : BumpLog) → HasEnded scene (number_of old.0) (view_log old.0) added new →
+      party_in table number new.0 ≡ with_entries party added
+  then added ended = entries_added table was number (number_of old.0) scene added old new party same ended.seat.seat.is view_is scene_is
+
+  pub found_by : (added : BumpLog) → HasEnded scene (number_of old.0) (view_log old.0) added new →
+      (other : BumpLog) → party_in table number new.0 ≡ with_entries party other → IsFoundBy party other
+  found_by added ended other is =
+      subst (IsFoundBy party) (sym (added_once party added other (sym is ∙ then added ended)))
+      (counted_found scene (view_log old.0) added party ended.counted scene_is log_is)
+
+  pub lost_by : (added : BumpLog) → HasEnded scene (number_of old.0) (view_log old.0) added new →
+      (other : BumpLog) → party_in table number new.0 ≡ with_entries party other → losses_in other ≤ scene.region.size
+  lost_by added ended other is =
+      subst (λ (entries : BumpLog). losses_in entries ≤ scene.region.size)
+      (sym (added_once party added other (sym is ∙ then added ended))) ended.counted.losses
+
+  -- the chunks that its log has won
+  pub won_by : (added : BumpLog) (won : List Chunk) → HasEnded scene (number_of old.0) (view_log old.0) added new →
+      chunks_won added ≡ won → chunks_won (view_log new.0) ≡ chunks_won party.log ++ won
+  won_by added won ended won_is =
+      ap (λ (p : BumpParty). chunks_won p.log) (then added ended)
+      ∙ won_grows party.log added
+      ∙ ap (λ (chunks : List Chunk). chunks_won party.log ++ chunks) won_is
