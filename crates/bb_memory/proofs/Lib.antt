@@ -19,7 +19,9 @@ mod SharedBumpRequests
 mod SharedBumpSeats
 mod SharedBumpTries
 mod SharedLogs
-mod SharedPasses
-mod SharedSeats
-mod SharedSteps
-mod SharedViews
+mod SharedPoolKeeps
+mod SharedPoolMeetings
+mod SharedPoolParties
+mod SharedPoolPasses
+mod SharedPoolSeats
+mod SharedPoolTries

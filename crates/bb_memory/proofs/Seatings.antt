@@ -67,7 +67,7 @@ pub two_parties : {F E : Type 0} (made : ℕ) (logs : List (List E)) (views : Li
 two_parties made logs views seat figures one other seated at same =
     let view = standing_for figures (one ∷ other ∷ []) in
     let within = times_in-at one.number views seat view at in
-    let most = seated.once one.number (seated.each seat view at).0 in
+    let most = seated.once one.number (seated.known seat view at).0 in
     let first = one_same one.number one.number refl in
     let second = one_same other.number one.number (sym same) in omega arith
 
@@ -110,8 +110,8 @@ pub seated_step : {F E : Type 0} (made : ℕ) (logs : List (List E)) (views : Li
     AreSeated made logs views → get_elem? views seat ≡ some (alone figures number log) →
     AreSeated made (slice_set logs number new) (set views seat (alone figures number new))
 seated_step {F = F} {E = E} made logs views seat figures number log new seated at =
-    let mine = seated.each seat (alone figures number log) at in record {
-      each = λ other found there. elim (at_set views seat other (alone figures number new) found there) [
+    let mine = seated.known seat (alone figures number log) at in record {
+      known = λ other found there. elim (at_set views seat other (alone figures number new) found there) [
         | inl here ↦
             subst (λ (v : Seat F E). HaveLogs made (slice_set logs number new) v.parties) here.1
             (mine.0, slice_get-set_same logs number new log mine.1, tt)
@@ -119,7 +119,7 @@ seated_step {F = F} {E = E} made logs views seat figures number log new seated a
             let two = times_in-two number views other seat found (alone figures number log) elsewhere.0 elsewhere.1 at in
             let one = times_in-own number log in
             let most = seated.once number mine.0 in
-            others_keep made logs new number found.parties (omega arith) (seated.each other found elsewhere.1)
+            others_keep made logs new number found.parties (omega arith) (seated.known other found elsewhere.1)
       ];
       once = λ party below.
           let placed = times_in_views-set party views seat (alone figures number log) (alone figures number new) at in
@@ -135,13 +135,13 @@ seated_split : {F E : Type 0} (made : ℕ) (logs : List (List E)) (views : List 
     AreSeated made logs views → get_elem? views seat ≡ some view →
     AreSeated made logs (set views seat left ++ right ∷ [])
 seated_split {F = F} {E = E} made logs views seat view left right count parts seated at =
-    let own = parts (seated.each seat view at) in
+    let own = parts (seated.known seat view at) in
     let Known : Seat F E → Type 0 = λ v. HaveLogs made logs v.parties in
     let first : List (Seat F E) = set views seat left in record {
-      each = λ other found there. elim (at_snoc first right found other there) [
+      known = λ other found there. elim (at_snoc first right found other there) [
         | inl before ↦ elim (at_set views seat other left found before) [
           | inl here ↦ subst Known here.1 own.0
-          | inr elsewhere ↦ seated.each other found elsewhere.1
+          | inr elsewhere ↦ seated.known other found elsewhere.1
         ]
         | inr last ↦ subst Known last own.1
       ];
@@ -177,12 +177,12 @@ seated_both {F = F} {E = E} made logs views seat view other guest none seated at
       | inl here ↦ absurd (apart here.0)
       | inr elsewhere ↦ elsewhere.1
     ] in record {
-      each = λ third found is. elim (at_set first other third spent found is) [
+      known = λ third found is. elim (at_set first other third spent found is) [
         | inl here ↦ subst Known here.1 tt
         | inr rest ↦ elim (at_set views seat third both found rest.1) [
           | inl joined ↦ subst Known joined.1
-              (have-append made logs view.parties guest.parties (seated.each seat view at) (seated.each other guest was))
-          | inr elsewhere ↦ seated.each third found elsewhere.1
+              (have-append made logs view.parties guest.parties (seated.known seat view at) (seated.known other guest was))
+          | inr elsewhere ↦ seated.known third found elsewhere.1
         ]
       ];
       once = λ number below.
@@ -220,9 +220,9 @@ fresh_once E number from (suc count) low high =
 
 -- all parties stand in the first seat
 pub seated_opening : {F : Type 0} (E : Type 0) (made : ℕ) (figures : F) →
-    AreSeated {F = F} {E = E} made (replicate made []) (standing_for figures (fresh_from 0 made) ∷ [])
+    AreSeated {S = F} {E = E} made (replicate made []) (standing_for figures (fresh_from 0 made) ∷ [])
 seated_opening {F = F} E made figures = record {
-  each = first;
+  known = first;
   once = λ number below. let one = fresh_once E number 0 made (omega arith) (omega arith) in omega arith;
 }
   where

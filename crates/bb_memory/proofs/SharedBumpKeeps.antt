@@ -49,7 +49,7 @@ known_as scene state rule party log there own = record {
 pub known : (scene : BumpScene) (state : State ℕ SeatView) (rule : WordAndLogsAgree scene state) (seat party : ℕ) (log : List BumpEntry) →
     get_elem? state.views seat ≡ some (alone scene party log) → IsKnown scene state rule party log
 known scene state rule seat party log at =
-    let have = rule.seated.each seat (alone scene party log) at in known_as scene state rule party log have.0 have.1
+    let have = rule.seated.known seat (alone scene party log) at in known_as scene state rule party log have.0 have.1
 
 -- the rule after a step of the machine, which leaves this position
 step_keeps : (scene : BumpScene) (state : State ℕ SeatView) (rule : WordAndLogsAgree scene state) (seat party : ℕ)

@@ -29,7 +29,7 @@ meets_at : (scene : BumpScene) (slots seat : ℕ) (one other : NumberedLog) →
     (meets (step slots 0 0 0 none) (standing_for scene (one ∷ other ∷ []), []))
 meets_at scene slots seat one other state rule _ at _ =
     let view = standing_for scene (one ∷ other ∷ []) in
-    let have = rule.seated.each seat view at in
+    let have = rule.seated.known seat view at in
     let two = two_parties scene.parties rule.logs state.views seat scene one other rule.seated at in (
       view,
       keeps,

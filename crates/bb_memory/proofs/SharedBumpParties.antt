@@ -20,7 +20,7 @@ abbrev pub StandsFor : Me ℕ SeatView → BumpScene → ℕ → List BumpEntry 
 StandsFor me scene party log = me ≡ (alone scene party log, [])
 
 -- a seat of one party, in the scene that it is known to have
-pub seated_in : (me : Me ℕ SeatView) (scene : BumpScene) (party : ℕ) → IsSeated me party → me.0.figures ≡ scene → StandsFor me scene party (view_log me.0)
+pub seated_in : (me : Me ℕ SeatView) (scene : BumpScene) (party : ℕ) → IsSeated me party → me.0.scene ≡ scene → StandsFor me scene party (view_log me.0)
 seated_in me scene party seated same = seated ∙ ap (λ (s : BumpScene). (alone s party (view_log me.0), [])) same
 
 -- a party's fields, by what its seat stands for

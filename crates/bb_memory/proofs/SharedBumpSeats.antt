@@ -37,7 +37,7 @@ gathers scene seat other view guest state rule at apart there = record {
   agree = rule.agree;
   word = rule.word;
   opened = rule.opened;
-  seated = seated_both scene.parties rule.logs state.views seat view other guest nobody.figures rule.seated at apart there;
+  seated = seated_both scene.parties rule.logs state.views seat view other guest nobody.scene rule.seated at apart there;
 }
 
 all_empty : (count : ℕ) → AllByRecursion (λ (log : List BumpEntry). log ≡ []) (replicate count [])

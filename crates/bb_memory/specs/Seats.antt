@@ -11,18 +11,18 @@ pub record Numbered (E : Type 0) : Type 0 where
 abbrev pub numbered : {E : Type 0} → ℕ → List E → Numbered E
 numbered number log = record { number = number; log = log }
 
--- what a seat knows: the figures of what is shared, and the parties that it stands for, which is one, but while parties are
+-- what a seat knows: the scene of what is shared, and the parties that it stands for, which is one, but while parties are
 -- made or meet
-pub record Seat (F E : Type 0) : Type 0 where
-  pub figures : F
+pub record Seat (S E : Type 0) : Type 0 where
+  pub scene : S
   pub parties : List (Numbered E)
 
-abbrev pub standing_for : {F E : Type 0} → F → List (Numbered E) → Seat F E
-standing_for figures parties = record { figures = figures; parties = parties }
+abbrev pub standing_for : {S E : Type 0} → S → List (Numbered E) → Seat S E
+standing_for scene parties = record { scene = scene; parties = parties }
 
 -- the view of one party
-abbrev pub alone : {F E : Type 0} → F → ℕ → List E → Seat F E
-alone figures number log = standing_for figures (numbered number log ∷ [])
+abbrev pub alone : {S E : Type 0} → S → ℕ → List E → Seat S E
+alone scene number log = standing_for scene (numbered number log ∷ [])
 
 -- the number and the log of the first party that a view stands for
 abbrev pub first_number : {E : Type 0} → List (Numbered E) → ℕ
@@ -33,10 +33,10 @@ abbrev pub first_log : {E : Type 0} → List (Numbered E) → List E
 first_log [] = []
 first_log (party ∷ parties) = party.log
 
-abbrev pub number_of : {F E : Type 0} → Seat F E → ℕ
+abbrev pub number_of : {S E : Type 0} → Seat S E → ℕ
 number_of view = first_number view.parties
 
-abbrev pub view_log : {F E : Type 0} → Seat F E → List E
+abbrev pub view_log : {S E : Type 0} → Seat S E → List E
 view_log view = first_log view.parties
 
 -- WHICH LOGS THEY HAVE
@@ -56,13 +56,13 @@ abbrev pub times_in : {E : Type 0} → ℕ → List (Numbered E) → ℕ
 times_in number [] = 0
 times_in number (party ∷ parties) = one_if (party.number == number) + times_in number parties
 
-abbrev pub times_in_views : {F E : Type 0} → ℕ → List (Seat F E) → ℕ
+abbrev pub times_in_views : {S E : Type 0} → ℕ → List (Seat S E) → ℕ
 times_in_views number [] = 0
 times_in_views number (view ∷ views) = times_in number view.parties + times_in_views number views
 
 -- each party of a view has this log, and each party that was made stands in exactly one view; a dropped party's view stays
-pub record AreSeated {F E : Type 0} (made : ℕ) (logs : List (List E)) (views : List (Seat F E)) : Type 0 where
-  pub each : (seat : ℕ) (view : Seat F E) → get_elem? views seat ≡ some view → HaveLogs made logs view.parties
+pub record AreSeated {S E : Type 0} (made : ℕ) (logs : List (List E)) (views : List (Seat S E)) : Type 0 where
+  pub known : (seat : ℕ) (view : Seat S E) → get_elem? views seat ≡ some view → HaveLogs made logs view.parties
   pub once : (number : ℕ) → number < made → times_in_views number views ≡ 1
 
 -- SPLITS AND JOINS
@@ -81,11 +81,11 @@ tail_of [] = []
 tail_of (party ∷ parties) = parties
 
 -- a view of the first party, of the others, and of the parties of two views
-abbrev pub first_of : {F E : Type 0} → Seat F E → Seat F E
-first_of view = standing_for view.figures (head_of view.parties)
+abbrev pub first_of : {S E : Type 0} → Seat S E → Seat S E
+first_of view = standing_for view.scene (head_of view.parties)
 
-abbrev pub others_of : {F E : Type 0} → Seat F E → Seat F E
-others_of view = standing_for view.figures (tail_of view.parties)
+abbrev pub others_of : {S E : Type 0} → Seat S E → Seat S E
+others_of view = standing_for view.scene (tail_of view.parties)
 
-abbrev pub both_of : {F E : Type 0} → Seat F E → Seat F E → Seat F E
-both_of view other = standing_for view.figures (view.parties ++ other.parties)
+abbrev pub both_of : {S E : Type 0} → Seat S E → Seat S E → Seat S E
+both_of view other = standing_for view.scene (view.parties ++ other.parties)

@@ -18,11 +18,11 @@ pub record IsSharedBump (table : TableId) (scene : BumpScene) (start size : ℕ)
 
 -- the seat stands for one party alone
 abbrev pub IsSeated : Me ℕ SeatView → ℕ → Type 0
-IsSeated me number = me ≡ (alone me.0.figures number (view_log me.0), [])
+IsSeated me number = me ≡ (alone me.0.scene number (view_log me.0), [])
 
 abbrev pub party_of : TableId → Me ℕ SeatView → ℕ → BumpParty
 party_of table me number =
-    record { allocator = record { table = table; scene = me.0.figures }; number = number; log = view_log me.0 }
+    record { allocator = record { table = table; scene = me.0.scene }; number = number; log = view_log me.0 }
 
 pub record IsSeatedParty (table : TableId) (me : Me ℕ SeatView) (number : ℕ) : Type 0 where
   pub seat : IsSeated me number

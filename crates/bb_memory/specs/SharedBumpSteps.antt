@@ -28,14 +28,14 @@ pub record Tells (scene : BumpScene) (party : ℕ) (log : List BumpEntry) (step 
 
 abbrev pub TellsRead : Layout → Me ℕ SeatView → ℕ → Me ℕ SeatView → Type 0
 TellsRead layout me found new =
-    let scene = me.0.figures in
+    let scene = me.0.scene in
     let party = number_of me.0 in
     Tells scene party (view_log me.0) (Read party layout) (read_move scene.region found layout).outcome found new
 
 -- the exchange of the call that the party is in
 abbrev pub TellsExchange : Me ℕ SeatView → ℕ → Me ℕ SeatView → Type 0
 TellsExchange me found new =
-    let scene = me.0.figures in
+    let scene = me.0.scene in
     let party = number_of me.0 in
     (call : OngoingCall) → call_in (view_log me.0) ≡ Some call →
     Tells scene party (view_log me.0) (Exchange party) (exchange_move scene.region found call).outcome found new
@@ -43,7 +43,7 @@ TellsExchange me found new =
 abbrev pub TellsLoad : Me ℕ SeatView → ℕ → Me ℕ SeatView → Type 0
 TellsLoad me found new =
     let party = number_of me.0 in
-    Tells me.0.figures party (view_log me.0) (Load party) (Loaded found) found new
+    Tells me.0.scene party (view_log me.0) (Load party) (Loaded found) found new
 
 -- THE STEPS AS THE TABLE KNOWS THEM
 
@@ -67,4 +67,4 @@ MeetAt scene _ = Unit {0}
 
 -- a load that changes nothing
 abbrev pub meets : Step ℕ → Me ℕ SeatView → ℕ → Me ℕ SeatView → Type 0
-meets step me found new = (new ≡ me) × MeetAt me.0.figures me.0.parties
+meets step me found new = (new ≡ me) × MeetAt me.0.scene me.0.parties

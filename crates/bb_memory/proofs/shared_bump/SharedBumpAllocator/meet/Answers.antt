@@ -64,7 +64,7 @@ returns-clause-apart c =
     let first = seated_in a scene c.a.inside.number c.a.invariant.seat (ap (λ b. b.scene) one) in
     let guest = c.split_seat-guest.ensures.4 ∙ ap (λ (m : Me ℕ SeatView). (first_of m.0, [])) c.b.invariant.seat in
     let two = c.join_seat.ensures.2 ∙ λ i. (both_of (first i).0 (guest i).0, (first i).1) in
-    let told = subst (λ (m : Me ℕ SeatView). MeetAt m.0.figures m.0.parties) two c.load.ensures.2.1 in
+    let told = subst (λ (m : Me ℕ SeatView). MeetAt m.0.scene m.0.parties) two c.load.ensures.2.1 in
     subst (λ (l : List BumpEntry × List BumpEntry). HaveChunksApart l.0 l.1)
     (λ i. (ap (λ p. p.log) c.a.view_is i, ap (λ p. p.log) c.b.view_is i)) told.1
 
@@ -77,7 +77,7 @@ returns-clause-together c =
     let first = seated_in a scene c.a.inside.number c.a.invariant.seat (ap (λ b. b.scene) one) in
     let guest = c.split_seat-guest.ensures.4 ∙ ap (λ (m : Me ℕ SeatView). (first_of m.0, [])) c.b.invariant.seat in
     let two = c.join_seat.ensures.2 ∙ λ i. (both_of (first i).0 (guest i).0, (first i).1) in
-    let told = subst (λ (m : Me ℕ SeatView). MeetAt m.0.figures m.0.parties) two c.load.ensures.2.1 in
+    let told = subst (λ (m : Me ℕ SeatView). MeetAt m.0.scene m.0.parties) two c.load.ensures.2.1 in
     subst (λ (x : BumpScene × (ℕ × ℕ) × (List BumpEntry × List BumpEntry)). AgreeTogether x.0 x.1.0 x.1.1 x.2.0 x.2.1)
     (λ i. (
       ap (λ b. b.scene) c.self.view_is i,

@@ -43,7 +43,7 @@ loop-number-preserved c =
     let seated = split.4 ∙ ap (λ (m : Me ℕ SeatView). (first_of m.0, [])) is in
     let value : BumpParty = party_of c.split_seat-seat.result.table_id c.split_seat-seat.result.me number in
     let value_is : value ≡ fresh_party bump number = λ j. record {
-      allocator = record { table = (split.3 ∙ before.table) j; scene = ap (λ (m : Me ℕ SeatView). m.0.figures) seated j };
+      allocator = record { table = (split.3 ∙ before.table) j; scene = ap (λ (m : Me ℕ SeatView). m.0.scene) seated j };
       number = number;
       log = ap (λ (m : Me ℕ SeatView). view_log m.0) seated j;
     } in
