@@ -20,6 +20,7 @@ mod SharedBumpSeats
 mod SharedBumpTries
 mod SharedLogs
 mod SharedPoolKeeps
+mod SharedPoolLaws
 mod SharedPoolMeetings
 mod SharedPoolParties
 mod SharedPoolPasses

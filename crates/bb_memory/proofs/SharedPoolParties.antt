@@ -1,13 +1,13 @@
 -- From what a pass or a return tells to what its party is then.
-use Rattle.std.proofs.Common.{◌≡◌, ℕ, ◌<◌, [], ◌++◌, ◌∷◌, sym, ap, ◌∙◌, subst}
+use Rattle.std.proofs.Common.{◌≡◌, ℕ, ◌<◌, [], ◌++◌, sym, ap, ◌∙◌, subst}
 use Rattle.atomic_table.specs.Seated.{TableId}
 use Rattle.atomic_table.specs.Table.{Me}
 use Rattle.bb_memory_base.specs.PoolMachine.{PoolScene}
 use Rattle.bb_memory_base.specs.PoolHistory.{PoolLog}
 use Rattle.bb_memory_base.specs.PoolLogs.{Interleaving}
 use Rattle.bb_memory_base.specs.PoolGeometry.{IsPoolGeometry}
-use Rattle.bb_memory.specs.Seats.{alone, both_of, first_of, number_of, numbered, standing_for, view_log}
-use Rattle.bb_memory.specs.SharedPool.{IsParty, PoolParty, SharedPool, return_entry, with_entries}
+use Rattle.bb_memory.specs.Seats.{alone, number_of, view_log}
+use Rattle.bb_memory.specs.SharedPool.{IsParty, SharedPool, return_entry, with_entries}
 use Rattle.bb_memory.specs.SharedPoolRule.{IsSeated, IsSeatedParty, SeatView, party_of}
 use Rattle.bb_memory.specs.SharedPoolSteps.{HasEnded, IsSeatOf, TellsReturn}
 use Rattle.bb_memory.proofs.SharedPoolTries.{idle_after_return}

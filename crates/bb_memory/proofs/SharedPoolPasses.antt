@@ -12,7 +12,7 @@ use Rattle.bb_memory.specs.Seats.{alone, number_of, view_log}
 use Rattle.bb_memory.specs.SharedPool.{AreAllHeldAfter, losses, refused_pass, taking_pass}
 use Rattle.bb_memory.specs.SharedPoolRule.{SeatView}
 use Rattle.bb_memory.specs.SharedPoolSteps.{HasEnded, HasRefused, HasTaken, Tells, TellsLoss, TellsTaking}
-use Rattle.bb_memory.proofs.SharedPoolTries.{idle_after_refusal, idle_after_taking, next_after_losses, same_held}
+use Rattle.bb_memory.proofs.SharedPoolTries.{held_after_refusal, held_after_taking, idle_after_refusal, idle_after_taking, next_after_losses, same_held}
 
 -- the seat of a party alone, with this log, which is interleaved with others'
 pub record Stands (scene : PoolScene) (party : ℕ) (log : PoolLog) (me : Me ℕ SeatView) : Type 0 where
@@ -109,3 +109,14 @@ pub ended_by : (scene : PoolScene) (old new : Me ℕ SeatView) (result : Option 
     HasEnded scene old new (pass_of scene.geometry.buckets (number_of old.0) result)
 ended_by scene old new None refused = refused.ended
 ended_by scene old new (Some bucket) taken = taken.ended
+
+-- what was held after the log still is
+pub still_held : (scene : PoolScene) (old new : Me ℕ SeatView) (result : Option ℕ) (bucket : ℕ) →
+    MatchOption result (HasRefused scene old new) (HasTaken scene old new) →
+    IsHeldAfter (view_log old.0) bucket → IsHeldAfter (view_log new.0) bucket
+still_held scene old new None bucket refused held =
+    subst (λ (m : Me ℕ SeatView). IsHeldAfter (view_log m.0) bucket) (sym refused.ended.seat)
+    (held_after_refusal scene.geometry.buckets (number_of old.0) bucket (view_log old.0) held)
+still_held scene old new (Some taken) bucket passed held =
+    subst (λ (m : Me ℕ SeatView). IsHeldAfter (view_log m.0) bucket) (sym passed.ended.seat)
+    (held_after_taking scene.geometry.buckets (number_of old.0) taken bucket (view_log old.0) held)

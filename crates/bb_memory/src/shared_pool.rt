@@ -1,13 +1,16 @@
 //! Pools that threads share: each call takes its pool by `&`, and steps on one atomic flag for each bucket.
-ghost use Rattle.std.specs.Prelude.{◌≡◌, ◌≢◌, ◌<◌, ◌≤◌, ◌↔◌, ◌%◌, ℕ, All, Some, IsErr, IfOk, IfErr, OnErr, slice_get, vec_len};
+ghost use Rattle.std.specs.Prelude.{◌≡◌, ◌≢◌, ◌<◌, ◌≤◌, ◌↔◌, ◌%◌, ℕ, All, List, Some, IsErr, IfOk, IfErr, OnErr, slice_get, vec_len};
 ghost use Rattle.bb_memory_base.specs.Region.{IsRegion, region_at};
-ghost use Rattle.bb_memory_base.specs.Chunk.{IsInside};
+ghost use Rattle.bb_memory_base.specs.Chunk.{AreApart, Chunk, IsInside};
+ghost use Rattle.bb_memory_base.specs.LiveList.{IsSound};
 ghost use Rattle.bb_memory_base.specs.FirstPlace.{first_place};
 ghost use Rattle.bb_memory_base.specs.PoolGeometry.{IsCut, IsPoolGeometry};
-ghost use Rattle.bb_memory_base.specs.PoolObject.{IsWithin, MayGrow, MayShrink};
+ghost use Rattle.bb_memory_base.specs.PoolObject.{IsHeld, IsWithin, MayGrow, MayShrink};
+ghost use Rattle.bb_memory_base.specs.PoolCalls.{AreAsked};
 ghost use Rattle.bb_memory_base.specs.PoolLogs.{IsHeldAfter};
-ghost use Rattle.bb_memory.specs.Pool.{MayBeCut};
-ghost use Rattle.bb_memory.specs.SharedPool.{AreAllHeldAfter, AreInterleaved, IsInterleaved, MayTake, chunk_of, fresh_party, resized, return_entry, with_entries};
+ghost use Rattle.bb_memory_base.specs.declared.layout.Layout.{Layout};
+ghost use Rattle.bb_memory.specs.Pool.{AreAStrideApart, MayBeCut};
+ghost use Rattle.bb_memory.specs.SharedPool.{AreAllHeldAfter, AreInterleaved, IsHistoryRun, IsInterleaved, IsParty, MayTake, PoolParty, TakenBucket, chunk_of, fresh_party, resized, return_entry, with_entries};
 
 mod bucket;
 mod buckets;
@@ -225,3 +228,40 @@ impl SharedPoolAllocator {
         self.buckets.first()
     }
 }
+
+/// What a user of a shared pool meets, of any party: each call tells that what comes of it is a party. The party's log stands in
+/// an interleaving with logs of the others, which is its history. It does nothing: its contract is the law.
+pub fn shared_pool_law()
+    // The takings and returns of the history are a run of the pool object from the empty list, whichever layouts within the
+    // bucket's size and alignment were asked for.
+    ensures run { (party : PoolParty) (is : IsParty party) (layouts : List Layout)
+        → AreAsked party.allocator.scene.geometry is.interleaved.steps layouts
+        → (live : List Chunk) × IsHistoryRun party is layouts live }
+
+    // A bucket that is held after the party's log is one of the pool's, and is held in the list that the run leaves.
+    ensures held { (party : PoolParty) (is : IsParty party) (layouts : List Layout)
+        (live : List Chunk) (bucket : ℕ) → IsHistoryRun party is layouts live
+        → IsHeldAfter party.log bucket
+        → (bucket < party.allocator.scene.geometry.buckets)
+        × IsHeld party.allocator.scene.geometry live bucket }
+
+    // That list is sound: its chunks are inside the region, and no two overlap.
+    ensures sound { (party : PoolParty) (is : IsParty party) (layouts : List Layout)
+        (live : List Chunk) → IsHistoryRun party is layouts live
+        → IsSound party.allocator.scene.geometry.region live }
+
+    // Chunks in two different buckets of a pool begin at least a stride apart, and where neither is longer than its bucket,
+    // they don't overlap.
+    ensures apart { (one other : TakenBucket) → one.allocator ≡ other.allocator
+        → one.number ≢ other.number
+        → AreAStrideApart one.allocator.scene.geometry.bucket (chunk_of one) (chunk_of other) }
+    ensures no_overlap { (one other : TakenBucket) → one.allocator ≡ other.allocator
+        → one.number ≢ other.number
+        → one.len ≤ one.allocator.scene.geometry.bucket.size
+        → other.len ≤ one.allocator.scene.geometry.bucket.size
+        → AreApart (chunk_of one) (chunk_of other) }
+
+    // No bucket is held after the logs of two parties of one history.
+    ensures holders { (a b : PoolParty) (bucket : ℕ) → AreInterleaved a b → a.number ≢ b.number
+        → IsHeldAfter a.log bucket → ¬ IsHeldAfter b.log bucket }
+{}

@@ -44,7 +44,7 @@ impl PoolWorld {
     /// The scene with this many buckets and parties. All flags are free, and every party is idle. It is refused only
     /// where memory was.
     pub fn new(alloc: Global, buckets: u32, parties: u32) -> Result<Self, AllocError>
-        ensures free { IfOk result (λ world. world ≡ all_free buckets parties) }
+        ensures { IfOk result (λ world. world ≡ all_free buckets parties) }
     {
         let holders = vec![in alloc; None; buckets as usize]?;
         let passes = vec![in alloc; None; parties as usize]?;

@@ -1,4 +1,4 @@
-use Rattle.std.proofs.Common.{◌≡◌, ◌∙◌, sym, ap, arith, subst}
+use Rattle.std.proofs.Common.{◌∙◌, sym, ap, arith}
 use Rattle.bb_memory.specs.Seats.{view_log}
 use Rattle.bb_memory.specs.SharedPool.{PoolParty, SharedPool, TakenBucket}
 use Rattle.bb_memory.proofs.SharedPoolKeeps.{returns_as}

@@ -1,4 +1,4 @@
-use Rattle.std.proofs.Common.{[], ℕ, sym, ap, ◌∙◌, subst}
+use Rattle.std.proofs.Common.{[], ℕ, sym, ap, ◌∙◌}
 use Rattle.atomic_table.specs.Table.{Me}
 use Rattle.bb_memory.specs.Seats.{both_of, first_of, numbered, view_log}
 use Rattle.bb_memory.specs.SharedPool.{PoolParty, SharedPool}

@@ -1,5 +1,5 @@
-use Rattle.std.proofs.Common.{◌<◌, ◌∙◌, arith, refl}
-use Rattle.bb_memory.proofs.SharedPoolPasses.{begins, goes_on, passing_next, passing_seat, refuses, takes}
+use Rattle.std.proofs.Common.{◌∙◌, arith, refl}
+use Rattle.bb_memory.proofs.SharedPoolPasses.{begins, goes_on, passing_next, passing_seat, takes}
 use Rattle.bb_memory.proofs.shared_pool.buckets.SharedBuckets.pass.Goals as goal
 
 pub loop-bucket-init : goal.loop-bucket-init

@@ -14,12 +14,11 @@ use Rattle.bb_memory.proofs.SharedPoolSeats.{gives_first}
 use Rattle.bb_memory.proofs.shared_pool.buckets.SharedBuckets.seat_parties.Goals as goal
 
 pub split_seat-seat-requires : goal.split_seat-seat-requires
-split_seat-seat-requires c =
-    (
-      c.loop-number.invariant.table ∙ sym (ap (λ (p : SharedPool). p.table) c.self.view_is),
-      c.self.invariant.1.some_word,
-      gives_first c.self.inside.table.shared.key c.loop-number.rest.id c.loop-number.rest.me.0,
-    )
+split_seat-seat-requires c = (
+  c.loop-number.invariant.table ∙ sym (ap (λ (p : SharedPool). p.table) c.self.view_is),
+  c.self.invariant.1.some_word,
+  gives_first c.self.inside.table.shared.key c.loop-number.rest.id c.loop-number.rest.me.0,
+)
 
 pub invariant_of-push_reserved : goal.invariant_of-push_reserved
 invariant_of-push_reserved c =
