@@ -27,7 +27,8 @@ some_at (flag ∷ flags) zero below = (flag, refl)
 some_at (flag ∷ flags) (suc i) below = some_at flags i (omega arith)
 
 -- the word of a flag
-word_at : (flags : List Bool) (i : ℕ) (flag : Bool) → slice_get flags i ≡ Some flag → get_or (map word_of flags) i 0 ≡ word_of flag
+word_at : (flags : List Bool) (i : ℕ) (flag : Bool) → slice_get flags i ≡ Some flag →
+    get_or (map word_of flags) i 0 ≡ word_of flag
 word_at [] i flag at = absurd (cc)
 word_at (first ∷ flags) zero flag at = ap word_of (same first flag at)
   where

@@ -19,7 +19,8 @@ have_met scene state rule seat a b at =
     record {
       differ = two;
       apart = λ bucket held other_held. two
-          (logs_apart scene rule.flags rule.logs a.number a.log b.number b.log bucket rule.agree known.1 known.2.1 held other_held);
+          (logs_apart scene rule.flags rule.logs a.number a.log b.number b.log bucket rule.agree known.1 known.2.1 held
+          other_held);
       interleaved = interleaved_logs scene rule.flags rule.logs a.number a.log b.number b.log rule.agree known.1 known.2.1;
     }
 

@@ -1,5 +1,5 @@
 -- From what a pass or a return tells to what its party is then.
-use Rattle.std.proofs.Common.{◌≡◌, ℕ, ◌<◌, [], ◌++◌, sym, ap, ◌∙◌, subst}
+use Rattle.std.proofs.Common.{◌≡◌, ℕ, ◌<◌, [], ◌++◌, refl, sym, ap, ◌∙◌, subst}
 use Rattle.atomic_table.specs.Seated.{TableId}
 use Rattle.atomic_table.specs.Table.{Me}
 use Rattle.bb_memory_base.specs.PoolMachine.{PoolScene}
@@ -22,10 +22,8 @@ pub party_seated : (table : TableId) (me : Me ℕ SeatView) (scene : PoolScene) 
     me ≡ (alone scene party log, []) →
     IsParty (record { allocator = record { table = table; scene = scene }; number = party; log = log }) →
     IsSeatedParty table me party
-party_seated table me scene party log is holds = record {
-  seat = is ∙ (λ i. (alone ((sym is i).0.scene) party (view_log (sym is i).0), []));
-  party = subst (λ (m : Me ℕ SeatView). IsParty (party_of table m party)) (sym is) holds;
-}
+party_seated table me scene party log is holds =
+    subst (λ (m : Me ℕ SeatView). IsSeatedParty table m party) (sym is) record { seat = refl; party = holds }
 
 -- a seat of a party of this pool
 module _ (pool : SharedPool) (table : TableId) (me : Me ℕ SeatView) (number : ℕ) (is : IsSeatedParty table me number)

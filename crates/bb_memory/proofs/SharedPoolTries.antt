@@ -130,7 +130,8 @@ held_after_taking buckets party taken bucket log held =
 
 -- RETURNS
 
-pub idle_after_return : (party bucket : ℕ) (log : PoolLog) → pass_in log ≡ None → pass_in (log ++ return_entry party bucket) ≡ None
+pub idle_after_return : (party bucket : ℕ) (log : PoolLog) → pass_in log ≡ None →
+    pass_in (log ++ return_entry party bucket) ≡ None
 idle_after_return party bucket log idle = pass-append None log (return_entry party bucket) ∙ idle
 
 -- a bucket that was given back isn't held
@@ -144,5 +145,6 @@ pub held_after_return : (party returned bucket : ℕ) (log : PoolLog) → bucket
     IsHeldAfter (log ++ return_entry party returned) bucket
 held_after_return party returned bucket log other held =
     held-append bucket false log (return_entry party returned)
-    ∙ ap (λ (b : Bool). if b then false else held_through bucket false log) (test_apart returned bucket (λ same. other (sym same)))
+    ∙ ap (λ (b : Bool). if b then false else held_through bucket false log)
+    (test_apart returned bucket (λ same. other (sym same)))
     ∙ held

@@ -70,12 +70,14 @@ impl SharedPoolAllocator {
     ) -> Result<(Self, Vec<PoolParty>), AllocationError>
         requires cut { MayBeCut (region_at start size) bucket_layout }
         requires parties { 1 ≤ parties }
-        ensures geometry { IfOk result (λ made. IsCut (region_at start size) bucket_layout made.0.scene.geometry) }
+        ensures geometry { IfOk result (λ made.
+            IsCut (region_at start size) bucket_layout made.0.scene.geometry) }
         ensures parties { IfOk result (λ made. made.0.scene.parties ≡ parties) }
         ensures as_many { IfOk result (λ made. vec_len made.1 ≡ parties) }
         ensures fresh { IfOk result (λ made. (number : ℕ) → number < parties
             → slice_get made.1.items number ≡ Some (fresh_party made.0 number)) }
-        ensures theirs { IfOk result (λ made. All (λ party. party.allocator ≡ made.0) made.1.items) }
+        ensures theirs { IfOk result (λ made.
+            All (λ party. party.allocator ≡ made.0) made.1.items) }
         ensures refused { IfErr result (λ error. error ≡ AllocationError.OutOfMemory) }
     {
         let geometry = Geometry::new(bucket_layout, start, size);
@@ -141,7 +143,8 @@ impl SharedPoolAllocator {
         requires b { b.old.allocator ≡ self.now }
         ensures kept { (a.new ≡ a.old) × (b.new ≡ b.old) }
         ensures differ { a.old.number ≢ b.old.number }
-        ensures apart { (bucket : ℕ) → IsHeldAfter a.old.log bucket → ¬ IsHeldAfter b.old.log bucket }
+        ensures apart { (bucket : ℕ) → IsHeldAfter a.old.log bucket
+            → ¬ IsHeldAfter b.old.log bucket }
         ensures interleaved { AreInterleaved a.old b.old }
     {
         self.buckets.meet(a, b);
@@ -159,7 +162,8 @@ impl SharedPoolAllocator {
     ) -> Result<Chunk, AllocationGrowError>
         requires bucket { bucket.old.allocator ≡ self.now }
         requires aligned { (chunk_of bucket.old).place % old.align ≡ 0 }
-        ensures answer { MayGrow self.now.scene.geometry.bucket (chunk_of bucket.old).place old new result }
+        ensures answer { MayGrow self.now.scene.geometry.bucket (chunk_of bucket.old).place
+            old new result }
         ensures resized { IfOk result (λ grown. bucket.new ≡ resized bucket.old grown.len) }
         ensures chunk { IfOk result (λ grown. chunk_of bucket.new ≡ grown) }
         ensures inside { IfOk result (IsInside self.now.scene.geometry.region) }
@@ -181,7 +185,8 @@ impl SharedPoolAllocator {
         requires bucket { bucket.old.allocator ≡ self.now }
         requires aligned { (chunk_of bucket.old).place % old.align ≡ 0 }
         requires reserved { old.size ≤ self.now.scene.geometry.bucket.size }
-        ensures answer { MayShrink self.now.scene.geometry.bucket (chunk_of bucket.old).place old new result }
+        ensures answer { MayShrink self.now.scene.geometry.bucket (chunk_of bucket.old).place
+            old new result }
         ensures resized { IfOk result (λ shrunk. bucket.new ≡ resized bucket.old shrunk.len) }
         ensures chunk { IfOk result (λ shrunk. chunk_of bucket.new ≡ shrunk) }
         ensures inside { IfOk result (IsInside self.now.scene.geometry.region) }
@@ -223,7 +228,8 @@ impl SharedPoolAllocator {
 
     /// Where the first bucket is: the region's start, rounded up to the bucket's alignment.
     pub fn start_address(&self) -> usize
-        ensures { result ≡ first_place self.now.scene.geometry.region self.now.scene.geometry.bucket }
+        ensures { result
+            ≡ first_place self.now.scene.geometry.region self.now.scene.geometry.bucket }
     {
         self.buckets.first()
     }

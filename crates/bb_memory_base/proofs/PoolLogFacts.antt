@@ -33,7 +33,8 @@ still_nowhere : (state : PoolState) (other party : ℕ) (pass : Option ℕ) → 
 still_nowhere state other party pass apart absent = slice_get-set_other state.passes other party pass apart ∙ absent.nowhere
 
 -- a holder that is another leaves the party with nothing
-still_no_holder : (state : PoolState) (bucket party b : ℕ) (before after : Option ℕ) → slice_get state.holders bucket ≡ Some before →
+still_no_holder : (state : PoolState) (bucket party b : ℕ) (before after : Option ℕ) →
+    slice_get state.holders bucket ≡ Some before →
     ¬ (after ≡ Some party) → IsAbsent state party → ¬ (slice_get (slice_set state.holders bucket after) b ≡ Some (Some party))
 still_no_holder state bucket party b before after there another absent now = elim (cases_eq bucket b) [
   | inl same ↦
@@ -109,32 +110,38 @@ nobody_else scene steps party past allowed =
 -- WHAT FLAGS AND LOGS SAY OF EACH OTHER
 
 -- a party whose log holds a bucket is its holder
-holder_from_log : (scene : PoolScene) (flags : List Bool) (logs : List PoolLog) (party : ℕ) (log : PoolLog) (bucket : ℕ) (agree : LogsAgree scene flags logs) → HasLog logs party log →
+holder_from_log : (scene : PoolScene) (flags : List Bool) (logs : List PoolLog) (party : ℕ) (log : PoolLog) (bucket : ℕ)
+    (agree : LogsAgree scene flags logs) → HasLog logs party log →
     IsHeldAfter log bucket → IsHolder (left_by scene agree.steps) bucket party
 holder_from_log scene flags logs party log bucket agree at holds =
-    (holder_in_log scene agree.steps party bucket).1 (subst (λ (l : PoolLog). IsHeldAfter l bucket) (sym (agree.each party log at)) holds)
+    (holder_in_log scene agree.steps party bucket).1
+    (subst (λ (l : PoolLog). IsHeldAfter l bucket) (sym (agree.each party log at)) holds)
 
-pub logs_apart : (scene : PoolScene) (flags : List Bool) (logs : List PoolLog) (party : ℕ) (log : PoolLog) (other : ℕ) (other_log : PoolLog) (bucket : ℕ) → LogsAgree scene flags logs → HasLog logs party log →
+pub logs_apart : (scene : PoolScene) (flags : List Bool) (logs : List PoolLog) (party : ℕ) (log : PoolLog) (other : ℕ)
+    (other_log : PoolLog) (bucket : ℕ) → LogsAgree scene flags logs → HasLog logs party log →
     HasLog logs other other_log → IsHeldAfter log bucket → IsHeldAfter other_log bucket → party ≡ other
 logs_apart scene flags logs party log other other_log bucket agree at other_at holds other_holds =
     let one = holder_from_log scene flags logs party log bucket agree at holds in
     let two = holder_from_log scene flags logs other other_log bucket agree other_at other_holds in
     same_Some party other (same_Some (Some party) (Some other) (sym one ∙ two))
 
-pub free_not_held : (scene : PoolScene) (flags : List Bool) (logs : List PoolLog) (party : ℕ) (log : PoolLog) (bucket : ℕ) → LogsAgree scene flags logs → HasLog logs party log →
+pub free_not_held : (scene : PoolScene) (flags : List Bool) (logs : List PoolLog) (party : ℕ) (log : PoolLog) (bucket : ℕ) →
+    LogsAgree scene flags logs → HasLog logs party log →
     slice_get flags bucket ≡ Some false → ¬ IsHeldAfter log bucket
 free_not_held scene flags logs party log bucket agree at free holds =
     let none = free_from_flag (left_by scene agree.steps) flags bucket agree.leaves free in
     let holder = holder_from_log scene flags logs party log bucket agree at holds in
     none-some party (same_Some None (Some party) (sym none ∙ holder))
 
-pub held_is_taken : (scene : PoolScene) (flags : List Bool) (logs : List PoolLog) (party : ℕ) (log : PoolLog) (bucket : ℕ) → LogsAgree scene flags logs → HasLog logs party log → IsHeldAfter log bucket →
+pub held_is_taken : (scene : PoolScene) (flags : List Bool) (logs : List PoolLog) (party : ℕ) (log : PoolLog) (bucket : ℕ) →
+    LogsAgree scene flags logs → HasLog logs party log → IsHeldAfter log bucket →
     slice_get flags bucket ≡ Some true
 held_is_taken scene flags logs party log bucket agree at holds =
     let holder = holder_from_log scene flags logs party log bucket agree at holds in
     flag_from_taken (left_by scene agree.steps) flags bucket party agree.leaves holder
 
-pub taken_is_held_alone : (scene : PoolScene) (flags : List Bool) (logs : List PoolLog) (log : PoolLog) (bucket : ℕ) → LogsAgree scene flags logs → scene.parties ≡ 1 → HasLog logs 0 log →
+pub taken_is_held_alone : (scene : PoolScene) (flags : List Bool) (logs : List PoolLog) (log : PoolLog) (bucket : ℕ) →
+    LogsAgree scene flags logs → scene.parties ≡ 1 → HasLog logs 0 log →
     slice_get flags bucket ≡ Some true → IsHeldAfter log bucket
 taken_is_held_alone scene flags logs log bucket agree one at taken =
     let holder = taken_from_flag (left_by scene agree.steps) flags bucket agree.leaves taken in
@@ -167,7 +174,8 @@ interleaved_log scene flags logs party log agree at =
     record { steps = agree.steps; allowed = agree.allowed; logged = agree.each party log at }
 
 -- and of both of two
-pub interleaved_logs : (scene : PoolScene) (flags : List Bool) (logs : List PoolLog) (party : ℕ) (log : PoolLog) (other : ℕ) (other_log : PoolLog) → LogsAgree scene flags logs → HasLog logs party log →
+pub interleaved_logs : (scene : PoolScene) (flags : List Bool) (logs : List PoolLog) (party : ℕ) (log : PoolLog)
+    (other : ℕ) (other_log : PoolLog) → LogsAgree scene flags logs → HasLog logs party log →
     HasLog logs other other_log → CommonInterleaving scene party log other other_log
 interleaved_logs scene flags logs party log other other_log agree at other_at = record {
   steps = agree.steps;

@@ -80,7 +80,8 @@ at_progress state step move party bucket (passes other) less = inl less
 at_progress state step move party bucket (loses other lost holder next taken more) less = elim (cases_eq other party) [
   | inl same ↦
       let after = slice_get-set_same state.passes other party (Some (lost + 1)) next.pass same next.there in
-      let now : progress_of (slice_get (slice_set state.passes other (Some (lost + 1))) party) ≡ lost + 1 = ap progress_of after in
+      let now : progress_of (slice_get (slice_set state.passes other (Some (lost + 1))) party) ≡ lost + 1 =
+      ap progress_of after in
       let before = progress_next state other party lost same next in
       elim (below_or_at bucket lost (omega arith))
       as (λ _. (bucket < progress_of (slice_get state.passes party)) ⊎ ((Try other ≡ Try party) × (lost ≡ bucket))) [
@@ -149,7 +150,8 @@ loses_first state step steps party bucket by lost = record {
 }
 
 loses_later : (state : PoolState) (step : PoolStep) (steps : List PoolStep) (party bucket k : ℕ) →
-    LosesAt (pool_history (pool_step state step).state steps) party bucket k → LosesAt (pool_history state (step ∷ steps)) party bucket (suc k)
+    LosesAt (pool_history (pool_step state step).state steps) party bucket k →
+    LosesAt (pool_history state (step ∷ steps)) party bucket (suc k)
 loses_later state step steps party bucket k lost = record { outcome = lost.outcome; there = lost.there; loss = lost.loss }
 
 all_behind : (state : PoolState) (steps : List PoolStep) (party last bucket : ℕ) →
@@ -161,7 +163,9 @@ all_behind state (step ∷ steps) party zero bucket refused below =
     let entry = entry_parts step (Try party) move.outcome (RefusedAtLoss refused.bucket) refused.there in
     elim (at_refusal state step move party refused.bucket bucket (kind_of state step) entry.0 entry.1 below) [
       | inl before ↦ earlier before (only_now before)
-      | inr lost ↦ lost_at zero (omega arith) (loses_first state step steps party bucket entry.0 lost) (λ j after within. absurd (omega arith))
+      | inr lost ↦
+          lost_at zero (omega arith) (loses_first state step steps party bucket entry.0 lost)
+          (λ j after within. absurd (omega arith))
     ]
   where
     only_now : bucket < progress_of (slice_get state.passes party) → (j : ℕ) → j ≤ zero →
@@ -170,12 +174,15 @@ all_behind state (step ∷ steps) party zero bucket refused below =
     only_now before (suc j) within = absurd (omega arith)
 all_behind state (step ∷ steps) party (suc last) bucket refused below =
     let move : PoolMove = pool_step state step in
-    let refused_later : IsRefusedAt (pool_history move.state steps) party last = record { bucket = refused.bucket; there = refused.there } in
+    let refused_later : IsRefusedAt (pool_history move.state steps) party last =
+    record { bucket = refused.bucket; there = refused.there } in
     let below_later : bucket < length move.state.holders = omega (arith, length-step state step move (kind_of state step)) in
-    let rest : Behind move.state steps party last bucket = all_behind move.state steps party last bucket refused_later below_later in
+    let rest : Behind move.state steps party last bucket =
+    all_behind move.state steps party last bucket refused_later below_later in
     elim rest as (λ _. Behind state (step ∷ steps) party (suc last) bucket) [
       | lost_at k within lost pass ↦
-          lost_at (suc k) (omega arith) (loses_later state step steps party bucket k lost) (from_next state step steps party last k pass)
+          lost_at (suc k) (omega arith) (loses_later state step steps party bucket k lost)
+          (from_next state step steps party last k pass)
       | earlier less pass ↦ elim (at_progress state step move party bucket (kind_of state step) less) [
         | inl before ↦
             let start = in_pass_from_progress state party bucket (slice_get state.passes party) refl before in
@@ -210,7 +217,8 @@ pub refused_found_held : (scene : PoolScene) (steps : List PoolStep)
     FoundHeld scene steps party last bucket
 refused_found_held scene steps party last bucket is refused below =
     let state : PoolState = opening_state scene in
-    let below_flags : bucket < length state.holders = omega (arith, length-replicate {A = Option ℕ} scene.geometry.buckets None) in
+    let flags = length-replicate {A = Option ℕ} scene.geometry.buckets None in
+    let below_flags : bucket < length state.holders = omega (arith, flags) in
     elim (all_behind state steps party last bucket refused below_flags)
     as (λ _. FoundHeld scene steps party last bucket) [
       | lost_at k within lost pass ↦ record {

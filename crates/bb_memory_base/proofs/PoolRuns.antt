@@ -118,7 +118,8 @@ module _ (geometry : PoolGeometry) (is : IsPoolGeometry geometry) where
   step_calls old live layout step move (passes other) matches within = (live, refl)
 
   -- the parties' passes decide nothing
-  same_holders : (old new : PoolState) (live : List Chunk) → old.holders ≡ new.holders → Matches geometry old live → Matches geometry new live
+  same_holders : (old new : PoolState) (live : List Chunk) → old.holders ≡ new.holders → Matches geometry old live →
+      Matches geometry new live
   same_holders old new live same matches = record {
     flags = λ b below. matches.flags b below ∙ ap (λ (holders : List (Option ℕ)). taken_weight (slice_get holders b)) same;
     size = ap (λ (holders : List (Option ℕ)). length holders) (sym same) ∙ matches.size;
@@ -236,7 +237,8 @@ run_is_sound scene steps layouts live is run =
 -- a run is one of its first commands, and one of the others
 run-split : {C R : Type 0} (step : List Chunk → C → R → List Chunk → Type 0) (old new : List Chunk)
     (commands : List C) (replies : List R) (k : ℕ) → IsRun step old commands replies new →
-    (there : List Chunk) × IsRun step old (take k commands) (take k replies) there × IsRun step there (drop k commands) (drop k replies) new
+    (there : List Chunk) × IsRun step old (take k commands) (take k replies) there
+    × IsRun step there (drop k commands) (drop k replies) new
 run-split step old new commands replies zero run = (old, refl, run)
 run-split step old new [] [] (suc k) run = (old, refl, run)
 run-split step old new (command ∷ commands) (reply ∷ replies) (suc k) (mid, first, rest) =
@@ -250,7 +252,8 @@ outcomes-take : (old : PoolState) (steps : List PoolStep) (k : ℕ) →
 outcomes-take old steps zero = refl
 outcomes-take old [] (suc k) = refl
 outcomes-take old (step ∷ steps) (suc k) =
-    ap (λ (outcomes : List PoolOutcome). (pool_step old step).outcome ∷ outcomes) (outcomes-take (pool_step old step).state steps k)
+    ap (λ (outcomes : List PoolOutcome). (pool_step old step).outcome ∷ outcomes)
+    (outcomes-take (pool_step old step).state steps k)
 
 outcomes-drop : (history : List PoolEntry) (k : ℕ) → drop k (outcomes_of history) ≡ outcomes_of (drop k history)
 outcomes-drop history zero = refl

@@ -108,4 +108,5 @@ length-after state (step ∷ steps) =
 
 -- there are always as many flags as buckets
 pub length-left_by : (scene : PoolScene) (steps : List PoolStep) → length (left_by scene steps).holders ≡ scene.geometry.buckets
-length-left_by scene steps = length-after (opening_state scene) steps ∙ length-replicate {A = Option ℕ} scene.geometry.buckets None
+length-left_by scene steps =
+    length-after (opening_state scene) steps ∙ length-replicate {A = Option ℕ} scene.geometry.buckets None

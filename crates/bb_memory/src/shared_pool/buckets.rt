@@ -48,7 +48,8 @@ impl Model for SharedBuckets {
 
     ghost view = { λ b. record { table = b.table.shared.table_id; scene = b.scene } };
 
-    ghost invariant = { λ b. (b.table.shared.key ≡ b.scene) × IsSharedPool b.table.shared.table_id b.scene };
+    ghost invariant = { λ b. (b.table.shared.key ≡ b.scene)
+        × IsSharedPool b.table.shared.table_id b.scene };
 }
 
 impl SharedBuckets {
@@ -64,7 +65,8 @@ impl SharedBuckets {
         ensures as_many { IfOk result (λ made. vec_len made.1 ≡ parties) }
         ensures fresh { IfOk result (λ made. (number : ℕ) → number < parties
             → slice_get made.1.items number ≡ Some (fresh_party made.0 number)) }
-        ensures theirs { IfOk result (λ made. All (λ party. party.allocator ≡ made.0) made.1.items) }
+        ensures theirs { IfOk result (λ made.
+            All (λ party. party.allocator ≡ made.0) made.1.items) }
         ensures refused { IfErr result (λ error. error ≡ AllocationError.OutOfMemory) }
     {
         let Ok(mut all) = Vec::with_capacity(alloc, parties as usize) else {
@@ -204,7 +206,8 @@ impl SharedBuckets {
         requires b { b.old.allocator ≡ self.now }
         ensures kept { (a.new ≡ a.old) × (b.new ≡ b.old) }
         ensures differ { a.old.number ≢ b.old.number }
-        ensures apart { (bucket : ℕ) → IsHeldAfter a.old.log bucket → ¬ IsHeldAfter b.old.log bucket }
+        ensures apart { (bucket : ℕ) → IsHeldAfter a.old.log bucket
+            → ¬ IsHeldAfter b.old.log bucket }
         ensures interleaved { AreInterleaved a.old b.old }
     {
         let shared = &self.table.shared;
@@ -223,7 +226,8 @@ impl SharedBuckets {
     ) -> Result<Chunk, AllocationGrowError>
         requires bucket { bucket.old.allocator ≡ self.now }
         requires aligned { (chunk_of bucket.old).place % old.align ≡ 0 }
-        ensures answer { MayGrow self.now.scene.geometry.bucket (chunk_of bucket.old).place old new result }
+        ensures answer { MayGrow self.now.scene.geometry.bucket (chunk_of bucket.old).place
+            old new result }
         ensures resized { IfOk result (λ grown. bucket.new ≡ resized bucket.old grown.len) }
         ensures chunk { IfOk result (λ grown. chunk_of bucket.new ≡ grown) }
         ensures inside { IfOk result (IsInside self.now.scene.geometry.region) }
@@ -245,7 +249,8 @@ impl SharedBuckets {
         requires bucket { bucket.old.allocator ≡ self.now }
         requires aligned { (chunk_of bucket.old).place % old.align ≡ 0 }
         requires reserved { old.size ≤ self.now.scene.geometry.bucket.size }
-        ensures answer { MayShrink self.now.scene.geometry.bucket (chunk_of bucket.old).place old new result }
+        ensures answer { MayShrink self.now.scene.geometry.bucket (chunk_of bucket.old).place
+            old new result }
         ensures resized { IfOk result (λ shrunk. bucket.new ≡ resized bucket.old shrunk.len) }
         ensures chunk { IfOk result (λ shrunk. chunk_of bucket.new ≡ shrunk) }
         ensures inside { IfOk result (IsInside self.now.scene.geometry.region) }
@@ -283,7 +288,8 @@ impl SharedBuckets {
 
     /// Where the first bucket is.
     pub fn first(&self) -> usize
-        ensures { result ≡ first_place self.now.scene.geometry.region self.now.scene.geometry.bucket }
+        ensures { result
+            ≡ first_place self.now.scene.geometry.region self.now.scene.geometry.bucket }
     {
         self.scene.geometry.first()
     }
@@ -292,8 +298,8 @@ impl SharedBuckets {
     pub fn chunk(&self, bucket: u32, len: usize) -> Chunk
         requires below { bucket < self.now.scene.geometry.buckets }
         requires short { len ≤ self.now.scene.geometry.bucket.size }
-        ensures value { let chunk : Chunk = record { place = bucket_place self.now.scene.geometry bucket; len = len } in
-            result ≡ chunk }
+        ensures value { let place = bucket_place self.now.scene.geometry bucket in
+            let chunk : Chunk = record { place = place; len = len } in result ≡ chunk }
         ensures inside { IsInside self.now.scene.geometry.region result }
     {
         self.scene.geometry.chunk(bucket as usize, len)

@@ -65,7 +65,8 @@ impl<const MAX_NUMBER_OF_BUCKETS: usize> SharedFixedSizePoolAllocator<MAX_NUMBER
         ensures as_many { IfOk result (λ made. vec_len made.1 ≡ parties) }
         ensures fresh { IfOk result (λ made. (number : ℕ) → number < parties
             → slice_get made.1.items number ≡ Some (fresh_party made.0 number)) }
-        ensures theirs { IfOk result (λ made. All (λ party. party.allocator ≡ made.0) made.1.items) }
+        ensures theirs { IfOk result (λ made.
+            All (λ party. party.allocator ≡ made.0) made.1.items) }
         ensures refused { IfErr result (λ error. error ≡ AllocationError.OutOfMemory) }
     {
         let geometry = Geometry::new(bucket_layout, start, size).at_most(
@@ -133,7 +134,8 @@ impl<const MAX_NUMBER_OF_BUCKETS: usize> SharedFixedSizePoolAllocator<MAX_NUMBER
         requires b { b.old.allocator ≡ self.now }
         ensures kept { (a.new ≡ a.old) × (b.new ≡ b.old) }
         ensures differ { a.old.number ≢ b.old.number }
-        ensures apart { (bucket : ℕ) → IsHeldAfter a.old.log bucket → ¬ IsHeldAfter b.old.log bucket }
+        ensures apart { (bucket : ℕ) → IsHeldAfter a.old.log bucket
+            → ¬ IsHeldAfter b.old.log bucket }
         ensures interleaved { AreInterleaved a.old b.old }
     {
         self.buckets.meet(a, b);
@@ -151,7 +153,8 @@ impl<const MAX_NUMBER_OF_BUCKETS: usize> SharedFixedSizePoolAllocator<MAX_NUMBER
     ) -> Result<Chunk, AllocationGrowError>
         requires bucket { bucket.old.allocator ≡ self.now }
         requires aligned { (chunk_of bucket.old).place % old.align ≡ 0 }
-        ensures answer { MayGrow self.now.scene.geometry.bucket (chunk_of bucket.old).place old new result }
+        ensures answer { MayGrow self.now.scene.geometry.bucket (chunk_of bucket.old).place
+            old new result }
         ensures resized { IfOk result (λ grown. bucket.new ≡ resized bucket.old grown.len) }
         ensures chunk { IfOk result (λ grown. chunk_of bucket.new ≡ grown) }
         ensures inside { IfOk result (IsInside self.now.scene.geometry.region) }
@@ -173,7 +176,8 @@ impl<const MAX_NUMBER_OF_BUCKETS: usize> SharedFixedSizePoolAllocator<MAX_NUMBER
         requires bucket { bucket.old.allocator ≡ self.now }
         requires aligned { (chunk_of bucket.old).place % old.align ≡ 0 }
         requires reserved { old.size ≤ self.now.scene.geometry.bucket.size }
-        ensures answer { MayShrink self.now.scene.geometry.bucket (chunk_of bucket.old).place old new result }
+        ensures answer { MayShrink self.now.scene.geometry.bucket (chunk_of bucket.old).place
+            old new result }
         ensures resized { IfOk result (λ shrunk. bucket.new ≡ resized bucket.old shrunk.len) }
         ensures chunk { IfOk result (λ shrunk. chunk_of bucket.new ≡ shrunk) }
         ensures inside { IfOk result (IsInside self.now.scene.geometry.region) }

@@ -23,7 +23,8 @@ returns-clause-inside c =
     elim c.match-pass.branch [
       | in-Some w ↦
           rw w.result-is
-          (bucket-inside scene.geometry w.in-Some.number w.size-in-Some.result geometry w.in-Some.ensures.pass.below (omega arith))
+          (bucket-inside scene.geometry w.in-Some.number w.size-in-Some.result geometry w.in-Some.ensures.pass.below
+          (omega arith))
       | in-None w ↦ rw w.result-is tt
     ]
 

@@ -11,7 +11,8 @@ loop-bucket-init c = record {
 pub try_flag-requires-clause-seat : goal.try_flag-requires-clause-seat
 try_flag-requires-clause-seat c = record {
   of_table = c.loop-bucket.invariant.table ∙ c.requires.seat.of_table;
-  alone = passing_seat c.args.self.now.scene c.args.seat.now.me c.loop-bucket.seat.me c.loop-bucket.bucket c.loop-bucket.invariant.passing;
+  alone = passing_seat c.args.self.now.scene c.args.seat.now.me c.loop-bucket.seat.me c.loop-bucket.bucket
+      c.loop-bucket.invariant.passing;
 }
 
 pub try_flag-requires-clause-next : goal.try_flag-requires-clause-next

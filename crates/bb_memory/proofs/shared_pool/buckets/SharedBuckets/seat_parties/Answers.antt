@@ -63,5 +63,6 @@ loop-number-preserved c =
       theirs = subst (All (λ (p : PoolParty). p.allocator ≡ pool)) (sym items)
           (All-push (λ (p : PoolParty). p.allocator ≡ pool) c.loop-number.all.items value before.theirs
           (ap (λ (p : PoolParty). p.allocator) value_is));
-      fresh = λ j below. subst (λ (xs : List PoolParty). slice_get xs j ≡ Some (fresh_party pool j)) (sym items) (more j (omega arith));
+      fresh = λ j below.
+          subst (λ (xs : List PoolParty). slice_get xs j ≡ Some (fresh_party pool j)) (sym items) (more j (omega arith));
     }

@@ -8,7 +8,8 @@ use Rattle.bb_memory.proofs.shared_pool.buckets.SharedBuckets.try_flag.Goals as 
 pub compare_exchange-found-requires : goal.compare_exchange-found-requires
 compare_exchange-found-requires c =
     let me = c.args.seat.now.me in
-    let key : c.self.inside.table.shared.key ≡ c.args.self.now.scene = c.self.invariant.0 ∙ ap (λ (p : SharedPool). p.scene) c.self.view_is in
+    let key : c.self.inside.table.shared.key ≡ c.args.self.now.scene =
+    c.self.invariant.0 ∙ ap (λ (p : SharedPool). p.scene) c.self.view_is in
     let words = c.self.invariant.1 in
     let below = rw (← c.self.view_is) at c.requires.below in
     let one_each = words.one_each (omega arith) in (
