@@ -20,7 +20,10 @@ mod SharedBumpRequests
 mod SharedBumpSeats
 mod SharedBumpTries
 mod SharedLogs
-mod SharedPasses
-mod SharedSeats
-mod SharedSteps
-mod SharedViews
+mod SharedPoolKeeps
+mod SharedPoolLaws
+mod SharedPoolMeetings
+mod SharedPoolParties
+mod SharedPoolPasses
+mod SharedPoolSeats
+mod SharedPoolTries

@@ -1,7 +1,7 @@
--- The buckets of a measured region.
+-- The buckets of a region, as it is measured.
 use Rattle.std.proofs.Common.{◌≡◌, ℕ, ◌+◌, ◌*◌, ◌<◌, ◌≤◌, arith, sym, subst}
 use Rattle.bb_memory_base.specs.Chunk.{Chunk, IsChunk, IsInside}
-use Rattle.bb_memory_base.specs.PoolGeometry.{PoolGeometry, bucket_place}
+use Rattle.bb_memory_base.specs.PoolGeometry.{PoolGeometry, IsPoolGeometry, bucket_place}
 use Rattle.bb_memory_base.proofs.PoolGeometries.{stride-above, first_place-above}
 use Rattle.bb_memory.specs.Buckets.{IsMeasured, IsPlaceOfBucket}
 
@@ -10,14 +10,18 @@ abbrev pub chunk_at : PoolGeometry → ℕ → ℕ → Chunk
 chunk_at geometry i len = record { place = bucket_place geometry i; len = len }
 
 -- they lie in the region
-pub measured-inside : (geometry : PoolGeometry) (first step i len : ℕ) → IsMeasured geometry first step →
-    i < geometry.buckets → len ≤ geometry.bucket.size → IsInside geometry.region (chunk_at geometry i len)
-measured-inside geometry first step i len measured below short =
-    let room = measured.is_geometry.room i below in
+pub bucket-inside : (geometry : PoolGeometry) (i len : ℕ) → IsPoolGeometry geometry → i < geometry.buckets →
+    len ≤ geometry.bucket.size → IsInside geometry.region (chunk_at geometry i len)
+bucket-inside geometry i len is below short =
+    let room = is.room i below in
     record {
       above = omega (arith, first_place-above geometry.region geometry.bucket);
       below = omega (arith, room, stride-above geometry.bucket);
     }
+
+pub measured-inside : (geometry : PoolGeometry) (first step i len : ℕ) → IsMeasured geometry first step →
+    i < geometry.buckets → len ≤ geometry.bucket.size → IsInside geometry.region (chunk_at geometry i len)
+measured-inside geometry first step i len measured below short = bucket-inside geometry i len measured.is_geometry below short
 
 -- and are a chunk
 pub measured-chunk : (geometry : PoolGeometry) (first step i len : ℕ) → IsMeasured geometry first step →

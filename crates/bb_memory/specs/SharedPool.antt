@@ -1,66 +1,79 @@
--- Shared pools, their parties and the buckets that these took, as contracts see them.
-use Rattle.std.specs.Prelude.{◌≡◌, ℕ, zero, suc, ◌<◌, ◌≤◌, [], ◌∷◌, ◌++◌, Result, Ok, Err}
+-- A shared pool, its parties and the buckets that they took, as their contracts see them, and what each call adds to its
+-- party's log.
+use Rattle.std.specs.Prelude.{◌≡◌, ℕ, zero, suc, ◌<◌, ◌≤◌, List, [], ◌∷◌, ◌++◌, None, Result, Ok, Err}
 use Rattle.atomic_table.specs.Seated.{TableId}
 use Rattle.bb_memory_base.specs.Chunk.{Chunk}
-use Rattle.bb_memory_base.specs.PoolGeometry.{PoolGeometry, bucket_place}
+use Rattle.bb_memory_base.specs.PoolGeometry.{PoolGeometry, IsPoolGeometry, bucket_place}
 use Rattle.bb_memory_base.specs.PoolObject.{IsWithin}
-use Rattle.bb_memory_base.specs.PoolMachine.{PoolMachine, PoolLog, entry_of}
-use Rattle.bb_memory_base.specs.PoolCalls.{machine_of}
-use Rattle.bb_memory_base.specs.PoolLogs.{HoldsInLog, Interleaving, CommonInterleaving, loss_at}
+use Rattle.bb_memory_base.specs.PoolMachine.{PoolScene}
+use Rattle.bb_memory_base.specs.PoolHistory.{PoolLog, entry_of}
+use Rattle.bb_memory_base.specs.PoolCalls.{IsPoolRun}
+use Rattle.bb_memory_base.specs.PoolLogs.{CommonInterleaving, Interleaving, IsHeldAfter, loss_at, pass_in}
 use Rattle.bb_memory_base.specs.declared.layout.Layout.{Layout}
-use Rattle.bb_memory_base.specs.declared.steps.pool.PoolStep.TheVariants.{Try, GiveBack}
-use Rattle.bb_memory_base.specs.declared.steps.pool.PoolOutcome.TheVariants.{Takes, Gives}
 use Rattle.bb_memory_base.specs.declared.allocator.AllocationError.{AllocationError}
 use Rattle.bb_memory_base.specs.declared.allocator.AllocationError.TheVariants.{SizeIsZero, SizeTooLarge, AlignmentFailure, OutOfMemory}
+use Rattle.bb_memory_base.specs.declared.steps.pool.PoolStep.TheVariants.{Try, GiveBack}
+use Rattle.bb_memory_base.specs.declared.steps.pool.PoolOutcome.TheVariants.{Takes, Gives}
 
--- what a shared pool is made of: where its buckets are, and how many parties it has
-pub record PoolFigures : Type 0 where
-  pub geometry : PoolGeometry
-  pub parties : ℕ
-
--- a shared pool: which one it is, where its buckets are, and how many parties it was made for
+-- which shared pool it is, and where its machine began: its buckets, and how many parties it has
 pub record SharedPool : Type 0 where
   pub table : TableId
-  pub geometry : PoolGeometry
-  pub parties : ℕ
+  pub scene : PoolScene
 
-abbrev pub pool_at : TableId → PoolFigures → SharedPool
-pool_at table figures = record { table = table; geometry = figures.geometry; parties = figures.parties }
-
-abbrev pub figures_of : SharedPool → PoolFigures
-figures_of pool = record { geometry = pool.geometry; parties = pool.parties }
-
--- the machine by which the parties' steps go
-abbrev pub machine_in : PoolFigures → PoolMachine
-machine_in figures = machine_of figures.geometry figures.parties
-
--- a party: the pool that it belongs to, its number there, and its log
-pub record Party : Type 0 where
-  pub pool : SharedPool
+-- whose party it is, its number there, and its log
+pub record PoolParty : Type 0 where
+  pub allocator : SharedPool
   pub number : ℕ
   pub log : PoolLog
 
-abbrev pub party_of : SharedPool → ℕ → PoolLog → Party
-party_of pool number log = record { pool = pool; number = number; log = log }
+-- the party of this number, which has made no step
+abbrev pub fresh_party : SharedPool → ℕ → PoolParty
+fresh_party pool number = record { allocator = pool; number = number; log = [] }
 
--- a bucket that was taken: the pool that it belongs to, its number there, and how long its chunk is
+abbrev pub scene_of : PoolGeometry → ℕ → PoolScene
+scene_of geometry parties = record { geometry = geometry; parties = parties }
+
+-- an interleaving of the party's log with some logs of the others is allowed from the opening
+abbrev pub IsInterleaved : PoolParty → Type 0
+IsInterleaved party = Interleaving party.allocator.scene party.number party.log
+
+-- what holds of every party: its number is below how many there are, it is in no pass, its log is interleaved with others', and
+-- the region has room for its pool's buckets
+pub record IsParty (party : PoolParty) : Type 0 where
+  pub number : party.number < party.allocator.scene.parties
+  pub idle : pass_in party.log ≡ None
+  pub interleaved : IsInterleaved party
+  pub geometry : IsPoolGeometry party.allocator.scene.geometry
+
+-- BUCKETS
+
+-- a bucket that was taken: whose it is, its number there, and how many bytes its chunk has
 pub record TakenBucket : Type 0 where
-  pub pool : SharedPool
+  pub allocator : SharedPool
   pub number : ℕ
   pub len : ℕ
 
 abbrev pub taken_bucket : SharedPool → ℕ → ℕ → TakenBucket
-taken_bucket pool number len = record { pool = pool; number = number; len = len }
+taken_bucket pool number len = record { allocator = pool; number = number; len = len }
 
 -- the same bucket with another length
 abbrev pub resized : TakenBucket → ℕ → TakenBucket
-resized bucket len = taken_bucket bucket.pool bucket.number len
+resized bucket len = taken_bucket bucket.allocator bucket.number len
 
 -- its chunk: so many bytes at the bucket's place
 abbrev pub chunk_of : TakenBucket → Chunk
-chunk_of bucket = record { place = bucket_place bucket.pool.geometry bucket.number; len = bucket.len }
+chunk_of bucket = record { place = bucket_place bucket.allocator.scene.geometry bucket.number; len = bucket.len }
 
--- WHAT CALLS ADD TO A LOG
+-- after this log each of so many buckets is held
+abbrev pub AreAllHeldAfter : PoolLog → ℕ → Type 0
+AreAllHeldAfter log buckets = (bucket : ℕ) → bucket < buckets → IsHeldAfter log bucket
+
+-- WHAT A CALL ADDS
+
+-- the party with these more entries in its log
+abbrev pub with_entries : PoolParty → PoolLog → PoolParty
+with_entries party entries =
+    record { allocator = party.allocator; number = party.number; log = party.log ++ entries }
 
 -- a party's losses at so many of the buckets, from bucket 0 up
 abbrev pub losses : ℕ → ℕ → ℕ → PoolLog
@@ -75,49 +88,44 @@ taking_pass buckets party bucket = losses buckets party bucket ++ entry_of (Try 
 abbrev pub refused_pass : ℕ → ℕ → PoolLog
 refused_pass buckets party = losses buckets party buckets
 
--- a return of a bucket
-abbrev pub return_of : ℕ → ℕ → PoolLog
-return_of party bucket = entry_of (GiveBack party bucket) (Gives bucket) ∷ []
+-- one return, of this bucket
+abbrev pub return_entry : ℕ → ℕ → PoolLog
+return_entry party bucket = entry_of (GiveBack party bucket) (Gives bucket) ∷ []
 
--- the party with these more entries in its log
-abbrev pub logged : Party → PoolLog → Party
-logged party entries = party_of party.pool party.number (party.log ++ entries)
-
--- the log holds each bucket
-abbrev pub HoldsAll : ℕ → PoolLog → Type 0
-HoldsAll buckets log = (bucket : ℕ) → bucket < buckets → HoldsInLog bucket log
-
--- a request for the layout may take this bucket, as its size and alignment are small enough, and the log doesn't hold the bucket
-pub record MayTake (pool : SharedPool) (log : PoolLog) (layout : Layout) (bucket : ℕ) : Type 0 where
-  pub within : IsWithin pool.geometry.bucket layout
-  pub below : bucket < pool.geometry.buckets
-  pub new : ¬ HoldsInLog bucket log
+-- a party may take this bucket for the layout, as its size and alignment are small enough, and the bucket isn't held after the
+-- party's log
+pub record MayTakeBucket (party : PoolParty) (layout : Layout) (bucket : ℕ) : Type 0 where
+  pub within : IsWithin party.allocator.scene.geometry.bucket layout
+  pub below : bucket < party.allocator.scene.geometry.buckets
+  pub free : ¬ IsHeldAfter party.log bucket
 
 -- What a party's request may be answered, and what the party is then.
-abbrev pub TakesBucket : Party → Layout → Result TakenBucket AllocationError → Party → Type 0
+abbrev pub MayTake : PoolParty → Layout → Result TakenBucket AllocationError → PoolParty → Type 0
 -- one whole pass: it took some bucket
-TakesBucket party layout (Ok bucket) new =
-    MayTake party.pool party.log layout bucket.number
-    × (bucket ≡ taken_bucket party.pool bucket.number layout.size)
-    × (new ≡ logged party (taking_pass party.pool.geometry.buckets party.number bucket.number))
+MayTake party layout (Ok bucket) new =
+    MayTakeBucket party layout bucket.number
+    × (bucket ≡ taken_bucket party.allocator bucket.number layout.size)
+    × (new ≡ with_entries party (taking_pass party.allocator.scene.geometry.buckets party.number bucket.number))
 -- no step
-TakesBucket party layout (Err SizeTooLarge) new = (party.pool.geometry.bucket.size < layout.size) × (new ≡ party)
-TakesBucket party layout (Err AlignmentFailure) new =
-    (layout.size ≤ party.pool.geometry.bucket.size) × (party.pool.geometry.bucket.align < layout.align) × (new ≡ party)
+MayTake party layout (Err SizeTooLarge) new =
+    (party.allocator.scene.geometry.bucket.size < layout.size) × (new ≡ with_entries party [])
+MayTake party layout (Err AlignmentFailure) new =
+    (layout.size ≤ party.allocator.scene.geometry.bucket.size)
+    × (party.allocator.scene.geometry.bucket.align < layout.align)
+    × (new ≡ with_entries party [])
 -- one whole pass: it lost at each bucket
-TakesBucket party layout (Err OutOfMemory) new =
-    IsWithin party.pool.geometry.bucket layout
-    × (new ≡ logged party (refused_pass party.pool.geometry.buckets party.number))
+MayTake party layout (Err OutOfMemory) new =
+    IsWithin party.allocator.scene.geometry.bucket layout
+    × (new ≡ with_entries party (refused_pass party.allocator.scene.geometry.buckets party.number))
 -- it never refuses so
-TakesBucket party layout (Err SizeIsZero) new = ⊥
+MayTake party layout (Err SizeIsZero) new = ⊥
 
--- INTERLEAVINGS
+-- WHAT THE HISTORY OF A PARTY IS
 
--- some interleaving of the party's log with some logs of the pool's other parties is allowed
-abbrev pub IsInterleaved : Party → Type 0
-IsInterleaved party = Interleaving (machine_in (figures_of party.pool)) party.number party.log
+-- the takings and returns of the party's interleaving are a run of the pool object, from the empty list to this one
+abbrev pub IsHistoryRun : (party : PoolParty) → IsParty party → List Layout → List Chunk → Type 0
+IsHistoryRun party is layouts live = IsPoolRun party.allocator.scene is.interleaved.steps layouts live
 
 -- one interleaving has the logs of both parties
-abbrev pub AreInterleaved : Party → Party → Type 0
-AreInterleaved one other =
-    CommonInterleaving (machine_in (figures_of one.pool)) one.number one.log other.number other.log
+abbrev pub AreInterleaved : PoolParty → PoolParty → Type 0
+AreInterleaved a b = CommonInterleaving a.allocator.scene a.number a.log b.number b.log

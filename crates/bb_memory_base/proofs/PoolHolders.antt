@@ -3,8 +3,9 @@ use Rattle.std.proofs.Common.{◌≡◌, ℕ, zero, suc, List, [], ◌∷◌, �
 use Rattle.std.specs.Prelude.{slice_get, ◌==◌, if◌then◌else◌, fold}
 use Rattle.std.proofs.lemmas.Bool.{cases_eq}
 use Rattle.std.proofs.lemmas.Option.{same_Some}
-use Rattle.bb_memory_base.specs.PoolMachine.{entry_of, PoolLog, PoolMachine, PoolState, PoolMove, PoolEntry, IsHolder, pool_step, pool_after, pool_history, pool_opening, is_step_by, pool_log, state_after, log_of}
-use Rattle.bb_memory_base.specs.PoolLogs.{held_after, HoldsInLog}
+use Rattle.bb_memory_base.specs.PoolMachine.{PoolScene, PoolState, PoolMove, IsHolder, pool_step, pool_after, opening_state, left_by}
+use Rattle.bb_memory_base.specs.PoolHistory.{entry_of, PoolLog, PoolEntry, pool_history, is_by, entries_by, log_of}
+use Rattle.bb_memory_base.specs.PoolLogs.{held_after, IsHeldAfter}
 use Rattle.bb_memory_base.specs.declared.steps.pool.PoolOutcome.{PoolOutcome}
 use Rattle.bb_memory_base.specs.declared.steps.pool.PoolStep.{PoolStep}
 use Rattle.bb_memory_base.proofs.SliceSets.{slice_get-same, slice_get-set_other, slice_get-set_same}
@@ -32,44 +33,44 @@ when_returned false held e = e
 
 -- whether a party holds a bucket after any step, where it held it before that or not
 abbrev held_by : ℕ → ℕ → Bool → PoolStep → PoolOutcome → Bool
-held_by party bucket held step outcome = if is_step_by party step then held_after bucket held outcome else held
+held_by party bucket held step outcome = if is_by party step then held_after bucket held outcome else held
 
 -- that changes as the flag does
-step_holds : (old : PoolState) (step : PoolStep) (move : PoolMove) (party bucket : ℕ) (held : Bool) →
-    StepKind old step move → held ≡ is_holder party (slice_get old.holders bucket) →
+step_holds : (state : PoolState) (step : PoolStep) (move : PoolMove) (party bucket : ℕ) (held : Bool) →
+    StepKind state step move → held ≡ is_holder party (slice_get state.holders bucket) →
     held_by party bucket held step move.outcome ≡ is_holder party (slice_get move.state.holders bucket)
-step_holds old step move party bucket held (takes other at next free) before = elim (cases_eq at bucket) [
+step_holds state step move party bucket held (takes other at next free) before = elim (cases_eq at bucket) [
   | inl same ↦
-      let was = slice_get-same old.holders at bucket (Some None) same free in
-      let now = slice_get-set_same old.holders at bucket (Some other) None same free in
+      let was = slice_get-same state.holders at bucket (Some None) same free in
+      let now = slice_get-set_same state.holders at bucket (Some other) None same free in
       ap (λ (b : Bool). if other == party then (if b then true else held) else held) (test_same at bucket same)
       ∙ when_taken (other == party) held (before ∙ ap (is_holder party) was)
       ∙ sym (ap (is_holder party) now)
   | inr apart ↦
-      let now = slice_get-set_other old.holders at bucket (Some other) apart in
+      let now = slice_get-set_other state.holders at bucket (Some other) apart in
       ap (λ (b : Bool). if other == party then (if b then true else held) else held) (test_apart at bucket apart)
       ∙ either_way (other == party) held ∙ before
       ∙ sym (ap (is_holder party) now)
 ]
-step_holds old step move party bucket held (gives other at taken) before = elim (cases_eq at bucket) [
+step_holds state step move party bucket held (gives other at taken) before = elim (cases_eq at bucket) [
   | inl same ↦
-      let was = slice_get-same old.holders at bucket (Some (Some other)) same taken in
-      let now = slice_get-set_same old.holders at bucket None (Some other) same taken in
+      let was = slice_get-same state.holders at bucket (Some (Some other)) same taken in
+      let now = slice_get-set_same state.holders at bucket None (Some other) same taken in
       ap (λ (b : Bool). if other == party then (if b then false else held) else held) (test_same at bucket same)
       ∙ when_returned (other == party) held (before ∙ ap (is_holder party) was)
       ∙ sym (ap (is_holder party) now)
   | inr apart ↦
-      let now = slice_get-set_other old.holders at bucket None apart in
+      let now = slice_get-set_other state.holders at bucket None apart in
       ap (λ (b : Bool). if other == party then (if b then false else held) else held) (test_apart at bucket apart)
       ∙ either_way (other == party) held ∙ before
       ∙ sym (ap (is_holder party) now)
 ]
-step_holds old step move party bucket held (loses other at holder next taken more) before =
+step_holds state step move party bucket held (loses other at holder next taken more) before =
     either_way (other == party) held ∙ before
-step_holds old step move party bucket held (is_refused other at holder next taken last) before =
+step_holds state step move party bucket held (is_refused other at holder next taken last) before =
     either_way (other == party) held ∙ before
-step_holds old step move party bucket held (passes other) before =
-    either_way (is_step_by party step) held ∙ before
+step_holds state step move party bucket held (passes other) before =
+    either_way (is_by party step) held ∙ before
 
 held_through-log : (party bucket : ℕ) (held mine : Bool) (entry : PoolEntry) (log : PoolLog) →
     held_through bucket held (if mine then entry ∷ log else log) ≡
@@ -77,16 +78,16 @@ held_through-log : (party bucket : ℕ) (held mine : Bool) (entry : PoolEntry) (
 held_through-log party bucket held true entry log = refl
 held_through-log party bucket held false entry log = refl
 
-steps_hold : (old : PoolState) (steps : List PoolStep) (party bucket : ℕ) (held : Bool) →
-    held ≡ is_holder party (slice_get old.holders bucket) →
-    held_through bucket held (pool_log party (pool_history old steps)) ≡
-    is_holder party (slice_get (pool_after old steps).holders bucket)
-steps_hold old [] party bucket held before = before
-steps_hold old (step ∷ steps) party bucket held before =
-    let move : PoolMove = pool_step old step in
-    let log : PoolLog = pool_log party (pool_history move.state steps) in
-    let now = step_holds old step move party bucket held (kind_of old step) before in
-    held_through-log party bucket held (is_step_by party step) (entry_of step move.outcome) log
+steps_hold : (state : PoolState) (steps : List PoolStep) (party bucket : ℕ) (held : Bool) →
+    held ≡ is_holder party (slice_get state.holders bucket) →
+    held_through bucket held (entries_by party (pool_history state steps)) ≡
+    is_holder party (slice_get (pool_after state steps).holders bucket)
+steps_hold state [] party bucket held before = before
+steps_hold state (step ∷ steps) party bucket held before =
+    let move : PoolMove = pool_step state step in
+    let log : PoolLog = entries_by party (pool_history move.state steps) in
+    let now = step_holds state step move party bucket held (kind_of state step) before in
+    held_through-log party bucket held (is_by party step) (entry_of step move.outcome) log
     ∙ steps_hold move.state steps party bucket (held_by party bucket held step move.outcome) now
 
 nobody_holds : (n party bucket : ℕ) → false ≡ is_holder party (slice_get (replicate n None) bucket)
@@ -105,18 +106,18 @@ test_from_holder : (party : ℕ) (found : Option (Option ℕ)) → found ≡ Som
 test_from_holder party found e = ap (is_holder party) e ∙ test_same party party refl
 
 -- a flag's holder is the party whose log holds the bucket
-pub holder_in_log : (machine : PoolMachine) (steps : List PoolStep) (party bucket : ℕ) →
-    IsHolder (state_after machine steps) bucket party ↔ HoldsInLog bucket (log_of machine steps party)
-holder_in_log machine steps party bucket =
-    let same = steps_hold (pool_opening machine) steps party bucket false (nobody_holds machine.buckets party bucket) in
-    let found = slice_get (state_after machine steps).holders bucket in
+pub holder_in_log : (scene : PoolScene) (steps : List PoolStep) (party bucket : ℕ) →
+    IsHolder (left_by scene steps) bucket party ↔ IsHeldAfter (log_of scene steps party) bucket
+holder_in_log scene steps party bucket =
+    let same = steps_hold (opening_state scene) steps party bucket false (nobody_holds scene.geometry.buckets party bucket) in
+    let found = slice_get (left_by scene steps).holders bucket in
     ((λ holder. same ∙ test_from_holder party found holder), (λ holds. holder_from_test party found (sym same ∙ holds)))
 
 -- no two parties hold one bucket
-pub one_holder : (machine : PoolMachine) (steps : List PoolStep) (party other bucket : ℕ) →
-    HoldsInLog bucket (log_of machine steps party) → HoldsInLog bucket (log_of machine steps other) →
+pub one_holder : (scene : PoolScene) (steps : List PoolStep) (party other bucket : ℕ) →
+    IsHeldAfter (log_of scene steps party) bucket → IsHeldAfter (log_of scene steps other) bucket →
     party ≡ other
-one_holder machine steps party other bucket mine yours =
-    let one = (holder_in_log machine steps party bucket).1 mine in
-    let two = (holder_in_log machine steps other bucket).1 yours in
+one_holder scene steps party other bucket mine yours =
+    let one = (holder_in_log scene steps party bucket).1 mine in
+    let two = (holder_in_log scene steps other bucket).1 yours in
     same_Some party other (same_Some (Some party) (Some other) (sym one ∙ two))

@@ -5,8 +5,9 @@ use Rattle.std.proofs.lemmas.Bool.{cases_eq}
 use Rattle.std.proofs.lemmas.Option.{same_Some}
 use Rattle.std.proofs.lemmas.List.{length-replicate}
 use Rattle.bb_memory_base.specs.PoolGeometry.{PoolGeometry, IsPoolGeometry}
-use Rattle.bb_memory_base.specs.PoolMachine.{entry_of, PoolMachine, PoolState, PoolMove, PoolEntry, IsTaken, IsInPass, pool_step, pool_after, pool_history, pool_opening, history_of}
-use Rattle.bb_memory_base.specs.PoolCalls.{machine_of, IsLossOf, LosesAt, IsRefusedAt, FoundHeld}
+use Rattle.bb_memory_base.specs.PoolMachine.{PoolScene, PoolState, PoolMove, IsTaken, IsInPass, pool_step, pool_after, opening_state}
+use Rattle.bb_memory_base.specs.PoolHistory.{entry_of, PoolEntry, pool_history, history_of}
+use Rattle.bb_memory_base.specs.PoolCalls.{IsLossOf, LosesAt, IsRefusedAt, FoundHeld}
 use Rattle.bb_memory_base.specs.declared.steps.pool.PoolStep.{PoolStep}
 use Rattle.bb_memory_base.specs.declared.steps.pool.PoolStep.TheVariants.{Try}
 use Rattle.bb_memory_base.specs.declared.steps.pool.PoolOutcome.{PoolOutcome}
@@ -40,97 +41,98 @@ same_party : (party other : ℕ) → Try party ≡ Try other → party ≡ other
 same_party party other same = cc
 
 -- each bucket is lost before a refusal, or at it
-at_refusal : (old : PoolState) (step : PoolStep) (move : PoolMove) (party last bucket : ℕ) →
-    StepKind old step move → step ≡ Try party → move.outcome ≡ RefusedAtLoss last →
-    bucket < length old.holders →
-    (bucket < progress_of (slice_get old.passes party)) ⊎ IsLossOf bucket move.outcome
-at_refusal old step move party last bucket (takes other taken next free) by refusal below = absurd (cc)
-at_refusal old step move party last bucket (loses other lost holder next taken more) by refusal below = absurd (cc)
-at_refusal old step move party last bucket (gives other returned taken) by refusal below = absurd (cc)
-at_refusal old step move party last bucket (passes other) by refusal below = absurd (cc)
-at_refusal old step move party last bucket (is_refused other lost holder next taken none) by refusal below =
-    let at = progress_next old other party lost (same_party other party by) next in
+at_refusal : (state : PoolState) (step : PoolStep) (move : PoolMove) (party last bucket : ℕ) →
+    StepKind state step move → step ≡ Try party → move.outcome ≡ RefusedAtLoss last →
+    bucket < length state.holders →
+    (bucket < progress_of (slice_get state.passes party)) ⊎ IsLossOf bucket move.outcome
+at_refusal state step move party last bucket (takes other taken next free) by refusal below = absurd (cc)
+at_refusal state step move party last bucket (loses other lost holder next taken more) by refusal below = absurd (cc)
+at_refusal state step move party last bucket (gives other returned taken) by refusal below = absurd (cc)
+at_refusal state step move party last bucket (passes other) by refusal below = absurd (cc)
+at_refusal state step move party last bucket (is_refused other lost holder next taken none) by refusal below =
+    let at = progress_next state other party lost (same_party other party by) next in
     elim (below_or_at bucket lost (omega arith)) [
       | inl before ↦ inl (omega arith)
       | inr same ↦ inr same
     ]
 
 -- a pass that is over has lost none
-over : (old : PoolState) (other party bucket next : ℕ) → IsNext old other next →
-    bucket < progress_of (slice_get (slice_set old.passes other None) party) →
-    bucket < progress_of (slice_get old.passes party)
-over old other party bucket at next less = elim (cases_eq other party) [
+over : (state : PoolState) (other party bucket next : ℕ) → IsNext state other next →
+    bucket < progress_of (slice_get (slice_set state.passes other None) party) →
+    bucket < progress_of (slice_get state.passes party)
+over state other party bucket at next less = elim (cases_eq other party) [
   | inl same ↦
-      let none = ap progress_of (slice_get-set_same old.passes other party None next.pass same next.there) in
+      let none = ap progress_of (slice_get-set_same state.passes other party None next.pass same next.there) in
       absurd (omega (arith, none, less))
-  | inr apart ↦ omega (arith, ap progress_of (slice_get-set_other old.passes other party None apart), less)
+  | inr apart ↦ omega (arith, ap progress_of (slice_get-set_other state.passes other party None apart), less)
 ]
 
 -- what a pass has lost after a step was lost before the step, or is lost at it
-at_progress : (old : PoolState) (step : PoolStep) (move : PoolMove) (party bucket : ℕ) →
-    StepKind old step move → bucket < progress_of (slice_get move.state.passes party) →
-    (bucket < progress_of (slice_get old.passes party)) ⊎ ((step ≡ Try party) × IsLossOf bucket move.outcome)
-at_progress old step move party bucket (takes other taken next free) less =
-    inl (over old other party bucket taken next less)
-at_progress old step move party bucket (is_refused other lost holder next taken none) less =
-    inl (over old other party bucket lost next less)
-at_progress old step move party bucket (gives other returned taken) less = inl less
-at_progress old step move party bucket (passes other) less = inl less
-at_progress old step move party bucket (loses other lost holder next taken more) less = elim (cases_eq other party) [
+at_progress : (state : PoolState) (step : PoolStep) (move : PoolMove) (party bucket : ℕ) →
+    StepKind state step move → bucket < progress_of (slice_get move.state.passes party) →
+    (bucket < progress_of (slice_get state.passes party)) ⊎ ((step ≡ Try party) × IsLossOf bucket move.outcome)
+at_progress state step move party bucket (takes other taken next free) less =
+    inl (over state other party bucket taken next less)
+at_progress state step move party bucket (is_refused other lost holder next taken none) less =
+    inl (over state other party bucket lost next less)
+at_progress state step move party bucket (gives other returned taken) less = inl less
+at_progress state step move party bucket (passes other) less = inl less
+at_progress state step move party bucket (loses other lost holder next taken more) less = elim (cases_eq other party) [
   | inl same ↦
-      let after = slice_get-set_same old.passes other party (Some (lost + 1)) next.pass same next.there in
-      let now : progress_of (slice_get (slice_set old.passes other (Some (lost + 1))) party) ≡ lost + 1 = ap progress_of after in
-      let before = progress_next old other party lost same next in
+      let after = slice_get-set_same state.passes other party (Some (lost + 1)) next.pass same next.there in
+      let now : progress_of (slice_get (slice_set state.passes other (Some (lost + 1))) party) ≡ lost + 1 =
+      ap progress_of after in
+      let before = progress_next state other party lost same next in
       elim (below_or_at bucket lost (omega arith))
-      as (λ _. (bucket < progress_of (slice_get old.passes party)) ⊎ ((Try other ≡ Try party) × (lost ≡ bucket))) [
+      as (λ _. (bucket < progress_of (slice_get state.passes party)) ⊎ ((Try other ≡ Try party) × (lost ≡ bucket))) [
         | inl below ↦ inl (omega (arith, before, below))
         | inr at ↦ inr (ap Try same, at)
       ]
   | inr apart ↦
-      inl (omega (arith, ap progress_of (slice_get-set_other old.passes other party (Some (lost + 1)) apart), less))
+      inl (omega (arith, ap progress_of (slice_get-set_other state.passes other party (Some (lost + 1)) apart), less))
 ]
 
 -- what is lost is taken
-taken_at_loss : (old : PoolState) (step : PoolStep) (move : PoolMove) (bucket : ℕ) → StepKind old step move →
-    IsLossOf bucket move.outcome → IsTaken old bucket
-taken_at_loss old step move bucket (takes other taken next free) lost = absurd lost
-taken_at_loss old step move bucket (gives other returned taken) lost = absurd lost
-taken_at_loss old step move bucket (passes other) lost = absurd lost
-taken_at_loss old step move bucket (loses other at holder next taken more) lost =
-    (holder, slice_get-same old.holders at bucket (Some (Some holder)) lost taken)
-taken_at_loss old step move bucket (is_refused other at holder next taken none) lost =
-    (holder, slice_get-same old.holders at bucket (Some (Some holder)) lost taken)
+taken_at_loss : (state : PoolState) (step : PoolStep) (move : PoolMove) (bucket : ℕ) → StepKind state step move →
+    IsLossOf bucket move.outcome → IsTaken state bucket
+taken_at_loss state step move bucket (takes other taken next free) lost = absurd lost
+taken_at_loss state step move bucket (gives other returned taken) lost = absurd lost
+taken_at_loss state step move bucket (passes other) lost = absurd lost
+taken_at_loss state step move bucket (loses other at holder next taken more) lost =
+    (holder, slice_get-same state.holders at bucket (Some (Some holder)) lost taken)
+taken_at_loss state step move bucket (is_refused other at holder next taken none) lost =
+    (holder, slice_get-same state.holders at bucket (Some (Some holder)) lost taken)
 
 -- ONE PASS
 
 -- the party is in a pass from after step k to step last
 abbrev PassLasts : PoolState → List PoolStep → ℕ → ℕ → ℕ → Type 0
-PassLasts old steps party k last = (j : ℕ) → k < j → j ≤ last → IsInPass (pool_after old (take j steps)) party
+PassLasts state steps party k last = (j : ℕ) → k < j → j ≤ last → IsInPass (pool_after state (take j steps)) party
 
 -- the pass that is refused at step last lost the bucket at one of the steps, or before them
-data Behind (old : PoolState) (steps : List PoolStep) (party last bucket : ℕ) : Type 0 where
-  lost_at : (k : ℕ) → k ≤ last → LosesAt (pool_history old steps) party bucket k →
-      PassLasts old steps party k last → Behind old steps party last bucket
-  earlier : bucket < progress_of (slice_get old.passes party) →
-      ((j : ℕ) → j ≤ last → IsInPass (pool_after old (take j steps)) party) → Behind old steps party last bucket
+data Behind (state : PoolState) (steps : List PoolStep) (party last bucket : ℕ) : Type 0 where
+  lost_at : (k : ℕ) → k ≤ last → LosesAt (pool_history state steps) party bucket k →
+      PassLasts state steps party k last → Behind state steps party last bucket
+  earlier : bucket < progress_of (slice_get state.passes party) →
+      ((j : ℕ) → j ≤ last → IsInPass (pool_after state (take j steps)) party) → Behind state steps party last bucket
 
-from_start : (old : PoolState) (step : PoolStep) (steps : List PoolStep) (party last : ℕ) → IsInPass old party →
-    ((j : ℕ) → j ≤ last → IsInPass (pool_after (pool_step old step).state (take j steps)) party) → (j : ℕ) →
-    j ≤ suc last → IsInPass (pool_after old (take j (step ∷ steps))) party
-from_start old step steps party last start rest zero within = start
-from_start old step steps party last start rest (suc j) within = rest j (omega arith)
+from_start : (state : PoolState) (step : PoolStep) (steps : List PoolStep) (party last : ℕ) → IsInPass state party →
+    ((j : ℕ) → j ≤ last → IsInPass (pool_after (pool_step state step).state (take j steps)) party) → (j : ℕ) →
+    j ≤ suc last → IsInPass (pool_after state (take j (step ∷ steps))) party
+from_start state step steps party last start rest zero within = start
+from_start state step steps party last start rest (suc j) within = rest j (omega arith)
 
-from_next : (old : PoolState) (step : PoolStep) (steps : List PoolStep) (party last k : ℕ) →
-    PassLasts (pool_step old step).state steps party k last →
-    PassLasts old (step ∷ steps) party (suc k) (suc last)
-from_next old step steps party last k rest zero after within = absurd (omega arith)
-from_next old step steps party last k rest (suc j) after within = rest j (omega arith) (omega arith)
+from_next : (state : PoolState) (step : PoolStep) (steps : List PoolStep) (party last k : ℕ) →
+    PassLasts (pool_step state step).state steps party k last →
+    PassLasts state (step ∷ steps) party (suc k) (suc last)
+from_next state step steps party last k rest zero after within = absurd (omega arith)
+from_next state step steps party last k rest (suc j) after within = rest j (omega arith) (omega arith)
 
-after_first : (old : PoolState) (step : PoolStep) (steps : List PoolStep) (party last : ℕ) →
-    ((j : ℕ) → j ≤ last → IsInPass (pool_after (pool_step old step).state (take j steps)) party) →
-    PassLasts old (step ∷ steps) party 0 (suc last)
-after_first old step steps party last rest zero after within = absurd (omega arith)
-after_first old step steps party last rest (suc j) after within = rest j (omega arith)
+after_first : (state : PoolState) (step : PoolStep) (steps : List PoolStep) (party last : ℕ) →
+    ((j : ℕ) → j ≤ last → IsInPass (pool_after (pool_step state step).state (take j steps)) party) →
+    PassLasts state (step ∷ steps) party 0 (suc last)
+after_first state step steps party last rest zero after within = absurd (omega arith)
+after_first state step steps party last rest (suc j) after within = rest j (omega arith)
 
 entry_parts : (step other : PoolStep) (outcome found : PoolOutcome) →
     Some (entry_of step outcome) ≡ Some (entry_of other found) →
@@ -139,63 +141,69 @@ entry_parts step other outcome found same =
     let parts = same_Some (entry_of step outcome) (entry_of other found) same in
     (ap (λ (e : PoolEntry). e.step) parts, ap (λ (e : PoolEntry). e.outcome) parts)
 
-loses_first : (old : PoolState) (step : PoolStep) (steps : List PoolStep) (party bucket : ℕ) → step ≡ Try party →
-    IsLossOf bucket (pool_step old step).outcome → LosesAt (pool_history old (step ∷ steps)) party bucket 0
-loses_first old step steps party bucket by lost = record {
-  outcome = (pool_step old step).outcome;
-  there = ap (λ (s : PoolStep). Some (entry_of s (pool_step old step).outcome)) by;
+loses_first : (state : PoolState) (step : PoolStep) (steps : List PoolStep) (party bucket : ℕ) → step ≡ Try party →
+    IsLossOf bucket (pool_step state step).outcome → LosesAt (pool_history state (step ∷ steps)) party bucket 0
+loses_first state step steps party bucket by lost = record {
+  outcome = (pool_step state step).outcome;
+  there = ap (λ (s : PoolStep). Some (entry_of s (pool_step state step).outcome)) by;
   loss = lost;
 }
 
-loses_later : (old : PoolState) (step : PoolStep) (steps : List PoolStep) (party bucket k : ℕ) →
-    LosesAt (pool_history (pool_step old step).state steps) party bucket k → LosesAt (pool_history old (step ∷ steps)) party bucket (suc k)
-loses_later old step steps party bucket k lost = record { outcome = lost.outcome; there = lost.there; loss = lost.loss }
+loses_later : (state : PoolState) (step : PoolStep) (steps : List PoolStep) (party bucket k : ℕ) →
+    LosesAt (pool_history (pool_step state step).state steps) party bucket k →
+    LosesAt (pool_history state (step ∷ steps)) party bucket (suc k)
+loses_later state step steps party bucket k lost = record { outcome = lost.outcome; there = lost.there; loss = lost.loss }
 
-all_behind : (old : PoolState) (steps : List PoolStep) (party last bucket : ℕ) →
-    IsRefusedAt (pool_history old steps) party last → bucket < length old.holders →
-    Behind old steps party last bucket
-all_behind old [] party last bucket refused below = absurd (let there = refused.there in cc)
-all_behind old (step ∷ steps) party zero bucket refused below =
-    let move : PoolMove = pool_step old step in
+all_behind : (state : PoolState) (steps : List PoolStep) (party last bucket : ℕ) →
+    IsRefusedAt (pool_history state steps) party last → bucket < length state.holders →
+    Behind state steps party last bucket
+all_behind state [] party last bucket refused below = absurd (let there = refused.there in cc)
+all_behind state (step ∷ steps) party zero bucket refused below =
+    let move : PoolMove = pool_step state step in
     let entry = entry_parts step (Try party) move.outcome (RefusedAtLoss refused.bucket) refused.there in
-    elim (at_refusal old step move party refused.bucket bucket (kind_of old step) entry.0 entry.1 below) [
+    elim (at_refusal state step move party refused.bucket bucket (kind_of state step) entry.0 entry.1 below) [
       | inl before ↦ earlier before (only_now before)
-      | inr lost ↦ lost_at zero (omega arith) (loses_first old step steps party bucket entry.0 lost) (λ j after within. absurd (omega arith))
+      | inr lost ↦
+          lost_at zero (omega arith) (loses_first state step steps party bucket entry.0 lost)
+          (λ j after within. absurd (omega arith))
     ]
   where
-    only_now : bucket < progress_of (slice_get old.passes party) → (j : ℕ) → j ≤ zero →
-        IsInPass (pool_after old (take j (step ∷ steps))) party
-    only_now before zero within = in_pass_from_progress old party bucket (slice_get old.passes party) refl before
+    only_now : bucket < progress_of (slice_get state.passes party) → (j : ℕ) → j ≤ zero →
+        IsInPass (pool_after state (take j (step ∷ steps))) party
+    only_now before zero within = in_pass_from_progress state party bucket (slice_get state.passes party) refl before
     only_now before (suc j) within = absurd (omega arith)
-all_behind old (step ∷ steps) party (suc last) bucket refused below =
-    let move : PoolMove = pool_step old step in
-    let refused_later : IsRefusedAt (pool_history move.state steps) party last = record { bucket = refused.bucket; there = refused.there } in
-    let below_later : bucket < length move.state.holders = omega (arith, length-step old step move (kind_of old step)) in
-    let rest : Behind move.state steps party last bucket = all_behind move.state steps party last bucket refused_later below_later in
-    elim rest as (λ _. Behind old (step ∷ steps) party (suc last) bucket) [
+all_behind state (step ∷ steps) party (suc last) bucket refused below =
+    let move : PoolMove = pool_step state step in
+    let refused_later : IsRefusedAt (pool_history move.state steps) party last =
+    record { bucket = refused.bucket; there = refused.there } in
+    let below_later : bucket < length move.state.holders = omega (arith, length-step state step move (kind_of state step)) in
+    let rest : Behind move.state steps party last bucket =
+    all_behind move.state steps party last bucket refused_later below_later in
+    elim rest as (λ _. Behind state (step ∷ steps) party (suc last) bucket) [
       | lost_at k within lost pass ↦
-          lost_at (suc k) (omega arith) (loses_later old step steps party bucket k lost) (from_next old step steps party last k pass)
-      | earlier less pass ↦ elim (at_progress old step move party bucket (kind_of old step) less) [
+          lost_at (suc k) (omega arith) (loses_later state step steps party bucket k lost)
+          (from_next state step steps party last k pass)
+      | earlier less pass ↦ elim (at_progress state step move party bucket (kind_of state step) less) [
         | inl before ↦
-            let start = in_pass_from_progress old party bucket (slice_get old.passes party) refl before in
-            earlier before (from_start old step steps party last start pass)
+            let start = in_pass_from_progress state party bucket (slice_get state.passes party) refl before in
+            earlier before (from_start state step steps party last start pass)
         | inr lost ↦
-            let first = loses_first old step steps party bucket lost.0 lost.1 in
-            lost_at zero (omega arith) first (after_first old step steps party last pass)
+            let first = loses_first state step steps party bucket lost.0 lost.1 in
+            lost_at zero (omega arith) first (after_first state step steps party last pass)
       ]
     ]
 
 -- the step of an entry finds the state after the steps before it
-taken_at_entry : (old : PoolState) (steps : List PoolStep) (party bucket k : ℕ) →
-    LosesAt (pool_history old steps) party bucket k → IsTaken (pool_after old (take k steps)) bucket
-taken_at_entry old [] party bucket k lost = absurd (let there = lost.there in cc)
-taken_at_entry old (step ∷ steps) party bucket zero lost =
-    let entry = entry_parts step (Try party) (pool_step old step).outcome lost.outcome lost.there in
-    taken_at_loss old step (pool_step old step) bucket (kind_of old step) (subst (IsLossOf bucket) (sym entry.1) lost.loss)
-taken_at_entry old (step ∷ steps) party bucket (suc k) lost =
-    let later : LosesAt (pool_history (pool_step old step).state steps) party bucket k =
+taken_at_entry : (state : PoolState) (steps : List PoolStep) (party bucket k : ℕ) →
+    LosesAt (pool_history state steps) party bucket k → IsTaken (pool_after state (take k steps)) bucket
+taken_at_entry state [] party bucket k lost = absurd (let there = lost.there in cc)
+taken_at_entry state (step ∷ steps) party bucket zero lost =
+    let entry = entry_parts step (Try party) (pool_step state step).outcome lost.outcome lost.there in
+    taken_at_loss state step (pool_step state step) bucket (kind_of state step) (subst (IsLossOf bucket) (sym entry.1) lost.loss)
+taken_at_entry state (step ∷ steps) party bucket (suc k) lost =
+    let later : LosesAt (pool_history (pool_step state step).state steps) party bucket k =
     record { outcome = lost.outcome; there = lost.there; loss = lost.loss } in
-    taken_at_entry (pool_step old step).state steps party bucket k later
+    taken_at_entry (pool_step state step).state steps party bucket k later
 
 none_lost_yet : (n party : ℕ) → progress_of (slice_get (replicate n None) party) ≡ 0
 none_lost_yet zero party = refl
@@ -203,24 +211,24 @@ none_lost_yet (suc n) zero = refl
 none_lost_yet (suc n) (suc party) = none_lost_yet n party
 
 -- a refused pass has lost each bucket at a step of its own, at which the bucket was held in the run
-pub refused_found_held : (geometry : PoolGeometry) (parties : ℕ) (steps : List PoolStep)
-    (party last bucket : ℕ) → IsPoolGeometry geometry →
-    IsRefusedAt (history_of (machine_of geometry parties) steps) party last → bucket < geometry.buckets →
-    FoundHeld geometry parties steps party last bucket
-refused_found_held geometry parties steps party last bucket is refused below =
-    let machine : PoolMachine = machine_of geometry parties in
-    let old : PoolState = pool_opening machine in
-    let below_flags : bucket < length old.holders = omega (arith, length-replicate {A = Option ℕ} geometry.buckets None) in
-    elim (all_behind old steps party last bucket refused below_flags)
-    as (λ _. FoundHeld geometry parties steps party last bucket) [
+pub refused_found_held : (scene : PoolScene) (steps : List PoolStep)
+    (party last bucket : ℕ) → IsPoolGeometry scene.geometry →
+    IsRefusedAt (history_of scene steps) party last → bucket < scene.geometry.buckets →
+    FoundHeld scene steps party last bucket
+refused_found_held scene steps party last bucket is refused below =
+    let state : PoolState = opening_state scene in
+    let flags = length-replicate {A = Option ℕ} scene.geometry.buckets None in
+    let below_flags : bucket < length state.holders = omega (arith, flags) in
+    elim (all_behind state steps party last bucket refused below_flags)
+    as (λ _. FoundHeld scene steps party last bucket) [
       | lost_at k within lost pass ↦ record {
         step = k;
         before = within;
         loses = lost;
         one_pass = pass;
         held = λ layouts live run.
-            let taken = taken_at_entry old steps party bucket k lost in
-            (taken_is_held geometry parties (take k steps) layouts live bucket is run below).0 taken;
+            let taken = taken_at_entry state steps party bucket k lost in
+            (taken_is_held scene (take k steps) layouts live bucket is run below).0 taken;
       }
-      | earlier less pass ↦ absurd (omega (arith, none_lost_yet parties party, less))
+      | earlier less pass ↦ absurd (omega (arith, none_lost_yet scene.parties party, less))
     ]

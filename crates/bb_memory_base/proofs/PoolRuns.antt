@@ -11,8 +11,9 @@ use Rattle.bb_memory_base.specs.LiveList.{IsSound}
 use Rattle.bb_memory_base.specs.Run.{IsRun}
 use Rattle.bb_memory_base.specs.PoolGeometry.{PoolGeometry, bucket_place, IsPoolGeometry}
 use Rattle.bb_memory_base.specs.PoolObject.{IsAt, IsHeld, IsWithin, MayGive, chunk_in}
-use Rattle.bb_memory_base.specs.PoolMachine.{PoolEntry, history_of, PoolState, PoolMove, IsHolder, IsTaken, pool_step, pool_after, pool_history, pool_opening, outcomes_of, state_after}
-use Rattle.bb_memory_base.specs.PoolCalls.{AreCalls, PoolCall, AreAsked, IsPoolRun, machine_of}
+use Rattle.bb_memory_base.specs.PoolMachine.{PoolScene, PoolState, PoolMove, IsHolder, IsTaken, pool_step, pool_after, opening_state, left_by}
+use Rattle.bb_memory_base.specs.PoolHistory.{PoolEntry, history_of, pool_history, outcomes_of}
+use Rattle.bb_memory_base.specs.PoolCalls.{AreCalls, PoolCall, AreAsked, IsPoolRun}
 use Rattle.bb_memory_base.specs.declared.layout.Layout.{Layout}
 use Rattle.bb_memory_base.specs.declared.steps.pool.PoolStep.{PoolStep}
 use Rattle.bb_memory_base.specs.declared.steps.pool.PoolOutcome.{PoolOutcome}
@@ -117,7 +118,8 @@ module _ (geometry : PoolGeometry) (is : IsPoolGeometry geometry) where
   step_calls old live layout step move (passes other) matches within = (live, refl)
 
   -- the parties' passes decide nothing
-  same_holders : (old new : PoolState) (live : List Chunk) → old.holders ≡ new.holders → Matches geometry old live → Matches geometry new live
+  same_holders : (old new : PoolState) (live : List Chunk) → old.holders ≡ new.holders → Matches geometry old live →
+      Matches geometry new live
   same_holders old new live same matches = record {
     flags = λ b below. matches.flags b below ∙ ap (λ (holders : List (Option ℕ)). taken_weight (slice_get holders b)) same;
     size = ap (λ (holders : List (Option ℕ)). length holders) (sym same) ∙ matches.size;
@@ -182,28 +184,28 @@ free_at_opening zero bucket = refl
 free_at_opening (suc n) zero = refl
 free_at_opening (suc n) (suc bucket) = free_at_opening n bucket
 
-opening_matches : (geometry : PoolGeometry) (parties : ℕ) →
-    Matches geometry (pool_opening (machine_of geometry parties)) []
-opening_matches geometry parties = record {
-  flags = λ bucket below. sym (free_at_opening geometry.buckets bucket);
-  size = length-replicate geometry.buckets None;
-  buckets = AreInBuckets-empty geometry;
+opening_matches : (scene : PoolScene) →
+    Matches scene.geometry (opening_state scene) []
+opening_matches scene = record {
+  flags = λ bucket below. sym (free_at_opening scene.geometry.buckets bucket);
+  size = length-replicate scene.geometry.buckets None;
+  buckets = AreInBuckets-empty scene.geometry;
 }
 
-pub pool_run : (geometry : PoolGeometry) (parties : ℕ) (steps : List PoolStep) (layouts : List Layout) →
-    IsPoolGeometry geometry → AreAsked geometry steps layouts →
-    (live : List Chunk) × IsPoolRun geometry parties steps layouts live
-pool_run geometry parties steps layouts is asked =
-    let within = recursion_from_All (IsWithin geometry.bucket) layouts asked.within in
-    let opening : PoolState = pool_opening (machine_of geometry parties) in
-    steps_call geometry is opening [] steps layouts (opening_matches geometry parties) asked.one_a_step within
+pub pool_run : (scene : PoolScene) (steps : List PoolStep) (layouts : List Layout) →
+    IsPoolGeometry scene.geometry → AreAsked scene.geometry steps layouts →
+    (live : List Chunk) × IsPoolRun scene steps layouts live
+pool_run scene steps layouts is asked =
+    let within = recursion_from_All (IsWithin scene.geometry.bucket) layouts asked.within in
+    let opening : PoolState = opening_state scene in
+    steps_call scene.geometry is opening [] steps layouts (opening_matches scene) asked.one_a_step within
 
-run_matches : (geometry : PoolGeometry) (parties : ℕ) (steps : List PoolStep) (layouts : List Layout)
-    (live : List Chunk) → IsPoolGeometry geometry → IsPoolRun geometry parties steps layouts live →
-    Matches geometry (state_after (machine_of geometry parties) steps) live
-run_matches geometry parties steps layouts live is run =
-    let opening : PoolState = pool_opening (machine_of geometry parties) in
-    steps_match geometry is opening [] live steps layouts (opening_matches geometry parties) run
+run_matches : (scene : PoolScene) (steps : List PoolStep) (layouts : List Layout)
+    (live : List Chunk) → IsPoolGeometry scene.geometry → IsPoolRun scene steps layouts live →
+    Matches scene.geometry (left_by scene steps) live
+run_matches scene steps layouts live is run =
+    let opening : PoolState = opening_state scene in
+    steps_match scene.geometry is opening [] live steps layouts (opening_matches scene) run
 
 taken_from_weight : (state : PoolState) (bucket : ℕ) (found : Option (Option ℕ)) →
     slice_get state.holders bucket ≡ found → 0 < taken_weight found → IsTaken state bucket
@@ -211,31 +213,32 @@ taken_from_weight state bucket None there some = absurd (omega arith)
 taken_from_weight state bucket (Some None) there some = absurd (omega arith)
 taken_from_weight state bucket (Some (Some holder)) there some = (holder, there)
 
-pub taken_is_held : (geometry : PoolGeometry) (parties : ℕ) (steps : List PoolStep) (layouts : List Layout)
-    (live : List Chunk) (bucket : ℕ) → IsPoolGeometry geometry → IsPoolRun geometry parties steps layouts live →
-    bucket < geometry.buckets →
-    IsTaken (state_after (machine_of geometry parties) steps) bucket ↔ IsHeld geometry live bucket
-taken_is_held geometry parties steps layouts live bucket is run below =
-    let state : PoolState = state_after (machine_of geometry parties) steps in
-    let matches : Matches geometry state live = run_matches geometry parties steps layouts live is run in (
-      λ taken. held_from_flag geometry is state live bucket taken.0 matches taken.1,
+pub taken_is_held : (scene : PoolScene) (steps : List PoolStep) (layouts : List Layout)
+    (live : List Chunk) (bucket : ℕ) → IsPoolGeometry scene.geometry → IsPoolRun scene steps layouts live →
+    bucket < scene.geometry.buckets →
+    IsTaken (left_by scene steps) bucket ↔ IsHeld scene.geometry live bucket
+taken_is_held scene steps layouts live bucket is run below =
+    let state : PoolState = left_by scene steps in
+    let matches : Matches scene.geometry state live = run_matches scene steps layouts live is run in (
+      λ taken. held_from_flag scene.geometry is state live bucket taken.0 matches taken.1,
       λ held.
-          let some = count_from_at (bucket_place geometry bucket) held.0 live held.1 in
+          let some = count_from_at (bucket_place scene.geometry bucket) held.0 live held.1 in
           taken_from_weight state bucket (slice_get state.holders bucket) refl (omega (arith, matches.flags bucket below, some)),
     )
 
-pub run_is_sound : (geometry : PoolGeometry) (parties : ℕ) (steps : List PoolStep) (layouts : List Layout)
-    (live : List Chunk) → IsPoolGeometry geometry → IsPoolRun geometry parties steps layouts live →
-    IsSound geometry.region live
-run_is_sound geometry parties steps layouts live is run =
-    sound_from_buckets geometry is live (run_matches geometry parties steps layouts live is run).buckets
+pub run_is_sound : (scene : PoolScene) (steps : List PoolStep) (layouts : List Layout)
+    (live : List Chunk) → IsPoolGeometry scene.geometry → IsPoolRun scene steps layouts live →
+    IsSound scene.geometry.region live
+run_is_sound scene steps layouts live is run =
+    sound_from_buckets scene.geometry is live (run_matches scene steps layouts live is run).buckets
 
 -- THE STEPS UP TO ONE, AND THE REST
 
 -- a run is one of its first commands, and one of the others
 run-split : {C R : Type 0} (step : List Chunk → C → R → List Chunk → Type 0) (old new : List Chunk)
     (commands : List C) (replies : List R) (k : ℕ) → IsRun step old commands replies new →
-    (there : List Chunk) × IsRun step old (take k commands) (take k replies) there × IsRun step there (drop k commands) (drop k replies) new
+    (there : List Chunk) × IsRun step old (take k commands) (take k replies) there
+    × IsRun step there (drop k commands) (drop k replies) new
 run-split step old new commands replies zero run = (old, refl, run)
 run-split step old new [] [] (suc k) run = (old, refl, run)
 run-split step old new (command ∷ commands) (reply ∷ replies) (suc k) (mid, first, rest) =
@@ -249,21 +252,22 @@ outcomes-take : (old : PoolState) (steps : List PoolStep) (k : ℕ) →
 outcomes-take old steps zero = refl
 outcomes-take old [] (suc k) = refl
 outcomes-take old (step ∷ steps) (suc k) =
-    ap (λ (outcomes : List PoolOutcome). (pool_step old step).outcome ∷ outcomes) (outcomes-take (pool_step old step).state steps k)
+    ap (λ (outcomes : List PoolOutcome). (pool_step old step).outcome ∷ outcomes)
+    (outcomes-take (pool_step old step).state steps k)
 
 outcomes-drop : (history : List PoolEntry) (k : ℕ) → drop k (outcomes_of history) ≡ outcomes_of (drop k history)
 outcomes-drop history zero = refl
 outcomes-drop [] (suc k) = refl
 outcomes-drop (entry ∷ history) (suc k) = outcomes-drop history k
 
-pub run_at_step : (geometry : PoolGeometry) (parties : ℕ) (steps : List PoolStep) (layouts : List Layout) (live : List Chunk)
-    (k : ℕ) → IsPoolRun geometry parties steps layouts live →
-    (there : List Chunk) × IsPoolRun geometry parties (take k steps) (take k layouts) there
-    × AreCalls geometry there (drop k layouts) (drop k (history_of (machine_of geometry parties) steps)) live
-run_at_step geometry parties steps layouts live k run =
-    let opening : PoolState = pool_opening (machine_of geometry parties) in
+pub run_at_step : (scene : PoolScene) (steps : List PoolStep) (layouts : List Layout) (live : List Chunk)
+    (k : ℕ) → IsPoolRun scene steps layouts live →
+    (there : List Chunk) × IsPoolRun scene (take k steps) (take k layouts) there
+    × AreCalls scene.geometry there (drop k layouts) (drop k (history_of scene steps)) live
+run_at_step scene steps layouts live k run =
+    let opening : PoolState = opening_state scene in
     let history : List PoolEntry = pool_history opening steps in
-    let split = run-split (PoolCall geometry) [] live layouts (outcomes_of history) k run in
-    let Before : List PoolOutcome → Type 0 = λ outcomes. IsRun (PoolCall geometry) [] (take k layouts) outcomes split.0 in
-    let After : List PoolOutcome → Type 0 = λ outcomes. IsRun (PoolCall geometry) split.0 (drop k layouts) outcomes live in
+    let split = run-split (PoolCall scene.geometry) [] live layouts (outcomes_of history) k run in
+    let Before : List PoolOutcome → Type 0 = λ outcomes. IsRun (PoolCall scene.geometry) [] (take k layouts) outcomes split.0 in
+    let After : List PoolOutcome → Type 0 = λ outcomes. IsRun (PoolCall scene.geometry) split.0 (drop k layouts) outcomes live in
     (split.0, subst Before (outcomes-take opening steps k) split.1, subst After (outcomes-drop history k) split.2)

@@ -14,6 +14,7 @@ pub mod LiveList
 pub mod Object
 pub mod PoolCalls
 pub mod PoolGeometry
+pub mod PoolHistory
 pub mod PoolLogs
 pub mod PoolMachine
 pub mod PoolObject

@@ -5,7 +5,8 @@ use Rattle.bb_memory_base.specs.Object.{Allocates, Releases}
 use Rattle.bb_memory_base.specs.Run.{IsRun}
 use Rattle.bb_memory_base.specs.PoolGeometry.{PoolGeometry, bucket_place}
 use Rattle.bb_memory_base.specs.PoolObject.{IsAt, IsHeld, IsWithin, chunk_in, pool_object}
-use Rattle.bb_memory_base.specs.PoolMachine.{PoolMachine, PoolEntry, entry_of, outcomes_of, history_of, state_after, IsInPass}
+use Rattle.bb_memory_base.specs.PoolMachine.{PoolScene, left_by, IsInPass}
+use Rattle.bb_memory_base.specs.PoolHistory.{PoolLog, entry_of, outcomes_of, history_of}
 use Rattle.bb_memory_base.specs.declared.layout.Layout.{Layout}
 use Rattle.bb_memory_base.specs.declared.steps.pool.PoolStep.{PoolStep}
 use Rattle.bb_memory_base.specs.declared.steps.pool.PoolStep.TheVariants.{Try}
@@ -31,23 +32,18 @@ pub record AreAsked (geometry : PoolGeometry) (steps : List PoolStep)
   pub within : All (IsWithin geometry.bucket) layouts
 
 -- The calls of a history are a run of the pool object, from `old` to `new`.
-abbrev pub AreCalls : PoolGeometry → List Chunk → List Layout → List PoolEntry → List Chunk → Type 0
+abbrev pub AreCalls : PoolGeometry → List Chunk → List Layout → PoolLog → List Chunk → Type 0
 AreCalls geometry old layouts history new =
     IsRun (PoolCall geometry) old layouts (outcomes_of history) new
 
--- the machine with a pool's buckets
-abbrev pub machine_of : PoolGeometry → ℕ → PoolMachine
-machine_of geometry parties = record { buckets = geometry.buckets; parties = parties }
-
 -- the takings and returns of the steps are a run of the pool object, from the empty list to this one
-abbrev pub IsPoolRun : PoolGeometry → ℕ → List PoolStep → List Layout → List Chunk → Type 0
-IsPoolRun geometry parties steps layouts live =
-    AreCalls geometry [] layouts (history_of (machine_of geometry parties) steps) live
+abbrev pub IsPoolRun : PoolScene → List PoolStep → List Layout → List Chunk → Type 0
+IsPoolRun scene steps layouts live = AreCalls scene.geometry [] layouts (history_of scene steps) live
 
 -- REFUSED PASSES
 
 -- entry k of the history is the party's, and its pass is refused there
-pub record IsRefusedAt (history : List PoolEntry) (party k : ℕ) : Type 0 where
+pub record IsRefusedAt (history : PoolLog) (party k : ℕ) : Type 0 where
   pub bucket : ℕ
   pub there : slice_get history k ≡ Some (entry_of (Try party) (RefusedAtLoss bucket))
 
@@ -58,22 +54,26 @@ IsLossOf bucket (RefusedAtLoss other) = other ≡ bucket
 IsLossOf bucket _ = ⊥
 
 -- entry k of the history is the party's, and a loss of this bucket
-pub record LosesAt (history : List PoolEntry) (party bucket k : ℕ) : Type 0 where
+pub record LosesAt (history : PoolLog) (party bucket k : ℕ) : Type 0 where
   pub outcome : PoolOutcome
   pub there : slice_get history k ≡ Some (entry_of (Try party) outcome)
   pub loss : IsLossOf bucket outcome
 
 -- the party is in one pass from step k to the later step `last`: the pass doesn't end between them
-abbrev pub IsOnePass : PoolMachine → List PoolStep → ℕ → ℕ → ℕ → Type 0
-IsOnePass machine steps party k last =
-    (j : ℕ) → k < j → j ≤ last → IsInPass (state_after machine (take j steps)) party
+abbrev pub IsOnePass : PoolScene → List PoolStep → ℕ → ℕ → ℕ → Type 0
+IsOnePass scene steps party k last =
+    (j : ℕ) → k < j → j ≤ last → IsInPass (left_by scene (take j steps)) party
 
--- a step of the pass that is refused at step `last`, at which the pass lost a bucket that was held in the run
-pub record FoundHeld (geometry : PoolGeometry) (parties : ℕ) (steps : List PoolStep)
-    (party last bucket : ℕ) : Type 0 where
+-- after these steps the bucket is held in the run, whichever layouts were asked for
+abbrev pub IsHeldInRun : PoolScene → List PoolStep → ℕ → Type 0
+IsHeldInRun scene steps bucket =
+    (layouts : List Layout) (live : List Chunk) → IsPoolRun scene steps layouts live → IsHeld scene.geometry live bucket
+
+-- The pass that is refused at step `last` found this bucket held: at some step of the pass the party lost the bucket, which was
+-- held then in the run.
+pub record FoundHeld (scene : PoolScene) (steps : List PoolStep) (party last bucket : ℕ) : Type 0 where
   pub step : ℕ
   pub before : step ≤ last
-  pub loses : LosesAt (history_of (machine_of geometry parties) steps) party bucket step
-  pub one_pass : IsOnePass (machine_of geometry parties) steps party step last
-  pub held : (layouts : List Layout) (live : List Chunk)
-      → IsPoolRun geometry parties (take step steps) layouts live → IsHeld geometry live bucket
+  pub one_pass : IsOnePass scene steps party step last
+  pub loses : LosesAt (history_of scene steps) party bucket step
+  pub held : IsHeldInRun scene (take step steps) bucket

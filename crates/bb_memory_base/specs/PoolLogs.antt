@@ -1,6 +1,7 @@
 -- What a party's log says, and when a pool's flags and its parties' logs agree.
 use Rattle.std.specs.Prelude.{ℕ, ◌+◌, ◌≡◌, ◌==◌, Bool, true, false, is_some, nat_lt, if◌then◌else◌, List, [], ◌∷◌, ◌++◌, Option, Some, None, All, fold, map, slice_get, slice_set, unwrap_or}
-use Rattle.bb_memory_base.specs.PoolMachine.{PoolMachine, PoolState, PoolEntry, PoolLog, state_after, history_of, log_of}
+use Rattle.bb_memory_base.specs.PoolMachine.{PoolScene, PoolState, left_by}
+use Rattle.bb_memory_base.specs.PoolHistory.{PoolEntry, PoolLog, history_of, log_of}
 use Rattle.bb_memory_base.specs.declared.steps.pool.PoolStep.{PoolStep}
 use Rattle.bb_memory_base.specs.declared.steps.pool.PoolOutcome.{PoolOutcome}
 use Rattle.bb_memory_base.specs.declared.steps.pool.PoolOutcome.TheVariants.{Takes, Loses, RefusedAtLoss, Gives, Passed}
@@ -14,8 +15,8 @@ held_after bucket held (Gives other) = if other == bucket then false else held
 held_after bucket held _ = held
 
 -- a party with this log holds the bucket: it has taken it, and not given it back since
-abbrev pub HoldsInLog : ℕ → PoolLog → Type 0
-HoldsInLog bucket log = fold (λ held entry. held_after bucket held entry.outcome) false log ≡ true
+abbrev pub IsHeldAfter : PoolLog → ℕ → Type 0
+IsHeldAfter log bucket = fold (λ held entry. held_after bucket held entry.outcome) false log ≡ true
 
 -- the bucket that a pass tries next, after an outcome, or None where the party is then idle
 abbrev pub pass_after : Option ℕ → PoolOutcome → Option ℕ
@@ -46,28 +47,36 @@ abbrev pub IsAllowed : PoolOutcome → Type 0
 IsAllowed Passed = ⊥
 IsAllowed _ = Unit {0}
 
--- some list of steps, each allowed, leaves these flags, and has as each party's steps exactly its log, in order
-pub record LogsAgree (machine : PoolMachine) (flags : List Bool) (logs : List PoolLog) : Type 0 where
+abbrev pub AllAllowed : PoolLog → Type 0
+AllAllowed history = All (λ entry. IsAllowed entry.outcome) history
+
+-- the party's log stands in the list of logs, at the party's number
+abbrev pub HasLog : List PoolLog → ℕ → PoolLog → Type 0
+HasLog logs party log = slice_get logs party ≡ Some log
+
+-- some list of steps, each allowed, leaves these flags, and has as the steps of each party in the list of logs exactly its log,
+-- in order
+pub record LogsAgree (scene : PoolScene) (flags : List Bool) (logs : List PoolLog) : Type 0 where
   pub steps : List PoolStep
-  pub allowed : All (λ entry. IsAllowed entry.outcome) (history_of machine steps)
-  pub leaves : flags_of (state_after machine steps) ≡ flags
-  pub each : (party : ℕ) (log : PoolLog) → slice_get logs party ≡ Some log
-      → log_of machine steps party ≡ log
+  pub allowed : AllAllowed (history_of scene steps)
+  pub leaves : flags_of (left_by scene steps) ≡ flags
+  pub each : (party : ℕ) (log : PoolLog) → HasLog logs party log → log_of scene steps party ≡ log
+
+-- the logs, where a party's has one more entry
+abbrev pub with_entry : List PoolLog → ℕ → PoolLog → PoolEntry → List PoolLog
+with_entry logs party log entry = slice_set logs party (log ++ entry ∷ [])
 
 -- an interleaving of this party's log with some logs of the others: a list of steps, each allowed, that has as the party's steps
 -- exactly its log, in order
-pub record Interleaving (machine : PoolMachine) (party : ℕ) (log : PoolLog) : Type 0 where
+pub record Interleaving (scene : PoolScene) (party : ℕ) (log : PoolLog) : Type 0 where
   pub steps : List PoolStep
-  pub allowed : All (λ entry. IsAllowed entry.outcome) (history_of machine steps)
-  pub logged : log_of machine steps party ≡ log
+  pub allowed : AllAllowed (history_of scene steps)
+  pub logged : log_of scene steps party ≡ log
 
 -- an interleaving of both parties' logs with some logs of the others
-pub record CommonInterleaving (machine : PoolMachine) (party : ℕ) (log : PoolLog) (other : ℕ) (other_log : PoolLog) : Type 0 where
+pub record CommonInterleaving (scene : PoolScene) (party : ℕ) (log : PoolLog) (other : ℕ)
+    (other_log : PoolLog) : Type 0 where
   pub steps : List PoolStep
-  pub allowed : All (λ entry. IsAllowed entry.outcome) (history_of machine steps)
-  pub logged : log_of machine steps party ≡ log
-  pub other_logged : log_of machine steps other ≡ other_log
-
--- the logs after one more entry of a party, whose log was this
-abbrev pub with_entry : List PoolLog → ℕ → PoolLog → PoolEntry → List PoolLog
-with_entry logs party log entry = slice_set logs party (log ++ entry ∷ [])
+  pub allowed : AllAllowed (history_of scene steps)
+  pub logged : log_of scene steps party ≡ log
+  pub other_logged : log_of scene steps other ≡ other_log

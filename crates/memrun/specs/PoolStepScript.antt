@@ -2,7 +2,8 @@
 use Rattle.std.specs.Prelude.{ℕ, ◌≡◌, ◌^◌, ◌<◌, ◌≤◌, List, ◌++◌, codes, Option, Some, None}
 use Rattle.std.specs.Fmt.{decimal}
 use Rattle.std.specs.List.{flat_map}
-use Rattle.bb_memory_base.specs.PoolMachine.{PoolState, pool_opening, pool_after, pool_history, outcomes_of}
+use Rattle.bb_memory_base.specs.PoolMachine.{PoolState, all_free, pool_after}
+use Rattle.bb_memory_base.specs.PoolHistory.{pool_history, outcomes_of}
 use Rattle.bb_memory_base.specs.declared.steps.pool.PoolOutcome.{PoolOutcome}
 use Rattle.bb_memory_base.specs.declared.steps.pool.PoolOutcome.TheVariants as outcome
 use Rattle.bb_memory_base.specs.declared.steps.pool.PoolStep.{PoolStep}
@@ -84,7 +85,7 @@ abbrev pub pool_world_machine : Ghosts PoolState ℕ PoolStep PoolOutcome
 pool_world_machine = record {
   is_line = IsStepLine;
   line_text = step_line_text;
-  opens = λ count state. state ≡ pool_opening (record { buckets = count; parties = parties });
+  opens = λ count state. state ≡ all_free count parties;
   runs = PoolRuns;
   reply_text = outcome_line;
   state_text = held_line;

@@ -35,7 +35,7 @@ impl Model for PoolSteps {
 
 impl Machine for PoolSteps {
     ghost use Rattle.std.specs.Prelude.{◌≡◌};
-    ghost use Rattle.bb_memory_base.specs.PoolMachine.{pool_opening};
+    ghost use Rattle.bb_memory_base.specs.PoolMachine.{all_free};
     ghost use Rattle.memrun.specs.Parties.{parties};
     ghost use Rattle.memrun.specs.PoolStepScript.{IsStepLine, step_line_text, outcome_line, held_line, PoolRuns};
 
@@ -49,8 +49,7 @@ impl Machine for PoolSteps {
 
     ghost line_text = { step_line_text };
 
-    ghost opens = { λ count state.
-        state ≡ pool_opening (record { buckets = count; parties = parties }) };
+    ghost opens = { λ count state. state ≡ all_free count parties };
 
     ghost runs = { PoolRuns };
 

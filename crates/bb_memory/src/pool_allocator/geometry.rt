@@ -1,9 +1,9 @@
 //! Where the buckets of a region are.
 ghost use Rattle.std.specs.Prelude.{◌≡◌, ◌<◌, ◌≤◌, ◌^◌, ◌↔◌, IfOk, IsTrue};
-ghost use Rattle.bb_memory_base.specs.Region.{region_at};
+ghost use Rattle.bb_memory_base.specs.Region.{IsRegion, region_at};
 ghost use Rattle.bb_memory_base.specs.Chunk.{Chunk, IsInside};
 ghost use Rattle.bb_memory_base.specs.FirstPlace.{first_place};
-ghost use Rattle.bb_memory_base.specs.PoolGeometry.{IsCut, at_most, bucket_place, pool_geometry, stride};
+ghost use Rattle.bb_memory_base.specs.PoolGeometry.{IsCut, IsPoolGeometry, at_most, bucket_place, pool_geometry, stride};
 ghost use Rattle.bb_memory_base.specs.PoolObject.{MayGrow, MayShrink};
 ghost use Rattle.bb_memory.specs.Buckets.{IsPlaceOfBucket};
 ghost use Rattle.bb_memory.specs.Pool.{MayBeCut};
@@ -58,7 +58,7 @@ pub struct Geometry {
 }
 
 impl Model for Geometry {
-    ghost use Rattle.bb_memory_base.specs.Region.{region_at};
+    ghost use Rattle.bb_memory_base.specs.Region.{IsRegion, region_at};
     ghost use Rattle.bb_memory_base.specs.PoolGeometry.{PoolGeometry, pool_geometry};
     ghost use Rattle.bb_memory.specs.Buckets.{IsMeasured};
 
@@ -103,7 +103,9 @@ impl Geometry {
     /// How many buckets there are.
     #[inline]
     pub fn count(&self) -> u32
-        ensures { result ≡ self.now.buckets }
+        ensures value { result ≡ self.now.buckets }
+        ensures region { IsRegion self.now.region }
+        ensures geometry { IsPoolGeometry self.now }
     {
         self.buckets
     }

@@ -22,17 +22,17 @@ impl<'a> Model for Bucket<'a> {
 
     ghost Value = { TakenBucket };
 
-    ghost view = { λ a. taken_bucket a.buckets.now a.number a.len };
+    ghost view = { λ b. taken_bucket b.buckets.now b.number b.len };
 
-    ghost invariant = { λ a. (a.number < a.buckets.now.geometry.buckets)
-        × (a.len ≤ a.buckets.now.geometry.bucket.size) };
+    ghost invariant = { λ b. (b.number < b.buckets.now.scene.geometry.buckets)
+        × (b.len ≤ b.buckets.now.scene.geometry.bucket.size) };
 }
 
 impl<'a> Bucket<'a> {
     /// The bucket's number in its pool, from 0.
     pub fn number(&self) -> u32
         ensures value { result ≡ self.now.number }
-        ensures below { result < self.now.pool.geometry.buckets }
+        ensures below { result < self.now.allocator.scene.geometry.buckets }
     {
         self.number
     }
@@ -40,8 +40,8 @@ impl<'a> Bucket<'a> {
     /// The chunk in the bucket: it begins at the bucket's place, and has the length that was asked for last.
     pub fn chunk(&self) -> Chunk
         ensures value { result ≡ chunk_of self.now }
-        ensures short { result.len ≤ self.now.pool.geometry.bucket.size }
-        ensures inside { IsInside self.now.pool.geometry.region result }
+        ensures short { result.len ≤ self.now.allocator.scene.geometry.bucket.size }
+        ensures inside { IsInside self.now.allocator.scene.geometry.region result }
     {
         self.buckets.chunk(self.number, self.len)
     }

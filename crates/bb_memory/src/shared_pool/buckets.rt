@@ -1,17 +1,18 @@
 //! What both shared pools are: buckets with a flag each, on which any number of threads step.
-ghost use Rattle.std.specs.Prelude.{◌≡◌, ◌≢◌, ℕ, ◌<◌, ◌≤◌, ◌↔◌, ◌%◌, [], Some, None, IsErr, IfOk, IfErr, MatchBool, OnErr, length, slice_get, vec_capacity, vec_len};
+ghost use Rattle.std.specs.Prelude.{◌≡◌, ◌≢◌, ℕ, ◌<◌, ◌≤◌, ◌↔◌, ◌%◌, [], All, Some, None, IsErr, IfOk, IfErr, MatchBool, MatchOption, OnErr, slice_get, vec_capacity, vec_len};
+ghost use Rattle.bb_memory_base.specs.Region.{IsRegion};
 ghost use Rattle.bb_memory_base.specs.Chunk.{Chunk, IsInside};
 ghost use Rattle.bb_memory_base.specs.FirstPlace.{first_place};
-ghost use Rattle.bb_memory_base.specs.PoolGeometry.{bucket_place};
+ghost use Rattle.bb_memory_base.specs.PoolGeometry.{IsPoolGeometry, bucket_place};
 ghost use Rattle.bb_memory_base.specs.PoolObject.{IsWithin, MayGrow, MayShrink};
-ghost use Rattle.bb_memory_base.specs.PoolLogs.{HoldsInLog, next_bucket, pass_in};
-ghost use Rattle.bb_memory.specs.SharedPool.{AreInterleaved, HoldsAll, IsInterleaved, TakesBucket, chunk_of, figures_of, logged, party_of, resized, return_of};
-ghost use Rattle.bb_memory.specs.Seats.{number_of, view_log};
-ghost use Rattle.bb_memory.specs.SharedFlags.{HasLost, HasPassed, HasTaken, IsSeatOf, IsSeatOfIdle, all_parties};
+ghost use Rattle.bb_memory_base.specs.PoolLogs.{Interleaving, IsHeldAfter, next_bucket, pass_in};
+ghost use Rattle.bb_memory.specs.Seats.{fresh_from, number_of, standing_for, view_log};
+ghost use Rattle.bb_memory.specs.SharedPool.{AreAllHeldAfter, AreInterleaved, IsInterleaved, MayTake, chunk_of, fresh_party, resized, return_entry, with_entries};
+ghost use Rattle.bb_memory.specs.SharedPoolSteps.{HasRefused, HasTaken, IsSeatOf, TellsLoss, TellsTaking};
 
 use super::bucket::Bucket;
 use super::party::PoolParty;
-use super::rule::{Figures, Flags, Gather, GiveBack, GiveFirst, KeepFirst, Meet, Try, View};
+use super::rule::{Agreement, Gather, GiveFirst, KeepFirst, Meets, Returns, Scene, Tries, View};
 use crate::allocator::{AllocationError, AllocationGrowError, AllocationShrinkError};
 use crate::layout::{Chunk, Layout};
 use crate::pool_allocator::geometry::Geometry;
@@ -34,21 +35,21 @@ fn count_words(buckets: u32) -> usize
 /// Buckets with a flag each.
 #[derive(Drop)]
 pub struct SharedBuckets {
-    table: Table<u8, View, Figures, Flags, Global>,
-    figures: Figures,
+    table: Table<u8, View, Scene, Agreement, Global>,
+    scene: Scene,
 }
 
 impl Model for SharedBuckets {
     ghost use Rattle.std.specs.Prelude.{◌≡◌};
-    ghost use Rattle.bb_memory.specs.SharedPool.{SharedPool, pool_at};
-    ghost use Rattle.bb_memory.specs.SharedFlags.{IsFlagTable};
+    ghost use Rattle.bb_memory.specs.SharedPool.{SharedPool};
+    ghost use Rattle.bb_memory.specs.SharedPoolRule.{IsSharedPool};
 
     ghost Value = { SharedPool };
 
-    ghost view = { λ a. pool_at a.table.shared.table_id a.figures };
+    ghost view = { λ b. record { table = b.table.shared.table_id; scene = b.scene } };
 
-    ghost invariant = { λ a. (a.table.shared.key ≡ a.figures)
-        × IsFlagTable a.table.shared.table_id a.figures.geometry.buckets };
+    ghost invariant = { λ b. (b.table.shared.key ≡ b.scene)
+        × IsSharedPool b.table.shared.table_id b.scene };
 }
 
 impl SharedBuckets {
@@ -58,12 +59,14 @@ impl SharedBuckets {
         geometry: Geometry,
         parties: u32,
     ) -> Result<(SharedBuckets, Vec<PoolParty>), AllocationError>
-        requires { 0 < parties }
-        ensures geometry { IfOk result (λ made. made.0.geometry ≡ geometry) }
-        ensures parties { IfOk result (λ made. made.0.parties ≡ parties) }
+        requires parties { 1 ≤ parties }
+        ensures geometry { IfOk result (λ made. made.0.scene.geometry ≡ geometry) }
+        ensures parties { IfOk result (λ made. made.0.scene.parties ≡ parties) }
         ensures as_many { IfOk result (λ made. vec_len made.1 ≡ parties) }
-        ensures each { IfOk result (λ made. (number : ℕ) → number < parties
-            → slice_get made.1.items number ≡ Some (party_of made.0 number [])) }
+        ensures fresh { IfOk result (λ made. (number : ℕ) → number < parties
+            → slice_get made.1.items number ≡ Some (fresh_party made.0 number)) }
+        ensures theirs { IfOk result (λ made.
+            All (λ party. party.allocator ≡ made.0) made.1.items) }
         ensures refused { IfErr result (λ error. error ≡ AllocationError.OutOfMemory) }
     {
         let Ok(mut all) = Vec::with_capacity(alloc, parties as usize) else {
@@ -72,63 +75,58 @@ impl SharedBuckets {
         let Ok(flags) = Vec::from_elem(alloc, FREE, count_words(geometry.count())) else {
             return Err(AllocationError::OutOfMemory);
         };
-        let figures = Figures { geometry, parties };
-        let Ok((table, seat)) = Table::of_words(alloc, flags.as_slice(), &figures) else {
+        let scene = Scene { geometry, parties };
+        let Ok((table, seat)) = Table::of_words(alloc, flags.as_slice(), &scene) else {
             return Err(AllocationError::OutOfMemory);
         };
-        let buckets = SharedBuckets { table, figures };
-        buckets.deal(seat, parties, &mut all);
+        let buckets = SharedBuckets { table, scene };
+        buckets.seat_parties(seat, parties, &mut all);
         Ok((buckets, all))
     }
 
-    /// Gives each party its seat.
-    fn deal(&self, mut seat: Seat<u8, View>, parties: u32, all: &mut Vec<PoolParty>)
-        requires parties { self.now.parties ≡ parties }
-        requires table { seat.table_id ≡ self.now.table }
-        requires view { seat.me ≡ (all_parties (figures_of self.now), []) }
-        requires empty { (all.old.items ≡ []) × (vec_len all.old ≡ 0) }
-        requires room { parties ≤ vec_capacity all.old }
+    /// Gives each party a seat of its own.
+    fn seat_parties(&self, mut rest: Seat<u8, View>, parties: u32, all: &mut Vec<PoolParty>)
+        requires table { rest.table_id ≡ self.now.table }
+        requires seat { rest.me ≡ (standing_for self.now.scene (fresh_from 0 parties), []) }
+        requires parties { parties ≡ self.now.scene.parties }
+        requires empty { all.old.items ≡ [] }
+        requires room { (vec_len all.old ≡ 0) × (parties ≤ vec_capacity all.old) }
         ensures as_many { vec_len all.new ≡ parties }
-        ensures each { (number : ℕ) → number < parties
-            → slice_get all.new.items number ≡ Some (party_of self.now number []) }
+        ensures fresh { (number : ℕ) → number < parties
+            → slice_get all.new.items number ≡ Some (fresh_party self.now number) }
+        ensures theirs { All (λ party. party.allocator ≡ self.now) all.new.items }
     {
         for number in 0..parties {
-            let party_seat = self.table.shared.split_seat::<GiveFirst>(&mut seat);
-            all.push_reserved(PoolParty {
-                number,
-                seat: party_seat,
-            });
+            let seat = self.table.shared.split_seat::<GiveFirst>(&mut rest);
+            all.push_reserved(PoolParty { seat, number });
         }
     }
 
     /// One exchange on the flag of the bucket that the party tries next: whether it took the bucket.
     fn try_flag(&self, seat: &mut Seat<u8, View>, bucket: u32) -> bool
-        requires table { seat.old.table_id ≡ self.now.table }
-        requires seat { IsSeatOf (figures_of self.now) (number_of seat.old.me.0) (view_log seat.old.me.0)
-            seat.old.me }
+        requires seat { IsSeatOf self.now seat.old.table_id seat.old.me }
         requires next { next_bucket (view_log seat.old.me.0) ≡ bucket }
-        requires below { bucket < self.now.geometry.buckets }
+        requires below { bucket < self.now.scene.geometry.buckets }
         ensures table { seat.new.table_id ≡ seat.old.table_id }
-        ensures tried { MatchBool result
-            (HasTaken (figures_of self.now) (number_of seat.old.me.0) (view_log seat.old.me.0) bucket seat.new.me)
-            (HasLost (figures_of self.now) (number_of seat.old.me.0) (view_log seat.old.me.0) bucket
-            seat.new.me) }
+        ensures step { MatchBool result (TellsTaking bucket seat.old.me seat.new.me)
+            (TellsLoss bucket seat.old.me seat.new.me) }
     {
         let found = self
             .table
             .shared
-            .compare_exchange::<Try>(seat, bucket as usize, FREE, TAKEN);
+            .compare_exchange::<Tries>(seat, bucket as usize, FREE, TAKEN);
         found == FREE
     }
 
     /// One whole pass: an exchange on each flag from bucket 0 up, until one is taken.
     fn pass(&self, seat: &mut Seat<u8, View>) -> Option<u32>
-        requires table { seat.old.table_id ≡ self.now.table }
-        requires seat { IsSeatOfIdle (figures_of self.now) (number_of seat.old.me.0) (view_log seat.old.me.0)
-            seat.old.me }
+        requires seat { IsSeatOf self.now seat.old.table_id seat.old.me }
+        requires idle { pass_in (view_log seat.old.me.0) ≡ None }
+        requires interleaved { Interleaving self.now.scene (number_of seat.old.me.0)
+            (view_log seat.old.me.0) }
         ensures table { seat.new.table_id ≡ seat.old.table_id }
-        ensures passed { HasPassed (figures_of self.now) (number_of seat.old.me.0) (view_log seat.old.me.0)
-            result seat.new.me }
+        ensures pass { MatchOption result (HasRefused self.now.scene seat.old.me seat.new.me)
+            (HasTaken self.now.scene seat.old.me seat.new.me) }
     {
         for bucket in 0..self.count() {
             if self.try_flag(seat, bucket) {
@@ -144,17 +142,28 @@ impl SharedBuckets {
         party: &mut PoolParty,
         layout: Layout,
     ) -> Result<Bucket<'_>, AllocationError>
-        requires { party.old.pool ≡ self.now }
-        ensures taken { TakesBucket party.old layout result party.new }
-        ensures same_party { (party.new.pool ≡ self.now) × (party.new.number ≡ party.old.number) }
-        ensures same_pool { IfOk result (λ bucket. bucket.pool ≡ self.now) }
-        ensures held { IfOk result (λ bucket. HoldsInLog bucket.number party.new.log) }
-        ensures still_held { (other : ℕ) → HoldsInLog other party.old.log → HoldsInLog other party.new.log }
-        ensures alone { self.now.parties ≡ 1 → IsWithin self.now.geometry.bucket layout
-            → (IsErr result ↔ HoldsAll self.now.geometry.buckets party.old.log) }
+        requires party { party.old.allocator ≡ self.now }
+        ensures answer { MayTake party.old layout result party.new }
+        ensures party { party.new.allocator ≡ self.now }
+        ensures number { party.new.number ≡ party.old.number }
+        ensures bucket { IfOk result (λ bucket. bucket.allocator ≡ self.now) }
         ensures interleaved { IsInterleaved party.new }
+
+        // What is held after the party's log.
+        ensures held { IfOk result (λ bucket. IsHeldAfter party.new.log bucket.number) }
+        ensures still_held { (other : ℕ) → IsHeldAfter party.old.log other
+            → IsHeldAfter party.new.log other }
+        ensures alone { self.now.scene.parties ≡ 1 → IsWithin self.now.scene.geometry.bucket layout
+            → (IsErr result ↔ AreAllHeldAfter party.old.log self.now.scene.geometry.buckets) }
+
+        // The chunk in the bucket.
+        ensures inside { IfOk result (λ bucket.
+            IsInside self.now.scene.geometry.region (chunk_of bucket)) }
+        ensures aligned { IfOk result (λ bucket. (chunk_of bucket).place % layout.align ≡ 0) }
+        ensures exact_size { IfOk result (λ bucket. (chunk_of bucket).len ≡ layout.size) }
     {
-        let _ = &party.seat;
+        // What holds of the party is known from here on, also where no step is made.
+        let _ = &party.number;
         let bucket = self.bucket();
         if layout.size() > bucket.size() {
             return Err(AllocationError::SizeTooLarge);
@@ -172,37 +181,40 @@ impl SharedBuckets {
         }
     }
 
-    /// Frees the bucket, which the party's log holds.
+    /// Frees the bucket, which is held after the party's log.
     pub fn free(&self, party: &mut PoolParty, bucket: Bucket<'_>)
-        requires party { party.old.pool ≡ self.now }
-        requires bucket { bucket.pool ≡ self.now }
-        requires held { HoldsInLog bucket.number party.old.log }
-        ensures returned { party.new ≡ logged party.old (return_of party.old.number bucket.entry.number) }
-        ensures same_party { (party.new.pool ≡ self.now) × (party.new.number ≡ party.old.number) }
-        ensures given_back { ¬ HoldsInLog bucket.entry.number party.new.log }
-        ensures still_held { (other : ℕ) → other ≢ bucket.entry.number → HoldsInLog other party.old.log
-            → HoldsInLog other party.new.log }
+        requires party { party.old.allocator ≡ self.now }
+        requires bucket { bucket.allocator ≡ self.now }
+        requires held { IsHeldAfter party.old.log bucket.number }
+        ensures logged { party.new
+            ≡ with_entries party.old (return_entry party.old.number bucket.entry.number) }
+        ensures party { party.new.allocator ≡ self.now }
+        ensures number { party.new.number ≡ party.old.number }
         ensures interleaved { IsInterleaved party.new }
+        ensures given_back { ¬ IsHeldAfter party.new.log bucket.entry.number }
+        ensures still_held { (other : ℕ) → other ≢ bucket.entry.number
+            → IsHeldAfter party.old.log other → IsHeldAfter party.new.log other }
     {
         self.table
             .shared
-            .store::<GiveBack>(&mut party.seat, bucket.number as usize, FREE);
+            .store::<Returns>(&mut party.seat, bucket.number as usize, FREE);
     }
 
     /// Compares the logs of two parties, which it changes no more than any word.
-    pub fn meet(&self, one: &mut PoolParty, other: &mut PoolParty)
-        requires one { one.old.pool ≡ self.now }
-        requires other { other.old.pool ≡ self.now }
-        ensures kept { (one.new ≡ one.old) × (other.new ≡ other.old) }
-        ensures differ { one.old.number ≢ other.old.number }
-        ensures apart { (bucket : ℕ) → HoldsInLog bucket one.old.log → ¬ HoldsInLog bucket other.old.log }
-        ensures interleaved { AreInterleaved one.old other.old }
+    pub fn meet(&self, a: &mut PoolParty, b: &mut PoolParty)
+        requires a { a.old.allocator ≡ self.now }
+        requires b { b.old.allocator ≡ self.now }
+        ensures kept { (a.new ≡ a.old) × (b.new ≡ b.old) }
+        ensures differ { a.old.number ≢ b.old.number }
+        ensures apart { (bucket : ℕ) → IsHeldAfter a.old.log bucket
+            → ¬ IsHeldAfter b.old.log bucket }
+        ensures interleaved { AreInterleaved a.old b.old }
     {
         let shared = &self.table.shared;
-        let guest = shared.split_seat::<GiveFirst>(&mut other.seat);
-        shared.join_seat::<Gather>(&mut one.seat, guest);
-        shared.load::<Meet>(&mut one.seat, 0);
-        other.seat = shared.split_seat::<KeepFirst>(&mut one.seat);
+        let guest = shared.split_seat::<GiveFirst>(&mut b.seat);
+        shared.join_seat::<Gather>(&mut a.seat, guest);
+        shared.load::<Meets>(&mut a.seat, 0);
+        b.seat = shared.split_seat::<KeepFirst>(&mut a.seat);
     }
 
     /// Gives the bucket's chunk the new size, where it may grow so.
@@ -212,16 +224,17 @@ impl SharedBuckets {
         old: Layout,
         new: Layout,
     ) -> Result<Chunk, AllocationGrowError>
-        requires bucket { bucket.old.pool ≡ self.now }
+        requires bucket { bucket.old.allocator ≡ self.now }
         requires aligned { (chunk_of bucket.old).place % old.align ≡ 0 }
-        ensures answer { MayGrow self.now.geometry.bucket (chunk_of bucket.old).place old new result }
+        ensures answer { MayGrow self.now.scene.geometry.bucket (chunk_of bucket.old).place
+            old new result }
         ensures resized { IfOk result (λ grown. bucket.new ≡ resized bucket.old grown.len) }
         ensures chunk { IfOk result (λ grown. chunk_of bucket.new ≡ grown) }
-        ensures inside { IfOk result (IsInside self.now.geometry.region) }
+        ensures inside { IfOk result (IsInside self.now.scene.geometry.region) }
         ensures kept { OnErr result (bucket.new ≡ bucket.old) }
     {
         let place = bucket.chunk().place();
-        let grown = self.figures.geometry.grow(place, old, new)?;
+        let grown = self.scene.geometry.grow(place, old, new)?;
         bucket.len = grown.len();
         Ok(grown)
     }
@@ -233,57 +246,62 @@ impl SharedBuckets {
         old: Layout,
         new: Layout,
     ) -> Result<Chunk, AllocationShrinkError>
-        requires bucket { bucket.old.pool ≡ self.now }
+        requires bucket { bucket.old.allocator ≡ self.now }
         requires aligned { (chunk_of bucket.old).place % old.align ≡ 0 }
-        requires reserved { old.size ≤ self.now.geometry.bucket.size }
-        ensures answer { MayShrink self.now.geometry.bucket (chunk_of bucket.old).place old new result }
+        requires reserved { old.size ≤ self.now.scene.geometry.bucket.size }
+        ensures answer { MayShrink self.now.scene.geometry.bucket (chunk_of bucket.old).place
+            old new result }
         ensures resized { IfOk result (λ shrunk. bucket.new ≡ resized bucket.old shrunk.len) }
         ensures chunk { IfOk result (λ shrunk. chunk_of bucket.new ≡ shrunk) }
-        ensures inside { IfOk result (IsInside self.now.geometry.region) }
+        ensures inside { IfOk result (IsInside self.now.scene.geometry.region) }
         ensures kept { OnErr result (bucket.new ≡ bucket.old) }
     {
         let place = bucket.chunk().place();
-        let shrunk = self.figures.geometry.shrink(place, old, new)?;
+        let shrunk = self.scene.geometry.shrink(place, old, new)?;
         bucket.len = shrunk.len();
         Ok(shrunk)
     }
 
     /// How many buckets there are.
     pub fn count(&self) -> u32
-        ensures { result ≡ self.now.geometry.buckets }
+        ensures value { result ≡ self.now.scene.geometry.buckets }
+        ensures region { IsRegion self.now.scene.geometry.region }
+        ensures geometry { IsPoolGeometry self.now.scene.geometry }
+        ensures parties { 1 ≤ self.now.scene.parties }
     {
-        self.figures.geometry.count()
+        self.scene.geometry.count()
     }
 
     /// The layout of each bucket.
     pub fn bucket(&self) -> Layout
-        ensures { result ≡ self.now.geometry.bucket }
+        ensures { result ≡ self.now.scene.geometry.bucket }
     {
-        self.figures.geometry.bucket()
+        self.scene.geometry.bucket()
     }
 
     /// How many bytes the region has.
     pub fn region_size(&self) -> usize
-        ensures { result ≡ self.now.geometry.region.size }
+        ensures { result ≡ self.now.scene.geometry.region.size }
     {
-        self.figures.geometry.region_size()
+        self.scene.geometry.region_size()
     }
 
     /// Where the first bucket is.
     pub fn first(&self) -> usize
-        ensures { result ≡ first_place self.now.geometry.region self.now.geometry.bucket }
+        ensures { result
+            ≡ first_place self.now.scene.geometry.region self.now.scene.geometry.bucket }
     {
-        self.figures.geometry.first()
+        self.scene.geometry.first()
     }
 
     /// The first `len` bytes of a bucket.
     pub fn chunk(&self, bucket: u32, len: usize) -> Chunk
-        requires below { bucket < self.now.geometry.buckets }
-        requires short { len ≤ self.now.geometry.bucket.size }
-        ensures value { let chunk : Chunk = record { place = bucket_place self.now.geometry bucket; len = len } in
-            result ≡ chunk }
-        ensures inside { IsInside self.now.geometry.region result }
+        requires below { bucket < self.now.scene.geometry.buckets }
+        requires short { len ≤ self.now.scene.geometry.bucket.size }
+        ensures value { let place = bucket_place self.now.scene.geometry bucket in
+            let chunk : Chunk = record { place = place; len = len } in result ≡ chunk }
+        ensures inside { IsInside self.now.scene.geometry.region result }
     {
-        self.figures.geometry.chunk(bucket as usize, len)
+        self.scene.geometry.chunk(bucket as usize, len)
     }
 }

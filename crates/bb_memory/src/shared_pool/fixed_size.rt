@@ -1,12 +1,12 @@
 //! A shared pool of at most a constant of buckets.
-ghost use Rattle.std.specs.Prelude.{◌≡◌, ◌≢◌, ◌-◌, ◌<◌, ◌≤◌, ◌↔◌, ◌%◌, ◌^◌, [], ℕ, Some, IsErr, IfOk, IfErr, OnErr, slice_get, vec_len};
-ghost use Rattle.bb_memory_base.specs.Region.{region_at};
+ghost use Rattle.std.specs.Prelude.{◌≡◌, ◌≢◌, ◌-◌, ◌<◌, ◌≤◌, ◌↔◌, ◌%◌, ◌^◌, ℕ, All, Some, IsErr, IfOk, IfErr, OnErr, slice_get, vec_len};
+ghost use Rattle.bb_memory_base.specs.Region.{IsRegion, region_at};
 ghost use Rattle.bb_memory_base.specs.Chunk.{IsInside};
-ghost use Rattle.bb_memory_base.specs.PoolGeometry.{PoolGeometry, IsCut, at_most};
+ghost use Rattle.bb_memory_base.specs.PoolGeometry.{PoolGeometry, IsCut, IsPoolGeometry, at_most};
 ghost use Rattle.bb_memory_base.specs.PoolObject.{IsWithin, MayGrow, MayShrink};
-ghost use Rattle.bb_memory_base.specs.PoolLogs.{HoldsInLog};
+ghost use Rattle.bb_memory_base.specs.PoolLogs.{IsHeldAfter};
 ghost use Rattle.bb_memory.specs.Pool.{MayBeCut};
-ghost use Rattle.bb_memory.specs.SharedPool.{AreInterleaved, HoldsAll, IsInterleaved, TakesBucket, chunk_of, logged, party_of, resized, return_of};
+ghost use Rattle.bb_memory.specs.SharedPool.{AreAllHeldAfter, AreInterleaved, IsInterleaved, MayTake, chunk_of, fresh_party, resized, return_entry, with_entries};
 
 use super::bucket::Bucket;
 use super::buckets::SharedBuckets;
@@ -57,14 +57,16 @@ impl<const MAX_NUMBER_OF_BUCKETS: usize> SharedFixedSizePoolAllocator<MAX_NUMBER
     ) -> Result<(Self, Vec<PoolParty>), AllocationError>
         requires cut { MayBeCut (region_at start size) bucket_layout }
         requires most { MAX_NUMBER_OF_BUCKETS < 2 ^ 32 - 1 }
-        requires some_party { 0 < parties }
+        requires parties { 1 ≤ parties }
         ensures geometry { IfOk result (λ made. (whole : PoolGeometry)
             × IsCut (region_at start size) bucket_layout whole
-            × (made.0.geometry ≡ at_most MAX_NUMBER_OF_BUCKETS whole)) }
-        ensures parties { IfOk result (λ made. made.0.parties ≡ parties) }
+            × (made.0.scene.geometry ≡ at_most MAX_NUMBER_OF_BUCKETS whole)) }
+        ensures parties { IfOk result (λ made. made.0.scene.parties ≡ parties) }
         ensures as_many { IfOk result (λ made. vec_len made.1 ≡ parties) }
-        ensures each { IfOk result (λ made. (number : ℕ) → number < parties
-            → slice_get made.1.items number ≡ Some (party_of made.0 number [])) }
+        ensures fresh { IfOk result (λ made. (number : ℕ) → number < parties
+            → slice_get made.1.items number ≡ Some (fresh_party made.0 number)) }
+        ensures theirs { IfOk result (λ made.
+            All (λ party. party.allocator ≡ made.0) made.1.items) }
         ensures refused { IfErr result (λ error. error ≡ AllocationError.OutOfMemory) }
     {
         let geometry = Geometry::new(bucket_layout, start, size).at_most(
@@ -84,17 +86,25 @@ impl<const MAX_NUMBER_OF_BUCKETS: usize> SharedFixedSizePoolAllocator<MAX_NUMBER
         party: &mut PoolParty,
         layout: Layout,
     ) -> Result<Bucket<'_>, AllocationError>
-        requires { party.old.pool ≡ self.now }
-        ensures taken { TakesBucket party.old layout result party.new }
-        ensures same_party { (party.new.pool ≡ self.now) × (party.new.number ≡ party.old.number) }
-        ensures same_pool { IfOk result (λ bucket. bucket.pool ≡ self.now) }
-
-        // Of what the party's log holds.
-        ensures held { IfOk result (λ bucket. HoldsInLog bucket.number party.new.log) }
-        ensures still_held { (other : ℕ) → HoldsInLog other party.old.log → HoldsInLog other party.new.log }
-        ensures alone { self.now.parties ≡ 1 → IsWithin self.now.geometry.bucket layout
-            → (IsErr result ↔ HoldsAll self.now.geometry.buckets party.old.log) }
+        requires party { party.old.allocator ≡ self.now }
+        ensures answer { MayTake party.old layout result party.new }
+        ensures party { party.new.allocator ≡ self.now }
+        ensures number { party.new.number ≡ party.old.number }
+        ensures bucket { IfOk result (λ bucket. bucket.allocator ≡ self.now) }
         ensures interleaved { IsInterleaved party.new }
+
+        // What is held after the party's log.
+        ensures held { IfOk result (λ bucket. IsHeldAfter party.new.log bucket.number) }
+        ensures still_held { (other : ℕ) → IsHeldAfter party.old.log other
+            → IsHeldAfter party.new.log other }
+        ensures alone { self.now.scene.parties ≡ 1 → IsWithin self.now.scene.geometry.bucket layout
+            → (IsErr result ↔ AreAllHeldAfter party.old.log self.now.scene.geometry.buckets) }
+
+        // The chunk in the bucket.
+        ensures inside { IfOk result (λ bucket.
+            IsInside self.now.scene.geometry.region (chunk_of bucket)) }
+        ensures aligned { IfOk result (λ bucket. (chunk_of bucket).place % layout.align ≡ 0) }
+        ensures exact_size { IfOk result (λ bucket. (chunk_of bucket).len ≡ layout.size) }
     {
         self.buckets.allocate(party, layout)
     }
@@ -102,30 +112,33 @@ impl<const MAX_NUMBER_OF_BUCKETS: usize> SharedFixedSizePoolAllocator<MAX_NUMBER
     /// Gives back a bucket by one store, which makes its flag free. The party and the bucket have to be this pool's, and the
     /// party's log has to hold the bucket: this party took it, and it wasn't given back since.
     pub fn deallocate_bucket(&self, party: &mut PoolParty, bucket: Bucket<'_>)
-        requires party { party.old.pool ≡ self.now }
-        requires bucket { bucket.pool ≡ self.now }
-        requires held { HoldsInLog bucket.number party.old.log }
-        ensures returned { party.new ≡ logged party.old (return_of party.old.number bucket.entry.number) }
-        ensures same_party { (party.new.pool ≡ self.now) × (party.new.number ≡ party.old.number) }
-        ensures given_back { ¬ HoldsInLog bucket.entry.number party.new.log }
-        ensures still_held { (other : ℕ) → other ≢ bucket.entry.number → HoldsInLog other party.old.log
-            → HoldsInLog other party.new.log }
+        requires party { party.old.allocator ≡ self.now }
+        requires bucket { bucket.allocator ≡ self.now }
+        requires held { IsHeldAfter party.old.log bucket.number }
+        ensures logged { party.new
+            ≡ with_entries party.old (return_entry party.old.number bucket.entry.number) }
+        ensures party { party.new.allocator ≡ self.now }
+        ensures number { party.new.number ≡ party.old.number }
         ensures interleaved { IsInterleaved party.new }
+        ensures given_back { ¬ IsHeldAfter party.new.log bucket.entry.number }
+        ensures still_held { (other : ℕ) → other ≢ bucket.entry.number
+            → IsHeldAfter party.old.log other → IsHeldAfter party.new.log other }
     {
         self.buckets.free(party, bucket);
     }
 
     /// Tells that two parties hold different buckets. It changes nothing: it loads a word, and adds nothing to a log. The
     /// parties have to be this pool's.
-    pub fn meet(&self, one: &mut PoolParty, other: &mut PoolParty)
-        requires one { one.old.pool ≡ self.now }
-        requires other { other.old.pool ≡ self.now }
-        ensures kept { (one.new ≡ one.old) × (other.new ≡ other.old) }
-        ensures differ { one.old.number ≢ other.old.number }
-        ensures apart { (bucket : ℕ) → HoldsInLog bucket one.old.log → ¬ HoldsInLog bucket other.old.log }
-        ensures interleaved { AreInterleaved one.old other.old }
+    pub fn meet(&self, a: &mut PoolParty, b: &mut PoolParty)
+        requires a { a.old.allocator ≡ self.now }
+        requires b { b.old.allocator ≡ self.now }
+        ensures kept { (a.new ≡ a.old) × (b.new ≡ b.old) }
+        ensures differ { a.old.number ≢ b.old.number }
+        ensures apart { (bucket : ℕ) → IsHeldAfter a.old.log bucket
+            → ¬ IsHeldAfter b.old.log bucket }
+        ensures interleaved { AreInterleaved a.old b.old }
     {
-        self.buckets.meet(one, other);
+        self.buckets.meet(a, b);
     }
 
     /// Gives the bucket's chunk the new size, in its bucket and without a step. It is refused in this order: with
@@ -138,12 +151,13 @@ impl<const MAX_NUMBER_OF_BUCKETS: usize> SharedFixedSizePoolAllocator<MAX_NUMBER
         old: Layout,
         new: Layout,
     ) -> Result<Chunk, AllocationGrowError>
-        requires bucket { bucket.old.pool ≡ self.now }
+        requires bucket { bucket.old.allocator ≡ self.now }
         requires aligned { (chunk_of bucket.old).place % old.align ≡ 0 }
-        ensures answer { MayGrow self.now.geometry.bucket (chunk_of bucket.old).place old new result }
+        ensures answer { MayGrow self.now.scene.geometry.bucket (chunk_of bucket.old).place
+            old new result }
         ensures resized { IfOk result (λ grown. bucket.new ≡ resized bucket.old grown.len) }
         ensures chunk { IfOk result (λ grown. chunk_of bucket.new ≡ grown) }
-        ensures inside { IfOk result (IsInside self.now.geometry.region) }
+        ensures inside { IfOk result (IsInside self.now.scene.geometry.region) }
         ensures kept { OnErr result (bucket.new ≡ bucket.old) }
     {
         self.buckets.grow(bucket, old, new)
@@ -159,13 +173,14 @@ impl<const MAX_NUMBER_OF_BUCKETS: usize> SharedFixedSizePoolAllocator<MAX_NUMBER
         old: Layout,
         new: Layout,
     ) -> Result<Chunk, AllocationShrinkError>
-        requires bucket { bucket.old.pool ≡ self.now }
+        requires bucket { bucket.old.allocator ≡ self.now }
         requires aligned { (chunk_of bucket.old).place % old.align ≡ 0 }
-        requires reserved { old.size ≤ self.now.geometry.bucket.size }
-        ensures answer { MayShrink self.now.geometry.bucket (chunk_of bucket.old).place old new result }
+        requires reserved { old.size ≤ self.now.scene.geometry.bucket.size }
+        ensures answer { MayShrink self.now.scene.geometry.bucket (chunk_of bucket.old).place
+            old new result }
         ensures resized { IfOk result (λ shrunk. bucket.new ≡ resized bucket.old shrunk.len) }
         ensures chunk { IfOk result (λ shrunk. chunk_of bucket.new ≡ shrunk) }
-        ensures inside { IfOk result (IsInside self.now.geometry.region) }
+        ensures inside { IfOk result (IsInside self.now.scene.geometry.region) }
         ensures kept { OnErr result (bucket.new ≡ bucket.old) }
     {
         self.buckets.shrink(bucket, old, new)
@@ -173,28 +188,31 @@ impl<const MAX_NUMBER_OF_BUCKETS: usize> SharedFixedSizePoolAllocator<MAX_NUMBER
 
     /// How many buckets there are.
     pub fn number_of_buckets(&self) -> u32
-        ensures { result ≡ self.now.geometry.buckets }
+        ensures value { result ≡ self.now.scene.geometry.buckets }
+        ensures region { IsRegion self.now.scene.geometry.region }
+        ensures geometry { IsPoolGeometry self.now.scene.geometry }
+        ensures parties { 1 ≤ self.now.scene.parties }
     {
         self.buckets.count()
     }
 
     /// The size of a bucket in bytes, as it was asked for. The buckets are at least that far apart.
     pub fn bucket_size(&self) -> usize
-        ensures { result ≡ self.now.geometry.bucket.size }
+        ensures { result ≡ self.now.scene.geometry.bucket.size }
     {
         self.buckets.bucket().size()
     }
 
     /// The greatest alignment that a request may have, of which each bucket's place is a multiple.
     pub fn max_alignment(&self) -> usize
-        ensures { result ≡ self.now.geometry.bucket.align }
+        ensures { result ≡ self.now.scene.geometry.bucket.align }
     {
         self.buckets.bucket().align()
     }
 
     /// How many bytes the region has, as it was handed in.
     pub fn size(&self) -> usize
-        ensures { result ≡ self.now.geometry.region.size }
+        ensures { result ≡ self.now.scene.geometry.region.size }
     {
         self.buckets.region_size()
     }

@@ -1,6 +1,6 @@
 //! Parties, each of which is one user's right to step on a shared pool.
 ghost use Rattle.std.specs.Prelude.{◌≡◌};
-ghost use Rattle.bb_memory.specs.SharedPool.{IsInterleaved};
+ghost use Rattle.bb_memory.specs.SharedPool.{IsParty};
 
 use super::rule::View;
 use atomic_table::Seat;
@@ -10,26 +10,26 @@ use std::marker::Model;
 /// of its steps, its log, is known to contracts alone.
 #[derive(Drop)]
 pub struct PoolParty {
-    pub(super) number: u32,
     pub(super) seat: Seat<u8, View>,
+    pub(super) number: u32,
 }
 
 impl Model for PoolParty {
-    ghost use Rattle.bb_memory.specs.SharedPool.{Party};
-    ghost use Rattle.bb_memory.specs.SharedFlags.{IsPartySeat, party_in};
+    ghost use Rattle.bb_memory.specs.SharedPool.{PoolParty};
+    ghost use Rattle.bb_memory.specs.SharedPoolRule.{IsSeatedParty, party_of};
 
-    ghost Value = { Party };
+    ghost Value = { PoolParty };
 
-    ghost view = { λ a. party_in a.seat.table_id a.number a.seat.me.0 };
+    ghost view = { λ p. party_of p.seat.table_id p.seat.me p.number };
 
-    ghost invariant = { λ a. IsPartySeat a.number a.seat.me };
+    ghost invariant = { λ p. IsSeatedParty p.seat.table_id p.seat.me p.number };
 }
 
 impl PoolParty {
-    /// The party's number in its pool, from 0.
+    /// The party's number in its pool, from 0 and below how many parties there are.
     pub fn number(&self) -> u32
         ensures value { result ≡ self.now.number }
-        ensures interleaved { IsInterleaved self.now }
+        ensures party { IsParty self.now }
     {
         self.number
     }

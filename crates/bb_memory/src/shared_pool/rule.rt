@@ -1,70 +1,70 @@
-//! The rule of a shared pool's flags, the steps on them, and how seats are dealt.
+//! The rule of a shared pool's words, and what each atomic step on them tells.
 use crate::pool_allocator::geometry::Geometry;
 use atomic_table::{Join, Play, Split, TableRule};
 use std::marker::Model;
 
-/// What a shared pool is made of.
+/// The scene of a shared pool's machine: where it begins.
 #[derive(Drop)]
-pub struct Figures {
+pub struct Scene {
     pub geometry: Geometry,
     pub parties: u32,
 }
 
-impl Model for Figures {
-    ghost use Rattle.bb_memory.specs.SharedPool.{PoolFigures};
+impl Model for Scene {
+    ghost use Rattle.bb_memory_base.specs.PoolMachine.{PoolScene};
 
-    ghost Value = { PoolFigures };
+    ghost Value = { PoolScene };
 
-    ghost view = { λ a. record { geometry = a.geometry; parties = a.parties } };
+    ghost view = { λ s. record { geometry = s.geometry; parties = s.parties } };
 }
 
-/// The parties that a seat stands for, each with its log. No value of it is made.
+/// What a seat knows: the parties that it stands for, each with its log. No value of this type is made.
 pub struct View {}
 
 impl Model for View {
-    ghost use Rattle.bb_memory.specs.SharedFlags.{SeatView, nobody};
+    ghost use Rattle.bb_memory.specs.SharedPoolRule.{SeatView, nobody};
 
     ghost Value = { SeatView };
 
-    ghost view = { λ a. nobody };
+    ghost view = { λ v. nobody };
 }
 
-/// The flags and the logs of the parties agree.
-pub struct Flags;
+/// Words and logs agree.
+pub struct Agreement;
 
-impl TableRule<u8, View, Figures> for Flags {
-    ghost use Rattle.bb_memory.specs.SharedFlags.{WordsAndLogsAgree, all_parties};
+impl TableRule<u8, View, Scene> for Agreement {
+    ghost use Rattle.bb_memory.specs.SharedPoolRule.{WordsAndLogsAgree, all_parties};
 
     ghost holds = { WordsAndLogsAgree };
 
     ghost first = { all_parties };
 }
 
-/// A party's exchange from free to taken.
-pub struct Try;
+/// An exchange from free to taken.
+pub struct Tries;
 
-impl Play<u8, View> for Try {
-    ghost use Rattle.bb_memory.specs.SharedFlags.{tells_try};
+impl Play<u8, View> for Tries {
+    ghost use Rattle.bb_memory.specs.SharedPoolSteps.{tries};
 
-    ghost then = { tells_try };
+    ghost then = { tries };
 }
 
-/// A store of free by the party whose log holds the bucket.
-pub struct GiveBack;
+/// A store of free, by a party after whose log the bucket is held.
+pub struct Returns;
 
-impl Play<u8, View> for GiveBack {
-    ghost use Rattle.bb_memory.specs.SharedFlags.{tells_return};
+impl Play<u8, View> for Returns {
+    ghost use Rattle.bb_memory.specs.SharedPoolSteps.{returns};
 
-    ghost then = { tells_return };
+    ghost then = { returns };
 }
 
 /// A load by a seat that stands for two parties.
-pub struct Meet;
+pub struct Meets;
 
-impl Play<u8, View> for Meet {
-    ghost use Rattle.bb_memory.specs.SharedFlags.{tells_meeting};
+impl Play<u8, View> for Meets {
+    ghost use Rattle.bb_memory.specs.SharedPoolSteps.{meets};
 
-    ghost then = { tells_meeting };
+    ghost then = { meets };
 }
 
 /// The first party goes to the new seat.
@@ -89,12 +89,12 @@ impl Split<View> for KeepFirst {
     ghost right = { others_of };
 }
 
-/// One seat stands for the parties of both.
+/// One seat stands for the parties of two.
 pub struct Gather;
 
 impl Join<View> for Gather {
     ghost use Rattle.bb_memory.specs.Seats.{both_of};
-    ghost use Rattle.bb_memory.specs.SharedFlags.{nobody};
+    ghost use Rattle.bb_memory.specs.SharedPoolRule.{nobody};
 
     ghost both = { both_of };
 

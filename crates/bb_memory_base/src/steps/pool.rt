@@ -1,13 +1,14 @@
-//! The steps of the pool machine, and what holds of every list of them.
+//! The steps of the pool scene, and what holds of every list of them.
 ghost use Rattle.std.specs.Prelude.{◌≡◌, ◌<◌, ◌≤◌, ◌↔◌, ℕ, Bool, true, false, List, [], Some, All, drop, length, replicate, slice_get, slice_set, take};
 ghost use Rattle.bb_memory_base.specs.Region.{Region};
 ghost use Rattle.bb_memory_base.specs.Chunk.{Chunk};
 ghost use Rattle.bb_memory_base.specs.LiveList.{IsSound};
 ghost use Rattle.bb_memory_base.specs.PoolGeometry.{PoolGeometry, pool_geometry, FillsRegion, IsPoolGeometry, at_most};
 ghost use Rattle.bb_memory_base.specs.PoolObject.{IsHeld};
-ghost use Rattle.bb_memory_base.specs.PoolMachine.{PoolMachine, PoolEntry, PoolLog, entry_of, IsHolder, IsTaken, state_after, history_of, log_of};
-ghost use Rattle.bb_memory_base.specs.PoolCalls.{AreAsked, AreCalls, IsPoolRun, machine_of, IsRefusedAt, LosesAt, FoundHeld};
-ghost use Rattle.bb_memory_base.specs.PoolLogs.{CommonInterleaving, HoldsInLog, Interleaving, IsAllowed, LogsAgree, loss_at, next_bucket, pass_in, with_entry};
+ghost use Rattle.bb_memory_base.specs.PoolMachine.{PoolScene, IsHolder, IsTaken, left_by};
+ghost use Rattle.bb_memory_base.specs.PoolHistory.{PoolLog, entry_of, history_of, log_of};
+ghost use Rattle.bb_memory_base.specs.PoolCalls.{AreAsked, AreCalls, IsPoolRun, IsRefusedAt, LosesAt, FoundHeld};
+ghost use Rattle.bb_memory_base.specs.PoolLogs.{AllAllowed, CommonInterleaving, HasLog, Interleaving, IsHeldAfter, LogsAgree, loss_at, next_bucket, pass_in, with_entry};
 ghost use Rattle.bb_memory_base.specs.declared.layout.Layout.{Layout};
 ghost use Rattle.bb_memory_base.specs.declared.steps.pool.PoolStep.{PoolStep};
 ghost use Rattle.bb_memory_base.specs.declared.steps.pool.PoolStep.TheVariants.{Try, GiveBack};
@@ -56,139 +57,133 @@ pub fn pool_theorem()
 
     // The takings and returns are a run of the pool object from the empty list, whichever layouts within the bucket's
     // size and alignment are asked for.
-    ensures run { (geometry : PoolGeometry) (parties : ℕ) (steps : List PoolStep)
-        (layouts : List Layout) → IsPoolGeometry geometry → AreAsked geometry steps layouts
-        → (live : List Chunk) × IsPoolRun geometry parties steps layouts live }
+    ensures run { (scene : PoolScene) (steps : List PoolStep) (layouts : List Layout)
+        → IsPoolGeometry scene.geometry → AreAsked scene.geometry steps layouts
+        → (live : List Chunk) × IsPoolRun scene steps layouts live }
 
     // Such a run has a list at every step: a run of the steps before leaves it, and the others are a run from it.
-    ensures every_step { (geometry : PoolGeometry) (parties : ℕ) (steps : List PoolStep)
-        (layouts : List Layout) (live : List Chunk) (k : ℕ)
-        → IsPoolRun geometry parties steps layouts live
-        → (there : List Chunk) × IsPoolRun geometry parties (take k steps) (take k layouts) there
-        × (let history = history_of (machine_of geometry parties) steps in
-        AreCalls geometry there (drop k layouts) (drop k history) live) }
+    ensures every_step { (scene : PoolScene) (steps : List PoolStep) (layouts : List Layout)
+        (live : List Chunk) (k : ℕ) → IsPoolRun scene steps layouts live
+        → (there : List Chunk) × IsPoolRun scene (take k steps) (take k layouts) there
+        × (let history = history_of scene steps in
+        AreCalls scene.geometry there (drop k layouts) (drop k history) live) }
 
     // The taken flags are the buckets that are held in the list that such a run leaves.
-    ensures taken { (geometry : PoolGeometry) (parties : ℕ) (steps : List PoolStep)
-        (layouts : List Layout) (live : List Chunk) (bucket : ℕ) → IsPoolGeometry geometry
-        → IsPoolRun geometry parties steps layouts live → bucket < geometry.buckets
-        → (IsTaken (state_after (machine_of geometry parties) steps) bucket
-        ↔ IsHeld geometry live bucket) }
+    ensures taken { (scene : PoolScene) (steps : List PoolStep) (layouts : List Layout)
+        (live : List Chunk) (bucket : ℕ) → IsPoolGeometry scene.geometry
+        → IsPoolRun scene steps layouts live → bucket < scene.geometry.buckets
+        → (IsTaken (left_by scene steps) bucket ↔ IsHeld scene.geometry live bucket) }
 
     // That list is sound: its chunks are inside the region, and no two overlap.
-    ensures sound { (geometry : PoolGeometry) (parties : ℕ) (steps : List PoolStep)
-        (layouts : List Layout) (live : List Chunk) → IsPoolGeometry geometry
-        → IsPoolRun geometry parties steps layouts live → IsSound geometry.region live }
+    ensures sound { (scene : PoolScene) (steps : List PoolStep) (layouts : List Layout)
+        (live : List Chunk) → IsPoolGeometry scene.geometry
+        → IsPoolRun scene steps layouts live → IsSound scene.geometry.region live }
 
     // A flag's holder is the party whose log holds the bucket.
-    ensures holder { (machine : PoolMachine) (steps : List PoolStep) (party bucket : ℕ)
-        → (IsHolder (state_after machine steps) bucket party
-        ↔ HoldsInLog bucket (log_of machine steps party)) }
+    ensures holder { (scene : PoolScene) (steps : List PoolStep) (party bucket : ℕ)
+        → (IsHolder (left_by scene steps) bucket party
+        ↔ IsHeldAfter (log_of scene steps party) bucket) }
 
     // No two parties hold one bucket.
-    ensures one_holder { (machine : PoolMachine) (steps : List PoolStep) (party other bucket : ℕ)
-        → HoldsInLog bucket (log_of machine steps party)
-        → HoldsInLog bucket (log_of machine steps other) → party ≡ other }
+    ensures one_holder { (scene : PoolScene) (steps : List PoolStep) (party other bucket : ℕ)
+        → IsHeldAfter (log_of scene steps party) bucket
+        → IsHeldAfter (log_of scene steps other) bucket → party ≡ other }
 
     // A pass that is refused has, for each bucket, a step at which it lost that bucket, which was then held in the run.
-    ensures refused { (geometry : PoolGeometry) (parties : ℕ) (steps : List PoolStep)
-        (party last bucket : ℕ) → IsPoolGeometry geometry
-        → IsRefusedAt (history_of (machine_of geometry parties) steps) party last
-        → bucket < geometry.buckets → FoundHeld geometry parties steps party last bucket }
+    ensures refused { (scene : PoolScene) (steps : List PoolStep) (party last bucket : ℕ)
+        → IsPoolGeometry scene.geometry → IsRefusedAt (history_of scene steps) party last
+        → bucket < scene.geometry.buckets → FoundHeld scene steps party last bucket }
 
     // A step loses one bucket alone, so those steps are different ones for different buckets.
-    ensures one_bucket { (machine : PoolMachine) (steps : List PoolStep)
-        (party step bucket other : ℕ) → LosesAt (history_of machine steps) party bucket step
-        → LosesAt (history_of machine steps) party other step → bucket ≡ other }
+    ensures one_bucket { (scene : PoolScene) (steps : List PoolStep) (party step bucket other : ℕ)
+        → LosesAt (history_of scene steps) party bucket step
+        → LosesAt (history_of scene steps) party other step → bucket ≡ other }
 {}
 
 /// What follows from the parties' logs alone, where they agree with the flags: some list of steps, each allowed, leaves
-/// these flags, and has as each party's steps exactly its log. It does nothing: its contract is the theorem.
+/// these flags, and has as the steps of each party in the list of logs exactly its log. It does nothing: its contract is
+/// the theorem.
 pub fn pool_log_theorem()
+    // The bucket at which the pass of a party that was made is, if it is in one, stands in its log.
+    ensures pass { (scene : PoolScene) (steps : List PoolStep) (party : ℕ)
+        → party < scene.parties
+        → (slice_get (left_by scene steps).passes party
+        ≡ Some (pass_in (log_of scene steps party))) }
+
     // Where all flags are free, they agree with empty logs.
-    ensures opening { (machine : PoolMachine) (logs : List PoolLog)
-        → All (λ log. log ≡ []) logs → LogsAgree machine (replicate machine.buckets false) logs }
+    ensures opening { (scene : PoolScene) (logs : List PoolLog) → All (λ log. log ≡ []) logs
+        → LogsAgree scene (replicate scene.geometry.buckets false) logs }
 
     // A party that was made tries the bucket that its log says. Where its flag is free, the party takes it.
-    ensures take { (machine : PoolMachine) (flags : List Bool) (logs : List PoolLog)
-        (party bucket : ℕ) (log : PoolLog) → LogsAgree machine flags logs
-        → party < machine.parties → slice_get logs party ≡ Some log → next_bucket log ≡ bucket
+    ensures take { (scene : PoolScene) (flags : List Bool) (logs : List PoolLog)
+        (party : ℕ) (log : PoolLog) (bucket : ℕ) → LogsAgree scene flags logs
+        → party < scene.parties → HasLog logs party log → next_bucket log ≡ bucket
         → slice_get flags bucket ≡ Some false
         → (let taking = entry_of (Try party) (Takes bucket) in
-        LogsAgree machine (slice_set flags bucket true) (with_entry logs party log taking)) }
+        LogsAgree scene (slice_set flags bucket true) (with_entry logs party log taking)) }
 
     // Where it is taken, the party loses it, and no flag changes.
-    ensures lose { (machine : PoolMachine) (flags : List Bool) (logs : List PoolLog)
-        (party bucket : ℕ) (log : PoolLog) → LogsAgree machine flags logs
-        → party < machine.parties → slice_get logs party ≡ Some log → next_bucket log ≡ bucket
+    ensures lose { (scene : PoolScene) (flags : List Bool) (logs : List PoolLog)
+        (party : ℕ) (log : PoolLog) (bucket : ℕ) → LogsAgree scene flags logs
+        → party < scene.parties → HasLog logs party log → next_bucket log ≡ bucket
         → slice_get flags bucket ≡ Some true
-        → (let loss = entry_of (Try party) (loss_at machine.buckets bucket) in
-        LogsAgree machine flags (with_entry logs party log loss)) }
+        → (let loss = entry_of (Try party) (loss_at scene.geometry.buckets bucket) in
+        LogsAgree scene flags (with_entry logs party log loss)) }
 
-    // A party whose log holds a bucket may give it back, which makes its flag free.
-    ensures give { (machine : PoolMachine) (flags : List Bool) (logs : List PoolLog)
-        (party bucket : ℕ) (log : PoolLog) → LogsAgree machine flags logs
-        → slice_get logs party ≡ Some log → HoldsInLog bucket log
+    // A party after whose log a bucket is held may give it back, which makes its flag free.
+    ensures give { (scene : PoolScene) (flags : List Bool) (logs : List PoolLog)
+        (party : ℕ) (log : PoolLog) (bucket : ℕ) → LogsAgree scene flags logs
+        → HasLog logs party log → IsHeldAfter log bucket
         → (let giving = entry_of (GiveBack party bucket) (Gives bucket) in
-        LogsAgree machine (slice_set flags bucket false) (with_entry logs party log giving)) }
+        LogsAgree scene (slice_set flags bucket false) (with_entry logs party log giving)) }
 
-    // The bucket at which a party's pass is, if it is in one, stands in the party's log.
-    ensures pass { (machine : PoolMachine) (steps : List PoolStep) (party : ℕ)
-        → party < machine.parties
-        → (slice_get (state_after machine steps).passes party
-        ≡ Some (pass_in (log_of machine steps party))) }
+    // No bucket is held after two logs.
+    ensures apart { (scene : PoolScene) (flags : List Bool) (logs : List PoolLog)
+        (party : ℕ) (log : PoolLog) (other : ℕ) (other_log : PoolLog) (bucket : ℕ)
+        → LogsAgree scene flags logs → HasLog logs party log → HasLog logs other other_log
+        → IsHeldAfter log bucket → IsHeldAfter other_log bucket → party ≡ other }
 
-    // No bucket is held in two logs.
-    ensures apart { (machine : PoolMachine) (flags : List Bool) (logs : List PoolLog)
-        (party other bucket : ℕ) (log other_log : PoolLog) → LogsAgree machine flags logs
-        → slice_get logs party ≡ Some log → slice_get logs other ≡ Some other_log
-        → HoldsInLog bucket log → HoldsInLog bucket other_log → party ≡ other }
+    // Where one party alone was made, each bucket whose flag is taken is held after its log.
+    ensures alone { (scene : PoolScene) (flags : List Bool) (logs : List PoolLog)
+        (log : PoolLog) (bucket : ℕ) → LogsAgree scene flags logs → scene.parties ≡ 1
+        → HasLog logs 0 log → slice_get flags bucket ≡ Some true → IsHeldAfter log bucket }
 
-    // A bucket whose flag is free is held in no log.
-    ensures free { (machine : PoolMachine) (flags : List Bool) (logs : List PoolLog)
-        (party bucket : ℕ) (log : PoolLog) → LogsAgree machine flags logs
-        → slice_get logs party ≡ Some log → slice_get flags bucket ≡ Some false
-        → ¬ HoldsInLog bucket log }
+    // A bucket whose flag is free is held after no log.
+    ensures free { (scene : PoolScene) (flags : List Bool) (logs : List PoolLog)
+        (party : ℕ) (log : PoolLog) (bucket : ℕ) → LogsAgree scene flags logs
+        → HasLog logs party log → slice_get flags bucket ≡ Some false → ¬ IsHeldAfter log bucket }
 
-    // A bucket that a log holds has a taken flag.
-    ensures held { (machine : PoolMachine) (flags : List Bool) (logs : List PoolLog)
-        (party bucket : ℕ) (log : PoolLog) → LogsAgree machine flags logs
-        → slice_get logs party ≡ Some log → HoldsInLog bucket log
-        → slice_get flags bucket ≡ Some true }
-
-    // Where one party alone was made, each bucket whose flag is taken is held in its log.
-    ensures alone { (machine : PoolMachine) (flags : List Bool) (logs : List PoolLog)
-        (bucket : ℕ) (log : PoolLog) → LogsAgree machine flags logs
-        → machine.parties ≡ 1 → slice_get logs 0 ≡ Some log → slice_get flags bucket ≡ Some true
-        → HoldsInLog bucket log }
+    // A bucket that is held after a log has a taken flag.
+    ensures held { (scene : PoolScene) (flags : List Bool) (logs : List PoolLog)
+        (party : ℕ) (log : PoolLog) (bucket : ℕ) → LogsAgree scene flags logs
+        → HasLog logs party log → IsHeldAfter log bucket → slice_get flags bucket ≡ Some true }
 
     // There are as many flags as buckets.
-    ensures count { (machine : PoolMachine) (flags : List Bool) (logs : List PoolLog)
-        → LogsAgree machine flags logs → length flags ≡ machine.buckets }
+    ensures count { (scene : PoolScene) (flags : List Bool) (logs : List PoolLog)
+        → LogsAgree scene flags logs → length flags ≡ scene.geometry.buckets }
 
-    // The takings and returns of steps that agree are a run of the pool object, and the flags taken are the buckets held.
-    ensures run { (geometry : PoolGeometry) (parties : ℕ) (flags : List Bool) (logs : List PoolLog)
-        (layouts : List Layout) → IsPoolGeometry geometry
-        → (agree : LogsAgree (machine_of geometry parties) flags logs)
-        → AreAsked geometry agree.steps layouts
-        → (live : List Chunk) × IsPoolRun geometry parties agree.steps layouts live
-        × ((bucket : ℕ) → bucket < geometry.buckets
-        → ((slice_get flags bucket ≡ Some true) ↔ IsHeld geometry live bucket)) }
-
-    // A party that was not made has no step that is allowed.
-    ensures nobody_else { (machine : PoolMachine) (steps : List PoolStep) (party : ℕ)
-        → machine.parties ≤ party
-        → All (λ entry. IsAllowed entry.outcome) (history_of machine steps)
-        → log_of machine steps party ≡ [] }
+    // A party that wasn't made has no step that is allowed.
+    ensures nobody_else { (scene : PoolScene) (steps : List PoolStep) (party : ℕ)
+        → scene.parties ≤ party → AllAllowed (history_of scene steps)
+        → log_of scene steps party ≡ [] }
 
     // Each party's log stands in an interleaving with some logs of the others.
-    ensures interleaved { (machine : PoolMachine) (flags : List Bool) (logs : List PoolLog)
-        (party : ℕ) (log : PoolLog) → LogsAgree machine flags logs
-        → slice_get logs party ≡ Some log → Interleaving machine party log }
+    ensures interleaved { (scene : PoolScene) (flags : List Bool) (logs : List PoolLog)
+        (party : ℕ) (log : PoolLog) → LogsAgree scene flags logs → HasLog logs party log
+        → Interleaving scene party log }
 
     // Two parties' logs stand in one.
-    ensures both_interleaved { (machine : PoolMachine) (flags : List Bool) (logs : List PoolLog)
-        (party other : ℕ) (log other_log : PoolLog) → LogsAgree machine flags logs
-        → slice_get logs party ≡ Some log → slice_get logs other ≡ Some other_log
-        → CommonInterleaving machine party log other other_log }
+    ensures both_interleaved { (scene : PoolScene) (flags : List Bool) (logs : List PoolLog)
+        (party : ℕ) (log : PoolLog) (other : ℕ) (other_log : PoolLog)
+        → LogsAgree scene flags logs → HasLog logs party log → HasLog logs other other_log
+        → CommonInterleaving scene party log other other_log }
+
+    // The takings and returns of whichever steps agree are a run of the pool object, and a flag is taken exactly where the
+    // list that the run leaves holds the bucket.
+    ensures run { (scene : PoolScene) (flags : List Bool) (logs : List PoolLog)
+        (layouts : List Layout) → IsPoolGeometry scene.geometry
+        → (agree : LogsAgree scene flags logs) → AreAsked scene.geometry agree.steps layouts
+        → (live : List Chunk) × IsPoolRun scene agree.steps layouts live
+        × ((bucket : ℕ) → bucket < scene.geometry.buckets
+        → ((slice_get flags bucket ≡ Some true) ↔ IsHeld scene.geometry live bucket)) }
 {}

@@ -1,6 +1,7 @@
-//! A pool machine that runs.
+//! A pool scene that runs.
 ghost use Rattle.std.specs.Prelude.{◌≡◌, ◌+◌, ◌<◌, ◌≤◌, ℕ, IsSome, IfOk, OnErr, OnOk, length, slice_get};
-ghost use Rattle.bb_memory_base.specs.PoolMachine.{PoolMachine, PoolState, pool_opening, holder_of, try_flag, try_next, give_flag, pool_step, pool_after, pool_history, outcomes_of};
+ghost use Rattle.bb_memory_base.specs.PoolMachine.{PoolState, all_free, holder_of, try_flag, try_next, give_flag, pool_step, pool_after};
+ghost use Rattle.bb_memory_base.specs.PoolHistory.{pool_history, outcomes_of};
 
 use super::pool::{PoolOutcome, PoolStep};
 use std::alloc::{AllocError, Global};
@@ -14,7 +15,7 @@ fn entry_at(list: &[Option<u32>], i: usize) -> Option<Option<u32>>
     list.get(i).copied()
 }
 
-/// The pool machine with its buckets and parties, each numbered from 0.
+/// The pool scene with its buckets and parties, each numbered from 0.
 ///
 /// ```
 /// let mut world = PoolWorld::new(alloc, 2, 3)?;
@@ -40,11 +41,10 @@ impl Model for PoolWorld {
 }
 
 impl PoolWorld {
-    /// The machine with this many buckets and parties. All flags are free, and every party is idle. It is refused only
+    /// The scene with this many buckets and parties. All flags are free, and every party is idle. It is refused only
     /// where memory was.
     pub fn new(alloc: Global, buckets: u32, parties: u32) -> Result<Self, AllocError>
-        ensures { let machine : PoolMachine = record { buckets = buckets; parties = parties } in
-            IfOk result (λ world. world ≡ pool_opening machine) }
+        ensures { IfOk result (λ world. world ≡ all_free buckets parties) }
     {
         let holders = vec![in alloc; None; buckets as usize]?;
         let passes = vec![in alloc; None; parties as usize]?;

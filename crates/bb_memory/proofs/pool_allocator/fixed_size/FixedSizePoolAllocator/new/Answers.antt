@@ -10,7 +10,7 @@ returns-clause-value g c = (
   c.new.ensures,
   c.new-2.ensures
       ∙ ap (λ (held : List Bool). pool_of c.at_most-geometry.result held)
-      (c.new-held.ensures ∙ ap (λ n. replicate n false) c.count.ensures)
+      (c.new-held.ensures ∙ ap (λ n. replicate n false) c.count.ensures.value)
       ∙ ap fresh_pool c.at_most-geometry.ensures,
 )
 

@@ -1,17 +1,39 @@
-use Rattle.std.proofs.Common.{ℕ, sym, subst}
-use Rattle.atomic_table.specs.Table.{Me}
-use Rattle.bb_memory_base.specs.PoolLogs.{HoldsInLog}
-use Rattle.bb_memory.specs.SharedPool.{PoolFigures, figures_of}
-use Rattle.bb_memory.specs.Seats.{number_of, view_log}
-use Rattle.bb_memory.specs.SharedFlags.{SeatView}
-use Rattle.bb_memory.proofs.SharedSeats.{passed-seat, pass-held}
+use Rattle.std.proofs.Common.{◌∙◌, ap, arith, subst}
+use Rattle.bb_memory_base.specs.PoolGeometry.{IsPoolGeometry}
+use Rattle.bb_memory_base.specs.PoolMachine.{PoolScene}
+use Rattle.bb_memory_base.specs.declared.layout.Layout.{Layout}
+use Rattle.bb_memory.specs.SharedPool.{PoolParty}
+use Rattle.bb_memory.proofs.Measures.{bucket-inside}
+use Rattle.bb_memory.proofs.PoolCalls.{bucket_place-multiple}
+use Rattle.bb_memory.proofs.SharedPoolPasses.{still_held}
+use Rattle.bb_memory.proofs.shared_pool.buckets.SharedBuckets.allocate.Goals.{in-Some, in-None}
 use Rattle.bb_memory.proofs.shared_pool.buckets.SharedBuckets.allocate.Goals as goal
 
 pub returns-clause-still_held : goal.returns-clause-still_held
 returns-clause-still_held c other held =
-    let me = c.party.inside.seat.me in
-    let figures : PoolFigures = figures_of c.args.self.now in
-    let seat = passed-seat figures (number_of me.0) (view_log me.0) c.pass.result c.pass.new.seat.me c.pass.ensures.passed in
     let before = rw (← c.party.view_is) at held in
-    subst (λ (m : Me ℕ SeatView). HoldsInLog other (view_log m.0)) (sym seat.is)
-    (pass-held figures.geometry.buckets (number_of me.0) (view_log me.0) c.pass.result other before)
+    still_held c.args.self.now.scene c.party.inside.seat.me c.pass.new.seat.me c.pass.result other c.pass.ensures.pass before
+
+pub returns-clause-inside : goal.returns-clause-inside
+returns-clause-inside c =
+    let scene : PoolScene = c.args.self.now.scene in
+    let own = ap (λ (p : PoolParty). p.allocator.scene) c.party.view_is ∙ ap (λ p. p.scene) c.requires.party in
+    let geometry = subst (λ (s : PoolScene). IsPoolGeometry s.geometry) own c.party.invariant.party.geometry in
+    let size = ap (λ (l : Layout). l.size) c.bucket-bucket.ensures in
+    elim c.match-pass.branch [
+      | in-Some w ↦
+          rw w.result-is
+          (bucket-inside scene.geometry w.in-Some.number w.size-in-Some.result geometry w.in-Some.ensures.pass.below
+          (omega arith))
+      | in-None w ↦ rw w.result-is tt
+    ]
+
+pub returns-clause-aligned : goal.returns-clause-aligned
+returns-clause-aligned c =
+    let scene : PoolScene = c.args.self.now.scene in
+    let align = ap (λ (l : Layout). l.align) c.bucket-bucket.ensures in
+    elim c.match-pass.branch [
+      | in-Some w ↦
+          rw w.result-is (bucket_place-multiple scene.geometry w.in-Some.number c.args.layout (omega arith))
+      | in-None w ↦ rw w.result-is tt
+    ]

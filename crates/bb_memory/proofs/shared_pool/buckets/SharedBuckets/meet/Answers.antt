@@ -1,57 +1,54 @@
-use Rattle.std.proofs.Common.{◌≡◌, ◌∙◌, [], sym, ap}
-use Rattle.bb_memory.specs.SharedPool.{Party, PoolFigures, SharedPool, figures_of}
-use Rattle.bb_memory.specs.Seats.{alone, number_of, numbered, view_log}
-use Rattle.bb_memory.proofs.SharedSeats.{gathered}
-use Rattle.bb_memory.proofs.SharedSteps.{may_meet}
-use Rattle.bb_memory.proofs.SharedViews.{gives_first, keeps_first, gathers}
+use Rattle.std.proofs.Common.{[], ℕ, sym, ap, ◌∙◌}
+use Rattle.atomic_table.specs.Table.{Me}
+use Rattle.bb_memory.specs.Seats.{both_of, first_of, numbered, view_log}
+use Rattle.bb_memory.specs.SharedPool.{PoolParty, SharedPool}
+use Rattle.bb_memory.specs.SharedPoolRule.{SeatView}
+use Rattle.bb_memory.proofs.SharedPoolParties.{seated_in}
+use Rattle.bb_memory.proofs.SharedPoolSeats.{gathers, gives_first, keeps_first}
+use Rattle.bb_memory.proofs.SharedPoolMeetings.{meets_as}
 use Rattle.bb_memory.proofs.shared_pool.buckets.SharedBuckets.meet.Goals as goal
 
 pub split_seat-guest-requires : goal.split_seat-guest-requires
 split_seat-guest-requires c =
-    let words = c.self.invariant.1 in
-    let pool = ap (λ (p : Party). p.pool) c.other.view_is ∙ c.requires.other ∙ sym c.self.view_is in (
-      ap (λ (p : SharedPool). p.table) pool,
-      words.some_word,
-      gives_first c.self.inside.table.shared.key c.other.inside.seat.id c.other.inside.seat.me.0,
+    let same = ap (λ (p : PoolParty). p.allocator) c.b.view_is ∙ c.requires.b ∙ sym c.self.view_is in (
+      ap (λ (p : SharedPool). p.table) same,
+      c.self.invariant.1.some_word,
+      gives_first c.self.inside.table.shared.key c.b.inside.seat.id c.b.inside.seat.me.0,
     )
 
 pub join_seat-requires : goal.join_seat-requires
 join_seat-requires c =
-    let words = c.self.invariant.1 in
-    let pool = ap (λ (p : Party). p.pool) c.one.view_is ∙ c.requires.one ∙ sym c.self.view_is in
-    let other_pool = ap (λ (p : Party). p.pool) c.other.view_is ∙ c.requires.other ∙ sym c.self.view_is in
-    let cut = c.split_seat-guest.ensures in (
-      ap (λ (p : SharedPool). p.table) pool,
-      cut.3 ∙ ap (λ (p : SharedPool). p.table) other_pool,
-      ap (λ m. m.1) cut.4,
-      words.some_word,
-      gathers c.self.inside.table.shared.key c.one.inside.seat.id c.split_seat-guest.result.id c.one.inside.seat.me.0
+    let one = ap (λ (p : PoolParty). p.allocator) c.a.view_is ∙ c.requires.a ∙ sym c.self.view_is in
+    let other = ap (λ (p : PoolParty). p.allocator) c.b.view_is ∙ c.requires.b ∙ sym c.self.view_is in
+    let split = c.split_seat-guest.ensures in (
+      ap (λ (p : SharedPool). p.table) one,
+      split.3 ∙ ap (λ (p : SharedPool). p.table) other,
+      ap (λ m. m.1) split.4,
+      c.self.invariant.1.some_word,
+      gathers c.self.inside.table.shared.key c.a.inside.seat.id c.split_seat-guest.result.id c.a.inside.seat.me.0
           c.split_seat-guest.result.me.0,
     )
 
 pub load-requires : goal.load-requires
 load-requires c =
-    let words = c.self.invariant.1 in
-    let key : PoolFigures = c.self.inside.table.shared.key in
-    let me = c.one.inside.seat.me in
-    let other = c.other.inside.seat.me in
-    let pool = ap (λ (p : Party). p.pool) c.one.view_is ∙ c.requires.one ∙ sym c.self.view_is in
-    let figures : me.0.scene ≡ key = ap figures_of pool ∙ sym c.self.invariant.0 in
-    let is = c.one.invariant.seat.seat.is ∙ ap (λ (f : PoolFigures). (alone f (number_of me.0) (view_log me.0), [])) figures in
-    let both = gathered key other.0.scene (number_of me.0) (number_of other.0) (view_log me.0) (view_log other.0) me other
-    c.split_seat-guest.result.me c.join_seat.new.seat.me is c.other.invariant.seat.seat.is c.split_seat-guest.ensures.4
-    c.join_seat.ensures.2 in (
-      c.join_seat.ensures.0 ∙ ap (λ (p : SharedPool). p.table) pool,
-      words.some_word,
-      may_meet key c.self.inside.table.shared.table_id.slots c.join_seat.new.seat.id 0
-          (numbered (number_of me.0) (view_log me.0)) (numbered (number_of other.0) (view_log other.0)) c.join_seat.new.seat.me both,
+    let scene = c.self.inside.table.shared.key in
+    let one = ap (λ (p : PoolParty). p.allocator) c.a.view_is ∙ c.requires.a ∙ sym c.self.view_is in
+    let a = c.a.inside.seat.me in
+    let b = c.b.inside.seat.me in
+    let own = ap (λ (p : SharedPool). p.scene) one ∙ sym c.self.invariant.0 in
+    let first = seated_in a scene c.a.inside.number c.a.invariant.seat own in
+    let guest = c.split_seat-guest.ensures.4 ∙ ap (λ (m : Me ℕ SeatView). (first_of m.0, [])) c.b.invariant.seat in
+    let two = c.join_seat.ensures.2 ∙ λ i. (both_of (first i).0 (guest i).0, (first i).1) in (
+      c.join_seat.ensures.0 ∙ ap (λ (p : SharedPool). p.table) one,
+      c.self.invariant.1.some_word,
+      meets_as scene _ _ 0 (numbered c.a.inside.number (view_log a.0)) (numbered c.b.inside.number (view_log b.0))
+          c.join_seat.new.seat.me two,
     )
 
 pub split_seat-requires : goal.split_seat-requires
 split_seat-requires c =
-    let words = c.self.invariant.1 in
-    let pool = ap (λ (p : Party). p.pool) c.one.view_is ∙ c.requires.one ∙ sym c.self.view_is in (
-      c.load.ensures.0 ∙ c.join_seat.ensures.0 ∙ ap (λ (p : SharedPool). p.table) pool,
-      words.some_word,
+    let one = ap (λ (p : PoolParty). p.allocator) c.a.view_is ∙ c.requires.a ∙ sym c.self.view_is in (
+      c.load.ensures.0 ∙ c.join_seat.ensures.0 ∙ ap (λ (p : SharedPool). p.table) one,
+      c.self.invariant.1.some_word,
       keeps_first c.self.inside.table.shared.key c.load.new.seat.id c.load.new.seat.me.0,
     )

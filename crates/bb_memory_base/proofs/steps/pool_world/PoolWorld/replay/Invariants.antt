@@ -1,6 +1,7 @@
 use Rattle.std.proofs.Common.{◌≡◌, ◌≤◌, ◌++◌, length, drop, vec_len}
 use Rattle.std.specs.Prelude.{vec_capacity}
-use Rattle.bb_memory_base.specs.PoolMachine.{pool_after, pool_history, outcomes_of}
+use Rattle.bb_memory_base.specs.PoolMachine.{pool_after}
+use Rattle.bb_memory_base.specs.PoolHistory.{pool_history, outcomes_of}
 use Rattle.bb_memory_base.proofs.steps.pool_world.PoolWorld.replay.Given as goal
 
 -- the answers so far and those to the steps that are left are those to all, and there is room for them

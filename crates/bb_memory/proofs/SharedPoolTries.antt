@@ -1,13 +1,13 @@
--- What a whole pass, and a return, make of a log.
+-- What a pass and a return make of a log.
 use Rattle.std.proofs.Common.{◌≡◌, ◌≢◌, ℕ, zero, suc, ◌+◌, ◌<◌, ◌≤◌, Bool, true, false, true≢false, [], ◌∷◌, ◌++◌, refl, sym, ap, ◌∙◌, arith, Option, None}
 use Rattle.std.specs.Prelude.{fold, unwrap_or, nat_lt, ◌==◌, if◌then◌else◌}
 use Rattle.std.proofs.lemmas.Bool.Decides.{nat_tests}
-use Rattle.bb_memory_base.specs.PoolMachine.{PoolLog, entry_of}
-use Rattle.bb_memory_base.specs.PoolLogs.{held_after, HoldsInLog, pass_after, pass_in, next_bucket, loss_at}
+use Rattle.bb_memory_base.specs.PoolHistory.{PoolLog, entry_of}
+use Rattle.bb_memory_base.specs.PoolLogs.{held_after, IsHeldAfter, pass_after, pass_in, next_bucket, loss_at}
 use Rattle.bb_memory_base.specs.declared.steps.pool.PoolStep.TheVariants.{Try}
 use Rattle.bb_memory_base.specs.declared.steps.pool.PoolOutcome.TheVariants.{Takes, Loses, RefusedAtLoss}
 use Rattle.bb_memory_base.proofs.PoolSteps.{test_same, test_apart}
-use Rattle.bb_memory.specs.SharedPool.{losses, taking_pass, refused_pass, return_of}
+use Rattle.bb_memory.specs.SharedPool.{losses, taking_pass, refused_pass, return_entry}
 
 abbrev pass_through : Option ℕ → PoolLog → Option ℕ
 pass_through pass log = fold (λ pass entry. pass_after pass entry.outcome) pass log
@@ -97,8 +97,8 @@ idle_after_taking buckets party bucket log =
     ∙ pass-append (pass_in log) (losses buckets party bucket) (entry_of (Try party) (Takes bucket) ∷ [])
 
 -- a refused pass leaves the log holding what it held
-pub held_after_refusal : (buckets party bucket : ℕ) (log : PoolLog) → HoldsInLog bucket log →
-    HoldsInLog bucket (log ++ refused_pass buckets party)
+pub held_after_refusal : (buckets party bucket : ℕ) (log : PoolLog) → IsHeldAfter log bucket →
+    IsHeldAfter (log ++ refused_pass buckets party) bucket
 held_after_refusal buckets party bucket log held = same_held buckets party buckets bucket log ∙ held
 
 held-taking : (buckets party taken bucket : ℕ) (log : PoolLog) →
@@ -111,7 +111,7 @@ held-taking buckets party taken bucket log =
     ∙ ap (λ (held : Bool). if taken == bucket then true else held) (held-losses buckets party taken bucket before)
 
 -- a pass that takes a bucket leaves the log holding it
-pub holds_taken : (buckets party bucket : ℕ) (log : PoolLog) → HoldsInLog bucket (log ++ taking_pass buckets party bucket)
+pub holds_taken : (buckets party bucket : ℕ) (log : PoolLog) → IsHeldAfter (log ++ taking_pass buckets party bucket) bucket
 holds_taken buckets party bucket log =
     held-taking buckets party bucket bucket log
     ∙ ap (λ (b : Bool). if b then true else held_through bucket false log) (test_same bucket bucket refl)
@@ -121,8 +121,8 @@ either_true true = refl
 either_true false = refl
 
 -- and what it held
-pub held_after_taking : (buckets party taken bucket : ℕ) (log : PoolLog) → HoldsInLog bucket log →
-    HoldsInLog bucket (log ++ taking_pass buckets party taken)
+pub held_after_taking : (buckets party taken bucket : ℕ) (log : PoolLog) → IsHeldAfter log bucket →
+    IsHeldAfter (log ++ taking_pass buckets party taken) bucket
 held_after_taking buckets party taken bucket log held =
     held-taking buckets party taken bucket log
     ∙ ap (λ (b : Bool). if taken == bucket then true else b) held
@@ -130,19 +130,21 @@ held_after_taking buckets party taken bucket log held =
 
 -- RETURNS
 
-pub idle_after_return : (party bucket : ℕ) (log : PoolLog) → pass_in log ≡ None → pass_in (log ++ return_of party bucket) ≡ None
-idle_after_return party bucket log idle = pass-append None log (return_of party bucket) ∙ idle
+pub idle_after_return : (party bucket : ℕ) (log : PoolLog) → pass_in log ≡ None →
+    pass_in (log ++ return_entry party bucket) ≡ None
+idle_after_return party bucket log idle = pass-append None log (return_entry party bucket) ∙ idle
 
 -- a bucket that was given back isn't held
-pub not_held_after_return : (party bucket : ℕ) (log : PoolLog) → ¬ HoldsInLog bucket (log ++ return_of party bucket)
+pub not_held_after_return : (party bucket : ℕ) (log : PoolLog) → ¬ IsHeldAfter (log ++ return_entry party bucket) bucket
 not_held_after_return party bucket log held =
-    true≢false (sym held ∙ held-append bucket false log (return_of party bucket)
+    true≢false (sym held ∙ held-append bucket false log (return_entry party bucket)
     ∙ ap (λ (b : Bool). if b then false else held_through bucket false log) (test_same bucket bucket refl))
 
 -- every other one that was held still is
-pub held_after_return : (party returned bucket : ℕ) (log : PoolLog) → bucket ≢ returned → HoldsInLog bucket log →
-    HoldsInLog bucket (log ++ return_of party returned)
+pub held_after_return : (party returned bucket : ℕ) (log : PoolLog) → bucket ≢ returned → IsHeldAfter log bucket →
+    IsHeldAfter (log ++ return_entry party returned) bucket
 held_after_return party returned bucket log other held =
-    held-append bucket false log (return_of party returned)
-    ∙ ap (λ (b : Bool). if b then false else held_through bucket false log) (test_apart returned bucket (λ same. other (sym same)))
+    held-append bucket false log (return_entry party returned)
+    ∙ ap (λ (b : Bool). if b then false else held_through bucket false log)
+    (test_apart returned bucket (λ same. other (sym same)))
     ∙ held

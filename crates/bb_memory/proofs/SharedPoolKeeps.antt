@@ -1,0 +1,178 @@
+-- Each atomic step keeps words and logs in agreement.
+use Rattle.std.proofs.Common.{◌≡◌, ℕ, zero, suc, ◌<◌, List, [], ◌∷◌, ◌++◌, length, map, set, get_or, Bool, true, false, Some, Option, eqb, refl, sym, ap, ◌∙◌, subst, arith, suc-ne-zero}
+use Rattle.std.specs.Prelude.{slice_get, slice_set}
+use mathlib.Core.Option.{none, some}
+use lib.ListN.{get_elem?}
+use lib.Seq.{map-set}
+use prog.Atomic.{either}
+use Rattle.atomic_table.specs.Table.{State, Me, Act, keeps, step, stepped, carried_after, Valid, Allows}
+use Rattle.bb_memory_base.specs.PoolMachine.{PoolScene}
+use Rattle.bb_memory_base.specs.PoolHistory.{PoolEntry, PoolLog, entry_of}
+use Rattle.bb_memory_base.specs.PoolLogs.{HasLog, IsHeldAfter, LogsAgree, loss_at, next_bucket, with_entry}
+use Rattle.bb_memory_base.specs.declared.steps.pool.PoolStep.TheVariants.{Try, GiveBack}
+use Rattle.bb_memory_base.specs.declared.steps.pool.PoolOutcome.TheVariants.{Takes, Gives}
+use Rattle.bb_memory_base.proofs.PoolLogSteps.{take_agrees, lose_agrees, give_agrees}
+use Rattle.bb_memory_base.proofs.PoolLogFacts.{free_not_held, taken_is_held_alone, length-flags, interleaved_log}
+use Rattle.bb_memory_base.proofs.SliceGets.{slice_get-set_same, length-set_at}
+use Rattle.bb_memory.specs.Seats.{alone}
+use Rattle.bb_memory.specs.SharedPoolRule.{SeatView, WordsAndLogsAgree, word_of}
+use Rattle.bb_memory.specs.SharedPoolSteps.{Tells, returns, tries}
+use Rattle.bb_memory.proofs.Seatings.{seated_step}
+
+-- WORDS AND FLAGS
+
+some_at : (flags : List Bool) (i : ℕ) → i < length flags → (flag : Bool) × (slice_get flags i ≡ Some flag)
+some_at [] i below = absurd (omega arith)
+some_at (flag ∷ flags) zero below = (flag, refl)
+some_at (flag ∷ flags) (suc i) below = some_at flags i (omega arith)
+
+-- the word of a flag
+word_at : (flags : List Bool) (i : ℕ) (flag : Bool) → slice_get flags i ≡ Some flag →
+    get_or (map word_of flags) i 0 ≡ word_of flag
+word_at [] i flag at = absurd (cc)
+word_at (first ∷ flags) zero flag at = ap word_of (same first flag at)
+  where
+    same : (one other : Bool) → ◌≡◌ {A = Option Bool} (Some one) (Some other) → one ≡ other
+    same one other at = cc
+word_at (first ∷ flags) (suc i) flag at = word_at flags i flag at
+
+-- a taken flag's word that is stored again stays
+word-again : (flags : List Bool) (i : ℕ) → slice_get flags i ≡ Some true → set (map word_of flags) i 1 ≡ map word_of flags
+word-again [] i at = refl
+word-again (true ∷ flags) zero at = refl
+word-again (false ∷ flags) zero at = absurd (cc)
+word-again (flag ∷ flags) (suc i) at = ap (λ (words : List ℕ). word_of flag ∷ words) (word-again flags i at)
+
+-- ONE STEP
+
+-- the rule after a step of a party that stands alone in its seat
+entered : (scene : PoolScene) (state : State ℕ SeatView) (rule : WordsAndLogsAgree scene state) (seat party : ℕ)
+    (log : PoolLog) (entry : PoolEntry) (words : List ℕ) (flags : List Bool) →
+    get_elem? state.views seat ≡ some (alone scene party log) →
+    LogsAgree scene flags (with_entry rule.logs party log entry) →
+    (0 < scene.geometry.buckets → words ≡ map word_of flags) →
+    WordsAndLogsAgree scene
+    record { words = words; homes = state.homes; views = set state.views seat (alone scene party (log ++ entry ∷ [])) }
+entered scene state rule seat party log entry words flags at agree are =
+    let longer : PoolLog = log ++ entry ∷ [] in
+    record {
+      flags = flags;
+      logs = with_entry rule.logs party log entry;
+      agree = agree;
+      words = are;
+      one_a_party = length-set_at rule.logs party longer ∙ rule.one_a_party;
+      seated = seated_step scene.parties rule.logs state.views seat scene party log longer rule.seated at;
+    }
+
+-- what it tells: the log is longer, and interleaved with others'
+told : (scene : PoolScene) (flags : List Bool) (logs : List PoolLog) (party : ℕ) (log : PoolLog) (entry : PoolEntry) →
+    HasLog logs party log → LogsAgree scene flags (with_entry logs party log entry) →
+    Tells scene party log entry (alone scene party (log ++ entry ∷ []), [])
+told scene flags logs party log entry at agree = record {
+  seat = refl;
+  interleaved = interleaved_log scene flags (with_entry logs party log entry) party (log ++ entry ∷ []) agree
+      (slice_get-set_same logs party (log ++ entry ∷ []) log at);
+}
+
+-- EXCHANGES
+
+-- what an exchange that found a word may do
+abbrev Allowed : PoolScene → State ℕ SeatView → ℕ → ℕ → ℕ → Me ℕ SeatView → ℕ → Type 0
+Allowed scene state seat slots bucket me found =
+    (new : SeatView) × (act : Act ℕ) × Valid state.homes me.1 act
+    × WordsAndLogsAgree scene (stepped state bucket (either (eqb found 0) 1 found) seat me.1 new act)
+    × tries (step slots bucket 0 1 none) me found (new, carried_after me.1 act)
+
+tries_flag : (scene : PoolScene) (slots seat party bucket : ℕ) (log : PoolLog) → next_bucket log ≡ bucket →
+    (state : State ℕ SeatView) (rule : WordsAndLogsAgree scene state) →
+    get_elem? state.views seat ≡ some (alone scene party log) → state.words ≡ map word_of rule.flags →
+    (flag : Bool) → slice_get rule.flags bucket ≡ Some flag →
+    Allowed scene state seat slots bucket (alone scene party log, []) (word_of flag)
+tries_flag scene slots seat party bucket log next state rule at are false free =
+    let mine = rule.seated.known seat (alone scene party log) at in
+    let entry : PoolEntry = entry_of (Try party) (Takes bucket) in
+    let flags : List Bool = slice_set rule.flags bucket true in
+    let agree = take_agrees scene rule.flags rule.logs party log bucket rule.agree mine.0 mine.1 next free in (
+      alone scene party (log ++ entry ∷ []),
+      keeps,
+      tt,
+      entered scene state rule seat party log entry (set state.words bucket 1) flags at agree
+          (λ _. ap (λ (words : List ℕ). set words bucket 1) are ∙ sym (map-set word_of rule.flags bucket true)),
+      (
+        λ _. record {
+          step = told scene flags rule.logs party log entry mine.1 agree;
+          free = free_not_held scene rule.flags rule.logs party log bucket rule.agree mine.1 free;
+        },
+        λ not_free. absurd (not_free refl),
+      ),
+    )
+tries_flag scene slots seat party bucket log next state rule at are true taken =
+    let mine = rule.seated.known seat (alone scene party log) at in
+    let entry : PoolEntry = entry_of (Try party) (loss_at scene.geometry.buckets bucket) in
+    let agree = lose_agrees scene rule.flags rule.logs party log bucket rule.agree mine.0 mine.1 next taken in (
+      alone scene party (log ++ entry ∷ []),
+      keeps,
+      tt,
+      entered scene state rule seat party log entry (set state.words bucket 1) rule.flags at agree
+          (λ _. ap (λ (words : List ℕ). set words bucket 1) are ∙ word-again rule.flags bucket taken),
+      (
+        λ zero_found. absurd (suc-ne-zero zero zero_found),
+        λ _. record {
+          step = told scene rule.flags rule.logs party log entry mine.1 agree;
+          held = λ one.
+              let first : party ≡ 0 = let made = mine.0 in omega arith in
+              taken_is_held_alone scene rule.flags rule.logs log bucket rule.agree one
+              (subst (λ n. HasLog rule.logs n log) first mine.1) taken;
+        },
+      ),
+    )
+
+tries_one : (scene : PoolScene) (slots seat party bucket : ℕ) (log : PoolLog) → bucket < scene.geometry.buckets →
+    next_bucket log ≡ bucket →
+    Allows (WordsAndLogsAgree scene) slots seat (alone scene party log, []) bucket (λ found. either (eqb found 0) 1 found)
+    (tries (step slots bucket 0 1 none) (alone scene party log, []))
+tries_one scene slots seat party bucket log below next state rule homes at fits =
+    let count = length-flags scene rule.flags rule.logs rule.agree in
+    let flag = some_at rule.flags bucket (omega arith) in
+    let are = rule.words (omega arith) in
+    let found : get_or state.words bucket 0 ≡ word_of flag.0 =
+    ap (λ (words : List ℕ). get_or words bucket 0) are ∙ word_at rule.flags bucket flag.0 flag.1 in
+    subst (Allowed scene state seat slots bucket (alone scene party log, [])) (sym found)
+    (tries_flag scene slots seat party bucket log next state rule at are flag.0 flag.1)
+
+-- a seat of one party may try the bucket that is next
+pub tries_as : (scene : PoolScene) (slots seat party bucket : ℕ) (log : PoolLog) (me : Me ℕ SeatView) →
+    me ≡ (alone scene party log, []) → bucket < scene.geometry.buckets → next_bucket log ≡ bucket →
+    Allows (WordsAndLogsAgree scene) slots seat me bucket (λ found. either (eqb found 0) 1 found)
+    (tries (step slots bucket 0 1 none) me)
+tries_as scene slots seat party bucket log me is below next =
+    subst (λ (m : Me ℕ SeatView). Allows (WordsAndLogsAgree scene) slots seat m bucket (λ found. either (eqb found 0) 1 found)
+    (tries (step slots bucket 0 1 none) m)) (sym is)
+    (tries_one scene slots seat party bucket log below next)
+
+-- STORES
+
+returns_one : (scene : PoolScene) (slots seat party bucket : ℕ) (log : PoolLog) → IsHeldAfter log bucket →
+    Allows (WordsAndLogsAgree scene) slots seat (alone scene party log, []) bucket (λ _. 0)
+    (λ _. returns (step slots bucket 0 0 none) (alone scene party log, []) 0)
+returns_one scene slots seat party bucket log held state rule homes at fits =
+    let mine = rule.seated.known seat (alone scene party log) at in
+    let entry : PoolEntry = entry_of (GiveBack party bucket) (Gives bucket) in
+    let flags : List Bool = slice_set rule.flags bucket false in
+    let agree = give_agrees scene rule.flags rule.logs party log bucket rule.agree mine.1 held in (
+      alone scene party (log ++ entry ∷ []),
+      keeps,
+      tt,
+      entered scene state rule seat party log entry (set state.words bucket 0) flags at agree
+          (λ some. ap (λ (words : List ℕ). set words bucket 0) (rule.words some) ∙ sym (map-set word_of rule.flags bucket false)),
+      told scene flags rule.logs party log entry mine.1 agree,
+    )
+
+-- a seat of one party may free a bucket that is held after its log
+pub returns_as : (scene : PoolScene) (slots seat party bucket : ℕ) (log : PoolLog) (me : Me ℕ SeatView) →
+    me ≡ (alone scene party log, []) → IsHeldAfter log bucket →
+    Allows (WordsAndLogsAgree scene) slots seat me bucket (λ _. 0) (λ _. returns (step slots bucket 0 0 none) me 0)
+returns_as scene slots seat party bucket log me is held =
+    subst (λ (m : Me ℕ SeatView). Allows (WordsAndLogsAgree scene) slots seat m bucket (λ _. 0)
+    (λ _. returns (step slots bucket 0 0 none) m 0)) (sym is)
+    (returns_one scene slots seat party bucket log held)

@@ -1,0 +1,68 @@
+use Rattle.std.proofs.Common.{◌≡◌, ℕ, ◌+◌, ◌≤◌, [], ◌∷◌, List, Some, length, length-append, arith, sym, ap, ◌∙◌, refl, subst}
+use Rattle.std.specs.Prelude.{All, slice_get}
+use Rattle.std.proofs.lemmas.List.Elements.{All-nil, All-push}
+use Rattle.atomic_table.specs.Table.{Me}
+use Rattle.bb_memory_base.specs.PoolGeometry.{IsPoolGeometry}
+use Rattle.bb_memory_base.specs.PoolHistory.{PoolEntry}
+use Rattle.bb_memory_base.specs.PoolLogs.{IsAllowed}
+use Rattle.bb_memory.specs.SharedPool.{PoolParty, SharedPool, fresh_party}
+use Rattle.bb_memory.specs.Seats.{first_of, others_of, standing_for, view_log}
+use Rattle.bb_memory.specs.SharedPoolRule.{NumberedLog, SeatView, party_of}
+use Rattle.bb_memory.proofs.Seatings.{fresh_more, given_more}
+use Rattle.bb_memory.proofs.SharedPoolParties.{party_seated}
+use Rattle.bb_memory.proofs.SharedPoolSeats.{gives_first}
+use Rattle.bb_memory.proofs.shared_pool.buckets.SharedBuckets.seat_parties.Goals as goal
+
+pub split_seat-seat-requires : goal.split_seat-seat-requires
+split_seat-seat-requires c = (
+  c.loop-number.invariant.table ∙ sym (ap (λ (p : SharedPool). p.table) c.self.view_is),
+  c.self.invariant.1.some_word,
+  gives_first c.self.inside.table.shared.key c.loop-number.rest.id c.loop-number.rest.me.0,
+)
+
+pub invariant_of-push_reserved : goal.invariant_of-push_reserved
+invariant_of-push_reserved c =
+    let scene = c.args.self.now.scene in
+    let number = c.loop-number.number in
+    let is = c.loop-number.invariant.rest
+    ∙ ap (λ (parties : List NumberedLog). (standing_for scene parties, [])) (fresh_more number c.args.parties (omega arith)) in
+    let seated = c.split_seat-seat.ensures.4 ∙ ap (λ (m : Me ℕ SeatView). (first_of m.0, [])) is in
+    party_seated c.split_seat-seat.result.table_id c.split_seat-seat.result.me scene number [] seated record {
+      number = omega (arith, c.requires.parties);
+      idle = refl;
+      interleaved = record { steps = []; allowed = All-nil (λ (e : PoolEntry). IsAllowed e.outcome); logged = refl };
+      geometry = subst (λ (p : SharedPool). IsPoolGeometry p.scene.geometry) c.self.view_is c.self.invariant.1.geometry;
+    }
+
+pub loop-number-preserved : goal.loop-number-preserved
+loop-number-preserved c =
+    let pool = c.args.self.now in
+    let scene = pool.scene in
+    let number = c.loop-number.number in
+    let count = c.args.parties in
+    let before = c.loop-number.invariant in
+    let split = c.split_seat-seat.ensures in
+    let is = before.rest
+    ∙ ap (λ (parties : List NumberedLog). (standing_for scene parties, [])) (fresh_more number count (omega arith)) in
+    let seated = split.4 ∙ ap (λ (m : Me ℕ SeatView). (first_of m.0, [])) is in
+    let value : PoolParty = party_of c.split_seat-seat.result.table_id c.split_seat-seat.result.me number in
+    let value_is : value ≡ fresh_party pool number = λ j. record {
+      allocator = record { table = (split.3 ∙ before.table) j; scene = ap (λ (m : Me ℕ SeatView). m.0.scene) seated j };
+      number = number;
+      log = ap (λ (m : Me ℕ SeatView). view_log m.0) seated j;
+    } in
+    let items = c.push_reserved.ensures.items in
+    let more = given_more (fresh_party pool) c.loop-number.all.items value (λ j below. before.fresh j (omega arith))
+    (value_is ∙ ap (fresh_party pool) (sym before.long)) in
+    record {
+      table = split.0 ∙ before.table;
+      rest = split.2 ∙ ap (λ (m : Me ℕ SeatView). (others_of m.0, m.1)) is;
+      len = c.push_reserved.ensures.len ∙ ap (λ (m : ℕ). m + 1) before.len;
+      long = ap length items ∙ length-append c.loop-number.all.items (value ∷ []) ∙ ap (λ (m : ℕ). m + 1) before.long;
+      room = subst (λ (m : ℕ). count ≤ m) (sym c.push_reserved.ensures.capacity) before.room;
+      theirs = subst (All (λ (p : PoolParty). p.allocator ≡ pool)) (sym items)
+          (All-push (λ (p : PoolParty). p.allocator ≡ pool) c.loop-number.all.items value before.theirs
+          (ap (λ (p : PoolParty). p.allocator) value_is));
+      fresh = λ j below.
+          subst (λ (xs : List PoolParty). slice_get xs j ≡ Some (fresh_party pool j)) (sym items) (more j (omega arith));
+    }

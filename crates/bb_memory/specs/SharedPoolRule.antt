@@ -1,0 +1,68 @@
+-- The rule of a shared pool's words: words and logs agree.
+use Rattle.std.specs.Prelude.{◌≡◌, ℕ, ◌<◌, ◌≤◌, Bool, true, false, List, [], map, length}
+use Rattle.atomic_table.specs.Seated.{TableId}
+use Rattle.atomic_table.specs.Table.{State, Me}
+use Rattle.bb_memory_base.specs.Region.{IsRegion, region_at}
+use Rattle.bb_memory_base.specs.PoolGeometry.{IsPoolGeometry, pool_geometry}
+use Rattle.bb_memory_base.specs.PoolMachine.{PoolScene}
+use Rattle.bb_memory_base.specs.PoolHistory.{PoolEntry, PoolLog}
+use Rattle.bb_memory_base.specs.PoolLogs.{LogsAgree}
+use Rattle.bb_memory_base.specs.declared.layout.Layout.{Layout}
+use Rattle.bb_memory_base.proofs.Layouts.{empty-valid}
+use Rattle.bb_memory.specs.SharedPool.{IsParty, PoolParty, scene_of}
+use Rattle.bb_memory.specs.Seats.{AreSeated, Numbered, Seat, alone, fresh_from, standing_for, view_log}
+
+-- a party's number with its log, and what a seat of a shared pool knows
+abbrev pub NumberedLog : Type 0
+NumberedLog = Numbered PoolEntry
+
+abbrev pub SeatView : Type 0
+SeatView = Seat PoolScene PoolEntry
+
+-- how a flag stands in its word
+abbrev pub word_of : Bool → ℕ
+word_of false = 0
+word_of true = 1
+
+-- There is a log for each party, and the machine's logs agree with the flags that the words have. Each party stands in exactly
+-- one view, with that log; a dropped party's view stays. A pool without buckets has one word, which is no flag.
+pub record WordsAndLogsAgree (scene : PoolScene) (state : State ℕ SeatView) : Type 0 where
+  pub flags : List Bool
+  pub logs : List PoolLog
+  pub agree : LogsAgree scene flags logs
+  pub words : 0 < scene.geometry.buckets → state.words ≡ map word_of flags
+  pub one_a_party : length logs ≡ scene.parties
+  pub seated : AreSeated scene.parties logs state.views
+
+-- the first seat's view, which stands for all parties
+abbrev pub all_parties : PoolScene → SeatView
+all_parties scene = standing_for scene (fresh_from 0 scene.parties)
+
+-- a view of no party
+abbrev pub nobody : SeatView
+nobody = standing_for (scene_of (pool_geometry (region_at 0 0) no_bytes 0) 0) []
+  where
+    no_bytes : Layout
+    no_bytes = record { size = 0; align = 1; valid = empty-valid }
+
+-- WHAT THE FIELDS STAND FOR
+
+-- its table has a word for each bucket, and one where there is none; its buckets lie in a region, and there is a party
+pub record IsSharedPool (table : TableId) (scene : PoolScene) : Type 0 where
+  pub some_word : 0 < table.words
+  pub one_each : 0 < scene.geometry.buckets → table.words ≡ scene.geometry.buckets
+  pub region : IsRegion scene.geometry.region
+  pub geometry : IsPoolGeometry scene.geometry
+  pub parties : 1 ≤ scene.parties
+
+-- the seat stands for one party alone
+abbrev pub IsSeated : Me ℕ SeatView → ℕ → Type 0
+IsSeated me number = me ≡ (alone me.0.scene number (view_log me.0), [])
+
+abbrev pub party_of : TableId → Me ℕ SeatView → ℕ → PoolParty
+party_of table me number =
+    record { allocator = record { table = table; scene = me.0.scene }; number = number; log = view_log me.0 }
+
+pub record IsSeatedParty (table : TableId) (me : Me ℕ SeatView) (number : ℕ) : Type 0 where
+  pub seat : IsSeated me number
+  pub party : IsParty (party_of table me number)
