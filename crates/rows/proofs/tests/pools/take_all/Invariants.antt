@@ -1,6 +1,6 @@
 use Rattle.std.specs.Prelude.{IfSome}
 use Rattle.bb_memory.specs.Pool.{HoldsPlace}
-use Rattle.memrun.proofs.tests.pools.take_all.Given as goal
+use Rattle.rows.proofs.tests.pools.take_all.Given as goal
 
 -- the place that was found is held
 abbrev pub invariant-loop-place : goal.invariant-loop-place

@@ -49,3 +49,43 @@ fn share_keeps_position(rt: HostRuntime) -> Result<(), Fail> {
     assert_eq!(rt; (shared.start_address(), shared.total_space()), (4096, 64));
     Ok(())
 }
+
+/// The position is what all parties' steps left, also where the one that is handed in made none.
+#[test]
+fn into_owner_of_a_party_without_steps(rt: HostRuntime) -> Result<(), Fail> {
+    let Ok((shared, mut parties)) = BumpAllocator::new(4096, 64).share(rt.alloc(), 2) else {
+        return Err(Fail::from("share"));
+    };
+    let second = parties.pop().unwrap();
+    let mut first = parties.pop().unwrap();
+    shared.allocate(&mut first, Layout::from_size_align(40, 1)?)?;
+    assert_eq!(rt; shared.into_owner(second).used_space(), 40);
+    Ok(())
+}
+
+#[test]
+fn share_of_one_party(rt: HostRuntime) -> Result<(), Fail> {
+    let Ok((shared, mut parties)) = BumpAllocator::new(4096, 64).share(rt.alloc(), 1) else {
+        return Err(Fail::from("share"));
+    };
+    let mut only = parties.pop().unwrap();
+    assert!(rt; parties.is_empty());
+    shared.allocate(&mut only, Layout::from_size_align(64, 1)?)?;
+    let mut bump = shared.into_owner(only);
+    let byte = Layout::from_size_align(1, 1)?;
+    assert_eq!(rt; bump.allocate(byte), Err(AllocationError::OutOfMemory));
+    Ok(())
+}
+
+/// As many parties as asked, numbered from 0.
+#[test]
+fn share_of_64_parties(rt: HostRuntime) -> Result<(), Fail> {
+    let Ok((shared, mut parties)) = BumpAllocator::new(4096, 64).share(rt.alloc(), 64) else {
+        return Err(Fail::from("share"));
+    };
+    assert!(rt; parties.iter().map(|party| party.number()).eq(0..64));
+    let mut last = parties.pop().unwrap();
+    let chunk = shared.allocate(&mut last, Layout::from_size_align(1, 1)?)?;
+    assert_eq!(rt; chunk.place(), 4096);
+    Ok(())
+}

@@ -1,7 +1,7 @@
 use Rattle.std.proofs.Common.{◌∙◌, IfSome, ℕ, Option, Some, None, sym, subst}
 use Rattle.bb_memory.specs.Pool.{HoldsPlace}
-use Rattle.memrun.proofs.tests.pools.take_all.Goals as goal
-use Rattle.memrun.proofs.tests.pools.take_all.Goals.{then-place-wanted, else-place-wanted}
+use Rattle.rows.proofs.tests.pools.take_all.Goals as goal
+use Rattle.rows.proofs.tests.pools.take_all.Goals.{then-place-wanted, else-place-wanted}
 
 -- what holds of a place that was found still does
 still : {P Q : ℕ → Type 0} (found : Option ℕ) → ((place : ℕ) → P place → Q place) → IfSome found P → IfSome found Q

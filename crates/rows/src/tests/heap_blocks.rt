@@ -1,6 +1,6 @@
 //! Heap blocks, each row by its name.
 use bb_memory::allocator::{AllocationGrowError, AllocationShrinkError};
-use bb_memory::heap_allocator::{AllocationError, HeapAllocator, heap_law};
+use bb_memory::heap_allocator::{AllocationError, HeapAllocator};
 use bb_memory::layout::Layout;
 use std::test::Fail;
 
@@ -32,7 +32,6 @@ fn heap_grow_and_shrink(rt: HostRuntime) -> Result<(), Fail> {
     assert_eq!(rt; error, AllocationShrinkError::SizeIsZero);
     assert_eq!(rt; (block.as_slice(), block.len()), ([1, 2].as_slice(), 2));
     heap.deallocate(block, none);
-    heap_law();
     Ok(())
 }
 
