@@ -136,9 +136,13 @@ fn runs_over_a_fixed_pool(rt: HostRuntime) -> Result<(), Fail> {
     let base = [given, Reply::Passed, refused, Reply::Released];
     let mut pool = fixed_over::<1>(bucket, 4096, 64)?;
     let mut live = Vec::new(rt.alloc());
-    let told = run_fixed_pool(&mut pool, &mut live, &commands)?;
-    assert_eq!(rt; told.as_slice(), full.as_slice());
-    let told = run_base_fixed_pool(&mut pool, &mut live, &commands)?;
-    assert_eq!(rt; told.as_slice(), base.as_slice());
+    assert_eq!(rt;
+        run_fixed_pool(&mut pool, &mut live, &commands)?.as_slice(),
+        full.as_slice()
+    );
+    assert_eq!(rt;
+        run_base_fixed_pool(&mut pool, &mut live, &commands)?.as_slice(),
+        base.as_slice()
+    );
     Ok(())
 }

@@ -19,16 +19,16 @@ pub(super) fn pool_over(
     bucket: Layout,
     start: usize,
     size: usize,
-) -> Result<PoolAllocator<Global>, Fail>
+) -> Result<PoolAllocator<Global>, &'static str>
     ensures empty { IfOk result (λ pool. StandsFor pool.pool []) }
     ensures region { IfOk result (λ pool. pool.pool.geometry.region ≡ region_at start size) }
 {
     if !PoolAllocator::can_make(bucket, start, size) {
-        return Err(Fail::from("no pool can be made of that"));
+        return Err("no pool can be made of that");
     }
     match PoolAllocator::new_uninit(bucket, start, size).init(alloc) {
         Ok(pool) => Ok(pool),
-        Err((_, error)) => Err(Fail::from(error)),
+        Err(_) => Err("memory was refused"),
     }
 }
 
@@ -180,9 +180,13 @@ fn runs_over_a_pool(rt: HostRuntime) -> Result<(), Fail> {
     let base = [given, Reply::Passed, refused, Reply::Released];
     let mut pool = pool_over(rt.alloc(), bucket, 4096, 16)?;
     let mut live = Vec::new(rt.alloc());
-    let told = run_pool(&mut pool, &mut live, &commands)?;
-    assert_eq!(rt; told.as_slice(), full.as_slice());
-    let told = run_base_pool(&mut pool, &mut live, &commands)?;
-    assert_eq!(rt; told.as_slice(), base.as_slice());
+    assert_eq!(rt;
+        run_pool(&mut pool, &mut live, &commands)?.as_slice(),
+        full.as_slice()
+    );
+    assert_eq!(rt;
+        run_base_pool(&mut pool, &mut live, &commands)?.as_slice(),
+        base.as_slice()
+    );
     Ok(())
 }

@@ -1,37 +1,63 @@
 //! The bump that threads share, each row by its name.
+ghost use Rattle.std.specs.Prelude.{◌≡◌};
+
 use bb_memory::allocator::AllocationError;
 use bb_memory::bump_allocator::{BaseAllocator, BumpAllocator};
 use bb_memory::layout::{Chunk, Layout};
+use bb_memory::shared_bump::{BumpParty, SharedBumpAllocator};
+use std::process::Abort;
 use std::test::Fail;
+
+/// The calls of row `share-two-parties` on a bump of 64 bytes at 4096, with its two parties.
+pub(super) fn two_parties(
+    rt: &impl Abort,
+    shared: SharedBumpAllocator,
+    mut first: BumpParty,
+    mut second: BumpParty,
+) -> Result<(), Fail>
+    requires first { first.allocator ≡ shared }
+    requires second { second.allocator ≡ shared }
+{
+    assert_eq!(rt; (first.number(), second.number()), (0, 1));
+    let forty = Layout::from_size_align(40, 1)?;
+    let given = shared.allocate(&mut first, forty);
+    assert_eq!(rt; given, Ok(Chunk::new(4096, 40).unwrap()));
+    assert_eq!(rt; shared.used_space(&mut second), 40);
+    let over = shared.allocate(&mut second, forty);
+    assert_eq!(rt; over, Err(AllocationError::OutOfMemory));
+    let empty = shared.allocate(&mut second, Layout::from_size_align(0, 1)?);
+    assert_eq!(rt; empty, Err(AllocationError::SizeIsZero));
+    let bump = shared.into_owner(second);
+    assert_eq!(rt;
+        (bump.start_address(), bump.total_space(), bump.used_space()),
+        (4096, 64, 40)
+    );
+    Ok(())
+}
 
 #[test]
 fn share_two_parties(rt: HostRuntime) -> Result<(), Fail> {
     let Ok((shared, mut parties)) = BumpAllocator::new(4096, 64).share(rt.alloc(), 2) else {
         return Err(Fail::from("share"));
     };
+    let second = parties.pop().unwrap();
+    let first = parties.pop().unwrap();
+    assert!(rt; parties.is_empty());
+    two_parties(&rt, shared, first, second)
+}
+
+/// Two parties can meet, which changes nothing.
+#[test]
+fn parties_of_a_bump_meet(rt: HostRuntime) -> Result<(), Fail> {
+    let Ok((shared, mut parties)) = BumpAllocator::new(4096, 64).share(rt.alloc(), 2) else {
+        return Err(Fail::from("share"));
+    };
     let mut second = parties.pop().unwrap();
     let mut first = parties.pop().unwrap();
-    assert!(rt; parties.is_empty());
-    assert_eq!(rt; (first.number(), second.number()), (0, 1));
-    let forty = Layout::from_size_align(40, 1)?;
-    let chunk = Chunk::new(4096, 40).unwrap();
-    assert_eq!(rt; shared.allocate(&mut first, forty), Ok(chunk));
-    assert_eq!(rt; shared.used_space(&mut second), 40);
-    assert_eq!(rt;
-        shared.allocate(&mut second, forty),
-        Err(AllocationError::OutOfMemory)
-    );
-    let none = Layout::from_size_align(0, 1)?;
-    assert_eq!(rt;
-        shared.allocate(&mut second, none),
-        Err(AllocationError::SizeIsZero)
-    );
+    shared.allocate(&mut first, Layout::from_size_align(40, 1)?)?;
     shared.meet(&mut first, &mut second);
-    let bump = shared.into_owner(second);
-    assert_eq!(rt;
-        (bump.start_address(), bump.total_space(), bump.used_space()),
-        (4096, 64, 40)
-    );
+    assert_eq!(rt; (first.number(), second.number()), (0, 1));
+    assert_eq!(rt; shared.used_space(&mut second), 40);
     Ok(())
 }
 

@@ -9,6 +9,7 @@ use bb_memory::shared_pool::{
     Bucket, PoolParty, SharedFixedSizePoolAllocator, SharedPoolAllocator,
 };
 use std::alloc::Global;
+use std::process::Abort;
 use std::test::Fail;
 
 /// A shared pool over a region, with so many parties.
@@ -18,70 +19,54 @@ pub(super) fn shared_over(
     start: usize,
     size: usize,
     parties: u32,
-) -> Result<(SharedPoolAllocator, Vec<PoolParty>), Fail>
+) -> Result<(SharedPoolAllocator, Vec<PoolParty>), &'static str>
     ensures { IfOk result (λ made. All (λ party. party.pool ≡ made.0) made.1.items) }
 {
     if parties == 0 || !PoolAllocator::can_make(bucket, start, size) {
-        return Err(Fail::from("no pool can be made of that"));
+        return Err("no pool can be made of that");
     }
     match SharedPoolAllocator::new(alloc, bucket, start, size, parties) {
         Ok(made) => Ok(made),
-        Err(error) => Err(Fail::from(error)),
+        Err(_) => Err("memory was refused"),
     }
 }
 
-#[test]
-fn shared_pool_dropped_bucket(rt: HostRuntime) -> Result<(), Fail> {
+/// The calls of row `shared-pool-dropped-bucket` on a pool of two buckets, with its only party.
+pub(super) fn dropped_bucket(
+    rt: &impl Abort,
+    pool: &SharedPoolAllocator,
+    mut party: PoolParty,
+) -> Result<(), Fail>
+    requires { party.pool ≡ pool.now }
+{
     let asked = Layout::from_size_align(48, 4)?;
-    let (pool, mut parties) = shared_over(
-        rt.alloc(),
-        Layout::from_size_align(128, 8)?,
-        4096,
-        256,
-        1,
-    )?;
-    let Some(mut party) = parties.pop() else {
-        return Err(Fail::from("no party"));
-    };
-    assert!(rt; parties.is_empty());
-    assert_eq!(rt; party.number(), 0);
     let first = pool.allocate(&mut party, asked)?;
+    assert_eq!(rt;
+        (first.number(), first.chunk()),
+        (0, Chunk::new(4096, 48).unwrap())
+    );
     let second = pool.allocate(&mut party, asked)?;
-    assert_eq!(rt; (first.number(), second.number()), (0, 1));
-    assert_eq!(rt; first.chunk(), Chunk::new(4096, 48).unwrap());
-    assert_eq!(rt; second.chunk(), Chunk::new(4224, 48).unwrap());
+    assert_eq!(rt;
+        (second.number(), second.chunk()),
+        (1, Chunk::new(4224, 48).unwrap())
+    );
     let refused = pool.allocate(&mut party, asked).err();
     assert_eq!(rt; refused, Some(AllocationError::OutOfMemory));
     pool.deallocate_bucket(&mut party, first);
-    {
-        let dropped = pool.allocate(&mut party, asked)?;
-        assert_eq!(rt; dropped.number(), 0);
-    }
+    assert_eq!(rt; pool.allocate(&mut party, asked)?.number(), 0);
     let refused = pool.allocate(&mut party, asked).err();
     assert_eq!(rt; refused, Some(AllocationError::OutOfMemory));
     Ok(())
 }
 
-/// A shared pool of four buckets at most, over a region of 1024 bytes at 4096, with its one party.
-fn four_buckets(
-    alloc: Global,
-    bucket: Layout,
-) -> Result<(SharedFixedSizePoolAllocator<4>, PoolParty), Fail>
-    ensures { IfOk result (λ made. made.1.pool ≡ made.0) }
-{
-    let (start, size) = (4096, 1024);
-    if !FixedSizePoolAllocator::<4>::can_make(bucket, start, size) {
-        return Err(Fail::from("no pool can be made of that"));
-    }
-    let Ok((pool, mut parties)) = SharedFixedSizePoolAllocator::<4>::new(
-        alloc, bucket, start, size, 1,
-    ) else {
-        return Err(Fail::from("memory was refused"));
-    };
-    match parties.pop() {
-        Some(party) => Ok((pool, party)),
-        None => Err(Fail::from("no party")),
-    }
+#[test]
+fn shared_pool_dropped_bucket(rt: HostRuntime) -> Result<(), Fail> {
+    let bucket = Layout::from_size_align(128, 8)?;
+    let (pool, mut parties) = shared_over(rt.alloc(), bucket, 4096, 256, 1)?;
+    let party = parties.pop().unwrap();
+    assert!(rt; parties.is_empty());
+    assert_eq!(rt; party.number(), 0);
+    dropped_bucket(&rt, &pool, party)
 }
 
 /// What a bucket's `grow` answers, where its place is a multiple of the old alignment.
@@ -100,11 +85,14 @@ fn grow(
     Some(pool.grow(bucket, old, new))
 }
 
-#[test]
-fn shared_fixed_four_buckets(rt: HostRuntime) -> Result<(), Fail> {
-    let (pool, mut party) = four_buckets(rt.alloc(), Layout::from_size_align(128, 8)?)?;
-    assert_eq!(rt; (pool.number_of_buckets(), pool.bucket_size()), (4, 128));
-    assert_eq!(rt; (pool.size(), pool.max_alignment()), (1024, 8));
+/// The calls of row `shared-fixed-four-buckets` on a pool of four buckets at most, with its only party.
+pub(super) fn four_buckets(
+    rt: &impl Abort,
+    pool: &SharedFixedSizePoolAllocator<4>,
+    mut party: PoolParty,
+) -> Result<(), Fail>
+    requires { party.pool ≡ pool.now }
+{
     let asked = Layout::from_size_align(48, 4)?;
     let mut first = pool.allocate(&mut party, asked)?;
     assert_eq!(rt; first.number(), 0);
@@ -114,11 +102,65 @@ fn shared_fixed_four_buckets(rt: HostRuntime) -> Result<(), Fail> {
     let refused = pool.allocate(&mut party, asked).err();
     assert_eq!(rt; refused, Some(AllocationError::OutOfMemory));
     let more = Layout::from_size_align(64, 4)?;
-    let grown = grow(&pool, &mut first, asked, more);
+    let grown = grow(pool, &mut first, asked, more);
     assert_eq!(rt; grown, Some(Ok(Chunk::new(4096, 64).unwrap())));
-    let refused = grow(&pool, &mut first, more, Layout::from_size_align(129, 4)?);
+    let refused = grow(pool, &mut first, more, Layout::from_size_align(129, 4)?);
     assert_eq!(rt; refused, Some(Err(AllocationGrowError::OutOfMemory)));
     assert_eq!(rt; first.chunk(), Chunk::new(4096, 64).unwrap());
+    Ok(())
+}
+
+/// A shared pool of at most four buckets over a region, with so many parties.
+pub(super) fn shared_fixed_over(
+    alloc: Global,
+    bucket: Layout,
+    start: usize,
+    size: usize,
+    parties: u32,
+) -> Result<(SharedFixedSizePoolAllocator<4>, Vec<PoolParty>), &'static str>
+    ensures { IfOk result (λ made. All (λ party. party.pool ≡ made.0) made.1.items) }
+{
+    if parties == 0 || !FixedSizePoolAllocator::<4>::can_make(bucket, start, size) {
+        return Err("no pool can be made of that");
+    }
+    match SharedFixedSizePoolAllocator::<4>::new(alloc, bucket, start, size, parties) {
+        Ok(made) => Ok(made),
+        Err(_) => Err("memory was refused"),
+    }
+}
+
+#[test]
+fn shared_fixed_four_buckets(rt: HostRuntime) -> Result<(), Fail> {
+    let bucket = Layout::from_size_align(128, 8)?;
+    let (pool, mut parties) = shared_fixed_over(rt.alloc(), bucket, 4096, 1024, 1)?;
+    let party = parties.pop().unwrap();
+    assert_eq!(rt; (pool.number_of_buckets(), pool.bucket_size()), (4, 128));
+    assert_eq!(rt; (pool.size(), pool.max_alignment()), (1024, 8));
+    four_buckets(&rt, &pool, party)
+}
+
+/// A pool without buckets refuses at once, and its parties can meet.
+#[test]
+fn shared_fixed_of_no_bucket(rt: HostRuntime) -> Result<(), Fail> {
+    let bucket = Layout::from_size_align(128, 8)?;
+    let (pool, mut parties) = shared_fixed_over(rt.alloc(), bucket, 4096, 127, 2)?;
+    assert_eq!(rt; pool.number_of_buckets(), 0);
+    let mut second = parties.pop().unwrap();
+    let mut first = parties.pop().unwrap();
+    pool.meet(&mut first, &mut second);
+    let refused = pool.allocate(&mut first, bucket).err();
+    assert_eq!(rt; refused, Some(AllocationError::OutOfMemory));
+    Ok(())
+}
+
+/// As many parties as asked, numbered from 0.
+#[test]
+fn shared_fixed_of_64_parties(rt: HostRuntime) -> Result<(), Fail> {
+    let bucket = Layout::from_size_align(128, 8)?;
+    let (pool, mut parties) = shared_fixed_over(rt.alloc(), bucket, 4096, 1024, 64)?;
+    assert!(rt; parties.iter().map(|party| party.number()).eq(0..64));
+    let mut last = parties.pop().unwrap();
+    assert_eq!(rt; pool.allocate(&mut last, bucket)?.number(), 0);
     Ok(())
 }
 

@@ -87,7 +87,11 @@ fn start(
 {
     let mine = Arc::try_clone(shared)?;
     let promise = ComesBack(Snapshot::of(&**shared));
-    let handle = thread::spawn_with(rt, promise, move || take(&mine, alloc, party, layout, times))?;
+    let handle = thread::spawn_with(
+        rt,
+        promise,
+        move || take(&mine, alloc, party, layout, times),
+    )?;
     Ok(handle)
 }
 
@@ -221,7 +225,10 @@ fn threads_bump_mixed_layouts(rt: HostRuntime) -> Result<(), Fail> {
     for (taken, layout) in all.iter().zip(layouts) {
         assert!(rt; taken.refused && taken.layout == layout);
         for chunk in &taken.chunks {
-            assert_eq!(rt; (chunk.place() % layout.align(), chunk.len()), (0, layout.size()));
+            assert_eq!(rt;
+                (chunk.place() % layout.align(), chunk.len()),
+                (0, layout.size())
+            );
         }
     }
     are_apart(&rt, &ends_of(rt.alloc(), &all)?, 4097, 5097);
@@ -278,7 +285,11 @@ fn start_watching(
 {
     let mine = Arc::try_clone(shared)?;
     let promise = ComesBack(Snapshot::of(&**shared));
-    let handle = thread::spawn_with(rt, promise, move || take_and_watch(&mine, party, layout, used))?;
+    let handle = thread::spawn_with(
+        rt,
+        promise,
+        move || take_and_watch(&mine, party, layout, used),
+    )?;
     Ok(handle)
 }
 

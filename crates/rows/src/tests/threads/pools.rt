@@ -27,7 +27,8 @@ impl Promise<(PoolParty, u64)> for ComesBack {
 fn eight_buckets(alloc: Global) -> Result<(SharedPoolAllocator, Vec<PoolParty>), Fail>
     ensures { IfOk result (λ made. All (λ party. party.pool ≡ made.0) made.1.items) }
 {
-    shared_over(alloc, Layout::from_size_align(128, 8)?, 4096, 1024, 4)
+    let bucket = Layout::from_size_align(128, 8)?;
+    Ok(shared_over(alloc, bucket, 4096, 1024, 4)?)
 }
 
 /// Takes out the last of the parties.
@@ -43,12 +44,7 @@ fn last_party(pool: &SharedPoolAllocator, parties: &mut Vec<PoolParty>) -> Resul
 }
 
 /// Takes buckets until a request is refused because none is free, and answers how many.
-fn take_all(
-    rt: &impl Abort,
-    pool: &SharedPoolAllocator,
-    mut party: PoolParty,
-    asked: Layout,
-) -> u32
+fn take_all(rt: &impl Abort, pool: &SharedPoolAllocator, mut party: PoolParty, asked: Layout) -> u32
     requires { party.pool ≡ pool.now }
 {
     for number in 0..u32::MAX {
