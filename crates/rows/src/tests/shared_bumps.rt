@@ -109,9 +109,9 @@ fn share_of_64_parties(rt: HostRuntime) -> Result<(), Fail> {
     let Ok((shared, mut parties)) = BumpAllocator::new(4096, 64).share(rt.alloc(), 64) else {
         return Err(Fail::from("share"));
     };
-    assert!(rt; parties.iter().map(|party| party.number()).eq(0..64));
     let mut last = parties.pop().unwrap();
     let chunk = shared.allocate(&mut last, Layout::from_size_align(1, 1)?)?;
-    assert_eq!(rt; chunk.place(), 4096);
+    assert_eq!(rt; (chunk.place(), last.number()), (4096, 63));
+    assert!(rt; parties.iter().map(|party| party.number()).eq(0..63));
     Ok(())
 }

@@ -1,5 +1,5 @@
 //! The pools that threads share, each row by its name.
-ghost use Rattle.std.specs.Prelude.{◌≡◌, IfOk, All};
+ghost use Rattle.std.specs.Prelude.{◌≡◌, IfOk, All, length};
 
 use bb_memory::layout::{Chunk, Layout};
 use bb_memory::pool_allocator::{
@@ -20,14 +20,16 @@ pub(super) fn shared_over(
     size: usize,
     parties: u32,
 ) -> Result<(SharedPoolAllocator, Vec<PoolParty>), &'static str>
-    ensures { IfOk result (λ made. All (λ party. party.pool ≡ made.0) made.1.items) }
+    ensures theirs { IfOk result (λ made. All (λ party. party.pool ≡ made.0) made.1.items) }
+    ensures as_many { IfOk result (λ made. length made.1.items ≡ parties) }
 {
     if parties == 0 || !PoolAllocator::can_make(bucket, start, size) {
         return Err("no pool can be made of that");
     }
     match SharedPoolAllocator::new(alloc, bucket, start, size, parties) {
         Ok(made) => Ok(made),
-        Err(_) => Err("memory was refused"),
+        Err(AllocationError::OutOfMemory) => Err("memory was refused"),
+        Err(_) => Err("another cause"),
     }
 }
 
@@ -118,14 +120,16 @@ pub(super) fn shared_fixed_over(
     size: usize,
     parties: u32,
 ) -> Result<(SharedFixedSizePoolAllocator<4>, Vec<PoolParty>), &'static str>
-    ensures { IfOk result (λ made. All (λ party. party.pool ≡ made.0) made.1.items) }
+    ensures theirs { IfOk result (λ made. All (λ party. party.pool ≡ made.0) made.1.items) }
+    ensures as_many { IfOk result (λ made. length made.1.items ≡ parties) }
 {
     if parties == 0 || !FixedSizePoolAllocator::<4>::can_make(bucket, start, size) {
         return Err("no pool can be made of that");
     }
     match SharedFixedSizePoolAllocator::<4>::new(alloc, bucket, start, size, parties) {
         Ok(made) => Ok(made),
-        Err(_) => Err("memory was refused"),
+        Err(AllocationError::OutOfMemory) => Err("memory was refused"),
+        Err(_) => Err("another cause"),
     }
 }
 
@@ -158,9 +162,10 @@ fn shared_fixed_of_no_bucket(rt: HostRuntime) -> Result<(), Fail> {
 fn shared_fixed_of_64_parties(rt: HostRuntime) -> Result<(), Fail> {
     let bucket = Layout::from_size_align(128, 8)?;
     let (pool, mut parties) = shared_fixed_over(rt.alloc(), bucket, 4096, 1024, 64)?;
-    assert!(rt; parties.iter().map(|party| party.number()).eq(0..64));
     let mut last = parties.pop().unwrap();
     assert_eq!(rt; pool.allocate(&mut last, bucket)?.number(), 0);
+    assert_eq!(rt; last.number(), 63);
+    assert!(rt; parties.iter().map(|party| party.number()).eq(0..63));
     Ok(())
 }
 
@@ -199,9 +204,10 @@ fn shared_pool_of_no_bucket(rt: HostRuntime) -> Result<(), Fail> {
 fn shared_pool_of_64_parties(rt: HostRuntime) -> Result<(), Fail> {
     let bucket = Layout::from_size_align(128, 8)?;
     let (pool, mut parties) = shared_over(rt.alloc(), bucket, 4096, 1024, 64)?;
-    assert!(rt; parties.iter().map(|party| party.number()).eq(0..64));
     let mut last = parties.pop().unwrap();
     assert_eq!(rt; pool.allocate(&mut last, bucket)?.number(), 0);
+    assert_eq!(rt; last.number(), 63);
+    assert!(rt; parties.iter().map(|party| party.number()).eq(0..63));
     assert_eq!(rt; pool.start_address(), 4096);
     Ok(())
 }

@@ -1,10 +1,8 @@
 //! Rows of what threads share, whose maker was refused first.
 use crate::tests::shared_bumps::two_parties;
-use crate::tests::shared_pools::{dropped_bucket, four_buckets};
+use crate::tests::shared_pools::{dropped_bucket, four_buckets, shared_fixed_over, shared_over};
 use bb_memory::bump_allocator::BumpAllocator;
 use bb_memory::layout::Layout;
-use bb_memory::pool_allocator::{AllocationError, FixedSizePoolAllocator, PoolAllocator};
-use bb_memory::shared_pool::{SharedFixedSizePoolAllocator, SharedPoolAllocator};
 use std::test::Fail;
 
 #[test]
@@ -24,14 +22,11 @@ fn share_two_parties(rt: HostRuntime) -> Result<(), Fail> {
 #[test]
 fn shared_pool_dropped_bucket(rt: HostRuntime) -> Result<(), Fail> {
     let bucket = Layout::from_size_align(128, 8)?;
-    if !PoolAllocator::can_make(bucket, 4096, 256) {
-        return Err(Fail::from("no pool can be made of that"));
-    }
-    let made = match SharedPoolAllocator::new(rt.alloc(), bucket, 4096, 256, 1) {
+    let made = match shared_over(rt.alloc(), bucket, 4096, 256, 1) {
         Ok(made) => Ok(made),
-        Err(error) => {
-            assert_eq!(rt; error, AllocationError::OutOfMemory);
-            SharedPoolAllocator::new(rt.alloc(), bucket, 4096, 256, 1)
+        Err(cause) => {
+            assert_eq!(rt; cause, "memory was refused");
+            shared_over(rt.alloc(), bucket, 4096, 256, 1)
         }
     };
     let (pool, mut parties) = made?;
@@ -42,14 +37,11 @@ fn shared_pool_dropped_bucket(rt: HostRuntime) -> Result<(), Fail> {
 #[test]
 fn shared_fixed_four_buckets(rt: HostRuntime) -> Result<(), Fail> {
     let bucket = Layout::from_size_align(128, 8)?;
-    if !FixedSizePoolAllocator::<4>::can_make(bucket, 4096, 1024) {
-        return Err(Fail::from("no pool can be made of that"));
-    }
-    let made = match SharedFixedSizePoolAllocator::<4>::new(rt.alloc(), bucket, 4096, 1024, 1) {
+    let made = match shared_fixed_over(rt.alloc(), bucket, 4096, 1024, 1) {
         Ok(made) => Ok(made),
-        Err(error) => {
-            assert_eq!(rt; error, AllocationError::OutOfMemory);
-            SharedFixedSizePoolAllocator::<4>::new(rt.alloc(), bucket, 4096, 1024, 1)
+        Err(cause) => {
+            assert_eq!(rt; cause, "memory was refused");
+            shared_fixed_over(rt.alloc(), bucket, 4096, 1024, 1)
         }
     };
     let (pool, mut parties) = made?;

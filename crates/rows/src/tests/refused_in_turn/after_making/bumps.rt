@@ -2,7 +2,7 @@
 use super::{none_was_asked, refuse_memory};
 use bb_memory::allocator::Allocator;
 use bb_memory::bump_allocator::{BaseAllocator, BumpAllocator};
-use bb_memory::layout::{Chunk, Layout};
+use bb_memory::layout::Layout;
 use bb_memory::one_chunk_allocator::OneChunkAllocator;
 use bb_memory::region::Region;
 use std::test::Fail;
@@ -17,9 +17,8 @@ fn a_bump(rt: HostRuntime) -> Result<(), Fail> {
     assert!(rt; BumpAllocator::can_make(4096, 64));
     let mut bump = BumpAllocator::new(4096, 64);
     let eight = Layout::from_size_align(8, 8)?;
-    assert_eq!(rt; bump.allocate(eight), Ok(Chunk::new(4096, 8).unwrap()));
-    let zeroed = bump.allocate_zeroed(eight, &mut region);
-    assert_eq!(rt; zeroed, Ok(Chunk::new(4104, 8).unwrap()));
+    assert_eq!(rt; bump.allocate(eight)?.place(), 4096);
+    assert_eq!(rt; bump.allocate_zeroed(eight, &mut region)?.place(), 4104);
     assert_eq!(rt; (bump.used_space(), bump.free_space()), (16, 48));
     assert_eq!(rt; (bump.start_address(), bump.total_space()), (4096, 64));
     bump.stands_for_some_list();
