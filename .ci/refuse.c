@@ -1,25 +1,66 @@
-// Refuses the REFUSE_AT-th request for memory of the program that it is loaded into. Where that request never came and
-// the program ended well, the exit status is 99: none was left to refuse.
+// Refuses requests for memory of the program that it is loaded into, in one of two ways.
+//
+// REFUSE_AT=N refuses the Nth request. Where that request never came and the program ended well, the exit status is 99:
+// none was left to refuse.
+//
+// REFUSE_MARKED=1 refuses each request between two marks, which are requests of sizes that no other request has. The first
+// mark is refused, and so is each request behind it. The second one ends that, and is refused exactly where a request came
+// between the two. So a test that asks for the marks learns by their answers that memory was refused, and whether anything
+// asked for it meanwhile. Where the program met both marks and ended well, the exit status is 98.
+//
+// Without REFUSE_MARKED the marks are granted and not counted, so a test that asks for them is run with ample memory, too.
+#define _GNU_SOURCE
 #include <stdlib.h>
 #include <unistd.h>
 
+enum { FIRST_MARK = 100003, SECOND_MARK = 100019 };
+
 extern void *__libc_malloc(size_t);
+extern void *__libc_calloc(size_t, size_t);
 extern void *__libc_realloc(void *, size_t);
 
-static long asked, refuse_at;
-static int refused;
+static long asked, refuse_at, asked_between;
+static int refused, between_marks, met_both;
+
+static void end(int status, void *unused) {
+    (void)unused;
+    if (status == 0 && refuse_at && !refused)
+        _exit(99);
+    if (status == 0 && met_both)
+        _exit(98);
+}
+
+static int marked;
 
 __attribute__((constructor)) static void begin(void) {
     const char *text = getenv("REFUSE_AT");
     refuse_at = text ? atol(text) : 0;
+    marked = getenv("REFUSE_MARKED") != NULL;
+    on_exit(end, NULL);
 }
 
-__attribute__((destructor)) static void end(void) {
-    if (refuse_at && !refused)
-        _exit(99);
+// What the first mark, the second one, and any other request meet under REFUSE_MARKED.
+static int refuses_marked(size_t size) {
+    if (size == FIRST_MARK) {
+        between_marks = 1;
+        asked_between = 0;
+        return 1;
+    }
+    if (size == SECOND_MARK) {
+        met_both |= between_marks;
+        between_marks = 0;
+        return asked_between != 0;
+    }
+    if (between_marks)
+        __atomic_add_fetch(&asked_between, 1, __ATOMIC_SEQ_CST);
+    return between_marks;
 }
 
-static int refuses(void) {
+static int refuses(size_t size) {
+    if (marked)
+        return refuses_marked(size);
+    if (size == FIRST_MARK || size == SECOND_MARK)
+        return 0;
     if (refuse_at && __atomic_add_fetch(&asked, 1, __ATOMIC_SEQ_CST) == refuse_at) {
         refused = 1;
         return 1;
@@ -27,6 +68,8 @@ static int refuses(void) {
     return 0;
 }
 
-void *malloc(size_t size) { return refuses() ? NULL : __libc_malloc(size); }
+void *malloc(size_t size) { return refuses(size) ? NULL : __libc_malloc(size); }
 
-void *realloc(void *block, size_t size) { return refuses() ? NULL : __libc_realloc(block, size); }
+void *calloc(size_t count, size_t size) { return refuses(count * size) ? NULL : __libc_calloc(count, size); }
+
+void *realloc(void *block, size_t size) { return refuses(size) ? NULL : __libc_realloc(block, size); }

@@ -1,16 +1,8 @@
-//! Worked rows, faults of readers and writers, and refused memory.
-mod calls;
+//! Scripts with what they write, faults of readers and writers, and the program with memory refused.
 mod faults;
-mod heap_blocks;
-mod loans;
 mod pool_rows;
-mod pools;
 mod refused_in_turn;
-mod regions;
 mod rows;
-mod shared_bumps;
-mod shared_pools;
-mod threads;
 
 /// The script of row `bump-first-path`, and what it writes.
 const FIRST_PATH: &[u8] =

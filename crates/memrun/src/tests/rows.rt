@@ -1,4 +1,5 @@
 //! Scripts with what they write, each row by its name. A semicolon stands for a line feed.
+use crate::lines::lines_law;
 use crate::program::run;
 use crate::status::Status;
 use std::alloc::{AllocError, Global};
@@ -321,4 +322,10 @@ fn statuses(rt: HostRuntime) {
         assert_eq!(rt; status.code(), code);
         assert_eq!(rt; status.message(), message);
     }
+}
+
+/// The law is called once.
+#[test]
+fn the_law_of_lines_does_nothing(_rt: HostRuntime) {
+    lines_law();
 }

@@ -1,0 +1,15 @@
+//! Rows of library calls, a module for each thing that they call.
+mod bumps;
+mod errors;
+mod fixed_pools;
+mod heap_blocks;
+mod laws;
+mod layouts;
+mod loans;
+mod one_chunks;
+mod pools;
+mod refused_in_turn;
+mod regions;
+mod shared_bumps;
+mod shared_pools;
+mod threads;

@@ -1,0 +1,313 @@
+//! Threads over one shared bump.
+ghost use Rattle.std.specs.Prelude.{◌≡◌, ◌<◌, All, IfOk, IfSome, length};
+ghost use Rattle.std.specs.Arc.{arc_value};
+
+use bb_memory::allocator::AllocationError;
+use bb_memory::bump_allocator::BumpAllocator;
+use bb_memory::layout::{Chunk, Layout};
+use bb_memory::shared_bump::{BumpParty, SharedBumpAllocator};
+use std::alloc::{AllocError, Global};
+use std::process::Abort;
+use std::snapshot::Snapshot;
+use std::sync::Arc;
+use std::test::Fail;
+use std::thread;
+use std::thread::{Promise, PromisedHandle, Threads};
+
+/// What a thread hands back.
+#[derive(Drop)]
+struct Taken {
+    party: BumpParty,
+    layout: Layout,
+    /// What it was given, in the order of its requests.
+    chunks: Vec<Chunk>,
+    /// Whether it found, after each request, that the bytes up to its chunk's end were used.
+    saw_its_own: bool,
+    /// Whether its last request was refused.
+    refused: bool,
+}
+
+/// A thread's party comes back as this allocator's.
+#[derive(Drop)]
+struct ComesBack(Snapshot<SharedBumpAllocator>);
+
+impl Promise<Taken> for ComesBack {
+    ghost kept_by = { λ promise taken. taken.party.allocator ≡ promise.0.value };
+}
+
+impl Promise<(BumpParty, bool)> for ComesBack {
+    ghost kept_by = { λ promise answer. answer.0.allocator ≡ promise.0.value };
+}
+
+/// Asks so many times, or until it is refused, and looks at the used space after each request.
+fn take(
+    shared: &SharedBumpAllocator,
+    alloc: Global,
+    mut party: BumpParty,
+    layout: Layout,
+    times: u32,
+) -> Taken
+    requires { party.allocator ≡ shared.now }
+    ensures { result.party.allocator ≡ shared.entry.now }
+{
+    let mut chunks = Vec::new(alloc);
+    let mut saw_its_own = true;
+    let mut refused = false;
+    for _ in 0..times {
+        let Ok(chunk) = shared.allocate(&mut party, layout) else {
+            refused = true;
+            break;
+        };
+        let used = shared.used_space(&mut party);
+        saw_its_own = saw_its_own && chunk.end() <= shared.start_address().saturating_add(used);
+        if chunks.push(chunk).is_err() {
+            break;
+        }
+    }
+    Taken {
+        party,
+        layout,
+        chunks,
+        saw_its_own,
+        refused,
+    }
+}
+
+/// Starts a thread that takes.
+fn start(
+    rt: &impl Threads,
+    alloc: Global,
+    shared: &Arc<SharedBumpAllocator, Global>,
+    party: BumpParty,
+    layout: Layout,
+    times: u32,
+) -> Result<PromisedHandle<Taken, ComesBack>, AllocError>
+    requires { party.allocator ≡ arc_value shared.now }
+    ensures { IfOk result (λ handle. handle.promise.0.value ≡ arc_value shared.now) }
+{
+    let mine = Arc::try_clone(shared)?;
+    let promise = ComesBack(Snapshot::of(&**shared));
+    let handle = thread::spawn_with(
+        rt,
+        promise,
+        move || take(&mine, alloc, party, layout, times),
+    )?;
+    Ok(handle)
+}
+
+/// A thread for each of these parties, all at once: that of party i asks for the i-th layout. What they hand back.
+fn take_in_threads(
+    rt: &impl Threads,
+    alloc: Global,
+    shared: &Arc<SharedBumpAllocator, Global>,
+    parties: Vec<BumpParty>,
+    layouts: &[Layout],
+    times: u32,
+) -> Result<Vec<Taken>, AllocError>
+    requires parties { All (λ party. party.allocator ≡ arc_value shared.now) parties.items }
+    requires some { 0 < length layouts.now }
+    ensures { IfOk result (λ all. All (λ taken. taken.party.allocator ≡ arc_value shared.now) all.items) }
+{
+    let mut threads = Vec::new(alloc);
+    for party in parties {
+        let layout = layouts[party.number() as usize % layouts.len()];
+        threads.push(start(rt, alloc, shared, party, layout, times)?)?;
+    }
+    let mut all = Vec::new(alloc);
+    for thread in threads {
+        all.push(thread.join(rt))?;
+    }
+    Ok(all)
+}
+
+/// A bump of 4096 bytes at 4096, shared among four.
+fn four_parties(alloc: Global) -> Result<(SharedBumpAllocator, Vec<BumpParty>), Fail>
+    ensures { IfOk result (λ made. All (λ party. party.allocator ≡ made.0) made.1.items) }
+{
+    match BumpAllocator::new(4096, 4096).share(alloc, 4) {
+        Ok(made) => Ok(made),
+        Err((_, error)) => Err(Fail::from(error)),
+    }
+}
+
+/// The first place and the end of each chunk that a thread was given, by their places.
+fn ends_of(alloc: Global, all: &[Taken]) -> Result<Vec<(usize, usize)>, AllocError> {
+    let mut ends = Vec::new(alloc);
+    for taken in all {
+        for chunk in &taken.chunks {
+            ends.push((chunk.place(), chunk.end()))?;
+        }
+    }
+    ends.sort_unstable();
+    Ok(ends)
+}
+
+/// Each of the parties finds that so many bytes are used. One of them.
+fn all_find(
+    rt: &impl Abort,
+    shared: &SharedBumpAllocator,
+    all: Vec<Taken>,
+    used: usize,
+) -> Option<BumpParty>
+    requires { All (λ taken. taken.party.allocator ≡ shared.now) all.items }
+    ensures { IfSome result (λ party. party.allocator ≡ shared.now) }
+{
+    let mut last = None;
+    for taken in all {
+        let mut party = taken.party;
+        assert_eq!(rt; shared.used_space(&mut party), used);
+        last = Some(party);
+    }
+    last
+}
+
+#[test]
+fn threads_bump_exact_places(rt: HostRuntime) -> Result<(), Fail> {
+    let ten = Layout::from_size_align(10, 1)?;
+    let (shared, parties) = four_parties(rt.alloc())?;
+    let shared = Arc::new(rt.alloc(), shared)?;
+    let all = take_in_threads(&rt, rt.alloc(), &shared, parties, &[ten], 100)?;
+    assert!(rt; all.iter().all(|taken| taken.chunks.len() == 100));
+    let ends = ends_of(rt.alloc(), &all)?;
+    assert_eq!(rt; ends.len(), 400);
+    for (k, (place, end)) in ends.iter().enumerate() {
+        assert_eq!(rt; (*place, *end), (4096 + 10 * k, 4106 + 10 * k));
+    }
+    let Some(mut party) = all_find(&rt, &shared, all, 4000) else {
+        return Err(Fail::from("no party came back"));
+    };
+    let over = shared.allocate(&mut party, Layout::from_size_align(97, 1)?);
+    assert_eq!(rt; over, Err(AllocationError::OutOfMemory));
+    let rest = shared.allocate(&mut party, Layout::from_size_align(96, 1)?);
+    assert_eq!(rt; rest, Ok(Chunk::new(8096, 96).unwrap()));
+    Ok(())
+}
+
+#[test]
+fn threads_used_space_seen(rt: HostRuntime) -> Result<(), Fail> {
+    let ten = Layout::from_size_align(10, 1)?;
+    let (shared, parties) = four_parties(rt.alloc())?;
+    let shared = Arc::new(rt.alloc(), shared)?;
+    let all = take_in_threads(&rt, rt.alloc(), &shared, parties, &[ten], 100)?;
+    assert_eq!(rt; all.len(), 4);
+    for taken in &all {
+        assert!(rt; taken.saw_its_own);
+        assert_eq!(rt; taken.chunks.len(), 100);
+    }
+    Ok(())
+}
+
+/// Takes out the last of those that came back.
+fn last_party(shared: &SharedBumpAllocator, all: &mut Vec<Taken>) -> Result<BumpParty, Fail>
+    requires { All (λ taken. taken.party.allocator ≡ shared.now) all.old.items }
+    ensures others { All (λ taken. taken.party.allocator ≡ shared.now) all.new.items }
+    ensures own { IfOk result (λ party. party.allocator ≡ shared.now) }
+{
+    match all.pop() {
+        Some(taken) => Ok(taken.party),
+        None => Err(Fail::from("too few parties")),
+    }
+}
+
+#[test]
+fn threads_bump_mixed_layouts(rt: HostRuntime) -> Result<(), Fail> {
+    let layouts = [
+        Layout::from_size_align(24, 16)?,
+        Layout::from_size_align(5, 1)?,
+        Layout::from_size_align(8, 8)?,
+    ];
+    let Ok((shared, parties)) = BumpAllocator::new(4097, 1000).share(rt.alloc(), 3) else {
+        return Err(Fail::from("share"));
+    };
+    let shared = Arc::new(rt.alloc(), shared)?;
+    let mut all = take_in_threads(&rt, rt.alloc(), &shared, parties, &layouts, 1000)?;
+    assert_eq!(rt; all.len(), 3);
+    for (taken, layout) in all.iter().zip(layouts) {
+        assert!(rt; taken.refused && taken.layout == layout);
+        for chunk in &taken.chunks {
+            assert_eq!(rt;
+                (chunk.place() % layout.align(), chunk.len()),
+                (0, layout.size())
+            );
+        }
+    }
+    are_apart(&rt, &ends_of(rt.alloc(), &all)?, 4097, 5097);
+    let mut third = last_party(&shared, &mut all)?;
+    let mut second = last_party(&shared, &mut all)?;
+    let mut first = last_party(&shared, &mut all)?;
+    shared.meet(&mut first, &mut second);
+    shared.meet(&mut first, &mut third);
+    shared.meet(&mut second, &mut third);
+    Ok(())
+}
+
+/// Each of these, from a place to an end, lies behind the one before, and all from `start` to `end`.
+fn are_apart(rt: &impl Abort, chunks: &[(usize, usize)], start: usize, end: usize) {
+    let mut behind = start;
+    for (place, its_end) in chunks {
+        assert!(rt; behind <= *place && *place < *its_end);
+        behind = *its_end;
+    }
+    assert!(rt; start < behind && behind <= end);
+}
+
+/// Takes a chunk, and looks until so many bytes are used. Whether it came to that.
+fn take_and_watch(
+    shared: &SharedBumpAllocator,
+    mut party: BumpParty,
+    layout: Layout,
+    used: usize,
+) -> (BumpParty, bool)
+    requires { party.allocator ≡ shared.now }
+    ensures { result.0.allocator ≡ shared.entry.now }
+{
+    if shared.allocate(&mut party, layout).is_err() {
+        return (party, false);
+    }
+    for _ in 0..100_000_000u32 {
+        if shared.used_space(&mut party) == used {
+            return (party, true);
+        }
+    }
+    (party, false)
+}
+
+/// Starts a thread that takes and watches.
+fn start_watching(
+    rt: &impl Threads,
+    shared: &Arc<SharedBumpAllocator, Global>,
+    party: BumpParty,
+    layout: Layout,
+    used: usize,
+) -> Result<PromisedHandle<(BumpParty, bool), ComesBack>, AllocError>
+    requires { party.allocator ≡ arc_value shared.now }
+    ensures { IfOk result (λ handle. handle.promise.0.value ≡ arc_value shared.now) }
+{
+    let mine = Arc::try_clone(shared)?;
+    let promise = ComesBack(Snapshot::of(&**shared));
+    let handle = thread::spawn_with(
+        rt,
+        promise,
+        move || take_and_watch(&mine, party, layout, used),
+    )?;
+    Ok(handle)
+}
+
+/// Each of two threads watches for what the other takes, so threads that ran one after the other would fail.
+#[test]
+fn threads_really_at_once(rt: HostRuntime) -> Result<(), Fail> {
+    let eight = Layout::from_size_align(8, 1)?;
+    let Ok((shared, mut parties)) = BumpAllocator::new(4096, 64).share(rt.alloc(), 2) else {
+        return Err(Fail::from("share"));
+    };
+    let second = parties.pop().unwrap();
+    let first = parties.pop().unwrap();
+    let shared = Arc::new(rt.alloc(), shared)?;
+    let one = start_watching(&rt, &shared, first, eight, 16)?;
+    let other = start_watching(&rt, &shared, second, eight, 16)?;
+    let (mut one, one_saw_both) = one.join(&rt);
+    let (mut other, other_saw_both) = other.join(&rt);
+    assert!(rt; one_saw_both && other_saw_both);
+    shared.meet(&mut one, &mut other);
+    Ok(())
+}
