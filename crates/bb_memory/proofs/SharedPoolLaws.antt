@@ -55,7 +55,7 @@ module _ (one other : TakenBucket) (same : one.allocator ≡ other.allocator) (t
   placed : (chunk_of other).place ≡ bucket_place geometry other.number
   placed = ap (λ (pool : SharedPool). bucket_place pool.scene.geometry other.number) (sym same)
 
-  pub buckets_apart : AreAStrideApart geometry.bucket (chunk_of one) (chunk_of other)
+  pub buckets_apart : AreAStrideApart geometry.bucket (chunk_of one).place (chunk_of other).place
   buckets_apart = elim (cases_lt one.number other.number) [
     | inl below ↦ inl (omega (arith, bucket_place-after geometry one.number other.number below, placed))
     | inr above ↦

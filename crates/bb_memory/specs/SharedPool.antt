@@ -108,11 +108,10 @@ MayTake party layout (Ok bucket) new =
     × (new ≡ with_entries party (taking_pass party.allocator.scene.geometry.buckets party.number bucket.number))
 -- no step
 MayTake party layout (Err SizeTooLarge) new =
-    (party.allocator.scene.geometry.bucket.size < layout.size) × (new ≡ with_entries party [])
+    (party.allocator.scene.geometry.bucket.size < layout.size) × (new ≡ party)
 MayTake party layout (Err AlignmentFailure) new =
     (layout.size ≤ party.allocator.scene.geometry.bucket.size)
-    × (party.allocator.scene.geometry.bucket.align < layout.align)
-    × (new ≡ with_entries party [])
+    × (party.allocator.scene.geometry.bucket.align < layout.align) × (new ≡ party)
 -- one whole pass: it lost at each bucket
 MayTake party layout (Err OutOfMemory) new =
     IsWithin party.allocator.scene.geometry.bucket layout

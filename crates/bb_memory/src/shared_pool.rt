@@ -101,6 +101,7 @@ impl SharedPoolAllocator {
         ensures number { party.new.number ≡ party.old.number }
         ensures bucket { IfOk result (λ bucket. bucket.allocator ≡ self.now) }
         ensures interleaved { IsInterleaved party.new }
+        ensures is_party { IsParty party.new }
 
         // What is held after the party's log.
         ensures held { IfOk result (λ bucket. IsHeldAfter party.new.log bucket.number) }
@@ -129,6 +130,7 @@ impl SharedPoolAllocator {
         ensures party { party.new.allocator ≡ self.now }
         ensures number { party.new.number ≡ party.old.number }
         ensures interleaved { IsInterleaved party.new }
+        ensures is_party { IsParty party.new }
         ensures given_back { ¬ IsHeldAfter party.new.log bucket.entry.number }
         ensures still_held { (other : ℕ) → other ≢ bucket.entry.number
             → IsHeldAfter party.old.log other → IsHeldAfter party.new.log other }
@@ -260,7 +262,8 @@ pub fn shared_pool_law()
     // they don't overlap.
     ensures apart { (one other : TakenBucket) → one.allocator ≡ other.allocator
         → one.number ≢ other.number
-        → AreAStrideApart one.allocator.scene.geometry.bucket (chunk_of one) (chunk_of other) }
+        → AreAStrideApart one.allocator.scene.geometry.bucket
+        (chunk_of one).place (chunk_of other).place }
     ensures no_overlap { (one other : TakenBucket) → one.allocator ≡ other.allocator
         → one.number ≢ other.number
         → one.len ≤ one.allocator.scene.geometry.bucket.size

@@ -6,7 +6,7 @@ ghost use Rattle.bb_memory_base.specs.PoolGeometry.{PoolGeometry, IsCut, IsPoolG
 ghost use Rattle.bb_memory_base.specs.PoolObject.{IsWithin, MayGrow, MayShrink};
 ghost use Rattle.bb_memory_base.specs.PoolLogs.{IsHeldAfter};
 ghost use Rattle.bb_memory.specs.Pool.{MayBeCut};
-ghost use Rattle.bb_memory.specs.SharedPool.{AreAllHeldAfter, AreInterleaved, IsInterleaved, MayTake, chunk_of, fresh_party, resized, return_entry, with_entries};
+ghost use Rattle.bb_memory.specs.SharedPool.{AreAllHeldAfter, AreInterleaved, IsInterleaved, IsParty, MayTake, chunk_of, fresh_party, resized, return_entry, with_entries};
 
 use super::bucket::Bucket;
 use super::buckets::SharedBuckets;
@@ -92,6 +92,7 @@ impl<const MAX_NUMBER_OF_BUCKETS: usize> SharedFixedSizePoolAllocator<MAX_NUMBER
         ensures number { party.new.number ≡ party.old.number }
         ensures bucket { IfOk result (λ bucket. bucket.allocator ≡ self.now) }
         ensures interleaved { IsInterleaved party.new }
+        ensures is_party { IsParty party.new }
 
         // What is held after the party's log.
         ensures held { IfOk result (λ bucket. IsHeldAfter party.new.log bucket.number) }
@@ -120,6 +121,7 @@ impl<const MAX_NUMBER_OF_BUCKETS: usize> SharedFixedSizePoolAllocator<MAX_NUMBER
         ensures party { party.new.allocator ≡ self.now }
         ensures number { party.new.number ≡ party.old.number }
         ensures interleaved { IsInterleaved party.new }
+        ensures is_party { IsParty party.new }
         ensures given_back { ¬ IsHeldAfter party.new.log bucket.entry.number }
         ensures still_held { (other : ℕ) → other ≢ bucket.entry.number
             → IsHeldAfter party.old.log other → IsHeldAfter party.new.log other }
