@@ -22,29 +22,25 @@ fn share_two_parties(rt: HostRuntime) -> Result<(), Fail> {
 #[test]
 fn shared_pool_dropped_bucket(rt: HostRuntime) -> Result<(), Fail> {
     let bucket = Layout::from_size_align(128, 8)?;
-    let made = match shared_over(rt.alloc(), bucket, 4096, 256, 1) {
-        Ok(made) => Ok(made),
+    match shared_over(rt.alloc(), bucket, 4096, 256, 1) {
+        Ok((pool, mut parties)) => dropped_bucket(&rt, &pool, parties.pop().unwrap()),
         Err(cause) => {
             assert_eq!(rt; cause, "memory was refused");
-            shared_over(rt.alloc(), bucket, 4096, 256, 1)
+            let (pool, mut parties) = shared_over(rt.alloc(), bucket, 4096, 256, 1)?;
+            dropped_bucket(&rt, &pool, parties.pop().unwrap())
         }
-    };
-    let (pool, mut parties) = made?;
-    let only = parties.pop().unwrap();
-    dropped_bucket(&rt, &pool, only)
+    }
 }
 
 #[test]
 fn shared_fixed_four_buckets(rt: HostRuntime) -> Result<(), Fail> {
     let bucket = Layout::from_size_align(128, 8)?;
-    let made = match shared_fixed_over(rt.alloc(), bucket, 4096, 1024, 1) {
-        Ok(made) => Ok(made),
+    match shared_fixed_over(rt.alloc(), bucket, 4096, 1024, 1) {
+        Ok((pool, mut parties)) => four_buckets(&rt, &pool, parties.pop().unwrap()),
         Err(cause) => {
             assert_eq!(rt; cause, "memory was refused");
-            shared_fixed_over(rt.alloc(), bucket, 4096, 1024, 1)
+            let (pool, mut parties) = shared_fixed_over(rt.alloc(), bucket, 4096, 1024, 1)?;
+            four_buckets(&rt, &pool, parties.pop().unwrap())
         }
-    };
-    let (pool, mut parties) = made?;
-    let only = parties.pop().unwrap();
-    four_buckets(&rt, &pool, only)
+    }
 }

@@ -73,6 +73,7 @@ fn a_bucket(rt: HostRuntime) -> Result<(), Fail> {
     refuse_memory(rt.alloc());
     let small = Layout::from_size_align(48, 4)?;
     let mut taken = pool.allocate(&mut only, small)?;
+    assert!(rt; taken.chunk().place() % small.align() == 0);
     let grown = pool.grow(&mut taken, small, bucket)?;
     assert_eq!(rt; (grown.place(), grown.len()), (4096, 128));
     let shrunk = pool.shrink(&mut taken, bucket, small)?;
