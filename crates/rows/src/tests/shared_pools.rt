@@ -20,7 +20,7 @@ pub(super) fn shared_over(
     size: usize,
     parties: u32,
 ) -> Result<(SharedPoolAllocator, Vec<PoolParty>), &'static str>
-    ensures theirs { IfOk result (λ made. All (λ party. party.pool ≡ made.0) made.1.items) }
+    ensures theirs { IfOk result (λ made. All (λ party. party.allocator ≡ made.0) made.1.items) }
     ensures as_many { IfOk result (λ made. length made.1.items ≡ parties) }
 {
     if parties == 0 || !PoolAllocator::can_make(bucket, start, size) {
@@ -39,7 +39,7 @@ pub(super) fn dropped_bucket(
     pool: &SharedPoolAllocator,
     mut party: PoolParty,
 ) -> Result<(), Fail>
-    requires { party.pool ≡ pool.now }
+    requires { party.allocator ≡ pool.now }
 {
     let asked = Layout::from_size_align(48, 4)?;
     let first = pool.allocate(&mut party, asked)?;
@@ -78,8 +78,8 @@ fn grow(
     old: Layout,
     new: Layout,
 ) -> Option<Result<Chunk, AllocationGrowError>>
-    requires { bucket.old.pool ≡ pool.now }
-    ensures { bucket.new.pool ≡ pool.now }
+    requires { bucket.old.allocator ≡ pool.now }
+    ensures { bucket.new.allocator ≡ pool.now }
 {
     if bucket.chunk().place() % old.align() != 0 {
         return None;
@@ -93,7 +93,7 @@ pub(super) fn four_buckets(
     pool: &SharedFixedSizePoolAllocator<4>,
     mut party: PoolParty,
 ) -> Result<(), Fail>
-    requires { party.pool ≡ pool.now }
+    requires { party.allocator ≡ pool.now }
 {
     let asked = Layout::from_size_align(48, 4)?;
     let mut first = pool.allocate(&mut party, asked)?;
@@ -120,7 +120,7 @@ pub(super) fn shared_fixed_over(
     size: usize,
     parties: u32,
 ) -> Result<(SharedFixedSizePoolAllocator<4>, Vec<PoolParty>), &'static str>
-    ensures theirs { IfOk result (λ made. All (λ party. party.pool ≡ made.0) made.1.items) }
+    ensures theirs { IfOk result (λ made. All (λ party. party.allocator ≡ made.0) made.1.items) }
     ensures as_many { IfOk result (λ made. length made.1.items ≡ parties) }
 {
     if parties == 0 || !FixedSizePoolAllocator::<4>::can_make(bucket, start, size) {

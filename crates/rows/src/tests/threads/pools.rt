@@ -20,12 +20,12 @@ use std::thread::{Promise, PromisedHandle, Threads};
 struct ComesBack(Snapshot<SharedPoolAllocator>);
 
 impl Promise<(PoolParty, u64)> for ComesBack {
-    ghost kept_by = { λ promise answer. answer.0.pool ≡ promise.0.value };
+    ghost kept_by = { λ promise answer. answer.0.allocator ≡ promise.0.value };
 }
 
 /// A pool of eight buckets of 128 bytes, with four parties.
 fn eight_buckets(alloc: Global) -> Result<(SharedPoolAllocator, Vec<PoolParty>), Fail>
-    ensures { IfOk result (λ made. All (λ party. party.pool ≡ made.0) made.1.items) }
+    ensures { IfOk result (λ made. All (λ party. party.allocator ≡ made.0) made.1.items) }
 {
     let bucket = Layout::from_size_align(128, 8)?;
     Ok(shared_over(alloc, bucket, 4096, 1024, 4)?)
@@ -33,9 +33,9 @@ fn eight_buckets(alloc: Global) -> Result<(SharedPoolAllocator, Vec<PoolParty>),
 
 /// Takes out the last of the parties.
 fn last_party(pool: &SharedPoolAllocator, parties: &mut Vec<PoolParty>) -> Result<PoolParty, Fail>
-    requires { All (λ party. party.pool ≡ pool.now) parties.old.items }
-    ensures others { All (λ party. party.pool ≡ pool.now) parties.new.items }
-    ensures own { IfOk result (λ party. party.pool ≡ pool.now) }
+    requires { All (λ party. party.allocator ≡ pool.now) parties.old.items }
+    ensures others { All (λ party. party.allocator ≡ pool.now) parties.new.items }
+    ensures own { IfOk result (λ party. party.allocator ≡ pool.now) }
 {
     match parties.pop() {
         Some(party) => Ok(party),
@@ -45,7 +45,7 @@ fn last_party(pool: &SharedPoolAllocator, parties: &mut Vec<PoolParty>) -> Resul
 
 /// Takes buckets until a request is refused because none is free, and answers how many.
 fn take_all(rt: &impl Abort, pool: &SharedPoolAllocator, mut party: PoolParty, asked: Layout) -> u32
-    requires { party.pool ≡ pool.now }
+    requires { party.allocator ≡ pool.now }
 {
     for number in 0..u32::MAX {
         if let Err(error) = pool.allocate(&mut party, asked) {
@@ -81,8 +81,8 @@ fn take_and_return(
     asked: Layout,
     times: u32,
 ) -> (PoolParty, u64)
-    requires { party.pool ≡ pool.now }
-    ensures { result.0.pool ≡ pool.entry.now }
+    requires { party.allocator ≡ pool.now }
+    ensures { result.0.allocator ≡ pool.entry.now }
 {
     let mut clashes: u64 = 0;
     for _ in 0..times {
@@ -110,7 +110,7 @@ fn start(
     party: PoolParty,
     asked: Layout,
 ) -> Result<PromisedHandle<(PoolParty, u64), ComesBack>, AllocError>
-    requires { party.pool ≡ arc_value pool.now }
+    requires { party.allocator ≡ arc_value pool.now }
     ensures { IfOk result (λ handle. handle.promise.0.value ≡ arc_value pool.now) }
 {
     let (its_pool, its_marks) = (Arc::try_clone(pool)?, Arc::try_clone(marks)?);
@@ -157,8 +157,8 @@ fn take_and_drop(
     mut party: PoolParty,
     asked: Layout,
 ) -> (PoolParty, u64)
-    requires { party.pool ≡ pool.now }
-    ensures { result.0.pool ≡ pool.now }
+    requires { party.allocator ≡ pool.now }
+    ensures { result.0.allocator ≡ pool.now }
 {
     let taken = pool.allocate(&mut party, asked).is_ok();
     (party, u64::from(taken))
@@ -171,7 +171,7 @@ fn start_dropping(
     party: PoolParty,
     asked: Layout,
 ) -> Result<PromisedHandle<(PoolParty, u64), ComesBack>, AllocError>
-    requires { party.pool ≡ arc_value pool.now }
+    requires { party.allocator ≡ arc_value pool.now }
     ensures { IfOk result (λ handle. handle.promise.0.value ≡ arc_value pool.now) }
 {
     let mine = Arc::try_clone(pool)?;

@@ -3,4 +3,4 @@ use Rattle.rows.proofs.tests.threads.pools.take_all.Given as goal
 
 -- the party stays this pool's
 abbrev pub invariant-loop-number : goal.invariant-loop-number
-invariant-loop-number g l = l.party.pool ≡ l.pool
+invariant-loop-number g l = l.party.allocator ≡ l.pool

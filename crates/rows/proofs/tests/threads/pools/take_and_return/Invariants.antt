@@ -3,4 +3,4 @@ use Rattle.rows.proofs.tests.threads.pools.take_and_return.Given as goal
 
 -- the party stays this pool's
 abbrev pub invariant-loop : goal.invariant-loop
-invariant-loop l = l.party.pool ≡ l.pool
+invariant-loop l = l.party.allocator ≡ l.pool
