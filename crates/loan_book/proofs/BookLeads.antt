@@ -14,9 +14,11 @@ use Rattle.loan_book.specs.Runs.{BookStep}
 use Rattle.loan_book.proofs.Books.{IsBook-push, IsBook-set, IsBook-remove}
 use Rattle.std.proofs.lemmas.Option.{slice_get_within}
 
-pub loan-leads : (may_allocate : Answers) (P : Book → Type 0) (old new : Book) (size : ℕ) (answer : Result (ℕ × Chunk) LoanError) →
+pub loan-leads : (may_allocate : Answers) (P : Book → Type 0) (old new : Book) (size : ℕ)
+    (answer : Result (ℕ × Chunk) LoanError) →
     P old → ((chunk : Chunk) → P (with_sample old chunk)) → Loans may_allocate old size answer new → P new
-loan-leads may_allocate P old new size (Ok (id, chunk)) here loaned (fits, may, numbered, same) = subst P (sym same) (loaned chunk)
+loan-leads may_allocate P old new size (Ok (id, chunk)) here loaned (fits, may, numbered, same) =
+    subst P (sym same) (loaned chunk)
 loan-leads may_allocate P old new size (Err Size) here loaned (large, same) = subst P (sym same) here
 loan-leads may_allocate P old new size (Err IdsExhausted) here loaned (fits, used, same) = subst P (sym same) here
 loan-leads may_allocate P old new size (Err Memory) here loaned (fits, left, same) = subst P (sym same) here
@@ -25,7 +27,8 @@ loan-leads may_allocate P old new size answer here loaned none = absurd none
 
 pub publish-leads : (P : Book → Type 0) (old new : Book) (id readers : ℕ) (answer : Result (Unit {0}) LoanError) →
     P old →
-    ((position : ℕ) (sample : Sample) → IsAt old id position sample → sample.returns ≡ None → 0 < readers → P (with_returns old position sample readers)) →
+    ((position : ℕ) (sample : Sample) → IsAt old id position sample → sample.returns ≡ None → 0 < readers →
+    P (with_returns old position sample readers)) →
     Publishes old id readers answer new → P new
 publish-leads P old new id readers (Ok done) here published (i, sample, at, unpublished, some, same) =
     subst P (sym same) (published i sample at unpublished some)
@@ -36,12 +39,14 @@ publish-leads P old new id readers answer here published none = absurd none
 
 pub give-leads : (P : Book → Type 0) (old new : Book) (id : ℕ) (answer : Result Bool LoanError) →
     (¬ IsOut old id → P old) →
-    ((position : ℕ) (sample : Sample) → IsAt old id position sample → returns_to_come sample.returns ≡ 1 → P (without old position)) →
+    ((position : ℕ) (sample : Sample) → IsAt old id position sample → returns_to_come sample.returns ≡ 1 →
+    P (without old position)) →
     ((position : ℕ) (sample : Sample) → IsAt old id position sample → 1 < returns_to_come sample.returns →
     P (with_returns old position sample (returns_to_come sample.returns - 1))) →
     GivesBack old id answer new → P new
 give-leads P old new id (Ok true) unknown last more (i, sample, at, one, same) = subst P (sym same) (last i sample at one)
-give-leads P old new id (Ok false) unknown last more (i, sample, at, several, same) = subst P (sym same) (more i sample at several)
+give-leads P old new id (Ok false) unknown last more (i, sample, at, several, same) =
+    subst P (sym same) (more i sample at several)
 give-leads P old new id (Err UnknownSample) unknown last more (none, same) = subst P (sym same) (unknown none)
 give-leads P old new id answer unknown last more none = absurd none
 
@@ -49,12 +54,14 @@ give-leads P old new id answer unknown last more none = absurd none
 
 loan-sound : (may_allocate : Answers) (old new : Book) (size : ℕ) (answer : Result (ℕ × Chunk) LoanError) → IsBook old →
     Loans may_allocate old size answer new → IsBook new
-loan-sound may_allocate old new size answer is = loan-leads may_allocate IsBook old new size answer is (λ chunk. IsBook-push old chunk is)
+loan-sound may_allocate old new size answer is = loan-leads may_allocate IsBook old new size answer is
+    (λ chunk. IsBook-push old chunk is)
 
 publish-sound : (old new : Book) (id readers : ℕ) (answer : Result (Unit {0}) LoanError) → IsBook old →
     Publishes old id readers answer new → IsBook new
 publish-sound old new id readers answer is =
-    publish-leads IsBook old new id readers answer is (λ i sample at unpublished some. IsBook-set old i sample readers at.at some is)
+    publish-leads IsBook old new id readers answer is
+    (λ i sample at unpublished some. IsBook-set old i sample readers at.at some is)
 
 give-sound : (old new : Book) (id : ℕ) (answer : Result Bool LoanError) → IsBook old → GivesBack old id answer new → IsBook new
 give-sound old new id answer is =
@@ -64,10 +71,14 @@ give-sound old new id answer is =
 
 pub step-sound : (may_allocate : Answers) (old new : Book) (call : LoanCall) (reply : LoanReply) → IsBook old →
     BookStep may_allocate old call reply new → IsBook new
-step-sound may_allocate old new (call.Loan size) (reply.Loaned id chunk) is step = loan-sound may_allocate old new size (Ok (id, chunk)) is step
-step-sound may_allocate old new (call.Loan size) (reply.Refused error) is step = loan-sound may_allocate old new size (Err error) is step
-step-sound may_allocate old new (call.Publish id readers) reply.Published is step = publish-sound old new id readers (Ok tt) is step
-step-sound may_allocate old new (call.Publish id readers) (reply.Refused error) is step = publish-sound old new id readers (Err error) is step
+step-sound may_allocate old new (call.Loan size) (reply.Loaned id chunk) is step =
+    loan-sound may_allocate old new size (Ok (id, chunk)) is step
+step-sound may_allocate old new (call.Loan size) (reply.Refused error) is step =
+    loan-sound may_allocate old new size (Err error) is step
+step-sound may_allocate old new (call.Publish id readers) reply.Published is step =
+    publish-sound old new id readers (Ok tt) is step
+step-sound may_allocate old new (call.Publish id readers) (reply.Refused error) is step =
+    publish-sound old new id readers (Err error) is step
 step-sound may_allocate old new (call.GiveBack id) reply.Returned is step = give-sound old new id (Ok true) is step
 step-sound may_allocate old new (call.GiveBack id) reply.Kept is step = give-sound old new id (Ok false) is step
 step-sound may_allocate old new (call.GiveBack id) (reply.Refused error) is step = give-sound old new id (Err error) is step

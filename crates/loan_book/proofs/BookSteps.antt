@@ -20,20 +20,27 @@ not_before book id i j one other is here there before =
     omega (arith, here.has_id, there.has_id)
 
 -- so it stands at one position alone
-pub one_position : (book : Book) (id i j : ℕ) (one other : Sample) → IsBook book → IsAt book id i one → IsAt book id j other → i ≡ j
+pub one_position : (book : Book) (id i j : ℕ) (one other : Sample) → IsBook book → IsAt book id i one → IsAt book id j other →
+    i ≡ j
 one_position book id i j one other is here there =
     let up = not_before book id i j one other is here there in
     let down = not_before book id j i other one is there here in
-    elim (cases_lt i j) [ inl before ↦ absurd (up before) | inr behind ↦ elim (cases_lt j i) [ inl after ↦ absurd (down after) | inr not_after ↦ omega arith ] ]
+    elim (cases_lt i j) [
+      | inl before ↦ absurd (up before)
+      | inr behind ↦ elim
+          (cases_lt j i) [ inl after ↦ absurd (down after) | inr not_after ↦ omega arith ]
+    ]
 
-pub one_sample : (book : Book) (id i j : ℕ) (one other : Sample) → IsBook book → IsAt book id i one → IsAt book id j other → one ≡ other
+pub one_sample : (book : Book) (id i j : ℕ) (one other : Sample) → IsBook book → IsAt book id i one → IsAt book id j other →
+    one ≡ other
 one_sample book id i j one other is here there =
     let same = one_position book id i j one other is here there in
     let at = subst (λ k. slice_get book.out k ≡ Some one) same here.at in
     cc
 
 -- a sample that is out has its own returns to come alone
-pub one_returns : (book : Book) (id : ℕ) (one other : Option ℕ) → IsBook book → HasReturns book id one → HasReturns book id other → one ≡ other
+pub one_returns : (book : Book) (id : ℕ) (one other : Option ℕ) → IsBook book → HasReturns book id one →
+    HasReturns book id other → one ≡ other
 one_returns book id one other is (i, sample, here, is_one) (j, found, there, is_other) =
     sym is_one ∙ ap (λ (s : Sample). s.returns) (one_sample book id i j sample found is here there) ∙ is_other
 
@@ -43,7 +50,8 @@ unpublished-nowhere book id is unpublished (returns, published) =
     let same = one_returns book id None (Some returns) is unpublished published in cc
 
 -- a sample that is out was loaned
-pub loaned_before_now : (book : Book) (id position : ℕ) (sample : Sample) → IsBook book → IsAt book id position sample → id < book.loaned
+pub loaned_before_now : (book : Book) (id position : ℕ) (sample : Sample) → IsBook book → IsAt book id position sample →
+    id < book.loaned
 loaned_before_now book id position sample is here =
     let read = get_or_from_slice_get book.out position sample sample here.at in
     let below = is.loaned position sample (slice_get_within book.out position sample here.at) in
@@ -56,7 +64,8 @@ HasOrIsGone book id None = (¬ IsOut book id) × (id < book.loaned)
 HasOrIsGone book id (Some returns) = HasReturns book id returns
 
 -- one more sample
-pub push-keeps : (book : Book) (chunk : Chunk) (id : ℕ) (left : Option (Option ℕ)) → HasOrIsGone book id left → HasOrIsGone (with_sample book chunk) id left
+pub push-keeps : (book : Book) (chunk : Chunk) (id : ℕ) (left : Option (Option ℕ)) → HasOrIsGone book id left →
+    HasOrIsGone (with_sample book chunk) id left
 push-keeps book chunk id None (gone, used) = (
   λ (i, sample, there). let fresh : Sample = record { id = book.loaned; chunk = chunk; returns = None } in
       elim (slice_get-pushed book.out i sample fresh there.at) [
@@ -80,7 +89,8 @@ was_out_before_set book id other position sample returns here (i, found, there) 
     ]
 
 -- another sample is set
-pub set-keeps : (book : Book) (id other position : ℕ) (sample : Sample) (returns : ℕ) (left : Option (Option ℕ)) → IsAt book other position sample → other ≢ id →
+pub set-keeps : (book : Book) (id other position : ℕ) (sample : Sample) (returns : ℕ) (left : Option (Option ℕ)) →
+    IsAt book other position sample → other ≢ id →
     HasOrIsGone book id left → HasOrIsGone (with_returns book position sample returns) id left
 set-keeps book id other position sample returns None here apart (gone, used) =
     (λ out. gone (was_out_before_set book id other position sample returns here out), used)
@@ -117,7 +127,8 @@ own-remove book id position sample is here =
     (removed-is-gone book id position sample is here, loaned_before_now book id position sample is here)
 
 -- another sample is taken out
-pub remove-keeps : (book : Book) (id other position : ℕ) (sample : Sample) (left : Option (Option ℕ)) → IsAt book other position sample → other ≢ id →
+pub remove-keeps : (book : Book) (id other position : ℕ) (sample : Sample) (left : Option (Option ℕ)) →
+    IsAt book other position sample → other ≢ id →
     HasOrIsGone book id left → HasOrIsGone (without book position) id left
 remove-keeps book id other position sample None here apart (gone, used) = (
   λ (k, found, there).

@@ -14,7 +14,8 @@ use Rattle.loan_book.specs.Calls.{with_sample, with_returns, without}
 
 -- the chunks after each change
 
-pub chunks-push : (samples : List Sample) (sample : Sample) → chunks_of (samples ++ sample ∷ []) ≡ chunks_of samples ++ sample.chunk ∷ []
+pub chunks-push : (samples : List Sample) (sample : Sample) →
+    chunks_of (samples ++ sample ∷ []) ≡ chunks_of samples ++ sample.chunk ∷ []
 chunks-push samples sample = simp map-append
 
 pub chunks-remove : (samples : List Sample) (i : ℕ) → chunks_of (remove samples i) ≡ remove (chunks_of samples) i
@@ -23,7 +24,8 @@ chunks-remove samples i = simp (map-append, take-map, drop-map)
 pub chunks-set : (samples : List Sample) (i : ℕ) (old new : Sample) → slice_get samples i ≡ Some old → new.chunk ≡ old.chunk →
     chunks_of (slice_set samples i new) ≡ chunks_of samples
 chunks-set [] i old new at same = refl
-chunks-set (s ∷ samples) zero old new at same = let here : s ≡ old = cc in ap (λ chunk. chunk ∷ chunks_of samples) (subst (λ (x : Sample). new.chunk ≡ x.chunk) (sym here) same)
+chunks-set (s ∷ samples) zero old new at same = let here : s ≡ old = cc in
+    ap (λ chunk. chunk ∷ chunks_of samples) (subst (λ (x : Sample). new.chunk ≡ x.chunk) (sym here) same)
 chunks-set (s ∷ samples) (suc i) old new at same = ap (λ chunks. s.chunk ∷ chunks) (chunks-set samples i old new at same)
 
 -- the chunk of a sample stands where the sample does
@@ -37,7 +39,8 @@ chunk-at (s ∷ samples) (suc i) sample at = chunk-at samples i sample at
 id-set : (samples : List Sample) (i : ℕ) (old new : Sample) → slice_get samples i ≡ Some old → new.id ≡ old.id →
     (k : ℕ) (d : Sample) → (get_or (slice_set samples i new) k d).id ≡ (get_or samples k d).id
 id-set [] i old new at same k d = refl
-id-set (s ∷ samples) zero old new at same zero d = let here : s ≡ old = cc in subst (λ (x : Sample). new.id ≡ x.id) (sym here) same
+id-set (s ∷ samples) zero old new at same zero d = let here : s ≡ old = cc in
+    subst (λ (x : Sample). new.id ≡ x.id) (sym here) same
 id-set (s ∷ samples) zero old new at same (suc k) d = refl
 id-set (s ∷ samples) (suc i) old new at same zero d = refl
 id-set (s ∷ samples) (suc i) old new at same (suc k) d = id-set samples i old new at same k d
@@ -63,7 +66,8 @@ IsBook-push book chunk is =
     record {
       rising = all_pairs_push (λ one other. one.id < other.id) book.out sample is.rising is.loaned;
       loaned = All-push (λ s. s.id < book.loaned + 1) book.out sample
-          (All-weaker (λ s. s.id < book.loaned) (λ s. s.id < book.loaned + 1) (λ s below. omega (arith, below)) book.out is.loaned)
+          (All-weaker (λ s. s.id < book.loaned) (λ s. s.id < book.loaned + 1)
+          (λ s below. omega (arith, below)) book.out is.loaned)
           (omega arith);
       waiting = All-push (λ s. 0 < returns_to_come s.returns) book.out sample is.waiting (omega arith);
     }
@@ -84,7 +88,9 @@ pub IsBook-remove : (book : Book) (position : ℕ) → position < length book.ou
 IsBook-remove book position within is = record {
   rising = all_pairs_remove (λ one other. one.id < other.id) book.out position within is.rising;
   loaned = let P : Sample → Type 0 = λ sample. sample.id < book.loaned in
-      All-append P (take position book.out) (drop (suc position) book.out) (All-take P position book.out is.loaned) (All-drop P (suc position) book.out is.loaned);
+      All-append P (take position book.out) (drop (suc position) book.out) (All-take P position book.out is.loaned)
+      (All-drop P (suc position) book.out is.loaned);
   waiting = let P : Sample → Type 0 = λ sample. 0 < returns_to_come sample.returns in
-      All-append P (take position book.out) (drop (suc position) book.out) (All-take P position book.out is.waiting) (All-drop P (suc position) book.out is.waiting);
+      All-append P (take position book.out) (drop (suc position) book.out) (All-take P position book.out is.waiting)
+      (All-drop P (suc position) book.out is.waiting);
 }

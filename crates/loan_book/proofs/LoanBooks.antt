@@ -35,7 +35,8 @@ unpublished_from None none = refl
 unpublished_from (Some n) none = absurd (none refl)
 
 -- a sample that waits for so many returns, and was read at an index
-pub waits_for : (samples : List Sample) (position returns : ℕ) (sample read new : Sample) → slice_get samples position ≡ Some sample →
+pub waits_for : (samples : List Sample) (position returns : ℕ) (sample read new : Sample) →
+    slice_get samples position ≡ Some sample →
     read ≡ get_or samples position read → new ≡ record read { returns = Some returns } →
     new ≡ record sample { returns = Some returns }
 waits_for samples position returns sample read new at is changed =
@@ -43,7 +44,8 @@ waits_for samples position returns sample read new at is changed =
     changed ∙ ap waiting (read_at samples position sample read at is)
 
 -- the next id after a loan: there is none where the greatest one was loaned
-pub next_loaned : (id : ℕ) (after : Option ℕ) → id < 2 ^ 64 → SomeIff after (id + 1 < 2 ^ 64) (id + 1) → loaned_before after ≡ id + 1
+pub next_loaned : (id : ℕ) (after : Option ℕ) → id < 2 ^ 64 → SomeIff after (id + 1 < 2 ^ 64) (id + 1) →
+    loaned_before after ≡ id + 1
 next_loaned id None within none = omega arith
 next_loaned id (Some next) within one = one.1
 

@@ -2,7 +2,6 @@
 use Rattle.std.proofs.Common.{◌≡◌, ℕ, suc, ◌+◌, Bool, true, false, List, [], ◌∷◌, length, refl, ap, sym, ◌∙◌, arith, add-zero, Option, None, Some, Result, Ok, Err}
 use Rattle.std.specs.List.{range_with_len, cons_option}
 use Rattle.std.proofs.lemmas.List.FromFn.{length-range_with_len}
-use Rattle.bb_memory_base.specs.Chunk.{Chunk}
 use Rattle.bb_memory_base.specs.Run.{IsRun}
 use Rattle.loan_book.specs.declared.error.LoanError.{LoanError}
 use Rattle.loan_book.specs.declared.error.LoanError.TheVariants.{Size, IdsExhausted, Memory, Allocation}
@@ -23,7 +22,8 @@ Counts loaned next None = next ≡ loaned
 same_book : (old new : Book) → new ≡ old → new.loaned ≡ old.loaned
 same_book old new same = ap (λ (book : Book). book.loaned) same
 
-loan-refused : (may_allocate : Answers) (old new : Book) (size : ℕ) (error : LoanError) → Loans may_allocate old size (Err error) new →
+loan-refused : (may_allocate : Answers) (old new : Book) (size : ℕ) (error : LoanError) →
+    Loans may_allocate old size (Err error) new →
     new.loaned ≡ old.loaned
 loan-refused may_allocate old new size Size (large, same) = same_book old new same
 loan-refused may_allocate old new size IdsExhausted (fits, used, same) = same_book old new same
@@ -33,16 +33,20 @@ loan-refused may_allocate old new size error none = absurd none
 
 give-counts : (old new : Book) (id : ℕ) (answer : Result Bool LoanError) → GivesBack old id answer new → new.loaned ≡ old.loaned
 give-counts old new id answer =
-    give-leads (λ book. book.loaned ≡ old.loaned) old new id answer (λ unknown. refl) (λ i sample at last. refl) (λ i sample at more. refl)
+    give-leads (λ book. book.loaned ≡ old.loaned) old new id answer (λ unknown. refl) (λ i sample at last. refl)
+    (λ i sample at more. refl)
 
-step-counts : (may_allocate : Answers) (old new : Book) (call : LoanCall) (reply : LoanReply) → BookStep may_allocate old call reply new →
+step-counts : (may_allocate : Answers) (old new : Book) (call : LoanCall) (reply : LoanReply) →
+    BookStep may_allocate old call reply new →
     Counts old.loaned new.loaned (id_of reply)
-step-counts may_allocate old new (call.Loan size) (reply.Loaned id chunk) (fits, may, numbered, same) = (numbered, ap (λ (book : Book). book.loaned) same)
+step-counts may_allocate old new (call.Loan size) (reply.Loaned id chunk) (fits, may, numbered, same) =
+    (numbered, ap (λ (book : Book). book.loaned) same)
 step-counts may_allocate old new (call.Loan size) (reply.Refused error) step = loan-refused may_allocate old new size error step
 step-counts may_allocate old new (call.Publish id readers) reply.Published step =
     publish-leads (λ book. book.loaned ≡ old.loaned) old new id readers (Ok tt) refl (λ i sample at unpublished some. refl) step
 step-counts may_allocate old new (call.Publish id readers) (reply.Refused error) step =
-    publish-leads (λ book. book.loaned ≡ old.loaned) old new id readers (Err error) refl (λ i sample at unpublished some. refl) step
+    publish-leads (λ book. book.loaned ≡ old.loaned) old new id readers (Err error) refl
+    (λ i sample at unpublished some. refl) step
 step-counts may_allocate old new (call.GiveBack id) reply.Returned step = give-counts old new id (Ok true) step
 step-counts may_allocate old new (call.GiveBack id) reply.Kept step = give-counts old new id (Ok false) step
 step-counts may_allocate old new (call.GiveBack id) (reply.Refused error) step = give-counts old new id (Err error) step
@@ -53,8 +57,10 @@ step-counts may_allocate old new call reply none = absurd none
 abbrev CountUp : ℕ → ℕ → List ℕ → Type 0
 CountUp loaned next ids = (n : ℕ) × (next ≡ loaned + n) × (ids ≡ range_with_len loaned n)
 
-count-on : (loaned mid next : ℕ) (given : Option ℕ) (ids : List ℕ) → Counts loaned mid given → CountUp mid next ids → CountUp loaned next (cons_option given ids)
-count-on loaned mid next None ids same (n, counted, up) = (n, counted ∙ ap (λ k. k + n) same, up ∙ ap (λ k. range_with_len k n) same)
+count-on : (loaned mid next : ℕ) (given : Option ℕ) (ids : List ℕ) → Counts loaned mid given → CountUp mid next ids →
+    CountUp loaned next (cons_option given ids)
+count-on loaned mid next None ids same (n, counted, up) =
+    (n, counted ∙ ap (λ k. k + n) same, up ∙ ap (λ k. range_with_len k n) same)
 count-on loaned mid next (Some id) ids (first, one_more) (n, counted, up) =
     (suc n, omega arith, ap (λ k. k ∷ ids) first ∙ ap (λ rest. loaned ∷ rest) (up ∙ ap (λ k. range_with_len k n) one_more))
 

@@ -1,5 +1,5 @@
 -- Each call has one answer alone, or leads to one book at least.
-use Rattle.std.proofs.Common.{◌≡◌, ℕ, ◌<◌, ◌-◌, Bool, true, false, refl, ap, sym, ◌∙◌, subst, arith, None, Result, Ok, Err}
+use Rattle.std.proofs.Common.{◌≡◌, ℕ, ◌<◌, ◌-◌, Bool, true, false, refl, ap, sym, ◌∙◌, subst, arith, Result, Ok, Err}
 use Rattle.bb_memory_base.specs.Chunk.{Chunk}
 use Rattle.loan_book.specs.declared.error.LoanError.{LoanError}
 use Rattle.loan_book.specs.declared.error.LoanError.TheVariants.{Size, IdsExhausted, Memory, Allocation, UnknownSample, AlreadyPublished, NoReaders}
@@ -10,11 +10,14 @@ use Rattle.loan_book.proofs.BookSteps.{one_position, one_sample, unpublished-now
 
 pub loan-one_book : (may_allocate : Answers) (old : Book) (size : ℕ) (answer : Result (ℕ × Chunk) LoanError) (new next : Book) →
     Loans may_allocate old size answer new → Loans may_allocate old size answer next → new ≡ next
-loan-one_book may_allocate old size (Ok (id, chunk)) new next (fits, may, numbered, same) (fits_too, may_too, numbered_too, same_too) = same ∙ sym same_too
+loan-one_book may_allocate old size (Ok (id, chunk)) new next (fits, may, numbered, same)
+    (fits_too, may_too, numbered_too, same_too) = same ∙ sym same_too
 loan-one_book may_allocate old size (Err Size) new next (large, same) (large_too, same_too) = same ∙ sym same_too
-loan-one_book may_allocate old size (Err IdsExhausted) new next (fits, used, same) (fits_too, used_too, same_too) = same ∙ sym same_too
+loan-one_book may_allocate old size (Err IdsExhausted) new next (fits, used, same) (fits_too, used_too, same_too) =
+    same ∙ sym same_too
 loan-one_book may_allocate old size (Err Memory) new next (fits, left, same) (fits_too, left_too, same_too) = same ∙ sym same_too
-loan-one_book may_allocate old size (Err (Allocation error)) new next (fits, may, same) (fits_too, may_too, same_too) = same ∙ sym same_too
+loan-one_book may_allocate old size (Err (Allocation error)) new next (fits, may, same) (fits_too, may_too, same_too) =
+    same ∙ sym same_too
 loan-one_book may_allocate old size answer new next none none_too = absurd none
 
 is_out : (book : Book) (id : ℕ) → IsPublished book id → IsOut book id
@@ -28,7 +31,8 @@ PublishCause book id readers (Err AlreadyPublished) = IsPublished book id
 PublishCause book id readers (Err NoReaders) = IsUnpublished book id × (readers ≡ 0)
 PublishCause book id readers answer = ⊥
 
-publish-cause : (old : Book) (id readers : ℕ) (answer : Result (Unit {0}) LoanError) (new : Book) → Publishes old id readers answer new →
+publish-cause : (old : Book) (id readers : ℕ) (answer : Result (Unit {0}) LoanError) (new : Book) →
+    Publishes old id readers answer new →
     PublishCause old id readers answer
 publish-cause old id readers (Ok done) new (i, sample, at, unpublished, some, same) = ((i, sample, at, unpublished), some)
 publish-cause old id readers (Err UnknownSample) new (gone, same) = gone
@@ -40,7 +44,8 @@ module _ (book : Book) (is : IsBook book) (id readers : ℕ) where
   apart : IsUnpublished book id → ¬ IsPublished book id
   apart = unpublished-nowhere book id is
 
-  one-cause : (one other : Result (Unit {0}) LoanError) → PublishCause book id readers one → PublishCause book id readers other → one ≡ other
+  one-cause : (one other : Result (Unit {0}) LoanError) → PublishCause book id readers one →
+      PublishCause book id readers other → one ≡ other
   one-cause (Ok done) (Ok done_too) first second = refl
   one-cause (Ok done) (Err UnknownSample) (there, some) gone = absurd (gone (there.0, there.1, there.2))
   one-cause (Ok done) (Err AlreadyPublished) (there, some) published = absurd (apart there published)
@@ -71,7 +76,8 @@ module _ (book : Book) (is : IsBook book) (id readers : ℕ) where
 
   publish-one_book : (answer : Result (Unit {0}) LoanError) (new next : Book) →
       Publishes book id readers answer new → Publishes book id readers answer next → new ≡ next
-  publish-one_book (Ok done) new next (i, sample, at, unpublished, some, same) (j, found, there, unpublished_too, some_too, same_too) =
+  publish-one_book (Ok done) new next (i, sample, at, unpublished, some, same)
+      (j, found, there, unpublished_too, some_too, same_too) =
       same ∙ same-set i j readers sample found at there ∙ sym same_too
   publish-one_book (Err UnknownSample) new next (gone, same) (gone_too, same_too) = same ∙ sym same_too
   publish-one_book (Err AlreadyPublished) new next (published, same) (published_too, same_too) = same ∙ sym same_too
@@ -80,9 +86,11 @@ module _ (book : Book) (is : IsBook book) (id readers : ℕ) where
 
   to_come : (i j : ℕ) (sample found : Sample) → IsAt book id i sample → IsAt book id j found →
       returns_to_come sample.returns ≡ returns_to_come found.returns
-  to_come i j sample found here there = ap (λ (s : Sample). returns_to_come s.returns) (one_sample book id i j sample found is here there)
+  to_come i j sample found here there = ap (λ (s : Sample). returns_to_come s.returns)
+      (one_sample book id i j sample found is here there)
 
-  pub give-one : (one other : Result Bool LoanError) (new next : Book) → GivesBack book id one new → GivesBack book id other next →
+  pub give-one : (one other : Result Bool LoanError) (new next : Book) → GivesBack book id one new →
+      GivesBack book id other next →
       (one ≡ other) × (new ≡ next)
   give-one (Ok true) (Ok true) new next (i, sample, at, last, same) (j, found, there, last_too, same_too) =
       (refl, same ∙ ap (λ k. without book k) (one_position book id i j sample found is at there) ∙ sym same_too)
@@ -98,7 +106,8 @@ module _ (book : Book) (is : IsBook book) (id readers : ℕ) where
   give-one (Ok true) (Err UnknownSample) new next (i, sample, at, last, same) (gone, same_too) = absurd (gone (i, sample, at))
   give-one (Ok false) (Err UnknownSample) new next (i, sample, at, more, same) (gone, same_too) = absurd (gone (i, sample, at))
   give-one (Err UnknownSample) (Ok true) new next (gone, same) (j, found, there, last, same_too) = absurd (gone (j, found, there))
-  give-one (Err UnknownSample) (Ok false) new next (gone, same) (j, found, there, more, same_too) = absurd (gone (j, found, there))
+  give-one (Err UnknownSample) (Ok false) new next (gone, same) (j, found, there, more, same_too) =
+      absurd (gone (j, found, there))
   give-one (Err UnknownSample) (Err UnknownSample) new next (gone, same) (gone_too, same_too) = (refl, same ∙ sym same_too)
   give-one (Ok true) other new next first none = absurd none
   give-one (Ok false) other new next first none = absurd none
@@ -108,5 +117,9 @@ module _ (book : Book) (is : IsBook book) (id readers : ℕ) where
 pub publish-one : (book : Book) (is : IsBook book) (id readers : ℕ) (one other : Result (Unit {0}) LoanError) (new next : Book) →
     Publishes book id readers one new → Publishes book id readers other next → (one ≡ other) × (new ≡ next)
 publish-one book is id readers one other new next first second =
-    let same = one-cause book is id readers one other (publish-cause book id readers one new first) (publish-cause book id readers other next second) in
-    (same, publish-one_book book is id readers one new next first (subst (λ a. Publishes book id readers a next) (sym same) second))
+    let same = one-cause book is id readers one other (publish-cause book id readers one new first)
+    (publish-cause book id readers other next second) in (
+      same,
+      publish-one_book book is id readers one new next first
+          (subst (λ a. Publishes book id readers a next) (sym same) second),
+    )

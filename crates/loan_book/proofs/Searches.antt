@@ -14,7 +14,8 @@ module _ (book : Book) (is : IsBook book) (id : ℕ) where
   -- the comparisons with the id rise along the samples, as a binary search asks
   comparisons_rise : IsNonDecreasingBy (λ (sample : Sample). ordering_index (nat_cmp sample.id id)) book.out
   comparisons_rise i j d le within =
-      let ids : (get_or book.out i d).id ≤ (get_or book.out j d).id = grind (arith, is.rising i j d, λ (same : i ≡ j). ap (λ k. (get_or book.out k d).id) same) in
+      let ids : (get_or book.out i d).id ≤ (get_or book.out j d).id =
+      grind (arith, is.rising i j d, λ (same : i ≡ j). ap (λ k. (get_or book.out k d).id) same) in
       grind (arith, nat_tests)
 
   -- a search by id finds where the sample stands, or that it isn't out
@@ -42,10 +43,12 @@ module _ (book : Book) (is : IsBook book) (id : ℕ) where
         let read = get_or_from_slice_get book.out position sample sample here.at in
         elim (cases_lt position gap) [
           | inl below ↦
-              let less : (get_or book.out position sample).id < id = ranked _ id _ (sym ((parted comparisons_rise).0 position sample (omega arith) below)) in
+              let less : (get_or book.out position sample).id < id =
+              ranked _ id _ (sym ((parted comparisons_rise).0 position sample (omega arith) below)) in
               omega (arith, less, ap (λ (s : Sample). s.id) read, here.has_id)
           | inr behind ↦
-              let more : id < (get_or book.out position sample).id = ranked _ id _ (sym ((parted comparisons_rise).1 position sample behind inside)) in
+              let more : id < (get_or book.out position sample).id =
+              ranked _ id _ (sym ((parted comparisons_rise).1 position sample behind inside)) in
               omega (arith, more, ap (λ (s : Sample). s.id) read, here.has_id)
         ];
   }

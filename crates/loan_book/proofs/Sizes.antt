@@ -7,7 +7,8 @@ use Rattle.bb_memory_base.proofs.LeastPlaces.{least_place-unique}
 
 -- every number is a multiple of 1
 least_place-of_one : (size : ℕ) → size ≡ least_place size 1
-least_place-of_one size = least_place-unique size 1 size (omega arith) (record { multiple = (size, omega arith); above = omega arith; least = λ k below. omega (arith, below) })
+least_place-of_one size = least_place-unique size 1 size (omega arith)
+    (record { multiple = (size, omega arith); above = omega arith; least = λ k below. omega (arith, below) })
 
 -- a size below 2 ^ 63 is one that a layout of alignment 1 has
 pub layout-of_bytes : (size : ℕ) → size < 2 ^ 63 → IsLayout size 1

@@ -1,5 +1,5 @@
 -- Books: how many samples were loaned so far, and those that are out.
-use Rattle.std.specs.Prelude.{◌≡◌, ℕ, ◌<◌, List, map, Option, Some, None, IsSome, All, AllPairs, slice_get}
+use Rattle.std.specs.Prelude.{◌≡◌, ℕ, ◌<◌, List, map, Option, Some, None, All, AllPairs, slice_get}
 use Rattle.bb_memory_base.specs.Chunk.{Chunk}
 use Rattle.loan_book.specs.Sample.{Sample, returns_to_come}
 

@@ -27,7 +27,8 @@ with_sample book chunk = record {
 
 -- the book in which the sample at a position waits for so many returns
 abbrev pub with_returns : Book → ℕ → Sample → ℕ → Book
-with_returns book position sample returns = record book { out = slice_set book.out position (record sample { returns = Some returns }) }
+with_returns book position sample returns =
+    record book { out = slice_set book.out position (record sample { returns = Some returns }) }
 
 -- the book without the sample at a position
 abbrev pub without : Book → ℕ → Book

@@ -18,9 +18,12 @@ loop-call-preserved g c =
     let before = c.loop-call.book.book in
     let after = c.apply-reply.new.book.book in
     let step_at = λ (geometry : A.Geometry). BookStep (A.may_allocate geometry) in
-    let step = subst (λ geometry. step_at geometry before call reply after) c.loop-call.invariant.geometry c.apply-reply.ensures.step in
+    let step = subst (λ geometry. step_at geometry before call reply after)
+    c.loop-call.invariant.geometry c.apply-reply.ensures.step in
     record {
-      run = rw (done, c.push_reserved.ensures.items) (IsRun-push (step_at (A.geometry c.args.book.now.allocator)) c.args.book.now.book before after (take i calls) c.loop-call.replies.items call reply c.loop-call.invariant.run step);
+      run = rw (done, c.push_reserved.ensures.items)
+          (IsRun-push (step_at (A.geometry c.args.book.now.allocator)) c.args.book.now.book before after
+          (take i calls) c.loop-call.replies.items call reply c.loop-call.invariant.run step);
       geometry = c.apply-reply.ensures.geometry ∙ c.loop-call.invariant.geometry;
       told = omega arith;
       space = omega arith;
@@ -32,7 +35,8 @@ returns-clause-counted g c =
     let calls = c.args.calls.now in
     let all : take c.loop-call.call-index calls ≡ calls = take_all c.loop-call.call-index calls (omega arith) in
     let run = rw all at c.loop-call.invariant.run in
-    run-counted (A.may_allocate (A.geometry c.args.book.now.allocator)) c.args.book.now.book c.loop-call.book.book calls c.loop-call.replies.items run
+    run-counted (A.may_allocate (A.geometry c.args.book.now.allocator))
+    c.args.book.now.book c.loop-call.book.book calls c.loop-call.replies.items run
 
 pub returns-clause-ids : goal.returns-clause-ids
 returns-clause-ids g c =
@@ -40,7 +44,8 @@ returns-clause-ids g c =
     let calls = c.args.calls.now in
     let all : take c.loop-call.call-index calls ≡ calls = take_all c.loop-call.call-index calls (omega arith) in
     let run = rw all at c.loop-call.invariant.run in
-    run-ids (A.may_allocate (A.geometry c.args.book.now.allocator)) c.args.book.now.book c.loop-call.book.book calls c.loop-call.replies.items run
+    run-ids (A.may_allocate (A.geometry c.args.book.now.allocator))
+    c.args.book.now.book c.loop-call.book.book calls c.loop-call.replies.items run
 
 pub returns-clause-returned : goal.returns-clause-returned
 returns-clause-returned g c id returns waits =
@@ -48,7 +53,8 @@ returns-clause-returned g c id returns waits =
     let calls = c.args.calls.now in
     let all : take c.loop-call.call-index calls ≡ calls = take_all c.loop-call.call-index calls (omega arith) in
     let run = rw all at c.loop-call.invariant.run in
-    run-returns (A.may_allocate (A.geometry c.args.book.now.allocator)) c.args.book.now.book c.loop-call.book.book calls c.loop-call.replies.items id returns c.law.ensures.book waits run
+    run-returns (A.may_allocate (A.geometry c.args.book.now.allocator))
+    c.args.book.now.book c.loop-call.book.book calls c.loop-call.replies.items id returns c.law.ensures.book waits run
 
 pub returns-clause-unpublished : goal.returns-clause-unpublished
 returns-clause-unpublished g c id unpublished none =
@@ -56,4 +62,5 @@ returns-clause-unpublished g c id unpublished none =
     let calls = c.args.calls.now in
     let all : take c.loop-call.call-index calls ≡ calls = take_all c.loop-call.call-index calls (omega arith) in
     let run = rw all at c.loop-call.invariant.run in
-    run-unpublished (A.may_allocate (A.geometry c.args.book.now.allocator)) c.args.book.now.book c.loop-call.book.book calls c.loop-call.replies.items id c.law.ensures.book unpublished none run
+    run-unpublished (A.may_allocate (A.geometry c.args.book.now.allocator))
+    c.args.book.now.book c.loop-call.book.book calls c.loop-call.replies.items id c.law.ensures.book unpublished none run

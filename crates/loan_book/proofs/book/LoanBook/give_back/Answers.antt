@@ -1,5 +1,5 @@
-use Rattle.std.proofs.Common.{◌≡◌, ℕ, ◌-◌, ◌<◌, ◌≤◌, ◌∙◌, ap, subst, refl, arith, Some}
-use Rattle.std.specs.Prelude.{slice_get, slice_set}
+use Rattle.std.proofs.Common.{◌≡◌, ◌-◌, ◌<◌, ◌≤◌, ◌∙◌, ap, subst, refl, arith}
+use Rattle.std.specs.Prelude.{slice_set}
 use Rattle.std.proofs.lemmas.Option.{slice_get_within}
 use Rattle.loan_book.specs.Sample.{Sample, returns_to_come}
 use Rattle.loan_book.specs.Calls.{with_returns}
@@ -17,7 +17,8 @@ overflow_sub-left g c =
     let position = c.in-Some.position in
     let sample = c.in-Some.ensures.found.0 in
     let there = c.in-Some.ensures.found.1 in
-    let at = stands_there c.self.inside.allocator c.self.inside.next samples c.args.self.now c.self.view_is position sample there.at in
+    let at = stands_there c.self.inside.allocator c.self.inside.next samples c.args.self.now c.self.view_is position sample
+    there.at in
     let read = read_at samples position sample c.index.result.now at c.index.ensures in
     let to_come : c.returns_to_come-to_come.result ≡ returns_to_come sample.returns =
     c.returns_to_come-to_come.ensures ∙ ap (λ (s : Sample). returns_to_come s.returns) read in
@@ -31,10 +32,12 @@ invariant_of-self g c =
     let position = c.in-Some.position in
     let sample = c.in-Some.ensures.found.0 in
     let there = c.in-Some.ensures.found.1 in
-    let at = stands_there c.self.inside.allocator c.self.inside.next samples c.args.self.now c.self.view_is position sample there.at in
+    let at = stands_there c.self.inside.allocator c.self.inside.next samples c.args.self.now c.self.view_is position sample
+    there.at in
     let left = c.returns_to_come-to_come.result - 1 in
     let new = c.wait_for.new.self in
-    let changed = waits_for samples position left sample c.index_mut.result.now new at c.index_mut.ensures.value c.wait_for.ensures in
+    let changed = waits_for samples position left sample c.index_mut.result.now new at c.index_mut.ensures.value
+    c.wait_for.ensures in
     IsLoanBook-set g.A.BaseAllocator.stands_for c.self.inside.allocator c.self.inside.next samples position sample new left
     at changed (omega arith) c.self.invariant
 
@@ -47,16 +50,19 @@ returns-then-left-gt0-clause-answer g c =
     let position = c.in-Some.position in
     let sample = c.in-Some.ensures.found.0 in
     let there = c.in-Some.ensures.found.1 in
-    let at = stands_there c.self.inside.allocator c.self.inside.next samples c.args.self.now c.self.view_is position sample there.at in
+    let at = stands_there c.self.inside.allocator c.self.inside.next samples c.args.self.now c.self.view_is position sample
+    there.at in
     let read = read_at samples position sample c.index.result.now at c.index.ensures in
     let to_come : c.returns_to_come-to_come.result ≡ returns_to_come sample.returns =
     c.returns_to_come-to_come.ensures ∙ ap (λ (s : Sample). returns_to_come s.returns) read in
     let left = c.returns_to_come-to_come.result - 1 in
     let new = c.wait_for.new.self in
-    let changed = waits_for samples position left sample c.index_mut.result.now new at c.index_mut.ensures.value c.wait_for.ensures in
+    let changed = waits_for samples position left sample c.index_mut.result.now new at c.index_mut.ensures.value
+    c.wait_for.ensures in
     let more : 1 < returns_to_come sample.returns = omega arith in
     let same : left ≡ returns_to_come sample.returns - 1 = ap (λ n. n - 1) to_come in
-    let view = ap (λ (b : LoanBook g.row.A.Denot). with_returns b.book position sample (returns_to_come sample.returns - 1)) c.self.view_is in
+    let view = ap (λ (b : LoanBook g.row.A.Denot). with_returns b.book position sample (returns_to_come sample.returns - 1))
+    c.self.view_is in
     (position, sample, there, more, rw (changed, same) view)
 
 pub returns-then-left-gt0-clause-leaves : goal.returns-then-left-gt0-clause-leaves
@@ -65,10 +71,12 @@ returns-then-left-gt0-clause-leaves g c =
     let position = c.in-Some.position in
     let sample = c.in-Some.ensures.found.0 in
     let there = c.in-Some.ensures.found.1 in
-    let at = stands_there c.self.inside.allocator c.self.inside.next samples c.args.self.now c.self.view_is position sample there.at in
+    let at = stands_there c.self.inside.allocator c.self.inside.next samples c.args.self.now c.self.view_is position sample
+    there.at in
     let left = c.returns_to_come-to_come.result - 1 in
     let new = c.wait_for.new.self in
-    let changed = waits_for samples position left sample c.index_mut.result.now new at c.index_mut.ensures.value c.wait_for.ensures in
+    let changed = waits_for samples position left sample c.index_mut.result.now new at c.index_mut.ensures.value
+    c.wait_for.ensures in
     let stays : IsAt (book_of c.self.inside.next (slice_set samples position new)) c.args.id position new = record {
       at = slice_get-set_same samples position new sample at;
       has_id = ap (λ (s : Sample). s.id) changed ∙ there.has_id;
@@ -85,7 +93,8 @@ returns-clause-answer g c =
     let position = c.in-Some.position in
     let sample = c.in-Some.ensures.found.0 in
     let there = c.in-Some.ensures.found.1 in
-    let at = stands_there c.self.inside.allocator c.self.inside.next samples c.args.self.now c.self.view_is position sample there.at in
+    let at = stands_there c.self.inside.allocator c.self.inside.next samples c.args.self.now c.self.view_is position sample
+    there.at in
     let read = read_at samples position sample c.index.result.now at c.index.ensures in
     let to_come : c.returns_to_come-to_come.result ≡ returns_to_come sample.returns =
     c.returns_to_come-to_come.ensures ∙ ap (λ (s : Sample). returns_to_come s.returns) read in

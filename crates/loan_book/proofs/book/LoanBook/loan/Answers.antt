@@ -13,8 +13,10 @@ invariant_of-self-in-Ok-allocate g c =
     let id = c.in-Some.id in
     let chunk = c.in-Ok-allocate.chunk in
     let pushed : c.push_back_reserved.new.self.items ≡ out ++ fresh_sample id chunk ∷ [] = cc in
-    IsLoanBook-loaned g.A.BaseAllocator.stands_for c.self.inside.allocator c.allocate.new.self c.self.inside.next c.checked_add-self-inside.result out c.push_back_reserved.new.self.items id chunk
-    c.in-Some.is c.checked_add-self-inside.ensures pushed c.self.invariant (c.in-Ok-allocate.ensures.appended (chunks_of out) c.self.invariant.stands)
+    IsLoanBook-loaned g.A.BaseAllocator.stands_for c.self.inside.allocator c.allocate.new.self c.self.inside.next
+    c.checked_add-self-inside.result out c.push_back_reserved.new.self.items id chunk
+    c.in-Some.is c.checked_add-self-inside.ensures pushed c.self.invariant
+    (c.in-Ok-allocate.ensures.appended (chunks_of out) c.self.invariant.stands)
 
 pub returns-in-Ok-allocate-clause-answer : goal.returns-in-Ok-allocate-clause-answer
 returns-in-Ok-allocate-clause-answer g c =
@@ -25,8 +27,18 @@ returns-in-Ok-allocate-clause-answer g c =
     let within = c.self.invariant.next_fits id c.in-Some.is in
     let one_more = next_loaned id c.checked_add-self-inside.result within c.checked_add-self-inside.ensures in
     let loaned : id ≡ loaned_before c.self.inside.next = rw c.in-Some.is refl in
-    rw (← c.self.view_is, ← loaned, one_more, pushed)
-    (within, (c.in-Ok.layout, c.in-Ok.ensures.value.0, c.in-Ok.ensures.value.1, c.in-Ok-allocate.ensures.answer (chunks_of out) c.self.invariant.stands), refl, refl)
+    rw (← c.self.view_is, ← loaned, one_more, pushed) (
+      within,
+      (
+        c.in-Ok.layout,
+        c.in-Ok.ensures.value.0,
+        c.in-Ok.ensures.value.1,
+        c.in-Ok-allocate.ensures.answer
+            (chunks_of out) c.self.invariant.stands,
+      ),
+      refl,
+      refl,
+    )
 
 pub returns-in-Err-clause-answer : goal.returns-in-Err-clause-answer
 returns-in-Err-clause-answer g c =
@@ -34,17 +46,35 @@ returns-in-Err-clause-answer g c =
     let id = c.in-Some.id in
     let within = c.self.invariant.next_fits id c.in-Some.is in
     let loaned : id ≡ loaned_before c.self.inside.next = rw c.in-Some.is refl in
-    rw (← c.self.view_is, c.reserve.ensures.items)
-    (rw (← loaned) within, (c.in-Ok.layout, c.in-Ok.ensures.value.0, c.in-Ok.ensures.value.1, c.in-Err.ensures.answer (chunks_of out) c.self.invariant.stands), refl)
+    rw (← c.self.view_is, c.reserve.ensures.items) (
+      rw (← loaned) within,
+      (
+        c.in-Ok.layout,
+        c.in-Ok.ensures.value.0,
+        c.in-Ok.ensures.value.1,
+        c.in-Err.ensures.answer
+            (chunks_of out) c.self.invariant.stands,
+      ),
+      refl,
+    )
 
 too_large : (size : ℕ) → ¬ IsLayout size 1 → 2 ^ 63 ≤ size
-too_large size refused = elim (cases_lt size (2 ^ 63)) [ inl below ↦ absurd (refused (layout-of_bytes size below)) | inr above ↦ above ]
+too_large size refused = elim (cases_lt size (2 ^ 63))
+    [ inl below ↦ absurd (refused (layout-of_bytes size below)) | inr above ↦ above ]
 
 pub returns-in_default-clause-answer : goal.returns-in_default-clause-answer
-returns-in_default-clause-answer g c = (too_large c.args.size (λ layout. let accepted = c.in_default.ensures.accepted.1 layout in cc), refl)
+returns-in_default-clause-answer g c = (
+  too_large c.args.size
+      (λ layout. let accepted = c.in_default.ensures.accepted.1 layout in cc),
+  refl,
+)
 
 pub returns-in_default-clause-too_large : goal.returns-in_default-clause-too_large
-returns-in_default-clause-too_large g c = (λ same. too_large c.args.size (λ layout. let accepted = c.in_default.ensures.accepted.1 layout in cc), λ above. refl)
+returns-in_default-clause-too_large g c = (
+  λ same. too_large c.args.size
+      (λ layout. let accepted = c.in_default.ensures.accepted.1 layout in cc),
+  λ above. refl,
+)
 
 pub returns-in_default-clause-ids_exhausted : goal.returns-in_default-clause-ids_exhausted
 returns-in_default-clause-ids_exhausted g c =

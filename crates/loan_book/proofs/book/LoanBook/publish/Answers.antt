@@ -1,5 +1,4 @@
-use Rattle.std.proofs.Common.{◌≡◌, ℕ, ◌∙◌, ap, sym, subst, arith, refl, IsSome}
-use Rattle.std.specs.Prelude.{slice_get}
+use Rattle.std.proofs.Common.{◌∙◌, ap, sym, subst, arith, refl, IsSome}
 use Rattle.bb_memory_base.proofs.SliceGets.{slice_get-set_same}
 use Rattle.std.proofs.lemmas.Option.{slice_get_within}
 use Rattle.loan_book.specs.Sample.{Sample}
@@ -16,7 +15,8 @@ index_mut-requires g c =
     let position = c.in-Some.position in
     let sample = c.in-Some.ensures.found.0 in
     let there = c.in-Some.ensures.found.1 in
-    let at = stands_there c.self.inside.allocator c.self.inside.next samples c.args.self.now c.self.view_is position sample there.at in
+    let at = stands_there c.self.inside.allocator c.self.inside.next samples c.args.self.now c.self.view_is position sample
+    there.at in
     rw c.self.inside.out.ok.0 (slice_get_within samples position sample at)
 
 pub invariant_of-self : goal.invariant_of-self
@@ -25,10 +25,13 @@ invariant_of-self g c =
     let position = c.in-Some.position in
     let sample = c.in-Some.ensures.found.0 in
     let there = c.in-Some.ensures.found.1 in
-    let at = stands_there c.self.inside.allocator c.self.inside.next samples c.args.self.now c.self.view_is position sample there.at in
+    let at = stands_there c.self.inside.allocator c.self.inside.next samples c.args.self.now c.self.view_is position sample
+    there.at in
     let new = c.wait_for.new.self in
-    let changed = waits_for samples position c.args.readers sample c.index_mut.result.now new at c.index_mut.ensures.value c.wait_for.ensures in
-    IsLoanBook-set g.A.BaseAllocator.stands_for c.self.inside.allocator c.self.inside.next samples position sample new c.args.readers
+    let changed = waits_for samples position c.args.readers sample c.index_mut.result.now new at c.index_mut.ensures.value
+    c.wait_for.ensures in
+    IsLoanBook-set g.A.BaseAllocator.stands_for c.self.inside.allocator c.self.inside.next samples position sample new
+    c.args.readers
     at changed (omega arith) c.self.invariant
 
 pub returns-clause-stands : goal.returns-clause-stands
@@ -41,12 +44,14 @@ returns-clause-answer g c =
     let position = c.in-Some.position in
     let sample = c.in-Some.ensures.found.0 in
     let there = c.in-Some.ensures.found.1 in
-    let at = stands_there c.self.inside.allocator c.self.inside.next samples c.args.self.now c.self.view_is position sample there.at in
+    let at = stands_there c.self.inside.allocator c.self.inside.next samples c.args.self.now c.self.view_is position sample
+    there.at in
     let read = read_at samples position sample c.index.result.now at c.index.ensures in
     let unpublished = unpublished_from sample.returns (λ some.
     let published = c.if-is_published.ensures.1 (subst (λ (s : Sample). IsSome s.returns) (sym read) some) in cc) in
     let new = c.wait_for.new.self in
-    let changed = waits_for samples position c.args.readers sample c.index_mut.result.now new at c.index_mut.ensures.value c.wait_for.ensures in
+    let changed = waits_for samples position c.args.readers sample c.index_mut.result.now new at c.index_mut.ensures.value
+    c.wait_for.ensures in
     let view = ap (λ (b : LoanBook g.row.A.Denot). with_returns b.book position sample c.args.readers) c.self.view_is in
     (position, sample, there, unpublished, omega arith, rw changed view)
 
@@ -56,9 +61,11 @@ returns-clause-waits g c =
     let position = c.in-Some.position in
     let sample = c.in-Some.ensures.found.0 in
     let there = c.in-Some.ensures.found.1 in
-    let at = stands_there c.self.inside.allocator c.self.inside.next samples c.args.self.now c.self.view_is position sample there.at in
+    let at = stands_there c.self.inside.allocator c.self.inside.next samples c.args.self.now c.self.view_is position sample
+    there.at in
     let new = c.wait_for.new.self in
-    let changed = waits_for samples position c.args.readers sample c.index_mut.result.now new at c.index_mut.ensures.value c.wait_for.ensures in
+    let changed = waits_for samples position c.args.readers sample c.index_mut.result.now new at c.index_mut.ensures.value
+    c.wait_for.ensures in
     let stays = slice_get-set_same samples position new sample at in
     let has_id = ap (λ (s : Sample). s.id) changed ∙ there.has_id in
     (position, new, record { at = stays; has_id = has_id }, ap (λ (s : Sample). s.returns) changed)
@@ -69,7 +76,8 @@ returns-clause-already_published g c =
     let position = c.in-Some.position in
     let sample = c.in-Some.ensures.found.0 in
     let there = c.in-Some.ensures.found.1 in
-    let at = stands_there c.self.inside.allocator c.self.inside.next samples c.args.self.now c.self.view_is position sample there.at in
+    let at = stands_there c.self.inside.allocator c.self.inside.next samples c.args.self.now c.self.view_is position sample
+    there.at in
     let read = read_at samples position sample c.index.result.now at c.index.ensures in
     let unpublished = unpublished_from sample.returns (λ some.
     let published = c.if-is_published.ensures.1 (subst (λ (s : Sample). IsSome s.returns) (sym read) some) in cc) in
@@ -84,7 +92,8 @@ returns-then-is_published-clause-answer g c =
     let position = c.in-Some.position in
     let sample = c.in-Some.ensures.found.0 in
     let there = c.in-Some.ensures.found.1 in
-    let at = stands_there c.self.inside.allocator c.self.inside.next samples c.args.self.now c.self.view_is position sample there.at in
+    let at = stands_there c.self.inside.allocator c.self.inside.next samples c.args.self.now c.self.view_is position sample
+    there.at in
     let read = read_at samples position sample c.index.result.now at c.index.ensures in
     let some = subst (λ (s : Sample). IsSome s.returns) read (c.if-is_published.ensures.0 refl) in
     let published = published_from sample.returns some in
@@ -97,7 +106,8 @@ returns-then-is_published-clause-already_published g c =
     let position = c.in-Some.position in
     let sample = c.in-Some.ensures.found.0 in
     let there = c.in-Some.ensures.found.1 in
-    let at = stands_there c.self.inside.allocator c.self.inside.next samples c.args.self.now c.self.view_is position sample there.at in
+    let at = stands_there c.self.inside.allocator c.self.inside.next samples c.args.self.now c.self.view_is position sample
+    there.at in
     let read = read_at samples position sample c.index.result.now at c.index.ensures in
     let some = subst (λ (s : Sample). IsSome s.returns) read (c.if-is_published.ensures.0 refl) in
     let published = published_from sample.returns some in
@@ -110,7 +120,8 @@ returns-then-is_published-clause-no_readers g c =
     let position = c.in-Some.position in
     let sample = c.in-Some.ensures.found.0 in
     let there = c.in-Some.ensures.found.1 in
-    let at = stands_there c.self.inside.allocator c.self.inside.next samples c.args.self.now c.self.view_is position sample there.at in
+    let at = stands_there c.self.inside.allocator c.self.inside.next samples c.args.self.now c.self.view_is position sample
+    there.at in
     let read = read_at samples position sample c.index.result.now at c.index.ensures in
     let some = subst (λ (s : Sample). IsSome s.returns) read (c.if-is_published.ensures.0 refl) in
     let published = published_from sample.returns some in
@@ -125,7 +136,8 @@ returns-then-readers-eq0-clause-answer g c =
     let position = c.in-Some.position in
     let sample = c.in-Some.ensures.found.0 in
     let there = c.in-Some.ensures.found.1 in
-    let at = stands_there c.self.inside.allocator c.self.inside.next samples c.args.self.now c.self.view_is position sample there.at in
+    let at = stands_there c.self.inside.allocator c.self.inside.next samples c.args.self.now c.self.view_is position sample
+    there.at in
     let read = read_at samples position sample c.index.result.now at c.index.ensures in
     let unpublished = unpublished_from sample.returns (λ some.
     let published = c.if-is_published.ensures.1 (subst (λ (s : Sample). IsSome s.returns) (sym read) some) in cc) in
@@ -137,7 +149,8 @@ returns-then-readers-eq0-clause-already_published g c =
     let position = c.in-Some.position in
     let sample = c.in-Some.ensures.found.0 in
     let there = c.in-Some.ensures.found.1 in
-    let at = stands_there c.self.inside.allocator c.self.inside.next samples c.args.self.now c.self.view_is position sample there.at in
+    let at = stands_there c.self.inside.allocator c.self.inside.next samples c.args.self.now c.self.view_is position sample
+    there.at in
     let read = read_at samples position sample c.index.result.now at c.index.ensures in
     let unpublished = unpublished_from sample.returns (λ some.
     let published = c.if-is_published.ensures.1 (subst (λ (s : Sample). IsSome s.returns) (sym read) some) in cc) in
@@ -152,7 +165,8 @@ returns-then-readers-eq0-clause-no_readers g c =
     let position = c.in-Some.position in
     let sample = c.in-Some.ensures.found.0 in
     let there = c.in-Some.ensures.found.1 in
-    let at = stands_there c.self.inside.allocator c.self.inside.next samples c.args.self.now c.self.view_is position sample there.at in
+    let at = stands_there c.self.inside.allocator c.self.inside.next samples c.args.self.now c.self.view_is position sample
+    there.at in
     let read = read_at samples position sample c.index.result.now at c.index.ensures in
     let unpublished = unpublished_from sample.returns (λ some.
     let published = c.if-is_published.ensures.1 (subst (λ (s : Sample). IsSome s.returns) (sym read) some) in cc) in
