@@ -36,7 +36,8 @@ nothing_added party added same =
 counted_found : (scene : BumpScene) (log added : BumpLog) (party : BumpParty) → IsCounted scene log added →
     party.allocator.scene ≡ scene → log ≡ party.log → IsFoundBy party added
 counted_found scene log added party counted scene_is log_is =
-    subst (λ (x : BumpScene × BumpLog). IsFoundBy (record { allocator = record { table = party.allocator.table; scene = x.0 }; number = party.number; log = x.1 }) added)
+    subst (λ (x : BumpScene × BumpLog). IsFoundBy
+    (record { allocator = record { table = party.allocator.table; scene = x.0 }; number = party.number; log = x.1 }) added)
     (λ i. (sym scene_is i, log_is i))
     record { seen = counted.seen; within = counted.within }
 
@@ -73,7 +74,8 @@ module _ (scene : BumpScene) (table was : TableId) (number : ℕ) (old new : Me 
 
   then : (added : BumpLog) → HasEnded scene (number_of old.0) (view_log old.0) added new →
       party_in table number new.0 ≡ with_entries party added
-  then added ended = entries_added table was number (number_of old.0) scene added old new party same ended.seat.seat.is view_is scene_is
+  then added ended =
+      entries_added table was number (number_of old.0) scene added old new party same ended.seat.seat.is view_is scene_is
 
   pub found_by : (added : BumpLog) → HasEnded scene (number_of old.0) (view_log old.0) added new →
       (other : BumpLog) → party_in table number new.0 ≡ with_entries party other → IsFoundBy party other
