@@ -1,7 +1,6 @@
 -- What a request that has ended says of its answer and of its party.
-use Rattle.std.proofs.Common.{◌≡◌, ℕ, ◌≤◌, List, [], ◌∷◌, ◌++◌, length, refl, sym, ap, ◌∙◌, subst, append-nil, arith, Option, Some, None, Ok, Err}
-use Rattle.std.specs.Prelude.{◌<◌, MatchOption, drop}
-use Rattle.std.specs.List.{All}
+use Rattle.std.proofs.Common.{◌≡◌, ℕ, ◌≤◌, List, [], ◌++◌, length, sym, ap, ◌∙◌, subst, append-nil, arith, Option, Some, None}
+use Rattle.std.specs.Prelude.{MatchOption, drop}
 use Rattle.std.proofs.Math.Seq.{drop-append_seam}
 use Rattle.std.proofs.lemmas.List.Elements.{All-nil}
 use Rattle.atomic_table.specs.Seated.{TableId}
@@ -11,11 +10,10 @@ use Rattle.bb_memory_base.specs.BumpMachine.{BumpScene}
 use Rattle.bb_memory_base.specs.BumpHistory.{BumpLog, chunks_won, losses_in}
 use Rattle.bb_memory_base.specs.BumpLogs.{HasPositionUpTo}
 use Rattle.bb_memory_base.specs.declared.layout.Layout.{Layout}
-use Rattle.bb_memory_base.specs.declared.allocator.AllocationError.TheVariants.{OutOfMemory}
 use Rattle.bb_memory_base.proofs.BumpBounds.{won_grows}
 use Rattle.bb_memory.specs.Seats.{number_of, view_log}
-use Rattle.bb_memory.specs.SharedBump.{BumpParty, HasPositionFrom, IsFoundBy, IsRefused, IsWon, MayTake, seen_by, with_entries}
-use Rattle.bb_memory.specs.SharedBumpRule.{IsPartySeat, SeatView, party_in}
+use Rattle.bb_memory.specs.SharedBump.{BumpParty, HasPositionFrom, IsFoundBy, seen_by, with_entries}
+use Rattle.bb_memory.specs.SharedBumpRule.{SeatView, party_in}
 use Rattle.bb_memory.specs.SharedBumpSteps.{HasEnded, HasRefused, HasWon, IsCounted}
 use Rattle.bb_memory.proofs.SharedBumpParties.{entries_added}
 
@@ -36,7 +34,8 @@ nothing_added party added same =
 counted_found : (scene : BumpScene) (log added : BumpLog) (party : BumpParty) → IsCounted scene log added →
     party.allocator.scene ≡ scene → log ≡ party.log → IsFoundBy party added
 counted_found scene log added party counted scene_is log_is =
-    subst (λ (x : BumpScene × BumpLog). IsFoundBy (record { allocator = record { table = party.allocator.table; scene = x.0 }; number = party.number; log = x.1 }) added)
+    subst (λ (x : BumpScene × BumpLog). IsFoundBy
+    (record { allocator = record { table = party.allocator.table; scene = x.0 }; number = party.number; log = x.1 }) added)
     (λ i. (sym scene_is i, log_is i))
     record { seen = counted.seen; within = counted.within }
 
@@ -73,7 +72,8 @@ module _ (scene : BumpScene) (table was : TableId) (number : ℕ) (old new : Me 
 
   then : (added : BumpLog) → HasEnded scene (number_of old.0) (view_log old.0) added new →
       party_in table number new.0 ≡ with_entries party added
-  then added ended = entries_added table was number (number_of old.0) scene added old new party same ended.seat.seat.is view_is scene_is
+  then added ended =
+      entries_added table was number (number_of old.0) scene added old new party same ended.seat.seat.is view_is scene_is
 
   pub found_by : (added : BumpLog) → HasEnded scene (number_of old.0) (view_log old.0) added new →
       (other : BumpLog) → party_in table number new.0 ≡ with_entries party other → IsFoundBy party other

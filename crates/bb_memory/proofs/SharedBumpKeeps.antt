@@ -8,7 +8,7 @@ use Rattle.atomic_table.specs.Table.{State, Me, keeps, Allows, step, carried_aft
 use Rattle.atomic_table.proofs.Lists.{exchanged}
 use Rattle.std.proofs.lemmas.Option.{same_Some}
 use Rattle.bb_memory_base.specs.BumpMachine.{BumpScene, OngoingCall, chunk_at, ending, exchange_move, fits, position_behind, read_move, seeing}
-use Rattle.bb_memory_base.specs.BumpHistory.{BumpEntry, BumpLog, entry_of}
+use Rattle.bb_memory_base.specs.BumpHistory.{BumpLog, entry_of}
 use Rattle.bb_memory_base.specs.BumpLogs.{HasLog, Interleaving, LogsAgree, call_in, greater_of, position_in, seen_in, with_entry}
 use Rattle.bb_memory_base.specs.declared.layout.Layout.{Layout}
 use Rattle.bb_memory_base.specs.declared.steps.bump.BumpStep.{BumpStep}

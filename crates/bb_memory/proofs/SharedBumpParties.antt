@@ -1,5 +1,5 @@
 -- From what a step tells to what its party is then.
-use Rattle.std.proofs.Common.{◌≡◌, ℕ, ◌<◌, List, [], ◌∷◌, ◌++◌, refl, sym, ap, ◌∙◌, subst, Option, Some, None}
+use Rattle.std.proofs.Common.{◌≡◌, ℕ, ◌<◌, [], ◌∷◌, ◌++◌, refl, sym, ap, ◌∙◌, subst, Option, Some, None}
 use Rattle.atomic_table.specs.Seated.{TableId}
 use Rattle.atomic_table.specs.Table.{Me, Step}
 use Rattle.bb_memory_base.specs.BumpMachine.{BumpScene}
@@ -47,7 +47,8 @@ party_seat scene number log me of below shared =
     }
 
 -- what contracts know of the party of such fields
-pub party_known : (table : TableId) (number : ℕ) (me : Me ℕ SeatView) → IsPartySeat number me → IsParty (party_in table number me.0)
+pub party_known : (table : TableId) (number : ℕ) (me : Me ℕ SeatView) → IsPartySeat number me →
+    IsParty (party_in table number me.0)
 party_known table number me fields = record {
   scene = fields.shared;
   number = fields.below;
@@ -56,7 +57,8 @@ party_known table number me fields = record {
 }
 
 -- the party of a seat whose log has these more entries
-pub entries_added : (table was : TableId) (number own : ℕ) (scene : BumpScene) (added : BumpLog) (old new : Me ℕ SeatView) (party : BumpParty) →
+pub entries_added : (table was : TableId) (number own : ℕ) (scene : BumpScene) (added : BumpLog) (old new : Me ℕ SeatView)
+    (party : BumpParty) →
     table ≡ was → new ≡ (alone scene own (view_log old.0 ++ added), []) → party_in was number old.0 ≡ party →
     party.allocator.scene ≡ scene → party_in table number new.0 ≡ with_entries party added
 entries_added table was number own scene added old new party same is view_is scene_is = λ i. record {
@@ -71,23 +73,26 @@ entries_added table was number own scene added old new party same is view_is sce
 -- STEPS
 
 -- what a step by a seat tells of the party that it stands for
-pub told_load : (scene : BumpScene) (number : ℕ) (log : BumpLog) (found : ℕ) (me new : Me ℕ SeatView) → IsSeatOf scene number log me →
+pub told_load : (scene : BumpScene) (number : ℕ) (log : BumpLog) (found : ℕ) (me new : Me ℕ SeatView) →
+    IsSeatOf scene number log me →
     TellsLoad me.0.scene (number_of me.0) (view_log me.0) found new → TellsLoad scene number log found new
 told_load scene number log found me new of told =
     subst (λ (m : Me ℕ SeatView). TellsLoad m.0.scene (number_of m.0) (view_log m.0) found new) of.is told
 
-pub told_read : (scene : BumpScene) (number : ℕ) (log : BumpLog) (layout : Layout) (found : ℕ) (asked : Option Layout) (play : Step ℕ)
-    (me new : Me ℕ SeatView) → IsSeatOf scene number log me → asked ≡ Some layout → reads asked play me found new →
+pub told_read : (scene : BumpScene) (number : ℕ) (log : BumpLog) (layout : Layout) (found : ℕ) (asked : Option Layout)
+    (play : Step ℕ) (me new : Me ℕ SeatView) → IsSeatOf scene number log me → asked ≡ Some layout → reads asked play me found new →
     TellsRead scene number log layout found new
 told_read scene number log layout found asked play me new of for_it told =
     subst (λ (m : Me ℕ SeatView). TellsRead m.0.scene (number_of m.0) (view_log m.0) layout found new) of.is
     (subst (λ (a : Option Layout). reads a play me found new) for_it told)
 
-pub told_exchange : (scene : BumpScene) (number : ℕ) (log : BumpLog) (found : ℕ) (me new : Me ℕ SeatView) → IsSeatOf scene number log me →
+pub told_exchange : (scene : BumpScene) (number : ℕ) (log : BumpLog) (found : ℕ) (me new : Me ℕ SeatView) →
+    IsSeatOf scene number log me →
     TellsExchange me.0.scene (number_of me.0) (view_log me.0) found new → TellsExchange scene number log found new
 told_exchange scene number log found me new of told =
     subst (λ (m : Me ℕ SeatView). TellsExchange m.0.scene (number_of m.0) (view_log m.0) found new) of.is told
 
 -- a load leaves its party idle
-pub load_rests : (number found : ℕ) (log : BumpLog) → call_in log ≡ None → call_in (log ++ entry_of (Load number) (Loaded found) ∷ []) ≡ None
+pub load_rests : (number found : ℕ) (log : BumpLog) → call_in log ≡ None →
+    call_in (log ++ entry_of (Load number) (Loaded found) ∷ []) ≡ None
 load_rests number found log idle = call_next log (Load number) (Loaded found) ∙ idle

@@ -73,7 +73,8 @@ pub record IsCounted (scene : BumpScene) (log added : BumpLog) : Type 0 where
   pub losses : losses_in added ≤ scene.region.size
 
 -- A request under way: the party has tried so, and has seen `last`, which is no more than what its log says.
-pub record IsTrying (scene : BumpScene) (number : ℕ) (log : BumpLog) (layout : Layout) (last : ℕ) (me : Me ℕ SeatView) : Type 0 where
+pub record IsTrying (scene : BumpScene) (number : ℕ) (log : BumpLog) (layout : Layout) (last : ℕ)
+    (me : Me ℕ SeatView) : Type 0 where
   pub tried : BumpLog
   pub seat : IsSeatOf scene number (log ++ tried) me
   pub tries : IsTried scene.region number layout tried last
@@ -88,7 +89,8 @@ pub record HasEnded (scene : BumpScene) (number : ℕ) (log added : BumpLog) (ne
   pub counted : IsCounted scene log added
 
 -- it won this chunk
-pub record HasWon (scene : BumpScene) (number : ℕ) (log : BumpLog) (layout : Layout) (new : Me ℕ SeatView) (chunk : Chunk) : Type 0 where
+pub record HasWon (scene : BumpScene) (number : ℕ) (log : BumpLog) (layout : Layout) (new : Me ℕ SeatView)
+    (chunk : Chunk) : Type 0 where
   pub added : BumpLog
   pub ended : HasEnded scene number log added new
   pub won : IsWon scene.region number layout added chunk

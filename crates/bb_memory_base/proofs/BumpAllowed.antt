@@ -1,5 +1,5 @@
 -- Lists of steps that are all allowed: they have no clear, and no step of a party that isn't there.
-use Rattle.std.proofs.Common.{◌≡◌, ℕ, ◌<◌, ◌≤◌, List, [], ◌∷◌, length, refl, sym, ap, ◌∙◌, subst, arith, Bool, false, Option, Some, None}
+use Rattle.std.proofs.Common.{◌≡◌, ℕ, ◌<◌, ◌≤◌, List, [], ◌∷◌, length, refl, ap, ◌∙◌, arith, Bool, false, Option, Some, None}
 use Rattle.std.specs.Prelude.{slice_get, ◌==◌, if◌then◌else◌, is_some}
 use Rattle.std.proofs.lemmas.List.{length-replicate}
 use Rattle.std.proofs.lemmas.List.Elements.{All-head, All-nil, All-tail}
@@ -24,7 +24,8 @@ first_allowed region state step steps allowed =
     (bump_history region (bump_step region state step).state steps) allowed
 
 pub rest_allowed : (region : Region) (state : BumpState) (step : BumpStep) (steps : List BumpStep) →
-    AllAllowed (bump_history region state (step ∷ steps)) → AllAllowed (bump_history region (bump_step region state step).state steps)
+    AllAllowed (bump_history region state (step ∷ steps)) →
+    AllAllowed (bump_history region (bump_step region state step).state steps)
 rest_allowed region state step steps allowed =
     All-tail (λ (entry : BumpEntry). IsAllowed entry.outcome) (entry_at region state step)
     (bump_history region (bump_step region state step).state steps) allowed
@@ -69,14 +70,20 @@ is_another state other party now there past =
     test_apart other party (λ same. omega (arith, same, below, past))
 
 -- an allowed step is that of a party that is there
-step_is_another : (region : Region) (state : BumpState) (step : BumpStep) (move : BumpMove) (party : ℕ) → StepView region state step move →
-    IsAllowed move.outcome → length state.parties ≤ party → is_by party step ≡ false
-step_is_another region state step move party (sees other layout idle asks fit) allowed past = is_another state other party None idle past
-step_is_another region state step move party (refuses_read other layout idle asks fit) allowed past = is_another state other party None idle past
-step_is_another region state step move party (wins other call is same) allowed past = is_another state other party (Some call) is past
-step_is_another region state step move party (loses other call is apart fit) allowed past = is_another state other party (Some call) is past
-step_is_another region state step move party (refuses_loss other call is apart fit) allowed past = is_another state other party (Some call) is past
-step_is_another region state step move party (loads other idle) allowed past = is_another state other party None idle past
+step_is_another : (region : Region) (state : BumpState) (step : BumpStep) (move : BumpMove) (party : ℕ) →
+    StepView region state step move → IsAllowed move.outcome → length state.parties ≤ party → is_by party step ≡ false
+step_is_another region state step move party (sees other layout idle asks fit) allowed past =
+    is_another state other party None idle past
+step_is_another region state step move party (refuses_read other layout idle asks fit) allowed past =
+    is_another state other party None idle past
+step_is_another region state step move party (wins other call is same) allowed past =
+    is_another state other party (Some call) is past
+step_is_another region state step move party (loses other call is apart fit) allowed past =
+    is_another state other party (Some call) is past
+step_is_another region state step move party (refuses_loss other call is apart fit) allowed past =
+    is_another state other party (Some call) is past
+step_is_another region state step move party (loads other idle) allowed past =
+    is_another state other party None idle past
 step_is_another region state step move party clears allowed past = absurd allowed
 step_is_another region state step move party (passes other) allowed past = absurd allowed
 
@@ -93,8 +100,8 @@ none_by region state (step ∷ steps) party past allowed =
     (rest_allowed region state step steps allowed)
 
 -- a party that was not made has no step that is allowed
-pub nobody_else : (scene : BumpScene) (steps : List BumpStep) (party : ℕ) → scene.parties ≤ party → AllAllowed (history_of scene steps) →
-    log_of scene steps party ≡ []
+pub nobody_else : (scene : BumpScene) (steps : List BumpStep) (party : ℕ) → scene.parties ≤ party →
+    AllAllowed (history_of scene steps) → log_of scene steps party ≡ []
 nobody_else scene steps party past allowed =
     let made : length (opening_state scene).parties ≡ scene.parties = length-replicate scene.parties None in
     none_by scene.region (opening_state scene) steps party (omega (arith, made, past)) allowed

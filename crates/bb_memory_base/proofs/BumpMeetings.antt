@@ -6,7 +6,7 @@ use Rattle.std.proofs.lemmas.List.Elements.{All-from_recursion}
 use Rattle.bb_memory_base.specs.Chunk.{Chunk, chunk_end, AreApart}
 use Rattle.bb_memory_base.specs.BumpObject.{end_of_last, IsInOrder}
 use Rattle.bb_memory_base.specs.BumpMachine.{BumpScene, opening_state}
-use Rattle.bb_memory_base.specs.BumpHistory.{BumpEntry, BumpLog, history_of, is_by, entries_by, log_of, won_at, chunks_won}
+use Rattle.bb_memory_base.specs.BumpHistory.{BumpEntry, BumpLog, history_of, is_by, entries_by, won_at, chunks_won}
 use Rattle.bb_memory_base.specs.BumpLogs.{HasLog, LogsAgree, CommonInterleaving}
 use Rattle.bb_memory_base.specs.declared.steps.bump.BumpStep.{BumpStep}
 use Rattle.bb_memory_base.specs.declared.steps.bump.BumpStep.TheVariants.{Read, Exchange, Load, Clear}
@@ -147,8 +147,8 @@ common_apart scene position party log other other_log within common apart =
     (all_map (λ chunk. AllByRecursion (AreApart chunk) won) (λ chunk. All (AreApart chunk) won) (chunks_won log)
     (λ chunk. All-from_recursion (AreApart chunk) won) second)
 
-pub chunks_apart : (scene : BumpScene) (position : ℕ) (logs : List BumpLog) (party : ℕ) (log : BumpLog) (other : ℕ) (other_log : BumpLog) →
-    scene.opening ≤ scene.region.size → LogsAgree scene position logs → HasLog logs party log → HasLog logs other other_log →
+pub chunks_apart : (scene : BumpScene) (position : ℕ) (logs : List BumpLog) (party : ℕ) (log : BumpLog) (other : ℕ)
+    (other_log : BumpLog) → scene.opening ≤ scene.region.size → LogsAgree scene position logs → HasLog logs party log → HasLog logs other other_log →
     party ≢ other →
     All (λ chunk. All (AreApart chunk) (chunks_won other_log)) (chunks_won log)
 chunks_apart scene position logs party log other other_log within agree own others apart =

@@ -12,7 +12,6 @@ use Rattle.bb_memory_base.specs.BumpHistory.{BumpEntry, BumpLog, entry_at, bump_
 use Rattle.bb_memory_base.specs.BumpCalls.{OpensWith, live_after}
 use Rattle.bb_memory_base.specs.BumpLogs.{IsAllowed, AllAllowed, HasLog, LogsAgree, Interleaving, CommonInterleaving, HasPositionUpTo, position_in, greater_of, greatest_in, seen_in, call_in}
 use Rattle.bb_memory_base.specs.declared.steps.bump.BumpStep.{BumpStep}
-use Rattle.bb_memory_base.specs.declared.steps.bump.BumpStep.TheVariants.{Read, Exchange, Load, Clear}
 use Rattle.bb_memory_base.proofs.LiveLists.{StandsFor-within}
 use Rattle.bb_memory_base.proofs.SliceGets.{slice_get-replicated, slice_get-single}
 use Rattle.bb_memory_base.proofs.BumpSteps.{test_same, StepView, step_view, sees, refuses_read, wins, loses, refuses_loss, loads, clears, passes}
@@ -196,8 +195,8 @@ pub interleaved : (scene : BumpScene) (position : ℕ) (logs : List BumpLog) (pa
 interleaved scene position logs party log agree at =
     record { steps = agree.steps; allowed = agree.allowed; leaves = agree.leaves; logged = agree.each party log at }
 
-pub both_interleaved : (scene : BumpScene) (position : ℕ) (logs : List BumpLog) (party : ℕ) (log : BumpLog) (other : ℕ) (other_log : BumpLog) →
-    LogsAgree scene position logs → HasLog logs party log → HasLog logs other other_log →
+pub both_interleaved : (scene : BumpScene) (position : ℕ) (logs : List BumpLog) (party : ℕ) (log : BumpLog) (other : ℕ)
+    (other_log : BumpLog) → LogsAgree scene position logs → HasLog logs party log → HasLog logs other other_log →
     CommonInterleaving scene party log other other_log position
 both_interleaved scene position logs party log other other_log agree at other_at = record {
   steps = agree.steps;

@@ -8,7 +8,7 @@ use Rattle.bb_memory_base.specs.LiveList.{IsSound}
 use Rattle.bb_memory_base.specs.BumpObject.{end_of_last, IsInOrder, StandsFor}
 use Rattle.bb_memory_base.specs.BumpMachine.{BumpScene, left_by, opening_state}
 use Rattle.bb_memory_base.specs.BumpCalls.{OpensWith, live_after}
-use Rattle.bb_memory_base.specs.BumpHistory.{BumpEntry, BumpLog, history_of, is_by, entries_by, log_of, won_at, chunks_won}
+use Rattle.bb_memory_base.specs.BumpHistory.{BumpEntry, BumpLog, history_of, is_by, entries_by, won_at, chunks_won}
 use Rattle.bb_memory_base.specs.BumpLogs.{AllAllowed, HasLog, Interleaving, LogsAgree}
 use Rattle.bb_memory_base.specs.declared.steps.bump.BumpStep.{BumpStep}
 use Rattle.bb_memory_base.proofs.LiveLists.{all_above, apart_from_order, end_of_last-above, in_order-append, in_order-front, in_order-rest, stands_for_some}
@@ -90,7 +90,8 @@ interleaved_older scene position party log live opens own =
 
 -- the object's list is the one before with the chunks won behind it
 pub interleaved_since : (scene : BumpScene) (position party : ℕ) (log : BumpLog) (live : List Chunk)
-    (own : Interleaving scene party log position) → live_after scene live own.steps ≡ live ++ chunks_won (history_of scene own.steps)
+    (own : Interleaving scene party log position) →
+    live_after scene live own.steps ≡ live ++ chunks_won (history_of scene own.steps)
 interleaved_since scene position party log live own = allowed_grow scene live own.steps own.allowed
 
 -- LOGS THAT AGREE
@@ -107,8 +108,8 @@ pub older_apart : (scene : BumpScene) (position : ℕ) (logs : List BumpLog) (pa
 older_apart scene position logs party log live opens agree own =
     interleaved_older scene position party log live opens (interleaved scene position logs party log agree own)
 
-pub agreed_since : (scene : BumpScene) (position : ℕ) (logs : List BumpLog) (live : List Chunk) (agree : LogsAgree scene position logs) →
-    live_after scene live agree.steps ≡ live ++ chunks_won (history_of scene agree.steps)
+pub agreed_since : (scene : BumpScene) (position : ℕ) (logs : List BumpLog) (live : List Chunk)
+    (agree : LogsAgree scene position logs) → live_after scene live agree.steps ≡ live ++ chunks_won (history_of scene agree.steps)
 agreed_since scene position logs live agree = allowed_grow scene live agree.steps agree.allowed
 
 pub agreed_stands : (scene : BumpScene) (position : ℕ) (logs : List BumpLog) (live : List Chunk) → OpensWith scene live →

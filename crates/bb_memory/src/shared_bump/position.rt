@@ -91,8 +91,8 @@ impl SharedBumpAllocator {
         ensures step { TellsExchange self.now.scene (number_of seat.old.me.0) (view_log seat.old.me.0) result
             seat.new.me }
     {
-        self.table
-            .shared
-            .compare_exchange::<Exchanges>(seat, 0, seen as u64, behind as u64) as usize
+        let shared = &self.table.shared;
+        let found = shared.compare_exchange::<Exchanges>(seat, 0, seen as u64, behind as u64);
+        found as usize
     }
 }

@@ -5,8 +5,8 @@ use Rattle.bb_memory.proofs.SharedBumpKeeps.{exchanges_as}
 use Rattle.bb_memory.proofs.SharedBumpParties.{told_exchange}
 use Rattle.bb_memory.proofs.shared_bump.SharedBumpAllocator.exchange.Goals as goal
 
-pub compare_exchange-requires : goal.compare_exchange-requires
-compare_exchange-requires c =
+pub compare_exchange-found-requires : goal.compare_exchange-found-requires
+compare_exchange-found-requires c =
     let fields = c.self.invariant in
     let me = c.args.seat.now.me in
     let scene = ap (λ b. b.scene) c.self.view_is in (
@@ -20,5 +20,5 @@ compare_exchange-requires c =
 pub returns-clause-step : goal.returns-clause-step
 returns-clause-step c =
     let me = c.args.seat.now.me in
-    told_exchange c.args.self.now.scene (number_of me.0) (view_log me.0) c.compare_exchange.result me c.compare_exchange.new.seat.me
-    c.requires.seat c.compare_exchange.ensures.2
+    told_exchange c.args.self.now.scene (number_of me.0) (view_log me.0) c.compare_exchange-found.result me c.compare_exchange-found.new.seat.me
+    c.requires.seat c.compare_exchange-found.ensures.2

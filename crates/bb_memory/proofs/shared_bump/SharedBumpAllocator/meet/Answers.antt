@@ -1,4 +1,4 @@
-use Rattle.std.proofs.Common.{[], List, ℕ, sym, ap, ◌∙◌, arith, subst}
+use Rattle.std.proofs.Common.{[], ℕ, sym, ap, ◌∙◌, arith, subst}
 use Rattle.atomic_table.specs.Table.{Me}
 use Rattle.bb_memory_base.specs.BumpMachine.{BumpScene}
 use Rattle.bb_memory_base.specs.BumpHistory.{BumpLog}
