@@ -9,7 +9,7 @@ use Rattle.bb_memory_base.specs.PoolHistory.{PoolEntry, PoolLog}
 use Rattle.bb_memory_base.specs.PoolLogs.{LogsAgree}
 use Rattle.bb_memory_base.specs.declared.layout.Layout.{Layout}
 use Rattle.bb_memory_base.proofs.Layouts.{empty-valid}
-use Rattle.bb_memory.specs.SharedPool.{IsParty, PoolParty, scene_of}
+use Rattle.bb_memory.specs.SharedPool.{IsParty, PoolParty, scene_at}
 use Rattle.bb_memory.specs.Seats.{AreSeated, Numbered, Seat, alone, fresh_from, standing_for, view_log}
 
 -- a party's number with its log, and what a seat of a shared pool knows
@@ -40,7 +40,7 @@ all_parties scene = standing_for scene (fresh_from 0 scene.parties)
 
 -- a view of no party
 abbrev pub nobody : SeatView
-nobody = standing_for (scene_of (pool_geometry (region_at 0 0) no_bytes 0) 0) []
+nobody = standing_for (scene_at (pool_geometry (region_at 0 0) no_bytes 0) 0) []
   where
     no_bytes : Layout
     no_bytes = record { size = 0; align = 1; valid = empty-valid }

@@ -37,32 +37,30 @@ TellsReturn bucket me new =
     let party = number_of me.0 in
     Tells me.0.scene party (view_log me.0) (entry_of (GiveBack party bucket) (Gives bucket)) new
 
--- THE STEPS AS THE TABLE KNOWS THEM
-
-abbrev pub tries : Step ℕ → Me ℕ SeatView → ℕ → Me ℕ SeatView → Type 0
-tries step me found new = TellsTry step.word me found new
-
-abbrev pub returns : Step ℕ → Me ℕ SeatView → ℕ → Me ℕ SeatView → Type 0
-returns step me found new = TellsReturn step.word me new
-
--- TWO PARTIES AT ONE SEAT
-
--- two parties are two, no bucket is held after both logs, and one interleaving has both
-pub record HaveMet (scene : PoolScene) (a b : NumberedLog) : Type 0 where
+-- two parties are different ones, no bucket is held after both logs, and one interleaving has both
+pub record TellsMeeting (scene : PoolScene) (a b : NumberedLog) : Type 0 where
   pub differ : a.number ≢ b.number
   pub apart : (bucket : ℕ) → IsHeldAfter a.log bucket → ¬ IsHeldAfter b.log bucket
   pub interleaved : CommonInterleaving scene a.number a.log b.number b.log
 
--- what two parties learn that one seat stands for
-abbrev pub MeetAt : PoolScene → List NumberedLog → Type 0
-MeetAt scene (a ∷ b ∷ parties) = HaveMet scene a b
-MeetAt scene _ = Unit {0}
+-- the first two parties of a seat that stands for two
+abbrev pub FirstTwoMeet : PoolScene → List NumberedLog → Type 0
+FirstTwoMeet scene (a ∷ b ∷ parties) = TellsMeeting scene a b
+FirstTwoMeet scene _ = Unit {0}
 
--- a load that changes nothing
+-- THE STEPS AS THE TABLE KNOWS THEM
+
+abbrev pub tries : Step ℕ → Me ℕ SeatView → ℕ → Me ℕ SeatView → Type 0
+tries step old found new = TellsTry step.word old found new
+
+abbrev pub returns : Step ℕ → Me ℕ SeatView → ℕ → Me ℕ SeatView → Type 0
+returns step old found new = TellsReturn step.word old new
+
+-- a load that changes nothing, by a seat that stands for two
 abbrev pub meets : Step ℕ → Me ℕ SeatView → ℕ → Me ℕ SeatView → Type 0
-meets step me found new = (new ≡ me) × MeetAt me.0.scene me.0.parties
+meets step old found new = (new ≡ old) × FirstTwoMeet old.0.scene old.0.parties
 
--- A PASS
+-- PASSES
 
 -- the seat is of this pool's table, and stands for one party of it
 pub record IsSeatOf (pool : SharedPool) (table : TableId) (me : Me ℕ SeatView) : Type 0 where

@@ -101,6 +101,7 @@ impl SharedPoolAllocator {
         ensures number { party.new.number ≡ party.old.number }
         ensures bucket { IfOk result (λ bucket. bucket.allocator ≡ self.now) }
         ensures interleaved { IsInterleaved party.new }
+        ensures is_party { IsParty party.new }
 
         // What is held after the party's log.
         ensures held { IfOk result (λ bucket. IsHeldAfter party.new.log bucket.number) }
@@ -129,6 +130,7 @@ impl SharedPoolAllocator {
         ensures party { party.new.allocator ≡ self.now }
         ensures number { party.new.number ≡ party.old.number }
         ensures interleaved { IsInterleaved party.new }
+        ensures is_party { IsParty party.new }
         ensures given_back { ¬ IsHeldAfter party.new.log bucket.entry.number }
         ensures still_held { (other : ℕ) → other ≢ bucket.entry.number
             → IsHeldAfter party.old.log other → IsHeldAfter party.new.log other }
@@ -207,28 +209,28 @@ impl SharedPoolAllocator {
 
     /// The size of a bucket in bytes, as it was asked for. The buckets are at least that far apart.
     pub fn bucket_size(&self) -> usize
-        ensures { result ≡ self.now.scene.geometry.bucket.size }
+        ensures value { result ≡ self.now.scene.geometry.bucket.size }
     {
         self.buckets.bucket().size()
     }
 
     /// The greatest alignment that a request may have, of which each bucket's place is a multiple.
     pub fn max_alignment(&self) -> usize
-        ensures { result ≡ self.now.scene.geometry.bucket.align }
+        ensures value { result ≡ self.now.scene.geometry.bucket.align }
     {
         self.buckets.bucket().align()
     }
 
     /// How many bytes the region has, as it was handed in.
     pub fn size(&self) -> usize
-        ensures { result ≡ self.now.scene.geometry.region.size }
+        ensures value { result ≡ self.now.scene.geometry.region.size }
     {
         self.buckets.region_size()
     }
 
     /// Where the first bucket is: the region's start, rounded up to the bucket's alignment.
     pub fn start_address(&self) -> usize
-        ensures { result
+        ensures value { result
             ≡ first_place self.now.scene.geometry.region self.now.scene.geometry.bucket }
     {
         self.buckets.first()

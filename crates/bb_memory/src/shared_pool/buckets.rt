@@ -7,7 +7,7 @@ ghost use Rattle.bb_memory_base.specs.PoolGeometry.{IsPoolGeometry, bucket_place
 ghost use Rattle.bb_memory_base.specs.PoolObject.{IsWithin, MayGrow, MayShrink};
 ghost use Rattle.bb_memory_base.specs.PoolLogs.{Interleaving, IsHeldAfter, next_bucket, pass_in};
 ghost use Rattle.bb_memory.specs.Seats.{fresh_from, number_of, standing_for, view_log};
-ghost use Rattle.bb_memory.specs.SharedPool.{AreAllHeldAfter, AreInterleaved, IsInterleaved, MayTake, chunk_of, fresh_party, resized, return_entry, with_entries};
+ghost use Rattle.bb_memory.specs.SharedPool.{AreAllHeldAfter, AreInterleaved, IsInterleaved, IsParty, MayTake, chunk_of, fresh_party, resized, return_entry, with_entries};
 ghost use Rattle.bb_memory.specs.SharedPoolSteps.{HasRefused, HasTaken, IsSeatOf, TellsLoss, TellsTaking};
 
 use super::bucket::Bucket;
@@ -148,6 +148,7 @@ impl SharedBuckets {
         ensures number { party.new.number ≡ party.old.number }
         ensures bucket { IfOk result (λ bucket. bucket.allocator ≡ self.now) }
         ensures interleaved { IsInterleaved party.new }
+        ensures is_party { IsParty party.new }
 
         // What is held after the party's log.
         ensures held { IfOk result (λ bucket. IsHeldAfter party.new.log bucket.number) }
@@ -191,6 +192,7 @@ impl SharedBuckets {
         ensures party { party.new.allocator ≡ self.now }
         ensures number { party.new.number ≡ party.old.number }
         ensures interleaved { IsInterleaved party.new }
+        ensures is_party { IsParty party.new }
         ensures given_back { ¬ IsHeldAfter party.new.log bucket.entry.number }
         ensures still_held { (other : ℕ) → other ≢ bucket.entry.number
             → IsHeldAfter party.old.log other → IsHeldAfter party.new.log other }

@@ -6,7 +6,7 @@ ghost use Rattle.bb_memory_base.specs.PoolGeometry.{PoolGeometry, IsCut, IsPoolG
 ghost use Rattle.bb_memory_base.specs.PoolObject.{IsWithin, MayGrow, MayShrink};
 ghost use Rattle.bb_memory_base.specs.PoolLogs.{IsHeldAfter};
 ghost use Rattle.bb_memory.specs.Pool.{MayBeCut};
-ghost use Rattle.bb_memory.specs.SharedPool.{AreAllHeldAfter, AreInterleaved, IsInterleaved, MayTake, chunk_of, fresh_party, resized, return_entry, with_entries};
+ghost use Rattle.bb_memory.specs.SharedPool.{AreAllHeldAfter, AreInterleaved, IsInterleaved, IsParty, MayTake, chunk_of, fresh_party, resized, return_entry, with_entries};
 
 use super::bucket::Bucket;
 use super::buckets::SharedBuckets;
@@ -92,6 +92,7 @@ impl<const MAX_NUMBER_OF_BUCKETS: usize> SharedFixedSizePoolAllocator<MAX_NUMBER
         ensures number { party.new.number ≡ party.old.number }
         ensures bucket { IfOk result (λ bucket. bucket.allocator ≡ self.now) }
         ensures interleaved { IsInterleaved party.new }
+        ensures is_party { IsParty party.new }
 
         // What is held after the party's log.
         ensures held { IfOk result (λ bucket. IsHeldAfter party.new.log bucket.number) }
@@ -120,6 +121,7 @@ impl<const MAX_NUMBER_OF_BUCKETS: usize> SharedFixedSizePoolAllocator<MAX_NUMBER
         ensures party { party.new.allocator ≡ self.now }
         ensures number { party.new.number ≡ party.old.number }
         ensures interleaved { IsInterleaved party.new }
+        ensures is_party { IsParty party.new }
         ensures given_back { ¬ IsHeldAfter party.new.log bucket.entry.number }
         ensures still_held { (other : ℕ) → other ≢ bucket.entry.number
             → IsHeldAfter party.old.log other → IsHeldAfter party.new.log other }
@@ -198,21 +200,21 @@ impl<const MAX_NUMBER_OF_BUCKETS: usize> SharedFixedSizePoolAllocator<MAX_NUMBER
 
     /// The size of a bucket in bytes, as it was asked for. The buckets are at least that far apart.
     pub fn bucket_size(&self) -> usize
-        ensures { result ≡ self.now.scene.geometry.bucket.size }
+        ensures value { result ≡ self.now.scene.geometry.bucket.size }
     {
         self.buckets.bucket().size()
     }
 
     /// The greatest alignment that a request may have, of which each bucket's place is a multiple.
     pub fn max_alignment(&self) -> usize
-        ensures { result ≡ self.now.scene.geometry.bucket.align }
+        ensures value { result ≡ self.now.scene.geometry.bucket.align }
     {
         self.buckets.bucket().align()
     }
 
     /// How many bytes the region has, as it was handed in.
     pub fn size(&self) -> usize
-        ensures { result ≡ self.now.scene.geometry.region.size }
+        ensures value { result ≡ self.now.scene.geometry.region.size }
     {
         self.buckets.region_size()
     }
