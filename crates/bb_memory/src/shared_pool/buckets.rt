@@ -112,9 +112,10 @@ impl SharedBuckets {
         requires below { bucket < self.now.scene.geometry.buckets }
         ensures table { seat.new.table_id ≡ seat.old.table_id }
         ensures step { MatchBool result
-            (TellsTaking self.now.scene (number_of seat.old.me.0) (view_log seat.old.me.0) bucket seat.new.me)
-            (TellsLoss self.now.scene (number_of seat.old.me.0) (view_log seat.old.me.0) bucket
-            seat.new.me) }
+            (TellsTaking self.now.scene (number_of seat.old.me.0) (view_log seat.old.me.0)
+            bucket seat.new.me)
+            (TellsLoss self.now.scene (number_of seat.old.me.0) (view_log seat.old.me.0)
+            bucket seat.new.me) }
     {
         let found = self
             .table
@@ -126,12 +127,14 @@ impl SharedBuckets {
     /// One whole pass: an exchange on each flag from bucket 0 up, until one is taken.
     fn pass(&self, seat: &mut Seat<u8, View>) -> Option<u32>
         requires table { seat.old.table_id ≡ self.now.table }
-        requires seat { IsSeatOfIdle self.now.scene (number_of seat.old.me.0) (view_log seat.old.me.0)
-            seat.old.me }
+        requires seat { IsSeatOfIdle self.now.scene (number_of seat.old.me.0)
+            (view_log seat.old.me.0) seat.old.me }
         ensures table { seat.new.table_id ≡ seat.old.table_id }
         ensures pass { MatchOption result
-            (HasRefused self.now.scene (number_of seat.old.me.0) (view_log seat.old.me.0) seat.new.me)
-            (HasTaken self.now.scene (number_of seat.old.me.0) (view_log seat.old.me.0) seat.new.me) }
+            (HasRefused self.now.scene (number_of seat.old.me.0) (view_log seat.old.me.0)
+            seat.new.me)
+            (HasTaken self.now.scene (number_of seat.old.me.0) (view_log seat.old.me.0)
+            seat.new.me) }
     {
         for bucket in 0..self.count() {
             if self.try_flag(seat, bucket) {
