@@ -15,8 +15,8 @@ use Rattle.bb_memory_base.proofs.PoolLogSteps.{take_agrees, lose_agrees, give_ag
 use Rattle.bb_memory_base.proofs.PoolLogFacts.{free_not_held, taken_is_held_alone, length-flags, interleaved_log}
 use Rattle.bb_memory_base.proofs.SliceGets.{slice_get-set_same, length-set_at}
 use Rattle.bb_memory.specs.Seats.{alone}
-use Rattle.bb_memory.specs.SharedPoolRule.{SeatView, WordsAndLogsAgree, word_of}
-use Rattle.bb_memory.specs.SharedPoolSteps.{Tells, returns, tries}
+use Rattle.bb_memory.specs.SharedPoolRule.{IsSeatOf, SeatView, WordsAndLogsAgree, word_of}
+use Rattle.bb_memory.specs.SharedPoolSteps.{returns, tries}
 use Rattle.bb_memory.proofs.Seatings.{seated_step}
 
 -- WORDS AND FLAGS
@@ -67,9 +67,9 @@ entered scene state rule seat party log entry words flags at agree are =
 -- what it tells: the log is longer, and interleaved with others'
 told : (scene : PoolScene) (flags : List Bool) (logs : List PoolLog) (party : ℕ) (log : PoolLog) (entry : PoolEntry) →
     HasLog logs party log → LogsAgree scene flags (with_entry logs party log entry) →
-    Tells scene party log entry (alone scene party (log ++ entry ∷ []), [])
+    IsSeatOf scene party (log ++ entry ∷ []) (alone scene party (log ++ entry ∷ []), [])
 told scene flags logs party log entry at agree = record {
-  seat = refl;
+  is = refl;
   interleaved = interleaved_log scene flags (with_entry logs party log entry) party (log ++ entry ∷ []) agree
       (slice_get-set_same logs party (log ++ entry ∷ []) log at);
 }
@@ -100,7 +100,7 @@ tries_flag scene slots seat party bucket log next state rule at are false free =
           (λ _. ap (λ (words : List ℕ). set words bucket 1) are ∙ sym (map-set word_of rule.flags bucket true)),
       (
         λ _. record {
-          step = told scene flags rule.logs party log entry mine.1 agree;
+          seat = told scene flags rule.logs party log entry mine.1 agree;
           free = free_not_held scene rule.flags rule.logs party log bucket rule.agree mine.1 free;
         },
         λ not_free. absurd (not_free refl),
@@ -118,7 +118,7 @@ tries_flag scene slots seat party bucket log next state rule at are true taken =
       (
         λ zero_found. absurd (suc-ne-zero zero zero_found),
         λ _. record {
-          step = told scene rule.flags rule.logs party log entry mine.1 agree;
+          seat = told scene rule.flags rule.logs party log entry mine.1 agree;
           held = λ one.
               let first : party ≡ 0 = let made = mine.0 in omega arith in
               taken_is_held_alone scene rule.flags rule.logs log bucket rule.agree one

@@ -8,11 +8,11 @@ use Rattle.bb_memory_base.specs.PoolMachine.{PoolScene}
 use Rattle.bb_memory_base.proofs.PoolLogFacts.{logs_apart, interleaved_logs}
 use Rattle.bb_memory.specs.Seats.{standing_for}
 use Rattle.bb_memory.specs.SharedPoolRule.{NumberedLog, SeatView, WordsAndLogsAgree}
-use Rattle.bb_memory.specs.SharedPoolSteps.{HaveMet, meets}
+use Rattle.bb_memory.specs.SharedPoolSteps.{TellsMeeting, meets}
 use Rattle.bb_memory.proofs.Seatings.{two_parties}
 
 have_met : (scene : PoolScene) (state : State ℕ SeatView) (rule : WordsAndLogsAgree scene state) (seat : ℕ)
-    (a b : NumberedLog) → get_elem? state.views seat ≡ some (standing_for scene (a ∷ b ∷ [])) → HaveMet scene a b
+    (a b : NumberedLog) → get_elem? state.views seat ≡ some (standing_for scene (a ∷ b ∷ [])) → TellsMeeting scene a b
 have_met scene state rule seat a b at =
     let known = rule.seated.known seat (standing_for scene (a ∷ b ∷ [])) at in
     let two = two_parties scene.parties rule.logs state.views seat scene a b rule.seated at in

@@ -1,81 +1,92 @@
 -- From what a pass or a return tells to what its party is then.
 use Rattle.std.proofs.Common.{◌≡◌, ℕ, ◌<◌, [], ◌++◌, refl, sym, ap, ◌∙◌, subst}
+use Rattle.std.proofs.lemmas.List.Elements.{All-nil}
 use Rattle.atomic_table.specs.Seated.{TableId}
 use Rattle.atomic_table.specs.Table.{Me}
 use Rattle.bb_memory_base.specs.PoolMachine.{PoolScene}
-use Rattle.bb_memory_base.specs.PoolHistory.{PoolLog}
-use Rattle.bb_memory_base.specs.PoolLogs.{Interleaving}
+use Rattle.bb_memory_base.specs.PoolHistory.{PoolEntry, PoolLog}
+use Rattle.bb_memory_base.specs.PoolLogs.{IsAllowed}
 use Rattle.bb_memory_base.specs.PoolGeometry.{IsPoolGeometry}
 use Rattle.bb_memory.specs.Seats.{alone, number_of, view_log}
 use Rattle.bb_memory.specs.SharedPool.{IsParty, SharedPool, return_entry, with_entries}
-use Rattle.bb_memory.specs.SharedPoolRule.{IsSeated, IsSeatedParty, SeatView, party_of}
-use Rattle.bb_memory.specs.SharedPoolSteps.{HasEnded, IsSeatOf, TellsReturn}
+use Rattle.bb_memory.specs.SharedPoolRule.{IsPartySeat, IsSeatOfIdle, SeatView, party_in}
+use Rattle.bb_memory.specs.SharedPoolSteps.{HasEnded, TellsReturn}
 use Rattle.bb_memory.proofs.SharedPoolTries.{idle_after_return}
 
--- a seat of one party, in the scene that it is known to have
-pub seated_in : (me : Me ℕ SeatView) (scene : PoolScene) (party : ℕ) → IsSeated me party → me.0.scene ≡ scene →
-    me ≡ (alone scene party (view_log me.0), [])
-seated_in me scene party is same = is ∙ ap (λ (s : PoolScene). (alone s party (view_log me.0), [])) same
+-- what holds of the party of such a seat
+pub party_is : (table : TableId) (number : ℕ) (me : Me ℕ SeatView) → IsPartySeat number me →
+    IsParty (party_in table number me.0)
+party_is table number me is = record {
+  geometry = is.geometry;
+  number = is.below;
+  idle = is.seat.idle;
+  interleaved = is.seat.seat.interleaved;
+}
 
--- a party's fields, by what its seat stands for
-pub party_seated : (table : TableId) (me : Me ℕ SeatView) (scene : PoolScene) (party : ℕ) (log : PoolLog) →
-    me ≡ (alone scene party log, []) →
-    IsParty (record { allocator = record { table = table; scene = scene }; number = party; log = log }) →
-    IsSeatedParty table me party
-party_seated table me scene party log is holds =
-    subst (λ (m : Me ℕ SeatView). IsSeatedParty table m party) (sym is) record { seat = refl; party = holds }
+-- a seat of one party, in the scene that it is known to have
+pub seated_in : (me : Me ℕ SeatView) (scene : PoolScene) (number : ℕ) → IsPartySeat number me → me.0.scene ≡ scene →
+    me ≡ (alone scene number (view_log me.0), [])
+seated_in me scene number is same = is.seat.seat.is ∙ ap (λ (s : PoolScene). (alone s number (view_log me.0), [])) same
+
+pub party_seat : (scene : PoolScene) (number : ℕ) (log : PoolLog) (me : Me ℕ SeatView) → IsSeatOfIdle scene number log me →
+    number < scene.parties → IsPoolGeometry scene.geometry → IsPartySeat number me
+party_seat scene number log me of below geometry =
+    subst (λ (m : Me ℕ SeatView). IsPartySeat number m) (sym of.seat.is) record {
+      seat = record { seat = record { is = refl; interleaved = of.seat.interleaved }; idle = of.idle };
+      below = below;
+      geometry = geometry;
+    }
+
+-- a party that has made no step is idle, and its log is interleaved with those of others
+pub no_step : (scene : PoolScene) (number : ℕ) (me : Me ℕ SeatView) → me ≡ (alone scene number [], []) →
+    IsSeatOfIdle scene number [] me
+no_step scene number me is = record {
+  seat = record {
+    is = is;
+    interleaved = record { steps = []; allowed = All-nil (λ (e : PoolEntry). IsAllowed e.outcome); logged = refl };
+  };
+  idle = refl;
+}
 
 -- a seat of a party of this pool
-module _ (pool : SharedPool) (table : TableId) (me : Me ℕ SeatView) (number : ℕ) (is : IsSeatedParty table me number)
-    (own : (party_of table me number).allocator ≡ pool) where
+module _ (pool : SharedPool) (table : TableId) (me : Me ℕ SeatView) (number : ℕ) (is : IsPartySeat number me)
+    (own : (party_in table number me.0).allocator ≡ pool) where
   own_scene : me.0.scene ≡ pool.scene
   own_scene = ap (λ (p : SharedPool). p.scene) own
 
   same_number : number_of me.0 ≡ number
-  same_number = ap (λ (m : Me ℕ SeatView). number_of m.0) is.seat
+  same_number = ap (λ (m : Me ℕ SeatView). number_of m.0) is.seat.seat.is
 
-  pub seat_of_pool : IsSeatOf pool table me
-  seat_of_pool = record {
-    of_table = ap (λ (p : SharedPool). p.table) own;
-    alone = is.seat ∙ (λ i. (alone (own_scene i) (sym same_number i) (view_log me.0), []));
-  }
-
-  pub seat_interleaved : Interleaving pool.scene (number_of me.0) (view_log me.0)
-  seat_interleaved =
-      subst (λ (n : ℕ). Interleaving pool.scene n (view_log me.0)) (sym same_number)
-      (subst (λ (s : PoolScene). Interleaving s number (view_log me.0)) own_scene is.party.interleaved)
+  pub idle_seat : IsSeatOfIdle pool.scene (number_of me.0) (view_log me.0) me
+  idle_seat =
+      subst (λ (s : PoolScene). IsSeatOfIdle s (number_of me.0) (view_log me.0) me) own_scene
+      (subst (λ (n : ℕ). IsSeatOfIdle me.0.scene n (view_log me.0) me) (sym same_number) is.seat)
 
   -- its party, once these entries are added
   pub party_then : (new_table : TableId) (new : Me ℕ SeatView) (added : PoolLog) → new_table ≡ table →
-      HasEnded pool.scene me new added → party_of new_table new number ≡ with_entries (party_of table me number) added
+      HasEnded pool.scene (number_of me.0) (view_log me.0) added new →
+      party_in new_table number new.0 ≡ with_entries (party_in table number me.0) added
   party_then new_table new added kept ended = λ i. record {
     allocator = record {
       table = kept i;
-      scene = (ap (λ (m : Me ℕ SeatView). m.0.scene) ended.seat ∙ sym own_scene) i;
+      scene = (ap (λ (m : Me ℕ SeatView). m.0.scene) ended.seat.is ∙ sym own_scene) i;
     };
     number = number;
-    log = ap (λ (m : Me ℕ SeatView). view_log m.0) ended.seat i;
+    log = ap (λ (m : Me ℕ SeatView). view_log m.0) ended.seat.is i;
   }
 
-  pub seated_then : (new_table : TableId) (new : Me ℕ SeatView) (added : PoolLog) →
-      HasEnded pool.scene me new added → IsSeatedParty new_table new number
-  seated_then new_table new added ended =
-      party_seated new_table new pool.scene number (view_log me.0 ++ added)
-      (ended.seat ∙ ap (λ (n : ℕ). (alone pool.scene n (view_log me.0 ++ added), [])) same_number)
-      record {
-        number = subst (λ (s : PoolScene). number < s.parties) own_scene is.party.number;
-        idle = ended.idle;
-        interleaved = subst (λ (n : ℕ). Interleaving pool.scene n (view_log me.0 ++ added)) same_number ended.interleaved;
-        geometry = subst (λ (s : PoolScene). IsPoolGeometry s.geometry) own_scene is.party.geometry;
-      }
+  pub seated_then : (new : Me ℕ SeatView) (added : PoolLog) →
+      HasEnded pool.scene (number_of me.0) (view_log me.0) added new → IsPartySeat number new
+  seated_then new added ended =
+      party_seat pool.scene number (view_log me.0 ++ added) new
+      (subst (λ (n : ℕ). IsSeatOfIdle pool.scene n (view_log me.0 ++ added) new) same_number ended)
+      (subst (λ (s : PoolScene). number < s.parties) own_scene is.below)
+      (subst (λ (s : PoolScene). IsPoolGeometry s.geometry) own_scene is.geometry)
 
   -- a return has ended with its store
-  pub returned : (bucket : ℕ) (new : Me ℕ SeatView) → TellsReturn bucket me new →
-      HasEnded pool.scene me new (return_entry (number_of me.0) bucket)
+  pub returned : (bucket : ℕ) (new : Me ℕ SeatView) →
+      TellsReturn me.0.scene (number_of me.0) (view_log me.0) bucket new →
+      HasEnded pool.scene (number_of me.0) (view_log me.0) (return_entry (number_of me.0) bucket) new
   returned bucket new tells =
-      subst (λ (s : PoolScene). HasEnded s me new (return_entry (number_of me.0) bucket)) own_scene
-      record {
-        seat = tells.seat;
-        idle = idle_after_return (number_of me.0) bucket (view_log me.0) is.party.idle;
-        interleaved = tells.interleaved;
-      }
+      subst (λ (s : PoolScene). HasEnded s (number_of me.0) (view_log me.0) (return_entry (number_of me.0) bucket) new) own_scene
+      record { seat = tells; idle = idle_after_return (number_of me.0) bucket (view_log me.0) is.seat.idle }

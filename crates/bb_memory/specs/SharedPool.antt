@@ -15,12 +15,15 @@ use Rattle.bb_memory_base.specs.declared.allocator.AllocationError.TheVariants.{
 use Rattle.bb_memory_base.specs.declared.steps.pool.PoolStep.TheVariants.{Try, GiveBack}
 use Rattle.bb_memory_base.specs.declared.steps.pool.PoolOutcome.TheVariants.{Takes, Gives}
 
--- which shared pool it is, and where its machine began: its buckets, and how many parties it has
+-- a shared pool: which one it is, and where its machine began: its buckets, and how many parties it has
 pub record SharedPool : Type 0 where
   pub table : TableId
   pub scene : PoolScene
 
--- whose party it is, its number there, and its log
+abbrev pub scene_at : PoolGeometry → ℕ → PoolScene
+scene_at geometry parties = record { geometry = geometry; parties = parties }
+
+-- a party: the pool that it belongs to, its number there, and its log
 pub record PoolParty : Type 0 where
   pub allocator : SharedPool
   pub number : ℕ
@@ -28,33 +31,21 @@ pub record PoolParty : Type 0 where
 
 -- the party of this number, which has made no step
 abbrev pub fresh_party : SharedPool → ℕ → PoolParty
-fresh_party pool number = record { allocator = pool; number = number; log = [] }
+fresh_party allocator number = record { allocator = allocator; number = number; log = [] }
 
-abbrev pub scene_of : PoolGeometry → ℕ → PoolScene
-scene_of geometry parties = record { geometry = geometry; parties = parties }
+-- the party with these more entries in its log
+abbrev pub with_entries : PoolParty → PoolLog → PoolParty
+with_entries party entries =
+    record { allocator = party.allocator; number = party.number; log = party.log ++ entries }
 
--- an interleaving of the party's log with some logs of the others is allowed from the opening
-abbrev pub IsInterleaved : PoolParty → Type 0
-IsInterleaved party = Interleaving party.allocator.scene party.number party.log
-
--- what holds of every party: its number is below how many there are, it is in no pass, its log is interleaved with others', and
--- the region has room for its pool's buckets
-pub record IsParty (party : PoolParty) : Type 0 where
-  pub number : party.number < party.allocator.scene.parties
-  pub idle : pass_in party.log ≡ None
-  pub interleaved : IsInterleaved party
-  pub geometry : IsPoolGeometry party.allocator.scene.geometry
-
--- BUCKETS
-
--- a bucket that was taken: whose it is, its number there, and how many bytes its chunk has
+-- a bucket that was taken: the pool that it belongs to, its number there, and how many bytes its chunk has
 pub record TakenBucket : Type 0 where
   pub allocator : SharedPool
   pub number : ℕ
   pub len : ℕ
 
 abbrev pub taken_bucket : SharedPool → ℕ → ℕ → TakenBucket
-taken_bucket pool number len = record { allocator = pool; number = number; len = len }
+taken_bucket allocator number len = record { allocator = allocator; number = number; len = len }
 
 -- the same bucket with another length
 abbrev pub resized : TakenBucket → ℕ → TakenBucket
@@ -68,12 +59,7 @@ chunk_of bucket = record { place = bucket_place bucket.allocator.scene.geometry 
 abbrev pub AreAllHeldAfter : PoolLog → ℕ → Type 0
 AreAllHeldAfter log buckets = (bucket : ℕ) → bucket < buckets → IsHeldAfter log bucket
 
--- WHAT A CALL ADDS
-
--- the party with these more entries in its log
-abbrev pub with_entries : PoolParty → PoolLog → PoolParty
-with_entries party entries =
-    record { allocator = party.allocator; number = party.number; log = party.log ++ entries }
+-- WHAT CALLS ADD TO A LOG
 
 -- a party's losses at so many of the buckets, from bucket 0 up
 abbrev pub losses : ℕ → ℕ → ℕ → PoolLog
@@ -91,6 +77,8 @@ refused_pass buckets party = losses buckets party buckets
 -- one return, of this bucket
 abbrev pub return_entry : ℕ → ℕ → PoolLog
 return_entry party bucket = entry_of (GiveBack party bucket) (Gives bucket) ∷ []
+
+-- WHAT A REQUEST MAY BE ANSWERED
 
 -- a party may take this bucket for the layout, as its size and alignment are small enough, and the bucket isn't held after the
 -- party's log
@@ -111,7 +99,8 @@ MayTake party layout (Err SizeTooLarge) new =
     (party.allocator.scene.geometry.bucket.size < layout.size) × (new ≡ party)
 MayTake party layout (Err AlignmentFailure) new =
     (layout.size ≤ party.allocator.scene.geometry.bucket.size)
-    × (party.allocator.scene.geometry.bucket.align < layout.align) × (new ≡ party)
+    × (party.allocator.scene.geometry.bucket.align < layout.align)
+    × (new ≡ party)
 -- one whole pass: it lost at each bucket
 MayTake party layout (Err OutOfMemory) new =
     IsWithin party.allocator.scene.geometry.bucket layout
@@ -119,12 +108,24 @@ MayTake party layout (Err OutOfMemory) new =
 -- it never refuses so
 MayTake party layout (Err SizeIsZero) new = ⊥
 
--- WHAT THE HISTORY OF A PARTY IS
+-- INTERLEAVINGS
 
--- the takings and returns of the party's interleaving are a run of the pool object, from the empty list to this one
-abbrev pub IsHistoryRun : (party : PoolParty) → IsParty party → List Layout → List Chunk → Type 0
-IsHistoryRun party is layouts live = IsPoolRun party.allocator.scene is.interleaved.steps layouts live
+-- some interleaving of the party's log with some logs of the pool's other parties is allowed
+abbrev pub IsInterleaved : PoolParty → Type 0
+IsInterleaved party = Interleaving party.allocator.scene party.number party.log
+
+-- what holds of every party: its pool's region has room for the buckets, its number is below how many parties there are, it is
+-- in no pass, and some interleaving has its log
+pub record IsParty (party : PoolParty) : Type 0 where
+  pub geometry : IsPoolGeometry party.allocator.scene.geometry
+  pub number : party.number < party.allocator.scene.parties
+  pub idle : pass_in party.log ≡ None
+  pub interleaved : IsInterleaved party
 
 -- one interleaving has the logs of both parties
 abbrev pub AreInterleaved : PoolParty → PoolParty → Type 0
 AreInterleaved a b = CommonInterleaving a.allocator.scene a.number a.log b.number b.log
+
+-- the takings and returns of the party's interleaving are a run of the pool object, from the empty list to this one
+abbrev pub IsHistoryRun : (party : PoolParty) → IsParty party → List Layout → List Chunk → Type 0
+IsHistoryRun party is layouts live = IsPoolRun party.allocator.scene is.interleaved.steps layouts live

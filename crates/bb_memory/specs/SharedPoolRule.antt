@@ -1,16 +1,18 @@
--- The rule of a shared pool's words: words and logs agree.
-use Rattle.std.specs.Prelude.{◌≡◌, ℕ, ◌<◌, ◌≤◌, Bool, true, false, List, [], map, length}
+-- The rule of a shared pool's words, and what its seats and fields stand for.
+use Rattle.std.specs.Prelude.{◌≡◌, ℕ, ◌<◌, ◌≤◌, Bool, true, false, List, [], None, map, length}
 use Rattle.atomic_table.specs.Seated.{TableId}
 use Rattle.atomic_table.specs.Table.{State, Me}
 use Rattle.bb_memory_base.specs.Region.{IsRegion, region_at}
 use Rattle.bb_memory_base.specs.PoolGeometry.{IsPoolGeometry, pool_geometry}
 use Rattle.bb_memory_base.specs.PoolMachine.{PoolScene}
 use Rattle.bb_memory_base.specs.PoolHistory.{PoolEntry, PoolLog}
-use Rattle.bb_memory_base.specs.PoolLogs.{LogsAgree}
+use Rattle.bb_memory_base.specs.PoolLogs.{Interleaving, LogsAgree, pass_in}
 use Rattle.bb_memory_base.specs.declared.layout.Layout.{Layout}
 use Rattle.bb_memory_base.proofs.Layouts.{empty-valid}
-use Rattle.bb_memory.specs.SharedPool.{IsParty, PoolParty, scene_of}
+use Rattle.bb_memory.specs.SharedPool.{PoolParty, scene_at}
 use Rattle.bb_memory.specs.Seats.{AreSeated, Numbered, Seat, alone, fresh_from, standing_for, view_log}
+
+-- SEATS
 
 -- a party's number with its log, and what a seat of a shared pool knows
 abbrev pub NumberedLog : Type 0
@@ -18,6 +20,29 @@ NumberedLog = Numbered PoolEntry
 
 abbrev pub SeatView : Type 0
 SeatView = Seat PoolScene PoolEntry
+
+-- the party of a seat in the table
+abbrev pub party_in : TableId → ℕ → SeatView → PoolParty
+party_in table number view =
+    record { allocator = record { table = table; scene = view.scene }; number = number; log = view_log view }
+
+-- the seat stands for this party alone, whose log some interleaving has
+pub record IsSeatOf (scene : PoolScene) (number : ℕ) (log : PoolLog) (me : Me ℕ SeatView) : Type 0 where
+  pub is : me ≡ (alone scene number log, [])
+  pub interleaved : Interleaving scene number log
+
+-- the same of an idle party
+pub record IsSeatOfIdle (scene : PoolScene) (number : ℕ) (log : PoolLog) (me : Me ℕ SeatView) : Type 0 where
+  pub seat : IsSeatOf scene number log me
+  pub idle : pass_in log ≡ None
+
+-- the seat of an idle party with this number
+pub record IsPartySeat (number : ℕ) (me : Me ℕ SeatView) : Type 0 where
+  pub seat : IsSeatOfIdle me.0.scene number (view_log me.0) me
+  pub below : number < me.0.scene.parties
+  pub geometry : IsPoolGeometry me.0.scene.geometry
+
+-- THE RULE
 
 -- how a flag stands in its word
 abbrev pub word_of : Bool → ℕ
@@ -34,19 +59,6 @@ pub record WordsAndLogsAgree (scene : PoolScene) (state : State ℕ SeatView) : 
   pub one_a_party : length logs ≡ scene.parties
   pub seated : AreSeated scene.parties logs state.views
 
--- the first seat's view, which stands for all parties
-abbrev pub all_parties : PoolScene → SeatView
-all_parties scene = standing_for scene (fresh_from 0 scene.parties)
-
--- a view of no party
-abbrev pub nobody : SeatView
-nobody = standing_for (scene_of (pool_geometry (region_at 0 0) no_bytes 0) 0) []
-  where
-    no_bytes : Layout
-    no_bytes = record { size = 0; align = 1; valid = empty-valid }
-
--- WHAT THE FIELDS STAND FOR
-
 -- its table has a word for each bucket, and one where there is none; its buckets lie in a region, and there is a party
 pub record IsSharedPool (table : TableId) (scene : PoolScene) : Type 0 where
   pub some_word : 0 < table.words
@@ -55,14 +67,15 @@ pub record IsSharedPool (table : TableId) (scene : PoolScene) : Type 0 where
   pub geometry : IsPoolGeometry scene.geometry
   pub parties : 1 ≤ scene.parties
 
--- the seat stands for one party alone
-abbrev pub IsSeated : Me ℕ SeatView → ℕ → Type 0
-IsSeated me number = me ≡ (alone me.0.scene number (view_log me.0), [])
+-- DEALING
 
-abbrev pub party_of : TableId → Me ℕ SeatView → ℕ → PoolParty
-party_of table me number =
-    record { allocator = record { table = table; scene = me.0.scene }; number = number; log = view_log me.0 }
+-- the view of the first seat, which stands for all parties
+abbrev pub all_parties : PoolScene → SeatView
+all_parties scene = standing_for scene (fresh_from 0 scene.parties)
 
-pub record IsSeatedParty (table : TableId) (me : Me ℕ SeatView) (number : ℕ) : Type 0 where
-  pub seat : IsSeated me number
-  pub party : IsParty (party_of table me number)
+-- a view of no party
+abbrev pub nobody : SeatView
+nobody = standing_for (scene_at (pool_geometry (region_at 0 0) no_bytes 0) 0) []
+  where
+    no_bytes : Layout
+    no_bytes = record { size = 0; align = 1; valid = empty-valid }

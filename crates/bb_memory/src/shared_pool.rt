@@ -209,28 +209,28 @@ impl SharedPoolAllocator {
 
     /// The size of a bucket in bytes, as it was asked for. The buckets are at least that far apart.
     pub fn bucket_size(&self) -> usize
-        ensures { result ≡ self.now.scene.geometry.bucket.size }
+        ensures value { result ≡ self.now.scene.geometry.bucket.size }
     {
         self.buckets.bucket().size()
     }
 
     /// The greatest alignment that a request may have, of which each bucket's place is a multiple.
     pub fn max_alignment(&self) -> usize
-        ensures { result ≡ self.now.scene.geometry.bucket.align }
+        ensures value { result ≡ self.now.scene.geometry.bucket.align }
     {
         self.buckets.bucket().align()
     }
 
     /// How many bytes the region has, as it was handed in.
     pub fn size(&self) -> usize
-        ensures { result ≡ self.now.scene.geometry.region.size }
+        ensures value { result ≡ self.now.scene.geometry.region.size }
     {
         self.buckets.region_size()
     }
 
     /// Where the first bucket is: the region's start, rounded up to the bucket's alignment.
     pub fn start_address(&self) -> usize
-        ensures { result
+        ensures value { result
             ≡ first_place self.now.scene.geometry.region self.now.scene.geometry.bucket }
     {
         self.buckets.first()

@@ -2,7 +2,7 @@
 use Rattle.std.proofs.Common.{◌≡◌, ℕ, ◌<◌, List, Bool, true}
 use Rattle.std.specs.Prelude.{◌↔◌, Some, slice_get}
 use Rattle.bb_memory_base.specs.Chunk.{Chunk}
-use Rattle.bb_memory_base.specs.PoolGeometry.{PoolGeometry, IsPoolGeometry}
+use Rattle.bb_memory_base.specs.PoolGeometry.{IsPoolGeometry}
 use Rattle.bb_memory_base.specs.PoolObject.{IsHeld}
 use Rattle.bb_memory_base.specs.PoolMachine.{PoolScene, left_by}
 use Rattle.bb_memory_base.specs.PoolHistory.{PoolLog}

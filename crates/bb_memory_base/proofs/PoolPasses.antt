@@ -4,7 +4,7 @@ use Rattle.std.specs.Prelude.{slice_get, slice_set, take, unwrap_or}
 use Rattle.std.proofs.lemmas.Bool.{cases_eq}
 use Rattle.std.proofs.lemmas.Option.{same_Some}
 use Rattle.std.proofs.lemmas.List.{length-replicate}
-use Rattle.bb_memory_base.specs.PoolGeometry.{PoolGeometry, IsPoolGeometry}
+use Rattle.bb_memory_base.specs.PoolGeometry.{IsPoolGeometry}
 use Rattle.bb_memory_base.specs.PoolMachine.{PoolScene, PoolState, PoolMove, IsTaken, IsInPass, pool_step, pool_after, opening_state}
 use Rattle.bb_memory_base.specs.PoolHistory.{entry_of, PoolEntry, pool_history, history_of}
 use Rattle.bb_memory_base.specs.PoolCalls.{IsLossOf, LosesAt, IsRefusedAt, FoundHeld}

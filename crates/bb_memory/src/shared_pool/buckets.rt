@@ -5,10 +5,11 @@ ghost use Rattle.bb_memory_base.specs.Chunk.{Chunk, IsInside};
 ghost use Rattle.bb_memory_base.specs.FirstPlace.{first_place};
 ghost use Rattle.bb_memory_base.specs.PoolGeometry.{IsPoolGeometry, bucket_place};
 ghost use Rattle.bb_memory_base.specs.PoolObject.{IsWithin, MayGrow, MayShrink};
-ghost use Rattle.bb_memory_base.specs.PoolLogs.{Interleaving, IsHeldAfter, next_bucket, pass_in};
+ghost use Rattle.bb_memory_base.specs.PoolLogs.{IsHeldAfter, next_bucket};
 ghost use Rattle.bb_memory.specs.Seats.{fresh_from, number_of, standing_for, view_log};
 ghost use Rattle.bb_memory.specs.SharedPool.{AreAllHeldAfter, AreInterleaved, IsInterleaved, IsParty, MayTake, chunk_of, fresh_party, resized, return_entry, with_entries};
-ghost use Rattle.bb_memory.specs.SharedPoolSteps.{HasRefused, HasTaken, IsSeatOf, TellsLoss, TellsTaking};
+ghost use Rattle.bb_memory.specs.SharedPoolRule.{IsSeatOf, IsSeatOfIdle};
+ghost use Rattle.bb_memory.specs.SharedPoolSteps.{HasRefused, HasTaken, TellsLoss, TellsTaking};
 
 use super::bucket::Bucket;
 use super::party::PoolParty;
@@ -104,12 +105,17 @@ impl SharedBuckets {
 
     /// One exchange on the flag of the bucket that the party tries next: whether it took the bucket.
     fn try_flag(&self, seat: &mut Seat<u8, View>, bucket: u32) -> bool
-        requires seat { IsSeatOf self.now seat.old.table_id seat.old.me }
+        requires table { seat.old.table_id ≡ self.now.table }
+        requires seat { IsSeatOf self.now.scene (number_of seat.old.me.0) (view_log seat.old.me.0)
+            seat.old.me }
         requires next { next_bucket (view_log seat.old.me.0) ≡ bucket }
         requires below { bucket < self.now.scene.geometry.buckets }
         ensures table { seat.new.table_id ≡ seat.old.table_id }
-        ensures step { MatchBool result (TellsTaking bucket seat.old.me seat.new.me)
-            (TellsLoss bucket seat.old.me seat.new.me) }
+        ensures step { MatchBool result
+            (TellsTaking self.now.scene (number_of seat.old.me.0) (view_log seat.old.me.0)
+            bucket seat.new.me)
+            (TellsLoss self.now.scene (number_of seat.old.me.0) (view_log seat.old.me.0)
+            bucket seat.new.me) }
     {
         let found = self
             .table
@@ -120,13 +126,15 @@ impl SharedBuckets {
 
     /// One whole pass: an exchange on each flag from bucket 0 up, until one is taken.
     fn pass(&self, seat: &mut Seat<u8, View>) -> Option<u32>
-        requires seat { IsSeatOf self.now seat.old.table_id seat.old.me }
-        requires idle { pass_in (view_log seat.old.me.0) ≡ None }
-        requires interleaved { Interleaving self.now.scene (number_of seat.old.me.0)
-            (view_log seat.old.me.0) }
+        requires table { seat.old.table_id ≡ self.now.table }
+        requires seat { IsSeatOfIdle self.now.scene (number_of seat.old.me.0)
+            (view_log seat.old.me.0) seat.old.me }
         ensures table { seat.new.table_id ≡ seat.old.table_id }
-        ensures pass { MatchOption result (HasRefused self.now.scene seat.old.me seat.new.me)
-            (HasTaken self.now.scene seat.old.me seat.new.me) }
+        ensures pass { MatchOption result
+            (HasRefused self.now.scene (number_of seat.old.me.0) (view_log seat.old.me.0)
+            seat.new.me)
+            (HasTaken self.now.scene (number_of seat.old.me.0) (view_log seat.old.me.0)
+            seat.new.me) }
     {
         for bucket in 0..self.count() {
             if self.try_flag(seat, bucket) {

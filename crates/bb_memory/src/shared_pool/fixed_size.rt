@@ -200,21 +200,21 @@ impl<const MAX_NUMBER_OF_BUCKETS: usize> SharedFixedSizePoolAllocator<MAX_NUMBER
 
     /// The size of a bucket in bytes, as it was asked for. The buckets are at least that far apart.
     pub fn bucket_size(&self) -> usize
-        ensures { result ≡ self.now.scene.geometry.bucket.size }
+        ensures value { result ≡ self.now.scene.geometry.bucket.size }
     {
         self.buckets.bucket().size()
     }
 
     /// The greatest alignment that a request may have, of which each bucket's place is a multiple.
     pub fn max_alignment(&self) -> usize
-        ensures { result ≡ self.now.scene.geometry.bucket.align }
+        ensures value { result ≡ self.now.scene.geometry.bucket.align }
     {
         self.buckets.bucket().align()
     }
 
     /// How many bytes the region has, as it was handed in.
     pub fn size(&self) -> usize
-        ensures { result ≡ self.now.scene.geometry.region.size }
+        ensures value { result ≡ self.now.scene.geometry.region.size }
     {
         self.buckets.region_size()
     }

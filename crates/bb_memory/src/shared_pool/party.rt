@@ -16,13 +16,13 @@ pub struct PoolParty {
 
 impl Model for PoolParty {
     ghost use Rattle.bb_memory.specs.SharedPool.{PoolParty};
-    ghost use Rattle.bb_memory.specs.SharedPoolRule.{IsSeatedParty, party_of};
+    ghost use Rattle.bb_memory.specs.SharedPoolRule.{IsPartySeat, party_in};
 
     ghost Value = { PoolParty };
 
-    ghost view = { λ p. party_of p.seat.table_id p.seat.me p.number };
+    ghost view = { λ p. party_in p.seat.table_id p.number p.seat.me.0 };
 
-    ghost invariant = { λ p. IsSeatedParty p.seat.table_id p.seat.me p.number };
+    ghost invariant = { λ p. IsPartySeat p.number p.seat.me };
 }
 
 impl PoolParty {

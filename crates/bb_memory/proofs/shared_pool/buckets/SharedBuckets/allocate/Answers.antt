@@ -2,6 +2,7 @@ use Rattle.std.proofs.Common.{◌∙◌, ap, arith, subst}
 use Rattle.bb_memory_base.specs.PoolGeometry.{IsPoolGeometry}
 use Rattle.bb_memory_base.specs.PoolMachine.{PoolScene}
 use Rattle.bb_memory_base.specs.declared.layout.Layout.{Layout}
+use Rattle.bb_memory.specs.Seats.{number_of, view_log}
 use Rattle.bb_memory.specs.SharedPool.{PoolParty}
 use Rattle.bb_memory.proofs.Measures.{bucket-inside}
 use Rattle.bb_memory.proofs.PoolCalls.{bucket_place-multiple}
@@ -12,13 +13,15 @@ use Rattle.bb_memory.proofs.shared_pool.buckets.SharedBuckets.allocate.Goals as 
 pub returns-clause-still_held : goal.returns-clause-still_held
 returns-clause-still_held c other held =
     let before = rw (← c.party.view_is) at held in
-    still_held c.args.self.now.scene c.party.inside.seat.me c.pass.new.seat.me c.pass.result other c.pass.ensures.pass before
+    let me = c.party.inside.seat.me in
+    still_held c.args.self.now.scene (number_of me.0) (view_log me.0) c.pass.new.seat.me c.pass.result other
+    c.pass.ensures.pass before
 
 pub returns-clause-inside : goal.returns-clause-inside
 returns-clause-inside c =
     let scene : PoolScene = c.args.self.now.scene in
     let own = ap (λ (p : PoolParty). p.allocator.scene) c.party.view_is ∙ ap (λ p. p.scene) c.requires.party in
-    let geometry = subst (λ (s : PoolScene). IsPoolGeometry s.geometry) own c.party.invariant.party.geometry in
+    let geometry = subst (λ (s : PoolScene). IsPoolGeometry s.geometry) own c.party.invariant.geometry in
     let size = ap (λ (l : Layout). l.size) c.bucket-bucket.ensures in
     elim c.match-pass.branch [
       | in-Some w ↦

@@ -12,7 +12,7 @@ store-requires c =
     let words = c.self.invariant.1 in
     let own = ap (λ (p : PoolParty). p.allocator) c.party.view_is ∙ c.requires.party ∙ sym c.self.view_is in
     let same_scene = ap (λ (p : SharedPool). p.scene) own ∙ sym c.self.invariant.0 in
-    let is = seated_in me scene c.party.inside.number c.party.invariant.seat same_scene in
+    let is = seated_in me scene c.party.inside.number c.party.invariant same_scene in
     let held = rw (← c.bucket.view_is) at (rw (← c.party.view_is) at c.requires.held) in
     let same = ap (λ (b : TakenBucket). b.allocator.scene.geometry.buckets) c.bucket.view_is
     ∙ ap (λ (p : SharedPool). p.scene.geometry.buckets) c.requires.bucket

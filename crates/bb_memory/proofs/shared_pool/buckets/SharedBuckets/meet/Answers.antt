@@ -36,8 +36,8 @@ load-requires c =
     let a = c.a.inside.seat.me in
     let b = c.b.inside.seat.me in
     let own = ap (λ (p : SharedPool). p.scene) one ∙ sym c.self.invariant.0 in
-    let first = seated_in a scene c.a.inside.number c.a.invariant.seat own in
-    let guest = c.split_seat-guest.ensures.4 ∙ ap (λ (m : Me ℕ SeatView). (first_of m.0, [])) c.b.invariant.seat in
+    let first = seated_in a scene c.a.inside.number c.a.invariant own in
+    let guest = c.split_seat-guest.ensures.4 ∙ ap (λ (m : Me ℕ SeatView). (first_of m.0, [])) c.b.invariant.seat.seat.is in
     let two = c.join_seat.ensures.2 ∙ λ i. (both_of (first i).0 (guest i).0, (first i).1) in (
       c.join_seat.ensures.0 ∙ ap (λ (p : SharedPool). p.table) one,
       c.self.invariant.1.some_word,

@@ -1,15 +1,13 @@
-use Rattle.std.proofs.Common.{◌≡◌, ℕ, ◌+◌, ◌≤◌, [], ◌∷◌, List, Some, length, length-append, arith, sym, ap, ◌∙◌, refl, subst}
+use Rattle.std.proofs.Common.{◌≡◌, ℕ, ◌+◌, ◌≤◌, [], ◌∷◌, List, Some, length, length-append, arith, sym, ap, ◌∙◌, subst}
 use Rattle.std.specs.Prelude.{All, slice_get}
-use Rattle.std.proofs.lemmas.List.Elements.{All-nil, All-push}
+use Rattle.std.proofs.lemmas.List.Elements.{All-push}
 use Rattle.atomic_table.specs.Table.{Me}
 use Rattle.bb_memory_base.specs.PoolGeometry.{IsPoolGeometry}
-use Rattle.bb_memory_base.specs.PoolHistory.{PoolEntry}
-use Rattle.bb_memory_base.specs.PoolLogs.{IsAllowed}
 use Rattle.bb_memory.specs.SharedPool.{PoolParty, SharedPool, fresh_party}
 use Rattle.bb_memory.specs.Seats.{first_of, others_of, standing_for, view_log}
-use Rattle.bb_memory.specs.SharedPoolRule.{NumberedLog, SeatView, party_of}
+use Rattle.bb_memory.specs.SharedPoolRule.{NumberedLog, SeatView, party_in}
 use Rattle.bb_memory.proofs.Seatings.{fresh_more, given_more}
-use Rattle.bb_memory.proofs.SharedPoolParties.{party_seated}
+use Rattle.bb_memory.proofs.SharedPoolParties.{no_step, party_seat}
 use Rattle.bb_memory.proofs.SharedPoolSeats.{gives_first}
 use Rattle.bb_memory.proofs.shared_pool.buckets.SharedBuckets.seat_parties.Goals as goal
 
@@ -27,12 +25,9 @@ invariant_of-push_reserved c =
     let is = c.loop-number.invariant.rest
     ∙ ap (λ (parties : List NumberedLog). (standing_for scene parties, [])) (fresh_more number c.args.parties (omega arith)) in
     let seated = c.split_seat-seat.ensures.4 ∙ ap (λ (m : Me ℕ SeatView). (first_of m.0, [])) is in
-    party_seated c.split_seat-seat.result.table_id c.split_seat-seat.result.me scene number [] seated record {
-      number = omega (arith, c.requires.parties);
-      idle = refl;
-      interleaved = record { steps = []; allowed = All-nil (λ (e : PoolEntry). IsAllowed e.outcome); logged = refl };
-      geometry = subst (λ (p : SharedPool). IsPoolGeometry p.scene.geometry) c.self.view_is c.self.invariant.1.geometry;
-    }
+    party_seat scene number [] c.split_seat-seat.result.me (no_step scene number c.split_seat-seat.result.me seated)
+    (omega (arith, c.requires.parties))
+    (subst (λ (p : SharedPool). IsPoolGeometry p.scene.geometry) c.self.view_is c.self.invariant.1.geometry)
 
 pub loop-number-preserved : goal.loop-number-preserved
 loop-number-preserved c =
@@ -45,7 +40,7 @@ loop-number-preserved c =
     let is = before.rest
     ∙ ap (λ (parties : List NumberedLog). (standing_for scene parties, [])) (fresh_more number count (omega arith)) in
     let seated = split.4 ∙ ap (λ (m : Me ℕ SeatView). (first_of m.0, [])) is in
-    let value : PoolParty = party_of c.split_seat-seat.result.table_id c.split_seat-seat.result.me number in
+    let value : PoolParty = party_in c.split_seat-seat.result.table_id number c.split_seat-seat.result.me.0 in
     let value_is : value ≡ fresh_party pool number = λ j. record {
       allocator = record { table = (split.3 ∙ before.table) j; scene = ap (λ (m : Me ℕ SeatView). m.0.scene) seated j };
       number = number;

@@ -13,9 +13,9 @@ compare_exchange-found-requires c =
     let words = c.self.invariant.1 in
     let below = rw (← c.self.view_is) at c.requires.below in
     let one_each = words.one_each (omega arith) in (
-      c.requires.seat.of_table ∙ sym (ap (λ (p : SharedPool). p.table) c.self.view_is),
+      c.requires.table ∙ sym (ap (λ (p : SharedPool). p.table) c.self.view_is),
       omega arith,
       tries_as c.self.inside.table.shared.key _ _ (number_of me.0) c.args.bucket (view_log me.0) me
-          (c.requires.seat.alone ∙ ap (λ (s : PoolScene). (alone s (number_of me.0) (view_log me.0), [])) (sym key))
+          (c.requires.seat.is ∙ ap (λ (s : PoolScene). (alone s (number_of me.0) (view_log me.0), [])) (sym key))
           (subst (λ (s : PoolScene). c.args.bucket < s.geometry.buckets) (sym key) c.requires.below) c.requires.next,
     )
