@@ -10,10 +10,10 @@ use Rattle.memrun.specs.Sending.{AppendsPart}
 use Rattle.memrun.proofs.Appending.{appends_again}
 use Rattle.memrun.proofs.Sends.{begins_after, begins_all}
 use Rattle.memrun.specs.Transcript.{IsTold, IsPlayed, IsSoFar, IsBegun}
-use Rattle.memrun.specs.declared.machine.Machine.{Ghosts}
+use Rattle.memrun.specs.Rules.{Rules}
 
 -- what is told, one batch longer
-pub IsTold-push : {S O C R : Type 0} (machine : Ghosts S O C R) (old mid new : S) (batches : List (List C)) (batch : List C) (text : List ℕ) (replies : List R) →
+pub IsTold-push : {S O C R : Type 0} (machine : Rules S O C R) (old mid new : S) (batches : List (List C)) (batch : List C) (text : List ℕ) (replies : List R) →
     IsTold machine old batches text mid → machine.runs mid batch replies new →
     IsTold machine old (batches ++ batch ∷ []) (text ++ (flat_map machine.reply_text replies ++ machine.state_text new)) new
 IsTold-push machine old mid new [] batch text replies (same, none) step =
@@ -37,7 +37,7 @@ IsTold-push machine old mid new (b ∷ batches) batch text replies (m, rs, rest,
     )
 
 -- what is told up to an index, and of the batch there
-pub told_more : {S O C R : Type 0} (machine : Ghosts S O C R) (start mid end : S) (shown : List (List C)) (index : ℕ) (batch : List C) (text : List ℕ) (replies : List R) →
+pub told_more : {S O C R : Type 0} (machine : Rules S O C R) (start mid end : S) (shown : List (List C)) (index : ℕ) (batch : List C) (text : List ℕ) (replies : List R) →
     slice_get shown index ≡ Some batch → IsTold machine start (take index shown) text mid → machine.runs mid batch replies end →
     IsTold machine start (take (index + 1) shown) (text ++ (flat_map machine.reply_text replies ++ machine.state_text end)) end
 told_more machine start mid end shown index batch text replies here told run =
@@ -47,20 +47,20 @@ told_more machine start mid end shown index batch text replies here told run =
     rw longer (IsTold-push machine start mid end (take index shown) batch text replies told run)
 
 -- what is told of all batches that are shown, and of the last
-pub played : {S O C R : Type 0} (machine : Ghosts S O C R) (start mid end : S) (script : Batches C) (index : ℕ) (text : List ℕ) (replies : List R) →
+pub played : {S O C R : Type 0} (machine : Rules S O C R) (start mid end : S) (script : Batches C) (index : ℕ) (text : List ℕ) (replies : List R) →
     length script.shown ≤ index → IsTold machine start (take index script.shown) text mid → machine.runs mid script.last replies end →
     IsPlayed machine start script (text ++ flat_map machine.reply_text replies) end
 played machine start mid end script index text replies past told run =
     (mid, text, replies, rw (take_all index script.shown past) at told, run, refl)
 
 -- what is sent of a part begins what is told so far
-pub begun_part : {S O C R : Type 0} (machine : Ghosts S O C R) (start end : S) (script : Batches C) (old mid new : Option (List ℕ)) (whole front part rest : List ℕ) →
+pub begun_part : {S O C R : Type 0} (machine : Rules S O C R) (start end : S) (script : Batches C) (old mid new : Option (List ℕ)) (whole front part rest : List ℕ) →
     whole ≡ front ++ (part ++ rest) → IsSoFar machine start script whole end → Appends old mid front → AppendsPart mid new part →
     (sent : List ℕ) × IsBegun machine start script sent × Appends old new sent
 begun_part machine start end script old mid new whole front part rest same so_far before (sent, begins, wrote) =
     (front ++ sent, (whole, end, rw same (begins_after front sent part rest begins), so_far), appends_again old mid new front sent before wrote)
 
 -- what is sent and is all of it begins it
-pub begun_all : {S O C R : Type 0} (machine : Ghosts S O C R) (start end : S) (script : Batches C) (old new : Option (List ℕ)) (whole : List ℕ) →
+pub begun_all : {S O C R : Type 0} (machine : Rules S O C R) (start end : S) (script : Batches C) (old new : Option (List ℕ)) (whole : List ℕ) →
     IsSoFar machine start script whole end → Appends old new whole → (sent : List ℕ) × IsBegun machine start script sent × Appends old new sent
 begun_all machine start end script old new whole so_far wrote = (whole, (whole, end, begins_all whole, so_far), wrote)

@@ -1,17 +1,15 @@
 -- Scripts that drive a bump.
-use Rattle.std.specs.Prelude.{ℕ, ◌≡◌, ◌-◌, List, [], ◌++◌, codes}
+use Rattle.std.specs.Prelude.{ℕ, ◌≡◌, ◌-◌, List, ◌++◌, codes}
 use Rattle.std.specs.Fmt.{decimal}
-use Rattle.bb_memory_base.specs.Region.{Region}
+use Rattle.bb_memory_base.specs.Region.{Region, IsRegion}
 use Rattle.bb_memory_base.specs.Chunk.{Chunk}
 use Rattle.bb_memory_base.specs.Run.{Step, IsRun}
 use Rattle.bb_memory_base.specs.BumpObject.{bump_object, StandsFor}
 use Rattle.bb_memory_base.specs.declared.allocator.Command.{Command}
 use Rattle.bb_memory_base.specs.declared.allocator.Reply.{Reply}
 use Rattle.bb_memory.specs.Bump.{Bump, bump_text}
-use Rattle.memrun.specs.Grammar.{IsLine, line_text}
-use Rattle.memrun.specs.LiveState.{LiveState}
-use Rattle.memrun.specs.Replies.{reply_line}
-use Rattle.memrun.specs.declared.machine.Machine.{Ghosts}
+use Rattle.memrun.specs.Grammar.{region_text}
+use Rattle.memrun.specs.LiveRules.{AllocatorRules}
 
 -- the replies are a run of the bump object over the bump's region, and the bump stands for the list that the run leaves
 pub record BumpRuns (old : Bump) (live : List Chunk) (commands : List Command) (replies : List Reply) (new : Bump) (left : List Chunk) : Type 0 where
@@ -29,13 +27,13 @@ abbrev pub bump_lines : Bump → List ℕ
 bump_lines bump =
     (bump_text bump ++ codes "\n") ++ figures_line bump.used (bump.region.size - bump.used) bump.region.size
 
--- a bump that a script drives: it begins with nothing used and nothing live
-abbrev pub bump_machine : Ghosts (LiveState Bump) Region Command Reply
-bump_machine = record {
-  is_line = IsLine;
-  line_text = line_text;
-  opens = λ region state. (state.allocator ≡ record { region = region; used = 0 }) × (state.live ≡ []);
-  runs = λ old commands replies new. BumpRuns old.allocator old.live commands replies new.allocator new.live;
-  reply_text = reply_line;
-  state_text = λ state. bump_lines state.allocator;
+-- a bump that a script drives: it begins with nothing used
+abbrev pub bump_rules : AllocatorRules Bump Region
+bump_rules = record {
+  name = codes "bump";
+  may_open = IsRegion;
+  opening_text = region_text;
+  opens = λ region bump. bump ≡ record { region = region; used = 0 };
+  runs = BumpRuns;
+  state_text = λ bump _. bump_lines bump;
 }

@@ -1,7 +1,7 @@
 -- Scripts that drive a bump world by its steps.
-use Rattle.std.specs.Prelude.{ℕ, ◌≡◌, List, ◌++◌, codes}
+use Rattle.std.specs.Prelude.{ℕ, ◌≡◌, List, ◌++◌, codes, true}
 use Rattle.std.specs.Fmt.{decimal}
-use Rattle.bb_memory_base.specs.Region.{Region}
+use Rattle.bb_memory_base.specs.Region.{Region, IsRegion}
 use Rattle.bb_memory_base.specs.Chunk.{Chunk}
 use Rattle.bb_memory_base.specs.BumpMachine.{BumpScene}
 use Rattle.bb_memory_base.specs.BumpWorld.{BumpWorld, opened, outcomes_of, after_steps}
@@ -10,11 +10,9 @@ use Rattle.bb_memory_base.specs.declared.steps.bump.BumpStep.{BumpStep}
 use Rattle.bb_memory_base.specs.declared.steps.bump.BumpStep.TheVariants.{Read, Exchange, Load, Clear}
 use Rattle.bb_memory_base.specs.declared.steps.bump.BumpOutcome.{BumpOutcome}
 use Rattle.bb_memory_base.specs.declared.steps.bump.BumpOutcome.TheVariants.{Sees, RefusedAtRead, Wins, Loses, RefusedAtLoss, Loaded, Cleared, Passed}
-use Rattle.memrun.specs.Grammar.{IsLayoutOfWords, layout_text}
+use Rattle.memrun.specs.Grammar.{IsLayoutOfWords, layout_text, region_text}
 use Rattle.memrun.specs.Parties.{parties, IsParty}
-use Rattle.memrun.specs.declared.machine.Machine.{Ghosts}
-use Rattle.memrun.specs.declared.script.Line.{Line}
-use Rattle.memrun.specs.declared.script.Line.TheVariants as line
+use Rattle.memrun.specs.Rules.{Rules}
 
 -- LINES
 
@@ -48,15 +46,6 @@ step_line (Read party layout) = read_line party layout
 step_line (Exchange party) = exchange_line party
 step_line (Load party) = load_line party
 step_line Clear = codes "clear"
-
--- a line after the first
-abbrev pub IsStepLine : Line BumpStep → Type 0
-IsStepLine (line.Command step) = IsStep step
-IsStepLine line.Show = Unit {0}
-
-abbrev pub step_line_text : Line BumpStep → List ℕ
-step_line_text (line.Command step) = step_line step
-step_line_text line.Show = codes "show"
 
 -- REPLIES
 
@@ -102,10 +91,14 @@ abbrev pub StepsRun : BumpWorld → List BumpStep → List BumpOutcome → BumpW
 StepsRun old steps outcomes new = (outcomes ≡ outcomes_of old steps) × (new ≡ after_steps old steps)
 
 -- a bump world that a script drives
-abbrev pub bump_world_machine : Ghosts BumpWorld Region BumpStep BumpOutcome
-bump_world_machine = record {
-  is_line = IsStepLine;
-  line_text = step_line_text;
+abbrev pub bump_step_rules : Rules BumpWorld Region BumpStep BumpOutcome
+bump_step_rules = record {
+  name = codes "steps-bump";
+  may_open = IsRegion;
+  opening_text = region_text;
+  is_command = IsStep;
+  command_line = step_line;
+  can_show = true;
   opens = λ region world. world ≡ opened (script_scene region);
   runs = StepsRun;
   reply_text = outcome_line;

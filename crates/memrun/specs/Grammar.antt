@@ -5,8 +5,6 @@ use Rattle.bb_memory_base.specs.declared.allocator.Command.{Command}
 use Rattle.bb_memory_base.specs.declared.allocator.Command.TheVariants.{Allocate, Release, Grow, Shrink}
 use Rattle.bb_memory_base.specs.declared.layout.Layout.{Layout}
 use Rattle.bb_memory_base.specs.Region.{Region}
-use Rattle.memrun.specs.declared.script.Line.{Line}
-use Rattle.memrun.specs.declared.script.Line.TheVariants as line
 
 -- a number of the machine
 abbrev pub IsWord : ℕ → Type 0
@@ -43,27 +41,6 @@ command_line (Release position) = codes "free " ++ decimal position
 command_line (Grow position old new) = codes "grow " ++ resize_text position old new
 command_line (Shrink position old new) = codes "shrink " ++ resize_text position old new
 
--- a line after the first
-abbrev pub IsLine : Line Command → Type 0
-IsLine (line.Command command) = IsCommandOfWords command
-IsLine line.Show = Unit {0}
-
-abbrev pub line_text : Line Command → List ℕ
-line_text (line.Command command) = command_line command
-line_text line.Show = codes "show"
-
 -- `START SIZE`
 abbrev pub region_text : Region → List ℕ
 region_text region = decimal region.start ++ (codes " " ++ decimal region.size)
-
--- the first line of a script that drives a bump
-abbrev pub bump_line : Region → List ℕ
-bump_line region = codes "bump " ++ region_text region
-
--- the first line of a script that drives a one chunk
-abbrev pub one_chunk_line : Region → List ℕ
-one_chunk_line region = codes "one " ++ region_text region
-
--- the first line of a script that drives a bump world by its steps
-abbrev pub bump_steps_line : Region → List ℕ
-bump_steps_line region = codes "steps-bump " ++ region_text region

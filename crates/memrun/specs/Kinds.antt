@@ -1,26 +1,20 @@
--- The first lines of scripts.
-use Rattle.std.specs.Prelude.{ℕ, List}
-use Rattle.bb_memory_base.specs.Region.{IsRegion}
-use Rattle.memrun.specs.Grammar.{bump_line, one_chunk_line, bump_steps_line}
-use Rattle.memrun.specs.PoolPlan.{IsPoolPlan, pool_line, fixed_pool_line}
-use Rattle.memrun.specs.PoolStepScript.{IsBucketCount, pool_steps_line}
-use Rattle.memrun.specs.declared.kind.Kind.{Kind}
-use Rattle.memrun.specs.declared.kind.Kind.TheVariants.{Bump, OneChunk, Pool, FixedPool, BumpSteps, PoolSteps}
+-- The kinds of scripts.
+use Rattle.std.specs.Prelude.{List, [], ◌∷◌}
+use Rattle.memrun.specs.BumpScript.{bump_rules}
+use Rattle.memrun.specs.BumpStepScript.{bump_step_rules}
+use Rattle.memrun.specs.FixedPoolScript.{fixed_pool_rules}
+use Rattle.memrun.specs.LiveRules.{live_rules}
+use Rattle.memrun.specs.OneChunkScript.{one_chunk_rules}
+use Rattle.memrun.specs.PoolScript.{pool_rules}
+use Rattle.memrun.specs.PoolStepScript.{pool_step_rules}
+use Rattle.memrun.specs.Rules.{Kind, kind}
 
--- the first line that writes a kind
-abbrev pub kind_line : Kind → List ℕ
-kind_line (Bump region) = bump_line region
-kind_line (OneChunk region) = one_chunk_line region
-kind_line (Pool plan) = pool_line plan
-kind_line (FixedPool plan) = fixed_pool_line plan
-kind_line (BumpSteps region) = bump_steps_line region
-kind_line (PoolSteps count) = pool_steps_line count
-
--- the condition on what it names
-abbrev pub IsKind : Kind → Type 0
-IsKind (Bump region) = IsRegion region
-IsKind (OneChunk region) = IsRegion region
-IsKind (Pool plan) = IsPoolPlan plan
-IsKind (FixedPool plan) = IsPoolPlan plan
-IsKind (BumpSteps region) = IsRegion region
-IsKind (PoolSteps count) = IsBucketCount count
+abbrev pub kinds : List Kind
+kinds =
+    kind (live_rules bump_rules)
+    ∷ kind (live_rules one_chunk_rules)
+    ∷ kind (live_rules pool_rules)
+    ∷ kind (live_rules fixed_pool_rules)
+    ∷ kind bump_step_rules
+    ∷ kind pool_step_rules
+    ∷ []

@@ -6,6 +6,7 @@ pub mod FixedPoolScript
 pub mod Grammar
 pub mod Kinds
 pub mod Lines
+pub mod LiveRules
 pub mod LiveState
 pub mod OneChunkScript
 pub mod Parties
@@ -14,6 +15,8 @@ pub mod PoolScript
 pub mod PoolStepScript
 pub mod Program
 pub mod Replies
+pub mod Rules
 pub mod Script
 pub mod Sending
+pub mod Table
 pub mod Transcript

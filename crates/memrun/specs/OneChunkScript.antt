@@ -1,7 +1,7 @@
 -- Scripts that drive a one chunk.
-use Rattle.std.specs.Prelude.{ℕ, ◌≡◌, List, [], ◌++◌, codes, Option, Some, None}
+use Rattle.std.specs.Prelude.{ℕ, ◌≡◌, List, ◌++◌, codes, Option, Some, None}
 use Rattle.std.specs.Fmt.{decimal}
-use Rattle.bb_memory_base.specs.Region.{Region}
+use Rattle.bb_memory_base.specs.Region.{Region, IsRegion}
 use Rattle.bb_memory_base.specs.Chunk.{Chunk}
 use Rattle.bb_memory_base.specs.Run.{IsRun}
 use Rattle.bb_memory_base.specs.ResizableObject.{ResizableStep}
@@ -9,10 +9,8 @@ use Rattle.bb_memory_base.specs.declared.allocator.Command.{Command}
 use Rattle.bb_memory_base.specs.declared.allocator.Reply.{Reply}
 use Rattle.bb_memory.specs.OneChunk.{OneChunk, StandsFor}
 use Rattle.bb_memory.specs.OneChunkObject.{one_chunk_object}
-use Rattle.memrun.specs.Grammar.{IsLine, line_text}
-use Rattle.memrun.specs.LiveState.{LiveState}
-use Rattle.memrun.specs.Replies.{reply_line}
-use Rattle.memrun.specs.declared.machine.Machine.{Ghosts}
+use Rattle.memrun.specs.Grammar.{region_text}
+use Rattle.memrun.specs.LiveRules.{AllocatorRules}
 
 -- the replies are a run of the one-chunk object over its region, and it stands for the list that the run leaves
 pub record OneChunkRuns (old : OneChunk) (live : List Chunk) (commands : List Command) (replies : List Reply) (new : OneChunk) (left : List Chunk) : Type 0 where
@@ -30,13 +28,13 @@ abbrev pub one_chunk_state : OneChunk → List ℕ
 one_chunk_state one =
     codes "one start " ++ (decimal one.region.start ++ (codes " size " ++ (decimal one.region.size ++ available_text one.kept)))
 
--- a one chunk that a script drives: it begins with nothing kept and nothing live
-abbrev pub one_chunk_machine : Ghosts (LiveState OneChunk) Region Command Reply
-one_chunk_machine = record {
-  is_line = IsLine;
-  line_text = line_text;
-  opens = λ region state. (state.allocator ≡ record { region = region; kept = None }) × (state.live ≡ []);
-  runs = λ old commands replies new. OneChunkRuns old.allocator old.live commands replies new.allocator new.live;
-  reply_text = reply_line;
-  state_text = λ state. one_chunk_state state.allocator;
+-- a one chunk that a script drives: it begins with nothing kept
+abbrev pub one_chunk_rules : AllocatorRules OneChunk Region
+one_chunk_rules = record {
+  name = codes "one";
+  may_open = IsRegion;
+  opening_text = region_text;
+  opens = λ region one. one ≡ record { region = region; kept = None };
+  runs = OneChunkRuns;
+  state_text = λ one _. one_chunk_state one;
 }

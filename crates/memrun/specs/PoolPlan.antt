@@ -22,11 +22,3 @@ IsPoolPlan plan = MayBeCut plan.region plan.bucket
 abbrev pub pool_plan_text : PoolPlan → List ℕ
 pool_plan_text plan =
     decimal plan.region.start ++ (codes " " ++ (decimal plan.region.size ++ (codes " " ++ layout_text plan.bucket)))
-
--- the first line of a script that drives a pool
-abbrev pub pool_line : PoolPlan → List ℕ
-pool_line plan = codes "pool " ++ pool_plan_text plan
-
--- the first line of a script that drives a fixed pool
-abbrev pub fixed_pool_line : PoolPlan → List ℕ
-fixed_pool_line plan = codes "fixed " ++ pool_plan_text plan

@@ -1,5 +1,5 @@
 -- Scripts that drive a pool.
-use Rattle.std.specs.Prelude.{ℕ, ◌≡◌, ◌≤◌, List, [], ◌++◌, codes, length}
+use Rattle.std.specs.Prelude.{ℕ, ◌≡◌, ◌≤◌, List, ◌++◌, codes}
 use Rattle.std.specs.Fmt.{decimal}
 use Rattle.bb_memory_base.specs.Chunk.{Chunk}
 use Rattle.bb_memory_base.specs.FirstPlace.{first_place}
@@ -11,11 +11,8 @@ use Rattle.bb_memory_base.specs.declared.allocator.Command.{Command}
 use Rattle.bb_memory_base.specs.declared.allocator.Reply.{Reply}
 use Rattle.bb_memory.specs.IndexWords.{index_words}
 use Rattle.bb_memory.specs.Pool.{Pool, StandsFor, fresh_pool, CountedPool, counted}
-use Rattle.memrun.specs.Grammar.{IsLine, line_text}
-use Rattle.memrun.specs.LiveState.{LiveState}
-use Rattle.memrun.specs.PoolPlan.{PoolPlan}
-use Rattle.memrun.specs.Replies.{reply_line}
-use Rattle.memrun.specs.declared.machine.Machine.{Ghosts}
+use Rattle.memrun.specs.PoolPlan.{PoolPlan, IsPoolPlan, pool_plan_text}
+use Rattle.memrun.specs.LiveRules.{AllocatorRules}
 
 -- the pool's region is cut into all the buckets that it has room for; none is held, and no index word was read
 abbrev pub BeginsPool : PoolPlan → CountedPool → Type 0
@@ -46,13 +43,13 @@ pool_state pool live =
     codes "pool start " ++ (decimal (first_place pool.pool.geometry.region pool.pool.geometry.bucket)
     ++ pool_figures pool.pool.geometry live (codes " reads " ++ (decimal pool.reads ++ codes "\n")))
 
--- a pool that a script drives: it begins with no bucket held and nothing live
-abbrev pub pool_machine : Ghosts (LiveState CountedPool) PoolPlan Command Reply
-pool_machine = record {
-  is_line = IsLine;
-  line_text = line_text;
-  opens = λ plan state. BeginsPool plan state.allocator × (state.live ≡ []);
-  runs = λ old commands replies new. CountedPoolRuns old.allocator old.live commands replies new.allocator new.live;
-  reply_text = reply_line;
-  state_text = λ state. pool_state state.allocator (length state.live);
+-- a pool that a script drives: it begins with no bucket held
+abbrev pub pool_rules : AllocatorRules CountedPool PoolPlan
+pool_rules = record {
+  name = codes "pool";
+  may_open = IsPoolPlan;
+  opening_text = pool_plan_text;
+  opens = BeginsPool;
+  runs = CountedPoolRuns;
+  state_text = pool_state;
 }

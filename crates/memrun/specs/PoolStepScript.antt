@@ -1,5 +1,5 @@
 -- Scripts that take the steps of a pool machine.
-use Rattle.std.specs.Prelude.{ℕ, ◌≡◌, ◌^◌, ◌<◌, ◌≤◌, List, ◌++◌, codes, Option, Some, None}
+use Rattle.std.specs.Prelude.{ℕ, ◌≡◌, ◌^◌, ◌<◌, ◌≤◌, List, ◌++◌, codes, Option, Some, None, true}
 use Rattle.std.specs.Fmt.{decimal}
 use Rattle.std.specs.List.{flat_map}
 use Rattle.bb_memory_base.specs.PoolMachine.{PoolState, pool_opening, pool_after, pool_history, outcomes_of}
@@ -8,9 +8,7 @@ use Rattle.bb_memory_base.specs.declared.steps.pool.PoolOutcome.TheVariants as o
 use Rattle.bb_memory_base.specs.declared.steps.pool.PoolStep.{PoolStep}
 use Rattle.bb_memory_base.specs.declared.steps.pool.PoolStep.TheVariants.{Try, GiveBack}
 use Rattle.memrun.specs.Parties.{parties, IsParty}
-use Rattle.memrun.specs.declared.machine.Machine.{Ghosts}
-use Rattle.memrun.specs.declared.script.Line.{Line}
-use Rattle.memrun.specs.declared.script.Line.TheVariants as line
+use Rattle.memrun.specs.Rules.{Rules}
 
 -- a number of buckets that a script may ask for
 abbrev pub IsBucketCount : ℕ → Type 0
@@ -28,10 +26,6 @@ abbrev pub IsStep : PoolStep → Type 0
 IsStep (Try party) = IsParty party
 IsStep (GiveBack party bucket) = IsGiving party bucket
 
--- the first line
-abbrev pub pool_steps_line : ℕ → List ℕ
-pool_steps_line count = codes "steps-pool " ++ decimal count
-
 abbrev pub try_line : ℕ → List ℕ
 try_line party = codes "try " ++ decimal party
 
@@ -46,15 +40,6 @@ give_line party bucket = codes "give " ++ giving_text party bucket
 abbrev pub step_line : PoolStep → List ℕ
 step_line (Try party) = try_line party
 step_line (GiveBack party bucket) = give_line party bucket
-
--- a line after the first
-abbrev pub IsStepLine : Line PoolStep → Type 0
-IsStepLine (line.Command step) = IsStep step
-IsStepLine line.Show = Unit {0}
-
-abbrev pub step_line_text : Line PoolStep → List ℕ
-step_line_text (line.Command step) = step_line step
-step_line_text line.Show = codes "show"
 
 -- the line of a reply
 abbrev pub outcome_line : PoolOutcome → List ℕ
@@ -80,10 +65,14 @@ pub record PoolRuns (old : PoolState) (steps : List PoolStep) (outcomes : List P
   pub state : new ≡ pool_after old steps
 
 -- a pool machine that a script drives: it begins with all flags free and all parties idle
-abbrev pub pool_world_machine : Ghosts PoolState ℕ PoolStep PoolOutcome
-pool_world_machine = record {
-  is_line = IsStepLine;
-  line_text = step_line_text;
+abbrev pub pool_step_rules : Rules PoolState ℕ PoolStep PoolOutcome
+pool_step_rules = record {
+  name = codes "steps-pool";
+  may_open = IsBucketCount;
+  opening_text = decimal;
+  is_command = IsStep;
+  command_line = step_line;
+  can_show = true;
   opens = λ count state. state ≡ pool_opening (record { buckets = count; parties = parties });
   runs = PoolRuns;
   reply_text = outcome_line;

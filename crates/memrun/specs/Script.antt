@@ -2,8 +2,8 @@
 use Rattle.std.specs.Prelude.{ℕ, ◌≡◌, List, [], ◌∷◌, ◌++◌, map, All, take, slice_get, Some}
 use Rattle.std.specs.List.{flat_map}
 use Rattle.memrun.specs.Batches.{Batches}
-use Rattle.memrun.specs.declared.script.Line.{Line}
-use Rattle.memrun.specs.declared.script.Line.TheVariants.{Command, Show}
+use Rattle.memrun.specs.declared.engine.script.Line.{Line}
+use Rattle.memrun.specs.declared.engine.script.Line.TheVariants.{Command, Show}
 
 -- the commands, and then a show
 abbrev pub shown_lines : {C : Type 0} → List C → List (Line C)

@@ -1,34 +1,13 @@
 //! Reads a script from standard input, drives an allocator or a machine by it, and writes a line for each reply.
 #![tactic(auto)]
 
-mod allocators;
-mod bounds;
-mod buckets;
-mod bump;
-mod bump_step_lines;
-mod bump_steps;
-mod commands;
 mod engine;
-mod fixed_pool;
-mod kind;
-mod lines;
-mod machine;
-mod number;
-mod one_chunk;
-mod parties;
-mod pool;
-mod pool_plan;
-mod pool_step_lines;
-mod pool_steps;
+mod kinds;
 mod program;
-mod reading;
-mod replies;
-mod script;
-mod sending;
 mod status;
 #[cfg(test)]
 mod tests;
-mod text;
+mod words;
 
 use program::run;
 use status::Status;

@@ -1,5 +1,5 @@
 //! The calls of the libraries, each row by its name.
-use crate::lines::lines_law;
+use crate::engine::lines::lines_law;
 use bb_memory::allocator::{
     AllocationError, AllocationGrowError, AllocationShrinkError, Allocator, Command, Reply,
     run_base,

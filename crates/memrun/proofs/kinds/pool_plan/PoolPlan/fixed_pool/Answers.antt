@@ -1,0 +1,8 @@
+use Rattle.std.proofs.Common.{subst}
+use Rattle.memrun.specs.PoolPlan.{PoolPlan}
+use Rattle.memrun.specs.FixedPoolScript.{BeginsFixedPool}
+use Rattle.memrun.proofs.kinds.pool_plan.PoolPlan.fixed_pool.Goals as goal
+
+pub returns-clause-begins : goal.returns-clause-begins
+returns-clause-begins c =
+    subst (λ (plan : PoolPlan). BeginsFixedPool plan c.new.result) c.self.view_is c.new.ensures.value
