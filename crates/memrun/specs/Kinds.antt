@@ -4,6 +4,7 @@ use Rattle.memrun.specs.BumpScript.{bump_rules}
 use Rattle.memrun.specs.BumpStepScript.{bump_step_rules}
 use Rattle.memrun.specs.FixedPoolScript.{fixed_pool_rules}
 use Rattle.memrun.specs.LiveRules.{live_rules}
+use Rattle.memrun.specs.LoanPoolScript.{loan_pool_rules}
 use Rattle.memrun.specs.OneChunkScript.{one_chunk_rules}
 use Rattle.memrun.specs.PoolScript.{pool_rules}
 use Rattle.memrun.specs.PoolStepScript.{pool_step_rules}
@@ -17,4 +18,5 @@ kinds =
     ∷ kind (live_rules fixed_pool_rules)
     ∷ kind bump_step_rules
     ∷ kind pool_step_rules
+    ∷ kind loan_pool_rules
     ∷ []

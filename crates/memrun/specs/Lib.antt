@@ -8,6 +8,7 @@ pub mod Kinds
 pub mod Lines
 pub mod LiveRules
 pub mod LiveState
+pub mod LoanPoolScript
 pub mod OneChunkScript
 pub mod Parties
 pub mod PoolPlan

@@ -6,6 +6,7 @@ pub mod bump;
 pub mod bump_steps;
 pub mod commands;
 pub mod fixed_pool;
+pub mod loan_pool;
 pub mod one_chunk;
 pub mod parties;
 pub mod pool;
@@ -16,6 +17,7 @@ pub mod replies;
 use crate::engine::driving::drive;
 use crate::engine::machine::Machine;
 use crate::kinds::allocators::Live;
+use crate::kinds::loan_pool::LoanPool;
 use crate::kinds::pool_steps::PoolSteps;
 use crate::status::Status;
 use bb_memory::bump_allocator::BumpAllocator;
@@ -34,7 +36,7 @@ pub type AllKinds = (
             Live<PoolAllocator<Global>>,
             (
                 Live<FixedSizePoolAllocator<512>>,
-                (BumpWorld, (PoolSteps, ())),
+                (BumpWorld, (PoolSteps, (LoanPool, ()))),
             ),
         ),
     ),

@@ -2,6 +2,7 @@
 mod calls;
 mod faults;
 mod heap_blocks;
+mod loan_scripts;
 mod loans;
 mod pool_rows;
 mod pools;

@@ -32,7 +32,8 @@ fn write_chunk<W: Write>(chunk: &Chunk, writer: &mut W) -> io::Result<()>
     writeln!(writer, "chunk {place} {len}")
 }
 
-fn write_refusal<W: Write>(error: &AllocationError, writer: &mut W) -> io::Result<()>
+/// Writes the line of a refused request.
+pub fn write_refusal<W: Write>(error: &AllocationError, writer: &mut W) -> io::Result<()>
     ensures { OnOk result
         (Appends (W.contents writer.old) (W.contents writer.new) (refusal_line error.now)) }
 {
