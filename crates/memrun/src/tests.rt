@@ -2,16 +2,19 @@
 mod calls;
 mod faults;
 mod heap_blocks;
+mod large_scripts;
 mod loan_scripts;
 mod loans;
 mod pool_rows;
 mod pools;
 mod refused_in_turn;
+mod refused_in_turn_scripts;
 mod regions;
 mod rows;
 mod shared_bumps;
 mod shared_pools;
 mod threads;
+mod writers;
 
 /// The script of row `bump-first-path`, and what it writes.
 const FIRST_PATH: &[u8] =
