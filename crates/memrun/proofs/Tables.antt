@@ -2,9 +2,9 @@
 use Rattle.std.proofs.Common.{◌≡◌, ◌==◌, ◌-◌, ℕ, zero, suc, true, List, [], ◌∷◌, ◌++◌, inl, inr, All, take, codes, not, Option, Some, None, IfSome, refl, sym, ap, ◌∙◌, arith, append_assoc}
 use Rattle.std.specs.Prelude.{slice_get}
 use Rattle.std.proofs.lemmas.Bool.{and_parts, or_cases, both_ways, not-true, eq-eqb}
-use Rattle.memrun.specs.Rules.{Rules, Kind, kind, SomeOf, first_line, apart, apart_from}
-use Rattle.memrun.specs.Table.{IsOpenedBy, IsScriptOf, AreReadable, Refuses, BeginsOutputOf}
-use Rattle.memrun.specs.Transcript.{IsLaterRefused, IsLineText, BeginsLaterOutput}
+use Rattle.memrun.specs.engine.Rules.{Rules, Kind, kind, SomeOf, first_line, apart, apart_from}
+use Rattle.memrun.specs.Table.{IsOpenedBy, IsScriptOf, AreReadable, IsUnreadableAt, BeginsOutputOf}
+use Rattle.memrun.specs.engine.Transcript.{IsLaterUnreadable, IsLineText, BeginsLaterOutput}
 
 -- texts that are apart begin no text both
 pub apart-never : (one other xs ys : List ℕ) → apart one other ≡ true → one ++ xs ≡ other ++ ys → ⊥
@@ -40,25 +40,25 @@ script_opened first rest (suc n) one (opening, after, opens, read) =
     (opening, rest, record { allowed = opens.allowed; cut = ap (λ l. l ∷ rest) head })
 
 -- a line of no kind is the first that is unreadable
-pub refused_first : (table : List Kind) (first : List ℕ) (rest : List (List ℕ)) → (SomeOf table (IsOpenedBy (first ∷ rest)) → ⊥) → Refuses table (first ∷ rest) 1
-refused_first table first rest none =
+pub unreadable_first : (table : List Kind) (first : List ℕ) (rest : List (List ℕ)) → (SomeOf table (IsOpenedBy (first ∷ rest)) → ⊥) → IsUnreadableAt table (first ∷ rest) 1
+unreadable_first table first rest none =
     (inl refl, λ readable. none (some-map table (IsScriptOf (take 1 (first ∷ rest))) (IsOpenedBy (first ∷ rest)) (script_opened first rest 1) readable))
 
 -- where there is no line it is the first too
-pub refused_empty : (table : List Kind) → Refuses table [] 1
-refused_empty table =
+pub unreadable_empty : (table : List Kind) → IsUnreadableAt table [] 1
+unreadable_empty table =
     (inl refl, some-none table (IsScriptOf []) (λ one (opening, after, opens, read). let cut : [] ≡ first_line one.rules opening ∷ after = opens.cut in cc))
 
--- what other kinds refuse is refused also with a kind more that doesn't read the first line
-pub refused_later : (one : Kind) (others : List Kind) (first : List ℕ) (rest : List (List ℕ)) (number : ℕ) → (IsOpenedBy (first ∷ rest) one → ⊥) → Refuses others (first ∷ rest) number → Refuses (one ∷ others) (first ∷ rest) number
-refused_later one others first rest number unopened (inl is, unread) = (
+-- a line that is the first unreadable one to other kinds is so also with a kind more that doesn't read the first line
+pub unreadable_later : (one : Kind) (others : List Kind) (first : List ℕ) (rest : List (List ℕ)) (number : ℕ) → (IsOpenedBy (first ∷ rest) one → ⊥) → IsUnreadableAt others (first ∷ rest) number → IsUnreadableAt (one ∷ others) (first ∷ rest) number
+unreadable_later one others first rest number unopened (inl is, unread) = (
   inl is,
   elim [
     | inl here ↦ unopened (script_opened first rest number one here)
     | inr there ↦ unread there
   ],
 )
-refused_later one others first rest number unopened (inr read, unread) = (
+unreadable_later one others first rest number unopened (inr read, unread) = (
   inr (inr read),
   elim [
     | inl here ↦ unopened (script_opened first rest number one here)
@@ -87,10 +87,10 @@ further_unread P (x ∷ xs) zero line got all = let same : x ≡ line = cc in rw
 further_unread P (x ∷ xs) (suc place) line got all = further_unread P xs place line got (λ k d below. all (suc k) d (omega (arith, below)))
 
 -- behind a first line of a kind that is apart from the others, the kind's first unreadable line is the first
-pub refused_here : {S O C R : Type 0} (rules : Rules S O C R) (others : List Kind) (opening : O) (first : List ℕ) (rest : List (List ℕ)) (number : ℕ)
-    → apart_from (rules.name ++ codes " ") others ≡ true → rules.may_open opening → first ≡ first_line rules opening → IsLaterRefused rules rest number
-    → Refuses (kind rules ∷ others) (first ∷ rest) number
-refused_here rules others opening first rest number test allowed e (place, (before, line, got, unread), is) =
+pub unreadable_here : {S O C R : Type 0} (rules : Rules S O C R) (others : List Kind) (opening : O) (first : List ℕ) (rest : List (List ℕ)) (number : ℕ)
+    → apart_from (rules.name ++ codes " ") others ≡ true → rules.may_open opening → first ≡ first_line rules opening → IsLaterUnreadable rules rest number
+    → IsUnreadableAt (kind rules ∷ others) (first ∷ rest) number
+unreadable_here rules others opening first rest number test allowed e (place, (before, line, got, unread), is) =
     let same : number ≡ suc (suc place) = omega (arith, is) in
     let less : number - 1 ≡ suc place = omega (arith, is) in
     let whole : first ≡ (rules.name ++ codes " ") ++ rules.opening_text opening = e ∙ sym (append_assoc rules.name (codes " ") (rules.opening_text opening)) in
@@ -114,14 +114,14 @@ pub begun_here : {S O C R : Type 0} (rules : Rules S O C R) (others : List Kind)
     → BeginsOutputOf (kind rules ∷ others) (first ∷ rest) sent
 begun_here rules others opening first rest sent test allowed e (inl begun) =
     inl (inl (opening, rest, record { allowed = allowed; cut = ap (λ l. l ∷ rest) e }, begun))
-begun_here rules others opening first rest sent test allowed e (inr (number, refused, begins)) =
-    inr (number, refused_here rules others opening first rest number test allowed e refused, begins)
+begun_here rules others opening first rest sent test allowed e (inr (number, is_unreadable, begins)) =
+    inr (number, unreadable_here rules others opening first rest number test allowed e is_unreadable, begins)
 
 pub begun_later : (one : Kind) (others : List Kind) (first : List ℕ) (rest : List (List ℕ)) (sent : List ℕ) → (IsOpenedBy (first ∷ rest) one → ⊥)
     → BeginsOutputOf others (first ∷ rest) sent → BeginsOutputOf (one ∷ others) (first ∷ rest) sent
 begun_later one others first rest sent unopened (inl begun) = inl (inr begun)
-begun_later one others first rest sent unopened (inr (number, refused, begins)) =
-    inr (number, refused_later one others first rest number unopened refused, begins)
+begun_later one others first rest sent unopened (inr (number, is_unreadable, begins)) =
+    inr (number, unreadable_later one others first rest number unopened is_unreadable, begins)
 
 -- a line that is read as no opening of a kind is none of its first lines
 pub unopened : {S O C R : Type 0} (rules : Rules S O C R) (first : List ℕ) (rest : List (List ℕ))

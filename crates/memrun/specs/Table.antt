@@ -1,10 +1,10 @@
 -- What is written of lines, by a table of kinds of scripts.
 use Rattle.std.specs.Prelude.{ℕ, ◌≡◌, ◌-◌, ◌⊎◌, List, ◌∷◌, All, take}
-use Rattle.memrun.specs.Rules.{Kind, SomeOf, first_line}
-use Rattle.memrun.specs.Sending.{Begins}
-use Rattle.memrun.specs.Transcript.{IsTranscript, IsBegunTranscript, IsLineText, refusal_text}
+use Rattle.memrun.specs.engine.Rules.{Kind, SomeOf, first_line}
+use Rattle.memrun.specs.engine.Sending.{Begins}
+use Rattle.memrun.specs.engine.Transcript.{IsTranscript, IsBegunTranscript, IsLineText, unreadable_text}
 
--- the lines are a first line of this kind, that says this of its machine, and the rest
+-- the lines are a first line of this kind, that says this of what is to be made, and the rest
 pub record Opens (kind : Kind) (lines : List (List ℕ)) (opening : kind.Opening) (rest : List (List ℕ)) : Type 0 where
   pub allowed : kind.rules.may_open opening
   pub cut : lines ≡ first_line kind.rules opening ∷ rest
@@ -38,8 +38,8 @@ AreReadable table lines = SomeOf table (IsScriptOf lines)
 
 -- the first unreadable line has this number, counted from 1:
 -- the lines before it are readable, where there are any, and with it they aren't
-abbrev pub Refuses : List Kind → List (List ℕ) → ℕ → Type 0
-Refuses table lines number =
+abbrev pub IsUnreadableAt : List Kind → List (List ℕ) → ℕ → Type 0
+IsUnreadableAt table lines number =
     ((number ≡ 1) ⊎ AreReadable table (take (number - 1) lines))
     × ¬ AreReadable table (take number lines)
 
@@ -47,4 +47,4 @@ Refuses table lines number =
 abbrev pub BeginsOutputOf : List Kind → List (List ℕ) → List ℕ → Type 0
 BeginsOutputOf table lines sent =
     SomeOf table (IsBegunBy lines sent)
-    ⊎ ((number : ℕ) × Refuses table lines number × Begins sent (refusal_text number))
+    ⊎ ((number : ℕ) × IsUnreadableAt table lines number × Begins sent (unreadable_text number))

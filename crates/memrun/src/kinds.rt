@@ -12,10 +12,9 @@ pub mod parties;
 pub mod pool;
 pub mod pool_plan;
 pub mod pool_steps;
-pub mod replies;
 
+use crate::engine::driven::Driven;
 use crate::engine::driving::drive;
-use crate::engine::machine::Machine;
 use crate::kinds::allocators::Live;
 use crate::kinds::loan_pool::LoanPool;
 use crate::kinds::pool_steps::PoolSteps;
@@ -27,30 +26,30 @@ use bb_memory::steps::BumpWorld;
 use std::alloc::Global;
 use std::io::Write;
 
-/// The kinds of scripts, in the order in which a first line is tried.
-pub type AllKinds = (
-    Live<BumpAllocator>,
-    (
-        Live<OneChunkAllocator>,
-        (
-            Live<PoolAllocator<Global>>,
-            (
-                Live<FixedSizePoolAllocator<512>>,
-                (BumpWorld, (PoolSteps, (LoanPool, ()))),
-            ),
-        ),
-    ),
-);
+/// The kinds of scripts, in the order in which a first line is tried: a row for each, and then the rows behind it.
+pub type AllKinds = (Live<BumpAllocator>, FromOneChunk);
+
+type FromOneChunk = (Live<OneChunkAllocator>, FromPool);
+
+type FromPool = (Live<PoolAllocator<Global>>, FromFixedPool);
+
+type FromFixedPool = (Live<FixedSizePoolAllocator<512>>, FromBumpSteps);
+
+type FromBumpSteps = (BumpWorld, FromPoolSteps);
+
+type FromPoolSteps = (PoolSteps, FromLoanPool);
+
+type FromLoanPool = (LoanPool, ());
 
 /// Kinds of scripts, one after another.
 pub trait Kinds {
     ghost use Rattle.std.specs.Prelude.{◌≡◌, ◌≢◌, ◌⊎◌, ◌∷◌, ℕ, List, IfNone, IfSome, true};
     ghost use Rattle.std.specs.Io.KnownBytes.{Keeps, Appends};
-    ghost use Rattle.memrun.specs.Ending.{IsCutShort};
-    ghost use Rattle.memrun.specs.Lines.{lines_of};
-    ghost use Rattle.memrun.specs.Rules.{Kind, SomeOf, are_apart};
-    ghost use Rattle.memrun.specs.Table.{IsOpenedBy, IsAnsweredBy, Refuses, BeginsOutputOf};
-    ghost use Rattle.memrun.specs.Transcript.{refusal_text};
+    ghost use Rattle.memrun.specs.Status.{IsCutShort};
+    ghost use Rattle.memrun.specs.engine.Lines.{lines_of};
+    ghost use Rattle.memrun.specs.engine.Rules.{Kind, SomeOf, are_apart};
+    ghost use Rattle.memrun.specs.Table.{IsOpenedBy, IsAnsweredBy, IsUnreadableAt, BeginsOutputOf};
+    ghost use Rattle.memrun.specs.engine.Transcript.{unreadable_text};
     ghost use Rattle.memrun.specs.declared.status.Status.TheVariants.{Done, Unreadable, InputFailed};
 
     ghost table: { List Kind };
@@ -65,8 +64,8 @@ pub trait Kinds {
             × SomeOf table (IsAnsweredBy (first.now ∷ lines_of rest.now) text)
             × Appends (W.contents writer.old) (W.contents writer.new) text) }
         ensures unreadable { IfSome result (λ status. status ≡ Unreadable → (number : ℕ)
-            × Refuses table (first.now ∷ lines_of rest.now) number
-            × Appends (W.contents writer.old) (W.contents writer.new) (refusal_text number)) }
+            × IsUnreadableAt table (first.now ∷ lines_of rest.now) number
+            × Appends (W.contents writer.old) (W.contents writer.new) (unreadable_text number)) }
         ensures cut_short { IfSome result (λ status. IsCutShort status
             → Keeps (W.contents writer.old) (W.contents writer.new)
             ⊎ ((sent : List ℕ)
@@ -85,9 +84,9 @@ impl Kinds for () {
     }
 }
 
-impl<K: Machine, Others: Kinds> Kinds for (K, Others) {
+impl<K: Driven, Others: Kinds> Kinds for (K, Others) {
     ghost use Rattle.std.specs.Prelude.{◌∷◌};
-    ghost use Rattle.memrun.specs.Rules.{kind};
+    ghost use Rattle.memrun.specs.engine.Rules.{kind};
 
     ghost table = { kind K.rules ∷ Others.table };
 

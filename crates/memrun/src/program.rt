@@ -1,11 +1,11 @@
 //! From the bytes of a script to the bytes that it is answered.
 ghost use Rattle.std.specs.Prelude.{◌≡◌, ◌≢◌, ◌⊎◌, ℕ, List, IfOk, IfErr};
 ghost use Rattle.std.specs.Io.KnownBytes.{Keeps, Appends};
-ghost use Rattle.memrun.specs.Ending.{IsCutShort};
-ghost use Rattle.memrun.specs.Program.{IsAnswered, IsRefused, BeginsOutput, Gives};
-ghost use Rattle.memrun.specs.Transcript.{refusal_text};
+ghost use Rattle.memrun.specs.Status.{IsCutShort};
+ghost use Rattle.memrun.specs.Program.{IsAnswered, IsUnreadable, BeginsOutput, Gives};
+ghost use Rattle.memrun.specs.engine.Transcript.{unreadable_text};
 
-use crate::engine::driving::refuse;
+use crate::engine::driving::tell_unreadable;
 use crate::engine::lines::first_line;
 use crate::kinds::{AllKinds, Kinds};
 use crate::status::Status;
@@ -19,8 +19,8 @@ pub fn run<R: Read + Drop, W: Write>(alloc: Global, reader: R, writer: &mut W) -
         × Gives (R.remaining reader) input × IsAnswered input text
         × Appends (W.contents writer.old) (W.contents writer.new) text }
     ensures unreadable { result ≡ Status.Unreadable → (input : List ℕ) × (number : ℕ)
-        × Gives (R.remaining reader) input × IsRefused input number
-        × Appends (W.contents writer.old) (W.contents writer.new) (refusal_text number) }
+        × Gives (R.remaining reader) input × IsUnreadable input number
+        × Appends (W.contents writer.old) (W.contents writer.new) (unreadable_text number) }
     ensures input_failed { result ≡ Status.InputFailed
         → Keeps (W.contents writer.old) (W.contents writer.new) }
     ensures cut_short { IsCutShort result → Keeps (W.contents writer.old) (W.contents writer.new)
@@ -61,18 +61,18 @@ fn input_status(e: &io::Error) -> Status
 fn run_input<W: Write>(alloc: Global, input: &[u8], writer: &mut W) -> Status
     ensures done { result ≡ Status.Done → (text : List ℕ) × IsAnswered input.now text
         × Appends (W.contents writer.old) (W.contents writer.new) text }
-    ensures unreadable { result ≡ Status.Unreadable → (number : ℕ) × IsRefused input.now number
-        × Appends (W.contents writer.old) (W.contents writer.new) (refusal_text number) }
+    ensures unreadable { result ≡ Status.Unreadable → (number : ℕ) × IsUnreadable input.now number
+        × Appends (W.contents writer.old) (W.contents writer.new) (unreadable_text number) }
     ensures cut_short { IsCutShort result → Keeps (W.contents writer.old) (W.contents writer.new)
         ⊎ ((sent : List ℕ) × BeginsOutput input.now sent
         × Appends (W.contents writer.old) (W.contents writer.new) sent) }
     ensures input_read { result ≢ Status.InputFailed }
 {
     let Some((first, rest)) = first_line(input) else {
-        return refuse(alloc, 1, writer);
+        return tell_unreadable(alloc, 1, writer);
     };
     match AllKinds::run(alloc, first, rest, writer) {
         Some(status) => status,
-        None => refuse(alloc, 1, writer),
+        None => tell_unreadable(alloc, 1, writer),
     }
 }

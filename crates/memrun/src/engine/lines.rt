@@ -1,7 +1,7 @@
 //! The lines of an input.
 ghost use Rattle.std.specs.Prelude.{◌≡◌, ◌==◌, ◌<◌, ◌∷◌, [], List, ℕ, length, IfNone, IfSome};
 ghost use Rattle.std.specs.List.{position};
-ghost use Rattle.memrun.specs.Lines.{lines_of, AreLines};
+ghost use Rattle.memrun.specs.engine.Lines.{lines_of, AreLines};
 
 /// What the lines of an input are.
 pub fn lines_law()

@@ -1,7 +1,7 @@
 //! Scripts: the commands after the first line, cut at each `show`.
 ghost use Rattle.std.specs.Prelude.{◌≡◌, ◌<◌, ◌≤◌, ◌∷◌, ◌++◌, [], length, OnOk, OnErr, slice_get, slice_index, slice_range, Some};
-ghost use Rattle.memrun.specs.Batches.{batches_from, AreInOrder};
-ghost use Rattle.memrun.specs.Script.{script_lines};
+ghost use Rattle.memrun.specs.engine.Batches.{batches_from, AreInOrder};
+ghost use Rattle.memrun.specs.engine.Script.{script_lines};
 
 use std::alloc::{AllocError, Global};
 use std::marker::Model;
@@ -23,7 +23,7 @@ pub struct Script<C> {
 
 impl<C> Model for Script<C> {
     ghost use Rattle.std.specs.Prelude.{drop, length};
-    ghost use Rattle.memrun.specs.Batches.{Batches, batches_from, last_place, AreInOrder};
+    ghost use Rattle.memrun.specs.engine.Batches.{Batches, batches_from, last_place, AreInOrder};
 
     ghost Value = { Batches C };
 

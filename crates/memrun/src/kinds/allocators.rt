@@ -1,8 +1,7 @@
 //! Allocators that a script drives.
 
-use crate::engine::machine::Machine;
-use crate::kinds::commands::read_command;
-use crate::kinds::replies::write_reply;
+use crate::engine::driven::Driven;
+use crate::kinds::commands::{read_command, write_reply};
 use bb_memory::allocator::{BaseAllocator, Command, Reply};
 use bb_memory::layout::Chunk;
 use std::alloc::{AllocError, Global};
@@ -14,8 +13,8 @@ use std::marker::Model;
 pub trait Scripted: BaseAllocator + Drop {
     ghost use Rattle.std.specs.Prelude.{◌≡◌, [], Some, OnOk, OnErr, IfOk, IfSome};
     ghost use Rattle.std.specs.Io.KnownBytes.{Appends};
-    ghost use Rattle.memrun.specs.LiveRules.{AllocatorRules, live_rules};
-    ghost use Rattle.memrun.specs.Rules.{first_line};
+    ghost use Rattle.memrun.specs.kinds.Allocators.{AllocatorRules, live_rules};
+    ghost use Rattle.memrun.specs.engine.Rules.{first_line};
 
     /// What the first line of a script says of it.
     type Opening: Drop;
@@ -55,7 +54,7 @@ pub struct Live<A: Scripted> {
 }
 
 impl<A: Scripted> Model for Live<A> {
-    ghost use Rattle.memrun.specs.LiveState.{LiveState};
+    ghost use Rattle.memrun.specs.kinds.Allocators.{LiveState};
 
     ghost Value = { LiveState A };
 
@@ -64,8 +63,8 @@ impl<A: Scripted> Model for Live<A> {
     ghost invariant = { λ a. A.stands_for a.allocator a.live.items };
 }
 
-impl<A: Scripted> Machine for Live<A> {
-    ghost use Rattle.memrun.specs.LiveRules.{live_rules};
+impl<A: Scripted> Driven for Live<A> {
+    ghost use Rattle.memrun.specs.kinds.Allocators.{live_rules};
 
     type Opening = A::Opening;
 

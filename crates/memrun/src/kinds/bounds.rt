@@ -5,11 +5,11 @@ ghost use Rattle.bb_memory_base.specs.Region.{Region, IsRegion, region_at};
 ghost use Rattle.bb_memory_base.specs.BumpWorld.{opened};
 ghost use Rattle.bb_memory_base.specs.BumpObject.{StandsFor as BumpStandsFor};
 ghost use Rattle.bb_memory.specs.OneChunk.{StandsFor as OneChunkStandsFor};
-ghost use Rattle.memrun.specs.BumpStepScript.{script_scene};
-ghost use Rattle.memrun.specs.Grammar.{region_text};
+ghost use Rattle.memrun.specs.kinds.BumpSteps.{script_scene};
+ghost use Rattle.memrun.specs.kinds.Bounds.{region_text};
 
+use crate::fields::{number, number_and_rest};
 use crate::kinds::parties::PARTIES;
-use crate::words::{number, number_and_rest};
 use bb_memory::bump_allocator::BumpAllocator;
 use bb_memory::one_chunk_allocator::OneChunkAllocator;
 use bb_memory::steps::BumpWorld;

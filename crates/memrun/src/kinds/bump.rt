@@ -2,7 +2,7 @@
 ghost use Rattle.std.specs.Prelude.{◌++◌, codes, OnOk};
 ghost use Rattle.std.specs.Io.KnownBytes.{Appends};
 ghost use Rattle.bb_memory.specs.Bump.{bump_text};
-ghost use Rattle.memrun.specs.BumpScript.{figures_line};
+ghost use Rattle.memrun.specs.kinds.Bump.{figures_line};
 
 use crate::kinds::allocators::Scripted;
 use crate::kinds::bounds::Bounds;
@@ -14,7 +14,7 @@ use std::io;
 use std::io::Write;
 
 impl Scripted for BumpAllocator {
-    ghost use Rattle.memrun.specs.BumpScript.{bump_rules};
+    ghost use Rattle.memrun.specs.kinds.Bump.{bump_rules};
 
     type Opening = Bounds;
 

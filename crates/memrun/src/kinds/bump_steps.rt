@@ -1,23 +1,23 @@
 //! A bump world that a script drives by its steps.
 ghost use Rattle.std.specs.Prelude.{OnOk, ◌≡◌, ℕ, IfSome, Some};
 ghost use Rattle.std.specs.Io.KnownBytes.{Appends};
-ghost use Rattle.memrun.specs.BumpStepScript.{outcome_line, wins_line, IsPartyRead, IsStep, exchange_line, load_line, party_read_text, read_line, step_line};
+ghost use Rattle.memrun.specs.kinds.BumpSteps.{outcome_line, wins_line, IsPartyRead, IsStep, exchange_line, load_line, party_read_text, read_line, step_line};
 ghost use Rattle.bb_memory_base.specs.declared.layout.Layout.{Layout};
 ghost use Rattle.bb_memory_base.specs.declared.steps.bump.BumpStep.{BumpStep};
-ghost use Rattle.memrun.specs.Parties.{IsParty};
+ghost use Rattle.memrun.specs.kinds.Parties.{IsParty};
 
-use crate::engine::machine::Machine;
+use crate::engine::driven::Driven;
+use crate::fields::{layout, number_and_rest};
 use crate::kinds::bounds::Bounds;
 use crate::kinds::parties::{party_of, read_party};
-use crate::words::{layout, number_and_rest};
 use bb_memory::layout::{Chunk, Layout};
 use bb_memory::steps::{BumpOutcome, BumpStep, BumpWorld};
 use std::alloc::{AllocError, Global};
 use std::io;
 use std::io::Write;
 
-impl Machine for BumpWorld {
-    ghost use Rattle.memrun.specs.BumpStepScript.{bump_step_rules};
+impl Driven for BumpWorld {
+    ghost use Rattle.memrun.specs.kinds.BumpSteps.{bump_step_rules};
 
     type Opening = Bounds;
 

@@ -10,7 +10,7 @@ use std::io;
 use std::io::Write;
 
 impl Scripted for FixedSizePoolAllocator<512> {
-    ghost use Rattle.memrun.specs.FixedPoolScript.{fixed_pool_rules};
+    ghost use Rattle.memrun.specs.kinds.FixedPool.{fixed_pool_rules};
 
     type Opening = PoolPlan;
 

@@ -4,13 +4,13 @@ ghost use Rattle.std.specs.Fmt.{decimal};
 ghost use Rattle.std.specs.Io.KnownBytes.{Appends};
 ghost use Rattle.std.specs.Option.{SomeIff};
 ghost use Rattle.loan_book.specs.declared.run.LoanCall.{LoanCall};
-ghost use Rattle.memrun.specs.Grammar.{IsWord};
-ghost use Rattle.memrun.specs.LoanPoolScript.{IsCall, IsPublishing, answer_line, back_line, call_line, loan_line, loan_refusal_line, loan_reply_line, loaned_line, out_line, publish_line, publishing_text};
+ghost use Rattle.memrun.specs.Fields.{IsNumber};
+ghost use Rattle.memrun.specs.kinds.LoanPool.{IsCall, IsPublishing, answer_line, back_line, call_line, loan_line, loan_refusal_line, loan_reply_line, loaned_line, out_line, publish_line, publishing_text};
 
-use crate::engine::machine::Machine;
+use crate::engine::driven::Driven;
+use crate::fields::{number, number_and_rest};
+use crate::kinds::commands::write_refusal;
 use crate::kinds::pool_plan::PoolPlan;
-use crate::kinds::replies::write_refusal;
-use crate::words::{number, number_and_rest};
 use bb_memory::layout::Chunk;
 use bb_memory::pool_allocator::PoolAllocator;
 use loan_book::{LoanBook, LoanCall, LoanError, LoanReply, run_loans};
@@ -35,8 +35,8 @@ impl Model for LoanPool {
     ghost view = { λ a. a.book };
 }
 
-impl Machine for LoanPool {
-    ghost use Rattle.memrun.specs.LoanPoolScript.{loan_pool_rules};
+impl Driven for LoanPool {
+    ghost use Rattle.memrun.specs.kinds.LoanPool.{loan_pool_rules};
 
     type Opening = PoolPlan;
 
@@ -102,8 +102,8 @@ fn read_call(line: &[u8]) -> Option<LoanCall>
 
 /// The size that this line asks a loan of.
 fn read_loan(line: &[u8]) -> Option<usize>
-    ensures written { IfSome result (λ size. IsWord size × (line.now ≡ loan_line size)) }
-    ensures each { (size : ℕ) → IsWord size → line.now ≡ loan_line size → result ≡ Some size }
+    ensures written { IfSome result (λ size. IsNumber size × (line.now ≡ loan_line size)) }
+    ensures each { (size : ℕ) → IsNumber size → line.now ≡ loan_line size → result ≡ Some size }
 {
     number(line.strip_prefix(b"loan ")?)
 }
@@ -120,24 +120,24 @@ fn read_publish(line: &[u8]) -> Option<(u64, u32)>
 
 /// The id that this line gives back.
 fn read_back(line: &[u8]) -> Option<u64>
-    ensures written { IfSome result (λ id. IsWord id × (line.now ≡ back_line id)) }
-    ensures each { (id : ℕ) → IsWord id → line.now ≡ back_line id → result ≡ Some id }
+    ensures written { IfSome result (λ id. IsNumber id × (line.now ≡ back_line id)) }
+    ensures each { (id : ℕ) → IsNumber id → line.now ≡ back_line id → result ≡ Some id }
 {
     id(line.strip_prefix(b"back ")?)
 }
 
 /// The id that this line asks after.
 fn read_out(line: &[u8]) -> Option<u64>
-    ensures written { IfSome result (λ id. IsWord id × (line.now ≡ out_line id)) }
-    ensures each { (id : ℕ) → IsWord id → line.now ≡ out_line id → result ≡ Some id }
+    ensures written { IfSome result (λ id. IsNumber id × (line.now ≡ out_line id)) }
+    ensures each { (id : ℕ) → IsNumber id → line.now ≡ out_line id → result ≡ Some id }
 {
     id(line.strip_prefix(b"out ")?)
 }
 
 /// The id that this text names.
 fn id(text: &[u8]) -> Option<u64>
-    ensures written { IfSome result (λ id. IsWord id × (text.now ≡ decimal id)) }
-    ensures each { (id : ℕ) → IsWord id → text.now ≡ decimal id → result ≡ Some id }
+    ensures written { IfSome result (λ id. IsNumber id × (text.now ≡ decimal id)) }
+    ensures each { (id : ℕ) → IsNumber id → text.now ≡ decimal id → result ≡ Some id }
 {
     Some(number(text)? as u64)
 }

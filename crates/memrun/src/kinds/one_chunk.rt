@@ -10,7 +10,7 @@ use std::io;
 use std::io::Write;
 
 impl Scripted for OneChunkAllocator {
-    ghost use Rattle.memrun.specs.OneChunkScript.{one_chunk_rules};
+    ghost use Rattle.memrun.specs.kinds.OneChunk.{one_chunk_rules};
 
     type Opening = Bounds;
 

@@ -2,9 +2,9 @@
 ghost use Rattle.std.specs.Prelude.{◌≡◌, ℕ, IfSome, Some};
 ghost use Rattle.std.specs.Option.{SomeIff};
 ghost use Rattle.std.specs.Fmt.{decimal};
-ghost use Rattle.memrun.specs.Parties.{IsParty};
+ghost use Rattle.memrun.specs.kinds.Parties.{IsParty};
 
-use crate::words::number;
+use crate::fields::number;
 
 /// How many there are.
 pub const PARTIES: u32 = 64;

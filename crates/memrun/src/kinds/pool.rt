@@ -10,7 +10,7 @@ use std::io;
 use std::io::Write;
 
 impl Scripted for PoolAllocator<Global> {
-    ghost use Rattle.memrun.specs.PoolScript.{pool_rules};
+    ghost use Rattle.memrun.specs.kinds.Pool.{pool_rules};
 
     type Opening = PoolPlan;
 

@@ -3,11 +3,11 @@ ghost use Rattle.std.specs.Prelude.{◌≡◌, IfOk, IfSome, Some, []};
 ghost use Rattle.std.specs.Option.{SomeIff};
 ghost use Rattle.bb_memory_base.specs.Region.{region_at};
 ghost use Rattle.bb_memory.specs.Pool.{MayBeCut, StandsFor};
-ghost use Rattle.memrun.specs.FixedPoolScript.{BeginsFixedPool};
-ghost use Rattle.memrun.specs.PoolPlan.{PoolPlan, IsPoolPlan, pool_plan, pool_plan_text};
-ghost use Rattle.memrun.specs.PoolScript.{BeginsPool};
+ghost use Rattle.memrun.specs.kinds.FixedPool.{BeginsFixedPool};
+ghost use Rattle.memrun.specs.kinds.PoolPlan.{PoolPlan, IsPoolPlan, pool_plan, pool_plan_text};
+ghost use Rattle.memrun.specs.kinds.Pool.{BeginsPool};
 
-use crate::words::{layout, number_and_rest};
+use crate::fields::{layout, number_and_rest};
 use bb_memory::layout::Layout;
 use bb_memory::pool_allocator::{FixedSizePoolAllocator, PoolAllocator};
 use std::alloc::{AllocError, Global};
@@ -24,7 +24,7 @@ pub struct PoolPlan {
 impl Model for PoolPlan {
     ghost use Rattle.bb_memory_base.specs.Region.{region_at};
     ghost use Rattle.bb_memory.specs.Pool.{MayBeCut};
-    ghost use Rattle.memrun.specs.PoolPlan.{PoolPlan, pool_plan};
+    ghost use Rattle.memrun.specs.kinds.PoolPlan.{PoolPlan, pool_plan};
 
     ghost Value = { PoolPlan };
 

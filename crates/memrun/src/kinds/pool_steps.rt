@@ -1,16 +1,16 @@
 //! A pool machine that a script drives.
 ghost use Rattle.std.specs.Prelude.{◌≡◌, ℕ, IfSome, Some, OnOk};
 ghost use Rattle.std.specs.Fmt.{decimal};
-ghost use Rattle.memrun.specs.PoolStepScript.{IsBucketCount, holder_text, outcome_line, IsBucket, IsGiving, IsStep, try_line, giving_text, give_line, step_line};
+ghost use Rattle.memrun.specs.kinds.PoolSteps.{IsBucketCount, holder_text, outcome_line, IsBucket, IsGiving, IsStep, try_line, giving_text, give_line, step_line};
 ghost use Rattle.std.specs.Io.KnownBytes.{Appends};
 ghost use Rattle.std.specs.List.{flat_map};
 ghost use Rattle.std.specs.Option.{SomeIff};
 ghost use Rattle.bb_memory_base.specs.declared.steps.pool.PoolStep.{PoolStep};
-ghost use Rattle.memrun.specs.Parties.{IsParty};
+ghost use Rattle.memrun.specs.kinds.Parties.{IsParty};
 
-use crate::engine::machine::Machine;
+use crate::engine::driven::Driven;
+use crate::fields::{number, number_and_rest};
 use crate::kinds::parties::{PARTIES, party_of, read_party};
-use crate::words::{number, number_and_rest};
 use bb_memory::steps::{PoolOutcome, PoolStep, PoolWorld};
 use std::alloc::{AllocError, Global};
 use std::io;
@@ -28,7 +28,7 @@ pub struct Buckets {
 
 impl Model for Buckets {
     ghost use Rattle.std.specs.Prelude.{ℕ};
-    ghost use Rattle.memrun.specs.PoolStepScript.{IsBucketCount};
+    ghost use Rattle.memrun.specs.kinds.PoolSteps.{IsBucketCount};
 
     ghost Value = { ℕ };
 
@@ -40,14 +40,14 @@ impl Model for Buckets {
 }
 
 impl Buckets {
-    /// The number of buckets that this word names.
-    pub fn read(word: &[u8]) -> Option<Buckets>
+    /// The number of buckets that this field names.
+    pub fn read(field: &[u8]) -> Option<Buckets>
         ensures written { IfSome result (λ count. IsBucketCount count
-            × (word.now ≡ decimal count)) }
-        ensures each { (count : ℕ) → IsBucketCount count → word.now ≡ decimal count
+            × (field.now ≡ decimal count)) }
+        ensures each { (count : ℕ) → IsBucketCount count → field.now ≡ decimal count
             → result ≡ Some count }
     {
-        let count = number(word)?;
+        let count = number(field)?;
         if count > MOST_BUCKETS {
             return None;
         }
@@ -82,8 +82,8 @@ impl Model for PoolSteps {
     ghost invariant = { λ a. length a.world.holders ≡ a.buckets };
 }
 
-impl Machine for PoolSteps {
-    ghost use Rattle.memrun.specs.PoolStepScript.{pool_step_rules};
+impl Driven for PoolSteps {
+    ghost use Rattle.memrun.specs.kinds.PoolSteps.{pool_step_rules};
 
     type Opening = Buckets;
 

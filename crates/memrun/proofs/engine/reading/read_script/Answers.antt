@@ -1,15 +1,15 @@
 use Rattle.std.proofs.Common.{length, arith, ◌∷◌, ◌++◌, ◌≡◌, [], ap, ◌∙◌, map, List, ℕ}
 use Rattle.std.proofs.lemmas.List.Elements.{All-push, All-same}
 use Rattle.std.proofs.lemmas.List.{length_push}
-use Rattle.memrun.specs.Lines.{lines_of}
-use Rattle.memrun.specs.Rules.{IsLine, line_text}
-use Rattle.memrun.specs.Script.{script_lines}
+use Rattle.memrun.specs.engine.Lines.{lines_of}
+use Rattle.memrun.specs.engine.Rules.{IsLine, line_text}
+use Rattle.memrun.specs.engine.Script.{script_lines}
 use Rattle.memrun.proofs.ScriptLines.{first_unreadable, lines_more}
 use Rattle.memrun.proofs.engine.reading.read_script.Goals as goal
 
 pub returns-in_default-read_line-clause-unreadable : goal.returns-in_default-read_line-clause-unreadable
 returns-in_default-read_line-clause-unreadable g c =
-    let rules = g.M.Machine.rules in
+    let rules = g.K.Driven.rules in
     let line : List ℕ = c.in-Some.line.now in
     let lines = script_lines c.loop-line.script in
     let before = map (line_text rules) lines in
@@ -19,7 +19,7 @@ returns-in_default-read_line-clause-unreadable g c =
 
 pub loop-line-preserved : goal.loop-line-preserved
 loop-line-preserved g c =
-    let rules = g.M.Machine.rules in
+    let rules = g.K.Driven.rules in
     let lines = script_lines c.loop-line.script in
     let grown = script_lines c.push.new.self in
     let before = map (line_text rules) lines in

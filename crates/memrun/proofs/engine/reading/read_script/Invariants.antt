@@ -1,13 +1,13 @@
 use Rattle.std.proofs.Common.{◌≡◌, ◌+◌, ◌≤◌, ◌++◌, length, map, All}
-use Rattle.memrun.specs.Lines.{lines_of}
-use Rattle.memrun.specs.Rules.{IsLine, line_text}
-use Rattle.memrun.specs.Script.{script_lines}
+use Rattle.memrun.specs.engine.Lines.{lines_of}
+use Rattle.memrun.specs.engine.Rules.{IsLine, line_text}
+use Rattle.memrun.specs.engine.Script.{script_lines}
 use Rattle.memrun.proofs.engine.reading.read_script.Given as goal
 
 -- the lines so far are the script's
 abbrev pub invariant-loop-line : goal.invariant-loop-line
 invariant-loop-line g l =
-    let rules = g.M.Machine.rules in
+    let rules = g.K.Driven.rules in
     record {
       read : lines_of l.input ≡ map (line_text rules) (script_lines l.script) ++ lines_of l.left;
       allowed : All (IsLine rules) (script_lines l.script);

@@ -1,6 +1,6 @@
 use Rattle.std.proofs.Common.{arith, length, ap, ap₂, sym, ◌∙◌, ◌≡◌, drop}
 use Rattle.std.proofs.lemmas.List.{take_rest}
-use Rattle.memrun.specs.Batches.{last_place}
+use Rattle.memrun.specs.engine.Batches.{last_place}
 use Rattle.memrun.proofs.Cutting.{last_within, last_place_is}
 use Rattle.memrun.proofs.engine.script.Script.last.Goals as goal
 

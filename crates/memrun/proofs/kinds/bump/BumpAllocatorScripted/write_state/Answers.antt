@@ -1,7 +1,7 @@
 use Rattle.std.proofs.Common.{◌≡◌, ◌++◌, ◌-◌, codes, OnOk, arith}
 use Rattle.std.specs.Io.KnownBytes.{Appends}
 use Rattle.bb_memory.specs.Bump.{bump_text}
-use Rattle.memrun.specs.BumpScript.{figures_line}
+use Rattle.memrun.specs.kinds.Bump.{figures_line}
 use Rattle.memrun.proofs.Appending.{appends_again, on_ok-map}
 use Rattle.memrun.proofs.kinds.bump.BumpAllocatorScripted.write_state.Goals as goal
 

@@ -1,6 +1,6 @@
 use Rattle.std.proofs.Common.{subst}
-use Rattle.memrun.specs.PoolPlan.{PoolPlan}
-use Rattle.memrun.specs.FixedPoolScript.{BeginsFixedPool}
+use Rattle.memrun.specs.kinds.PoolPlan.{PoolPlan}
+use Rattle.memrun.specs.kinds.FixedPool.{BeginsFixedPool}
 use Rattle.memrun.proofs.kinds.pool_plan.PoolPlan.fixed_pool.Goals as goal
 
 pub returns-clause-begins : goal.returns-clause-begins

@@ -1,6 +1,6 @@
 use Rattle.std.proofs.Common.{subst}
-use Rattle.memrun.specs.PoolPlan.{PoolPlan}
-use Rattle.memrun.specs.PoolScript.{BeginsPool}
+use Rattle.memrun.specs.kinds.PoolPlan.{PoolPlan}
+use Rattle.memrun.specs.kinds.Pool.{BeginsPool}
 use Rattle.memrun.proofs.kinds.pool_plan.PoolPlan.pool.Goals as goal
 
 pub returns-in-Ok-clause-begins : goal.returns-in-Ok-clause-begins

@@ -1,7 +1,7 @@
 use Rattle.std.proofs.Common.{take}
 use Rattle.std.specs.Io.KnownBytes.{Appends}
 use Rattle.std.specs.List.{flat_map}
-use Rattle.memrun.specs.PoolStepScript.{holder_text}
+use Rattle.memrun.specs.kinds.PoolSteps.{holder_text}
 use Rattle.memrun.proofs.kinds.pool_steps.PoolSteps.write_holders.Given as goal
 
 -- the holders of the buckets so far are written
