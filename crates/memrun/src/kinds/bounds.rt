@@ -1,19 +1,10 @@
 //! The regions that scripts name.
-ghost use Rattle.std.specs.Prelude.{◌≡◌, ◌↔◌, IfOk, IfSome, Some, None, []};
+ghost use Rattle.std.specs.Prelude.{◌≡◌, IfSome, Some};
 ghost use Rattle.std.specs.Option.{SomeIff};
 ghost use Rattle.bb_memory_base.specs.Region.{Region, IsRegion, region_at};
-ghost use Rattle.bb_memory_base.specs.BumpWorld.{opened};
-ghost use Rattle.bb_memory_base.specs.BumpObject.{StandsFor as BumpStandsFor};
-ghost use Rattle.bb_memory.specs.OneChunk.{StandsFor as OneChunkStandsFor};
-ghost use Rattle.memrun.specs.kinds.BumpSteps.{script_scene};
 ghost use Rattle.memrun.specs.kinds.Bounds.{region_text};
 
 use crate::fields::{number, number_and_rest};
-use crate::kinds::parties::PARTIES;
-use bb_memory::bump_allocator::BumpAllocator;
-use bb_memory::one_chunk_allocator::OneChunkAllocator;
-use bb_memory::steps::BumpWorld;
-use std::alloc::{AllocError, Global};
 use std::marker::Model;
 
 /// Where a region starts, and how many bytes it has.
@@ -57,26 +48,19 @@ impl Bounds {
         Bounds::new(start, number(size)?)
     }
 
-    /// A bump over the region.
-    pub fn bump(self) -> BumpAllocator
-        ensures value { result ≡ record { region = self; used = 0 } }
-        ensures empty { BumpStandsFor self 0 [] }
+    /// Where the region starts.
+    pub fn start(self) -> usize
+        ensures value { result ≡ self.start }
+        ensures is_region { IsRegion self }
     {
-        BumpAllocator::new(self.start, self.size)
+        self.start
     }
 
-    /// A one chunk over the region.
-    pub fn one_chunk(self) -> OneChunkAllocator
-        ensures value { result ≡ record { region = self; kept = None } }
-        ensures empty { OneChunkStandsFor result [] }
+    /// How many bytes it has.
+    pub fn size(self) -> usize
+        ensures value { result ≡ self.size }
+        ensures is_region { IsRegion self }
     {
-        OneChunkAllocator::new(self.start, self.size)
-    }
-
-    /// A bump world over the region, for the parties of a script.
-    pub fn bump_world(self, alloc: Global) -> Result<BumpWorld, AllocError>
-        ensures { IfOk result (λ world. world ≡ opened (script_scene self)) }
-    {
-        BumpWorld::new(alloc, self.start, self.size, PARTIES)
+        self.size
     }
 }

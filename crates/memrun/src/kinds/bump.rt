@@ -25,7 +25,7 @@ impl Scripted for BumpAllocator {
     }
 
     fn make(_alloc: Global, opening: Bounds) -> Result<Self, AllocError> {
-        Ok(opening.bump())
+        Ok(BumpAllocator::new(opening.start(), opening.size()))
     }
 
     fn run(

@@ -9,7 +9,7 @@ ghost use Rattle.memrun.specs.kinds.Parties.{IsParty};
 use crate::engine::driven::Driven;
 use crate::fields::{layout, number_and_rest};
 use crate::kinds::bounds::Bounds;
-use crate::kinds::parties::{party_of, read_party};
+use crate::kinds::parties::{PARTIES, party_of, read_party};
 use bb_memory::layout::{Chunk, Layout};
 use bb_memory::steps::{BumpOutcome, BumpStep, BumpWorld};
 use std::alloc::{AllocError, Global};
@@ -32,7 +32,7 @@ impl Driven for BumpWorld {
     }
 
     fn make(alloc: Global, opening: Bounds) -> Result<Self, AllocError> {
-        opening.bump_world(alloc)
+        BumpWorld::new(alloc, opening.start(), opening.size(), PARTIES)
     }
 
     fn can_show() -> bool {

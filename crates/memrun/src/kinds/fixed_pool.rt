@@ -21,7 +21,7 @@ impl Scripted for FixedSizePoolAllocator<512> {
     }
 
     fn make(_alloc: Global, opening: PoolPlan) -> Result<Self, AllocError> {
-        Ok(opening.fixed_pool())
+        Ok(FixedSizePoolAllocator::new(opening.bucket(), opening.start(), opening.size()))
     }
 
     fn run(

@@ -10,6 +10,7 @@ ghost use Rattle.memrun.specs.kinds.LoanPool.{IsCall, IsPublishing, answer_line,
 use crate::engine::driven::Driven;
 use crate::fields::{number, number_and_rest};
 use crate::kinds::commands::write_refusal;
+use crate::kinds::pool::pool_of;
 use crate::kinds::pool_plan::PoolPlan;
 use bb_memory::layout::Chunk;
 use bb_memory::pool_allocator::PoolAllocator;
@@ -51,7 +52,7 @@ impl Driven for LoanPool {
     }
 
     fn make(alloc: Global, opening: PoolPlan) -> Result<Self, AllocError> {
-        let pool = opening.pool(alloc)?;
+        let pool = pool_of(alloc, opening)?;
         let book = LoanBook::new(alloc, pool);
         Ok(LoanPool { alloc, book })
     }

@@ -21,7 +21,7 @@ impl Scripted for OneChunkAllocator {
     }
 
     fn make(_alloc: Global, opening: Bounds) -> Result<Self, AllocError> {
-        Ok(opening.one_chunk())
+        Ok(OneChunkAllocator::new(opening.start(), opening.size()))
     }
 
     fn run(

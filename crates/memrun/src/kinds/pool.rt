@@ -1,4 +1,7 @@
 //! A pool that a script drives.
+ghost use Rattle.std.specs.Prelude.{[], IfOk};
+ghost use Rattle.bb_memory.specs.Pool.{StandsFor};
+ghost use Rattle.memrun.specs.kinds.Pool.{BeginsPool};
 
 use crate::kinds::allocators::Scripted;
 use crate::kinds::pool_plan::PoolPlan;
@@ -21,7 +24,7 @@ impl Scripted for PoolAllocator<Global> {
     }
 
     fn make(alloc: Global, opening: PoolPlan) -> Result<Self, AllocError> {
-        opening.pool(alloc)
+        pool_of(alloc, opening)
     }
 
     fn run(
@@ -46,5 +49,17 @@ impl Scripted for PoolAllocator<Global> {
             writer,
             "pool start {start} size {size} bucket {bucket} align {align} buckets {buckets} live {live} reads {reads}"
         )
+    }
+}
+
+/// A pool by the plan.
+pub fn pool_of(alloc: Global, plan: PoolPlan) -> Result<PoolAllocator<Global>, AllocError>
+    ensures begins { IfOk result (λ pool. BeginsPool plan pool) }
+    ensures empty { IfOk result (λ pool. StandsFor pool.pool []) }
+{
+    let uninit = PoolAllocator::new_uninit(plan.bucket(), plan.start(), plan.size());
+    match uninit.init(alloc) {
+        Ok(pool) => Ok(pool),
+        Err(_) => Err(AllocError),
     }
 }

@@ -1,16 +1,13 @@
 //! The pools that scripts name.
-ghost use Rattle.std.specs.Prelude.{◌≡◌, IfOk, IfSome, Some, []};
+ghost use Rattle.std.specs.Prelude.{◌≡◌, IfSome, Some};
 ghost use Rattle.std.specs.Option.{SomeIff};
 ghost use Rattle.bb_memory_base.specs.Region.{region_at};
-ghost use Rattle.bb_memory.specs.Pool.{MayBeCut, StandsFor};
-ghost use Rattle.memrun.specs.kinds.FixedPool.{BeginsFixedPool};
+ghost use Rattle.bb_memory.specs.Pool.{MayBeCut};
 ghost use Rattle.memrun.specs.kinds.PoolPlan.{PoolPlan, IsPoolPlan, pool_plan, pool_plan_text};
-ghost use Rattle.memrun.specs.kinds.Pool.{BeginsPool};
 
 use crate::fields::{layout, number_and_rest};
 use bb_memory::layout::Layout;
-use bb_memory::pool_allocator::{FixedSizePoolAllocator, PoolAllocator};
-use std::alloc::{AllocError, Global};
+use bb_memory::pool_allocator::PoolAllocator;
 use std::marker::Model;
 
 /// The region that a pool cuts, and the layout of each of its buckets.
@@ -63,22 +60,27 @@ impl PoolPlan {
         PoolPlan::new(start, size, layout(bucket)?)
     }
 
-    /// A pool by the plan.
-    pub fn pool(self, alloc: Global) -> Result<PoolAllocator<Global>, AllocError>
-        ensures begins { IfOk result (λ pool. BeginsPool self pool) }
-        ensures empty { IfOk result (λ pool. StandsFor pool.pool []) }
+    /// Where the region starts.
+    pub fn start(self) -> usize
+        ensures value { result ≡ self.region.start }
+        ensures is_pool_plan { IsPoolPlan self }
     {
-        match PoolAllocator::new_uninit(self.bucket, self.start, self.size).init(alloc) {
-            Ok(pool) => Ok(pool),
-            Err(_) => Err(AllocError),
-        }
+        self.start
     }
 
-    /// A fixed pool by the plan, of at most 512 buckets.
-    pub fn fixed_pool(self) -> FixedSizePoolAllocator<512>
-        ensures begins { BeginsFixedPool self result }
-        ensures empty { StandsFor result [] }
+    /// How many bytes it has.
+    pub fn size(self) -> usize
+        ensures value { result ≡ self.region.size }
+        ensures is_pool_plan { IsPoolPlan self }
     {
-        FixedSizePoolAllocator::new(self.bucket, self.start, self.size)
+        self.size
+    }
+
+    /// The layout of each bucket.
+    pub fn bucket(self) -> Layout
+        ensures value { result ≡ self.bucket }
+        ensures is_pool_plan { IsPoolPlan self }
+    {
+        self.bucket
     }
 }
