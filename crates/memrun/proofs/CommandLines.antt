@@ -6,7 +6,8 @@ use Rattle.std.specs.Option.{option_map}
 use Rattle.bb_memory_base.specs.declared.allocator.Command.{Command}
 use Rattle.bb_memory_base.specs.declared.allocator.Command.TheVariants.{Allocate, Release, Grow, Shrink}
 use Rattle.bb_memory_base.specs.declared.layout.Layout.{Layout}
-use Rattle.memrun.specs.Grammar.{command_line, layout_text, resize_text, IsWord, IsLayoutOfWords, IsResizeOfWords, IsCommandOfWords}
+use Rattle.memrun.specs.kinds.Commands.{command_line, resize_text, IsResizeOfNumbers, IsCommandOfNumbers}
+use Rattle.memrun.specs.Fields.{layout_text, IsNumber, IsLayoutOfNumbers}
 use Rattle.memrun.proofs.Cuts.{Without, Without-nil, Without-cons, Without-cut}
 
 -- the name of a command
@@ -81,22 +82,22 @@ by_name name (Grow position old new) claim is alloc free grow shrink = grow is
 by_name name (Shrink position old new) claim is alloc free grow shrink = shrink is
 
 -- behind `alloc` the command is read where its layout is
-pub reads_alloc : (name rest : List ℕ) (read : Option Layout) (command : Command) → name ≡ codes "alloc" → Writes name rest command → IsCommandOfWords command
-    → ((layout : Layout) → IsLayoutOfWords layout → rest ≡ layout_text layout → read ≡ Some layout)
+pub reads_alloc : (name rest : List ℕ) (read : Option Layout) (command : Command) → name ≡ codes "alloc" → Writes name rest command → IsCommandOfNumbers command
+    → ((layout : Layout) → IsLayoutOfNumbers layout → rest ≡ layout_text layout → read ≡ Some layout)
     → option_map Allocate read ≡ Some command
-reads_alloc name rest read (Allocate layout) is parts words each = ap (option_map Allocate) (each layout words parts.1)
-reads_alloc name rest read (Release position) is parts words each = absurd (apart name _ _ is parts.0 (λ e. omega (arith, e)))
-reads_alloc name rest read (Grow position old new) is parts words each = absurd (apart name _ _ is parts.0 (λ e. omega (arith, e)))
-reads_alloc name rest read (Shrink position old new) is parts words each = absurd (apart name _ _ is parts.0 (λ e. omega (arith, e)))
+reads_alloc name rest read (Allocate layout) is parts numbers each = ap (option_map Allocate) (each layout numbers parts.1)
+reads_alloc name rest read (Release position) is parts numbers each = absurd (apart name _ _ is parts.0 (λ e. omega (arith, e)))
+reads_alloc name rest read (Grow position old new) is parts numbers each = absurd (apart name _ _ is parts.0 (λ e. omega (arith, e)))
+reads_alloc name rest read (Shrink position old new) is parts numbers each = absurd (apart name _ _ is parts.0 (λ e. omega (arith, e)))
 
 -- behind `free` the command is read where its position is
-pub reads_free : (name rest : List ℕ) (read : Option ℕ) (command : Command) → name ≡ codes "free" → Writes name rest command → IsCommandOfWords command
-    → ((position : ℕ) → IsWord position → rest ≡ decimal position → read ≡ Some position)
+pub reads_free : (name rest : List ℕ) (read : Option ℕ) (command : Command) → name ≡ codes "free" → Writes name rest command → IsCommandOfNumbers command
+    → ((position : ℕ) → IsNumber position → rest ≡ decimal position → read ≡ Some position)
     → option_map Release read ≡ Some command
-reads_free name rest read (Allocate layout) is parts words each = absurd (apart name _ _ is parts.0 (λ e. omega (arith, e)))
-reads_free name rest read (Release position) is parts words each = ap (option_map Release) (each position words parts.1)
-reads_free name rest read (Grow position old new) is parts words each = absurd (apart name _ _ is parts.0 (λ e. omega (arith, e)))
-reads_free name rest read (Shrink position old new) is parts words each = absurd (apart name _ _ is parts.0 (λ e. omega (arith, e)))
+reads_free name rest read (Allocate layout) is parts numbers each = absurd (apart name _ _ is parts.0 (λ e. omega (arith, e)))
+reads_free name rest read (Release position) is parts numbers each = ap (option_map Release) (each position numbers parts.1)
+reads_free name rest read (Grow position old new) is parts numbers each = absurd (apart name _ _ is parts.0 (λ e. omega (arith, e)))
+reads_free name rest read (Shrink position old new) is parts numbers each = absurd (apart name _ _ is parts.0 (λ e. omega (arith, e)))
 
 -- a position, the old layout and the new one
 abbrev pub Resize : Type 0
@@ -104,7 +105,7 @@ Resize = ℕ × Layout × Layout
 
 -- each text of a resize is read
 abbrev pub ReadsResize : List ℕ → Option Resize → Type 0
-ReadsResize rest read = (position : ℕ) (old new : Layout) → IsResizeOfWords position old new → rest ≡ resize_text position old new → read ≡ Some (position, old, new)
+ReadsResize rest read = (position : ℕ) (old new : Layout) → IsResizeOfNumbers position old new → rest ≡ resize_text position old new → read ≡ Some (position, old, new)
 
 abbrev grow_of : Resize → Command
 grow_of (position, old, new) = Grow position old new
@@ -113,17 +114,17 @@ abbrev shrink_of : Resize → Command
 shrink_of (position, old, new) = Shrink position old new
 
 -- behind `grow` the command is read where its numbers are
-pub reads_grow : (name rest : List ℕ) (read : Option Resize) (command : Command) → name ≡ codes "grow" → Writes name rest command → IsCommandOfWords command
+pub reads_grow : (name rest : List ℕ) (read : Option Resize) (command : Command) → name ≡ codes "grow" → Writes name rest command → IsCommandOfNumbers command
     → ReadsResize rest read → option_map grow_of read ≡ Some command
-reads_grow name rest read (Allocate layout) is parts words each = absurd (apart name _ _ is parts.0 (λ e. omega (arith, e)))
-reads_grow name rest read (Release position) is parts words each = absurd (apart name _ _ is parts.0 (λ e. omega (arith, e)))
-reads_grow name rest read (Grow position old new) is parts words each = ap (option_map grow_of) (each position old new words parts.1)
-reads_grow name rest read (Shrink position old new) is parts words each = absurd (apart name _ _ is parts.0 (λ e. omega (arith, e)))
+reads_grow name rest read (Allocate layout) is parts numbers each = absurd (apart name _ _ is parts.0 (λ e. omega (arith, e)))
+reads_grow name rest read (Release position) is parts numbers each = absurd (apart name _ _ is parts.0 (λ e. omega (arith, e)))
+reads_grow name rest read (Grow position old new) is parts numbers each = ap (option_map grow_of) (each position old new numbers parts.1)
+reads_grow name rest read (Shrink position old new) is parts numbers each = absurd (apart name _ _ is parts.0 (λ e. omega (arith, e)))
 
 -- behind `shrink` the command is read where its numbers are
-pub reads_shrink : (name rest : List ℕ) (read : Option Resize) (command : Command) → name ≡ codes "shrink" → Writes name rest command → IsCommandOfWords command
+pub reads_shrink : (name rest : List ℕ) (read : Option Resize) (command : Command) → name ≡ codes "shrink" → Writes name rest command → IsCommandOfNumbers command
     → ReadsResize rest read → option_map shrink_of read ≡ Some command
-reads_shrink name rest read (Allocate layout) is parts words each = absurd (apart name _ _ is parts.0 (λ e. omega (arith, e)))
-reads_shrink name rest read (Release position) is parts words each = absurd (apart name _ _ is parts.0 (λ e. omega (arith, e)))
-reads_shrink name rest read (Grow position old new) is parts words each = absurd (apart name _ _ is parts.0 (λ e. omega (arith, e)))
-reads_shrink name rest read (Shrink position old new) is parts words each = ap (option_map shrink_of) (each position old new words parts.1)
+reads_shrink name rest read (Allocate layout) is parts numbers each = absurd (apart name _ _ is parts.0 (λ e. omega (arith, e)))
+reads_shrink name rest read (Release position) is parts numbers each = absurd (apart name _ _ is parts.0 (λ e. omega (arith, e)))
+reads_shrink name rest read (Grow position old new) is parts numbers each = absurd (apart name _ _ is parts.0 (λ e. omega (arith, e)))
+reads_shrink name rest read (Shrink position old new) is parts numbers each = ap (option_map shrink_of) (each position old new numbers parts.1)

@@ -1,7 +1,7 @@
 -- What was sent where a run is cut short.
 use Rattle.std.proofs.Common.{ℕ, List, ◌⊎◌, inl, inr, Option, Result, Ok, Err}
 use Rattle.std.specs.Io.KnownBytes.{Appends}
-use Rattle.memrun.specs.Sending.{Sends}
+use Rattle.memrun.specs.engine.Sending.{Sends}
 use Rattle.memrun.proofs.Sends.{begins_all}
 
 -- what is all written is sent, also where the flush fails

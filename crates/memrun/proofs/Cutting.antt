@@ -3,9 +3,9 @@ use Rattle.std.proofs.Common.{◌≡◌, ℕ, ◌-◌, ◌<◌, ◌≤◌, suc, 
 use Rattle.std.specs.Prelude.{slice_get, slice_index, slice_range}
 use Rattle.std.specs.List.{flat_map}
 use Rattle.std.proofs.lemmas.List.{drop-append-le, take-append-le, take_rest, drop_all, map_push, flat_map_more}
-use Rattle.memrun.specs.Batches.{Batches, batches_from, last_place, AreInOrder}
-use Rattle.memrun.specs.Script.{script_lines, shown_lines}
-use Rattle.memrun.specs.declared.script.Line.TheVariants.{Command, Show}
+use Rattle.memrun.specs.engine.Batches.{Batches, batches_from, last_place, AreInOrder}
+use Rattle.memrun.specs.engine.Script.{script_lines, shown_lines}
+use Rattle.memrun.specs.declared.engine.script.Line.TheVariants.{Command, Show}
 
 -- there is a batch for each place
 pub length-batches_from : {C : Type 0} (start : ℕ) (ends : List ℕ) (commands : List C) →

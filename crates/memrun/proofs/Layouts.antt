@@ -8,7 +8,7 @@ use mathlib.Core.HLevel.{is_prop→PathP}
 use Rattle.bb_memory_base.specs.LeastPlace.{least_place}
 use Rattle.bb_memory_base.specs.declared.layout.Layout.{Layout}
 use Rattle.bb_memory_base.proofs.LeastPlaces.{least_place-is}
-use Rattle.memrun.specs.Grammar.{IsLayoutOfWords}
+use Rattle.memrun.specs.Fields.{IsLayoutOfNumbers}
 
 -- layouts of the same numbers are the same
 same_layout : (a b : Layout) → a.size ≡ b.size → a.align ≡ b.align → a ≡ b
@@ -32,14 +32,14 @@ multiple-above : (n k align : ℕ) → n ≡ k * align → 0 < n → align ≤ n
 multiple-above n zero align is positive = omega (arith, is)
 multiple-above n (suc k) align is positive = omega (arith, is, mul-le-mul_right {m = 1} {n = suc k} align (omega arith))
 
--- the rounded size is a number of the machine
+-- the rounded size may be written
 rounded-fits : (layout : Layout) → least_place layout.size layout.align < 2 ^ 63
 unfolding least_place
 rounded-fits layout = layout.valid.fits
 
--- a layout with a byte is made of numbers of the machine
-pub layout-of_words : (layout : Layout) → 0 < layout.size → IsLayoutOfWords layout
-layout-of_words layout filled =
+-- a layout with a byte is made of numbers that may be written
+pub layout-of_numbers : (layout : Layout) → 0 < layout.size → IsLayoutOfNumbers layout
+layout-of_numbers layout filled =
     let least = least_place-is layout.size layout.align layout.valid.positive in
     let fits : least_place layout.size layout.align < 2 ^ 63 = rounded-fits layout in
     let size : layout.size ≤ least_place layout.size layout.align = least.above in

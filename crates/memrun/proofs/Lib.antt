@@ -6,10 +6,10 @@ mod Cutting
 mod Layouts
 mod LineEnds
 mod Numbers
-mod Openings
 mod PoolPlans
 mod PoolShows
 mod ScriptLines
 mod Sends
+mod Tables
 mod Telling
 mod WholeLines

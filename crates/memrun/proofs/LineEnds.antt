@@ -3,7 +3,7 @@ use Rattle.std.proofs.Common.{◌≡◌, ℕ, ◌+◌, ◌<◌, ◌≤◌, Bool,
 use Rattle.std.specs.List.{onto_first, before_first, after_first, position, position_or_len}
 use Rattle.std.proofs.lemmas.List.{drop_all, take_all, take_rest}
 use Rattle.std.proofs.lemmas.List.Quantifiers.{position-Some}
-use Rattle.memrun.specs.Lines.{lines_of}
+use Rattle.memrun.specs.engine.Lines.{lines_of}
 
 -- whether a byte is a line feed
 abbrev pub feed : ℕ → Bool

@@ -5,7 +5,7 @@ use Rattle.std.specs.Option.{SomeIff}
 use Rattle.bb_memory_base.specs.Region.{region_at}
 use Rattle.bb_memory_base.specs.declared.layout.Layout.{Layout}
 use Rattle.bb_memory.specs.Pool.{MayBeCut}
-use Rattle.memrun.specs.PoolPlan.{PoolPlan, IsPoolPlan, pool_plan}
+use Rattle.memrun.specs.kinds.PoolPlan.{PoolPlan, IsPoolPlan, pool_plan}
 
 -- there is the value where the condition holds
 there : {T : Type 0} (made : Option T) (condition : Type 0) (value : T) → SomeIff made condition value → condition → made ≡ Some value

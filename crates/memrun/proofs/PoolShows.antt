@@ -7,7 +7,7 @@ use Rattle.std.proofs.lemmas.Grind.{flat_map-append}
 use Rattle.std.proofs.lemmas.List.{append-nil, take_more}
 use Rattle.std.proofs.lemmas.Option.{unwrap_or-slice_get}
 use Rattle.memrun.proofs.Appending.{appends_again}
-use Rattle.memrun.specs.PoolStepScript.{holder_text}
+use Rattle.memrun.specs.kinds.PoolSteps.{holder_text}
 
 -- the texts of one holder more
 texts-more : (holders : List (Option ℕ)) (i : ℕ) → i < length holders

@@ -1,19 +1,14 @@
 -- The lines of a script, as far as they are read.
-use Rattle.std.proofs.Common.{◌≡◌, ℕ, List, [], ◌∷◌, ◌++◌, length, take, map, Some, None, All, refl, sym, ap, ◌∙◌, subst}
+use Rattle.std.proofs.Common.{◌≡◌, ℕ, List, [], ◌∷◌, ◌++◌, length, take, map, Some, All, refl, sym, ap, ◌∙◌, subst}
 use Rattle.std.specs.Prelude.{slice_get}
 use Rattle.std.proofs.lemmas.List.{take_at, length-map, append_assoc, map-append}
 use Rattle.std.proofs.lemmas.List.Elements.{All-map, All-weaker}
-use Rattle.memrun.specs.Script.{IsTextOf, IsFirstUnreadable}
+use Rattle.memrun.specs.engine.Script.{IsTextOf, IsFirstUnreadable}
 
 -- what stands after a list
 slice_get_at : {X : Type 0} (xs : List X) (y : X) (ys : List X) → slice_get (xs ++ y ∷ ys) (length xs) ≡ Some y
 slice_get_at [] y ys = refl
 slice_get_at (x ∷ xs) y ys = slice_get_at xs y ys
-
--- what is read as nothing is the text of nothing
-pub unreadable_none : {A : Type 0} (IsAllowed : A → Type 0) (text_of : A → List ℕ) (line : List ℕ) →
-    ((value : A) → IsAllowed value → line ≡ text_of value → None ≡ Some value) → ¬ IsTextOf IsAllowed text_of line
-unreadable_none IsAllowed text_of line each (value, allowed, same) = let e = each value allowed same in cc
 
 -- after lines that are read, one that isn't is the first
 pub first_unreadable : {A : Type 0} (IsAllowed : A → Type 0) (text_of : A → List ℕ) (lines after : List (List ℕ)) (before : List A) (line : List ℕ) (place : ℕ) →

@@ -4,7 +4,7 @@ use Rattle.std.specs.List.{flat_map}
 use Rattle.std.specs.Io.KnownBytes.{Appends}
 use Rattle.std.proofs.lemmas.List.{append_assoc, append-nil, take-append-drop, take_rest, drop_more}
 use Rattle.std.proofs.lemmas.Grind.{flat_map-append}
-use Rattle.memrun.specs.Sending.{Begins, AppendsPart}
+use Rattle.memrun.specs.engine.Sending.{Begins, AppendsPart}
 use Rattle.memrun.proofs.Appending.{appends_again}
 
 -- a text begins itself

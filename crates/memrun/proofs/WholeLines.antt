@@ -3,7 +3,7 @@ use Rattle.std.proofs.Common.{◌≡◌, ◌≢◌, ℕ, suc, zero, Bool, true, 
 use Rattle.std.specs.List.{onto_first}
 use Rattle.std.proofs.lemmas.List.{append_cancel_right, flat_map_more}
 use Rattle.std.proofs.lemmas.List.Elements.{All-nil, All-cons, All-head, All-tail}
-use Rattle.memrun.specs.Lines.{lines_of, ended, EndsInText, AreLines}
+use Rattle.memrun.specs.engine.Lines.{lines_of, ended, EndsInText, AreLines}
 use Rattle.memrun.proofs.LineEnds.{feed}
 
 -- what holds of each element holds of each in front

@@ -1,34 +1,24 @@
-//! Reads a script from standard input, drives an allocator or a machine by it, and writes a line for each reply.
+//! Reads a script from standard input, drives an allocator, a machine of steps or a loan book by it, and writes a line for
+//! each reply.
+//!
+//! The files, in the order in which to read them; `specs` has the same rooms:
+//!
+//! - `program`: from the bytes of a script to the bytes that it is answered. `status`: how a run ends.
+//! - `engine`, what all kinds of scripts share. `lines` cuts an input; `driven` says what a kind of script has to have;
+//!   `driving` runs a script of a kind; `reading` reads its lines, by `script`.
+//! - `kinds`, the table of the kinds and a file for each. Of the allocators: `allocators` and `commands`, which they share;
+//!   `bump` and `one_chunk`, over `bounds`; `pool` and `fixed_pool`, over `pool_plan`. Of the machines of steps: `bump_steps`
+//!   and `pool_steps`, over `parties`. Of the loan books: `loan_pool`.
+//! - `fields`: the numbers and layouts that stand between the spaces of a line.
 #![tactic(auto)]
 
-mod allocators;
-mod bounds;
-mod buckets;
-mod bump;
-mod bump_step_lines;
-mod bump_steps;
-mod commands;
 mod engine;
-mod fixed_pool;
-mod kind;
-mod lines;
-mod machine;
-mod number;
-mod one_chunk;
-mod parties;
-mod pool;
-mod pool_plan;
-mod pool_step_lines;
-mod pool_steps;
+mod fields;
+mod kinds;
 mod program;
-mod reading;
-mod replies;
-mod script;
-mod sending;
 mod status;
 #[cfg(test)]
 mod tests;
-mod text;
 
 use program::run;
 use status::Status;

@@ -1,6 +1,6 @@
 //! How a run ends.
 ghost use Rattle.std.specs.Prelude.{◌≡◌, ◌↔◌};
-ghost use Rattle.memrun.specs.Ending.{code_of, IsCutShort};
+ghost use Rattle.memrun.specs.Status.{code_of, IsCutShort};
 
 use std::alloc::AllocError;
 

@@ -1,8 +1,11 @@
 //! Scripts with what they write, faults of readers and writers, and the program with memory refused.
 mod faults;
+mod large_scripts;
+mod loan_scripts;
 mod pool_rows;
 mod refused_in_turn;
 mod rows;
+mod writers;
 
 /// The script of row `bump-first-path`, and what it writes.
 const FIRST_PATH: &[u8] =

@@ -1,8 +1,0 @@
-use Rattle.std.proofs.Common.{subst}
-use Rattle.memrun.specs.PoolPlan.{PoolPlan}
-use Rattle.memrun.specs.FixedPoolScript.{BeginsFixedPool}
-use Rattle.memrun.proofs.pool_plan.PoolPlan.fixed_pool.Goals as goal
-
-pub returns-clause-begins : goal.returns-clause-begins
-returns-clause-begins c =
-    subst (λ (plan : PoolPlan). BeginsFixedPool plan c.new.result) c.self.view_is c.new.ensures.value

@@ -1,9 +1,0 @@
-use Rattle.std.proofs.Common.{subst}
-use Rattle.memrun.specs.PoolPlan.{PoolPlan}
-use Rattle.memrun.specs.PoolScript.{BeginsPool}
-use Rattle.memrun.proofs.pool_plan.PoolPlan.pool.Goals as goal
-
-pub returns-in-Ok-clause-begins : goal.returns-in-Ok-clause-begins
-returns-in-Ok-clause-begins c =
-    subst (λ (plan : PoolPlan). BeginsPool plan c.in-Ok.pool) c.self.view_is
-    (c.new_uninit.result, c.new_uninit.ensures, c.in-Ok.ensures.value)
