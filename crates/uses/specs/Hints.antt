@@ -1,0 +1,4 @@
+-- Lemmas of std by one name, for the attribute `using`, which takes no name with a dash.
+use Rattle.std.proofs.lemmas.List.{map-append, take-map, drop-map}
+
+pub ruleset parts_of_lists = (map-append, take-map, drop-map)

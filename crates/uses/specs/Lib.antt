@@ -1,0 +1,4 @@
+pub mod Budgets
+pub mod ByteVectors
+pub mod Hints
+pub mod Records
