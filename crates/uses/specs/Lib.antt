@@ -2,3 +2,4 @@ pub mod Budgets
 pub mod ByteVectors
 pub mod Hints
 pub mod Records
+pub mod Rings

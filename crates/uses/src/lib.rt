@@ -6,5 +6,6 @@ pub mod byte_vector;
 pub mod chunk_budget;
 pub mod errors;
 pub mod mailbox;
+pub mod ring;
 pub mod scripts;
 pub mod slab;

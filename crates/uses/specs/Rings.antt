@@ -1,0 +1,28 @@
+-- Messages for several readers, which lie in chunks of a region.
+use Rattle.std.specs.Prelude.{◌≡◌, ℕ, List, Result, Ok, map}
+use Rattle.bb_memory_base.specs.Chunk.{Chunk}
+use Rattle.bb_memory_base.specs.HeldBytes.{HeldBytes}
+use Rattle.bb_memory_base.specs.declared.layout.Layout.{Layout}
+use Rattle.bb_memory_base.specs.declared.allocator.AllocationError.{AllocationError}
+use Rattle.loan_book.specs.Book.{Book, chunks_out}
+use Rattle.loan_book.specs.Sample.{Sample, returns_to_come}
+use Rattle.uses.specs.Records.{records_in}
+
+-- the messages that wait, the oldest first, and how many readers of each are to come
+pub record Ring : Type 0 where
+  pub messages : List (List ℕ)
+  pub to_come : List ℕ
+
+abbrev pub ids_of : List Sample → List ℕ
+ids_of samples = map (λ sample. sample.id) samples
+
+abbrev pub readers_of : List Sample → List ℕ
+readers_of samples = map (λ sample. returns_to_come sample.returns) samples
+
+abbrev pub ring_of : HeldBytes → Book → Ring
+ring_of held book = record { messages = records_in held (chunks_out book); to_come = readers_of book.out }
+
+-- each chunk that may be given has exactly the asked size
+abbrev pub GivesExactly : {G : Type 0} → (G → List Chunk → Layout → Result Chunk AllocationError → Type 0) → Type 0
+GivesExactly {G = G} may_allocate = (geometry : G) (live : List Chunk) (layout : Layout) (chunk : Chunk)
+    → may_allocate geometry live layout (Ok chunk) → chunk.len ≡ layout.size
