@@ -8,8 +8,9 @@ use Rattle.loan_book.specs.Book.{Book, chunks_out}
 use Rattle.loan_book.specs.Sample.{Sample, returns_to_come}
 use Rattle.uses.specs.Records.{records_in}
 
--- the messages that wait, the oldest first, and how many readers of each are to come
+-- how many readers each message has, the messages that wait, the oldest first, and how many readers of each are to come
 pub record Ring : Type 0 where
+  pub readers : ℕ
   pub messages : List (List ℕ)
   pub to_come : List ℕ
 
@@ -19,8 +20,8 @@ ids_of samples = map (λ sample. sample.id) samples
 abbrev pub readers_of : List Sample → List ℕ
 readers_of samples = map (λ sample. returns_to_come sample.returns) samples
 
-abbrev pub ring_of : HeldBytes → Book → Ring
-ring_of held book = record { messages = records_in held (chunks_out book); to_come = readers_of book.out }
+abbrev pub ring_of : ℕ → HeldBytes → Book → Ring
+ring_of readers held book = record { readers = readers; messages = records_in held (chunks_out book); to_come = readers_of book.out }
 
 -- each chunk that may be given has exactly the asked size
 abbrev pub GivesExactly : {G : Type 0} → (G → List Chunk → Layout → Result Chunk AllocationError → Type 0) → Type 0

@@ -1,14 +1,15 @@
 //! Messages for several readers, each in a sample of a loan book.
-ghost use Rattle.std.specs.Prelude.{◌≡◌, ◌∷◌, ◌++◌, ◌<◌, ◌-◌, [], ℕ, List, Some, None, IfSome, IfNone, IfOk, OnOk, OnErr, IsTrue, true, false, ◌↔◌, drop, length, map, remove, slice_get, slice_set};
+ghost use Rattle.std.specs.Prelude.{AllPairs, Ok, ◌≡◌, ◌∷◌, ◌++◌, ◌+◌, ◌<◌, ◌-◌, [], ℕ, List, Some, None, IfSome, IfNone, IfOk, OnOk, OnErr, IsTrue, true, false, ◌↔◌, drop, get_or, length, map, remove, slice_get, slice_set};
 ghost use Rattle.bb_memory_base.specs.Chunk.{Chunk, IsInside};
 ghost use Rattle.bb_memory_base.specs.LiveList.{IsSound};
 ghost use Rattle.bb_memory_base.specs.HeldBytes.{held_region};
-ghost use Rattle.loan_book.specs.Book.{Book, IsBook, IsAt, IsOut, chunks_of, chunks_out};
-ghost use Rattle.loan_book.specs.Calls.{with_sample, with_returns, without};
+ghost use Rattle.loan_book.specs.Book.{Book, IsBook, IsAt, IsOut, IsPublished, chunks_of, chunks_out};
+ghost use Rattle.loan_book.specs.Calls.{Publishes, GivesBack, with_sample, with_returns, without};
 ghost use Rattle.loan_book.specs.Sample.{Sample, returns_to_come};
 ghost use Rattle.uses.specs.Records.{records_in};
 ghost use Rattle.uses.specs.Rings.{Ring, GivesExactly, ids_of, readers_of};
 
+use crate::slab::put;
 use bb_memory_base::allocator::Allocator;
 use bb_memory_base::layout::Chunk;
 use bb_memory_base::region::Region;
@@ -45,7 +46,7 @@ impl<A: Allocator + Drop> Model for MessageRing<A> {
 
     ghost Value = { Ring };
 
-    ghost view = { λ r. ring_of r.region r.book.book };
+    ghost view = { λ r. ring_of r.readers r.region r.book.book };
 
     ghost invariant = { λ r. (0 < r.readers) × (r.ids.items ≡ ids_of r.book.book.out)
         × (r.chunks.items ≡ chunks_out r.book.book) × GivesExactly A.may_allocate
@@ -60,7 +61,7 @@ impl<A: Allocator + Drop> MessageRing<A> {
         requires exact { GivesExactly A.may_allocate }
         requires same_region { held_region region ≡ A.region_of (A.geometry allocator) }
         requires some_reader { 0 < readers }
-        ensures { result ≡ record { messages = []; to_come = [] } }
+        ensures { result ≡ record { readers = readers; messages = []; to_come = [] } }
     {
         MessageRing {
             book: LoanBook::new(alloc, allocator),
@@ -69,6 +70,53 @@ impl<A: Allocator + Drop> MessageRing<A> {
             ids: Vec::new(alloc),
             chunks: Vec::new(alloc),
         }
+    }
+
+    /// How many messages wait.
+    pub fn waiting(&self) -> usize
+        ensures { result ≡ length self.now.messages }
+    {
+        self.chunks.len()
+    }
+
+    /// Sends a message to all readers. A refusal keeps all.
+    pub fn send(&mut self, bytes: &[u8]) -> Result<(), SendError>
+        ensures sent { OnOk result (self.new ≡ record self.old {
+          messages = self.old.messages ++ bytes.now ∷ [];
+          to_come = self.old.to_come ++ self.old.readers ∷ [];
+        }) }
+        ensures kept { OnErr result (self.new ≡ self.old) }
+    {
+        self.ids.reserve(1)?;
+        self.chunks.reserve(1)?;
+        let (id, chunk) = loan_exactly(&mut self.book, bytes.len())?;
+        put(&mut self.region, &self.chunks, chunk, bytes);
+        publish_newest(&mut self.book, id, self.readers);
+        self.ids.push_reserved(id);
+        self.chunks.push_reserved(chunk);
+        Ok(())
+    }
+
+    /// One reader is done with the oldest message. It answers whether that was the last one: then the message leaves, and its
+    /// chunk goes back.
+    pub fn finish(&mut self) -> bool
+        requires { 0 < length self.old.messages }
+        ensures last { result ≡ true → self.new ≡ record self.old {
+          messages = drop 1 self.old.messages;
+          to_come = drop 1 self.old.to_come;
+        } }
+        ensures further { result ≡ false → self.new ≡ record self.old {
+          to_come = slice_set self.old.to_come 0 (get_or self.old.to_come 0 0 - 1);
+        } }
+        ensures answer { IsTrue result ↔ (get_or self.old.to_come 0 0 ≡ 1) }
+    {
+        let id = self.ids[0];
+        let last = return_oldest(&mut self.book, id);
+        if last {
+            self.ids.remove(0);
+            self.chunks.remove(0);
+        }
+        last
     }
 
     /// The oldest message, as it was sent, where one waits.
@@ -83,17 +131,42 @@ impl<A: Allocator + Drop> MessageRing<A> {
 }
 
 /// Loans a sample of exactly this size.
-fn loan_exactly<A: Allocator>(book: &mut LoanBook<A>, size: usize) -> Result<(u64, Chunk), LoanError>
+fn loan_exactly<A: Allocator>(
+    book: &mut LoanBook<A>,
+    size: usize,
+) -> Result<(u64, Chunk), LoanError>
     requires { GivesExactly A.may_allocate }
     ensures loaned { IfOk result (λ loaned. (loaned.0 ≡ book.old.book.loaned)
         × (book.new.book ≡ with_sample book.old.book loaned.1)) }
     ensures exact { IfOk result (λ loaned. loaned.1.len ≡ size) }
     ensures sound { IsSound (A.region_of (A.geometry book.old.allocator)) (chunks_out book.new.book) }
     ensures geometry { A.geometry book.new.allocator ≡ A.geometry book.old.allocator }
+    ensures book { IsBook book.old.book }
     ensures kept { OnErr result (book.new.book ≡ book.old.book) }
 {
     book.law();
     book.loan(size)
+}
+
+/// Returns the oldest sample once. It answers whether that was the last return.
+fn return_oldest<A: Allocator>(book: &mut LoanBook<A>, id: u64) -> bool
+    requires some { 0 < length book.old.book.out }
+    requires oldest { get_or (ids_of book.old.book.out) 0 id ≡ id }
+    ensures last { result ≡ true → book.new.book.out ≡ drop 1 book.old.book.out }
+    ensures chunks { result ≡ false → chunks_out book.new.book ≡ chunks_out book.old.book }
+    ensures ids { result ≡ false → ids_of book.new.book.out ≡ ids_of book.old.book.out }
+    ensures further { result ≡ false → readers_of book.new.book.out
+        ≡ slice_set (readers_of book.old.book.out) 0 (get_or (readers_of book.old.book.out) 0 0 - 1) }
+    ensures answer { IsTrue result ↔ (get_or (readers_of book.old.book.out) 0 0 ≡ 1) }
+    ensures geometry { A.geometry book.new.allocator ≡ A.geometry book.old.allocator }
+{
+    book.law();
+    first_law();
+    match book.give_back(id) {
+        Ok(true) => true,
+        Ok(false) => false,
+        Err(_) => unreachable!(),
+    }
 }
 
 /// Publishes the sample that was loaned last.
@@ -107,8 +180,14 @@ fn publish_newest<A: Allocator>(book: &mut LoanBook<A>, id: u64, readers: u32)
     ensures allocator { book.new.allocator ≡ book.old.allocator }
 {
     newest_law();
+    newest_out_law();
+    newest_state_law();
     seam_law();
-    let _published = book.publish(id, readers);
+    published_law();
+    match book.publish(id, readers) {
+        Ok(()) => {}
+        Err(_) => unreachable!(),
+    }
 }
 
 /// A sample keeps its chunk where it waits for other returns.
@@ -125,6 +204,49 @@ fn newest_law()
         → IsAt (with_sample book chunk) book.loaned position sample → position ≡ length book.out }
 {}
 
+/// Where the sample that was loaned last stands.
+#[tactic(auto, using(crate::specs::Hints::parts_of_lists, std::proofs::lemmas::Grind::common_steps, std::proofs::lemmas::Option::gets))]
+fn newest_at_law()
+    ensures { (book : Book) (chunk : Chunk) → IsAt (with_sample book chunk) book.loaned (length book.out)
+        (record { id = book.loaned; chunk = chunk; returns = None }) }
+{
+    seam_law();
+}
+
+/// The sample that was loaned last is out, and wasn't published yet.
+#[tactic(auto, using(crate::specs::Hints::parts_of_lists, std::proofs::lemmas::Grind::common_steps, std::proofs::lemmas::Option::gets))]
+fn newest_state_law()
+    ensures { (book : Book) (chunk : Chunk) → IsBook book
+        → ¬ IsPublished (with_sample book chunk) book.loaned }
+{
+    newest_law();
+    newest_at_law();
+}
+
+/// The sample that was loaned last is out.
+fn newest_out_law()
+    ensures { (book old : Book) (chunk : Chunk) → old ≡ with_sample book chunk → IsOut old book.loaned }
+{
+    newest_at_law();
+    out_law();
+}
+
+/// What stands in a book is out.
+fn out_law()
+    ensures { (book : Book) (id position : ℕ) (sample : Sample) → IsAt book id position sample → IsOut book id }
+{}
+
+/// What becomes of the book where that sample is published.
+#[tactic(auto, using(crate::specs::Hints::parts_of_lists, std::proofs::lemmas::Grind::common_steps, std::proofs::lemmas::Option::gets))]
+fn published_law()
+    ensures { (book old new : Book) (chunk : Chunk) (id readers : ℕ) (done : Unit {0}) → IsBook book
+        → old ≡ with_sample book chunk → id ≡ book.loaned → Publishes old id readers (Ok done) new
+        → new.out ≡ book.out ++ record { id = book.loaned; chunk = chunk; returns = Some readers } ∷ [] }
+{
+    newest_law();
+    seam_law();
+}
+
 /// A sample behind the last is put in its place.
 #[tactic(auto, using(crate::specs::Hints::parts_of_lists, std::proofs::lemmas::Grind::common_steps, std::proofs::lemmas::Option::gets))]
 fn seam_law()
@@ -135,9 +257,38 @@ fn seam_law()
 {}
 
 /// The oldest sample stands first: one behind it has a greater id.
-#[tactic(auto, using(crate::specs::Hints::parts_of_lists, std::proofs::lemmas::Grind::common_steps, std::proofs::lemmas::Option::gets))]
-fn oldest_law()
-    ensures { (book : Book) (position : ℕ) (one other : Sample) → IsBook book
-        → slice_get book.out 0 ≡ Some one → slice_get book.out position ≡ Some other → 0 < position
-        → one.id < other.id }
+fn oldest_law_one()
+    ensures { (samples : List Sample) (position : ℕ) (d : Sample)
+        → AllPairs (λ one other. one.id < other.id) samples
+        → 0 < position → position < length samples
+        → (get_or samples 0 d).id < (get_or samples position d).id }
 {}
+
+#[tactic(auto, using(std::proofs::lemmas::Option::get_or_from_slice_get, std::proofs::lemmas::Option::slice_get_within))]
+fn oldest_law_two()
+    ensures at { (samples : List Sample) (position : ℕ) (one d : Sample)
+        → slice_get samples position ≡ Some one → get_or samples position d ≡ one }
+    ensures within { (samples : List Sample) (position : ℕ) (one d : Sample)
+        → slice_get samples position ≡ Some one → position < length samples }
+{}
+
+fn oldest_law()
+    ensures { (samples : List Sample) (position : ℕ) (one other : Sample)
+        → AllPairs (λ one other. one.id < other.id) samples
+        → slice_get samples 0 ≡ Some one → slice_get samples position ≡ Some other → 0 < position
+        → one.id < other.id }
+{
+    oldest_law_one();
+    oldest_law_two();
+}
+
+/// The first sample's id is at no other position.
+#[tactic(auto, using(std::proofs::lemmas::Grind::common_steps))]
+fn first_law()
+    ensures { (samples : List Sample) (id position : ℕ) (sample : Sample)
+        → AllPairs (λ one other. one.id < other.id) samples → get_or (ids_of samples) 0 id ≡ id
+        → slice_get samples position ≡ Some sample → sample.id ≡ id → position ≡ 0 }
+{
+    oldest_law_one();
+    oldest_law_two();
+}

@@ -137,7 +137,7 @@ fn chunk_at(chunks: &Vec<Chunk>, position: usize) -> Chunk
 }
 
 /// Writes a record in the chunk that was just given.
-fn put(region: &mut Region, chunks: &Vec<Chunk>, chunk: Chunk, bytes: &[u8])
+pub(crate) fn put(region: &mut Region, chunks: &Vec<Chunk>, chunk: Chunk, bytes: &[u8])
     requires inside { IsInside (held_region region.old) chunk }
     requires sound { IsSound (held_region region.old) (chunks.now.items ++ chunk ∷ []) }
     requires len { length bytes.now ≡ chunk.len }
