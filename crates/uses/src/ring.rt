@@ -161,7 +161,9 @@ fn return_oldest<A: Allocator>(book: &mut LoanBook<A>, id: u64) -> bool
     ensures geometry { A.geometry book.new.allocator ≡ A.geometry book.old.allocator }
 {
     book.law();
-    first_law();
+    first_out_law();
+    last_return_law();
+    further_return_law();
     match book.give_back(id) {
         Ok(true) => true,
         Ok(false) => false,
@@ -292,3 +294,71 @@ fn first_law()
     oldest_law_one();
     oldest_law_two();
 }
+
+/// The first sample is out.
+#[tactic(auto, using(std::proofs::lemmas::Grind::common_steps, std::proofs::lemmas::Option::gets))]
+fn first_out_law()
+    ensures { (book : Book) (id : ℕ) → 0 < length book.out → get_or (ids_of book.out) 0 id ≡ id → IsOut book id }
+{
+    out_law();
+}
+
+/// What becomes of the book at the last return of its first sample.
+fn last_return_law()
+    ensures out { (old new : Book) (id : ℕ) → IsBook old → get_or (ids_of old.out) 0 id ≡ id
+        → GivesBack old id (Ok true) new → new.out ≡ drop 1 old.out }
+    ensures one { (old new : Book) (id : ℕ) → IsBook old → get_or (ids_of old.out) 0 id ≡ id
+        → GivesBack old id (Ok true) new → get_or (readers_of old.out) 0 0 ≡ 1 }
+{
+    first_law();
+    first_readers_law();
+}
+
+/// What becomes of the book at a further return of its first sample.
+fn further_return_law()
+    ensures chunks { (old new : Book) (id : ℕ) → IsBook old → get_or (ids_of old.out) 0 id ≡ id
+        → GivesBack old id (Ok false) new → chunks_of new.out ≡ chunks_of old.out }
+    ensures ids { (old new : Book) (id : ℕ) → IsBook old → get_or (ids_of old.out) 0 id ≡ id
+        → GivesBack old id (Ok false) new → ids_of new.out ≡ ids_of old.out }
+    ensures readers { (old new : Book) (id : ℕ) → IsBook old → get_or (ids_of old.out) 0 id ≡ id
+        → GivesBack old id (Ok false) new
+        → readers_of new.out ≡ slice_set (readers_of old.out) 0 (get_or (readers_of old.out) 0 0 - 1) }
+    ensures more { (old new : Book) (id : ℕ) → IsBook old → get_or (ids_of old.out) 0 id ≡ id
+        → GivesBack old id (Ok false) new → 1 < get_or (readers_of old.out) 0 0 }
+{
+    first_law();
+    first_readers_law();
+    returned_chunks_law();
+    returned_ids_law();
+    returned_readers_law();
+}
+
+/// For how many readers a sample waits.
+#[tactic(auto, using(crate::specs::Hints::parts_of_lists, std::proofs::lemmas::Grind::common_steps, std::proofs::lemmas::Option::gets))]
+fn first_readers_law()
+    ensures { (samples : List Sample) (position : ℕ) (sample : Sample) → slice_get samples position ≡ Some sample
+        → position ≡ 0 → get_or (readers_of samples) 0 0 ≡ returns_to_come sample.returns }
+{}
+
+/// The chunks stay where a sample waits for other returns.
+fn returned_chunks_law()
+    ensures { (old new : Book) (id position returns : ℕ) (sample : Sample) → IsAt old id position sample
+        → new ≡ with_returns old position sample returns → chunks_of new.out ≡ chunks_of old.out }
+{
+    same_chunks_law();
+}
+
+/// The ids stay where a sample waits for other returns.
+#[tactic(auto, using(crate::specs::Hints::parts_of_lists, std::proofs::lemmas::Grind::common_steps, std::proofs::lemmas::Option::gets))]
+fn returned_ids_law()
+    ensures { (old new : Book) (id position returns : ℕ) (sample : Sample) → IsAt old id position sample
+        → new ≡ with_returns old position sample returns → ids_of new.out ≡ ids_of old.out }
+{}
+
+/// How many readers are to come where a sample waits for other returns.
+#[tactic(auto, using(crate::specs::Hints::parts_of_lists, std::proofs::lemmas::Grind::common_steps, std::proofs::lemmas::Option::gets))]
+fn returned_readers_law()
+    ensures { (old new : Book) (id position returns : ℕ) (sample : Sample) → IsAt old id position sample
+        → new ≡ with_returns old position sample returns
+        → readers_of new.out ≡ slice_set (readers_of old.out) position returns }
+{}

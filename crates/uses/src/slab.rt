@@ -1,13 +1,13 @@
 //! Records of bytes, each in a chunk of its own.
 ghost use Rattle.std.specs.Prelude.{◌≡◌, ◌∷◌, ◌++◌, ◌<◌, [], ℕ, List, Some, IfOk, OnOk, OnErr, length, remove, slice_get, slice_set};
-ghost use Rattle.bb_memory_base.specs.Chunk.{Chunk, IsInside};
+ghost use Rattle.bb_memory_base.specs.Chunk.{Chunk};
 ghost use Rattle.bb_memory_base.specs.LiveList.{IsSound};
 ghost use Rattle.bb_memory_base.specs.HeldBytes.{HeldBytes, held_region};
 ghost use Rattle.uses.specs.Records.{records_in};
 
 use bb_memory_base::allocator::{AllocationError, Allocator, BaseAllocator};
 use bb_memory_base::layout::{Chunk, Layout, LayoutError};
-use bb_memory_base::region::Region;
+use bb_memory_base::region::{Region, live_bytes_law};
 use std::alloc::{AllocError, Global};
 use std::marker::Model;
 use thiserror::Error;
@@ -138,7 +138,6 @@ fn chunk_at(chunks: &Vec<Chunk>, position: usize) -> Chunk
 
 /// Writes a record in the chunk that was just given.
 pub(crate) fn put(region: &mut Region, chunks: &Vec<Chunk>, chunk: Chunk, bytes: &[u8])
-    requires inside { IsInside (held_region region.old) chunk }
     requires sound { IsSound (held_region region.old) (chunks.now.items ++ chunk ∷ []) }
     requires len { length bytes.now ≡ chunk.len }
     ensures records { records_in region.new (chunks.now.items ++ chunk ∷ [])
@@ -146,6 +145,8 @@ pub(crate) fn put(region: &mut Region, chunks: &Vec<Chunk>, chunk: Chunk, bytes:
     ensures region { held_region region.new ≡ held_region region.old }
 {
     let _ = chunks;
+    last_law();
+    live_bytes_law();
     region.write(chunk, bytes);
 }
 
