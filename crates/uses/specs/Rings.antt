@@ -1,10 +1,10 @@
 -- Messages for several readers, which lie in chunks of a region.
-use Rattle.std.specs.Prelude.{◌≡◌, ℕ, List, Result, Ok, map}
+use Rattle.std.specs.Prelude.{◌≡◌, ◌-◌, ◌<◌, ℕ, Bool, true, false, List, Result, Ok, drop, get_or, map, slice_set}
 use Rattle.bb_memory_base.specs.Chunk.{Chunk}
 use Rattle.bb_memory_base.specs.HeldBytes.{HeldBytes}
 use Rattle.bb_memory_base.specs.declared.layout.Layout.{Layout}
 use Rattle.bb_memory_base.specs.declared.allocator.AllocationError.{AllocationError}
-use Rattle.loan_book.specs.Book.{Book, chunks_out}
+use Rattle.loan_book.specs.Book.{Book, chunks_of, chunks_out}
 use Rattle.loan_book.specs.Sample.{Sample, returns_to_come}
 use Rattle.uses.specs.Records.{records_in}
 
@@ -22,6 +22,13 @@ readers_of samples = map (λ sample. returns_to_come sample.returns) samples
 
 abbrev pub ring_of : ℕ → HeldBytes → Book → Ring
 ring_of readers held book = record { readers = readers; messages = records_in held (chunks_out book); to_come = readers_of book.out }
+
+-- what is left of the samples once the first was returned: at its last return it leaves, and at another one it waits for one
+-- return less
+abbrev pub Returned : List Sample → Bool → List Sample → Type 0
+Returned old true new = (new ≡ drop 1 old) × (get_or (readers_of old) 0 0 ≡ 1)
+Returned old false new = (chunks_of new ≡ chunks_of old) × (ids_of new ≡ ids_of old)
+    × (readers_of new ≡ slice_set (readers_of old) 0 (get_or (readers_of old) 0 0 - 1)) × (1 < get_or (readers_of old) 0 0)
 
 -- each chunk that may be given has exactly the asked size
 abbrev pub GivesExactly : {G : Type 0} → (G → List Chunk → Layout → Result Chunk AllocationError → Type 0) → Type 0

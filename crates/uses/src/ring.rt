@@ -7,7 +7,7 @@ ghost use Rattle.loan_book.specs.Book.{Book, IsBook, IsAt, IsOut, IsPublished, c
 ghost use Rattle.loan_book.specs.Calls.{Publishes, GivesBack, with_sample, with_returns, without};
 ghost use Rattle.loan_book.specs.Sample.{Sample, returns_to_come};
 ghost use Rattle.uses.specs.Records.{records_in};
-ghost use Rattle.uses.specs.Rings.{Ring, GivesExactly, ids_of, readers_of};
+ghost use Rattle.uses.specs.Rings.{Ring, GivesExactly, Returned, ids_of, readers_of};
 
 use crate::slab::put;
 use bb_memory_base::allocator::Allocator;
@@ -152,12 +152,7 @@ fn loan_exactly<A: Allocator>(
 fn return_oldest<A: Allocator>(book: &mut LoanBook<A>, id: u64) -> bool
     requires some { 0 < length book.old.book.out }
     requires oldest { get_or (ids_of book.old.book.out) 0 id ≡ id }
-    ensures last { result ≡ true → book.new.book.out ≡ drop 1 book.old.book.out }
-    ensures chunks { result ≡ false → chunks_out book.new.book ≡ chunks_out book.old.book }
-    ensures ids { result ≡ false → ids_of book.new.book.out ≡ ids_of book.old.book.out }
-    ensures further { result ≡ false → readers_of book.new.book.out
-        ≡ slice_set (readers_of book.old.book.out) 0 (get_or (readers_of book.old.book.out) 0 0 - 1) }
-    ensures answer { IsTrue result ↔ (get_or (readers_of book.old.book.out) 0 0 ≡ 1) }
+    ensures returned { Returned book.old.book.out result book.new.book.out }
     ensures geometry { A.geometry book.new.allocator ≡ A.geometry book.old.allocator }
 {
     book.law();
@@ -296,19 +291,31 @@ fn first_law()
 }
 
 /// The first sample is out.
-#[tactic(auto, using(std::proofs::lemmas::Grind::common_steps, std::proofs::lemmas::Option::gets))]
 fn first_out_law()
-    ensures { (book : Book) (id : ℕ) → 0 < length book.out → get_or (ids_of book.out) 0 id ≡ id → IsOut book id }
+    ensures { (book : Book) (id : ℕ) → 0 < length book.out → get_or (ids_of book.out) 0 id ≡ id
+        → (¬ IsOut book id) → ⊥ }
 {
-    out_law();
+    first_found_law();
+    nowhere_law();
 }
+
+/// The first sample is found.
+#[tactic(auto, using(std::proofs::lemmas::Grind::common_steps, std::proofs::lemmas::Option::gets))]
+fn first_found_law()
+    ensures { (samples : List Sample) (id : ℕ) → 0 < length samples → get_or (ids_of samples) 0 id ≡ id
+        → ((position : ℕ) (sample : Sample) → slice_get samples position ≡ Some sample → sample.id ≡ id → ⊥) → ⊥ }
+{}
+
+/// A sample that isn't out stands nowhere.
+fn nowhere_law()
+    ensures { (book : Book) (id : ℕ) → (¬ IsOut book id) → (position : ℕ) (sample : Sample)
+        → slice_get book.out position ≡ Some sample → sample.id ≡ id → ⊥ }
+{}
 
 /// What becomes of the book at the last return of its first sample.
 fn last_return_law()
-    ensures out { (old new : Book) (id : ℕ) → IsBook old → get_or (ids_of old.out) 0 id ≡ id
-        → GivesBack old id (Ok true) new → new.out ≡ drop 1 old.out }
-    ensures one { (old new : Book) (id : ℕ) → IsBook old → get_or (ids_of old.out) 0 id ≡ id
-        → GivesBack old id (Ok true) new → get_or (readers_of old.out) 0 0 ≡ 1 }
+    ensures { (old new : Book) (id : ℕ) → IsBook old → get_or (ids_of old.out) 0 id ≡ id
+        → GivesBack old id (Ok true) new → Returned old.out true new.out }
 {
     first_law();
     first_readers_law();
@@ -316,15 +323,8 @@ fn last_return_law()
 
 /// What becomes of the book at a further return of its first sample.
 fn further_return_law()
-    ensures chunks { (old new : Book) (id : ℕ) → IsBook old → get_or (ids_of old.out) 0 id ≡ id
-        → GivesBack old id (Ok false) new → chunks_of new.out ≡ chunks_of old.out }
-    ensures ids { (old new : Book) (id : ℕ) → IsBook old → get_or (ids_of old.out) 0 id ≡ id
-        → GivesBack old id (Ok false) new → ids_of new.out ≡ ids_of old.out }
-    ensures readers { (old new : Book) (id : ℕ) → IsBook old → get_or (ids_of old.out) 0 id ≡ id
-        → GivesBack old id (Ok false) new
-        → readers_of new.out ≡ slice_set (readers_of old.out) 0 (get_or (readers_of old.out) 0 0 - 1) }
-    ensures more { (old new : Book) (id : ℕ) → IsBook old → get_or (ids_of old.out) 0 id ≡ id
-        → GivesBack old id (Ok false) new → 1 < get_or (readers_of old.out) 0 0 }
+    ensures { (old new : Book) (id : ℕ) → IsBook old → get_or (ids_of old.out) 0 id ≡ id
+        → GivesBack old id (Ok false) new → Returned old.out false new.out }
 {
     first_law();
     first_readers_law();
