@@ -23,12 +23,22 @@ readers_of samples = map (λ sample. returns_to_come sample.returns) samples
 abbrev pub ring_of : ℕ → HeldBytes → Book → Ring
 ring_of readers held book = record { readers = readers; messages = records_in held (chunks_out book); to_come = readers_of book.out }
 
--- what is left of the samples once the first was returned: at its last return it leaves, and at another one it waits for one
--- return less
+-- the first sample has left, at the one return that it waited for
+pub record HasLeft (old new : List Sample) : Type 0 where
+  pub others : new ≡ drop 1 old
+  pub last : get_or (readers_of old) 0 0 ≡ 1
+
+-- the first sample waits for one return less
+pub record WaitsOn (old new : List Sample) : Type 0 where
+  pub chunks : chunks_of new ≡ chunks_of old
+  pub ids : ids_of new ≡ ids_of old
+  pub readers : readers_of new ≡ slice_set (readers_of old) 0 (get_or (readers_of old) 0 0 - 1)
+  pub more : 1 < get_or (readers_of old) 0 0
+
+-- what is left of the samples once the first was returned, for the last time or not
 abbrev pub Returned : List Sample → Bool → List Sample → Type 0
-Returned old true new = (new ≡ drop 1 old) × (get_or (readers_of old) 0 0 ≡ 1)
-Returned old false new = (chunks_of new ≡ chunks_of old) × (ids_of new ≡ ids_of old)
-    × (readers_of new ≡ slice_set (readers_of old) 0 (get_or (readers_of old) 0 0 - 1)) × (1 < get_or (readers_of old) 0 0)
+Returned old true new = HasLeft old new
+Returned old false new = WaitsOn old new
 
 -- each chunk that may be given has exactly the asked size
 abbrev pub GivesExactly : {G : Type 0} → (G → List Chunk → Layout → Result Chunk AllocationError → Type 0) → Type 0

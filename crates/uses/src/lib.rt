@@ -9,3 +9,7 @@ pub mod mailbox;
 pub mod ring;
 pub mod scripts;
 pub mod slab;
+pub mod workers;
+
+#[cfg(test)]
+mod tests;

@@ -1,5 +1,5 @@
 //! Messages for several readers, each in a sample of a loan book.
-ghost use Rattle.std.specs.Prelude.{AllPairs, Ok, ◌≡◌, ◌∷◌, ◌++◌, ◌+◌, ◌<◌, ◌-◌, [], ℕ, List, Some, None, IfSome, IfNone, IfOk, OnOk, OnErr, IsTrue, true, false, ◌↔◌, drop, get_or, length, map, remove, slice_get, slice_set};
+ghost use Rattle.std.specs.Prelude.{AllPairs, Ok, ◌≡◌, ◌∷◌, ◌++◌, ◌+◌, ◌<◌, ◌-◌, [], ℕ, List, Option, Some, None, IfSome, IfNone, IfOk, OnOk, OnErr, IsTrue, true, false, ◌↔◌, drop, get_or, length, map, remove, slice_get, slice_set};
 ghost use Rattle.bb_memory_base.specs.Chunk.{Chunk, IsInside};
 ghost use Rattle.bb_memory_base.specs.LiveList.{IsSound};
 ghost use Rattle.bb_memory_base.specs.HeldBytes.{held_region};
@@ -7,7 +7,7 @@ ghost use Rattle.loan_book.specs.Book.{Book, IsBook, IsAt, IsOut, IsPublished, c
 ghost use Rattle.loan_book.specs.Calls.{Publishes, GivesBack, with_sample, with_returns, without};
 ghost use Rattle.loan_book.specs.Sample.{Sample, returns_to_come};
 ghost use Rattle.uses.specs.Records.{records_in};
-ghost use Rattle.uses.specs.Rings.{Ring, GivesExactly, Returned, ids_of, readers_of};
+ghost use Rattle.uses.specs.Rings.{Ring, GivesExactly, HasLeft, Returned, WaitsOn, ids_of, readers_of};
 
 use crate::slab::put;
 use bb_memory_base::allocator::Allocator;
@@ -110,7 +110,7 @@ impl<A: Allocator + Drop> MessageRing<A> {
         } }
         ensures answer { IsTrue result ↔ (get_or self.old.to_come 0 0 ≡ 1) }
     {
-        let id = self.ids[0];
+        let id = first_id(&self.ids);
         let last = return_oldest(&mut self.book, id);
         if last {
             self.ids.remove(0);
@@ -148,21 +148,37 @@ fn loan_exactly<A: Allocator>(
     book.loan(size)
 }
 
+/// The first id.
+#[tactic(auto, using(std::proofs::lemmas::Option::get_or_from_slice_get))]
+fn first_id(ids: &Vec<u64>) -> u64
+    requires { 0 < length ids.now.items }
+    ensures at { slice_get ids.now.items 0 ≡ Some result }
+    ensures is { get_or ids.now.items 0 result ≡ result }
+{
+    ids[0]
+}
+
 /// Returns the oldest sample once. It answers whether that was the last return.
 fn return_oldest<A: Allocator>(book: &mut LoanBook<A>, id: u64) -> bool
-    requires some { 0 < length book.old.book.out }
-    requires oldest { get_or (ids_of book.old.book.out) 0 id ≡ id }
+    requires oldest { slice_get (ids_of book.old.book.out) 0 ≡ Some id }
+    requires first { get_or (ids_of book.old.book.out) 0 id ≡ id }
     ensures returned { Returned book.old.book.out result book.new.book.out }
     ensures geometry { A.geometry book.new.allocator ≡ A.geometry book.old.allocator }
 {
     book.law();
-    first_out_law();
-    last_return_law();
-    further_return_law();
     match book.give_back(id) {
-        Ok(true) => true,
-        Ok(false) => false,
-        Err(_) => unreachable!(),
+        Ok(true) => {
+            last_return_law();
+            true
+        }
+        Ok(false) => {
+            further_return_law();
+            false
+        }
+        Err(_) => {
+            first_out_law();
+            unreachable!()
+        }
     }
 }
 
@@ -292,17 +308,16 @@ fn first_law()
 
 /// The first sample is out.
 fn first_out_law()
-    ensures { (book : Book) (id : ℕ) → 0 < length book.out → get_or (ids_of book.out) 0 id ≡ id
-        → (¬ IsOut book id) → ⊥ }
+    ensures { (book : Book) (id : ℕ) → slice_get (ids_of book.out) 0 ≡ Some id → (¬ IsOut book id) → ⊥ }
 {
     first_found_law();
     nowhere_law();
 }
 
 /// The first sample is found.
-#[tactic(auto, using(std::proofs::lemmas::Grind::common_steps, std::proofs::lemmas::Option::gets))]
+#[tactic(auto, using(crate::specs::Hints::parts_of_lists, std::proofs::lemmas::Grind::common_steps, std::proofs::lemmas::Option::gets))]
 fn first_found_law()
-    ensures { (samples : List Sample) (id : ℕ) → 0 < length samples → get_or (ids_of samples) 0 id ≡ id
+    ensures { (samples : List Sample) (id : ℕ) → slice_get (ids_of samples) 0 ≡ Some id
         → ((position : ℕ) (sample : Sample) → slice_get samples position ≡ Some sample → sample.id ≡ id → ⊥) → ⊥ }
 {}
 
@@ -314,8 +329,9 @@ fn nowhere_law()
 
 /// What becomes of the book at the last return of its first sample.
 fn last_return_law()
-    ensures { (old new : Book) (id : ℕ) → IsBook old → get_or (ids_of old.out) 0 id ≡ id
-        → GivesBack old id (Ok true) new → Returned old.out true new.out }
+    ensures { (old new : Book) (id position : ℕ) (sample : Sample) → IsBook old → get_or (ids_of old.out) 0 id ≡ id
+        → IsAt old id position sample → returns_to_come sample.returns ≡ 1 → new ≡ without old position
+        → HasLeft old.out new.out }
 {
     first_law();
     first_readers_law();
@@ -324,7 +340,7 @@ fn last_return_law()
 /// What becomes of the book at a further return of its first sample.
 fn further_return_law()
     ensures { (old new : Book) (id : ℕ) → IsBook old → get_or (ids_of old.out) 0 id ≡ id
-        → GivesBack old id (Ok false) new → Returned old.out false new.out }
+        → GivesBack old id (Ok false) new → WaitsOn old.out new.out }
 {
     first_law();
     first_readers_law();
