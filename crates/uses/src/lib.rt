@@ -9,7 +9,6 @@ pub mod mailbox;
 pub mod ring;
 pub mod scripts;
 pub mod slab;
-pub mod workers;
-
 #[cfg(test)]
 mod tests;
+pub mod workers;

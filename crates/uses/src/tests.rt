@@ -6,12 +6,13 @@ ghost use Rattle.bb_memory.specs.Pool.{StandsFor};
 use crate::byte_budget::ByteBudget;
 use crate::chunk_budget::ChunkBudget;
 use crate::mailbox::Mailbox;
+use crate::ring::MessageRing;
 use crate::slab::Slab;
 use crate::workers::two_workers;
 use bb_memory::bump_allocator::BumpAllocator;
 use bb_memory::layout::{Chunk, Layout};
 use bb_memory::pool_allocator::{
-    AllocationError, BaseAllocator, FixedSizePoolAllocator, pool_count_law,
+    AllocationError, BaseAllocator, FixedSizePoolAllocator, pool_count_law, pool_object_law,
 };
 use bb_memory::region::Region;
 use std::alloc::Global;
@@ -61,6 +62,21 @@ fn mailbox_in_order(rt: HostRuntime) -> Result<(), Fail> {
     assert!(rt; mailbox.receive());
     assert_eq!(rt; mailbox.front(), Some([4].as_slice()));
     assert_eq!(rt; mailbox.waiting(), 1);
+    Ok(())
+}
+
+#[test]
+fn ring_for_two_readers(rt: HostRuntime) -> Result<(), Fail> {
+    pool_object_law();
+    let mut ring = MessageRing::new(rt.alloc(), eight_buckets()?, its_region(rt.alloc())?, 2);
+    ring.send(&[1, 2])?;
+    ring.send(&[3])?;
+    assert_eq!(rt; ring.front(), Some([1, 2].as_slice()));
+    assert!(rt; !ring.finish());
+    assert_eq!(rt; ring.front(), Some([1, 2].as_slice()));
+    assert!(rt; ring.finish());
+    assert_eq!(rt; ring.front(), Some([3].as_slice()));
+    assert_eq!(rt; ring.waiting(), 1);
     Ok(())
 }
 

@@ -12,11 +12,7 @@ use std::thread;
 use std::thread::{Promise, Threads};
 
 /// Takes chunks of one layout until a request is refused, and hands its party back with how many it took.
-pub fn take_all(
-    shared: &SharedBumpAllocator,
-    party: BumpParty,
-    layout: Layout,
-) -> (BumpParty, u32)
+pub fn take_all(shared: &SharedBumpAllocator, party: BumpParty, layout: Layout) -> (BumpParty, u32)
     requires { party.allocator ≡ shared.now }
     ensures { result.0.allocator ≡ shared.entry.now }
 {

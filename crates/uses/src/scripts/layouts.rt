@@ -12,7 +12,7 @@ pub fn layout_of_literals() -> Layout {
     layout
 }
 
-/// The least multiple of 8 that isn't below 4097. The alignment comes from a layout, which is the proof that it is a power of two.
+/// The least multiple of 8 that isn't below 4097. The alignment is a layout's, so it is a power of two.
 pub fn least_place() -> Result<usize, LayoutError> {
     let eight = Layout::from_size_align(16, 8)?;
     let rounded = round_up(4097, eight.align());
