@@ -112,6 +112,6 @@ fn workers_share_a_region(rt: HostRuntime) -> Result<(), Fail> {
         there,
         Layout::from_size_align(100, 4)?,
     )?;
-    assert_eq!(rt; taken, 10);
+    assert_eq!(rt; taken, 4);
     Ok(())
 }

@@ -11,18 +11,15 @@ use std::sync::Arc;
 use std::thread;
 use std::thread::{Promise, Threads};
 
-/// Takes chunks of one layout until a request is refused, and hands its party back with how many it took.
-pub fn take_all(shared: &SharedBumpAllocator, party: BumpParty, layout: Layout) -> (BumpParty, u32)
+/// Asks twice, and hands the party back with how many chunks it got.
+pub fn take_two(shared: &SharedBumpAllocator, party: BumpParty, layout: Layout) -> (BumpParty, u32)
     requires { party.allocator ≡ shared.now }
     ensures { result.0.allocator ≡ shared.entry.now }
 {
     let mut party = party;
-    for taken in 0..u32::MAX {
-        if shared.allocate(&mut party, layout).is_err() {
-            return (party, taken);
-        }
-    }
-    (party, u32::MAX)
+    let first = shared.allocate(&mut party, layout).is_ok();
+    let second = shared.allocate(&mut party, layout).is_ok();
+    (party, first as u32 + second as u32)
 }
 
 /// That a thread hands back a party of this bump.
@@ -35,8 +32,8 @@ impl Promise<(BumpParty, u32)> for ComesBack {
     ghost kept_by = { λ promise answer. answer.0.allocator ≡ promise.0.value };
 }
 
-/// Both parties take all that they can, one in a thread of its own. No chunk of the one overlaps one of the other. It answers
-/// how many chunks they took together.
+/// Both parties ask twice, one in a thread of its own. No chunk of the one overlaps one of the other. It answers
+/// how many chunks they got together.
 pub fn two_workers(
     rt: &impl Threads,
     shared: &Arc<SharedBumpAllocator, Global>,
@@ -50,8 +47,8 @@ pub fn two_workers(
 {
     let its_shared = Arc::try_clone(shared)?;
     let promise = ComesBack(Snapshot::of(&**shared));
-    let child = thread::spawn_with(rt, promise, move || take_all(&its_shared, there, layout))?;
-    let (mut here, taken_here) = take_all(&**shared, here, layout);
+    let child = thread::spawn_with(rt, promise, move || take_two(&its_shared, there, layout))?;
+    let (mut here, taken_here) = take_two(&**shared, here, layout);
     let (mut there, taken_there) = child.join(rt);
     shared.meet(&mut here, &mut there);
     Ok((here, there, taken_here as u64 + taken_there as u64))

@@ -1,5 +1,5 @@
 //! What a loan book's calls do to its newest and to its oldest sample. Each function does nothing: its contract is the law.
-ghost use Rattle.std.specs.Prelude.{AllPairs, Ok, ◌≡◌, ◌∷◌, ◌++◌, ◌<◌, [], ℕ, List, Some, None, get_or, length, slice_get, slice_set};
+ghost use Rattle.std.specs.Prelude.{AllPairs, Ok, ◌≡◌, ◌∷◌, ◌++◌, ◌<◌, [], ℕ, List, Some, None, false, get_or, length, slice_get, slice_set};
 ghost use Rattle.bb_memory_base.specs.Chunk.{Chunk};
 ghost use Rattle.loan_book.specs.Book.{Book, IsBook, IsAt, IsOut, IsPublished, chunks_of};
 ghost use Rattle.loan_book.specs.Calls.{Publishes, GivesBack, with_sample, with_returns};
@@ -80,6 +80,7 @@ fn later_id_law()
         → (get_or samples 0 d).id < (get_or samples position d).id }
 {}
 
+/// What stands at a position is what an index finds there.
 #[tactic(auto, using(std::proofs::lemmas::Option::get_or_from_slice_get, std::proofs::lemmas::Option::slice_get_within))]
 fn found_law()
     ensures at { (samples : List Sample) (position : ℕ) (one d : Sample)
