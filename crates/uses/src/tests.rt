@@ -20,6 +20,7 @@ use std::sync::Arc;
 use std::test::Fail;
 
 /// A pool of 8 buckets of 128 bytes, of which none is out.
+#[tactic(auto, unfolding(bb_memory_base::specs::LeastPlace::least_place))]
 fn eight_buckets() -> Result<FixedSizePoolAllocator<16>, Fail>
     ensures fresh { IfOk result (λ pool. StandsFor pool []) }
     ensures start { IfOk result (λ pool. pool.geometry.region.start ≡ 4096) }
@@ -105,7 +106,7 @@ fn workers_share_a_region(rt: HostRuntime) -> Result<(), Fail> {
     let there = parties.pop().unwrap();
     let here = parties.pop().unwrap();
     let shared = Arc::new(rt.alloc(), shared)?;
-    let (_here, _there, taken) = two_workers(
+    let (mut here, mut there, taken) = two_workers(
         &rt,
         &shared,
         here,
@@ -113,5 +114,7 @@ fn workers_share_a_region(rt: HostRuntime) -> Result<(), Fail> {
         Layout::from_size_align(100, 4)?,
     )?;
     assert_eq!(rt; taken, 4);
+    shared.meet(&mut here, &mut there);
+    assert_eq!(rt; shared.used_space(&mut here), 400);
     Ok(())
 }

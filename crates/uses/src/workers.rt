@@ -1,7 +1,6 @@
 //! Two threads that carve one region up between them.
 ghost use Rattle.std.specs.Prelude.{◌≡◌, IfOk};
 ghost use Rattle.std.specs.Arc.{arc_value};
-ghost use Rattle.bb_memory.specs.SharedBump.{HaveChunksApart};
 
 use bb_memory::layout::Layout;
 use bb_memory::shared_bump::{BumpParty, SharedBumpAllocator};
@@ -32,8 +31,8 @@ impl Promise<(BumpParty, u32)> for ComesBack {
     ghost kept_by = { λ promise answer. answer.0.allocator ≡ promise.0.value };
 }
 
-/// Both parties ask twice, one in a thread of its own. No chunk of the one overlaps one of the other. It answers
-/// how many chunks they got together.
+/// Both parties ask twice, one in a thread of its own. They come back as this bump's, so that it can `meet` them, which says
+/// that their chunks don't overlap. It answers how many chunks they got together.
 pub fn two_workers(
     rt: &impl Threads,
     shared: &Arc<SharedBumpAllocator, Global>,
@@ -43,13 +42,13 @@ pub fn two_workers(
 ) -> Result<(BumpParty, BumpParty, u64), AllocError>
     requires here { here.allocator ≡ arc_value shared.now }
     requires there { there.allocator ≡ arc_value shared.now }
-    ensures apart { IfOk result (λ made. HaveChunksApart made.0.log made.1.log) }
+    ensures here { IfOk result (λ made. made.0.allocator ≡ arc_value shared.now) }
+    ensures there { IfOk result (λ made. made.1.allocator ≡ arc_value shared.now) }
 {
     let its_shared = Arc::try_clone(shared)?;
     let promise = ComesBack(Snapshot::of(&**shared));
     let child = thread::spawn_with(rt, promise, move || take_two(&its_shared, there, layout))?;
-    let (mut here, taken_here) = take_two(&**shared, here, layout);
-    let (mut there, taken_there) = child.join(rt);
-    shared.meet(&mut here, &mut there);
+    let (here, taken_here) = take_two(&**shared, here, layout);
+    let (there, taken_there) = child.join(rt);
     Ok((here, there, taken_here as u64 + taken_there as u64))
 }
