@@ -1,0 +1,5 @@
+pub mod Budgets
+pub mod ByteVectors
+pub mod Hints
+pub mod Records
+pub mod Rings

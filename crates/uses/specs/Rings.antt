@@ -1,0 +1,46 @@
+-- Messages for several readers, which lie in chunks of a region.
+use Rattle.std.specs.Prelude.{◌≡◌, ◌-◌, ◌<◌, ℕ, Bool, true, false, List, Result, Ok, drop, get_or, map, slice_set}
+use Rattle.bb_memory_base.specs.Chunk.{Chunk}
+use Rattle.bb_memory_base.specs.HeldBytes.{HeldBytes}
+use Rattle.bb_memory_base.specs.declared.layout.Layout.{Layout}
+use Rattle.bb_memory_base.specs.declared.allocator.AllocationError.{AllocationError}
+use Rattle.loan_book.specs.Book.{Book, chunks_of, chunks_out}
+use Rattle.loan_book.specs.Sample.{Sample, returns_to_come}
+use Rattle.uses.specs.Records.{records_in}
+
+-- how many readers each message has, the messages that wait, the oldest first, and how many readers of each are to come
+pub record Ring : Type 0 where
+  pub readers : ℕ
+  pub messages : List (List ℕ)
+  pub to_come : List ℕ
+
+abbrev pub ids_of : List Sample → List ℕ
+ids_of samples = map (λ sample. sample.id) samples
+
+abbrev pub readers_of : List Sample → List ℕ
+readers_of samples = map (λ sample. returns_to_come sample.returns) samples
+
+abbrev pub ring_of : ℕ → HeldBytes → Book → Ring
+ring_of readers held book = record { readers = readers; messages = records_in held (chunks_out book); to_come = readers_of book.out }
+
+-- the first sample has left, at the one return that it waited for
+pub record HasLeft (old new : List Sample) : Type 0 where
+  pub others : new ≡ drop 1 old
+  pub last : get_or (readers_of old) 0 0 ≡ 1
+
+-- the first sample waits for one return less
+pub record WaitsOn (old new : List Sample) : Type 0 where
+  pub chunks : chunks_of new ≡ chunks_of old
+  pub ids : ids_of new ≡ ids_of old
+  pub readers : readers_of new ≡ slice_set (readers_of old) 0 (get_or (readers_of old) 0 0 - 1)
+  pub more : 1 < get_or (readers_of old) 0 0
+
+-- what is left of the samples once the first was returned, for the last time or not
+abbrev pub Returned : List Sample → Bool → List Sample → Type 0
+Returned old true new = HasLeft old new
+Returned old false new = WaitsOn old new
+
+-- each chunk that may be given has exactly the asked size
+abbrev pub GivesExactly : {G : Type 0} → (G → List Chunk → Layout → Result Chunk AllocationError → Type 0) → Type 0
+GivesExactly {G = G} may_allocate = (geometry : G) (live : List Chunk) (layout : Layout) (chunk : Chunk)
+    → may_allocate geometry live layout (Ok chunk) → chunk.len ≡ layout.size

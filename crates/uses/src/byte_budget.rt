@@ -1,0 +1,221 @@
+//! A budget of bytes for one tenant of an allocator.
+ghost use Rattle.std.specs.Prelude.{◌≡◌, ◌≤◌, ◌<◌, ◌+◌, ◌∷◌, ◌++◌, [], ℕ, List, Some, IfOk, OnErr, length, remove, slice_get, slice_set};
+ghost use Rattle.bb_memory_base.specs.Chunk.{Chunk};
+ghost use Rattle.uses.specs.Budgets.{reserved_bytes};
+
+use bb_memory_base::allocator::{
+    AllocationError, AllocationGrowError, AllocationShrinkError, Allocator, BaseAllocator,
+};
+use bb_memory_base::layout::{Chunk, Layout};
+use std::marker::Model;
+
+/// An allocator for whose chunks at most so many bytes are reserved. It is an allocator itself, so budgets nest. A resize
+/// stays within what is reserved, so it needs no budget.
+#[derive(Drop)]
+pub struct ByteBudget<A: Allocator + Drop> {
+    inner: A,
+    budget: usize,
+    out: usize,
+}
+
+impl<A: Allocator + Drop> Model for ByteBudget<A> {
+    ghost use Rattle.std.specs.Prelude.{◌≡◌, ◌≤◌, List};
+    ghost use Rattle.bb_memory_base.specs.Chunk.{Chunk};
+    ghost use Rattle.uses.specs.Budgets.{Budgeted, reserved_bytes};
+
+    ghost Value = { Budgeted A };
+
+    ghost view = { λ b. record { inner = b.inner; budget = b.budget; out = b.out } };
+
+    ghost invariant = { λ b. (b.out ≤ b.budget) × ((live : List Chunk) × A.stands_for b.inner live
+        × (reserved_bytes (A.reserved_at (A.figures b.inner)) live ≡ b.out)) };
+}
+
+impl<A: Allocator + Drop> ByteBudget<A> {
+    /// A budget of so many bytes, over an allocator that has nothing out.
+    pub fn new(inner: A, budget: usize) -> Self
+        requires { A.stands_for inner [] }
+        ensures { result ≡ record { inner = inner; budget = budget; out = 0 } }
+    {
+        ByteBudget {
+            inner,
+            budget,
+            out: 0,
+        }
+    }
+
+    /// How many bytes are reserved for the chunks that are out: never more than the budget.
+    pub fn out(&self) -> usize
+        ensures value { result ≡ self.now.out }
+        ensures within { result ≤ self.now.budget }
+        ensures of_live { (live : List Chunk) → ⟦<ByteBudget<A> as BaseAllocator>⟧.stands_for self.now live
+            → reserved_bytes (A.reserved_at (A.figures self.now.inner)) live ≡ result }
+    {
+        self.out
+    }
+
+    /// How many bytes may be out.
+    pub fn budget(&self) -> usize
+        ensures { result ≡ self.now.budget }
+    {
+        self.budget
+    }
+}
+
+impl<A: Allocator + Drop> BaseAllocator for ByteBudget<A> {
+    ghost use Rattle.std.specs.Prelude.{◌≡◌, false, List};
+    ghost use Rattle.uses.specs.Budgets.{LimitedBytes, MayAnswerBytes, reserved_bytes};
+
+    const RELEASE_EMPTIES: bool = false;
+
+    ghost RELEASE_EMPTIES = { false };
+
+    ghost Geometry = { LimitedBytes A.Geometry A.Figures };
+
+    ghost geometry = { λ b. record { inner = A.geometry b.inner; figures = A.figures b.inner; budget = b.budget } };
+
+    ghost region_of = { λ g. A.region_of g.inner };
+
+    ghost may_allocate = { λ g live layout answer.
+        MayAnswerBytes (A.may_allocate g.inner live layout) (A.reserved_at g.figures) g.budget live answer };
+
+    ghost stands_for = { λ b live. A.stands_for b.inner live
+        × (reserved_bytes (A.reserved_at (A.figures b.inner)) live ≡ b.out) };
+
+    ghost may_release = { λ b. A.may_release b.inner };
+
+    /// As the allocator below answers, but `OutOfMemory` where more is reserved for its chunk than is left of the budget.
+    fn allocate(&mut self, layout: Layout) -> Result<Chunk, AllocationError> {
+        let chunk = self.inner.allocate(layout)?;
+        let reserved = self.inner.reserved(chunk.place());
+        if reserved > self.budget - self.out {
+            return_last(&mut self.inner, chunk, layout);
+            return Err(AllocationError::OutOfMemory);
+        }
+        appended_bytes_law();
+        self.out += reserved;
+        Ok(chunk)
+    }
+
+    fn deallocate(&mut self, place: usize, layout: Layout) {
+        let reserved = reserved_within(&self.inner, place);
+        removed_bytes_law();
+        self.inner.deallocate(place, layout);
+        self.out -= reserved;
+    }
+
+    fn stands_for_some_list(&self) {
+        let _ = &self.out;
+    }
+
+    ghost releases = { λ b live position chunk stands at. A.releases b.inner live position chunk stands.0 at };
+
+    ghost sound = { λ b live stands. A.sound b.inner live stands.0 };
+}
+
+impl<A: Allocator + Drop> Allocator for ByteBudget<A> {
+    ghost use Rattle.std.specs.Prelude.{refl};
+    ghost use Rattle.std.proofs.Common.{ap};
+    ghost use Rattle.uses.specs.Budgets.{LimitedBytes};
+
+    ghost Figures = { A.Figures };
+
+    ghost figures = { λ b. A.figures b.inner };
+
+    ghost reserved_at = { A.reserved_at };
+
+    ghost may_grow = { A.may_grow };
+
+    ghost may_shrink = { A.may_shrink };
+
+    fn reserved(&self, place: usize) -> usize {
+        self.inner.reserved(place)
+    }
+
+    fn grow(
+        &mut self,
+        place: usize,
+        old: Layout,
+        new: Layout,
+    ) -> Result<Chunk, AllocationGrowError> {
+        resized_bytes_law();
+        self.inner.grow(place, old, new)
+    }
+
+    fn shrink(
+        &mut self,
+        place: usize,
+        old: Layout,
+        new: Layout,
+    ) -> Result<Chunk, AllocationShrinkError> {
+        resized_bytes_law();
+        self.inner.shrink(place, old, new)
+    }
+
+    ghost fixed = { λ one other same. ap (λ (g : LimitedBytes A.Geometry A.Figures). g.figures) same };
+
+    ghost closes_up = { refl };
+
+    ghost distinct = { λ b live stands. A.distinct b.inner live stands.0 };
+
+    ghost covered = { λ b live position chunk stands at. A.covered b.inner live position chunk stands.0 at };
+
+    ghost only_live = { λ b live place stands held. A.only_live b.inner live place stands.0 held };
+}
+
+/// Gives back the chunk that was given last.
+fn return_last<A: Allocator>(inner: &mut A, chunk: Chunk, layout: Layout)
+    requires { A.may_release inner.old chunk.place }
+    ensures stands { (live : List Chunk) → A.stands_for inner.old (live ++ chunk ∷ [])
+        → A.stands_for inner.new live }
+    ensures geometry { A.geometry inner.new ≡ A.geometry inner.old }
+{
+    last_law();
+    inner.deallocate(chunk.place(), layout);
+}
+
+/// How many bytes are reserved for the chunk at this place: a part of those that are reserved for all.
+fn reserved_within<A: Allocator>(inner: &A, place: usize) -> usize
+    requires { A.may_release inner.now place }
+    ensures value { result ≡ A.reserved_at (A.figures inner.now) place }
+    ensures within { (live : List Chunk) → A.stands_for inner.now live
+        → result ≤ reserved_bytes (A.reserved_at (A.figures inner.now)) live }
+{
+    removed_bytes_law();
+    inner.reserved(place)
+}
+
+/// What is reserved for a list once a chunk is taken out of it. It does nothing: its contract is the law.
+#[tactic(auto, using(std::proofs::lemmas::Grind::common_steps, std::proofs::lemmas::Option::gets))]
+fn removed_bytes_law()
+    ensures removed { (reserved_at : ℕ → ℕ) (live : List Chunk) (position : ℕ) (chunk : Chunk)
+        → slice_get live position ≡ Some chunk
+        → reserved_bytes reserved_at (remove live position) + reserved_at chunk.place
+        ≡ reserved_bytes reserved_at live }
+    ensures within { (reserved_at : ℕ → ℕ) (live : List Chunk) (position : ℕ) (chunk : Chunk)
+        → slice_get live position ≡ Some chunk
+        → reserved_at chunk.place ≤ reserved_bytes reserved_at live }
+{}
+
+/// What is reserved for a list once a chunk is put behind it. It does nothing: its contract is the law.
+fn appended_bytes_law()
+    ensures { (reserved_at : ℕ → ℕ) (live : List Chunk) (chunk : Chunk)
+        → reserved_bytes reserved_at (live ++ chunk ∷ [])
+        ≡ reserved_bytes reserved_at live + reserved_at chunk.place }
+{}
+
+/// What is reserved for a list whose chunk is resized at its place. It does nothing: its contract is the law.
+#[tactic(auto, using(std::proofs::lemmas::Grind::common_steps, std::proofs::lemmas::Option::gets))]
+fn resized_bytes_law()
+    ensures { (reserved_at : ℕ → ℕ) (live : List Chunk) (position : ℕ) (chunk resized : Chunk)
+        → slice_get live position ≡ Some chunk → resized.place ≡ chunk.place
+        → reserved_bytes reserved_at (slice_set live position resized) ≡ reserved_bytes reserved_at live }
+{}
+
+/// What was put at the end of a list is taken out of it. It does nothing: its contract is the law.
+fn last_law()
+    ensures at_end { (live : List Chunk) (chunk : Chunk)
+        → slice_get (live ++ chunk ∷ []) (length live) ≡ Some chunk }
+    ensures as_before { (live : List Chunk) (chunk : Chunk)
+        → remove (live ++ chunk ∷ []) (length live) ≡ live }
+{}

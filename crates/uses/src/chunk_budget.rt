@@ -1,0 +1,170 @@
+//! A budget of chunks for one tenant of an allocator.
+ghost use Rattle.std.specs.Prelude.{◌≡◌, ◌≤◌, ◌<◌, ◌+◌, [], ℕ, List, Some, length, remove, slice_get};
+ghost use Rattle.bb_memory_base.specs.Chunk.{Chunk};
+
+use bb_memory_base::allocator::{
+    AllocationError, AllocationGrowError, AllocationShrinkError, Allocator, BaseAllocator,
+};
+use bb_memory_base::layout::{Chunk, Layout};
+use std::marker::Model;
+
+/// An allocator that has at most so many chunks out. It is an allocator itself, so budgets nest.
+#[derive(Drop)]
+pub struct ChunkBudget<A: BaseAllocator + Drop> {
+    inner: A,
+    budget: usize,
+    out: usize,
+}
+
+impl<A: BaseAllocator + Drop> Model for ChunkBudget<A> {
+    ghost use Rattle.std.specs.Prelude.{◌≡◌, ◌≤◌, List, length};
+    ghost use Rattle.bb_memory_base.specs.Chunk.{Chunk};
+    ghost use Rattle.uses.specs.Budgets.{Budgeted};
+
+    ghost Value = { Budgeted A };
+
+    ghost view = { λ b. record { inner = b.inner; budget = b.budget; out = b.out } };
+
+    ghost invariant = { λ b. (b.out ≤ b.budget)
+        × ((live : List Chunk) × A.stands_for b.inner live × (length live ≡ b.out)) };
+}
+
+impl<A: BaseAllocator + Drop> ChunkBudget<A> {
+    /// A budget of so many chunks, over an allocator that has nothing out.
+    pub fn new(inner: A, budget: usize) -> Self
+        requires { A.stands_for inner [] }
+        ensures { result ≡ record { inner = inner; budget = budget; out = 0 } }
+    {
+        ChunkBudget {
+            inner,
+            budget,
+            out: 0,
+        }
+    }
+
+    /// How many chunks are out: as many as each live list has that it stands for, and never more than the budget.
+    pub fn out(&self) -> usize
+        ensures value { result ≡ self.now.out }
+        ensures within { result ≤ self.now.budget }
+        ensures of_live { (live : List Chunk) → ⟦<ChunkBudget<A> as BaseAllocator>⟧.stands_for self.now live
+            → length live ≡ result }
+    {
+        self.out
+    }
+
+    /// How many chunks may be out.
+    pub fn budget(&self) -> usize
+        ensures { result ≡ self.now.budget }
+    {
+        self.budget
+    }
+}
+
+impl<A: BaseAllocator + Drop> BaseAllocator for ChunkBudget<A> {
+    ghost use Rattle.std.specs.Prelude.{◌≡◌, ℕ, List, Some, length, slice_get, refl};
+    ghost use Rattle.bb_memory_base.specs.Chunk.{Chunk};
+    ghost use Rattle.uses.specs.Budgets.{Limited, MayAnswerChunks};
+
+    const RELEASE_EMPTIES: bool = A::RELEASE_EMPTIES;
+
+    ghost RELEASE_EMPTIES = { A.RELEASE_EMPTIES };
+
+    ghost Geometry = { Limited A.Geometry };
+
+    ghost geometry = { λ b. record { inner = A.geometry b.inner; budget = b.budget } };
+
+    ghost region_of = { λ g. A.region_of g.inner };
+
+    ghost may_allocate = { λ g live layout answer.
+        MayAnswerChunks (A.may_allocate g.inner live layout answer) g.budget live answer };
+
+    ghost stands_for = { λ b live. A.stands_for b.inner live × (length live ≡ b.out) };
+
+    ghost may_release = { λ b place. (live : List Chunk) × (position : ℕ) × (chunk : Chunk)
+        × A.stands_for b.inner live × (length live ≡ b.out)
+        × (slice_get live position ≡ Some chunk) × (chunk.place ≡ place) };
+
+    /// As the allocator below answers, but `OutOfMemory` where the budget is spent.
+    fn allocate(&mut self, layout: Layout) -> Result<Chunk, AllocationError> {
+        if self.out == self.budget {
+            return Err(AllocationError::OutOfMemory);
+        }
+        let chunk = self.inner.allocate(layout)?;
+        self.out += 1;
+        Ok(chunk)
+    }
+
+    fn deallocate(&mut self, place: usize, layout: Layout) {
+        removed_law();
+        self.inner.deallocate(place, layout);
+        if A::RELEASE_EMPTIES {
+            self.out = 0;
+        } else {
+            self.out -= 1;
+        }
+    }
+
+    fn stands_for_some_list(&self) {
+        let _ = &self.out;
+    }
+
+    ghost releases = { λ b live position chunk stands at.
+        (live, position, chunk, stands.0, stands.1, at, refl) };
+
+    ghost sound = { λ b live stands. A.sound b.inner live stands.0 };
+}
+
+impl<A: Allocator + Drop> Allocator for ChunkBudget<A> {
+    ghost use Rattle.std.proofs.Common.{ap, subst};
+    ghost use Rattle.uses.specs.Budgets.{Limited};
+
+    ghost Figures = { A.Figures };
+
+    ghost figures = { λ b. A.figures b.inner };
+
+    ghost reserved_at = { A.reserved_at };
+
+    ghost may_grow = { A.may_grow };
+
+    ghost may_shrink = { A.may_shrink };
+
+    fn reserved(&self, place: usize) -> usize {
+        self.inner.reserved(place)
+    }
+
+    fn grow(
+        &mut self,
+        place: usize,
+        old: Layout,
+        new: Layout,
+    ) -> Result<Chunk, AllocationGrowError> {
+        self.inner.grow(place, old, new)
+    }
+
+    fn shrink(
+        &mut self,
+        place: usize,
+        old: Layout,
+        new: Layout,
+    ) -> Result<Chunk, AllocationShrinkError> {
+        self.inner.shrink(place, old, new)
+    }
+
+    ghost fixed = { λ one other same. A.fixed one.inner other.inner
+        (ap (λ (g : Limited A.Geometry). g.inner) same) };
+
+    ghost closes_up = { A.closes_up };
+
+    ghost distinct = { λ b live stands. A.distinct b.inner live stands.0 };
+
+    ghost covered = { λ b live position chunk stands at. A.covered b.inner live position chunk stands.0 at };
+
+    ghost only_live = { λ b live place stands held. A.only_live b.inner live place stands.0
+        (subst (A.may_release b.inner) held.6 (A.releases b.inner held.0 held.1 held.2 held.3 held.5)) };
+}
+
+/// One fewer stands in a list once one is taken out. It does nothing: its contract is the law.
+fn removed_law()
+    ensures { (live : List Chunk) (position : ℕ) (chunk : Chunk) → slice_get live position ≡ Some chunk
+        → length (remove live position) + 1 ≡ length live }
+{}

@@ -1,0 +1,14 @@
+//! Layers that stand on the allocators by their public contracts alone, as users write them: this crate has no proof files.
+#![tactic(auto)]
+
+pub mod byte_budget;
+pub mod byte_vector;
+pub mod chunk_budget;
+pub mod errors;
+pub mod mailbox;
+pub mod ring;
+pub mod scripts;
+pub mod slab;
+#[cfg(test)]
+mod tests;
+pub mod workers;

@@ -1,0 +1,204 @@
+//! Messages for several readers, each in a sample of a loan book.
+ghost use Rattle.std.specs.Prelude.{◌≡◌, ◌∷◌, ◌++◌, ◌<◌, ◌-◌, ◌↔◌, [], Some, IfSome, IfNone, IfOk, OnOk, OnErr, IsTrue, true, false, drop, get_or, length, slice_get, slice_set};
+ghost use Rattle.bb_memory_base.specs.Chunk.{Chunk};
+ghost use Rattle.bb_memory_base.specs.LiveList.{IsSound};
+ghost use Rattle.bb_memory_base.specs.HeldBytes.{held_region};
+ghost use Rattle.loan_book.specs.Book.{Book, IsBook, chunks_out};
+ghost use Rattle.loan_book.specs.Calls.{with_sample};
+ghost use Rattle.uses.specs.Rings.{GivesExactly, Returned, ids_of, readers_of};
+
+mod laws;
+
+use crate::slab::put;
+use bb_memory_base::allocator::Allocator;
+use bb_memory_base::layout::Chunk;
+use bb_memory_base::region::Region;
+use laws::{
+    first_out_law, newest_law, newest_out_law, newest_state_law, published_law, returned_law,
+    seam_law,
+};
+use loan_book::{LoanBook, LoanError};
+use std::alloc::{AllocError, Global};
+use std::marker::Model;
+use thiserror::Error;
+
+/// Why a message wasn't sent.
+#[derive(Debug, Drop, Error)]
+pub enum SendError {
+    #[error("no memory for the list of messages")]
+    List(#[from] AllocError),
+    #[error("no sample: {0}")]
+    Refused(#[from] LoanError),
+}
+
+/// Messages that several readers read, each in a sample of a loan book: a message's chunk goes back when the last of its readers
+/// is done with it.
+#[derive(Drop)]
+pub struct MessageRing<A: Allocator + Drop> {
+    book: LoanBook<A>,
+    region: Region,
+    readers: u32,
+    ids: Vec<u64>,
+    chunks: Vec<Chunk>,
+}
+
+impl<A: Allocator + Drop> Model for MessageRing<A> {
+    ghost use Rattle.std.specs.Prelude.{◌≡◌, ◌<◌};
+    ghost use Rattle.bb_memory_base.specs.HeldBytes.{held_region};
+    ghost use Rattle.loan_book.specs.Book.{chunks_out};
+    ghost use Rattle.uses.specs.Rings.{Ring, GivesExactly, ids_of, ring_of};
+
+    ghost Value = { Ring };
+
+    ghost view = { λ r. ring_of r.readers r.region r.book.book };
+
+    ghost invariant = { λ r. (0 < r.readers) × (r.ids.items ≡ ids_of r.book.book.out)
+        × (r.chunks.items ≡ chunks_out r.book.book) × GivesExactly A.may_allocate
+        × (held_region r.region ≡ A.region_of (A.geometry r.book.allocator)) };
+}
+
+impl<A: Allocator + Drop> MessageRing<A> {
+    /// No messages, for so many readers each, at least one. The allocator has nothing out and gives chunks of exactly the
+    /// asked size, as the pools do, and the region is the allocator's.
+    pub fn new(alloc: Global, allocator: A, region: Region, readers: u32) -> Self
+        requires fresh { A.stands_for allocator [] }
+        requires exact { GivesExactly A.may_allocate }
+        requires same_region { held_region region ≡ A.region_of (A.geometry allocator) }
+        requires some_reader { 0 < readers }
+        ensures { result ≡ record { readers = readers; messages = []; to_come = [] } }
+    {
+        MessageRing {
+            book: LoanBook::new(alloc, allocator),
+            region,
+            readers,
+            ids: Vec::new(alloc),
+            chunks: Vec::new(alloc),
+        }
+    }
+
+    /// How many messages wait.
+    pub fn waiting(&self) -> usize
+        ensures { result ≡ length self.now.messages }
+    {
+        self.chunks.len()
+    }
+
+    /// Sends a message to all readers. A refusal keeps all.
+    pub fn send(&mut self, bytes: &[u8]) -> Result<(), SendError>
+        ensures sent { OnOk result (self.new ≡ record self.old {
+          messages = self.old.messages ++ bytes.now ∷ [];
+          to_come = self.old.to_come ++ self.old.readers ∷ [];
+        }) }
+        ensures kept { OnErr result (self.new ≡ self.old) }
+    {
+        self.ids.reserve(1)?;
+        self.chunks.reserve(1)?;
+        let (id, chunk) = loan_exactly(&mut self.book, bytes.len())?;
+        put(&mut self.region, &self.chunks, chunk, bytes);
+        publish_newest(&mut self.book, id, self.readers);
+        self.ids.push_reserved(id);
+        self.chunks.push_reserved(chunk);
+        Ok(())
+    }
+
+    /// One reader is done with the oldest message. It answers whether that was the last one: then the message leaves, and its
+    /// chunk goes back.
+    pub fn finish(&mut self) -> bool
+        requires { 0 < length self.old.messages }
+        ensures last { result ≡ true → self.new ≡ record self.old {
+          messages = drop 1 self.old.messages;
+          to_come = drop 1 self.old.to_come;
+        } }
+        ensures further { result ≡ false → self.new ≡ record self.old {
+          to_come = slice_set self.old.to_come 0 (get_or self.old.to_come 0 0 - 1);
+        } }
+        ensures answer { IsTrue result ↔ (get_or self.old.to_come 0 0 ≡ 1) }
+    {
+        let id = first_id(&self.ids);
+        let last = return_oldest(&mut self.book, id);
+        if last {
+            self.ids.remove(0);
+            self.chunks.remove(0);
+        }
+        last
+    }
+
+    /// The oldest message, as it was sent, where one waits.
+    pub fn front(&self) -> Option<&[u8]>
+        ensures some { IfSome result (λ bytes. slice_get self.now.messages 0 ≡ Some bytes.now) }
+        ensures none { IfNone result (self.now.messages ≡ []) }
+    {
+        self.book.law();
+        let chunk = self.chunks.first()?;
+        Some(self.region.chunk(*chunk))
+    }
+}
+
+/// Loans a sample of exactly this size.
+fn loan_exactly<A: Allocator>(
+    book: &mut LoanBook<A>,
+    size: usize,
+) -> Result<(u64, Chunk), LoanError>
+    requires { GivesExactly A.may_allocate }
+    ensures loaned { IfOk result (λ loaned. (loaned.0 ≡ book.old.book.loaned)
+        × (book.new.book ≡ with_sample book.old.book loaned.1)) }
+    ensures exact { IfOk result (λ loaned. loaned.1.len ≡ size) }
+    ensures sound { IsSound (A.region_of (A.geometry book.old.allocator)) (chunks_out book.new.book) }
+    ensures geometry { A.geometry book.new.allocator ≡ A.geometry book.old.allocator }
+    ensures book { IsBook book.old.book }
+    ensures kept { OnErr result (book.new.book ≡ book.old.book) }
+{
+    book.law();
+    book.loan(size)
+}
+
+/// The first id.
+#[tactic(auto, using(std::proofs::lemmas::Option::get_or_from_slice_get))]
+fn first_id(ids: &Vec<u64>) -> u64
+    requires { 0 < length ids.now.items }
+    ensures at { slice_get ids.now.items 0 ≡ Some result }
+    ensures is { get_or ids.now.items 0 result ≡ result }
+{
+    ids[0]
+}
+
+/// Returns the oldest sample once. It answers whether that was the last return.
+fn return_oldest<A: Allocator>(book: &mut LoanBook<A>, id: u64) -> bool
+    requires oldest { slice_get (ids_of book.old.book.out) 0 ≡ Some id }
+    requires first { get_or (ids_of book.old.book.out) 0 id ≡ id }
+    ensures returned { Returned book.old.book.out result book.new.book.out }
+    ensures geometry { A.geometry book.new.allocator ≡ A.geometry book.old.allocator }
+{
+    book.law();
+    match book.give_back(id) {
+        Ok(last) => {
+            returned_law(last);
+            last
+        }
+        Err(_) => {
+            first_out_law();
+            unreachable!()
+        }
+    }
+}
+
+/// Publishes the sample that was loaned last.
+fn publish_newest<A: Allocator>(book: &mut LoanBook<A>, id: u64, readers: u32)
+    requires newest { (before : Book) × (chunk : Chunk) × IsBook before × (id ≡ before.loaned)
+        × (book.old.book ≡ with_sample before chunk) }
+    requires some_reader { 0 < readers }
+    ensures waits { (before : Book) (chunk : Chunk) → IsBook before → id ≡ before.loaned
+        → book.old.book ≡ with_sample before chunk
+        → book.new.book.out ≡ before.out ++ record { id = before.loaned; chunk = chunk; returns = Some readers } ∷ [] }
+    ensures allocator { book.new.allocator ≡ book.old.allocator }
+{
+    newest_law();
+    newest_out_law();
+    newest_state_law();
+    seam_law();
+    published_law();
+    match book.publish(id, readers) {
+        Ok(()) => {}
+        Err(_) => unreachable!(),
+    }
+}

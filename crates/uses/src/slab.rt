@@ -1,0 +1,166 @@
+//! Records of bytes, each in a chunk of its own.
+ghost use Rattle.std.specs.Prelude.{◌≡◌, ◌∷◌, ◌++◌, ◌<◌, [], ℕ, List, Some, IfOk, OnOk, OnErr, length, remove, slice_get, slice_set};
+ghost use Rattle.bb_memory_base.specs.Chunk.{Chunk};
+ghost use Rattle.bb_memory_base.specs.LiveList.{IsSound};
+ghost use Rattle.bb_memory_base.specs.HeldBytes.{HeldBytes, held_region};
+ghost use Rattle.uses.specs.Records.{records_in};
+
+use bb_memory_base::allocator::{AllocationError, Allocator, BaseAllocator};
+use bb_memory_base::layout::{Chunk, Layout, LayoutError};
+use bb_memory_base::region::{Region, live_bytes_law};
+use std::alloc::{AllocError, Global};
+use std::marker::Model;
+use thiserror::Error;
+
+/// Why a record wasn't stored.
+#[derive(Debug, Drop, Error)]
+pub enum InsertError {
+    #[error("no memory for the list of records")]
+    List(#[from] AllocError),
+    #[error("the record is too long: {0}")]
+    Layout(#[from] LayoutError),
+    #[error("no chunk: {0}")]
+    Refused(#[from] AllocationError),
+    #[error("the allocator gave a longer chunk than the record")]
+    NoExactChunk,
+}
+
+/// Records of bytes, each in a chunk of an allocator's region. A record is named by its position, from 0.
+#[derive(Drop)]
+pub struct Slab<A: Allocator + Drop> {
+    allocator: A,
+    region: Region,
+    chunks: Vec<Chunk>,
+}
+
+impl<A: Allocator + Drop> Model for Slab<A> {
+    ghost use Rattle.std.specs.Prelude.{◌≡◌, ℕ, List};
+    ghost use Rattle.bb_memory_base.specs.HeldBytes.{held_region};
+    ghost use Rattle.uses.specs.Records.{records_in};
+
+    // A slab is the list of its records.
+    ghost Value = { List (List ℕ) };
+
+    ghost view = { λ s. records_in s.region s.chunks.items };
+
+    ghost invariant = { λ s. A.stands_for s.allocator s.chunks.items
+        × (held_region s.region ≡ A.region_of (A.geometry s.allocator)) };
+}
+
+impl<A: Allocator + Drop> Slab<A> {
+    /// No records. The allocator has nothing out, and the region is the allocator's.
+    pub fn new(alloc: Global, allocator: A, region: Region) -> Self
+        requires fresh { A.stands_for allocator [] }
+        requires same_region { held_region region ≡ A.region_of (A.geometry allocator) }
+        ensures empty { result ≡ [] }
+    {
+        Slab {
+            allocator,
+            region,
+            chunks: Vec::new(alloc),
+        }
+    }
+
+    /// How many records there are.
+    pub fn len(&self) -> usize
+        ensures { result ≡ length self.now }
+    {
+        self.chunks.len()
+    }
+
+    /// Stores one more record, behind the others. A refusal keeps all.
+    pub fn insert(&mut self, bytes: &[u8]) -> Result<(), InsertError>
+        ensures appended { OnOk result (self.new ≡ self.old ++ bytes.now ∷ []) }
+        ensures kept { OnErr result (self.new ≡ self.old) }
+    {
+        let layout = Layout::from_size_align(bytes.len(), 1)?;
+        self.chunks.reserve(1)?;
+        let chunk = self.allocator.allocate(layout)?;
+        if chunk.len() != bytes.len() {
+            last_law();
+            self.allocator.deallocate(chunk.place(), layout);
+            return Err(InsertError::NoExactChunk);
+        }
+        put(&mut self.region, &self.chunks, chunk, bytes);
+        self.chunks.push_reserved(chunk);
+        Ok(())
+    }
+
+    /// The bytes of a record.
+    pub fn read(&self, position: usize) -> &[u8]
+        requires { position < length self.now }
+        ensures { slice_get self.now position ≡ Some result.now }
+    {
+        let chunk = self.chunks[position];
+        self.region.chunk(chunk)
+    }
+
+    /// Writes a record whole, with as many bytes as it has. The others keep theirs.
+    pub fn write(&mut self, position: usize, bytes: &[u8])
+        requires { (old : List ℕ) × (slice_get self.old position ≡ Some old)
+            × (length bytes.now ≡ length old) }
+        ensures { self.new ≡ slice_set self.old position bytes.now }
+    {
+        overwrite(&mut self.region, &self.chunks, position, bytes);
+    }
+
+    /// Takes a record out, and gives its chunk back. Those behind it move up.
+    pub fn remove(&mut self, position: usize)
+        requires { position < length self.old }
+        ensures { self.new ≡ remove self.old position }
+    {
+        let chunk = self.chunks.remove(position);
+        removed_records_law();
+        self.allocator.deallocate(chunk.place(), Layout::empty());
+    }
+}
+
+/// Writes the record at a position.
+fn overwrite(region: &mut Region, chunks: &Vec<Chunk>, position: usize, bytes: &[u8])
+    requires sound { IsSound (held_region region.old) chunks.now.items }
+    requires fits { (old : List ℕ) × (slice_get (records_in region.old chunks.now.items) position ≡ Some old)
+        × (length bytes.now ≡ length old) }
+    ensures records { records_in region.new chunks.now.items
+        ≡ slice_set (records_in region.old chunks.now.items) position bytes.now }
+    ensures region { held_region region.new ≡ held_region region.old }
+{
+    let chunk = chunk_at(chunks, position);
+    region.write(chunk, bytes);
+}
+
+/// The chunk at a position.
+fn chunk_at(chunks: &Vec<Chunk>, position: usize) -> Chunk
+    requires { position < length chunks.now.items }
+    ensures { slice_get chunks.now.items position ≡ Some result }
+{
+    chunks[position]
+}
+
+/// Writes a record in the chunk that was just given.
+pub(crate) fn put(region: &mut Region, chunks: &Vec<Chunk>, chunk: Chunk, bytes: &[u8])
+    requires sound { IsSound (held_region region.old) (chunks.now.items ++ chunk ∷ []) }
+    requires len { length bytes.now ≡ chunk.len }
+    ensures records { records_in region.new (chunks.now.items ++ chunk ∷ [])
+        ≡ records_in region.old chunks.now.items ++ bytes.now ∷ [] }
+    ensures region { held_region region.new ≡ held_region region.old }
+{
+    let _ = chunks;
+    last_law();
+    live_bytes_law();
+    region.write(chunk, bytes);
+}
+
+/// What was put at the end of a list is taken out of it. It does nothing: its contract is the law.
+fn last_law()
+    ensures at_end { (live : List Chunk) (chunk : Chunk)
+        → slice_get (live ++ chunk ∷ []) (length live) ≡ Some chunk }
+    ensures as_before { (live : List Chunk) (chunk : Chunk)
+        → remove (live ++ chunk ∷ []) (length live) ≡ live }
+{}
+
+/// Taking a chunk out of a list takes its record out. It does nothing: its contract is the law.
+#[tactic(auto, using(crate::specs::Hints::parts_of_lists))]
+fn removed_records_law()
+    ensures { (held : HeldBytes) (chunks : List Chunk) (position : ℕ)
+        → records_in held (remove chunks position) ≡ remove (records_in held chunks) position }
+{}

@@ -1,0 +1,54 @@
+//! Two threads that carve one region up between them.
+ghost use Rattle.std.specs.Prelude.{◌≡◌, IfOk};
+ghost use Rattle.std.specs.Arc.{arc_value};
+
+use bb_memory::layout::Layout;
+use bb_memory::shared_bump::{BumpParty, SharedBumpAllocator};
+use std::alloc::{AllocError, Global};
+use std::snapshot::Snapshot;
+use std::sync::Arc;
+use std::thread;
+use std::thread::{Promise, Threads};
+
+/// Asks twice, and hands the party back with how many chunks it got.
+pub fn take_two(shared: &SharedBumpAllocator, party: BumpParty, layout: Layout) -> (BumpParty, u32)
+    requires { party.allocator ≡ shared.now }
+    ensures { result.0.allocator ≡ shared.entry.now }
+{
+    let mut party = party;
+    let first = shared.allocate(&mut party, layout).is_ok();
+    let second = shared.allocate(&mut party, layout).is_ok();
+    (party, first as u32 + second as u32)
+}
+
+/// That a thread hands back a party of this bump.
+#[derive(Drop)]
+struct ComesBack(Snapshot<SharedBumpAllocator>);
+
+impl Promise<(BumpParty, u32)> for ComesBack {
+    ghost use Rattle.std.specs.Prelude.{◌≡◌};
+
+    ghost kept_by = { λ promise answer. answer.0.allocator ≡ promise.0.value };
+}
+
+/// Both parties ask twice, one in a thread of its own. They come back as this bump's, so that it can `meet` them, which says
+/// that their chunks don't overlap. It answers how many chunks they got together.
+pub fn two_workers(
+    rt: &impl Threads,
+    shared: &Arc<SharedBumpAllocator, Global>,
+    here: BumpParty,
+    there: BumpParty,
+    layout: Layout,
+) -> Result<(BumpParty, BumpParty, u64), AllocError>
+    requires here { here.allocator ≡ arc_value shared.now }
+    requires there { there.allocator ≡ arc_value shared.now }
+    ensures here { IfOk result (λ made. made.0.allocator ≡ arc_value shared.now) }
+    ensures there { IfOk result (λ made. made.1.allocator ≡ arc_value shared.now) }
+{
+    let its_shared = Arc::try_clone(shared)?;
+    let promise = ComesBack(Snapshot::of(&**shared));
+    let child = thread::spawn_with(rt, promise, move || take_two(&its_shared, there, layout))?;
+    let (here, taken_here) = take_two(&**shared, here, layout);
+    let (there, taken_there) = child.join(rt);
+    Ok((here, there, taken_here as u64 + taken_there as u64))
+}
