@@ -212,7 +212,8 @@ pub flags_taken : (room bound : ℕ) (held : List Bool) (free : List ℕ) (left 
 flags_taken room bound held free left number is some last below = record {
   listed = less room bound free left is.listed some;
   len = length-set held number true ∙ is.len;
-  flags = changed_flags room bound held _ _ number true below is.flags (taken_off room bound free left number is.listed some last below);
+  flags = changed_flags room bound held _ _ number true below is.flags
+      (taken_off room bound free left number is.listed some last below);
 }
 
 -- a number is put behind the entries, and its flag is cleared

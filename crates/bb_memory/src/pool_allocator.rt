@@ -184,8 +184,8 @@ impl<A: LanguageAllocator> PoolAllocator<A> {
         self.buckets.first()
     }
 
-    /// Whether this is the place of a held bucket, which may be given back: true exactly where `deallocate` may be called with the
-    /// place. Nothing is searched, and no read is counted.
+    /// Whether this is the place of a held bucket, which may be given back: true exactly where `deallocate` may be called with
+    /// the place. Nothing is searched, and no read is counted.
     ///
     /// ```
     /// let chunk = pool.allocate(Layout::from_size_align(48, 4).unwrap())?;
@@ -202,8 +202,8 @@ impl<A: LanguageAllocator> PoolAllocator<A> {
     }
 
     /// How many index words the last `allocate` or `allocate_zeroed` read: one where it looked for a free bucket in a pool that
-    /// has a bucket, and 0 before the first, and where the size or the alignment was refused. It is never more than an eighth of [`PoolAllocator::memory_size`], nor than the number of
-    /// buckets divided by 64, rounded up.
+    /// has a bucket, and 0 before the first, and where the size or the alignment was refused. It is never more than an eighth of
+    /// [`PoolAllocator::memory_size`], nor than the number of buckets divided by 64, rounded up.
     pub fn last_reads(&self) -> u32
         ensures value { result ≡ self.now.reads }
         ensures most { result ≤ index_words self.now.pool.geometry.buckets }

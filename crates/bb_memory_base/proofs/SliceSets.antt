@@ -12,4 +12,5 @@ slice_get-set_other xs i j v apart = gets.slice_get-set_other xs i j v (λ e. ap
 
 pub slice_get-set_same : {X : Type 0} (xs : List X) (i j : ℕ) (v old : X) → i ≡ j → slice_get xs i ≡ Some old →
     slice_get (slice_set xs i v) j ≡ Some v
-slice_get-set_same xs i j v old same there = slice_get-same (slice_set xs i v) i j (Some v) same (gets.slice_get-set_same xs i v old there)
+slice_get-set_same xs i j v old same there =
+    slice_get-same (slice_set xs i v) i j (Some v) same (gets.slice_get-set_same xs i v old there)

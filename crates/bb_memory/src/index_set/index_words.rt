@@ -47,8 +47,8 @@ impl Counter {
     }
 }
 
-/// Words that [`IndexWords::word`] alone hands out; a release changes a bit in place, and a bit is told by itself. Number n is bit n % 64 of word n / 64,
-/// counted from the lowest. Behind them, in the same memory, is room for a list of as many words' numbers.
+/// Words that [`IndexWords::word`] alone hands out; a release changes a bit in place, and `has` tells one. Number n is bit n % 64
+/// of word n / 64, counted from the lowest. Behind them, in the same memory, is room for a list of as many words' numbers.
 #[derive(Drop)]
 pub struct IndexWords<A: Allocator> {
     slots: Vec<u64, A>,

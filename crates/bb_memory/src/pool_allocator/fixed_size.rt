@@ -109,8 +109,8 @@ impl<const MAX_NUMBER_OF_BUCKETS: usize> FixedSizePoolAllocator<MAX_NUMBER_OF_BU
         self.buckets.region_size()
     }
 
-    /// Whether this is the place of a held bucket, which may be given back: true exactly where `deallocate` may be called with the
-    /// place. Nothing is searched.
+    /// Whether this is the place of a held bucket, which may be given back: true exactly where `deallocate` may be called with
+    /// the place. Nothing is searched.
     ///
     /// ```
     /// let chunk = pool.allocate(Layout::from_size_align(48, 4).unwrap())?;

@@ -48,8 +48,10 @@ returns-clause-command c (command.Allocate one) (command.Allocate other) =
     let l = returns-clause-layout c one other in
     (λ t. ap command.Allocate (l.0 t), λ same. l.1 (cc))
 returns-clause-command c (command.Release one) (command.Release other) = search rules
-returns-clause-command c (command.Grow p one old) (command.Grow q other new) = grind (arith, common_steps, same_layout one other, same_layout old new)
-returns-clause-command c (command.Shrink p one old) (command.Shrink q other new) = grind (arith, common_steps, same_layout one other, same_layout old new)
+returns-clause-command c (command.Grow p one old) (command.Grow q other new) =
+    grind (arith, common_steps, same_layout one other, same_layout old new)
+returns-clause-command c (command.Shrink p one old) (command.Shrink q other new) =
+    grind (arith, common_steps, same_layout one other, same_layout old new)
 returns-clause-command c one other = (λ no. absurd (cc), λ same. absurd (cc))
 
 pub returns-clause-bump_step : goal.returns-clause-bump_step

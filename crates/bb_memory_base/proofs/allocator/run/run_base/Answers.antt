@@ -1,5 +1,7 @@
 use Rattle.std.proofs.Common.{◌≡◌, ◌+◌, ◌∷◌, ◌++◌, [], take, ap, sym, ◌∙◌, subst, arith}
 use Rattle.std.proofs.lemmas.List.{take_more, take_all, length-take-le}
+use Rattle.bb_memory_base.specs.declared.layout.Layout.{Layout}
+use Rattle.bb_memory_base.specs.Chunk.{Chunk}
 use Rattle.bb_memory_base.specs.Object.{object_of}
 use Rattle.bb_memory_base.specs.Run.{Step}
 use Rattle.bb_memory_base.specs.Fitting.{Fits}
@@ -18,11 +20,13 @@ loop-command-preserved g c =
     let step_at = λ (geometry : A.Geometry). Step (object_of A.RELEASE_EMPTIES (A.may_allocate geometry)) in
     let step = subst (λ geometry. step_at geometry live command c.apply_base-reply.result c.apply_base-reply.new.live.items)
     c.loop-command.invariant.geometry c.apply_base-reply.ensures.step in
+    let Here : Layout → Chunk → Type 0 = Fits (A.region_of (A.geometry c.args.allocator.now)) in
     record {
       run = rw (done, c.push_reserved.ensures.items) (IsRun-push (step_at (A.geometry c.args.allocator.now)) c.args.live.now.items live c.apply_base-reply.new.live.items (take i commands) c.loop-command.replies.items command c.apply_base-reply.result c.loop-command.invariant.run step);
-      fits = rw (done, c.push_reserved.ensures.items) (EachGiven-push (Fits (A.region_of (A.geometry c.args.allocator.now))) (take i commands) c.loop-command.replies.items command c.apply_base-reply.result
-          (omega (arith, length-take-le i commands (omega arith))) c.loop-command.invariant.fits
-          (λ layout chunk asked given. subst (λ (geometry : A.Geometry). Fits (A.region_of geometry) layout chunk) c.loop-command.invariant.geometry (c.apply_base-reply.ensures.fits layout chunk asked given)));
+      fits = rw (done, c.push_reserved.ensures.items) (EachGiven-push Here (take i commands) c.loop-command.replies.items command
+          c.apply_base-reply.result (omega (arith, length-take-le i commands (omega arith))) c.loop-command.invariant.fits
+          (λ layout chunk asked given. subst (λ (geometry : A.Geometry). Fits (A.region_of geometry) layout chunk)
+          c.loop-command.invariant.geometry (c.apply_base-reply.ensures.fits layout chunk asked given)));
       stands = c.apply_base-reply.ensures.stands;
       geometry = c.apply_base-reply.ensures.geometry ∙ c.loop-command.invariant.geometry;
       room = omega arith;

@@ -1,5 +1,7 @@
 use Rattle.std.proofs.Common.{◌≡◌, ◌+◌, ◌∷◌, ◌++◌, [], take, ap, sym, ◌∙◌, subst, arith}
 use Rattle.std.proofs.lemmas.List.{take_more, take_all, length-take-le}
+use Rattle.bb_memory_base.specs.declared.layout.Layout.{Layout}
+use Rattle.bb_memory_base.specs.Chunk.{Chunk}
 use Rattle.bb_memory_base.specs.ResizableObject.{ResizableStep, resizable_object_of}
 use Rattle.bb_memory_base.specs.Fitting.{Fits}
 use Rattle.bb_memory_base.proofs.Runs.{IsRun-push, EachGiven-push}
@@ -25,11 +27,13 @@ loop-command-preserved g c =
     let reply = c.apply_full-reply.result in
     let left = c.apply_full-reply.new.live.items in
     let step = subst (λ (x : A.Geometry × B.Figures). step_at x live command reply left) (pair same figures) c.apply_full-reply.ensures.step in
+    let Here : Layout → Chunk → Type 0 = Fits (A.region_of (A.geometry c.args.allocator.now)) in
     record {
       run = rw (done, c.push_reserved.ensures.items) (IsRun-push (step_at (A.geometry c.args.allocator.now, B.figures c.args.allocator.now)) c.args.live.now.items live left (take i commands) c.loop-command.replies.items command reply c.loop-command.invariant.run step);
-      fits = rw (done, c.push_reserved.ensures.items) (EachGiven-push (Fits (A.region_of (A.geometry c.args.allocator.now))) (take i commands) c.loop-command.replies.items command c.apply_full-reply.result
-          (omega (arith, length-take-le i commands (omega arith))) c.loop-command.invariant.fits
-          (λ layout chunk asked given. subst (λ (geometry : A.Geometry). Fits (A.region_of geometry) layout chunk) c.loop-command.invariant.geometry (c.apply_full-reply.ensures.fits layout chunk asked given)));
+      fits = rw (done, c.push_reserved.ensures.items) (EachGiven-push Here (take i commands) c.loop-command.replies.items command
+          c.apply_full-reply.result (omega (arith, length-take-le i commands (omega arith))) c.loop-command.invariant.fits
+          (λ layout chunk asked given. subst (λ (geometry : A.Geometry). Fits (A.region_of geometry) layout chunk)
+          c.loop-command.invariant.geometry (c.apply_full-reply.ensures.fits layout chunk asked given)));
       stands = c.apply_full-reply.ensures.stands;
       geometry = c.apply_full-reply.ensures.geometry ∙ same;
       room = omega arith;

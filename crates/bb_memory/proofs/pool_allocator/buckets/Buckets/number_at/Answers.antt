@@ -20,10 +20,12 @@ returns-then-place-clause-none g c = rw (← c.self.view_is) (λ at.
     let told = rw (← c.self.view_is) at c.strides-number.ensures in
     let same : at.0 ≡ c.strides-number.result = computed geometry at.0 c.args.place c.first.result _ _ c.first.ensures
     ((c.in_ok-distance.ensures {u = tt}).1) told.value told.some at.2 in
-    c.if-place.true (c.place.ensures.value ∙ ap (λ k. k.place) c.chunk-chunk.ensures.value ∙ ap (bucket_place geometry) (sym same) ∙ sym at.2))
+    c.if-place.true (c.place.ensures.value ∙ ap (λ k. k.place) c.chunk-chunk.ensures.value
+    ∙ ap (bucket_place geometry) (sym same) ∙ sym at.2))
 
 pub returns-clause-one : goal.returns-clause-one
 returns-clause-one g c = rw (← c.self.view_is) (λ j at.
     let geometry : PoolGeometry = c.self.inside.geometry in
     let told = rw (← c.self.view_is) at c.strides-number.ensures in
-    computed geometry j c.args.place c.first.result _ _ c.first.ensures ((c.in_ok-distance.ensures {u = tt}).1) told.value told.some at)
+    computed geometry j c.args.place c.first.result _ _ c.first.ensures
+    ((c.in_ok-distance.ensures {u = tt}).1) told.value told.some at)
