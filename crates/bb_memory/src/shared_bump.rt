@@ -240,7 +240,7 @@ impl SharedBumpAllocator {
 /// What a user of a shared bump has of each party, and of two that met, whatever the threads did. It does nothing: its
 /// contract is the law.
 ///
-/// A party's history is the interleaving of its log that [`IsParty`] tells: a list of allowed steps from the opening, in
+/// A party's history is the interleaving of its log that `IsParty` tells: a list of allowed steps from the opening, in
 /// which the party's steps are exactly its log. A list that the opening stands for is one that was live before the bump was
 /// shared.
 pub fn shared_bump_law()
