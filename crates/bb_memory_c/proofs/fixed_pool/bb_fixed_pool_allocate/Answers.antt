@@ -1,0 +1,7 @@
+use Rattle.std.proofs.Common.{rules}
+use Rattle.bb_memory_c.proofs.fixed_pool.bb_fixed_pool_allocate.Goals.{in-FixedPool, in_default-deref_mut}
+use Rattle.bb_memory_c.proofs.fixed_pool.bb_fixed_pool_allocate.Goals as goal
+
+pub returns-clause-answer : goal.returns-clause-answer
+returns-clause-answer c = λ pool layout is of. elim c.match-deref_mut.branch [
+  in-FixedPool w ↦ search (rules, w.request-answer.ensures.answer layout of) | in_default-deref_mut w ↦ search rules ]

@@ -1,0 +1,35 @@
+//! What the functions answer. 0 is for what was done, and each other number for one cause why nothing was.
+pub(crate) const DONE: u32 = 0;
+
+pub(crate) const SIZE_IS_ZERO: u32 = 1;
+
+pub(crate) const SIZE_TOO_LARGE: u32 = 2;
+
+pub(crate) const ALIGNMENT_FAILURE: u32 = 3;
+
+pub(crate) const OUT_OF_MEMORY: u32 = 4;
+
+pub(crate) const GROW_WOULD_SHRINK: u32 = 5;
+
+pub(crate) const SHRINK_WOULD_GROW: u32 = 6;
+
+/// The size and the alignment make no layout.
+pub(crate) const NOT_A_LAYOUT: u32 = 7;
+
+/// The handle is empty, or of another kind.
+pub(crate) const NOT_MADE: u32 = 8;
+
+/// The place isn't that of a held bucket.
+pub(crate) const NOT_HELD: u32 = 9;
+
+/// The handle isn't empty, where one was to be made.
+pub(crate) const ALREADY_MADE: u32 = 10;
+
+/// The numbers describe nothing that could be made.
+pub(crate) const CANNOT_MAKE: u32 = 11;
+
+/// The place is no multiple of the old alignment.
+pub(crate) const NOT_ALIGNED: u32 = 12;
+
+/// The old size is greater than the bucket's.
+pub(crate) const NOT_RESERVED: u32 = 13;
