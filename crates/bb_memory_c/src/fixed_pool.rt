@@ -3,11 +3,11 @@ ghost use Rattle.std.specs.Prelude.{◌≡◌, ◌≢◌, ◌↔◌, None};
 ghost use Rattle.std.specs.Align.{IsLayout};
 ghost use Rattle.bb_memory_base.specs.Region.{region_at};
 ghost use Rattle.bb_memory_base.specs.declared.layout.Layout.{Layout as Asked};
-ghost use Rattle.bb_memory.specs.Pool.{Pool, Frees, HoldsPlace, MayBeCut};
+ghost use Rattle.bb_memory.specs.Pool.{Pool, Frees, HoldsPlace};
 ghost use Rattle.bb_memory_c.specs.Answers.{figure_of, no_figure, refused};
 ghost use Rattle.bb_memory_c.specs.Codes.{already_made, cannot_make, done, not_a_layout, not_held, not_made, out_of_memory};
 ghost use Rattle.bb_memory_c.specs.Layouts.{IsOf};
-ghost use Rattle.bb_memory_c.specs.Pools.{GivesFixed, GivesBackFixed, IsNoFixedPool, IsFixedPool, MakesFixedPool, Tells};
+ghost use Rattle.bb_memory_c.specs.Pools.{GivesFixed, GivesBackFixed, IsNoFixedPool, IsFixedPool, IsCuttable, IsUncuttable, MakesFixedPool, Tells};
 
 use crate::answer::{Answer, Figure};
 use crate::code;
@@ -29,16 +29,16 @@ pub extern "C" fn bb_fixed_pool_make(
     start: usize,
     size: usize,
 ) -> u32
-    ensures made { (bucket : Asked) → IsOf bucket_size bucket_align bucket → result ≡ done
-        → MakesFixedPool start size bucket handle.new.value }
+    ensures made { result ≡ done → (bucket : Asked)
+        × IsCuttable bucket_size bucket_align (region_at start size) bucket
+        × MakesFixedPool (region_at start size) bucket handle.new.value }
     ensures already_made { (result ≡ already_made) ↔ (handle.old.value ≢ None) }
-    ensures not_a_layout { handle.old.value ≡ None → ¬ IsLayout bucket_size bucket_align
-        → result ≡ not_a_layout }
-    ensures cannot_make { (bucket : Asked) → IsOf bucket_size bucket_align bucket
-        → handle.old.value ≡ None
-        → ((result ≡ cannot_make) ↔ (¬ MayBeCut (region_at start size) bucket)) }
+    ensures not_a_layout { result ≡ not_a_layout → ¬ IsLayout bucket_size bucket_align }
+    ensures cannot_make { result ≡ cannot_make → (bucket : Asked)
+        × IsUncuttable bucket_size bucket_align (region_at start size) bucket }
     ensures else_memory { result ≢ done → result ≢ already_made → result ≢ not_a_layout
-        → result ≢ cannot_make → result ≡ out_of_memory }
+        → result ≢ cannot_make → (result ≡ out_of_memory) × ((bucket : Asked)
+        × IsCuttable bucket_size bucket_align (region_at start size) bucket) }
     ensures kept { result ≢ done → handle.new.value ≡ handle.old.value }
 {
     if let Some(made) = handle.take(alloc) {
@@ -108,7 +108,7 @@ pub extern "C" fn bb_fixed_pool_allocate(
 /// Gives back the bucket at this place, if it is held.
 fn give_back(pool: &mut FixedSizePoolAllocator<512>, place: usize) -> u32
     ensures freed { HoldsPlace pool.old place
-        → (result ≡ done) × ((after : Pool) × (pool.new ≡ after) × Frees pool.old place after) }
+        → (result ≡ done) × Frees pool.old place pool.new }
     ensures not_held { ¬ HoldsPlace pool.old place → (result ≡ not_held) × (pool.new ≡ pool.old) }
 {
     if !pool.holds(place) {
