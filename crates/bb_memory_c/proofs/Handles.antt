@@ -4,14 +4,14 @@ use mathlib.Core.Bool.{Bool, true, false}
 use seplogic.Ra.Ura.{Ura}
 use lib.Dec.{T}
 use mir.Syntax.{ty_ptr}
-use mir.Val.{Val, vptr, vbool, vstruct, vcons, vnil, of_list, has_ty, WT}
+use mir.Val.{Val, vbool, vstruct, vcons, vnil, of_list, has_ty, WT}
 use denote.Param.{layout}
 use Rattle.std.proofs.cell.Inside.{Good}
 use mir.Raw.{raw as bare}
 use base.Logic.{never, never_e, fst∗}
 use base.Fml.{ftrue}
 use types.Logic.{Logic, sem}
-use types.Kit.{Item, Goal, Seq, Step, step, ‵, given, ◌$◌, move, drop, learn, use1, fsplit, fjoin, fpack, fpick, feq_i, feq_l}
+use types.Kit.{Item, Goal, Seq, Step, step, ‵, given, ◌$◌, drop, learn, use1, fsplit, fjoin, fpack, fpick, feq_i, feq_l}
 use denote.RattleType.{RattleType, Valss}
 use denote.Builtin.{RawPtr, bool}
 use denote.Memory.{lone}

@@ -1,4 +1,4 @@
-use Rattle.std.proofs.Common.{rules, ◌≡◌, sym, subst}
+use Rattle.std.proofs.Common.{rules, ◌≡◌, subst}
 use Rattle.bb_memory_c.specs.Pools.{Tells}
 use Rattle.bb_memory_c.proofs.fixed_pool.bb_fixed_pool_allocate.Goals.{in-FixedPool, in_default-deref_mut}
 use Rattle.bb_memory_c.proofs.fixed_pool.bb_fixed_pool_allocate.Goals as goal

@@ -1,4 +1,4 @@
-use Rattle.std.proofs.Common.{rules, subst}
+use Rattle.std.proofs.Common.{subst}
 use Rattle.bb_memory_c.proofs.Layouts.{the_same, is_none}
 use Rattle.bb_memory_c.specs.Pools.{Tells}
 use Rattle.bb_memory_c.proofs.fixed_pool.request.Goals as goal

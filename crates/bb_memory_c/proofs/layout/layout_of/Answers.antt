@@ -1,4 +1,3 @@
-use Rattle.std.proofs.Common.{rules}
 use Rattle.bb_memory_c.proofs.Layouts.{made_of}
 use Rattle.bb_memory_c.proofs.layout.layout_of.Goals as goal
 

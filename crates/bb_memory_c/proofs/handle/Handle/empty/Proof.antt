@@ -1,5 +1,5 @@
 -- `empty` makes a handle that owns nothing.
-use Rattle.std.proofs.Common.{◌≡◌, List, [], ◌∷◌, ◌++◌, refl, sym, ap, subst, lit<}
+use Rattle.std.proofs.Common.{◌≡◌, List, [], ◌∷◌, ◌++◌, refl, sym, subst, lit<}
 use mathlib.Core.Bool.{false}
 use mir.Syntax.{impl, tnil, dnil}
 use mir.Val.{Val}

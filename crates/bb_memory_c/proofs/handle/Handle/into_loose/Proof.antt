@@ -1,12 +1,12 @@
 -- `into_loose` hands out the box that the handle owned.
-use Rattle.std.proofs.Common.{◌≡◌, List, [], ◌∷◌, ◌++◌, refl, sym, ap, ◌∙◌, subst, lit<}
-use mathlib.Core.Bool.{Bool, true, false}
+use Rattle.std.proofs.Common.{◌≡◌, List, [], ◌∷◌, ◌++◌, refl, sym, ◌∙◌, subst, lit<}
+use mathlib.Core.Bool.{true, false}
 use mir.Syntax.{impl, tnil, dnil}
 use mir.Val.{Val, vptr, vcons, vnil}
 use base.Logic.{SProp, ent, emp, id⊢}
 use base.Fml.{ftrue}
 use prog.Wp.{WpFn}
-use types.Kit.{‵, raw, at_ret, ◌⊛◌, ◌$◌, ◌∵◌, !, qed, by, move, keep, drop, split, fsplit, fjoin, suffices, use0, use1}
+use types.Kit.{‵, raw, at_ret, ◌⊛◌, ◌$◌, ◌∵◌, !, qed, by, move, keep, split, fsplit, fjoin, suffices, use0, use1}
 use types.Run.{stop, fld, lit, of_opd, first, branches, exec, no_more, and_then, returns, enter}
 use types.ByLocal.{alloc_all, pass_all, free_all, look_at, get, get_in, sets, sets_last, env}
 use types.Match.{live}
@@ -17,7 +17,7 @@ use denote.Exit.{yes}
 use denote.RattleType.{RattleType, owns}
 use denote.Param.{layout}
 use denote.Signature.{types_at, type_at, plain}
-use denote.RawPtr.{Ptr, block_ptr, ptr_val}
+use denote.RawPtr.{block_ptr, ptr_val}
 use denote.Steps.{nothing}
 use denote.Triple.Walked.{Stays, stay_dropped, walk_of, Goes-dropped}
 use Rattle.std.proofs.alloc.Calls.{Al, handle_tells}
@@ -26,7 +26,7 @@ use Rattle.std.proofs.cell.Inside.{Good}
 use Rattle.std.proofs.option.Made.{Some-of, none_of}
 use Rattle.std.proofs.ResultValues.{and_tt}
 use Rattle.std.proofs.raw_atomic.Walks.{proved_at, leaves}
-use Rattle.std.specs.Prelude.{Option, Some, None}
+use Rattle.std.specs.Prelude.{Some, None}
 use Rattle.std.specs.contracts.alloc.Global as heap
 use Rattle.std.proofs.alloc.Global.TheLaws as heap_laws
 use Rattle.std.specs.contracts.impls.GlobalAllocator.TheImpl.{ghosts}
