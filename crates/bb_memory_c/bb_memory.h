@@ -1,19 +1,20 @@
-// Allocators over a region of the host's own, for C. Every function is proved to do what is said of it here, for each caller that
+// Allocators over a region of the host's own, for C. The contract of each function is proved, for every caller that
 // guarantees the following, which nothing checks:
 //
-// - A handle is a variable of the host's, all bytes zero before its first use: `bb_pool pool = BB_EMPTY;`. It is passed by its address,
-//   which is of one handle and not null. Nothing but these functions writes it, and a copy of it is not used.
-// - One call at a time has a handle. A handle may go to another thread between two calls, if the threads order that, as by a lock or
-//   by a thread's start or join.
+// - A handle is a variable of the host's, all bytes zero before its first use: `bb_pool pool = BB_EMPTY;`. It is passed
+//   by its address, which isn't null. Nothing but these functions writes it, and a copy of it is not used.
+// - One call at a time has a handle. It may go to another thread between two calls, if the threads order that by a lock
+//   or by a thread's start or join.
 // - No function is called from a signal handler, or in a child that a process of several threads forked.
-// - `malloc` and `free` come from one allocator, and `malloc` aligns as C says. Where they refuse memory, the answer is
+// - `malloc` and `free` come from one allocator, and `malloc` aligns as C says. Where it refuses, the answer is
 //   BB_OUT_OF_MEMORY.
 //
-// A place is a number, such as `(uintptr_t)` of an address in a buffer of the host's. No function reads or writes the bytes there, and
-// chunks that are out never overlap and lie inside the region, so the host may use the bytes of each. Sizes and alignments are in bytes.
-// The numbers are tested, so no number breaks an allocator: a wild place is answered by a code, and so is a second return.
+// A place is a number, such as the address of a byte in a buffer of the host's. No function reads or writes a byte
+// there. Chunks that are out lie inside the region, at multiples of the asked alignment, and never overlap. Sizes and
+// alignments are in bytes. The numbers are tested, so none breaks an allocator: a wild place is answered by a code, and
+// so is a second return.
 //
-// A Rust program declares the same functions in an `unsafe extern "C"` block, with `#[repr(C)]` structs of the same fields.
+// A Rust program declares these functions in an `unsafe extern "C"` block, with `#[repr(C)]` structs of the same fields.
 #ifndef BB_MEMORY_H
 #define BB_MEMORY_H
 
@@ -52,8 +53,8 @@ typedef struct { uint32_t code; size_t place; size_t len; } bb_answer;
 // A number that was asked for.
 typedef struct { uint32_t code; size_t number; } bb_figure;
 
-// Frees what is behind a handle of any kind, which is empty then: `bb_free(&pool)`. BB_NOT_MADE where it was empty already. Chunks
-// that are out stay bytes of the host's.
+// Frees what is behind a handle of any kind, which is empty then: `bb_free(&pool)`. BB_NOT_MADE where it was empty
+// already. The bytes of chunks that are out stay the host's.
 uint32_t bb_free(void *handle);
 
 // A bump gives one chunk after another, and takes all of them back at once.
@@ -71,10 +72,11 @@ bb_figure bb_bump_start_address(bb_bump *);
 
 // A pool cuts its region into buckets of one layout, and gives a bucket for each request.
 
-// BB_CANNOT_MAKE where the start is 0, start plus size or the start rounded up to the alignment exceeds SIZE_MAX, the bucket's size is
-// 0, or there is room for UINT32_MAX buckets or more. The maker takes memory for a bit for each bucket, and no other call does.
+// BB_CANNOT_MAKE where the start is 0, start plus size or the start rounded up to the alignment exceeds SIZE_MAX, the
+// bucket's size is 0, or there is room for UINT32_MAX buckets or more. No call but the maker takes memory.
 uint32_t bb_pool_make(bb_pool *, size_t bucket_size, size_t bucket_align, size_t start, size_t size);
-// A chunk of `size` bytes in a bucket that isn't held. Refused by size, then by alignment, then where every bucket is held.
+// A chunk of `size` bytes in a bucket that isn't held. Refused by size, then by alignment, then where every bucket is
+// held.
 bb_answer bb_pool_allocate(bb_pool *, size_t size, size_t align);
 // Gives back the bucket at this place; BB_NOT_HELD where it isn't that of a held bucket.
 uint32_t bb_pool_deallocate(bb_pool *, size_t place);

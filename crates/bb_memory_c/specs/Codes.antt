@@ -21,14 +21,6 @@ alignment_failure = 3
 abbrev pub out_of_memory : ℕ
 out_of_memory = 4
 
--- the new size isn't greater than the old one
-abbrev pub grow_would_shrink : ℕ
-grow_would_shrink = 5
-
--- the new size isn't smaller than the old one
-abbrev pub shrink_would_grow : ℕ
-shrink_would_grow = 6
-
 -- the size and the alignment make no layout
 abbrev pub not_a_layout : ℕ
 not_a_layout = 7
@@ -48,11 +40,3 @@ already_made = 10
 -- the numbers describe nothing that could be made
 abbrev pub cannot_make : ℕ
 cannot_make = 11
-
--- the place is no multiple of the old alignment
-abbrev pub not_aligned : ℕ
-not_aligned = 12
-
--- the old size is greater than the bucket's
-abbrev pub not_reserved : ℕ
-not_reserved = 13

@@ -20,6 +20,8 @@ use std::alloc::Global;
 
 /// Makes a bump over the region of `size` bytes at `start`, behind a handle that has to be empty. The start has to be greater
 /// than 0, and start plus size at most `SIZE_MAX`.
+///
+/// C guarantees of the handle what the crate's page says.
 #[unsafe(no_mangle)]
 pub extern "C" fn bb_bump_make(alloc: Global, handle: &mut Handle, start: usize, size: usize) -> u32
     ensures made { result ≡ done → IsBump handle.new.value (bump_of start size 0) }
@@ -64,6 +66,8 @@ fn request(bump: &mut BumpAllocator, size: usize, align: usize) -> Answer
 }
 
 /// Asks for a chunk of exactly `size` bytes at a multiple of `align`.
+///
+/// C guarantees of the handle what the crate's page says.
 #[unsafe(no_mangle)]
 pub extern "C" fn bb_bump_allocate(
     alloc: Global,
@@ -90,6 +94,8 @@ pub extern "C" fn bb_bump_allocate(
 }
 
 /// Gives back all chunks.
+///
+/// C guarantees of the handle what the crate's page says.
 #[unsafe(no_mangle)]
 pub extern "C" fn bb_bump_deallocate(alloc: Global, handle: &mut Handle) -> u32
     ensures emptied { (bump : Bump) → IsBump handle.old.value bump
@@ -112,6 +118,8 @@ pub extern "C" fn bb_bump_deallocate(alloc: Global, handle: &mut Handle) -> u32
 }
 
 /// How many bytes are used: those from the region's start to the end of the last chunk, padding included.
+///
+/// C guarantees of the handle what the crate's page says.
 #[unsafe(no_mangle)]
 pub extern "C" fn bb_bump_used_space(alloc: Global, handle: &mut Handle) -> Figure
     ensures value { (bump : Bump) → IsBump handle.old.value bump → result ≡ figure_of bump.used }
@@ -130,6 +138,8 @@ pub extern "C" fn bb_bump_used_space(alloc: Global, handle: &mut Handle) -> Figu
 }
 
 /// How many bytes are behind the last chunk.
+///
+/// C guarantees of the handle what the crate's page says.
 #[unsafe(no_mangle)]
 pub extern "C" fn bb_bump_free_space(alloc: Global, handle: &mut Handle) -> Figure
     ensures value { (bump : Bump) → IsBump handle.old.value bump → result ≡ figure_of (bump.region.size - bump.used) }
@@ -148,6 +158,8 @@ pub extern "C" fn bb_bump_free_space(alloc: Global, handle: &mut Handle) -> Figu
 }
 
 /// How many bytes the region has.
+///
+/// C guarantees of the handle what the crate's page says.
 #[unsafe(no_mangle)]
 pub extern "C" fn bb_bump_total_space(alloc: Global, handle: &mut Handle) -> Figure
     ensures value { (bump : Bump) → IsBump handle.old.value bump → result ≡ figure_of bump.region.size }
@@ -166,6 +178,8 @@ pub extern "C" fn bb_bump_total_space(alloc: Global, handle: &mut Handle) -> Fig
 }
 
 /// Where the region starts.
+///
+/// C guarantees of the handle what the crate's page says.
 #[unsafe(no_mangle)]
 pub extern "C" fn bb_bump_start_address(alloc: Global, handle: &mut Handle) -> Figure
     ensures value { (bump : Bump) → IsBump handle.old.value bump → result ≡ figure_of bump.region.start }

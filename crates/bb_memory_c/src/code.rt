@@ -9,10 +9,6 @@ pub(crate) const ALIGNMENT_FAILURE: u32 = 3;
 
 pub(crate) const OUT_OF_MEMORY: u32 = 4;
 
-pub(crate) const GROW_WOULD_SHRINK: u32 = 5;
-
-pub(crate) const SHRINK_WOULD_GROW: u32 = 6;
-
 /// The size and the alignment make no layout.
 pub(crate) const NOT_A_LAYOUT: u32 = 7;
 
@@ -27,9 +23,3 @@ pub(crate) const ALREADY_MADE: u32 = 10;
 
 /// The numbers describe nothing that could be made.
 pub(crate) const CANNOT_MAKE: u32 = 11;
-
-/// The place is no multiple of the old alignment.
-pub(crate) const NOT_ALIGNED: u32 = 12;
-
-/// The old size is greater than the bucket's.
-pub(crate) const NOT_RESERVED: u32 = 13;

@@ -7,7 +7,8 @@ ghost use Rattle.bb_memory.specs.Pool.{Pool, Frees, HoldsPlace};
 ghost use Rattle.bb_memory_c.specs.Answers.{figure_of, no_figure, refused};
 ghost use Rattle.bb_memory_c.specs.Codes.{already_made, cannot_make, done, not_a_layout, not_held, not_made, out_of_memory};
 ghost use Rattle.bb_memory_c.specs.Layouts.{IsOf};
-ghost use Rattle.bb_memory_c.specs.Pools.{GivesFixed, GivesBackFixed, IsNoFixedPool, IsFixedPool, IsCuttable, IsUncuttable, MakesFixedPool, Tells};
+ghost use Rattle.bb_memory_c.specs.Pools.{GivesBackFixed, GivesFixed, Tells};
+ghost use Rattle.bb_memory_c.specs.Pools.{IsCuttable, IsFixedPool, IsNoFixedPool, IsUncuttable, MakesFixedPool};
 
 use crate::answer::{Answer, Figure};
 use crate::code;
@@ -20,6 +21,8 @@ use std::alloc::Global;
 
 /// Makes a pool over the region of `size` bytes at `start`, behind a handle that has to be empty. The region is cut into
 /// buckets of `bucket_size` bytes at multiples of `bucket_align`, at most 512 of them.
+///
+/// C guarantees of the handle what the crate's page says.
 #[unsafe(no_mangle)]
 pub extern "C" fn bb_fixed_pool_make(
     alloc: Global,
@@ -80,6 +83,8 @@ fn request(pool: &mut FixedSizePoolAllocator<512>, size: usize, align: usize) ->
 }
 
 /// Asks for a chunk of `size` bytes at a multiple of `align`, in a bucket that isn't held.
+///
+/// C guarantees of the handle what the crate's page says.
 #[unsafe(no_mangle)]
 pub extern "C" fn bb_fixed_pool_allocate(
     alloc: Global,
@@ -120,6 +125,8 @@ fn give_back(pool: &mut FixedSizePoolAllocator<512>, place: usize) -> u32
 
 /// Gives back the bucket at this place. A place that isn't a held bucket's is refused, so that a wild or a second return changes
 /// nothing.
+///
+/// C guarantees of the handle what the crate's page says.
 #[unsafe(no_mangle)]
 pub extern "C" fn bb_fixed_pool_deallocate(alloc: Global, handle: &mut Handle, place: usize) -> u32
     ensures freed { (pool : Pool) → IsFixedPool handle.old.value pool → HoldsPlace pool place
@@ -141,6 +148,8 @@ pub extern "C" fn bb_fixed_pool_deallocate(alloc: Global, handle: &mut Handle, p
 }
 
 /// Whether this is the place of a held bucket: 1 or 0.
+///
+/// C guarantees of the handle what the crate's page says.
 #[unsafe(no_mangle)]
 pub extern "C" fn bb_fixed_pool_holds(alloc: Global, handle: &mut Handle, place: usize) -> Figure
     ensures held { (pool : Pool) → IsFixedPool handle.old.value pool → HoldsPlace pool place
@@ -162,6 +171,8 @@ pub extern "C" fn bb_fixed_pool_holds(alloc: Global, handle: &mut Handle, place:
 }
 
 /// How many buckets there are.
+///
+/// C guarantees of the handle what the crate's page says.
 #[unsafe(no_mangle)]
 pub extern "C" fn bb_fixed_pool_number_of_buckets(alloc: Global, handle: &mut Handle) -> Figure
     ensures value { (pool : Pool) → IsFixedPool handle.old.value pool → result ≡ figure_of pool.geometry.buckets }
@@ -180,6 +191,8 @@ pub extern "C" fn bb_fixed_pool_number_of_buckets(alloc: Global, handle: &mut Ha
 }
 
 /// The size of a bucket in bytes, as it was asked for.
+///
+/// C guarantees of the handle what the crate's page says.
 #[unsafe(no_mangle)]
 pub extern "C" fn bb_fixed_pool_bucket_size(alloc: Global, handle: &mut Handle) -> Figure
     ensures value { (pool : Pool) → IsFixedPool handle.old.value pool → result ≡ figure_of pool.geometry.bucket.size }
@@ -198,6 +211,8 @@ pub extern "C" fn bb_fixed_pool_bucket_size(alloc: Global, handle: &mut Handle) 
 }
 
 /// The greatest alignment that a request may have.
+///
+/// C guarantees of the handle what the crate's page says.
 #[unsafe(no_mangle)]
 pub extern "C" fn bb_fixed_pool_max_alignment(alloc: Global, handle: &mut Handle) -> Figure
     ensures value { (pool : Pool) → IsFixedPool handle.old.value pool → result ≡ figure_of pool.geometry.bucket.align }
@@ -216,6 +231,8 @@ pub extern "C" fn bb_fixed_pool_max_alignment(alloc: Global, handle: &mut Handle
 }
 
 /// How many bytes the region has, as it was handed in.
+///
+/// C guarantees of the handle what the crate's page says.
 #[unsafe(no_mangle)]
 pub extern "C" fn bb_fixed_pool_size(alloc: Global, handle: &mut Handle) -> Figure
     ensures value { (pool : Pool) → IsFixedPool handle.old.value pool → result ≡ figure_of pool.geometry.region.size }

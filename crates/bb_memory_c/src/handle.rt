@@ -90,6 +90,8 @@ impl Handle {
 unsafe impl Send for Handle {}
 
 /// Frees what is behind the handle, which is empty then. The answer is 0, or `BB_NOT_MADE` where it was empty already.
+///
+/// C guarantees of the handle what the crate's page says.
 #[unsafe(no_mangle)]
 pub extern "C" fn bb_free(alloc: Global, handle: &mut Handle) -> u32
     ensures freed { handle.old.value ≢ None → result ≡ done }

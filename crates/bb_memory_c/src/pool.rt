@@ -8,7 +8,8 @@ ghost use Rattle.bb_memory.specs.Pool.{CountedPool, Frees, HoldsPlace};
 ghost use Rattle.bb_memory_c.specs.Answers.{figure_of, no_figure, refused};
 ghost use Rattle.bb_memory_c.specs.Codes.{already_made, cannot_make, done, not_a_layout, not_held, not_made, out_of_memory};
 ghost use Rattle.bb_memory_c.specs.Layouts.{IsOf};
-ghost use Rattle.bb_memory_c.specs.Pools.{Gives, GivesBack, IsNoPool, IsPool, IsCuttable, IsUncuttable, MakesPool, Tells};
+ghost use Rattle.bb_memory_c.specs.Pools.{Gives, GivesBack, Tells};
+ghost use Rattle.bb_memory_c.specs.Pools.{IsCuttable, IsNoPool, IsPool, IsUncuttable, MakesPool};
 
 use crate::answer::{Answer, Figure};
 use crate::code;
@@ -21,6 +22,8 @@ use std::alloc::Global;
 
 /// Makes a pool over the region of `size` bytes at `start`, behind a handle that has to be empty. The region is cut into
 /// buckets of `bucket_size` bytes at multiples of `bucket_align`.
+///
+/// C guarantees of the handle what the crate's page says.
 #[unsafe(no_mangle)]
 pub extern "C" fn bb_pool_make(
     alloc: Global,
@@ -83,6 +86,8 @@ fn request(pool: &mut PoolAllocator<Global>, size: usize, align: usize) -> Answe
 }
 
 /// Asks for a chunk of `size` bytes at a multiple of `align`, in a bucket that isn't held.
+///
+/// C guarantees of the handle what the crate's page says.
 #[unsafe(no_mangle)]
 pub extern "C" fn bb_pool_allocate(
     alloc: Global,
@@ -123,6 +128,8 @@ fn give_back(pool: &mut PoolAllocator<Global>, place: usize) -> u32
 
 /// Gives back the bucket at this place. A place that isn't a held bucket's is refused, so that a wild or a second return changes
 /// nothing.
+///
+/// C guarantees of the handle what the crate's page says.
 #[unsafe(no_mangle)]
 pub extern "C" fn bb_pool_deallocate(alloc: Global, handle: &mut Handle, place: usize) -> u32
     ensures freed { (pool : CountedPool) → IsPool handle.old.value pool → HoldsPlace pool.pool place
@@ -144,6 +151,8 @@ pub extern "C" fn bb_pool_deallocate(alloc: Global, handle: &mut Handle, place: 
 }
 
 /// Whether this is the place of a held bucket: 1 or 0.
+///
+/// C guarantees of the handle what the crate's page says.
 #[unsafe(no_mangle)]
 pub extern "C" fn bb_pool_holds(alloc: Global, handle: &mut Handle, place: usize) -> Figure
     ensures held { (pool : CountedPool) → IsPool handle.old.value pool → HoldsPlace pool.pool place
@@ -165,6 +174,8 @@ pub extern "C" fn bb_pool_holds(alloc: Global, handle: &mut Handle, place: usize
 }
 
 /// How many buckets there are.
+///
+/// C guarantees of the handle what the crate's page says.
 #[unsafe(no_mangle)]
 pub extern "C" fn bb_pool_number_of_buckets(alloc: Global, handle: &mut Handle) -> Figure
     ensures value { (pool : CountedPool) → IsPool handle.old.value pool → result ≡ figure_of pool.pool.geometry.buckets }
@@ -183,6 +194,8 @@ pub extern "C" fn bb_pool_number_of_buckets(alloc: Global, handle: &mut Handle) 
 }
 
 /// The size of a bucket in bytes, as it was asked for.
+///
+/// C guarantees of the handle what the crate's page says.
 #[unsafe(no_mangle)]
 pub extern "C" fn bb_pool_bucket_size(alloc: Global, handle: &mut Handle) -> Figure
     ensures value { (pool : CountedPool) → IsPool handle.old.value pool → result ≡ figure_of pool.pool.geometry.bucket.size }
@@ -201,6 +214,8 @@ pub extern "C" fn bb_pool_bucket_size(alloc: Global, handle: &mut Handle) -> Fig
 }
 
 /// The greatest alignment that a request may have.
+///
+/// C guarantees of the handle what the crate's page says.
 #[unsafe(no_mangle)]
 pub extern "C" fn bb_pool_max_alignment(alloc: Global, handle: &mut Handle) -> Figure
     ensures value { (pool : CountedPool) → IsPool handle.old.value pool → result ≡ figure_of pool.pool.geometry.bucket.align }
@@ -219,6 +234,8 @@ pub extern "C" fn bb_pool_max_alignment(alloc: Global, handle: &mut Handle) -> F
 }
 
 /// How many bytes the region has, as it was handed in.
+///
+/// C guarantees of the handle what the crate's page says.
 #[unsafe(no_mangle)]
 pub extern "C" fn bb_pool_size(alloc: Global, handle: &mut Handle) -> Figure
     ensures value { (pool : CountedPool) → IsPool handle.old.value pool → result ≡ figure_of pool.pool.geometry.region.size }
@@ -237,9 +254,12 @@ pub extern "C" fn bb_pool_size(alloc: Global, handle: &mut Handle) -> Figure
 }
 
 /// Where the first bucket is: the region's start, rounded up to the bucket's alignment.
+///
+/// C guarantees of the handle what the crate's page says.
 #[unsafe(no_mangle)]
 pub extern "C" fn bb_pool_start_address(alloc: Global, handle: &mut Handle) -> Figure
-    ensures value { (pool : CountedPool) → IsPool handle.old.value pool → result ≡ figure_of (first_place pool.pool.geometry.region pool.pool.geometry.bucket) }
+    ensures value { (pool : CountedPool) → IsPool handle.old.value pool
+        → result ≡ figure_of (first_place pool.pool.geometry.region pool.pool.geometry.bucket) }
     ensures not_made { IsNoPool handle.old.value → result ≡ no_figure not_made }
     ensures kept { handle.new.value ≡ handle.old.value }
 {
