@@ -108,6 +108,10 @@ impl<A: Allocator + Drop> BaseAllocator for ByteBudget<A> {
         let _ = &self.out;
     }
 
+    fn answers_fit(&self) {
+        self.inner.answers_fit();
+    }
+
     ghost releases = { λ b live position chunk stands at. A.releases b.inner live position chunk stands.0 at };
 
     ghost sound = { λ b live stands. A.sound b.inner live stands.0 };

@@ -108,6 +108,10 @@ impl<A: BaseAllocator + Drop> BaseAllocator for ChunkBudget<A> {
         let _ = &self.out;
     }
 
+    fn answers_fit(&self) {
+        self.inner.answers_fit();
+    }
+
     ghost releases = { λ b live position chunk stands at.
         (live, position, chunk, stands.0, stands.1, at, refl) };
 

@@ -1,0 +1,105 @@
+// Allocators over a region of the host's own, for C. The contract of each function is proved, for every caller that
+// guarantees the following, which nothing checks:
+//
+// - A handle is a variable of the host's, all bytes zero before its first use: `bb_pool pool = BB_EMPTY;`. It is passed
+//   by its address, which isn't null. Nothing but these functions writes it, and a copy of it is not used.
+// - One call at a time has a handle. It may go to another thread between two calls, if the threads order that by a lock
+//   or by a thread's start or join.
+// - No function is called from a signal handler, or in a child that a process of several threads forked.
+// - `malloc` and `free` come from one allocator, and `malloc` aligns as C says. Where it refuses, the answer is
+//   BB_OUT_OF_MEMORY.
+//
+// A place is a number, such as the address of a byte in a buffer of the host's. No function reads or writes a byte
+// there. Chunks that are out lie inside the region, at multiples of the asked alignment, and never overlap. Sizes and
+// alignments are in bytes. The numbers are tested, so none breaks an allocator: a wild place is answered by a code, and
+// so is a second return.
+//
+// A Rust program declares these functions in an `unsafe extern "C"` block, with `#[repr(C)]` structs of the same fields.
+#ifndef BB_MEMORY_H
+#define BB_MEMORY_H
+
+#include <stdbool.h>
+#include <stddef.h>
+#include <stdint.h>
+
+#ifdef __cplusplus
+extern "C" {
+#endif
+
+// What is answered. With any code but BB_DONE nothing was done, and a struct that is answered has 0 beside the code.
+enum {
+    BB_DONE = 0,
+    BB_SIZE_IS_ZERO = 1,
+    BB_SIZE_TOO_LARGE = 2,     // greater than a bucket's size
+    BB_ALIGNMENT_FAILURE = 3,  // greater than a bucket's alignment
+    BB_OUT_OF_MEMORY = 4,      // no room left in the region, or `malloc` refused
+    BB_NOT_A_LAYOUT = 7,       // the alignment is no power of two, or the size rounded up to it is greater than PTRDIFF_MAX
+    BB_NOT_MADE = 8,           // the handle is empty, or of another kind
+    BB_NOT_HELD = 9,           // the place isn't that of a held bucket
+    BB_ALREADY_MADE = 10,      // the handle isn't empty
+    BB_CANNOT_MAKE = 11,       // the region or the buckets can't be; each maker says when
+};
+
+#define BB_EMPTY {0, false}
+
+// Handles. `at` and `made` are not for the host.
+typedef struct { void *at; bool made; } bb_bump;
+typedef struct { void *at; bool made; } bb_pool;
+typedef struct { void *at; bool made; } bb_fixed_pool;
+
+// A chunk that was given: where it begins, and how many bytes it has.
+typedef struct { uint32_t code; size_t place; size_t len; } bb_answer;
+
+// A number that was asked for.
+typedef struct { uint32_t code; size_t number; } bb_figure;
+
+// Frees what is behind a handle of any kind, which is empty then: `bb_free(&pool)`. BB_NOT_MADE where it was empty
+// already. The bytes of chunks that are out stay the host's.
+uint32_t bb_free(void *handle);
+
+// A bump gives one chunk after another, and takes all of them back at once.
+
+// Over the region of `size` bytes at `start`. BB_CANNOT_MAKE where the start is 0, or start plus size exceeds SIZE_MAX.
+uint32_t bb_bump_make(bb_bump *, size_t start, size_t size);
+// A chunk of exactly `size` bytes at the least multiple of `align` behind what is used.
+bb_answer bb_bump_allocate(bb_bump *, size_t size, size_t align);
+// All chunks are given back.
+uint32_t bb_bump_deallocate(bb_bump *);
+bb_figure bb_bump_used_space(bb_bump *);
+bb_figure bb_bump_free_space(bb_bump *);
+bb_figure bb_bump_total_space(bb_bump *);
+bb_figure bb_bump_start_address(bb_bump *);
+
+// A pool cuts its region into buckets of one layout, and gives a bucket for each request.
+
+// BB_CANNOT_MAKE where the start is 0, start plus size or the start rounded up to the alignment exceeds SIZE_MAX, the
+// bucket's size is 0, or there is room for UINT32_MAX buckets or more. No call but the maker takes memory.
+uint32_t bb_pool_make(bb_pool *, size_t bucket_size, size_t bucket_align, size_t start, size_t size);
+// A chunk of `size` bytes in a bucket that isn't held. Refused by size, then by alignment, then where every bucket is
+// held.
+bb_answer bb_pool_allocate(bb_pool *, size_t size, size_t align);
+// Gives back the bucket at this place; BB_NOT_HELD where it isn't that of a held bucket.
+uint32_t bb_pool_deallocate(bb_pool *, size_t place);
+// 1 where this is the place of a held bucket, else 0.
+bb_figure bb_pool_holds(bb_pool *, size_t place);
+bb_figure bb_pool_number_of_buckets(bb_pool *);
+bb_figure bb_pool_bucket_size(bb_pool *);
+bb_figure bb_pool_max_alignment(bb_pool *);
+bb_figure bb_pool_size(bb_pool *);
+bb_figure bb_pool_start_address(bb_pool *);
+
+// The same of at most 512 buckets, which keeps what it knows of them in one block of fixed size.
+uint32_t bb_fixed_pool_make(bb_fixed_pool *, size_t bucket_size, size_t bucket_align, size_t start, size_t size);
+bb_answer bb_fixed_pool_allocate(bb_fixed_pool *, size_t size, size_t align);
+uint32_t bb_fixed_pool_deallocate(bb_fixed_pool *, size_t place);
+bb_figure bb_fixed_pool_holds(bb_fixed_pool *, size_t place);
+bb_figure bb_fixed_pool_number_of_buckets(bb_fixed_pool *);
+bb_figure bb_fixed_pool_bucket_size(bb_fixed_pool *);
+bb_figure bb_fixed_pool_max_alignment(bb_fixed_pool *);
+bb_figure bb_fixed_pool_size(bb_fixed_pool *);
+
+#ifdef __cplusplus
+}
+#endif
+
+#endif

@@ -1,0 +1,41 @@
+-- Layouts of two numbers.
+use Rattle.std.proofs.Common.{◌≡◌, ℕ, Result, Ok, Err, Option, Some, None, IsOk, IfOk, ◌↔◌, ap, ◌∙◌, sym}
+use Rattle.std.proofs.Props.{props}
+use Rattle.std.proofs.lemmas.Bool.{false≢true}
+use Rattle.std.specs.Align.{IsLayout}
+use Rattle.std.specs.Result.{result_ok}
+use Rattle.std.specs.Option.{is_some}
+use mathlib.Core.HLevel.{is_prop→PathP}
+use Rattle.bb_memory_base.specs.declared.layout.Layout.{Layout}
+use Rattle.bb_memory_c.specs.Layouts.{IsOf}
+
+-- layouts of the same numbers are the same
+pub same_layout : (a b : Layout) → a.size ≡ b.size → a.align ≡ b.align → a ≡ b
+same_layout a b size align = λ i. record {
+  size = size i;
+  align = align i;
+  valid = is_prop→PathP (λ j. IsLayout (size j) (align j)) (λ j. hlevel props) a.valid b.valid i;
+}
+
+-- what is made of the numbers of a layout is that layout
+pub made_of : {E : Type 0} (r : Result Layout E) (size align : ℕ) (layout : Layout)
+    → (IsOk r ↔ IsLayout size align) → IfOk r (λ l. (l.size ≡ size) × (l.align ≡ align))
+    → IsOf size align layout → result_ok r ≡ Some layout
+made_of (Ok l) size align layout succeeds made of =
+    ap Some (same_layout l layout (made.0 ∙ sym of.0) (made.1 ∙ sym of.1))
+made_of (Err e) size align layout succeeds made of =
+    absurd (false≢true (succeeds.1 (rw (sym of.0, sym of.1) layout.valid)))
+
+abbrev layout_or : Layout → Option Layout → Layout
+layout_or other (Some layout) = layout
+layout_or other None = other
+
+-- the layout that was made is each of its numbers
+pub the_same : (made layout : Layout) (given : Option Layout) (size align : ℕ) → given ≡ Some made
+    → ((other : Layout) → IsOf size align other → given ≡ Some other) → IsOf size align layout → made ≡ layout
+the_same made layout given size align is each of = ap (layout_or made) (sym is ∙ each layout of)
+
+-- none was made, so there is none of these numbers
+pub is_none : {X : Type 0} (layout : Layout) (given : Option Layout) (size align : ℕ) → given ≡ None
+    → ((other : Layout) → IsOf size align other → given ≡ Some other) → IsOf size align layout → X
+is_none layout given size align is each of = absurd (false≢true (ap is_some (sym is ∙ each layout of)))

@@ -1,0 +1,42 @@
+-- The numbers by which C is answered.
+use Rattle.std.specs.Prelude.{ℕ}
+
+-- it was done
+abbrev pub done : ℕ
+done = 0
+
+-- the size is 0
+abbrev pub size_is_zero : ℕ
+size_is_zero = 1
+
+-- the size is greater than a bucket's
+abbrev pub size_too_large : ℕ
+size_too_large = 2
+
+-- the alignment is greater than a bucket's
+abbrev pub alignment_failure : ℕ
+alignment_failure = 3
+
+-- there is no room left, or memory was refused
+abbrev pub out_of_memory : ℕ
+out_of_memory = 4
+
+-- the size and the alignment make no layout
+abbrev pub not_a_layout : ℕ
+not_a_layout = 7
+
+-- the handle is empty, or of another kind
+abbrev pub not_made : ℕ
+not_made = 8
+
+-- the place isn't that of a held bucket
+abbrev pub not_held : ℕ
+not_held = 9
+
+-- the handle isn't empty, where one was to be made
+abbrev pub already_made : ℕ
+already_made = 10
+
+-- the numbers describe nothing that could be made
+abbrev pub cannot_make : ℕ
+cannot_make = 11

@@ -1,0 +1,6 @@
+pub mod Answers
+pub mod Bumps
+pub mod Codes
+pub mod Handles
+pub mod Layouts
+pub mod Pools

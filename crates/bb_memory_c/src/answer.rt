@@ -1,0 +1,73 @@
+//! What C sees of an answer.
+ghost use Rattle.std.specs.Prelude.{◌≡◌};
+ghost use Rattle.bb_memory_c.specs.Answers.{answer_of, figure_of, no_figure, refused};
+
+use crate::code;
+use bb_memory::bump_allocator::AllocationError;
+use bb_memory::layout::Chunk;
+
+/// A code, and with code 0 the chunk that was given: its place, and how many bytes it has. With any other code both are 0.
+#[repr(C)]
+#[derive(Clone, Copy)]
+pub struct Answer {
+    pub code: u32,
+    pub place: usize,
+    pub len: usize,
+}
+
+/// A code, and with code 0 the number that was asked for. With any other code it is 0.
+#[repr(C)]
+#[derive(Clone, Copy)]
+pub struct Figure {
+    pub code: u32,
+    pub number: usize,
+}
+
+impl Answer {
+    /// Nothing was given, for the cause of this code.
+    pub(crate) fn refusal(code: u32) -> Answer
+        ensures { result ≡ refused code }
+    {
+        Answer {
+            code,
+            place: 0,
+            len: 0,
+        }
+    }
+
+    /// What a request was answered.
+    pub(crate) fn of(answer: Result<Chunk, AllocationError>) -> Answer
+        ensures { result ≡ answer_of answer }
+    {
+        match answer {
+            Ok(chunk) => Answer {
+                code: code::DONE,
+                place: chunk.place(),
+                len: chunk.len(),
+            },
+            Err(AllocationError::SizeIsZero) => Answer::refusal(code::SIZE_IS_ZERO),
+            Err(AllocationError::SizeTooLarge) => Answer::refusal(code::SIZE_TOO_LARGE),
+            Err(AllocationError::AlignmentFailure) => Answer::refusal(code::ALIGNMENT_FAILURE),
+            Err(AllocationError::OutOfMemory) => Answer::refusal(code::OUT_OF_MEMORY),
+        }
+    }
+}
+
+impl Figure {
+    /// The number that was asked for.
+    pub(crate) fn of(number: usize) -> Figure
+        ensures { result ≡ figure_of number }
+    {
+        Figure {
+            code: code::DONE,
+            number,
+        }
+    }
+
+    /// No number, for the cause of this code.
+    pub(crate) fn refusal(code: u32) -> Figure
+        ensures { result ≡ no_figure code }
+    {
+        Figure { code, number: 0 }
+    }
+}

@@ -1,0 +1,25 @@
+//! What the functions answer. 0 is for what was done, and each other number for one cause why nothing was.
+pub(crate) const DONE: u32 = 0;
+
+pub(crate) const SIZE_IS_ZERO: u32 = 1;
+
+pub(crate) const SIZE_TOO_LARGE: u32 = 2;
+
+pub(crate) const ALIGNMENT_FAILURE: u32 = 3;
+
+pub(crate) const OUT_OF_MEMORY: u32 = 4;
+
+/// The size and the alignment make no layout.
+pub(crate) const NOT_A_LAYOUT: u32 = 7;
+
+/// The handle is empty, or of another kind.
+pub(crate) const NOT_MADE: u32 = 8;
+
+/// The place isn't that of a held bucket.
+pub(crate) const NOT_HELD: u32 = 9;
+
+/// The handle isn't empty, where one was to be made.
+pub(crate) const ALREADY_MADE: u32 = 10;
+
+/// The numbers describe nothing that could be made.
+pub(crate) const CANNOT_MAKE: u32 = 11;

@@ -1,0 +1,251 @@
+//! A pool of at most 512 buckets behind a handle.
+ghost use Rattle.std.specs.Prelude.{◌≡◌, ◌≢◌, ◌↔◌, None};
+ghost use Rattle.std.specs.Align.{IsLayout};
+ghost use Rattle.bb_memory_base.specs.Region.{region_at};
+ghost use Rattle.bb_memory_base.specs.declared.layout.Layout.{Layout as Asked};
+ghost use Rattle.bb_memory.specs.Pool.{Pool, Frees, HoldsPlace};
+ghost use Rattle.bb_memory_c.specs.Answers.{figure_of, no_figure, refused};
+ghost use Rattle.bb_memory_c.specs.Codes.{already_made, cannot_make, done, not_a_layout, not_held, not_made, out_of_memory};
+ghost use Rattle.bb_memory_c.specs.Layouts.{IsOf};
+ghost use Rattle.bb_memory_c.specs.Pools.{GivesBackFixed, GivesFixed, Tells};
+ghost use Rattle.bb_memory_c.specs.Pools.{IsCuttable, IsFixedPool, IsNoFixedPool, IsUncuttable, MakesFixedPool};
+
+use crate::answer::{Answer, Figure};
+use crate::code;
+use crate::handle::Handle;
+use crate::layout::layout_of;
+use crate::made::Made;
+use bb_memory::layout::Layout;
+use bb_memory::pool_allocator::{BaseAllocator, FixedSizePoolAllocator};
+use std::alloc::Global;
+
+/// Makes a pool over the region of `size` bytes at `start`, behind a handle that has to be empty. The region is cut into
+/// buckets of `bucket_size` bytes at multiples of `bucket_align`, at most 512 of them.
+///
+/// C guarantees of the handle what the crate's page says.
+#[unsafe(no_mangle)]
+pub extern "C" fn bb_fixed_pool_make(
+    alloc: Global,
+    handle: &mut Handle,
+    bucket_size: usize,
+    bucket_align: usize,
+    start: usize,
+    size: usize,
+) -> u32
+    ensures made { result ≡ done → (bucket : Asked)
+        × IsCuttable bucket_size bucket_align (region_at start size) bucket
+        × MakesFixedPool (region_at start size) bucket handle.new.value }
+    ensures already_made { (result ≡ already_made) ↔ (handle.old.value ≢ None) }
+    ensures not_a_layout { result ≡ not_a_layout → ¬ IsLayout bucket_size bucket_align }
+    ensures cannot_make { result ≡ cannot_make → (bucket : Asked)
+        × IsUncuttable bucket_size bucket_align (region_at start size) bucket }
+    ensures else_memory { result ≢ done → result ≢ already_made → result ≢ not_a_layout
+        → result ≢ cannot_make → (result ≡ out_of_memory) × ((bucket : Asked)
+        × IsCuttable bucket_size bucket_align (region_at start size) bucket) }
+    ensures kept { result ≢ done → handle.new.value ≡ handle.old.value }
+{
+    if let Some(made) = handle.take(alloc) {
+        handle.put(made);
+        return code::ALREADY_MADE;
+    }
+    let Some(bucket) = layout_of(bucket_size, bucket_align) else {
+        return code::NOT_A_LAYOUT;
+    };
+    if !FixedSizePoolAllocator::<512>::can_make(bucket, start, size) {
+        return code::CANNOT_MAKE;
+    }
+    let pool = FixedSizePoolAllocator::<512>::new(bucket, start, size);
+    let Ok(made) = Box::new(alloc, Made::FixedPool(pool)) else {
+        return code::OUT_OF_MEMORY;
+    };
+    handle.put(made);
+    code::DONE
+}
+
+/// What the pool answers to a request for this layout.
+fn give(pool: &mut FixedSizePoolAllocator<512>, layout: Layout) -> Answer
+    ensures { Tells pool.old layout result pool.new }
+{
+    Answer::of(pool.allocate(layout))
+}
+
+/// What the pool answers to a request for so many bytes at a multiple of `align`.
+fn request(pool: &mut FixedSizePoolAllocator<512>, size: usize, align: usize) -> Answer
+    ensures answer { (layout : Asked) → IsOf size align layout
+        → Tells pool.old layout result pool.new }
+    ensures not_a_layout { ¬ IsLayout size align
+        → (result ≡ refused not_a_layout) × (pool.new ≡ pool.old) }
+{
+    match layout_of(size, align) {
+        Some(layout) => give(pool, layout),
+        None => Answer::refusal(code::NOT_A_LAYOUT),
+    }
+}
+
+/// Asks for a chunk of `size` bytes at a multiple of `align`, in a bucket that isn't held.
+///
+/// C guarantees of the handle what the crate's page says.
+#[unsafe(no_mangle)]
+pub extern "C" fn bb_fixed_pool_allocate(
+    alloc: Global,
+    handle: &mut Handle,
+    size: usize,
+    align: usize,
+) -> Answer
+    ensures answer { (pool : Pool) (layout : Asked) → IsFixedPool handle.old.value pool
+        → IsOf size align layout → GivesFixed pool layout result handle.new.value }
+    ensures not_a_layout { (pool : Pool) → IsFixedPool handle.old.value pool → ¬ IsLayout size align
+        → (result ≡ refused not_a_layout) × (handle.new.value ≡ handle.old.value) }
+    ensures not_made { IsNoFixedPool handle.old.value
+        → (result ≡ refused not_made) × (handle.new.value ≡ handle.old.value) }
+{
+    let Some(mut made) = handle.take(alloc) else {
+        return Answer::refusal(code::NOT_MADE);
+    };
+    let answer = match &mut *made {
+        Made::FixedPool(pool) => request(pool, size, align),
+        _ => Answer::refusal(code::NOT_MADE),
+    };
+    handle.put(made);
+    answer
+}
+
+/// Gives back the bucket at this place, if it is held.
+fn give_back(pool: &mut FixedSizePoolAllocator<512>, place: usize) -> u32
+    ensures freed { HoldsPlace pool.old place
+        → (result ≡ done) × Frees pool.old place pool.new }
+    ensures not_held { ¬ HoldsPlace pool.old place → (result ≡ not_held) × (pool.new ≡ pool.old) }
+{
+    if !pool.holds(place) {
+        return code::NOT_HELD;
+    }
+    pool.deallocate(place, Layout::empty());
+    code::DONE
+}
+
+/// Gives back the bucket at this place. A place that isn't a held bucket's is refused, so that a wild or a second return changes
+/// nothing.
+///
+/// C guarantees of the handle what the crate's page says.
+#[unsafe(no_mangle)]
+pub extern "C" fn bb_fixed_pool_deallocate(alloc: Global, handle: &mut Handle, place: usize) -> u32
+    ensures freed { (pool : Pool) → IsFixedPool handle.old.value pool → HoldsPlace pool place
+        → (result ≡ done) × GivesBackFixed pool place handle.new.value }
+    ensures not_held { (pool : Pool) → IsFixedPool handle.old.value pool → ¬ HoldsPlace pool place
+        → (result ≡ not_held) × (handle.new.value ≡ handle.old.value) }
+    ensures not_made { IsNoFixedPool handle.old.value
+        → (result ≡ not_made) × (handle.new.value ≡ handle.old.value) }
+{
+    let Some(mut made) = handle.take(alloc) else {
+        return code::NOT_MADE;
+    };
+    let code = match &mut *made {
+        Made::FixedPool(pool) => give_back(pool, place),
+        _ => code::NOT_MADE,
+    };
+    handle.put(made);
+    code
+}
+
+/// Whether this is the place of a held bucket: 1 or 0.
+///
+/// C guarantees of the handle what the crate's page says.
+#[unsafe(no_mangle)]
+pub extern "C" fn bb_fixed_pool_holds(alloc: Global, handle: &mut Handle, place: usize) -> Figure
+    ensures held { (pool : Pool) → IsFixedPool handle.old.value pool → HoldsPlace pool place
+        → result ≡ figure_of 1 }
+    ensures not_held { (pool : Pool) → IsFixedPool handle.old.value pool → ¬ HoldsPlace pool place
+        → result ≡ figure_of 0 }
+    ensures not_made { IsNoFixedPool handle.old.value → result ≡ no_figure not_made }
+    ensures kept { handle.new.value ≡ handle.old.value }
+{
+    let Some(made) = handle.take(alloc) else {
+        return Figure::refusal(code::NOT_MADE);
+    };
+    let figure = match &*made {
+        Made::FixedPool(pool) => Figure::of(if pool.holds(place) { 1 } else { 0 }),
+        _ => Figure::refusal(code::NOT_MADE),
+    };
+    handle.put(made);
+    figure
+}
+
+/// How many buckets there are.
+///
+/// C guarantees of the handle what the crate's page says.
+#[unsafe(no_mangle)]
+pub extern "C" fn bb_fixed_pool_number_of_buckets(alloc: Global, handle: &mut Handle) -> Figure
+    ensures value { (pool : Pool) → IsFixedPool handle.old.value pool → result ≡ figure_of pool.geometry.buckets }
+    ensures not_made { IsNoFixedPool handle.old.value → result ≡ no_figure not_made }
+    ensures kept { handle.new.value ≡ handle.old.value }
+{
+    let Some(made) = handle.take(alloc) else {
+        return Figure::refusal(code::NOT_MADE);
+    };
+    let figure = match &*made {
+        Made::FixedPool(pool) => Figure::of(pool.number_of_buckets() as usize),
+        _ => Figure::refusal(code::NOT_MADE),
+    };
+    handle.put(made);
+    figure
+}
+
+/// The size of a bucket in bytes, as it was asked for.
+///
+/// C guarantees of the handle what the crate's page says.
+#[unsafe(no_mangle)]
+pub extern "C" fn bb_fixed_pool_bucket_size(alloc: Global, handle: &mut Handle) -> Figure
+    ensures value { (pool : Pool) → IsFixedPool handle.old.value pool → result ≡ figure_of pool.geometry.bucket.size }
+    ensures not_made { IsNoFixedPool handle.old.value → result ≡ no_figure not_made }
+    ensures kept { handle.new.value ≡ handle.old.value }
+{
+    let Some(made) = handle.take(alloc) else {
+        return Figure::refusal(code::NOT_MADE);
+    };
+    let figure = match &*made {
+        Made::FixedPool(pool) => Figure::of(pool.bucket_size()),
+        _ => Figure::refusal(code::NOT_MADE),
+    };
+    handle.put(made);
+    figure
+}
+
+/// The greatest alignment that a request may have.
+///
+/// C guarantees of the handle what the crate's page says.
+#[unsafe(no_mangle)]
+pub extern "C" fn bb_fixed_pool_max_alignment(alloc: Global, handle: &mut Handle) -> Figure
+    ensures value { (pool : Pool) → IsFixedPool handle.old.value pool → result ≡ figure_of pool.geometry.bucket.align }
+    ensures not_made { IsNoFixedPool handle.old.value → result ≡ no_figure not_made }
+    ensures kept { handle.new.value ≡ handle.old.value }
+{
+    let Some(made) = handle.take(alloc) else {
+        return Figure::refusal(code::NOT_MADE);
+    };
+    let figure = match &*made {
+        Made::FixedPool(pool) => Figure::of(pool.max_alignment()),
+        _ => Figure::refusal(code::NOT_MADE),
+    };
+    handle.put(made);
+    figure
+}
+
+/// How many bytes the region has, as it was handed in.
+///
+/// C guarantees of the handle what the crate's page says.
+#[unsafe(no_mangle)]
+pub extern "C" fn bb_fixed_pool_size(alloc: Global, handle: &mut Handle) -> Figure
+    ensures value { (pool : Pool) → IsFixedPool handle.old.value pool → result ≡ figure_of pool.geometry.region.size }
+    ensures not_made { IsNoFixedPool handle.old.value → result ≡ no_figure not_made }
+    ensures kept { handle.new.value ≡ handle.old.value }
+{
+    let Some(made) = handle.take(alloc) else {
+        return Figure::refusal(code::NOT_MADE);
+    };
+    let figure = match &*made {
+        Made::FixedPool(pool) => Figure::of(pool.size()),
+        _ => Figure::refusal(code::NOT_MADE),
+    };
+    handle.put(made);
+    figure
+}

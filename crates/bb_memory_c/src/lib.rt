@@ -1,0 +1,19 @@
+//! The allocators for C: each exported function makes, asks or frees one behind a handle that the host holds. A place is a
+//! number, such as the address of a byte in the host's own buffer, and no byte there is read or written. What can be tested is
+//! tested here, so a wrong number is answered by a code. `bb_memory.h` declares the functions, and says what a caller has to
+//! guarantee.
+//!
+//! Every function of a handle requires this of C alone: the handle is one variable of the host's, all bytes zero before its
+//! first use, and nothing else writes it or uses a copy of it; one call at a time has it, and it goes to another thread only in
+//! an order that the threads keep; and `malloc` and `free` are those of one allocator.
+#![tactic(auto)]
+
+mod answer;
+mod bump;
+mod code;
+mod fixed_pool;
+mod handle;
+mod layout;
+mod loose;
+mod made;
+mod pool;

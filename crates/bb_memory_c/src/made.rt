@@ -1,0 +1,12 @@
+//! What a handle may stand for.
+use bb_memory::bump_allocator::BumpAllocator;
+use bb_memory::pool_allocator::{FixedSizePoolAllocator, PoolAllocator};
+use std::alloc::Global;
+
+/// What was made behind a handle.
+#[derive(Drop)]
+pub enum Made {
+    Bump(BumpAllocator),
+    Pool(PoolAllocator<Global>),
+    FixedPool(FixedSizePoolAllocator<512>),
+}

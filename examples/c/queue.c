@@ -1,0 +1,130 @@
+// A queue of messages over one buffer, which a pool cuts into buckets: four threads send and one receives. Each message is filled by
+// its sender and checked by the receiver, and then its bucket is given back. A bump behind the buffer's end gives the queue's slots.
+#include <pthread.h>
+#include <stdint.h>
+#include <stdio.h>
+#include <stdlib.h>
+#include <string.h>
+
+#include "bb_memory.h"
+
+enum { SENDERS = 4, MESSAGES = 500, BUCKETS = 16, BUCKET_SIZE = 64 };
+
+static _Alignas(64) unsigned char buffer[BUCKETS * BUCKET_SIZE + 1024];
+
+// What waits: where each message begins, and how long it is, in a ring of as many slots as there are buckets.
+typedef struct { size_t place; size_t len; } slot;
+
+typedef struct {
+    pthread_mutex_t lock;
+    pthread_cond_t changed;
+    bb_pool pool;
+    slot *slots;
+    size_t first, count;
+} queue;
+
+static queue shared = {PTHREAD_MUTEX_INITIALIZER, PTHREAD_COND_INITIALIZER, BB_EMPTY, NULL, 0, 0};
+
+static void expect(int holds, const char *what) {
+    if (!holds) {
+        fprintf(stderr, "queue: not so: %s\n", what);
+        exit(1);
+    }
+}
+
+static unsigned char byte_of(size_t sender, size_t number) { return (unsigned char)(sender * 61 + number * 7 + 1); }
+
+// Takes a bucket for a message, fills it while no lock is held, and puts it into the queue.
+static void *send_all(void *argument) {
+    size_t sender = (size_t)(uintptr_t)argument;
+    for (size_t number = 0; number < MESSAGES; number++) {
+        size_t len = 2 + (number * 13 + sender) % (BUCKET_SIZE - 2);
+        pthread_mutex_lock(&shared.lock);
+        bb_answer given;
+        while ((given = bb_pool_allocate(&shared.pool, len, 8)).code == BB_OUT_OF_MEMORY)
+            pthread_cond_wait(&shared.changed, &shared.lock);
+        expect(given.code == BB_DONE, "a bucket is given");
+        pthread_mutex_unlock(&shared.lock);
+
+        unsigned char *message = (unsigned char *)given.place;
+        memset(message, byte_of(sender, number), given.len);
+
+        pthread_mutex_lock(&shared.lock);
+        shared.slots[(shared.first + shared.count) % BUCKETS] = (slot){given.place, given.len};
+        shared.count++;
+        pthread_cond_broadcast(&shared.changed);
+        pthread_mutex_unlock(&shared.lock);
+    }
+    return NULL;
+}
+
+static void receive_all(void) {
+    for (size_t received = 0; received < SENDERS * MESSAGES; received++) {
+        pthread_mutex_lock(&shared.lock);
+        while (shared.count == 0)
+            pthread_cond_wait(&shared.changed, &shared.lock);
+        slot next = shared.slots[shared.first];
+        shared.first = (shared.first + 1) % BUCKETS;
+        shared.count--;
+        pthread_mutex_unlock(&shared.lock);
+
+        const unsigned char *message = (const unsigned char *)next.place;
+        for (size_t at = 1; at < next.len; at++)
+            expect(message[at] == message[0], "a message is what one sender wrote");
+
+        pthread_mutex_lock(&shared.lock);
+        expect(bb_pool_deallocate(&shared.pool, next.place + 1) == BB_NOT_HELD, "a wild return is refused");
+        expect(bb_pool_deallocate(&shared.pool, next.place) == BB_DONE, "a bucket is given back");
+        pthread_cond_broadcast(&shared.changed);
+        pthread_mutex_unlock(&shared.lock);
+    }
+}
+
+static void run_queue(void) {
+    size_t start = (size_t)(uintptr_t)buffer;
+    expect(bb_pool_make(&shared.pool, BUCKET_SIZE, 8, start, BUCKETS * BUCKET_SIZE) == BB_DONE, "a pool is made");
+    expect(bb_pool_make(&shared.pool, BUCKET_SIZE, 8, start, 64) == BB_ALREADY_MADE, "a handle holds one");
+    expect(bb_pool_number_of_buckets(&shared.pool).number == BUCKETS, "the buffer has room for the buckets");
+
+    bb_bump bump = BB_EMPTY;
+    expect(bb_bump_make(&bump, start + BUCKETS * BUCKET_SIZE, 1024) == BB_DONE, "a bump is made");
+    bb_answer slots = bb_bump_allocate(&bump, BUCKETS * sizeof(slot), _Alignof(slot));
+    expect(slots.code == BB_DONE && slots.len == BUCKETS * sizeof(slot), "the slots have room");
+    shared.slots = (slot *)slots.place;
+
+    pthread_t threads[SENDERS];
+    for (size_t sender = 0; sender < SENDERS; sender++)
+        pthread_create(&threads[sender], NULL, send_all, (void *)(uintptr_t)sender);
+    receive_all();
+    for (size_t sender = 0; sender < SENDERS; sender++)
+        pthread_join(threads[sender], NULL);
+
+    expect(bb_free(&shared.pool) == BB_DONE && bb_free(&shared.pool) == BB_NOT_MADE, "a pool is freed once");
+    expect(bb_free(&bump) == BB_DONE, "a bump is freed");
+}
+
+// Each cause of a refusal, once.
+static void run_refusals(void) {
+    bb_fixed_pool pool = BB_EMPTY;
+    expect(bb_fixed_pool_allocate(&pool, 1, 1).code == BB_NOT_MADE, "nothing is made");
+    expect(bb_fixed_pool_make(&pool, 128, 3, 4096, 1024) == BB_NOT_A_LAYOUT, "3 is no power of two");
+    expect(bb_fixed_pool_make(&pool, 128, 8, 0, 1024) == BB_CANNOT_MAKE, "a region doesn't start at 0");
+    expect(bb_fixed_pool_make(&pool, 128, 8, 4096, 1024) == BB_DONE, "eight buckets");
+    expect(bb_fixed_pool_number_of_buckets(&pool).number == 8, "eight buckets");
+    expect(bb_fixed_pool_allocate(&pool, 129, 8).code == BB_SIZE_TOO_LARGE, "129 bytes are too many");
+    expect(bb_fixed_pool_allocate(&pool, 128, 16).code == BB_ALIGNMENT_FAILURE, "16 is too wide");
+    bb_answer given = bb_fixed_pool_allocate(&pool, 48, 4);
+    expect(given.code == BB_DONE && given.len == 48 && given.place % 8 == 0, "48 bytes are given");
+    expect(bb_fixed_pool_holds(&pool, given.place).number == 1, "the bucket is held");
+    expect(bb_fixed_pool_deallocate(&pool, given.place) == BB_DONE, "the bucket is given back");
+    expect(bb_fixed_pool_deallocate(&pool, given.place) == BB_NOT_HELD, "a second return is refused");
+    expect(bb_bump_used_space((bb_bump *)&pool).code == BB_NOT_MADE, "a pool is no bump");
+    expect(bb_free(&pool) == BB_DONE, "a pool is freed");
+}
+
+int main(void) {
+    run_queue();
+    run_refusals();
+    puts("queue: every message came whole");
+    return 0;
+}
