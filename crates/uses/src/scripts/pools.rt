@@ -52,7 +52,7 @@ pub fn taken_again(
     Ok(())
 }
 
-/// Two chunks have different places, at least a bucket's size apart.
+/// Two chunks have different places.
 pub fn two_chunks(
     pool: &mut FixedSizePoolAllocator<16>,
     layout: Layout,
