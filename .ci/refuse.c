@@ -11,6 +11,7 @@
 // Without REFUSE_MARKED the marks are granted and not counted, so a test that asks for them is run with ample memory, too.
 #define _GNU_SOURCE
 #include <stdlib.h>
+#include <sys/syscall.h>
 #include <unistd.h>
 
 enum { FIRST_MARK = 100003, SECOND_MARK = 100019 };
@@ -22,15 +23,29 @@ extern void *__libc_realloc(void *, size_t);
 static long asked, refuse_at, asked_between;
 static int refused, between_marks, met_both;
 
-static void end(int status, void *unused) {
-    (void)unused;
+static int marked;
+
+// The status that the program ends with, where it asked for this one.
+static int told(int status) {
     if (status == 0 && refuse_at && !refused)
-        _exit(99);
+        return 99;
     if (status == 0 && met_both)
-        _exit(98);
+        return 98;
+    return status;
 }
 
-static int marked;
+// A program with threads ends by this call.
+void _exit(int status) {
+    for (;;)
+        syscall(SYS_exit_group, told(status));
+}
+
+// Any other one returns from main.
+static void end(int status, void *unused) {
+    (void)unused;
+    if (told(status) != status)
+        _exit(status);
+}
 
 __attribute__((constructor)) static void begin(void) {
     const char *text = getenv("REFUSE_AT");
