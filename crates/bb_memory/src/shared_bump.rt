@@ -189,6 +189,8 @@ impl SharedBumpAllocator {
         requires a { a.old.allocator ≡ self.now }
         requires b { b.old.allocator ≡ self.now }
         ensures kept { (a.new ≡ a.old) × (b.new ≡ b.old) }
+        ensures a { a.new.allocator ≡ self.now }
+        ensures b { b.new.allocator ≡ self.now }
         ensures differ { a.old.number ≢ b.old.number }
         ensures apart { HaveChunksApart a.old.log b.old.log }
         ensures interleaved { AreInterleaved a.old b.old }

@@ -135,6 +135,8 @@ impl<const MAX_NUMBER_OF_BUCKETS: usize> SharedFixedSizePoolAllocator<MAX_NUMBER
         requires a { a.old.allocator ≡ self.now }
         requires b { b.old.allocator ≡ self.now }
         ensures kept { (a.new ≡ a.old) × (b.new ≡ b.old) }
+        ensures a { a.new.allocator ≡ self.now }
+        ensures b { b.new.allocator ≡ self.now }
         ensures differ { a.old.number ≢ b.old.number }
         ensures apart { (bucket : ℕ) → IsHeldAfter a.old.log bucket
             → ¬ IsHeldAfter b.old.log bucket }
