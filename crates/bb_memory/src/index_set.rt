@@ -1,7 +1,7 @@
 //! A set of numbers below a bound, from which any number that isn't in it can be taken.
 //!
-//! [`words::Words`] takes memory once, for a bit a number; [`flags::Flags`] takes none, and has an array with a flag a number.
-//! Both keep a list of where a number is free, so that nothing is searched.
+//! [`words::Words`] takes memory once, for a bit a number and a list of as many words; [`flags::Flags`] takes none, and has an
+//! array with a flag a number. Both keep a list of where a number is free, so that nothing is searched.
 pub mod flags;
 pub mod index_words;
 pub mod words;

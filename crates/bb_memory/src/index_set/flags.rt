@@ -5,8 +5,8 @@ ghost use Rattle.bb_memory.specs.Flags.{};
 use crate::index_set::{Counter, IndexSet};
 use std::marker::Model;
 
-/// A flag for each number, and the numbers below the bound that aren't in the set, in the first entries of an array, so many;
-/// the others are never read.
+/// A flag for each number, and the numbers below the bound that aren't in the set, in the first entries of an array. The rest of
+/// the entries are never read.
 ///
 /// A taking answers the number that was given back last, and sets its flag. Nothing is searched.
 #[derive(Drop)]

@@ -47,7 +47,7 @@ impl Counter {
     }
 }
 
-/// Words that [`IndexWords::word`] alone hands out; a release changes a bit in place, and `has` tells one. Number n is bit n % 64
+/// Words that [`IndexWords::word`] alone hands out to a search; a release changes a bit in place, and `has` tells one. Number n is bit n % 64
 /// of word n / 64, counted from the lowest. Behind them, in the same memory, is room for a list of as many words' numbers.
 #[derive(Drop)]
 pub struct IndexWords<A: Allocator> {

@@ -1,4 +1,4 @@
-//! The steps of the pool scene, and what holds of every list of them.
+//! The pool machine's steps, and what holds of every list of them.
 ghost use Rattle.std.specs.Prelude.{◌≡◌, ◌<◌, ◌≤◌, ◌↔◌, ℕ, Bool, true, false, List, [], Some, All, drop, length, replicate, slice_get, slice_set, take};
 ghost use Rattle.bb_memory_base.specs.Region.{Region};
 ghost use Rattle.bb_memory_base.specs.Chunk.{Chunk};

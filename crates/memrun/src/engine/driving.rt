@@ -39,7 +39,7 @@ pub fn drive<K: Driven, W: Write>(
     }
 }
 
-/// IsUnreadableAt an input for its line of this number.
+/// Tells that the line of this number is the first unreadable one.
 pub fn tell_unreadable<W: Write>(alloc: Global, number: usize, writer: &mut W) -> Status
     ensures unreadable { result ≡ Status.Unreadable
         → Appends (W.contents writer.old) (W.contents writer.new) (unreadable_text number) }

@@ -65,3 +65,22 @@ fn heap_zeroed_and_refused(rt: HostRuntime) -> Result<(), Fail> {
     assert_eq!(rt; block.as_slice(), [5].as_slice());
     Ok(())
 }
+
+/// Alignments decide nothing, and a block may be of a mebibyte as of a byte.
+#[test]
+fn heap_of_any_alignment_and_size(rt: HostRuntime) -> Result<(), Fail> {
+    let heap = HeapAllocator::new(rt.alloc());
+    let page = Layout::from_size_align(4, 4096)?;
+    let huge = Layout::from_size_align(1 << 20, 1 << 62)?;
+    let block = heap.allocate(page)?;
+    assert_eq!(rt; block.as_slice(), [0, 0, 0, 0].as_slice());
+    let Ok(block) = heap.grow(block, page, huge) else {
+        return Err(Fail::from("the block wasn't grown"));
+    };
+    assert_eq!(rt; block.len(), 1048576);
+    let Ok(block) = heap.shrink(block, huge, page) else {
+        return Err(Fail::from("the block wasn't shrunk"));
+    };
+    assert_eq!(rt; block.len(), 4);
+    Ok(())
+}
