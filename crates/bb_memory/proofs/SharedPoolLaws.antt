@@ -1,22 +1,27 @@
 -- What a party's history says.
-use Rattle.std.proofs.Common.{◌≡◌, ◌≢◌, ℕ, ◌<◌, ◌≤◌, List, Some, sym, ap, subst, arith, inl, inr}
-use Rattle.std.proofs.lemmas.Bool.{cases_lt}
+use Rattle.std.proofs.Common.{◌≡◌, ◌≢◌, ℕ, zero, suc, ◌+◌, ◌<◌, ◌≤◌, Bool, true, false, List, [], ◌∷◌, ◌++◌, Some, take, sym, ◌∙◌, ap, subst, add-one, append_assoc, arith, inl, inr}
+use Rattle.std.specs.Prelude.{filter, if◌then◌else◌, slice_get}
+use Rattle.std.proofs.lemmas.Bool.{cases_Bool, cases_lt, le-ltb}
 use Rattle.std.proofs.lemmas.Option.{slice_get_within}
 use Rattle.bb_memory_base.specs.Chunk.{AreApart, Chunk}
 use Rattle.bb_memory_base.specs.LiveList.{IsSound}
 use Rattle.bb_memory_base.specs.PoolGeometry.{PoolGeometry, bucket_place}
 use Rattle.bb_memory_base.specs.PoolObject.{IsHeld}
 use Rattle.bb_memory_base.specs.PoolMachine.{IsHolder, left_by}
-use Rattle.bb_memory_base.specs.PoolHistory.{PoolLog}
-use Rattle.bb_memory_base.specs.PoolCalls.{AreAsked}
-use Rattle.bb_memory_base.specs.PoolLogs.{IsHeldAfter}
+use Rattle.bb_memory_base.specs.PoolHistory.{PoolEntry, PoolLog, entries_by, entry_of, history_of, is_by}
+use Rattle.bb_memory_base.specs.PoolCalls.{AreAsked, IsRefusedAt}
+use Rattle.bb_memory_base.specs.PoolLogs.{IsHeldAfter, loss_at}
+use Rattle.bb_memory_base.specs.declared.steps.pool.PoolStep.TheVariants.{Try}
+use Rattle.bb_memory_base.specs.declared.steps.pool.PoolOutcome.{PoolOutcome}
+use Rattle.bb_memory_base.specs.declared.steps.pool.PoolOutcome.TheVariants.{Loses, RefusedAtLoss}
 use Rattle.bb_memory_base.specs.declared.layout.Layout.{Layout}
 use Rattle.bb_memory_base.proofs.PoolGeometries.{bucket_place-after, stride-above}
 use Rattle.bb_memory_base.proofs.PoolHolders.{holder_in_log, one_holder}
+use Rattle.bb_memory_base.proofs.PoolPasses.{refused_found_held}
 use Rattle.bb_memory_base.proofs.PoolRuns.{pool_run, run_is_sound, taken_is_held}
 use Rattle.bb_memory_base.proofs.PoolSteps.{length-left_by}
 use Rattle.bb_memory.specs.Pool.{AreAStrideApart}
-use Rattle.bb_memory.specs.SharedPool.{AreInterleaved, IsHistoryRun, IsParty, PoolParty, SharedPool, TakenBucket, chunk_of}
+use Rattle.bb_memory.specs.SharedPool.{AreInterleaved, HasFoundAllHeld, IsHistoryRun, IsParty, PoolParty, SharedPool, TakenBucket, chunk_of, losses, refused_pass}
 
 pub history_run : (party : PoolParty) (is : IsParty party) (layouts : List Layout) →
     AreAsked party.allocator.scene.geometry is.interleaved.steps layouts →
@@ -44,6 +49,96 @@ history_held party is layouts live bucket run held =
 pub history_sound : (party : PoolParty) (is : IsParty party) (layouts : List Layout) (live : List Chunk) →
     IsHistoryRun party is layouts live → IsSound party.allocator.scene.geometry.region live
 history_sound party is layouts live run = run_is_sound party.allocator.scene is.interleaved.steps layouts live is.geometry run
+
+-- REFUSED PASSES
+
+-- what a list keeps last stands in it at some place, up to which the list keeps just this
+pub record IsKeptLast {X : Type 0} (test : X → Bool) (list kept : List X) (last : X) : Type 0 where
+  pub place : ℕ
+  pub there : slice_get list place ≡ Some last
+  pub up_to : filter test (take (suc place) list) ≡ kept ++ last ∷ []
+
+kept_behind : {X : Type 0} (test : X → Bool) (first : X) (list kept : List X) (last : X) → IsKeptLast test list kept last →
+    test first ≡ false → IsKeptLast test (first ∷ list) kept last
+kept_behind test first list kept last rest is = record {
+  place = suc rest.place;
+  there = rest.there;
+  up_to = ap (λ (b : Bool). if b then first ∷ filter test (take (suc rest.place) list) else filter test (take (suc rest.place) list)) is ∙ rest.up_to;
+}
+
+kept_first : {X : Type 0} (test : X → Bool) (first : X) (list kept : List X) (last : X) → test first ≡ true →
+    first ∷ filter test list ≡ kept ++ last ∷ [] →
+    ((rest : List X) → filter test list ≡ rest ++ last ∷ [] → IsKeptLast test list rest last) →
+    IsKeptLast test (first ∷ list) kept last
+kept_first {X = X} test first list [] last passes is later =
+    let same : first ≡ last = cc in record {
+      place = 0;
+      there = ap (λ (x : X). Some x) same;
+      up_to = ap (λ (b : Bool). if b then first ∷ [] else []) passes ∙ ap (λ (x : X). x ∷ []) same;
+    }
+kept_first {X = X} test first list (head ∷ kept) last passes is later =
+    let same : first ≡ head = cc in
+    let tail : filter test list ≡ kept ++ last ∷ [] = cc in
+    let rest = later kept tail in record {
+      place = suc rest.place;
+      there = rest.there;
+      up_to = ap (λ (b : Bool). if b then first ∷ filter test (take (suc rest.place) list) else filter test (take (suc rest.place) list)) passes
+          ∙ ap (λ (xs : List X). first ∷ xs) rest.up_to
+          ∙ ap (λ (x : X). x ∷ (kept ++ last ∷ [])) same;
+    }
+
+nothing_kept : {X : Type 0} (kept : List X) (last : X) → [] ≡ kept ++ last ∷ [] → ⊥
+nothing_kept [] last is = cc
+nothing_kept (head ∷ kept) last is = cc
+
+kept_last : {X : Type 0} (test : X → Bool) (list kept : List X) (last : X) → filter test list ≡ kept ++ last ∷ [] →
+    IsKeptLast test list kept last
+kept_last test [] kept last is = absurd (nothing_kept kept last is)
+kept_last test (first ∷ list) kept last is = elim (cases_Bool (test first)) [
+  | inl passes ↦
+      kept_first test first list kept last passes
+      (sym (ap (λ (b : Bool). if b then first ∷ filter test list else filter test list) passes) ∙ is)
+      (λ rest rest_is. kept_last test list rest last rest_is)
+  | inr fails ↦
+      kept_behind test first list kept last
+      (kept_last test list kept last
+      (sym (ap (λ (b : Bool). if b then first ∷ filter test list else filter test list) fails) ∙ is)) fails
+]
+
+-- the last entry of a refused pass over at least one bucket is the loss at which it is refused
+last_loss : (bucket : ℕ) → loss_at (suc bucket) bucket ≡ RefusedAtLoss bucket
+last_loss bucket =
+    ap (λ (b : Bool). if b then Loses bucket else RefusedAtLoss bucket) (le-ltb (bucket + 1) (suc bucket) (omega arith))
+
+refused_ends : (buckets party : ℕ) → 0 < buckets →
+    (bucket : ℕ) × (front : PoolLog) × (refused_pass buckets party ≡ front ++ entry_of (Try party) (RefusedAtLoss bucket) ∷ [])
+refused_ends zero party some = absurd (omega arith)
+refused_ends (suc bucket) party some = (
+  bucket,
+  losses (suc bucket) party bucket,
+  ap (λ (outcome : PoolOutcome). losses (suc bucket) party bucket ++ entry_of (Try party) outcome ∷ []) (last_loss bucket),
+)
+
+pub history_refused : (party : PoolParty) (is : IsParty party) (before : PoolLog) →
+    0 < party.allocator.scene.geometry.buckets →
+    party.log ≡ before ++ refused_pass party.allocator.scene.geometry.buckets party.number → HasFoundAllHeld party is
+history_refused party is before some passed =
+    let scene = party.allocator.scene in
+    let steps = is.interleaved.steps in
+    let history = history_of scene steps in
+    let number = party.number in
+    let end = refused_ends scene.geometry.buckets number some in
+    let entry = entry_of (Try number) (RefusedAtLoss end.0) in
+    let log_is : party.log ≡ (before ++ end.1) ++ entry ∷ [] =
+    passed ∙ ap (λ (log : PoolLog). before ++ log) end.2 ∙ sym (append_assoc before end.1 (entry ∷ [])) in
+    let last = kept_last (λ (other : PoolEntry). is_by number other.step) history (before ++ end.1) entry
+    (is.interleaved.logged ∙ log_is) in
+    let refused : IsRefusedAt history number last.place = record { bucket = end.0; there = last.there } in record {
+      last = last.place;
+      its_last = ap (λ (k : ℕ). entries_by number (take k history)) (add-one last.place) ∙ last.up_to ∙ sym log_is;
+      refused = refused;
+      found = λ bucket below. refused_found_held scene steps number last.place bucket is.geometry refused below;
+    }
 
 -- BUCKETS
 

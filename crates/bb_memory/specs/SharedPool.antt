@@ -1,13 +1,13 @@
 -- A shared pool, its parties and the buckets that they took, as their contracts see them, and what each call adds to its
 -- party's log.
-use Rattle.std.specs.Prelude.{◌≡◌, ℕ, zero, suc, ◌<◌, ◌≤◌, List, [], ◌∷◌, ◌++◌, None, Result, Ok, Err}
+use Rattle.std.specs.Prelude.{◌≡◌, ℕ, zero, suc, ◌<◌, ◌≤◌, List, [], ◌∷◌, ◌++◌, None, Result, Ok, Err, ◌+◌, take}
 use Rattle.atomic_table.specs.Seated.{TableId}
 use Rattle.bb_memory_base.specs.Chunk.{Chunk}
 use Rattle.bb_memory_base.specs.PoolGeometry.{PoolGeometry, IsPoolGeometry, bucket_place}
 use Rattle.bb_memory_base.specs.PoolObject.{IsWithin}
 use Rattle.bb_memory_base.specs.PoolMachine.{PoolScene}
-use Rattle.bb_memory_base.specs.PoolHistory.{PoolLog, entry_of}
-use Rattle.bb_memory_base.specs.PoolCalls.{IsPoolRun}
+use Rattle.bb_memory_base.specs.PoolHistory.{PoolLog, entries_by, entry_of, history_of}
+use Rattle.bb_memory_base.specs.PoolCalls.{FoundHeld, IsPoolRun, IsRefusedAt}
 use Rattle.bb_memory_base.specs.PoolLogs.{CommonInterleaving, Interleaving, IsHeldAfter, loss_at, pass_in}
 use Rattle.bb_memory_base.specs.declared.layout.Layout.{Layout}
 use Rattle.bb_memory_base.specs.declared.allocator.AllocationError.{AllocationError}
@@ -121,6 +121,14 @@ pub record IsParty (party : PoolParty) : Type 0 where
   pub number : party.number < party.allocator.scene.parties
   pub idle : pass_in party.log ≡ None
   pub interleaved : IsInterleaved party
+
+-- the party's last step refused its pass, which has found each bucket held in the run, each at a step of its own
+pub record HasFoundAllHeld (party : PoolParty) (is : IsParty party) : Type 0 where
+  pub last : ℕ
+  pub its_last : entries_by party.number (take (last + 1) (history_of party.allocator.scene is.interleaved.steps)) ≡ party.log
+  pub refused : IsRefusedAt (history_of party.allocator.scene is.interleaved.steps) party.number last
+  pub found : (bucket : ℕ) → bucket < party.allocator.scene.geometry.buckets →
+      FoundHeld party.allocator.scene is.interleaved.steps party.number last bucket
 
 -- one interleaving has the logs of both parties
 abbrev pub AreInterleaved : PoolParty → PoolParty → Type 0

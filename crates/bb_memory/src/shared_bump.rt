@@ -1,5 +1,5 @@
 //! The bump that threads share: its word is the position, and each thread steps with a party of its own.
-ghost use Rattle.std.specs.Prelude.{◌≡◌, ◌≢◌, ◌-◌, ◌<◌, ◌≤◌, ◌%◌, ◌∷◌, ◌++◌, [], ℕ, List, All, IfOk, OnErr, Some, length, slice_get, vec_len, vec_capacity};
+ghost use Rattle.std.specs.Prelude.{◌≡◌, ◌≢◌, ◌-◌, ◌<◌, ◌≤◌, ◌%◌, ◌∷◌, ◌++◌, [], ℕ, List, All, IfOk, OnErr, Some, length, slice_get, vec_len, vec_capacity, Contains};
 ghost use Rattle.bb_memory_base.specs.Region.{IsRegion, region_at};
 ghost use Rattle.bb_memory_base.specs.Chunk.{AreApart, Chunk, IsInside};
 ghost use Rattle.bb_memory_base.specs.LiveList.{IsSound};
@@ -268,6 +268,11 @@ pub fn shared_bump_law()
         → let scene = party.allocator.scene in
         let steps = is.interleaved.steps in
         live_after scene live steps ≡ live ++ chunks_won (history_of scene steps) }
+
+    // Each chunk of the party is in that list.
+    ensures held { (party : BumpParty) (live : List Chunk) (is : IsParty party)
+        → let scene = party.allocator.scene in
+        All (Contains (live_after scene live is.interleaved.steps)) (chunks_won party.log) }
 
     // A bump that has used what the party has seen stands for it.
     ensures stands { (party : BumpParty) (live : List Chunk) (is : IsParty party)

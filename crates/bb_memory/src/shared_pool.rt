@@ -1,5 +1,5 @@
 //! Pools that threads share: each call takes its pool by `&`, and steps on one atomic flag for each bucket.
-ghost use Rattle.std.specs.Prelude.{◌≡◌, ◌≢◌, ◌<◌, ◌≤◌, ◌↔◌, ◌%◌, ℕ, All, List, Some, IsErr, IfOk, IfErr, OnErr, slice_get, vec_len};
+ghost use Rattle.std.specs.Prelude.{◌≡◌, ◌≢◌, ◌<◌, ◌≤◌, ◌↔◌, ◌%◌, ℕ, All, List, Some, IsErr, IfOk, IfErr, OnErr, slice_get, vec_len, ◌++◌};
 ghost use Rattle.bb_memory_base.specs.Region.{IsRegion, region_at};
 ghost use Rattle.bb_memory_base.specs.Chunk.{AreApart, Chunk, IsInside};
 ghost use Rattle.bb_memory_base.specs.LiveList.{IsSound};
@@ -7,10 +7,11 @@ ghost use Rattle.bb_memory_base.specs.FirstPlace.{first_place};
 ghost use Rattle.bb_memory_base.specs.PoolGeometry.{IsCut, IsPoolGeometry};
 ghost use Rattle.bb_memory_base.specs.PoolObject.{IsHeld, IsWithin, MayGrow, MayShrink};
 ghost use Rattle.bb_memory_base.specs.PoolCalls.{AreAsked};
+ghost use Rattle.bb_memory_base.specs.PoolHistory.{PoolLog};
 ghost use Rattle.bb_memory_base.specs.PoolLogs.{IsHeldAfter};
 ghost use Rattle.bb_memory_base.specs.declared.layout.Layout.{Layout};
 ghost use Rattle.bb_memory.specs.Pool.{AreAStrideApart, MayBeCut};
-ghost use Rattle.bb_memory.specs.SharedPool.{AreAllHeldAfter, AreInterleaved, IsHistoryRun, IsInterleaved, IsParty, MayTake, PoolParty, TakenBucket, chunk_of, fresh_party, resized, return_entry, with_entries};
+ghost use Rattle.bb_memory.specs.SharedPool.{AreAllHeldAfter, AreInterleaved, HasFoundAllHeld, IsHistoryRun, IsInterleaved, IsParty, MayTake, PoolParty, TakenBucket, chunk_of, fresh_party, refused_pass, resized, return_entry, with_entries};
 
 mod bucket;
 mod buckets;
@@ -259,6 +260,13 @@ pub fn shared_pool_law()
     ensures sound { (party : PoolParty) (is : IsParty party) (layouts : List Layout)
         (live : List Chunk) → IsHistoryRun party is layouts live
         → IsSound party.allocator.scene.geometry.region live }
+
+    // Where the log ends with a pass that was refused, that pass has found each bucket held in the run, each at a step of
+    // its own.
+    ensures refused { (party : PoolParty) (is : IsParty party) (before : PoolLog)
+        → let buckets = party.allocator.scene.geometry.buckets in
+        0 < buckets → party.log ≡ before ++ refused_pass buckets party.number
+        → HasFoundAllHeld party is }
 
     // Chunks in two different buckets of a pool begin at least a stride apart, and where neither is longer than its bucket,
     // they don't overlap.
