@@ -6,7 +6,8 @@
 // REFUSE_MARKED=1 refuses each request between two marks, which are requests of sizes that no other request has. The first
 // mark is refused, and so is each request behind it. The second one ends that, and is refused exactly where a request came
 // between the two. So a test that asks for the marks learns by their answers that memory was refused, and whether anything
-// asked for it meanwhile. Where the program met both marks and ended well, the exit status is 98.
+// asked for it meanwhile. A third mark between the two is refused exactly where nothing was given back since the first. Where
+// the program met the first two and ended well, the exit status is 98.
 //
 // Without REFUSE_MARKED the marks are granted and not counted, so a test that asks for them is run with ample memory, too.
 #define _GNU_SOURCE
@@ -14,13 +15,14 @@
 #include <sys/syscall.h>
 #include <unistd.h>
 
-enum { FIRST_MARK = 100003, SECOND_MARK = 100019 };
+enum { FIRST_MARK = 100003, SECOND_MARK = 100019, FREED_MARK = 100043 };
 
 extern void *__libc_malloc(size_t);
 extern void *__libc_calloc(size_t, size_t);
 extern void *__libc_realloc(void *, size_t);
+extern void __libc_free(void *);
 
-static long asked, refuse_at, asked_between;
+static long asked, refuse_at, asked_between, freed_between;
 static int refused, between_marks, met_both;
 
 static int marked;
@@ -58,9 +60,11 @@ __attribute__((constructor)) static void begin(void) {
 static int refuses_marked(size_t size) {
     if (size == FIRST_MARK) {
         between_marks = 1;
-        asked_between = 0;
+        asked_between = freed_between = 0;
         return 1;
     }
+    if (size == FREED_MARK)
+        return freed_between == 0;
     if (size == SECOND_MARK) {
         met_both |= between_marks;
         between_marks = 0;
@@ -74,7 +78,7 @@ static int refuses_marked(size_t size) {
 static int refuses(size_t size) {
     if (marked)
         return refuses_marked(size);
-    if (size == FIRST_MARK || size == SECOND_MARK)
+    if (size == FIRST_MARK || size == SECOND_MARK || size == FREED_MARK)
         return 0;
     if (refuse_at && __atomic_add_fetch(&asked, 1, __ATOMIC_SEQ_CST) == refuse_at) {
         refused = 1;
@@ -88,3 +92,9 @@ void *malloc(size_t size) { return refuses(size) ? NULL : __libc_malloc(size); }
 void *calloc(size_t count, size_t size) { return refuses(count * size) ? NULL : __libc_calloc(count, size); }
 
 void *realloc(void *block, size_t size) { return refuses(size) ? NULL : __libc_realloc(block, size); }
+
+void free(void *block) {
+    if (block && between_marks)
+        __atomic_add_fetch(&freed_between, 1, __ATOMIC_SEQ_CST);
+    __libc_free(block);
+}

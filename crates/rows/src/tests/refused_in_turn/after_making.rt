@@ -3,7 +3,8 @@
 //!
 //! A test tells the sweep by two marks where the making ends and where the calls do: requests of sizes that no other request
 //! has. The first one, and each request behind it, is refused; the second one is refused exactly where another came between
-//! the two. In a run of another kind both marks are granted.
+//! the two. A third mark between them is refused exactly where nothing was given back since the first. In a run of another
+//! kind all marks are granted.
 mod books;
 mod bumps;
 mod others;
@@ -15,6 +16,8 @@ use std::alloc::Global;
 const FIRST_MARK: usize = 100_003;
 
 const SECOND_MARK: usize = 100_019;
+
+const FREED_MARK: usize = 100_043;
 
 /// Whether a request of so many bytes is granted, here or at a second trial: a sweep that refuses one request alone refuses
 /// no mark.
@@ -30,4 +33,9 @@ fn refuse_memory(alloc: Global) -> bool {
 /// The calls have ended, and memory is there again. It answers whether none of them asked for any.
 fn none_was_asked(alloc: Global) -> bool {
     is_granted(alloc, SECOND_MARK)
+}
+
+/// Whether memory was given back since the making.
+fn some_was_freed(alloc: Global) -> bool {
+    is_granted(alloc, FREED_MARK)
 }

@@ -129,6 +129,11 @@ fn pool_eight_buckets(rt: HostRuntime) -> Result<(), Fail> {
         Reply::Refused(AllocationError::AlignmentFailure),
     ];
     assert_eq!(rt; told.get(..3), Some(refused.as_slice()));
+    for place in (4096..5120).step_by(128) {
+        let bucket = Reply::Chunk(Chunk::new(place, 48).unwrap());
+        let given = told.iter().skip(3).take(8);
+        assert_eq!(rt; given.filter(|reply| **reply == bucket).count(), 1);
+    }
     let full = [
         Reply::Refused(AllocationError::OutOfMemory),
         Reply::Released,

@@ -1,7 +1,7 @@
 //! Rows of what threads share, whose maker was refused first.
 use crate::tests::shared_bumps::two_parties;
 use crate::tests::shared_pools::{dropped_bucket, four_buckets, shared_fixed_over, shared_over};
-use bb_memory::bump_allocator::BumpAllocator;
+use bb_memory::bump_allocator::{AllocationError, BumpAllocator};
 use bb_memory::layout::Layout;
 use std::test::Fail;
 
@@ -9,7 +9,14 @@ use std::test::Fail;
 fn share_two_parties(rt: HostRuntime) -> Result<(), Fail> {
     let made = match BumpAllocator::new(4096, 64).share(rt.alloc(), 2) {
         Ok(made) => Ok(made),
-        Err((bump, _)) => bump.share(rt.alloc(), 2),
+        Err((bump, cause)) => {
+            assert_eq!(rt; cause, AllocationError::OutOfMemory);
+            assert_eq!(rt;
+                (bump.start_address(), bump.total_space(), bump.used_space()),
+                (4096, 64, 0)
+            );
+            bump.share(rt.alloc(), 2)
+        }
     };
     let Ok((shared, mut parties)) = made else {
         return Err(Fail::from("share was refused with memory"));

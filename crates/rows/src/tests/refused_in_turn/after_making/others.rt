@@ -1,5 +1,5 @@
 //! Layouts, regions, heap blocks and worlds.
-use super::{none_was_asked, refuse_memory};
+use super::{none_was_asked, refuse_memory, some_was_freed};
 use bb_memory::heap_allocator::HeapAllocator;
 use bb_memory::layout::{Chunk, Layout, round_up};
 use bb_memory::region::Region;
@@ -56,6 +56,7 @@ fn a_heap_block(rt: HostRuntime) -> Result<(), Fail> {
     };
     assert_eq!(rt; (block.as_slice(), block.len()), ([1, 2].as_slice(), 2));
     heap.deallocate(block, two);
+    assert!(rt; some_was_freed(rt.alloc()));
     assert!(rt; none_was_asked(rt.alloc()));
     Ok(())
 }
