@@ -1,5 +1,5 @@
 -- The rule of a shared pool's words, and what its seats and fields stand for.
-use Rattle.std.specs.Prelude.{◌≡◌, ℕ, ◌<◌, ◌≤◌, Bool, true, false, List, [], None, map, length}
+use Rattle.std.specs.Prelude.{◌≡◌, ℕ, ◌<◌, ◌≤◌, Bool, true, false, List, [], ◌∷◌, None, map, max, length}
 use Rattle.atomic_table.specs.Seated.{TableId}
 use Rattle.atomic_table.specs.Table.{State, Me}
 use Rattle.bb_memory_base.specs.Region.{IsRegion, region_at}
@@ -49,20 +49,24 @@ abbrev pub word_of : Bool → ℕ
 word_of false = 0
 word_of true = 1
 
+-- The words of the flags, one each. A pool without buckets has one word, which is no flag.
+abbrev pub words_of : List Bool → List ℕ
+words_of [] = 0 ∷ []
+words_of (flag ∷ flags) = word_of flag ∷ map word_of flags
+
 -- There is a log for each party, and the machine's logs agree with the flags that the words have. Each party stands in exactly
--- one view, with that log; a dropped party's view stays. A pool without buckets has one word, which is no flag.
+-- one view, with that log; a dropped party's view stays.
 pub record WordsAndLogsAgree (scene : PoolScene) (state : State ℕ SeatView) : Type 0 where
   pub flags : List Bool
   pub logs : List PoolLog
   pub agree : LogsAgree scene flags logs
-  pub words : 0 < scene.geometry.buckets → state.words ≡ map word_of flags
+  pub words : state.words ≡ words_of flags
   pub one_a_party : length logs ≡ scene.parties
   pub seated : AreSeated scene.parties logs state.views
 
 -- its table has a word for each bucket, and one where there is none; its buckets lie in a region, and there is a party
 pub record IsSharedPool (table : TableId) (scene : PoolScene) : Type 0 where
-  pub some_word : 0 < table.words
-  pub one_each : 0 < scene.geometry.buckets → table.words ≡ scene.geometry.buckets
+  pub words : table.words ≡ max scene.geometry.buckets 1
   pub region : IsRegion scene.geometry.region
   pub geometry : IsPoolGeometry scene.geometry
   pub parties : 1 ≤ scene.parties

@@ -1,5 +1,5 @@
 //! What both shared pools are: buckets with a flag each, on which any number of threads step.
-ghost use Rattle.std.specs.Prelude.{◌≡◌, ◌≢◌, ℕ, ◌<◌, ◌≤◌, ◌↔◌, ◌%◌, [], All, Some, None, IsErr, IfOk, IfErr, MatchBool, MatchOption, OnErr, slice_get, vec_capacity, vec_len};
+ghost use Rattle.std.specs.Prelude.{◌≡◌, ◌≢◌, ℕ, ◌<◌, ◌≤◌, ◌↔◌, ◌%◌, [], All, Some, None, IsErr, IfOk, IfErr, MatchBool, MatchOption, OnErr, max, slice_get, vec_capacity, vec_len};
 ghost use Rattle.bb_memory_base.specs.Region.{IsRegion};
 ghost use Rattle.bb_memory_base.specs.Chunk.{Chunk, IsInside};
 ghost use Rattle.bb_memory_base.specs.FirstPlace.{first_place};
@@ -27,10 +27,9 @@ const TAKEN: u64 = 1;
 
 /// How many words the flags of so many buckets are. A pool without buckets has one word, which is no flag.
 fn count_words(buckets: u32) -> usize
-    ensures some_word { 0 < result }
-    ensures one_each { 0 < buckets → result ≡ buckets }
+    ensures { result ≡ max buckets 1 }
 {
-    if buckets == 0 { 1 } else { buckets as usize }
+    buckets.max(1) as usize
 }
 
 /// Buckets with a flag each.

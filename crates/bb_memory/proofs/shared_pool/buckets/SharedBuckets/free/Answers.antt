@@ -18,7 +18,7 @@ store-requires c =
     ∙ ap (λ (p : SharedPool). p.scene.geometry.buckets) c.requires.bucket
     ∙ ap (λ (p : SharedPool). p.scene.geometry.buckets) (sym c.self.view_is) in
     let below = c.bucket.invariant.0 in
-    let one_each = words.one_each (omega arith) in (
+    let counted = words.words in (
       ap (λ (p : SharedPool). p.table) own,
       omega arith,
       returns_as scene _ _ c.party.inside.number c.bucket.inside.number (view_log me.0) me is held,

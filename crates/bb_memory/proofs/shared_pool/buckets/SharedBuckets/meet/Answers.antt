@@ -1,4 +1,4 @@
-use Rattle.std.proofs.Common.{[], ℕ, sym, ap, ◌∙◌}
+use Rattle.std.proofs.Common.{[], ℕ, sym, ap, ◌∙◌, arith}
 use Rattle.atomic_table.specs.Table.{Me}
 use Rattle.bb_memory.specs.Seats.{both_of, first_of, numbered, view_log}
 use Rattle.bb_memory.specs.SharedPool.{PoolParty, SharedPool}
@@ -12,7 +12,7 @@ pub split_seat-guest-requires : goal.split_seat-guest-requires
 split_seat-guest-requires c =
     let same = ap (λ (p : PoolParty). p.allocator) c.b.view_is ∙ c.requires.b ∙ sym c.self.view_is in (
       ap (λ (p : SharedPool). p.table) same,
-      c.self.invariant.1.some_word,
+      omega (arith, c.self.invariant.1.words),
       gives_first c.self.inside.table.shared.key c.b.inside.seat.id c.b.inside.seat.me.0,
     )
 
@@ -24,7 +24,7 @@ join_seat-requires c =
       ap (λ (p : SharedPool). p.table) one,
       split.3 ∙ ap (λ (p : SharedPool). p.table) other,
       ap (λ m. m.1) split.4,
-      c.self.invariant.1.some_word,
+      omega (arith, c.self.invariant.1.words),
       gathers c.self.inside.table.shared.key c.a.inside.seat.id c.split_seat-guest.result.id c.a.inside.seat.me.0
           c.split_seat-guest.result.me.0,
     )
@@ -40,7 +40,7 @@ load-requires c =
     let guest = c.split_seat-guest.ensures.4 ∙ ap (λ (m : Me ℕ SeatView). (first_of m.0, [])) c.b.invariant.seat.seat.is in
     let two = c.join_seat.ensures.2 ∙ λ i. (both_of (first i).0 (guest i).0, (first i).1) in (
       c.join_seat.ensures.0 ∙ ap (λ (p : SharedPool). p.table) one,
-      c.self.invariant.1.some_word,
+      omega (arith, c.self.invariant.1.words),
       meets_as scene _ _ 0 (numbered c.a.inside.number (view_log a.0)) (numbered c.b.inside.number (view_log b.0))
           c.join_seat.new.seat.me two,
     )
@@ -49,6 +49,6 @@ pub split_seat-requires : goal.split_seat-requires
 split_seat-requires c =
     let one = ap (λ (p : PoolParty). p.allocator) c.a.view_is ∙ c.requires.a ∙ sym c.self.view_is in (
       c.load.ensures.0 ∙ c.join_seat.ensures.0 ∙ ap (λ (p : SharedPool). p.table) one,
-      c.self.invariant.1.some_word,
+      omega (arith, c.self.invariant.1.words),
       keeps_first c.self.inside.table.shared.key c.load.new.seat.id c.load.new.seat.me.0,
     )

@@ -1,4 +1,5 @@
-use Rattle.std.proofs.Common.{ℕ, replicate, ap, ◌∙◌, arith}
+use Rattle.std.proofs.Common.{ℕ, replicate, ap, ◌∙◌}
+use Rattle.std.specs.Prelude.{max}
 use Rattle.bb_memory.specs.SharedPool.{scene_at}
 use Rattle.bb_memory.proofs.SharedPoolSeats.{opens}
 use Rattle.bb_memory.proofs.shared_pool.buckets.SharedBuckets.new.Goals as goal
@@ -6,6 +7,5 @@ use Rattle.bb_memory.proofs.shared_pool.buckets.SharedBuckets.new.Goals as goal
 pub of_words-requires : goal.of_words-requires
 of_words-requires c =
     opens (scene_at c.args.geometry c.args.parties) c.as_slice.result.now
-    (λ some. c.as_slice.ensures.value ∙ c.in-Ok-from_elem.ensures.items_if_clones_equal (λ y e. e)
-    ∙ ap (λ (n : ℕ). replicate n 0) (c.count_words.ensures.one_each (omega (arith, c.count.ensures.value, some))
-    ∙ c.count.ensures.value))
+    (c.as_slice.ensures.value ∙ c.in-Ok-from_elem.ensures.items_if_clones_equal (λ y e. e)
+    ∙ ap (λ (n : ℕ). replicate n 0) (c.count_words.ensures ∙ ap (λ (n : ℕ). max n 1) c.count.ensures.value))

@@ -14,7 +14,7 @@ use Rattle.bb_memory.proofs.shared_pool.buckets.SharedBuckets.seat_parties.Goals
 pub split_seat-seat-requires : goal.split_seat-seat-requires
 split_seat-seat-requires c = (
   c.loop-number.invariant.table ∙ sym (ap (λ (p : SharedPool). p.table) c.self.view_is),
-  c.self.invariant.1.some_word,
+  omega (arith, c.self.invariant.1.words),
   gives_first c.self.inside.table.shared.key c.loop-number.rest.id c.loop-number.rest.me.0,
 )
 
