@@ -243,20 +243,10 @@ impl SharedBumpAllocator {
 /// contract is the law.
 ///
 /// A party's history is the interleaving of its log that `IsParty` tells: a list of allowed steps from the opening, in
-/// which the party's steps are exactly its log. A list that the opening stands for is one that was live before the bump was
-/// shared.
+/// which the party's steps are exactly its log. Two parties that met have such a list together, which `AreInterleaved`
+/// tells. A list that the opening stands for is one that was live before the bump was shared.
 pub fn shared_bump_law()
-    // The chunks that a party's log has won are a sound list of the region.
-    ensures own { (party : BumpParty)
-        → IsParty party
-        → IsSound party.allocator.scene.region (chunks_won party.log) }
-
-    // Each is apart from each chunk that was live before the bump was shared.
-    ensures older { (party : BumpParty) (live : List Chunk)
-        → IsParty party → OpensWith party.allocator.scene live
-        → All (λ older. All (AreApart older) (chunks_won party.log)) live }
-
-    // The calls of its history are a run of the bump object from that list.
+    // The calls of a party's history are a run of the bump object from that list.
     ensures run { (party : BumpParty) (live : List Chunk) (is : IsParty party)
         → let scene = party.allocator.scene in
         let steps = is.interleaved.steps in
@@ -269,16 +259,39 @@ pub fn shared_bump_law()
         let steps = is.interleaved.steps in
         live_after scene live steps ≡ live ++ chunks_won (history_of scene steps) }
 
-    // Each chunk of the party is in that list.
+    // Each chunk of the party is in the list that the run leaves.
     ensures held { (party : BumpParty) (live : List Chunk) (is : IsParty party)
         → let scene = party.allocator.scene in
         All (Contains (live_after scene live is.interleaved.steps)) (chunks_won party.log) }
 
-    // A bump that has used what the party has seen stands for it.
+    // A bump that has used what the party has seen stands for that list.
     ensures stands { (party : BumpParty) (live : List Chunk) (is : IsParty party)
         → let scene = party.allocator.scene in
         OpensWith scene live
         → StandsFor scene.region (seen_by party) (live_after scene live is.interleaved.steps) }
+
+    // The chunks that a party's log has won are a sound list of the region.
+    ensures sound { (party : BumpParty)
+        → IsParty party
+        → IsSound party.allocator.scene.region (chunks_won party.log) }
+
+    // Each is apart from each chunk that was live before the bump was shared.
+    ensures older { (party : BumpParty) (live : List Chunk)
+        → IsParty party → OpensWith party.allocator.scene live
+        → All (λ older. All (AreApart older) (chunks_won party.log)) live }
+
+    // Two parties that met have one history together, whose calls are a run too: one run has the
+    // calls of both.
+    ensures both_run { (a b : BumpParty) (live : List Chunk) (met : AreInterleaved a b)
+        → let scene = a.allocator.scene in
+        let steps = met.1.steps in
+        OpensWith scene live
+        → IsCallRun scene.region live (calls_of scene steps) (live_after scene live steps) }
+
+    // Each chunk of either is in the list that this run leaves.
+    ensures both_held { (a b : BumpParty) (live : List Chunk) (met : AreInterleaved a b)
+        → let held = Contains (live_after a.allocator.scene live met.1.steps) in
+        All held (chunks_won a.log) × All held (chunks_won b.log) }
 
     // No chunk of one party overlaps a chunk of another that it met.
     ensures apart { (a b : BumpParty)
