@@ -64,9 +64,12 @@ pub record WordsAndLogsAgree (scene : PoolScene) (state : State ℕ SeatView) : 
   pub one_a_party : length logs ≡ scene.parties
   pub seated : AreSeated scene.parties logs state.views
 
--- its table has a word for each bucket, and one where there is none; its buckets lie in a region, and there is a party
-pub record IsSharedPool (table : TableId) (scene : PoolScene) : Type 0 where
+-- the table has a word for each bucket, and one where there is none
+pub record HasWords (table : TableId) (scene : PoolScene) : Type 0 where
   pub words : table.words ≡ max scene.geometry.buckets 1
+
+-- the buckets lie in a region, and there is a party
+pub record IsSharedPool (scene : PoolScene) : Type 0 where
   pub region : IsRegion scene.geometry.region
   pub geometry : IsPoolGeometry scene.geometry
   pub parties : 1 ≤ scene.parties

@@ -16,6 +16,7 @@ ghost use Rattle.bb_memory.specs.SharedPool.{AreAllHeldAfter, AreInterleaved, Ha
 mod bucket;
 mod buckets;
 mod fixed_size;
+mod flags;
 mod party;
 mod rule;
 

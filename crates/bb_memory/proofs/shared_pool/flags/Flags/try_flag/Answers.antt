@@ -3,7 +3,7 @@ use Rattle.bb_memory_base.specs.PoolMachine.{PoolScene}
 use Rattle.bb_memory.specs.Seats.{alone, number_of, view_log}
 use Rattle.bb_memory.specs.SharedPool.{SharedPool}
 use Rattle.bb_memory.proofs.SharedPoolKeeps.{tries_as}
-use Rattle.bb_memory.proofs.shared_pool.buckets.SharedBuckets.try_flag.Goals as goal
+use Rattle.bb_memory.proofs.shared_pool.flags.Flags.try_flag.Goals as goal
 
 pub compare_exchange-found-requires : goal.compare_exchange-found-requires
 compare_exchange-found-requires c =
