@@ -27,7 +27,7 @@ use Rattle.bb_memory.specs.SharedPool.{AreInterleaved, HasFoundAllHeld, IsHistor
 pub history_run : (party : PoolParty) (is : IsParty party) (layouts : List Layout) →
     AreAsked party.allocator.scene.geometry is.interleaved.steps layouts →
     (live : List Chunk) × IsHistoryRun party is layouts live
-history_run party is layouts asked = pool_run party.allocator.scene is.interleaved.steps layouts is.geometry asked
+history_run party is layouts asked = pool_run party.allocator.scene is.interleaved.steps layouts is.scene.geometry asked
 
 -- the party whose log holds a bucket is its holder after each list of steps that has its log
 holder_then : (scene : PoolScene) (steps : List PoolStep) (party bucket : ℕ) (log : PoolLog) → log_of scene steps party ≡ log →
@@ -49,12 +49,12 @@ pub history_held : (party : PoolParty) (is : IsParty party) (layouts : List Layo
     IsHistoryRun party is layouts live → IsHeldAfter party.log bucket →
     (bucket < party.allocator.scene.geometry.buckets) × IsHeld party.allocator.scene.geometry live bucket
 history_held party is layouts live bucket run held =
-    held_in_list party.allocator.scene is.interleaved.steps party.number bucket party.log layouts live is.geometry
+    held_in_list party.allocator.scene is.interleaved.steps party.number bucket party.log layouts live is.scene.geometry
     is.interleaved.logged run held
 
 pub history_sound : (party : PoolParty) (is : IsParty party) (layouts : List Layout) (live : List Chunk) →
     IsHistoryRun party is layouts live → IsSound party.allocator.scene.geometry.region live
-history_sound party is layouts live run = run_is_sound party.allocator.scene is.interleaved.steps layouts live is.geometry run
+history_sound party is layouts live run = run_is_sound party.allocator.scene is.interleaved.steps layouts live is.scene.geometry run
 
 -- REFUSED PASSES
 
@@ -143,7 +143,7 @@ history_refused party is before some passed =
       last = last.place;
       its_last = ap (λ (k : ℕ). entries_by number (take k history)) (add-one last.place) ∙ last.up_to ∙ sym log_is;
       refused = refused;
-      found = λ bucket below. refused_found_held scene steps number last.place bucket is.geometry refused below;
+      found = λ bucket below. refused_found_held scene steps number last.place bucket is.scene.geometry refused below;
     }
 
 -- BUCKETS
@@ -177,7 +177,7 @@ module _ (one other : TakenBucket) (same : one.allocator ≡ other.allocator) (t
 pub both_run : (a b : PoolParty) (met : AreInterleaved a b) (layouts : List Layout) → IsParty a →
     AreAsked a.allocator.scene.geometry met.steps layouts →
     (live : List Chunk) × IsPoolRun a.allocator.scene met.steps layouts live
-both_run a b met layouts is asked = pool_run a.allocator.scene met.steps layouts is.geometry asked
+both_run a b met layouts is asked = pool_run a.allocator.scene met.steps layouts is.scene.geometry asked
 
 pub both_held : (a b : PoolParty) (met : AreInterleaved a b) (layouts : List Layout) (live : List Chunk) (bucket : ℕ) →
     IsParty a → IsPoolRun a.allocator.scene met.steps layouts live → IsHeldAfter a.log bucket ⊎ IsHeldAfter b.log bucket →
@@ -185,8 +185,8 @@ pub both_held : (a b : PoolParty) (met : AreInterleaved a b) (layouts : List Lay
 both_held a b met layouts live bucket is run held =
     let scene = a.allocator.scene in
     elim held [
-      | inl own ↦ (held_in_list scene met.steps a.number bucket a.log layouts live is.geometry met.logged run own).1
-      | inr others ↦ (held_in_list scene met.steps b.number bucket b.log layouts live is.geometry met.other_logged run others).1
+      | inl own ↦ (held_in_list scene met.steps a.number bucket a.log layouts live is.scene.geometry met.logged run own).1
+      | inr others ↦ (held_in_list scene met.steps b.number bucket b.log layouts live is.scene.geometry met.other_logged run others).1
     ]
 
 -- no bucket is held after both their logs

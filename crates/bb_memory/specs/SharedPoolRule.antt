@@ -1,15 +1,15 @@
 -- The rule of a shared pool's words, and what its seats and fields stand for.
-use Rattle.std.specs.Prelude.{◌≡◌, ℕ, ◌<◌, ◌≤◌, Bool, true, false, List, [], ◌∷◌, None, map, max, length}
+use Rattle.std.specs.Prelude.{◌≡◌, ℕ, ◌<◌, Bool, true, false, List, [], ◌∷◌, None, map, max, length}
 use Rattle.atomic_table.specs.Seated.{TableId}
 use Rattle.atomic_table.specs.Table.{State, Me}
 use Rattle.bb_memory_base.specs.Region.{IsRegion, region_at}
-use Rattle.bb_memory_base.specs.PoolGeometry.{IsPoolGeometry, pool_geometry}
+use Rattle.bb_memory_base.specs.PoolGeometry.{pool_geometry}
 use Rattle.bb_memory_base.specs.PoolMachine.{PoolScene}
 use Rattle.bb_memory_base.specs.PoolHistory.{PoolEntry, PoolLog}
 use Rattle.bb_memory_base.specs.PoolLogs.{Interleaving, LogsAgree, pass_in}
 use Rattle.bb_memory_base.specs.declared.layout.Layout.{Layout}
 use Rattle.bb_memory_base.proofs.Layouts.{empty-valid}
-use Rattle.bb_memory.specs.SharedPool.{PoolParty, scene_at}
+use Rattle.bb_memory.specs.SharedPool.{PoolParty, IsSharedScene, scene_at}
 use Rattle.bb_memory.specs.Seats.{AreSeated, Numbered, Seat, alone, fresh_from, standing_for, view_log}
 
 -- SEATS
@@ -40,7 +40,7 @@ pub record IsSeatOfIdle (scene : PoolScene) (number : ℕ) (log : PoolLog) (me :
 pub record IsPartySeat (number : ℕ) (me : Me ℕ SeatView) : Type 0 where
   pub seat : IsSeatOfIdle me.0.scene number (view_log me.0) me
   pub below : number < me.0.scene.parties
-  pub geometry : IsPoolGeometry me.0.scene.geometry
+  pub shared : IsSharedScene me.0.scene
 
 -- THE RULE
 
@@ -68,11 +68,10 @@ pub record WordsAndLogsAgree (scene : PoolScene) (state : State ℕ SeatView) : 
 pub record HasWords (table : TableId) (scene : PoolScene) : Type 0 where
   pub words : table.words ≡ max scene.geometry.buckets 1
 
--- the buckets lie in a region, and there is a party
+-- the buckets lie in a region
 pub record IsSharedPool (scene : PoolScene) : Type 0 where
-  pub region : IsRegion scene.geometry.region
-  pub geometry : IsPoolGeometry scene.geometry
-  pub parties : 1 ≤ scene.parties
+  pub is_region : IsRegion scene.geometry.region
+  pub shared : IsSharedScene scene
 
 -- DEALING
 

@@ -61,7 +61,7 @@ impl Model for SharedBumpAllocator {
 
 impl SharedBumpAllocator {
     /// A shared bump over the region of `size` bytes at `start`, of which `position` are used, with its parties.
-    pub(crate) fn opened(
+    pub(crate) fn open(
         alloc: Global,
         start: usize,
         size: usize,

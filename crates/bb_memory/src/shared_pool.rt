@@ -1,17 +1,17 @@
 //! Pools that threads share: each call takes its pool by `&`, and steps on one atomic flag for each bucket.
-ghost use Rattle.std.specs.Prelude.{◌≡◌, ◌≢◌, ◌<◌, ◌≤◌, ◌↔◌, ◌%◌, ℕ, All, List, Some, IsErr, IfOk, IfErr, OnErr, slice_get, vec_len, ◌++◌, ◌⊎◌};
+ghost use Rattle.std.specs.Prelude.{◌≡◌, ◌≢◌, ◌<◌, ◌≤◌, ◌↔◌, ◌%◌, ℕ, All, List, Some, IsErr, IfOk, IfErr, OnErr, length, slice_get, ◌++◌, ◌⊎◌};
 ghost use Rattle.bb_memory_base.specs.Region.{IsRegion, region_at};
 ghost use Rattle.bb_memory_base.specs.Chunk.{AreApart, Chunk, IsInside};
 ghost use Rattle.bb_memory_base.specs.LiveList.{IsSound};
 ghost use Rattle.bb_memory_base.specs.FirstPlace.{first_place};
-ghost use Rattle.bb_memory_base.specs.PoolGeometry.{IsCut, IsPoolGeometry};
+ghost use Rattle.bb_memory_base.specs.PoolGeometry.{IsCut};
 ghost use Rattle.bb_memory_base.specs.PoolObject.{IsHeld, IsWithin, MayGrow, MayShrink};
 ghost use Rattle.bb_memory_base.specs.PoolCalls.{AreAsked, IsPoolRun};
 ghost use Rattle.bb_memory_base.specs.PoolHistory.{PoolLog};
 ghost use Rattle.bb_memory_base.specs.PoolLogs.{IsHeldAfter};
 ghost use Rattle.bb_memory_base.specs.declared.layout.Layout.{Layout};
 ghost use Rattle.bb_memory.specs.Pool.{AreAStrideApart, MayBeCut};
-ghost use Rattle.bb_memory.specs.SharedPool.{AreAllHeldAfter, AreInterleaved, HasFoundAllHeld, IsHistoryRun, IsInterleaved, IsParty, MayTake, PoolParty, TakenBucket, chunk_of, fresh_party, refused_pass, resized, return_entry, with_entries};
+ghost use Rattle.bb_memory.specs.SharedPool.{AreAllHeldAfter, AreInterleaved, HasFoundAllHeld, IsHistoryRun, IsInterleaved, IsParty, IsSharedScene, MayTake, PoolParty, TakenBucket, chunk_of, fresh_party, refused_pass, resized, return_entry, with_entries};
 
 mod bucket;
 mod buckets;
@@ -27,7 +27,7 @@ pub use bucket::Bucket;
 use buckets::SharedBuckets;
 pub use fixed_size::SharedFixedSizePoolAllocator;
 pub use party::PoolParty;
-use std::alloc::Global;
+use std::alloc::{AllocError, Global};
 use std::marker::Model;
 
 /// Gives buckets of one layout to any number of threads. The pool is made for some number of parties, and each thread that
@@ -75,7 +75,7 @@ impl SharedPoolAllocator {
         ensures geometry { IfOk result (λ made.
             IsCut (region_at start size) bucket_layout made.0.scene.geometry) }
         ensures parties { IfOk result (λ made. made.0.scene.parties ≡ parties) }
-        ensures as_many { IfOk result (λ made. vec_len made.1 ≡ parties) }
+        ensures as_many { IfOk result (λ made. length made.1.items ≡ parties) }
         ensures fresh { IfOk result (λ made. (number : ℕ) → number < parties
             → slice_get made.1.items number ≡ Some (fresh_party made.0 number)) }
         ensures theirs { IfOk result (λ made.
@@ -83,8 +83,10 @@ impl SharedPoolAllocator {
         ensures refused { IfErr result (λ error. error ≡ AllocationError.OutOfMemory) }
     {
         let geometry = Geometry::new(bucket_layout, start, size);
-        let (buckets, all) = SharedBuckets::new(alloc, geometry, parties)?;
-        Ok((SharedPoolAllocator { buckets }, all))
+        match SharedBuckets::open(alloc, geometry, parties) {
+            Ok((buckets, all)) => Ok((SharedPoolAllocator { buckets }, all)),
+            Err(AllocError) => Err(AllocationError::OutOfMemory),
+        }
     }
 
     /// Takes a bucket for the party, with a chunk of `layout.size()` bytes. It is refused in this order: with `SizeTooLarge`
@@ -201,12 +203,11 @@ impl SharedPoolAllocator {
         self.buckets.shrink(bucket, old, new)
     }
 
-    /// How many buckets there are.
+    /// How many buckets there are. They lie in a region, and there is a party.
     pub fn number_of_buckets(&self) -> u32
         ensures value { result ≡ self.now.scene.geometry.buckets }
         ensures region { IsRegion self.now.scene.geometry.region }
-        ensures geometry { IsPoolGeometry self.now.scene.geometry }
-        ensures parties { 1 ≤ self.now.scene.parties }
+        ensures scene { IsSharedScene self.now.scene }
     {
         self.buckets.count()
     }

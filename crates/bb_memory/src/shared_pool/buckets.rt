@@ -1,13 +1,13 @@
 //! What both shared pools are: buckets with a flag each, on which any number of threads step.
-ghost use Rattle.std.specs.Prelude.{◌≡◌, ◌≢◌, ℕ, ◌<◌, ◌≤◌, ◌↔◌, ◌%◌, [], All, Some, None, IsErr, IfOk, IfErr, MatchOption, OnErr, slice_get, vec_capacity, vec_len};
+ghost use Rattle.std.specs.Prelude.{◌≡◌, ◌≢◌, ℕ, ◌<◌, ◌≤◌, ◌↔◌, ◌%◌, [], All, Some, None, IsErr, IfOk, MatchOption, OnErr, length, slice_get, vec_capacity, vec_len};
 ghost use Rattle.bb_memory_base.specs.Region.{IsRegion};
 ghost use Rattle.bb_memory_base.specs.Chunk.{Chunk, IsInside};
 ghost use Rattle.bb_memory_base.specs.FirstPlace.{first_place};
-ghost use Rattle.bb_memory_base.specs.PoolGeometry.{IsPoolGeometry, bucket_place};
+ghost use Rattle.bb_memory_base.specs.PoolGeometry.{bucket_place};
 ghost use Rattle.bb_memory_base.specs.PoolObject.{IsWithin, MayGrow, MayShrink};
 ghost use Rattle.bb_memory_base.specs.PoolLogs.{IsHeldAfter};
 ghost use Rattle.bb_memory.specs.Seats.{number_of, view_log};
-ghost use Rattle.bb_memory.specs.SharedPool.{AreAllHeldAfter, AreInterleaved, IsInterleaved, IsParty, MayTake, chunk_of, fresh_party, resized, return_entry, with_entries};
+ghost use Rattle.bb_memory.specs.SharedPool.{AreAllHeldAfter, AreInterleaved, IsInterleaved, IsParty, IsSharedScene, MayTake, chunk_of, fresh_party, resized, return_entry, with_entries};
 ghost use Rattle.bb_memory.specs.SharedPoolRule.{IsSeatOfIdle, all_parties};
 ghost use Rattle.bb_memory.specs.SharedPoolSteps.{HasRefused, HasTaken};
 
@@ -19,7 +19,7 @@ use crate::allocator::{AllocationError, AllocationGrowError, AllocationShrinkErr
 use crate::layout::{Chunk, Layout};
 use crate::pool_allocator::geometry::Geometry;
 use atomic_table::Seat;
-use std::alloc::Global;
+use std::alloc::{AllocError, Global};
 use std::marker::Model;
 
 /// Buckets with a flag each.
@@ -41,28 +41,23 @@ impl Model for SharedBuckets {
 
 impl SharedBuckets {
     /// The buckets with all flags free, and so many parties, which are idle.
-    pub fn new(
+    pub fn open(
         alloc: Global,
         geometry: Geometry,
         parties: u32,
-    ) -> Result<(SharedBuckets, Vec<PoolParty>), AllocationError>
+    ) -> Result<(SharedBuckets, Vec<PoolParty>), AllocError>
         requires parties { 1 ≤ parties }
         ensures geometry { IfOk result (λ made. made.0.scene.geometry ≡ geometry) }
         ensures parties { IfOk result (λ made. made.0.scene.parties ≡ parties) }
-        ensures as_many { IfOk result (λ made. vec_len made.1 ≡ parties) }
+        ensures as_many { IfOk result (λ made. length made.1.items ≡ parties) }
         ensures fresh { IfOk result (λ made. (number : ℕ) → number < parties
             → slice_get made.1.items number ≡ Some (fresh_party made.0 number)) }
         ensures theirs { IfOk result (λ made.
             All (λ party. party.allocator ≡ made.0) made.1.items) }
-        ensures refused { IfErr result (λ error. error ≡ AllocationError.OutOfMemory) }
     {
-        let Ok(mut all) = Vec::with_capacity(alloc, parties as usize) else {
-            return Err(AllocationError::OutOfMemory);
-        };
+        let mut all = Vec::with_capacity(alloc, parties as usize)?;
         let scene = Scene { geometry, parties };
-        let Ok((flags, seat)) = Flags::open(alloc, scene) else {
-            return Err(AllocationError::OutOfMemory);
-        };
+        let (flags, seat) = Flags::open(alloc, scene)?;
         let buckets = SharedBuckets { flags };
         buckets.seat_parties(seat, parties, &mut all);
         Ok((buckets, all))
@@ -75,14 +70,14 @@ impl SharedBuckets {
         requires parties { parties ≡ self.now.scene.parties }
         requires empty { all.old.items ≡ [] }
         requires room { (vec_len all.old ≡ 0) × (parties ≤ vec_capacity all.old) }
-        ensures as_many { vec_len all.new ≡ parties }
+        ensures as_many { length all.new.items ≡ parties }
         ensures fresh { (number : ℕ) → number < parties
             → slice_get all.new.items number ≡ Some (fresh_party self.now number) }
         ensures theirs { All (λ party. party.allocator ≡ self.now) all.new.items }
     {
         for number in 0..parties {
             let seat = self.flags.deal(&mut rest);
-            all.push_reserved(PoolParty { seat, number });
+            all.push_reserved(PoolParty { number, seat });
         }
     }
 
@@ -230,12 +225,11 @@ impl SharedBuckets {
         Ok(shrunk)
     }
 
-    /// How many buckets there are.
+    /// How many buckets there are. They lie in a region, and there is a party.
     pub fn count(&self) -> u32
         ensures value { result ≡ self.now.scene.geometry.buckets }
         ensures region { IsRegion self.now.scene.geometry.region }
-        ensures geometry { IsPoolGeometry self.now.scene.geometry }
-        ensures parties { 1 ≤ self.now.scene.parties }
+        ensures scene { IsSharedScene self.now.scene }
     {
         self.flags.geometry().count()
     }

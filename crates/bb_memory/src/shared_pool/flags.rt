@@ -29,7 +29,7 @@ fn count_words(buckets: u32) -> usize
 
 /// The words that have the flags, and the buckets that these are of.
 #[derive(Drop)]
-pub struct Flags {
+pub(super) struct Flags {
     table: Table<u8, View, Scene, Agreement, Global>,
     scene: Scene,
 }
@@ -49,7 +49,7 @@ impl Model for Flags {
 
 impl Flags {
     /// The flags at a scene's opening, all free, and a seat that stands for all its parties.
-    pub fn open(alloc: Global, scene: Scene) -> Result<(Flags, Seat<u8, View>), AllocError>
+    pub(super) fn open(alloc: Global, scene: Scene) -> Result<(Flags, Seat<u8, View>), AllocError>
         ensures scene { IfOk result (λ made. made.0.scene ≡ scene) }
         ensures table { IfOk result (λ made. made.1.table_id ≡ made.0.table) }
         ensures seat { IfOk result (λ made. made.1.me ≡ (all_parties scene, [])) }
@@ -62,7 +62,7 @@ impl Flags {
     }
 
     /// A seat of its own for the first party that a seat stands for.
-    pub fn deal(&self, rest: &mut Seat<u8, View>) -> Seat<u8, View>
+    pub(super) fn deal(&self, rest: &mut Seat<u8, View>) -> Seat<u8, View>
         requires table { rest.old.table_id ≡ self.now.table }
         ensures table { rest.new.table_id ≡ rest.old.table_id }
         ensures rest { rest.new.me ≡ (others_of rest.old.me.0, rest.old.me.1) }
@@ -73,7 +73,7 @@ impl Flags {
     }
 
     /// One exchange on the flag of the bucket that the party tries next: whether it took the bucket.
-    pub fn try_flag(&self, seat: &mut Seat<u8, View>, bucket: u32) -> bool
+    pub(super) fn try_flag(&self, seat: &mut Seat<u8, View>, bucket: u32) -> bool
         requires table { seat.old.table_id ≡ self.now.table }
         requires seat { IsSeatOf self.now.scene (number_of seat.old.me.0) (view_log seat.old.me.0)
             seat.old.me }
@@ -94,7 +94,7 @@ impl Flags {
     }
 
     /// A store of free on the flag of a bucket that is held after the party's log.
-    pub fn give_back(&self, seat: &mut Seat<u8, View>, bucket: u32)
+    pub(super) fn give_back(&self, seat: &mut Seat<u8, View>, bucket: u32)
         requires table { seat.old.table_id ≡ self.now.table }
         requires seat { IsSeatOf self.now.scene (number_of seat.old.me.0) (view_log seat.old.me.0)
             seat.old.me }
@@ -110,7 +110,7 @@ impl Flags {
     }
 
     /// Two parties meet at one seat, load a word there, and go back to their own.
-    pub fn meet(&self, a: &mut Seat<u8, View>, b: &mut Seat<u8, View>)
+    pub(super) fn meet(&self, a: &mut Seat<u8, View>, b: &mut Seat<u8, View>)
         requires tables { (a.old.table_id ≡ self.now.table) × (b.old.table_id ≡ self.now.table) }
         requires a { IsSeatOf self.now.scene (number_of a.old.me.0) (view_log a.old.me.0) a.old.me }
         requires b { IsSeatOf self.now.scene (number_of b.old.me.0) (view_log b.old.me.0) b.old.me }
@@ -128,7 +128,7 @@ impl Flags {
     }
 
     /// The buckets that the flags are of.
-    pub fn geometry(&self) -> &Geometry
+    pub(super) fn geometry(&self) -> &Geometry
         ensures value { result.now ≡ self.now.scene.geometry }
     {
         &self.scene.geometry

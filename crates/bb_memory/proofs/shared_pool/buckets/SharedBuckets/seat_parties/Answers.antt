@@ -2,8 +2,7 @@ use Rattle.std.proofs.Common.{◌≡◌, ℕ, ◌+◌, ◌≤◌, [], ◌∷◌,
 use Rattle.std.specs.Prelude.{All, slice_get}
 use Rattle.std.proofs.lemmas.List.Elements.{All-push}
 use Rattle.atomic_table.specs.Table.{Me}
-use Rattle.bb_memory_base.specs.PoolGeometry.{IsPoolGeometry}
-use Rattle.bb_memory.specs.SharedPool.{PoolParty, SharedPool, fresh_party}
+use Rattle.bb_memory.specs.SharedPool.{IsSharedScene, PoolParty, SharedPool, fresh_party}
 use Rattle.bb_memory.specs.Seats.{first_of, others_of, standing_for, view_log}
 use Rattle.bb_memory.specs.SharedPoolRule.{NumberedLog, SeatView, party_in}
 use Rattle.bb_memory.proofs.Seatings.{fresh_more, given_more}
@@ -22,7 +21,7 @@ invariant_of-push_reserved c =
     let seated = c.deal-seat.ensures.first ∙ ap (λ (m : Me ℕ SeatView). (first_of m.0, [])) is in
     party_seat scene number [] c.deal-seat.result.me (no_step scene number c.deal-seat.result.me seated)
     (omega (arith, c.requires.parties))
-    (subst (λ (p : SharedPool). IsPoolGeometry p.scene.geometry) c.self.view_is c.self.invariant.geometry)
+    (subst (λ (p : SharedPool). IsSharedScene p.scene) c.self.view_is c.self.invariant.shared)
 
 pub loop-number-preserved : goal.loop-number-preserved
 loop-number-preserved c =
