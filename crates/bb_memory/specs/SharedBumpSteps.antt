@@ -4,14 +4,14 @@ use Rattle.atomic_table.specs.Table.{Me, Step}
 use Rattle.bb_memory_base.specs.Chunk.{Chunk}
 use Rattle.bb_memory_base.specs.BumpMachine.{BumpScene, OngoingCall, read_move, exchange_move}
 use Rattle.bb_memory_base.specs.BumpHistory.{BumpLog, chunks_won, entry_of, losses_in}
-use Rattle.bb_memory_base.specs.BumpLogs.{CommonInterleaving, Interleaving, HasPositionUpTo, call_in, seen_in}
+use Rattle.bb_memory_base.specs.BumpLogs.{HasPositionFrom, CommonInterleaving, Interleaving, HasPositionUpTo, call_in, seen_in}
 use Rattle.bb_memory_base.specs.declared.layout.Layout.{Layout}
 use Rattle.bb_memory_base.specs.declared.steps.bump.BumpStep.{BumpStep}
 use Rattle.bb_memory_base.specs.declared.steps.bump.BumpStep.TheVariants.{Read, Exchange, Load}
 use Rattle.bb_memory_base.specs.declared.steps.bump.BumpOutcome.{BumpOutcome}
 use Rattle.bb_memory_base.specs.declared.steps.bump.BumpOutcome.TheVariants.{Loaded}
 use Rattle.bb_memory.specs.Seats.{number_of, view_log}
-use Rattle.bb_memory.specs.SharedBump.{HasPositionFrom, HaveChunksApart, IsRefused, IsTried, IsWon}
+use Rattle.bb_memory.specs.SharedBump.{HaveChunksApart, IsRefused, IsTried, IsWon}
 use Rattle.bb_memory.specs.SharedBumpRule.{IsSeatOf, IsSeatOfIdle, NumberedLog, SeatView}
 
 -- WHAT A STEP TELLS
