@@ -8,11 +8,11 @@ use Rattle.atomic_table.specs.Table.{Me}
 use Rattle.bb_memory_base.specs.Chunk.{Chunk}
 use Rattle.bb_memory_base.specs.BumpMachine.{BumpScene}
 use Rattle.bb_memory_base.specs.BumpHistory.{BumpLog, chunks_won, losses_in}
-use Rattle.bb_memory_base.specs.BumpLogs.{HasPositionUpTo}
+use Rattle.bb_memory_base.specs.BumpLogs.{HasPositionFrom, HasPositionUpTo}
 use Rattle.bb_memory_base.specs.declared.layout.Layout.{Layout}
 use Rattle.bb_memory_base.proofs.BumpBounds.{won_grows}
 use Rattle.bb_memory.specs.Seats.{number_of, view_log}
-use Rattle.bb_memory.specs.SharedBump.{BumpParty, HasPositionFrom, IsFoundBy, seen_by, with_entries}
+use Rattle.bb_memory.specs.SharedBump.{BumpParty, IsFoundBy, seen_by, with_entries}
 use Rattle.bb_memory.specs.SharedBumpRule.{SeatView, party_in}
 use Rattle.bb_memory.specs.SharedBumpSteps.{HasEnded, HasRefused, HasWon, IsCounted}
 use Rattle.bb_memory.proofs.SharedBumpParties.{entries_added}

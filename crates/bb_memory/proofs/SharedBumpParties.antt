@@ -93,6 +93,15 @@ told_exchange scene number log found me new of told =
     subst (λ (m : Me ℕ SeatView). TellsExchange m.0.scene (number_of m.0) (view_log m.0) found new) of.is told
 
 -- a load leaves its party idle
-pub load_rests : (number found : ℕ) (log : BumpLog) → call_in log ≡ None →
+load_rests : (number found : ℕ) (log : BumpLog) → call_in log ≡ None →
     call_in (log ++ entry_of (Load number) (Loaded found) ∷ []) ≡ None
 load_rests number found log idle = call_next log (Load number) (Loaded found) ∙ idle
+
+pub loaded_seat : (scene : BumpScene) (number found : ℕ) (me new : Me ℕ SeatView) → IsPartySeat number me → me.0.scene ≡ scene →
+    TellsLoad scene (number_of me.0) (view_log me.0) found new → IsPartySeat number new
+loaded_seat scene number found me new fields same told =
+    let own : number_of me.0 ≡ number = ap (λ (m : Me ℕ SeatView). number_of m.0) fields.seat.seat.is in
+    let here = subst (λ (n : ℕ). TellsLoad scene n (view_log me.0) found new) own told in
+    party_seat scene number (view_log me.0 ++ entry_of (Load number) (Loaded found) ∷ []) new
+    record { seat = here.seat; idle = load_rests number found (view_log me.0) fields.seat.idle }
+    (subst (λ (s : BumpScene). number < s.parties) same fields.below) (subst IsSharedScene same fields.shared)

@@ -7,13 +7,12 @@ use Rattle.bb_memory_base.specs.Region.{Region, region_end}
 use Rattle.bb_memory_base.specs.Chunk.{Chunk, chunk_end}
 use Rattle.bb_memory_base.specs.BumpMachine.{BumpScene, OngoingCall, chunk_at, ending, exchange_move, fits, loss_move, position_behind, read_move, seeing}
 use Rattle.bb_memory_base.specs.BumpHistory.{BumpLog, entry_of}
-use Rattle.bb_memory_base.specs.BumpLogs.{HasPositionUpTo, call_after, call_in, seen_in}
+use Rattle.bb_memory_base.specs.BumpLogs.{HasPositionFrom, HasPositionUpTo, call_after, call_in, seen_in}
 use Rattle.bb_memory_base.specs.declared.layout.Layout.{Layout}
 use Rattle.bb_memory_base.specs.declared.steps.bump.BumpStep.TheVariants.{Read, Exchange}
 use Rattle.bb_memory_base.specs.declared.steps.bump.BumpOutcome.{BumpOutcome}
 use Rattle.bb_memory_base.specs.declared.steps.bump.BumpOutcome.TheVariants.{Sees, RefusedAtRead, Wins, Loses, RefusedAtLoss}
 use Rattle.bb_memory_base.proofs.BumpRuns.{chunk_at-above}
-use Rattle.bb_memory.specs.SharedBump.{HasPositionFrom}
 use Rattle.bb_memory.specs.Seats.{number_of, view_log}
 use Rattle.bb_memory.specs.SharedBumpRule.{IsSeatOf, SeatView}
 use Rattle.bb_memory.specs.SharedBumpSteps.{HasRefused, HasWon, IsTrying, Tells, TellsExchange, TellsRead}

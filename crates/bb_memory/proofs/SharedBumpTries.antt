@@ -7,12 +7,12 @@ use Rattle.bb_memory_base.specs.Region.{Region}
 use Rattle.bb_memory_base.specs.Chunk.{Chunk}
 use Rattle.bb_memory_base.specs.BumpMachine.{BumpScene}
 use Rattle.bb_memory_base.specs.BumpHistory.{BumpEntry, BumpLog, chunks_won, entry_of, is_loss, losses_in}
-use Rattle.bb_memory_base.specs.BumpLogs.{HasPositionUpTo, seen_in}
+use Rattle.bb_memory_base.specs.BumpLogs.{HasPositionFrom, HasPositionUpTo, seen_in}
 use Rattle.bb_memory_base.specs.declared.layout.Layout.{Layout}
 use Rattle.bb_memory_base.specs.declared.steps.bump.BumpStep.TheVariants.{Read, Exchange}
 use Rattle.bb_memory_base.specs.declared.steps.bump.BumpOutcome.TheVariants.{Sees, Loses}
 use Rattle.bb_memory_base.proofs.BumpBounds.{won_grows}
-use Rattle.bb_memory.specs.SharedBump.{HasPositionFrom, IsTried, Rises, losses_at}
+use Rattle.bb_memory.specs.SharedBump.{IsTried, Rises, losses_at}
 use Rattle.bb_memory.specs.SharedBumpSteps.{IsCounted}
 use Rattle.bb_memory.proofs.SharedLogs.{losses_in-cons}
 

@@ -15,7 +15,7 @@ use Rattle.bb_memory_base.proofs.PoolLogSteps.{take_agrees, lose_agrees, give_ag
 use Rattle.bb_memory_base.proofs.PoolLogFacts.{free_not_held, taken_is_held_alone, length-flags, interleaved_log}
 use Rattle.bb_memory_base.proofs.SliceGets.{slice_get-set_same, length-set_at}
 use Rattle.bb_memory.specs.Seats.{alone}
-use Rattle.bb_memory.specs.SharedPoolRule.{IsSeatOf, SeatView, WordsAndLogsAgree, word_of}
+use Rattle.bb_memory.specs.SharedPoolRule.{IsSeatOf, SeatView, WordsAndLogsAgree, word_of, words_of}
 use Rattle.bb_memory.specs.SharedPoolSteps.{returns, tries}
 use Rattle.bb_memory.proofs.Seatings.{seated_step}
 
@@ -27,21 +27,40 @@ some_at (flag ∷ flags) zero below = (flag, refl)
 some_at (flag ∷ flags) (suc i) below = some_at flags i (omega arith)
 
 -- the word of a flag
-word_at : (flags : List Bool) (i : ℕ) (flag : Bool) → slice_get flags i ≡ Some flag →
+word_in : (flags : List Bool) (i : ℕ) (flag : Bool) → slice_get flags i ≡ Some flag →
     get_or (map word_of flags) i 0 ≡ word_of flag
-word_at [] i flag at = absurd (cc)
-word_at (first ∷ flags) zero flag at = ap word_of (same first flag at)
+word_in [] i flag at = absurd (cc)
+word_in (first ∷ flags) zero flag at = ap word_of (same first flag at)
   where
     same : (one other : Bool) → ◌≡◌ {A = Option Bool} (Some one) (Some other) → one ≡ other
     same one other at = cc
-word_at (first ∷ flags) (suc i) flag at = word_at flags i flag at
+word_in (first ∷ flags) (suc i) flag at = word_in flags i flag at
 
--- a taken flag's word that is stored again stays
-word-again : (flags : List Bool) (i : ℕ) → slice_get flags i ≡ Some true → set (map word_of flags) i 1 ≡ map word_of flags
-word-again [] i at = refl
-word-again (true ∷ flags) zero at = refl
-word-again (false ∷ flags) zero at = absurd (cc)
-word-again (flag ∷ flags) (suc i) at = ap (λ (words : List ℕ). word_of flag ∷ words) (word-again flags i at)
+word_at : (flags : List Bool) (i : ℕ) (flag : Bool) → slice_get flags i ≡ Some flag →
+    get_or (words_of flags) i 0 ≡ word_of flag
+word_at [] i flag at = absurd (cc)
+word_at (first ∷ flags) i flag at = word_in (first ∷ flags) i flag at
+
+-- the word of a flag that becomes another
+word_set : (flags : List Bool) (i : ℕ) (was flag : Bool) → slice_get flags i ≡ Some was →
+    set (words_of flags) i (word_of flag) ≡ words_of (slice_set flags i flag)
+word_set [] i was flag at = absurd (cc)
+word_set (first ∷ flags) zero was flag at = refl
+word_set (first ∷ flags) (suc i) was flag at = ap (λ (words : List ℕ). word_of first ∷ words) (sym (map-set word_of flags i flag))
+
+-- a word that is 0 where it isn't a taken flag's, and is made so
+word_freed : (flags : List Bool) (i : ℕ) → set (words_of flags) i 0 ≡ words_of (slice_set flags i false)
+word_freed [] zero = refl
+word_freed [] (suc i) = refl
+word_freed (first ∷ flags) zero = refl
+word_freed (first ∷ flags) (suc i) = ap (λ (words : List ℕ). word_of first ∷ words) (sym (map-set word_of flags i false))
+
+-- a taken flag that is made so again stays
+flag_again : (flags : List Bool) (i : ℕ) → slice_get flags i ≡ Some true → slice_set flags i true ≡ flags
+flag_again [] i at = refl
+flag_again (true ∷ flags) zero at = refl
+flag_again (false ∷ flags) zero at = absurd (cc)
+flag_again (flag ∷ flags) (suc i) at = ap (λ (rest : List Bool). flag ∷ rest) (flag_again flags i at)
 
 -- ONE STEP
 
@@ -50,7 +69,7 @@ entered : (scene : PoolScene) (state : State ℕ SeatView) (rule : WordsAndLogsA
     (log : PoolLog) (entry : PoolEntry) (words : List ℕ) (flags : List Bool) →
     get_elem? state.views seat ≡ some (alone scene party log) →
     LogsAgree scene flags (with_entry rule.logs party log entry) →
-    (0 < scene.geometry.buckets → words ≡ map word_of flags) →
+    words ≡ words_of flags →
     WordsAndLogsAgree scene
     record { words = words; homes = state.homes; views = set state.views seat (alone scene party (log ++ entry ∷ [])) }
 entered scene state rule seat party log entry words flags at agree are =
@@ -85,10 +104,10 @@ Allowed scene state seat slots bucket me found =
 
 tries_flag : (scene : PoolScene) (slots seat party bucket : ℕ) (log : PoolLog) → next_bucket log ≡ bucket →
     (state : State ℕ SeatView) (rule : WordsAndLogsAgree scene state) →
-    get_elem? state.views seat ≡ some (alone scene party log) → state.words ≡ map word_of rule.flags →
+    get_elem? state.views seat ≡ some (alone scene party log) →
     (flag : Bool) → slice_get rule.flags bucket ≡ Some flag →
     Allowed scene state seat slots bucket (alone scene party log, []) (word_of flag)
-tries_flag scene slots seat party bucket log next state rule at are false free =
+tries_flag scene slots seat party bucket log next state rule at false free =
     let mine = rule.seated.known seat (alone scene party log) at in
     let entry : PoolEntry = entry_of (Try party) (Takes bucket) in
     let flags : List Bool = slice_set rule.flags bucket true in
@@ -97,7 +116,7 @@ tries_flag scene slots seat party bucket log next state rule at are false free =
       keeps,
       tt,
       entered scene state rule seat party log entry (set state.words bucket 1) flags at agree
-          (λ _. ap (λ (words : List ℕ). set words bucket 1) are ∙ sym (map-set word_of rule.flags bucket true)),
+          (ap (λ (words : List ℕ). set words bucket 1) rule.words ∙ word_set rule.flags bucket false true free),
       (
         λ _. record {
           seat = told scene flags rule.logs party log entry mine.1 agree;
@@ -106,7 +125,7 @@ tries_flag scene slots seat party bucket log next state rule at are false free =
         λ not_free. absurd (not_free refl),
       ),
     )
-tries_flag scene slots seat party bucket log next state rule at are true taken =
+tries_flag scene slots seat party bucket log next state rule at true taken =
     let mine = rule.seated.known seat (alone scene party log) at in
     let entry : PoolEntry = entry_of (Try party) (loss_at scene.geometry.buckets bucket) in
     let agree = lose_agrees scene rule.flags rule.logs party log bucket rule.agree mine.0 mine.1 next taken in (
@@ -114,7 +133,8 @@ tries_flag scene slots seat party bucket log next state rule at are true taken =
       keeps,
       tt,
       entered scene state rule seat party log entry (set state.words bucket 1) rule.flags at agree
-          (λ _. ap (λ (words : List ℕ). set words bucket 1) are ∙ word-again rule.flags bucket taken),
+          (ap (λ (words : List ℕ). set words bucket 1) rule.words ∙ word_set rule.flags bucket true true taken
+          ∙ ap words_of (flag_again rule.flags bucket taken)),
       (
         λ zero_found. absurd (suc-ne-zero zero zero_found),
         λ _. record {
@@ -134,11 +154,10 @@ tries_one : (scene : PoolScene) (slots seat party bucket : ℕ) (log : PoolLog) 
 tries_one scene slots seat party bucket log below next state rule homes at fits =
     let count = length-flags scene rule.flags rule.logs rule.agree in
     let flag = some_at rule.flags bucket (omega arith) in
-    let are = rule.words (omega arith) in
     let found : get_or state.words bucket 0 ≡ word_of flag.0 =
-    ap (λ (words : List ℕ). get_or words bucket 0) are ∙ word_at rule.flags bucket flag.0 flag.1 in
+    ap (λ (words : List ℕ). get_or words bucket 0) rule.words ∙ word_at rule.flags bucket flag.0 flag.1 in
     subst (Allowed scene state seat slots bucket (alone scene party log, [])) (sym found)
-    (tries_flag scene slots seat party bucket log next state rule at are flag.0 flag.1)
+    (tries_flag scene slots seat party bucket log next state rule at flag.0 flag.1)
 
 -- a seat of one party may try the bucket that is next
 pub tries_as : (scene : PoolScene) (slots seat party bucket : ℕ) (log : PoolLog) (me : Me ℕ SeatView) →
@@ -164,7 +183,7 @@ returns_one scene slots seat party bucket log held state rule homes at fits =
       keeps,
       tt,
       entered scene state rule seat party log entry (set state.words bucket 0) flags at agree
-          (λ some. ap (λ (words : List ℕ). set words bucket 0) (rule.words some) ∙ sym (map-set word_of rule.flags bucket false)),
+          (ap (λ (words : List ℕ). set words bucket 0) rule.words ∙ word_freed rule.flags bucket),
       told scene flags rule.logs party log entry mine.1 agree,
     )
 

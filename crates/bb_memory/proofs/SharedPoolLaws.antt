@@ -1,16 +1,17 @@
 -- What a party's history says.
-use Rattle.std.proofs.Common.{◌≡◌, ◌≢◌, ℕ, zero, suc, ◌+◌, ◌<◌, ◌≤◌, Bool, true, false, List, [], ◌∷◌, ◌++◌, Some, take, sym, ◌∙◌, ap, subst, add-one, append_assoc, arith, inl, inr}
+use Rattle.std.proofs.Common.{◌≡◌, ◌≢◌, ℕ, zero, suc, ◌+◌, ◌<◌, ◌≤◌, Bool, true, false, List, [], ◌∷◌, ◌++◌, Some, take, sym, ◌∙◌, ap, subst, add-one, append_assoc, arith, inl, inr, ◌⊎◌}
 use Rattle.std.specs.Prelude.{filter, if◌then◌else◌, slice_get}
 use Rattle.std.proofs.lemmas.Bool.{cases_Bool, cases_lt, le-ltb}
 use Rattle.std.proofs.lemmas.Option.{slice_get_within}
 use Rattle.bb_memory_base.specs.Chunk.{AreApart, Chunk}
 use Rattle.bb_memory_base.specs.LiveList.{IsSound}
-use Rattle.bb_memory_base.specs.PoolGeometry.{PoolGeometry, bucket_place}
+use Rattle.bb_memory_base.specs.PoolGeometry.{PoolGeometry, IsPoolGeometry, bucket_place}
 use Rattle.bb_memory_base.specs.PoolObject.{IsHeld}
-use Rattle.bb_memory_base.specs.PoolMachine.{IsHolder, left_by}
-use Rattle.bb_memory_base.specs.PoolHistory.{PoolEntry, PoolLog, entries_by, entry_of, history_of, is_by}
-use Rattle.bb_memory_base.specs.PoolCalls.{AreAsked, IsRefusedAt}
+use Rattle.bb_memory_base.specs.PoolMachine.{PoolScene, IsHolder, left_by}
+use Rattle.bb_memory_base.specs.PoolHistory.{PoolEntry, PoolLog, entries_by, entry_of, history_of, is_by, log_of}
+use Rattle.bb_memory_base.specs.PoolCalls.{AreAsked, IsPoolRun, IsRefusedAt}
 use Rattle.bb_memory_base.specs.PoolLogs.{IsHeldAfter, loss_at}
+use Rattle.bb_memory_base.specs.declared.steps.pool.PoolStep.{PoolStep}
 use Rattle.bb_memory_base.specs.declared.steps.pool.PoolStep.TheVariants.{Try}
 use Rattle.bb_memory_base.specs.declared.steps.pool.PoolOutcome.{PoolOutcome}
 use Rattle.bb_memory_base.specs.declared.steps.pool.PoolOutcome.TheVariants.{Loses, RefusedAtLoss}
@@ -26,29 +27,34 @@ use Rattle.bb_memory.specs.SharedPool.{AreInterleaved, HasFoundAllHeld, IsHistor
 pub history_run : (party : PoolParty) (is : IsParty party) (layouts : List Layout) →
     AreAsked party.allocator.scene.geometry is.interleaved.steps layouts →
     (live : List Chunk) × IsHistoryRun party is layouts live
-history_run party is layouts asked = pool_run party.allocator.scene is.interleaved.steps layouts is.geometry asked
+history_run party is layouts asked = pool_run party.allocator.scene is.interleaved.steps layouts is.scene.geometry asked
 
--- the party whose log holds a bucket is its holder
-holder_then : (party : PoolParty) (is : IsParty party) (bucket : ℕ) → IsHeldAfter party.log bucket →
-    IsHolder (left_by party.allocator.scene is.interleaved.steps) bucket party.number
-holder_then party is bucket held =
-    (holder_in_log party.allocator.scene is.interleaved.steps party.number bucket).1
-    (subst (λ (log : PoolLog). IsHeldAfter log bucket) (sym is.interleaved.logged) held)
+-- the party whose log holds a bucket is its holder after each list of steps that has its log
+holder_then : (scene : PoolScene) (steps : List PoolStep) (party bucket : ℕ) (log : PoolLog) → log_of scene steps party ≡ log →
+    IsHeldAfter log bucket → IsHolder (left_by scene steps) bucket party
+holder_then scene steps party bucket log logged held =
+    (holder_in_log scene steps party bucket).1 (subst (λ (l : PoolLog). IsHeldAfter l bucket) (sym logged) held)
+
+held_in_list : (scene : PoolScene) (steps : List PoolStep) (party bucket : ℕ) (log : PoolLog) (layouts : List Layout)
+    (live : List Chunk) → IsPoolGeometry scene.geometry → log_of scene steps party ≡ log →
+    IsPoolRun scene steps layouts live → IsHeldAfter log bucket →
+    (bucket < scene.geometry.buckets) × IsHeld scene.geometry live bucket
+held_in_list scene steps party bucket log layouts live geometry logged run held =
+    let holder = holder_then scene steps party bucket log logged held in
+    let within = slice_get_within (left_by scene steps).holders bucket (Some party) holder in
+    let below : bucket < scene.geometry.buckets = omega (arith, within, length-left_by scene steps) in
+    (below, (taken_is_held scene steps layouts live bucket geometry run below).0 (party, holder))
 
 pub history_held : (party : PoolParty) (is : IsParty party) (layouts : List Layout) (live : List Chunk) (bucket : ℕ) →
     IsHistoryRun party is layouts live → IsHeldAfter party.log bucket →
     (bucket < party.allocator.scene.geometry.buckets) × IsHeld party.allocator.scene.geometry live bucket
 history_held party is layouts live bucket run held =
-    let scene = party.allocator.scene in
-    let steps = is.interleaved.steps in
-    let holder = holder_then party is bucket held in
-    let within = slice_get_within (left_by scene steps).holders bucket (Some party.number) holder in
-    let below : bucket < scene.geometry.buckets = omega (arith, within, length-left_by scene steps) in
-    (below, (taken_is_held scene steps layouts live bucket is.geometry run below).0 (party.number, holder))
+    held_in_list party.allocator.scene is.interleaved.steps party.number bucket party.log layouts live is.scene.geometry
+    is.interleaved.logged run held
 
 pub history_sound : (party : PoolParty) (is : IsParty party) (layouts : List Layout) (live : List Chunk) →
     IsHistoryRun party is layouts live → IsSound party.allocator.scene.geometry.region live
-history_sound party is layouts live run = run_is_sound party.allocator.scene is.interleaved.steps layouts live is.geometry run
+history_sound party is layouts live run = run_is_sound party.allocator.scene is.interleaved.steps layouts live is.scene.geometry run
 
 -- REFUSED PASSES
 
@@ -137,7 +143,7 @@ history_refused party is before some passed =
       last = last.place;
       its_last = ap (λ (k : ℕ). entries_by number (take k history)) (add-one last.place) ∙ last.up_to ∙ sym log_is;
       refused = refused;
-      found = λ bucket below. refused_found_held scene steps number last.place bucket is.geometry refused below;
+      found = λ bucket below. refused_found_held scene steps number last.place bucket is.scene.geometry refused below;
     }
 
 -- BUCKETS
@@ -166,10 +172,27 @@ module _ (one other : TakenBucket) (same : one.allocator ≡ other.allocator) (t
         | inr after ↦ absurd (omega (arith, after, overlap, wide))
       ]
 
--- no bucket is held after the logs of two parties of one history
-pub history_holders : (a b : PoolParty) (bucket : ℕ) → AreInterleaved a b → a.number ≢ b.number →
+-- TWO PARTIES OF ONE HISTORY
+
+pub both_run : (a b : PoolParty) (met : AreInterleaved a b) (layouts : List Layout) → IsParty a →
+    AreAsked a.allocator.scene.geometry met.steps layouts →
+    (live : List Chunk) × IsPoolRun a.allocator.scene met.steps layouts live
+both_run a b met layouts is asked = pool_run a.allocator.scene met.steps layouts is.scene.geometry asked
+
+pub both_held : (a b : PoolParty) (met : AreInterleaved a b) (layouts : List Layout) (live : List Chunk) (bucket : ℕ) →
+    IsParty a → IsPoolRun a.allocator.scene met.steps layouts live → IsHeldAfter a.log bucket ⊎ IsHeldAfter b.log bucket →
+    IsHeld a.allocator.scene.geometry live bucket
+both_held a b met layouts live bucket is run held =
+    let scene = a.allocator.scene in
+    elim held [
+      | inl own ↦ (held_in_list scene met.steps a.number bucket a.log layouts live is.scene.geometry met.logged run own).1
+      | inr others ↦ (held_in_list scene met.steps b.number bucket b.log layouts live is.scene.geometry met.other_logged run others).1
+    ]
+
+-- no bucket is held after both their logs
+pub both_apart : (a b : PoolParty) (bucket : ℕ) → AreInterleaved a b → a.number ≢ b.number →
     IsHeldAfter a.log bucket → ¬ IsHeldAfter b.log bucket
-history_holders a b bucket both two held other_held =
+both_apart a b bucket both two held other_held =
     let Held : PoolLog → Type 0 = λ log. IsHeldAfter log bucket in
     two (one_holder a.allocator.scene both.steps a.number b.number bucket
     (subst Held (sym both.logged) held) (subst Held (sym both.other_logged) other_held))

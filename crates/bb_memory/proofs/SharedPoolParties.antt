@@ -6,9 +6,8 @@ use Rattle.atomic_table.specs.Table.{Me}
 use Rattle.bb_memory_base.specs.PoolMachine.{PoolScene}
 use Rattle.bb_memory_base.specs.PoolHistory.{PoolEntry, PoolLog}
 use Rattle.bb_memory_base.specs.PoolLogs.{IsAllowed}
-use Rattle.bb_memory_base.specs.PoolGeometry.{IsPoolGeometry}
 use Rattle.bb_memory.specs.Seats.{alone, number_of, view_log}
-use Rattle.bb_memory.specs.SharedPool.{IsParty, SharedPool, return_entry, with_entries}
+use Rattle.bb_memory.specs.SharedPool.{IsParty, IsSharedScene, SharedPool, return_entry, with_entries}
 use Rattle.bb_memory.specs.SharedPoolRule.{IsPartySeat, IsSeatOfIdle, SeatView, party_in}
 use Rattle.bb_memory.specs.SharedPoolSteps.{HasEnded, TellsReturn}
 use Rattle.bb_memory.proofs.SharedPoolTries.{idle_after_return}
@@ -17,7 +16,7 @@ use Rattle.bb_memory.proofs.SharedPoolTries.{idle_after_return}
 pub party_is : (table : TableId) (number : ℕ) (me : Me ℕ SeatView) → IsPartySeat number me →
     IsParty (party_in table number me.0)
 party_is table number me is = record {
-  geometry = is.geometry;
+  scene = is.shared;
   number = is.below;
   idle = is.seat.idle;
   interleaved = is.seat.seat.interleaved;
@@ -29,12 +28,12 @@ pub seated_in : (me : Me ℕ SeatView) (scene : PoolScene) (number : ℕ) → Is
 seated_in me scene number is same = is.seat.seat.is ∙ ap (λ (s : PoolScene). (alone s number (view_log me.0), [])) same
 
 pub party_seat : (scene : PoolScene) (number : ℕ) (log : PoolLog) (me : Me ℕ SeatView) → IsSeatOfIdle scene number log me →
-    number < scene.parties → IsPoolGeometry scene.geometry → IsPartySeat number me
-party_seat scene number log me of below geometry =
+    number < scene.parties → IsSharedScene scene → IsPartySeat number me
+party_seat scene number log me of below shared =
     subst (λ (m : Me ℕ SeatView). IsPartySeat number m) (sym of.seat.is) record {
       seat = record { seat = record { is = refl; interleaved = of.seat.interleaved }; idle = of.idle };
       below = below;
-      geometry = geometry;
+      shared = shared;
     }
 
 -- a party that has made no step is idle, and its log is interleaved with those of others
@@ -81,7 +80,7 @@ module _ (pool : SharedPool) (table : TableId) (me : Me ℕ SeatView) (number : 
       party_seat pool.scene number (view_log me.0 ++ added) new
       (subst (λ (n : ℕ). IsSeatOfIdle pool.scene n (view_log me.0 ++ added) new) same_number ended)
       (subst (λ (s : PoolScene). number < s.parties) own_scene is.below)
-      (subst (λ (s : PoolScene). IsPoolGeometry s.geometry) own_scene is.geometry)
+      (subst IsSharedScene own_scene is.shared)
 
   -- a return has ended with its store
   pub returned : (bucket : ℕ) (new : Me ℕ SeatView) →

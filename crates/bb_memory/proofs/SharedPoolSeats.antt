@@ -1,6 +1,6 @@
 -- How parties go to seats of their own, and two of them to one seat.
-use Rattle.std.proofs.Common.{◌≡◌, ℕ, zero, suc, ◌<◌, List, [], ◌∷◌, map, replicate, false, refl, sym, ap, ◌∙◌}
-use Rattle.std.specs.Prelude.{All}
+use Rattle.std.proofs.Common.{◌≡◌, ℕ, zero, suc, arith, List, [], ◌∷◌, map, replicate, false, refl, sym, ap, ◌∙◌}
+use Rattle.std.specs.Prelude.{All, max}
 use Rattle.std.proofs.lemmas.List.{length-replicate}
 use Rattle.std.proofs.lemmas.List.Elements.{All-replicate}
 use Rattle.atomic_table.specs.Table.{Splits, Joins, opening}
@@ -8,7 +8,7 @@ use Rattle.bb_memory_base.specs.PoolMachine.{PoolScene}
 use Rattle.bb_memory_base.specs.PoolHistory.{PoolEntry, PoolLog}
 use Rattle.bb_memory_base.proofs.PoolLogSteps.{opening_agrees}
 use Rattle.bb_memory.specs.Seats.{both_of, first_of, others_of}
-use Rattle.bb_memory.specs.SharedPoolRule.{SeatView, WordsAndLogsAgree, all_parties, nobody, word_of}
+use Rattle.bb_memory.specs.SharedPoolRule.{SeatView, WordsAndLogsAgree, all_parties, nobody, word_of, words_of}
 use Rattle.bb_memory.proofs.Seatings.{seated_both, seated_first, seated_opening, seated_others}
 
 pub gives_first : (scene : PoolScene) (seat : ℕ) (view : SeatView) →
@@ -54,14 +54,19 @@ zeros : (n : ℕ) → map word_of (replicate n false) ≡ replicate n 0
 zeros zero = refl
 zeros (suc n) = ap (λ (words : List ℕ). 0 ∷ words) (zeros n)
 
-pub opens : (scene : PoolScene) (words : List ℕ) →
-    (0 < scene.geometry.buckets → words ≡ replicate scene.geometry.buckets 0) →
+all_zero : (buckets : ℕ) → words_of (replicate buckets false) ≡ replicate (max buckets 1) 0
+all_zero zero = refl
+all_zero (suc buckets) =
+    let most : max (suc buckets) 1 ≡ suc buckets = omega arith in
+    ap (λ (words : List ℕ). 0 ∷ words) (zeros buckets) ∙ ap (λ (n : ℕ). replicate n 0) (sym most)
+
+pub opens : (scene : PoolScene) (words : List ℕ) → words ≡ replicate (max scene.geometry.buckets 1) 0 →
     WordsAndLogsAgree scene (opening words [] (all_parties scene))
 opens scene words are = record {
   flags = replicate scene.geometry.buckets false;
   logs = replicate scene.parties [];
   agree = opening_agrees scene (replicate scene.parties []) (all_empty scene.parties);
-  words = λ some_bucket. are some_bucket ∙ sym (zeros scene.geometry.buckets);
+  words = are ∙ sym (all_zero scene.geometry.buckets);
   one_a_party = length-replicate {A = PoolLog} scene.parties [];
   seated = seated_opening PoolEntry scene.parties scene;
 }

@@ -1,11 +1,11 @@
 -- A shared bump and its parties, as their contracts see them, and what each call adds to its party's log.
-use Rattle.std.specs.Prelude.{◌≡◌, ℕ, ◌<◌, ◌≤◌, ◌⊎◌, true, false, List, [], ◌∷◌, ◌++◌, None, Result, Ok, Err, IfSome, All}
+use Rattle.std.specs.Prelude.{◌≡◌, ℕ, ◌<◌, ◌≤◌, ◌⊎◌, true, false, List, [], ◌∷◌, ◌++◌, None, Result, Ok, Err, All}
 use Rattle.atomic_table.specs.Seated.{TableId}
 use Rattle.bb_memory_base.specs.Region.{Region}
 use Rattle.bb_memory_base.specs.Chunk.{Chunk, AreApart}
 use Rattle.bb_memory_base.specs.BumpMachine.{BumpScene, chunk_at, fits}
-use Rattle.bb_memory_base.specs.BumpHistory.{BumpEntry, BumpLog, chunks_won, entry_of}
-use Rattle.bb_memory_base.specs.BumpLogs.{CommonInterleaving, Interleaving, HasPositionUpTo, call_in, position_in, seen_in}
+use Rattle.bb_memory_base.specs.BumpHistory.{BumpLog, chunks_won, entry_of}
+use Rattle.bb_memory_base.specs.BumpLogs.{CommonInterleaving, Interleaving, HasPositionFrom, HasPositionUpTo, call_in, seen_in}
 use Rattle.bb_memory_base.specs.declared.layout.Layout.{Layout}
 use Rattle.bb_memory_base.specs.declared.allocator.AllocationError.{AllocationError}
 use Rattle.bb_memory_base.specs.declared.allocator.AllocationError.TheVariants.{SizeIsZero, SizeTooLarge, AlignmentFailure, OutOfMemory}
@@ -95,10 +95,6 @@ pub record IsRefusedAtLoss (region : Region) (party : ℕ) (layout : Layout) (ad
 -- one of the two
 abbrev pub IsRefused : Region → ℕ → Layout → BumpLog → Type 0
 IsRefused region party layout added = IsRefusedAtRead region party layout added ⊎ IsRefusedAtLoss region party layout added
-
--- the entry's position, if it has one, is at least this
-abbrev pub HasPositionFrom : ℕ → Region → BumpEntry → Type 0
-HasPositionFrom least region entry = IfSome (position_in region entry.outcome) (λ position. least ≤ position)
 
 -- each position in these entries is at least what the party had seen, and at most the region's size
 pub record IsFoundBy (party : BumpParty) (added : BumpLog) : Type 0 where

@@ -52,11 +52,14 @@ pub record WordsAndLogsAgree (scene : BumpScene) (state : State ℕ SeatView) : 
   pub one_a_party : length logs ≡ scene.parties
   pub seated : AreSeated scene.parties logs state.views
 
--- its table has one word and no slot, and its scene is over its own region
-pub record IsSharedBump (table : TableId) (scene : BumpScene) (start size : ℕ) : Type 0 where
-  pub region : scene.region ≡ region_at start size
+-- the table has one word, and no slot
+pub record HasOneWord (table : TableId) : Type 0 where
   pub words : table.words ≡ 1
   pub slots : table.slots ≡ 0
+
+-- the scene is over the region, and its opening is in it
+pub record IsSharedBump (scene : BumpScene) (start size : ℕ) : Type 0 where
+  pub region : scene.region ≡ region_at start size
   pub is_region : IsRegion (region_at start size)
   pub shared : IsSharedScene scene
 

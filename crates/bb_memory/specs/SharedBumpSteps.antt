@@ -4,14 +4,14 @@ use Rattle.atomic_table.specs.Table.{Me, Step}
 use Rattle.bb_memory_base.specs.Chunk.{Chunk}
 use Rattle.bb_memory_base.specs.BumpMachine.{BumpScene, OngoingCall, read_move, exchange_move}
 use Rattle.bb_memory_base.specs.BumpHistory.{BumpLog, chunks_won, entry_of, losses_in}
-use Rattle.bb_memory_base.specs.BumpLogs.{CommonInterleaving, HasPositionUpTo, call_in, seen_in}
+use Rattle.bb_memory_base.specs.BumpLogs.{HasPositionFrom, CommonInterleaving, Interleaving, HasPositionUpTo, call_in, seen_in}
 use Rattle.bb_memory_base.specs.declared.layout.Layout.{Layout}
 use Rattle.bb_memory_base.specs.declared.steps.bump.BumpStep.{BumpStep}
 use Rattle.bb_memory_base.specs.declared.steps.bump.BumpStep.TheVariants.{Read, Exchange, Load}
 use Rattle.bb_memory_base.specs.declared.steps.bump.BumpOutcome.{BumpOutcome}
 use Rattle.bb_memory_base.specs.declared.steps.bump.BumpOutcome.TheVariants.{Loaded}
 use Rattle.bb_memory.specs.Seats.{number_of, view_log}
-use Rattle.bb_memory.specs.SharedBump.{HasPositionFrom, HaveChunksApart, IsRefused, IsTried, IsWon}
+use Rattle.bb_memory.specs.SharedBump.{HaveChunksApart, IsRefused, IsTried, IsWon}
 use Rattle.bb_memory.specs.SharedBumpRule.{IsSeatOf, IsSeatOfIdle, NumberedLog, SeatView}
 
 -- WHAT A STEP TELLS
@@ -47,6 +47,14 @@ pub record TellsMeeting (scene : BumpScene) (a b : NumberedLog) : Type 0 where
 abbrev pub FirstTwoMeet : BumpScene → List NumberedLog → Type 0
 FirstTwoMeet scene (a ∷ b ∷ parties) = TellsMeeting scene a b
 FirstTwoMeet scene _ = Unit {0}
+
+-- The last position, to a party with this log: it is at least what the party had seen, and at most the size. Some interleaving
+-- leaves it, and it is exactly what the party had seen where there is no other.
+pub record TellsLast (scene : BumpScene) (number : ℕ) (log : BumpLog) (last : ℕ) : Type 0 where
+  pub interleaved : Interleaving scene number log last
+  pub seen : seen_in scene log ≤ last
+  pub within : last ≤ scene.region.size
+  pub exact : scene.parties ≡ 1 → last ≡ seen_in scene log
 
 -- THE STEPS AS THE TABLE KNOWS THEM
 

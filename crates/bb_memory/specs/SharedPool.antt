@@ -23,6 +23,11 @@ pub record SharedPool : Type 0 where
 abbrev pub scene_at : PoolGeometry → ℕ → PoolScene
 scene_at geometry parties = record { geometry = geometry; parties = parties }
 
+-- the buckets are as many as the region has room for, or the first of these, and there is a party
+pub record IsSharedScene (scene : PoolScene) : Type 0 where
+  pub geometry : IsPoolGeometry scene.geometry
+  pub parties : 1 ≤ scene.parties
+
 -- a party: the pool that it belongs to, its number there, and its log
 pub record PoolParty : Type 0 where
   pub allocator : SharedPool
@@ -114,10 +119,9 @@ MayTake party layout (Err SizeIsZero) new = ⊥
 abbrev pub IsInterleaved : PoolParty → Type 0
 IsInterleaved party = Interleaving party.allocator.scene party.number party.log
 
--- what holds of every party: its pool's region has room for the buckets, its number is below how many parties there are, it is
--- in no pass, and some interleaving has its log
+-- what holds of every party: its number is below how many there are, it is in no pass, and some interleaving has its log
 pub record IsParty (party : PoolParty) : Type 0 where
-  pub geometry : IsPoolGeometry party.allocator.scene.geometry
+  pub scene : IsSharedScene party.allocator.scene
   pub number : party.number < party.allocator.scene.parties
   pub idle : pass_in party.log ≡ None
   pub interleaved : IsInterleaved party

@@ -1,15 +1,15 @@
 -- The rule of a shared pool's words, and what its seats and fields stand for.
-use Rattle.std.specs.Prelude.{◌≡◌, ℕ, ◌<◌, ◌≤◌, Bool, true, false, List, [], None, map, length}
+use Rattle.std.specs.Prelude.{◌≡◌, ℕ, ◌<◌, Bool, true, false, List, [], ◌∷◌, None, map, max, length}
 use Rattle.atomic_table.specs.Seated.{TableId}
 use Rattle.atomic_table.specs.Table.{State, Me}
 use Rattle.bb_memory_base.specs.Region.{IsRegion, region_at}
-use Rattle.bb_memory_base.specs.PoolGeometry.{IsPoolGeometry, pool_geometry}
+use Rattle.bb_memory_base.specs.PoolGeometry.{pool_geometry}
 use Rattle.bb_memory_base.specs.PoolMachine.{PoolScene}
 use Rattle.bb_memory_base.specs.PoolHistory.{PoolEntry, PoolLog}
 use Rattle.bb_memory_base.specs.PoolLogs.{Interleaving, LogsAgree, pass_in}
 use Rattle.bb_memory_base.specs.declared.layout.Layout.{Layout}
 use Rattle.bb_memory_base.proofs.Layouts.{empty-valid}
-use Rattle.bb_memory.specs.SharedPool.{PoolParty, scene_at}
+use Rattle.bb_memory.specs.SharedPool.{PoolParty, IsSharedScene, scene_at}
 use Rattle.bb_memory.specs.Seats.{AreSeated, Numbered, Seat, alone, fresh_from, standing_for, view_log}
 
 -- SEATS
@@ -40,7 +40,7 @@ pub record IsSeatOfIdle (scene : PoolScene) (number : ℕ) (log : PoolLog) (me :
 pub record IsPartySeat (number : ℕ) (me : Me ℕ SeatView) : Type 0 where
   pub seat : IsSeatOfIdle me.0.scene number (view_log me.0) me
   pub below : number < me.0.scene.parties
-  pub geometry : IsPoolGeometry me.0.scene.geometry
+  pub shared : IsSharedScene me.0.scene
 
 -- THE RULE
 
@@ -49,23 +49,29 @@ abbrev pub word_of : Bool → ℕ
 word_of false = 0
 word_of true = 1
 
+-- The words of the flags, one each. A pool without buckets has one word, which is no flag.
+abbrev pub words_of : List Bool → List ℕ
+words_of [] = 0 ∷ []
+words_of (flag ∷ flags) = word_of flag ∷ map word_of flags
+
 -- There is a log for each party, and the machine's logs agree with the flags that the words have. Each party stands in exactly
--- one view, with that log; a dropped party's view stays. A pool without buckets has one word, which is no flag.
+-- one view, with that log; a dropped party's view stays.
 pub record WordsAndLogsAgree (scene : PoolScene) (state : State ℕ SeatView) : Type 0 where
   pub flags : List Bool
   pub logs : List PoolLog
   pub agree : LogsAgree scene flags logs
-  pub words : 0 < scene.geometry.buckets → state.words ≡ map word_of flags
+  pub words : state.words ≡ words_of flags
   pub one_a_party : length logs ≡ scene.parties
   pub seated : AreSeated scene.parties logs state.views
 
--- its table has a word for each bucket, and one where there is none; its buckets lie in a region, and there is a party
-pub record IsSharedPool (table : TableId) (scene : PoolScene) : Type 0 where
-  pub some_word : 0 < table.words
-  pub one_each : 0 < scene.geometry.buckets → table.words ≡ scene.geometry.buckets
-  pub region : IsRegion scene.geometry.region
-  pub geometry : IsPoolGeometry scene.geometry
-  pub parties : 1 ≤ scene.parties
+-- the table has a word for each bucket, and one where there is none
+pub record HasWords (table : TableId) (scene : PoolScene) : Type 0 where
+  pub words : table.words ≡ max scene.geometry.buckets 1
+
+-- the buckets lie in a region
+pub record IsSharedPool (scene : PoolScene) : Type 0 where
+  pub is_region : IsRegion scene.geometry.region
+  pub shared : IsSharedScene scene
 
 -- DEALING
 

@@ -143,7 +143,7 @@ impl BumpAllocator {
         let start = self.start;
         let size = self.size;
         let position = self.current_position;
-        match SharedBumpAllocator::opened(alloc, start, size, position, parties) {
+        match SharedBumpAllocator::open(alloc, start, size, position, parties) {
             Ok(shared) => Ok(shared),
             Err(AllocError) => Err((self, AllocationError::OutOfMemory)),
         }

@@ -8,18 +8,20 @@ ghost use Rattle.bb_memory_base.specs.BumpHistory.{BumpLog, chunks_won, history_
 ghost use Rattle.bb_memory_base.specs.BumpCalls.{IsCallRun, OpensWith, calls_of, live_after};
 ghost use Rattle.bb_memory_base.specs.BumpLogs.{Interleaving};
 ghost use Rattle.bb_memory.specs.SharedBump.{AreInterleaved, BumpParty, HaveChunksApart, IsFoundBy, IsInterleaved, IsParty, IsSharedScene, MayTake, fresh_party, load_entry, scene_at, seen_by, with_entries};
-ghost use Rattle.bb_memory.specs.Seats.{fresh_from, standing_for};
+ghost use Rattle.bb_memory.specs.SharedBumpRule.{all_parties};
 
 mod party;
 mod position;
+mod request;
 mod rule;
 
 use crate::allocator::AllocationError;
 use crate::bump_allocator::BumpAllocator;
 use crate::layout::{Chunk, Layout};
-use atomic_table::{Seat, Table};
+use atomic_table::Seat;
 pub use party::BumpParty;
-use rule::{Agreement, Gather, GiveFirst, KeepFirst, Loads, Meets, Scene, View};
+use position::Position;
+use rule::{Scene, View};
 use std::alloc::{AllocError, Global};
 use std::marker::{Brand, Model};
 
@@ -38,7 +40,7 @@ use std::marker::{Brand, Model};
 /// ```
 #[derive(Drop)]
 pub struct SharedBumpAllocator {
-    table: Table<u8, View, Scene, Agreement, Global>,
+    position: Position,
     start: usize,
     size: usize,
 }
@@ -52,14 +54,14 @@ impl Model for SharedBumpAllocator {
 
     ghost use Rattle.bb_memory.specs.SharedBumpRule.{IsSharedBump};
 
-    ghost view = { λ a. record { table = a.table.shared.table_id; scene = a.table.shared.key } };
+    ghost view = { λ a. a.position };
 
-    ghost invariant = { λ a. IsSharedBump a.table.shared.table_id a.table.shared.key a.start a.size };
+    ghost invariant = { λ a. IsSharedBump a.position.scene a.start a.size };
 }
 
 impl SharedBumpAllocator {
     /// A shared bump over the region of `size` bytes at `start`, of which `position` are used, with its parties.
-    pub(crate) fn opened(
+    pub(crate) fn open(
         alloc: Global,
         start: usize,
         size: usize,
@@ -83,8 +85,12 @@ impl SharedBumpAllocator {
             opening: position,
             parties,
         };
-        let (table, seat) = Table::of_words(alloc, &[position as u64], &scene)?;
-        let shared = SharedBumpAllocator { table, start, size };
+        let (position, seat) = Position::open(alloc, scene)?;
+        let shared = SharedBumpAllocator {
+            position,
+            start,
+            size,
+        };
         shared.seat_parties(seat, parties, &mut all);
         Ok((shared, all))
     }
@@ -149,7 +155,7 @@ impl SharedBumpAllocator {
         ensures seen { seen_by party.old ≤ result }
         ensures within { result ≤ self.now.scene.region.size }
     {
-        self.table.shared.load::<Loads>(&mut party.seat, 0) as usize
+        self.position.load(&mut party.seat)
     }
 
     /// How many bytes are behind the last chunk: the total less what one load found to be used.
@@ -195,11 +201,7 @@ impl SharedBumpAllocator {
         ensures apart { HaveChunksApart a.old.log b.old.log }
         ensures interleaved { AreInterleaved a.old b.old }
     {
-        let shared = &self.table.shared;
-        let guest = shared.split_seat::<GiveFirst>(&mut b.seat);
-        shared.join_seat::<Gather>(&mut a.seat, guest);
-        shared.load::<Meets>(&mut a.seat, 0);
-        b.seat = shared.split_seat::<KeepFirst>(&mut a.seat);
+        self.position.meet(&mut a.seat, &mut b.seat);
     }
 
     /// The bump again, for one owner: of the same region, at the position that the parties' steps left. It is at least what
@@ -212,18 +214,20 @@ impl SharedBumpAllocator {
         ensures within { result.used ≤ self.scene.region.size }
         ensures exact { self.scene.parties ≡ 1 → result.used ≡ seen_by party }
     {
-        let SharedBumpAllocator { table, start, size } = self;
+        let SharedBumpAllocator {
+            position,
+            start,
+            size,
+        } = self;
         let BumpParty { number: _, seat } = party;
-        let closed = table.close_with(seat);
-        let position = closed.word(0) as usize;
-        closed.free();
-        BumpAllocator::at_position(start, size, position)
+        let used = position.close(seat);
+        BumpAllocator::at_position(start, size, used)
     }
 
     /// Gives each party a seat of its own.
     fn seat_parties(&self, mut rest: Seat<u8, View>, parties: u32, all: &mut Vec<BumpParty>)
         requires table { rest.table_id ≡ self.now.table }
-        requires seat { rest.me ≡ (standing_for self.now.scene (fresh_from 0 parties), []) }
+        requires seat { rest.me ≡ (all_parties self.now.scene, []) }
         requires parties { parties ≡ self.now.scene.parties }
         requires empty { all.old.items ≡ [] }
         requires room { (vec_len all.old ≡ 0) × (parties ≤ vec_capacity all.old) }
@@ -233,7 +237,7 @@ impl SharedBumpAllocator {
         ensures theirs { All (λ party. party.allocator ≡ self.now) all.new.items }
     {
         for number in 0..parties {
-            let seat = self.table.shared.split_seat::<GiveFirst>(&mut rest);
+            let seat = self.position.deal(&mut rest);
             all.push_reserved(BumpParty { number, seat });
         }
     }
@@ -243,20 +247,10 @@ impl SharedBumpAllocator {
 /// contract is the law.
 ///
 /// A party's history is the interleaving of its log that `IsParty` tells: a list of allowed steps from the opening, in
-/// which the party's steps are exactly its log. A list that the opening stands for is one that was live before the bump was
-/// shared.
+/// which the party's steps are exactly its log. Two parties that met have such a list together, which `AreInterleaved`
+/// tells. A list that the opening stands for is one that was live before the bump was shared.
 pub fn shared_bump_law()
-    // The chunks that a party's log has won are a sound list of the region.
-    ensures own { (party : BumpParty)
-        → IsParty party
-        → IsSound party.allocator.scene.region (chunks_won party.log) }
-
-    // Each is apart from each chunk that was live before the bump was shared.
-    ensures older { (party : BumpParty) (live : List Chunk)
-        → IsParty party → OpensWith party.allocator.scene live
-        → All (λ older. All (AreApart older) (chunks_won party.log)) live }
-
-    // The calls of its history are a run of the bump object from that list.
+    // The calls of a party's history are a run of the bump object from that list.
     ensures run { (party : BumpParty) (live : List Chunk) (is : IsParty party)
         → let scene = party.allocator.scene in
         let steps = is.interleaved.steps in
@@ -269,16 +263,39 @@ pub fn shared_bump_law()
         let steps = is.interleaved.steps in
         live_after scene live steps ≡ live ++ chunks_won (history_of scene steps) }
 
-    // Each chunk of the party is in that list.
+    // Each chunk of the party is in the list that the run leaves.
     ensures held { (party : BumpParty) (live : List Chunk) (is : IsParty party)
         → let scene = party.allocator.scene in
         All (Contains (live_after scene live is.interleaved.steps)) (chunks_won party.log) }
 
-    // A bump that has used what the party has seen stands for it.
+    // A bump that has used what the party has seen stands for that list.
     ensures stands { (party : BumpParty) (live : List Chunk) (is : IsParty party)
         → let scene = party.allocator.scene in
         OpensWith scene live
         → StandsFor scene.region (seen_by party) (live_after scene live is.interleaved.steps) }
+
+    // The chunks that a party's log has won are a sound list of the region.
+    ensures sound { (party : BumpParty)
+        → IsParty party
+        → IsSound party.allocator.scene.region (chunks_won party.log) }
+
+    // Each is apart from each chunk that was live before the bump was shared.
+    ensures older { (party : BumpParty) (live : List Chunk)
+        → IsParty party → OpensWith party.allocator.scene live
+        → All (λ older. All (AreApart older) (chunks_won party.log)) live }
+
+    // Two parties that met have one history together, whose calls are a run too: one run has the
+    // calls of both.
+    ensures both_run { (a b : BumpParty) (live : List Chunk) (met : AreInterleaved a b)
+        → let scene = a.allocator.scene in
+        let steps = met.1.steps in
+        OpensWith scene live
+        → IsCallRun scene.region live (calls_of scene steps) (live_after scene live steps) }
+
+    // Each chunk of either is in the list that this run leaves.
+    ensures both_held { (a b : BumpParty) (live : List Chunk) (met : AreInterleaved a b)
+        → let held = Contains (live_after a.allocator.scene live met.1.steps) in
+        All held (chunks_won a.log) × All held (chunks_won b.log) }
 
     // No chunk of one party overlaps a chunk of another that it met.
     ensures apart { (a b : BumpParty)

@@ -1,21 +1,22 @@
 //! Pools that threads share: each call takes its pool by `&`, and steps on one atomic flag for each bucket.
-ghost use Rattle.std.specs.Prelude.{◌≡◌, ◌≢◌, ◌<◌, ◌≤◌, ◌↔◌, ◌%◌, ℕ, All, List, Some, IsErr, IfOk, IfErr, OnErr, slice_get, vec_len, ◌++◌};
+ghost use Rattle.std.specs.Prelude.{◌≡◌, ◌≢◌, ◌<◌, ◌≤◌, ◌↔◌, ◌%◌, ℕ, All, List, Some, IsErr, IfOk, IfErr, OnErr, length, slice_get, ◌++◌, ◌⊎◌};
 ghost use Rattle.bb_memory_base.specs.Region.{IsRegion, region_at};
 ghost use Rattle.bb_memory_base.specs.Chunk.{AreApart, Chunk, IsInside};
 ghost use Rattle.bb_memory_base.specs.LiveList.{IsSound};
 ghost use Rattle.bb_memory_base.specs.FirstPlace.{first_place};
-ghost use Rattle.bb_memory_base.specs.PoolGeometry.{IsCut, IsPoolGeometry};
+ghost use Rattle.bb_memory_base.specs.PoolGeometry.{IsCut};
 ghost use Rattle.bb_memory_base.specs.PoolObject.{IsHeld, IsWithin, MayGrow, MayShrink};
-ghost use Rattle.bb_memory_base.specs.PoolCalls.{AreAsked};
+ghost use Rattle.bb_memory_base.specs.PoolCalls.{AreAsked, IsPoolRun};
 ghost use Rattle.bb_memory_base.specs.PoolHistory.{PoolLog};
 ghost use Rattle.bb_memory_base.specs.PoolLogs.{IsHeldAfter};
 ghost use Rattle.bb_memory_base.specs.declared.layout.Layout.{Layout};
 ghost use Rattle.bb_memory.specs.Pool.{AreAStrideApart, MayBeCut};
-ghost use Rattle.bb_memory.specs.SharedPool.{AreAllHeldAfter, AreInterleaved, HasFoundAllHeld, IsHistoryRun, IsInterleaved, IsParty, MayTake, PoolParty, TakenBucket, chunk_of, fresh_party, refused_pass, resized, return_entry, with_entries};
+ghost use Rattle.bb_memory.specs.SharedPool.{AreAllHeldAfter, AreInterleaved, HasFoundAllHeld, IsHistoryRun, IsInterleaved, IsParty, IsSharedScene, MayTake, PoolParty, TakenBucket, chunk_of, fresh_party, refused_pass, resized, return_entry, with_entries};
 
 mod bucket;
 mod buckets;
 mod fixed_size;
+mod flags;
 mod party;
 mod rule;
 
@@ -26,7 +27,7 @@ pub use bucket::Bucket;
 use buckets::SharedBuckets;
 pub use fixed_size::SharedFixedSizePoolAllocator;
 pub use party::PoolParty;
-use std::alloc::Global;
+use std::alloc::{AllocError, Global};
 use std::marker::Model;
 
 /// Gives buckets of one layout to any number of threads. The pool is made for some number of parties, and each thread that
@@ -74,7 +75,7 @@ impl SharedPoolAllocator {
         ensures geometry { IfOk result (λ made.
             IsCut (region_at start size) bucket_layout made.0.scene.geometry) }
         ensures parties { IfOk result (λ made. made.0.scene.parties ≡ parties) }
-        ensures as_many { IfOk result (λ made. vec_len made.1 ≡ parties) }
+        ensures as_many { IfOk result (λ made. length made.1.items ≡ parties) }
         ensures fresh { IfOk result (λ made. (number : ℕ) → number < parties
             → slice_get made.1.items number ≡ Some (fresh_party made.0 number)) }
         ensures theirs { IfOk result (λ made.
@@ -82,8 +83,10 @@ impl SharedPoolAllocator {
         ensures refused { IfErr result (λ error. error ≡ AllocationError.OutOfMemory) }
     {
         let geometry = Geometry::new(bucket_layout, start, size);
-        let (buckets, all) = SharedBuckets::new(alloc, geometry, parties)?;
-        Ok((SharedPoolAllocator { buckets }, all))
+        match SharedBuckets::open(alloc, geometry, parties) {
+            Ok((buckets, all)) => Ok((SharedPoolAllocator { buckets }, all)),
+            Err(AllocError) => Err(AllocationError::OutOfMemory),
+        }
     }
 
     /// Takes a bucket for the party, with a chunk of `layout.size()` bytes. It is refused in this order: with `SizeTooLarge`
@@ -200,12 +203,11 @@ impl SharedPoolAllocator {
         self.buckets.shrink(bucket, old, new)
     }
 
-    /// How many buckets there are.
+    /// How many buckets there are. They lie in a region, and there is a party.
     pub fn number_of_buckets(&self) -> u32
         ensures value { result ≡ self.now.scene.geometry.buckets }
         ensures region { IsRegion self.now.scene.geometry.region }
-        ensures geometry { IsPoolGeometry self.now.scene.geometry }
-        ensures parties { 1 ≤ self.now.scene.parties }
+        ensures scene { IsSharedScene self.now.scene }
     {
         self.buckets.count()
     }
@@ -240,16 +242,21 @@ impl SharedPoolAllocator {
     }
 }
 
-/// What a user of a shared pool meets, of any party: each call tells that what comes of it is a party. The party's log stands in
-/// an interleaving with logs of the others, which is its history. It does nothing: its contract is the law.
+/// What a user of a shared pool has of each party, and of two that met, whatever the threads did. It does nothing: its
+/// contract is the law.
+///
+/// A party's history is the interleaving of its log that `IsParty` tells: a list of allowed steps from the opening, in
+/// which the party's steps are exactly its log. Two parties that met have such a list together, which `AreInterleaved`
+/// tells.
 pub fn shared_pool_law()
-    // The takings and returns of the history are a run of the pool object from the empty list, whichever layouts within the
-    // bucket's size and alignment were asked for.
+    // The takings and returns of a party's history are a run of the pool object from the empty list,
+    // whichever layouts within the bucket's size and alignment were asked for.
     ensures run { (party : PoolParty) (is : IsParty party) (layouts : List Layout)
         → AreAsked party.allocator.scene.geometry is.interleaved.steps layouts
         → (live : List Chunk) × IsHistoryRun party is layouts live }
 
-    // A bucket that is held after the party's log is one of the pool's, and is held in the list that the run leaves.
+    // A bucket that is held after the party's log is one of the pool's, and is held in the list that
+    // the run leaves.
     ensures held { (party : PoolParty) (is : IsParty party) (layouts : List Layout)
         (live : List Chunk) (bucket : ℕ) → IsHistoryRun party is layouts live
         → IsHeldAfter party.log bucket
@@ -261,26 +268,41 @@ pub fn shared_pool_law()
         (live : List Chunk) → IsHistoryRun party is layouts live
         → IsSound party.allocator.scene.geometry.region live }
 
-    // Where the log ends with a pass that was refused, that pass has found each bucket held in the run, each at a step of
-    // its own.
+    // Where the log ends with a pass that was refused, that pass has found each bucket held in the
+    // run, each at a step of its own.
     ensures refused { (party : PoolParty) (is : IsParty party) (before : PoolLog)
         → let buckets = party.allocator.scene.geometry.buckets in
         0 < buckets → party.log ≡ before ++ refused_pass buckets party.number
         → HasFoundAllHeld party is }
 
-    // Chunks in two different buckets of a pool begin at least a stride apart, and where neither is longer than its bucket,
-    // they don't overlap.
-    ensures apart { (one other : TakenBucket) → one.allocator ≡ other.allocator
-        → one.number ≢ other.number
+    // Two parties that met have one history together, whose takings and returns are a run too: one
+    // run has those of both.
+    ensures both_run { (a b : PoolParty) (met : AreInterleaved a b) (layouts : List Layout)
+        → let scene = a.allocator.scene in
+        IsParty a → AreAsked scene.geometry met.steps layouts
+        → (live : List Chunk) × IsPoolRun scene met.steps layouts live }
+
+    // A bucket that is held after the log of either is held in the list that this run leaves.
+    ensures both_held { (a b : PoolParty) (met : AreInterleaved a b) (layouts : List Layout)
+        (live : List Chunk) (bucket : ℕ) → let scene = a.allocator.scene in
+        IsParty a → IsPoolRun scene met.steps layouts live
+        → IsHeldAfter a.log bucket ⊎ IsHeldAfter b.log bucket
+        → IsHeld scene.geometry live bucket }
+
+    // No bucket is held after the logs of two parties that met.
+    ensures apart { (a b : PoolParty) (bucket : ℕ)
+        → AreInterleaved a b → a.number ≢ b.number
+        → IsHeldAfter a.log bucket → ¬ IsHeldAfter b.log bucket }
+
+    // Chunks in two different buckets of a pool begin at least a stride apart, and where neither is
+    // longer than its bucket, they don't overlap.
+    ensures a_stride_apart { (one other : TakenBucket)
+        → one.allocator ≡ other.allocator → one.number ≢ other.number
         → AreAStrideApart one.allocator.scene.geometry.bucket
         (chunk_of one).place (chunk_of other).place }
-    ensures no_overlap { (one other : TakenBucket) → one.allocator ≡ other.allocator
-        → one.number ≢ other.number
+    ensures no_overlap { (one other : TakenBucket)
+        → one.allocator ≡ other.allocator → one.number ≢ other.number
         → one.len ≤ one.allocator.scene.geometry.bucket.size
         → other.len ≤ one.allocator.scene.geometry.bucket.size
         → AreApart (chunk_of one) (chunk_of other) }
-
-    // No bucket is held after the logs of two parties of one history.
-    ensures holders { (a b : PoolParty) (bucket : ℕ) → AreInterleaved a b → a.number ≢ b.number
-        → IsHeldAfter a.log bucket → ¬ IsHeldAfter b.log bucket }
 {}

@@ -52,26 +52,26 @@ no_clear_when_allowed region state (step ∷ steps) allowed =
 
 -- no step changes how many parties there are
 pub parties_stay : (region : Region) (state : BumpState) (step : BumpStep) (move : BumpMove) → StepView region state step move →
-    length move.state.parties ≡ length state.parties
-parties_stay region state step move (sees party layout idle asks fit) = length-set_at state.parties party _
-parties_stay region state step move (refuses_read party layout idle asks fit) = length-set_at state.parties party _
-parties_stay region state step move (wins party call is same) = length-set_at state.parties party _
-parties_stay region state step move (loses party call is apart fit) = length-set_at state.parties party _
-parties_stay region state step move (refuses_loss party call is apart fit) = length-set_at state.parties party _
+    length move.state.calls ≡ length state.calls
+parties_stay region state step move (sees party layout idle asks fit) = length-set_at state.calls party _
+parties_stay region state step move (refuses_read party layout idle asks fit) = length-set_at state.calls party _
+parties_stay region state step move (wins party call is same) = length-set_at state.calls party _
+parties_stay region state step move (loses party call is apart fit) = length-set_at state.calls party _
+parties_stay region state step move (refuses_loss party call is apart fit) = length-set_at state.calls party _
 parties_stay region state step move (loads party idle) = refl
 parties_stay region state step move clears = refl
 parties_stay region state step move (passes other) = refl
 
 -- a party that is there isn't one behind all that are
-is_another : (state : BumpState) (other party : ℕ) (now : Option OngoingCall) → slice_get state.parties other ≡ Some now →
-    length state.parties ≤ party → (other == party) ≡ false
+is_another : (state : BumpState) (other party : ℕ) (now : Option OngoingCall) → slice_get state.calls other ≡ Some now →
+    length state.calls ≤ party → (other == party) ≡ false
 is_another state other party now there past =
-    let below : other < length state.parties = slice_get-some state.parties other (ap is_some there) in
+    let below : other < length state.calls = slice_get-some state.calls other (ap is_some there) in
     test_apart other party (λ same. omega (arith, same, below, past))
 
 -- an allowed step is that of a party that is there
 step_is_another : (region : Region) (state : BumpState) (step : BumpStep) (move : BumpMove) (party : ℕ) →
-    StepView region state step move → IsAllowed move.outcome → length state.parties ≤ party → is_by party step ≡ false
+    StepView region state step move → IsAllowed move.outcome → length state.calls ≤ party → is_by party step ≡ false
 step_is_another region state step move party (sees other layout idle asks fit) allowed past =
     is_another state other party None idle past
 step_is_another region state step move party (refuses_read other layout idle asks fit) allowed past =
@@ -87,7 +87,7 @@ step_is_another region state step move party (loads other idle) allowed past =
 step_is_another region state step move party clears allowed past = absurd allowed
 step_is_another region state step move party (passes other) allowed past = absurd allowed
 
-none_by : (region : Region) (state : BumpState) (steps : List BumpStep) (party : ℕ) → length state.parties ≤ party →
+none_by : (region : Region) (state : BumpState) (steps : List BumpStep) (party : ℕ) → length state.calls ≤ party →
     AllAllowed (bump_history region state steps) → entries_by party (bump_history region state steps) ≡ []
 none_by region state [] party past allowed = refl
 none_by region state (step ∷ steps) party past allowed =
@@ -103,5 +103,5 @@ none_by region state (step ∷ steps) party past allowed =
 pub nobody_else : (scene : BumpScene) (steps : List BumpStep) (party : ℕ) → scene.parties ≤ party →
     AllAllowed (history_of scene steps) → log_of scene steps party ≡ []
 nobody_else scene steps party past allowed =
-    let made : length (opening_state scene).parties ≡ scene.parties = length-replicate scene.parties None in
+    let made : length (opening_state scene).calls ≡ scene.parties = length-replicate scene.parties None in
     none_by scene.region (opening_state scene) steps party (omega (arith, made, past)) allowed

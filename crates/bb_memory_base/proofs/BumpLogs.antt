@@ -8,7 +8,7 @@ use Rattle.bb_memory_base.specs.Region.{Region}
 use Rattle.bb_memory_base.specs.Chunk.{Chunk}
 use Rattle.bb_memory_base.specs.BumpMachine.{OngoingCall, BumpState, BumpMove, BumpScene, opening_state, chunk_at, fits, position_behind, read_move, exchange_move, ending, seeing, passed, moved, read, exchange, load, bump_step, bump_after, left_by}
 use Rattle.bb_memory_base.specs.BumpHistory.{BumpEntry, BumpLog, entry_of, entry_at, bump_history, history_of, is_by, entries_by, log_of}
-use Rattle.bb_memory_base.specs.BumpLogs.{call_seeing, call_after, call_through, call_in, IsAllowed, AllAllowed, HasLog, LogsAgree, with_entry}
+use Rattle.bb_memory_base.specs.BumpLogs.{seen_at, call_after, call_through, call_in, IsAllowed, AllAllowed, HasLog, LogsAgree, with_entry}
 use Rattle.bb_memory_base.specs.declared.layout.Layout.{Layout}
 use Rattle.bb_memory_base.specs.declared.steps.bump.BumpStep.{BumpStep}
 use Rattle.bb_memory_base.specs.declared.steps.bump.BumpStep.TheVariants.{Read, Exchange, Load}
@@ -22,16 +22,16 @@ use Rattle.bb_memory_base.proofs.BumpSteps.{same_from_test, test_same, test_apar
 -- a party's own step leaves it in what the entry says
 own_call : (region : Region) (state : BumpState) (step : BumpStep) (move : BumpMove) (party : ℕ) (now : Option OngoingCall) →
     StepView region state step move →
-    is_by party step ≡ true → slice_get state.parties party ≡ Some now →
-    slice_get move.state.parties party ≡ Some (call_after now (entry_of step move.outcome))
+    is_by party step ≡ true → slice_get state.calls party ≡ Some now →
+    slice_get move.state.calls party ≡ Some (call_after now (entry_of step move.outcome))
 own_call region state step move party now (sees other layout idle asks fit) by at =
     written state other party None (Some (record { layout = layout; seen = state.position })) by idle
 own_call region state step move party now (refuses_read other layout idle asks fit) by at = written state other party None None by idle
 own_call region state step move party now (wins other call is same) by at = written state other party (Some call) None by is
 own_call region state step move party now (loses other call is apart fit) by at =
-    let was = same_Some (Some call) now (sym is ∙ ap (slice_get state.parties) (same_from_test other party by) ∙ at) in
+    let was = same_Some (Some call) now (sym is ∙ ap (slice_get state.calls) (same_from_test other party by) ∙ at) in
     written state other party (Some call) (Some (record { layout = call.layout; seen = state.position })) by is
-    ∙ ap (λ (ongoing : Option OngoingCall). Some (call_seeing state.position (option_map (λ (c : OngoingCall). c.layout) ongoing))) was
+    ∙ ap (λ (ongoing : Option OngoingCall). Some (option_map (seen_at state.position) ongoing)) was
 own_call region state step move party now (refuses_loss other call is apart fit) by at = written state other party (Some call) None by is
 own_call region state step move party now (loads other idle) by at = at
 own_call region state step move party now clears by at = absurd (cc)
@@ -39,8 +39,8 @@ own_call region state step move party now (passes other) by at = at
 
 step_call : (region : Region) (state : BumpState) (step : BumpStep) (party : ℕ) (now : Option OngoingCall) (own : Bool) →
     is_by party step ≡ own →
-    slice_get state.parties party ≡ Some now →
-    slice_get (bump_step region state step).state.parties party ≡ Some (if own then call_after now (entry_at region state step) else now)
+    slice_get state.calls party ≡ Some now →
+    slice_get (bump_step region state step).state.calls party ≡ Some (if own then call_after now (entry_at region state step) else now)
 step_call region state step party now true by at =
     own_call region state step (bump_step region state step) party now (step_view region state step) by at
 step_call region state step party now false by at =
@@ -52,8 +52,8 @@ call_through-own true now entry log = refl
 call_through-own false now entry log = refl
 
 call_of_log : (region : Region) (state : BumpState) (steps : List BumpStep) (party : ℕ) (now : Option OngoingCall) →
-    slice_get state.parties party ≡ Some now →
-    slice_get (bump_after region state steps).parties party ≡ Some (call_through now (entries_by party (bump_history region state steps)))
+    slice_get state.calls party ≡ Some now →
+    slice_get (bump_after region state steps).calls party ≡ Some (call_through now (entries_by party (bump_history region state steps)))
 call_of_log region state [] party now at = at
 call_of_log region state (step ∷ steps) party now at =
     let own = is_by party step in
@@ -64,7 +64,7 @@ call_of_log region state (step ∷ steps) party now at =
     ∙ ap Some (call_through-own own now entry (entries_by party (bump_history region next steps)))
 
 pub party_call : (scene : BumpScene) (steps : List BumpStep) (party : ℕ) → party < scene.parties →
-    slice_get (left_by scene steps).parties party ≡ Some (call_in (log_of scene steps party))
+    slice_get (left_by scene steps).calls party ≡ Some (call_in (log_of scene steps party))
 party_call scene steps party within =
     call_of_log scene.region (opening_state scene) steps party None (slice_get-replicate scene.parties party None within)
 
@@ -155,7 +155,7 @@ exchange_allowed position behind chunk layout false false = tt
 -- what a party is in, in the steps of an agreement
 pub agreed_call : (scene : BumpScene) (position : ℕ) (logs : List BumpLog) (party : ℕ) (log : BumpLog)
     (call : Option OngoingCall) (agree : LogsAgree scene position logs) →
-    HasLog logs party log → party < scene.parties → call_in log ≡ call → slice_get (left_by scene agree.steps).parties party ≡ Some call
+    HasLog logs party log → party < scene.parties → call_in log ≡ call → slice_get (left_by scene agree.steps).calls party ≡ Some call
 agreed_call scene position logs party log call agree at within is =
     party_call scene agree.steps party within ∙ ap (λ (own : List BumpEntry). Some (call_in own)) (agree.each party log at) ∙ ap Some is
 

@@ -149,22 +149,22 @@ seen_below scene position logs party log agree at =
 -- where there is one party, each allowed step of a party is its own
 own_alone : (region : Region) (state : BumpState) (step : BumpStep) (move : BumpMove) → StepView region state step move →
     IsAllowed move.outcome →
-    length state.parties ≡ 1 → is_by 0 step ≡ true
+    length state.calls ≡ 1 → is_by 0 step ≡ true
 own_alone region state step move (sees party layout idle asks fit) allowed one =
-    test_same party 0 (slice_get-single state.parties party None one idle)
+    test_same party 0 (slice_get-single state.calls party None one idle)
 own_alone region state step move (refuses_read party layout idle asks fit) allowed one =
-    test_same party 0 (slice_get-single state.parties party None one idle)
+    test_same party 0 (slice_get-single state.calls party None one idle)
 own_alone region state step move (wins party call is same) allowed one =
-    test_same party 0 (slice_get-single state.parties party (Some call) one is)
+    test_same party 0 (slice_get-single state.calls party (Some call) one is)
 own_alone region state step move (loses party call is apart fit) allowed one =
-    test_same party 0 (slice_get-single state.parties party (Some call) one is)
+    test_same party 0 (slice_get-single state.calls party (Some call) one is)
 own_alone region state step move (refuses_loss party call is apart fit) allowed one =
-    test_same party 0 (slice_get-single state.parties party (Some call) one is)
-own_alone region state step move (loads party idle) allowed one = test_same party 0 (slice_get-single state.parties party None one idle)
+    test_same party 0 (slice_get-single state.calls party (Some call) one is)
+own_alone region state step move (loads party idle) allowed one = test_same party 0 (slice_get-single state.calls party None one idle)
 own_alone region state step move clears allowed one = absurd allowed
 own_alone region state step move (passes other) allowed one = absurd allowed
 
-greatest_alone : (region : Region) (state : BumpState) (steps : List BumpStep) → length state.parties ≡ 1 →
+greatest_alone : (region : Region) (state : BumpState) (steps : List BumpStep) → length state.calls ≡ 1 →
     AllAllowed (bump_history region state steps) →
     greatest_in region state.position (entries_by 0 (bump_history region state steps)) ≡ (bump_after region state steps).position
 greatest_alone region state [] one allowed = refl

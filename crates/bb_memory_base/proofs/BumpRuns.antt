@@ -181,6 +181,18 @@ pub calls_beginning : (scene : BumpScene) (before stretch : List BumpStep) →
     calls_of scene (before ++ stretch) ≡ calls_of scene before ++ calls_after scene before stretch
 calls_beginning scene before stretch = bump_calls-append scene.region (opening_state scene) before stretch
 
+-- the calls behind a beginning are a run from the list that the beginning leaves
+pub run_at_step : (scene : BumpScene) (live : List Chunk) (before stretch : List BumpStep) → OpensWith scene live →
+    IsCallRun scene.region (live_after scene live before) (calls_after scene before stretch) (live_after scene live (before ++ stretch))
+run_at_step scene live before stretch opens =
+    let there = live_after scene live before in
+    let made = steps_make scene.region (left_by scene before) there stretch (scene_makes scene live before opens).stands
+    (fitting_after scene.region (opening_state scene) before (fitting_at_opening scene)) in
+    let same : left_by_calls there (calls_after scene before stretch) ≡ live_after scene live (before ++ stretch) =
+    sym (ap (left_by_calls live) (calls_beginning scene before stretch)
+    ∙ left_by_calls-append live (calls_of scene before) (calls_after scene before stretch)) in
+    subst (IsCallRun scene.region there (calls_after scene before stretch)) same made.run
+
 pub calls_stand : (scene : BumpScene) (live : List Chunk) (steps : List BumpStep) → OpensWith scene live →
     StandsFor scene.region (left_by scene steps).position (live_after scene live steps)
 calls_stand scene live steps opens = (scene_makes scene live steps opens).stands

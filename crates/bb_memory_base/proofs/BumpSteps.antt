@@ -48,7 +48,7 @@ pub data StepView (region : Region) (state : BumpState) : BumpStep → BumpMove 
       fits region state.position call.layout ≡ false →
       StepView region state (Exchange party) (moved state party (ending (RefusedAtLoss state.position) state.position))
   loads : (party : ℕ) → IsIdle state party → StepView region state (Load party) (record { outcome = Loaded state.position; state = state })
-  clears : StepView region state Clear (record { outcome = Cleared; state = record { position = 0; parties = state.parties } })
+  clears : StepView region state Clear (record { outcome = Cleared; state = record { position = 0; calls = state.calls } })
   passes : (step : BumpStep) → StepView region state step (passed state)
 
 idle_view : (region : Region) (state : BumpState) (party : ℕ) (layout : Layout) (empty fitting : Bool) → IsIdle state party →
@@ -61,7 +61,7 @@ idle_view region state party layout false true idle size fit = sees party layout
 idle_view region state party layout false false idle size fit = refuses_read party layout idle (positive_from_test layout.size size) fit
 
 read_view : (region : Region) (state : BumpState) (party : ℕ) (layout : Layout) (now : Option (Option OngoingCall)) →
-    slice_get state.parties party ≡ now → StepView region state (Read party layout) (read region state party layout now)
+    slice_get state.calls party ≡ now → StepView region state (Read party layout) (read region state party layout now)
 read_view region state party layout None is = passes (Read party layout)
 read_view region state party layout (Some (Some call)) is = passes (Read party layout)
 read_view region state party layout (Some None) is =
@@ -79,53 +79,53 @@ call_view region state party call false true is same fit = loses party call is (
 call_view region state party call false false is same fit = refuses_loss party call is (apart_from_test state.position call.seen same) fit
 
 exchange_view : (region : Region) (state : BumpState) (party : ℕ) (now : Option (Option OngoingCall)) →
-    slice_get state.parties party ≡ now → StepView region state (Exchange party) (exchange region state party now)
+    slice_get state.calls party ≡ now → StepView region state (Exchange party) (exchange region state party now)
 exchange_view region state party None is = passes (Exchange party)
 exchange_view region state party (Some None) is = passes (Exchange party)
 exchange_view region state party (Some (Some call)) is =
     call_view region state party call (state.position == call.seen) (fits region state.position call.layout) is refl refl
 
 load_view : (region : Region) (state : BumpState) (party : ℕ) (now : Option (Option OngoingCall)) →
-    slice_get state.parties party ≡ now → StepView region state (Load party) (load state now)
+    slice_get state.calls party ≡ now → StepView region state (Load party) (load state now)
 load_view region state party None is = passes (Load party)
 load_view region state party (Some (Some call)) is = passes (Load party)
 load_view region state party (Some None) is = loads party is
 
 pub step_view : (region : Region) (state : BumpState) (step : BumpStep) → StepView region state step (bump_step region state step)
-step_view region state (Read party layout) = read_view region state party layout (slice_get state.parties party) refl
-step_view region state (Exchange party) = exchange_view region state party (slice_get state.parties party) refl
-step_view region state (Load party) = load_view region state party (slice_get state.parties party) refl
+step_view region state (Read party layout) = read_view region state party layout (slice_get state.calls party) refl
+step_view region state (Exchange party) = exchange_view region state party (slice_get state.calls party) refl
+step_view region state (Load party) = load_view region state party (slice_get state.calls party) refl
 step_view region state Clear = clears
 
 -- PARTIES
 
 -- a step of another party leaves a party as it is
 pub others_stay : (region : Region) (state : BumpState) (step : BumpStep) (move : BumpMove) (party : ℕ) → StepView region state step move →
-    is_by party step ≡ false → slice_get move.state.parties party ≡ slice_get state.parties party
+    is_by party step ≡ false → slice_get move.state.calls party ≡ slice_get state.calls party
 others_stay region state step move party (sees other layout idle asks fit) by =
-    slice_get-set_other state.parties other party _ (λ same. apart_from_test other party by (sym same))
+    slice_get-set_other state.calls other party _ (λ same. apart_from_test other party by (sym same))
 others_stay region state step move party (refuses_read other layout idle asks fit) by =
-    slice_get-set_other state.parties other party _ (λ same. apart_from_test other party by (sym same))
+    slice_get-set_other state.calls other party _ (λ same. apart_from_test other party by (sym same))
 others_stay region state step move party (wins other call is same) by =
-    slice_get-set_other state.parties other party _ (λ same. apart_from_test other party by (sym same))
+    slice_get-set_other state.calls other party _ (λ same. apart_from_test other party by (sym same))
 others_stay region state step move party (loses other call is apart fit) by =
-    slice_get-set_other state.parties other party _ (λ same. apart_from_test other party by (sym same))
+    slice_get-set_other state.calls other party _ (λ same. apart_from_test other party by (sym same))
 others_stay region state step move party (refuses_loss other call is apart fit) by =
-    slice_get-set_other state.parties other party _ (λ same. apart_from_test other party by (sym same))
+    slice_get-set_other state.calls other party _ (λ same. apart_from_test other party by (sym same))
 others_stay region state step move party (loads other idle) by = refl
 others_stay region state step move party clears by = refl
 others_stay region state step move party (passes other) by = refl
 
 -- what is written to a party's place is then there
 pub written : (state : BumpState) (other party : ℕ) (was now : Option OngoingCall) → (other == party) ≡ true →
-    slice_get state.parties other ≡ Some was → slice_get (slice_set state.parties other now) party ≡ Some now
+    slice_get state.calls other ≡ Some was → slice_get (slice_set state.calls other now) party ≡ Some now
 written state other party was now by is =
-    ap (slice_get (slice_set state.parties other now)) (sym (same_from_test other party by))
-    ∙ slice_get-set_same state.parties other now was is
+    ap (slice_get (slice_set state.calls other now)) (sym (same_from_test other party by))
+    ∙ slice_get-set_same state.calls other now was is
 
 -- the call of a party whose place was written
 pub call_written : (state : BumpState) (other party : ℕ) (was now : Option OngoingCall) (call : OngoingCall) → (other == party) ≡ true →
-    slice_get state.parties other ≡ Some was → slice_get (slice_set state.parties other now) party ≡ Some (Some call) → now ≡ Some call
+    slice_get state.calls other ≡ Some was → slice_get (slice_set state.calls other now) party ≡ Some (Some call) → now ≡ Some call
 call_written state other party was now call by is in_call =
     same_Some now (Some call) (sym (written state other party was now by is) ∙ in_call)
 
@@ -133,7 +133,7 @@ call_written state other party was now call by is in_call =
 pub idle_or_in_call : (state : BumpState) (other party : ℕ) (call : OngoingCall) → (other == party) ≡ true → IsIdle state other →
     IsInCall state party call → ⊥
 idle_or_in_call state other party call by idle is =
-    let both : Some None ≡ Some (Some call) = sym idle ∙ ap (slice_get state.parties) (same_from_test other party by) ∙ is in
+    let both : Some None ≡ Some (Some call) = sym idle ∙ ap (slice_get state.calls) (same_from_test other party by) ∙ is in
     let none : None ≡ Some call = same_Some None (Some call) both in
     cc
 
@@ -141,13 +141,13 @@ idle_or_in_call state other party call by idle is =
 pub one_call : (state : BumpState) (other party : ℕ) (call own : OngoingCall) → (other == party) ≡ true →
     IsInCall state other call → IsInCall state party own → call ≡ own
 one_call state other party call own by is in_call =
-    let both : Some (Some call) ≡ Some (Some own) = sym is ∙ ap (slice_get state.parties) (same_from_test other party by) ∙ in_call in
+    let both : Some (Some call) ≡ Some (Some own) = sym is ∙ ap (slice_get state.calls) (same_from_test other party by) ∙ in_call in
     same_Some call own (same_Some (Some call) (Some own) both)
 
 pub in_call_or_idle : (state : BumpState) (other party : ℕ) (call : OngoingCall) → (other == party) ≡ true →
     IsInCall state other call → IsIdle state party → ⊥
 in_call_or_idle state other party call by is idle =
-    let both : Some None ≡ Some (Some call) = sym idle ∙ sym (ap (slice_get state.parties) (same_from_test other party by)) ∙ is in
+    let both : Some None ≡ Some (Some call) = sym idle ∙ sym (ap (slice_get state.calls) (same_from_test other party by)) ∙ is in
     let none : None ≡ Some call = same_Some None (Some call) both in
     cc
 
@@ -156,14 +156,14 @@ in_call_or_idle state other party call by is idle =
 -- what is written fits, and so each call fits afterwards
 pub all_fitting-set : (region : Region) (state : BumpState) (position party : ℕ) (now : Option OngoingCall) → AllFitting region state →
     IfSome now (IsFitting region) →
-    AllFitting region (record { position = position; parties = slice_set state.parties party now })
+    AllFitting region (record { position = position; calls = slice_set state.calls party now })
 all_fitting-set region state position party None old new = λ other call is.
-    elim (slice_get-set state.parties party other None (Some call) is) [
+    elim (slice_get-set state.calls party other None (Some call) is) [
       | inl before ↦ old other call before
       | inr now ↦ let none : None ≡ Some call = now.1 in absurd (cc)
     ]
 all_fitting-set region state position party (Some written) old new = λ other call is.
-    elim (slice_get-set state.parties party other (Some written) (Some call) is) [
+    elim (slice_get-set state.calls party other (Some written) (Some call) is) [
       | inl before ↦ old other call before
       | inr now ↦ subst (IsFitting region) (same_Some written call now.1) new
     ]

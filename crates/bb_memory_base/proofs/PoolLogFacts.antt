@@ -19,18 +19,18 @@ use Rattle.bb_memory_base.proofs.PoolHolders.{holder_in_log}
 
 -- the machine has no such party, and it holds nothing
 record IsAbsent (state : PoolState) (party : ℕ) : Type 0 where
-  nowhere : slice_get state.passes party ≡ None
+  nowhere : slice_get state.calls party ≡ None
   holds : (bucket : ℕ) → ¬ IsHolder state bucket party
 
 -- who tries a bucket is there, and is another
 tries_is_another : (state : PoolState) (other party bucket : ℕ) → IsNext state other bucket → IsAbsent state party → other ≢ party
 tries_is_another state other party bucket next absent same =
-    none-some next.pass (sym absent.nowhere ∙ slice_get-same state.passes other party (Some next.pass) same next.there)
+    none-some next.pass (sym absent.nowhere ∙ slice_get-same state.calls other party (Some next.pass) same next.there)
 
 -- what another's pass becomes leaves the party nowhere
 still_nowhere : (state : PoolState) (other party : ℕ) (pass : Option ℕ) → other ≢ party → IsAbsent state party →
-    slice_get (slice_set state.passes other pass) party ≡ None
-still_nowhere state other party pass apart absent = slice_get-set_other state.passes other party pass apart ∙ absent.nowhere
+    slice_get (slice_set state.calls other pass) party ≡ None
+still_nowhere state other party pass apart absent = slice_get-set_other state.calls other party pass apart ∙ absent.nowhere
 
 -- a holder that is another leaves the party with nothing
 still_no_holder : (state : PoolState) (bucket party b : ℕ) (before after : Option ℕ) →

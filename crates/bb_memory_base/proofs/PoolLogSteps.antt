@@ -19,14 +19,14 @@ use Rattle.bb_memory_base.proofs.PoolFlags.{free_from_flag, taken_from_flag, fla
 -- WHERE A PASS IS
 
 pass-set : (state : PoolState) (other party bucket : ℕ) (before after : Option ℕ) → IsNext state other bucket →
-    slice_get state.passes party ≡ Some before →
-    slice_get (slice_set state.passes other after) party ≡ Some (if other == party then after else before)
+    slice_get state.calls party ≡ Some before →
+    slice_get (slice_set state.calls other after) party ≡ Some (if other == party then after else before)
 pass-set state other party bucket before after next there = elim (cases_eq other party) [
   | inl same ↦
-      slice_get-set_same state.passes other party after next.pass same next.there
+      slice_get-set_same state.calls other party after next.pass same next.there
       ∙ ap (λ (b : Bool). Some (if b then after else before)) (sym (test_same other party same))
   | inr apart ↦
-      slice_get-set_other state.passes other party after apart ∙ there
+      slice_get-set_other state.calls other party after apart ∙ there
       ∙ ap (λ (b : Bool). Some (if b then after else before)) (sym (test_apart other party apart))
 ]
 
@@ -40,8 +40,8 @@ pass_by party pass step outcome = if is_by party step then pass_after pass outco
 
 -- that is where the machine has it
 step_pass : (state : PoolState) (step : PoolStep) (move : PoolMove) (party : ℕ) (pass : Option ℕ) →
-    StepKind state step move → slice_get state.passes party ≡ Some pass →
-    slice_get move.state.passes party ≡ Some (pass_by party pass step move.outcome)
+    StepKind state step move → slice_get state.calls party ≡ Some pass →
+    slice_get move.state.calls party ≡ Some (pass_by party pass step move.outcome)
 step_pass state step move party pass (takes other bucket next free) there =
     pass-set state other party bucket pass None next there
 step_pass state step move party pass (loses other bucket holder next taken more) there =
@@ -63,8 +63,8 @@ pass_through-log pass true entry log = refl
 pass_through-log pass false entry log = refl
 
 steps_pass : (state : PoolState) (steps : List PoolStep) (party : ℕ) (pass : Option ℕ) →
-    slice_get state.passes party ≡ Some pass →
-    slice_get (pool_after state steps).passes party ≡ Some (pass_through pass (entries_by party (pool_history state steps)))
+    slice_get state.calls party ≡ Some pass →
+    slice_get (pool_after state steps).calls party ≡ Some (pass_through pass (entries_by party (pool_history state steps)))
 steps_pass state [] party pass there = there
 steps_pass state (step ∷ steps) party pass there =
     let move : PoolMove = pool_step state step in
@@ -81,7 +81,7 @@ idle_at_opening (suc n) (suc party) made = idle_at_opening n party (omega arith)
 
 -- the pass of a party that was made stands in its log
 pub log_pass : (scene : PoolScene) (steps : List PoolStep) (party : ℕ) → party < scene.parties →
-    slice_get (left_by scene steps).passes party ≡ Some (pass_in (log_of scene steps party))
+    slice_get (left_by scene steps).calls party ≡ Some (pass_in (log_of scene steps party))
 log_pass scene steps party made =
     steps_pass (opening_state scene) steps party None (idle_at_opening scene.parties party made)
 
@@ -178,7 +178,7 @@ tries : (scene : PoolScene) (flags : List Bool) (logs : List PoolLog) (party : �
     pool_step (left_by scene agree.steps) (Try party) ≡ try_flag (left_by scene agree.steps) party bucket found
 tries scene flags logs party log bucket agree made at next found is =
     let state : PoolState = left_by scene agree.steps in
-    let pass : slice_get state.passes party ≡ Some (pass_in log) =
+    let pass : slice_get state.calls party ≡ Some (pass_in log) =
     log_pass scene agree.steps party made ∙ ap (λ (l : PoolLog). Some (pass_in l)) (agree.each party log at) in
     ap (try_next state party) pass
     ∙ ap (λ (b : ℕ). try_flag state party b (slice_get state.holders b)) next

@@ -5,9 +5,9 @@ use Rattle.std.proofs.lemmas.Bool.{cases_eq}
 use Rattle.std.proofs.lemmas.Option.{same_Some}
 use Rattle.std.proofs.lemmas.List.{length-replicate}
 use Rattle.bb_memory_base.specs.PoolGeometry.{IsPoolGeometry}
-use Rattle.bb_memory_base.specs.PoolMachine.{PoolScene, PoolState, PoolMove, IsTaken, IsInPass, pool_step, pool_after, opening_state}
+use Rattle.bb_memory_base.specs.PoolMachine.{PoolScene, PoolState, PoolMove, IsTaken, IsInCall, pool_step, pool_after, opening_state}
 use Rattle.bb_memory_base.specs.PoolHistory.{entry_of, PoolEntry, pool_history, history_of}
-use Rattle.bb_memory_base.specs.PoolCalls.{IsLossOf, LosesAt, IsRefusedAt, FoundHeld}
+use Rattle.bb_memory_base.specs.PoolCalls.{IsLossAt, LosesAt, IsRefusedAt, FoundHeld}
 use Rattle.bb_memory_base.specs.declared.steps.pool.PoolStep.{PoolStep}
 use Rattle.bb_memory_base.specs.declared.steps.pool.PoolStep.TheVariants.{Try}
 use Rattle.bb_memory_base.specs.declared.steps.pool.PoolOutcome.{PoolOutcome}
@@ -24,12 +24,12 @@ progress_of (Some pass) = unwrap_or pass 0
 progress_of None = 0
 
 progress_next : (state : PoolState) (other party bucket : ℕ) → other ≡ party → IsNext state other bucket →
-    progress_of (slice_get state.passes party) ≡ bucket
+    progress_of (slice_get state.calls party) ≡ bucket
 progress_next state other party bucket same next =
-    ap progress_of (slice_get-same state.passes other party (Some next.pass) same next.there) ∙ next.at
+    ap progress_of (slice_get-same state.calls other party (Some next.pass) same next.there) ∙ next.at
 
 in_pass_from_progress : (state : PoolState) (party bucket : ℕ) (found : Option (Option ℕ)) →
-    slice_get state.passes party ≡ found → bucket < progress_of found → IsInPass state party
+    slice_get state.calls party ≡ found → bucket < progress_of found → (at : ℕ) × IsInCall state party at
 in_pass_from_progress state party bucket None there less = absurd (omega arith)
 in_pass_from_progress state party bucket (Some None) there less = absurd (omega arith)
 in_pass_from_progress state party bucket (Some (Some next)) there less = (next, there)
@@ -44,7 +44,7 @@ same_party party other same = cc
 at_refusal : (state : PoolState) (step : PoolStep) (move : PoolMove) (party last bucket : ℕ) →
     StepKind state step move → step ≡ Try party → move.outcome ≡ RefusedAtLoss last →
     bucket < length state.holders →
-    (bucket < progress_of (slice_get state.passes party)) ⊎ IsLossOf bucket move.outcome
+    (bucket < progress_of (slice_get state.calls party)) ⊎ IsLossAt bucket move.outcome
 at_refusal state step move party last bucket (takes other taken next free) by refusal below = absurd (cc)
 at_refusal state step move party last bucket (loses other lost holder next taken more) by refusal below = absurd (cc)
 at_refusal state step move party last bucket (gives other returned taken) by refusal below = absurd (cc)
@@ -58,19 +58,19 @@ at_refusal state step move party last bucket (is_refused other lost holder next 
 
 -- a pass that is over has lost none
 over : (state : PoolState) (other party bucket next : ℕ) → IsNext state other next →
-    bucket < progress_of (slice_get (slice_set state.passes other None) party) →
-    bucket < progress_of (slice_get state.passes party)
+    bucket < progress_of (slice_get (slice_set state.calls other None) party) →
+    bucket < progress_of (slice_get state.calls party)
 over state other party bucket at next less = elim (cases_eq other party) [
   | inl same ↦
-      let none = ap progress_of (slice_get-set_same state.passes other party None next.pass same next.there) in
+      let none = ap progress_of (slice_get-set_same state.calls other party None next.pass same next.there) in
       absurd (omega (arith, none, less))
-  | inr apart ↦ omega (arith, ap progress_of (slice_get-set_other state.passes other party None apart), less)
+  | inr apart ↦ omega (arith, ap progress_of (slice_get-set_other state.calls other party None apart), less)
 ]
 
 -- what a pass has lost after a step was lost before the step, or is lost at it
 at_progress : (state : PoolState) (step : PoolStep) (move : PoolMove) (party bucket : ℕ) →
-    StepKind state step move → bucket < progress_of (slice_get move.state.passes party) →
-    (bucket < progress_of (slice_get state.passes party)) ⊎ ((step ≡ Try party) × IsLossOf bucket move.outcome)
+    StepKind state step move → bucket < progress_of (slice_get move.state.calls party) →
+    (bucket < progress_of (slice_get state.calls party)) ⊎ ((step ≡ Try party) × IsLossAt bucket move.outcome)
 at_progress state step move party bucket (takes other taken next free) less =
     inl (over state other party bucket taken next less)
 at_progress state step move party bucket (is_refused other lost holder next taken none) less =
@@ -79,22 +79,22 @@ at_progress state step move party bucket (gives other returned taken) less = inl
 at_progress state step move party bucket (passes other) less = inl less
 at_progress state step move party bucket (loses other lost holder next taken more) less = elim (cases_eq other party) [
   | inl same ↦
-      let after = slice_get-set_same state.passes other party (Some (lost + 1)) next.pass same next.there in
-      let now : progress_of (slice_get (slice_set state.passes other (Some (lost + 1))) party) ≡ lost + 1 =
+      let after = slice_get-set_same state.calls other party (Some (lost + 1)) next.pass same next.there in
+      let now : progress_of (slice_get (slice_set state.calls other (Some (lost + 1))) party) ≡ lost + 1 =
       ap progress_of after in
       let before = progress_next state other party lost same next in
       elim (below_or_at bucket lost (omega arith))
-      as (λ _. (bucket < progress_of (slice_get state.passes party)) ⊎ ((Try other ≡ Try party) × (lost ≡ bucket))) [
+      as (λ _. (bucket < progress_of (slice_get state.calls party)) ⊎ ((Try other ≡ Try party) × (lost ≡ bucket))) [
         | inl below ↦ inl (omega (arith, before, below))
         | inr at ↦ inr (ap Try same, at)
       ]
   | inr apart ↦
-      inl (omega (arith, ap progress_of (slice_get-set_other state.passes other party (Some (lost + 1)) apart), less))
+      inl (omega (arith, ap progress_of (slice_get-set_other state.calls other party (Some (lost + 1)) apart), less))
 ]
 
 -- what is lost is taken
 taken_at_loss : (state : PoolState) (step : PoolStep) (move : PoolMove) (bucket : ℕ) → StepKind state step move →
-    IsLossOf bucket move.outcome → IsTaken state bucket
+    IsLossAt bucket move.outcome → IsTaken state bucket
 taken_at_loss state step move bucket (takes other taken next free) lost = absurd lost
 taken_at_loss state step move bucket (gives other returned taken) lost = absurd lost
 taken_at_loss state step move bucket (passes other) lost = absurd lost
@@ -107,18 +107,18 @@ taken_at_loss state step move bucket (is_refused other at holder next taken none
 
 -- the party is in a pass from after step k to step last
 abbrev PassLasts : PoolState → List PoolStep → ℕ → ℕ → ℕ → Type 0
-PassLasts state steps party k last = (j : ℕ) → k < j → j ≤ last → IsInPass (pool_after state (take j steps)) party
+PassLasts state steps party k last = (j : ℕ) → k < j → j ≤ last → (at : ℕ) × IsInCall (pool_after state (take j steps)) party at
 
 -- the pass that is refused at step last lost the bucket at one of the steps, or before them
 data Behind (state : PoolState) (steps : List PoolStep) (party last bucket : ℕ) : Type 0 where
   lost_at : (k : ℕ) → k ≤ last → LosesAt (pool_history state steps) party bucket k →
       PassLasts state steps party k last → Behind state steps party last bucket
-  earlier : bucket < progress_of (slice_get state.passes party) →
-      ((j : ℕ) → j ≤ last → IsInPass (pool_after state (take j steps)) party) → Behind state steps party last bucket
+  earlier : bucket < progress_of (slice_get state.calls party) →
+      ((j : ℕ) → j ≤ last → (at : ℕ) × IsInCall (pool_after state (take j steps)) party at) → Behind state steps party last bucket
 
-from_start : (state : PoolState) (step : PoolStep) (steps : List PoolStep) (party last : ℕ) → IsInPass state party →
-    ((j : ℕ) → j ≤ last → IsInPass (pool_after (pool_step state step).state (take j steps)) party) → (j : ℕ) →
-    j ≤ suc last → IsInPass (pool_after state (take j (step ∷ steps))) party
+from_start : (state : PoolState) (step : PoolStep) (steps : List PoolStep) (party last : ℕ) → (at : ℕ) × IsInCall state party at →
+    ((j : ℕ) → j ≤ last → (at : ℕ) × IsInCall (pool_after (pool_step state step).state (take j steps)) party at) → (j : ℕ) →
+    j ≤ suc last → (at : ℕ) × IsInCall (pool_after state (take j (step ∷ steps))) party at
 from_start state step steps party last start rest zero within = start
 from_start state step steps party last start rest (suc j) within = rest j (omega arith)
 
@@ -129,7 +129,7 @@ from_next state step steps party last k rest zero after within = absurd (omega a
 from_next state step steps party last k rest (suc j) after within = rest j (omega arith) (omega arith)
 
 after_first : (state : PoolState) (step : PoolStep) (steps : List PoolStep) (party last : ℕ) →
-    ((j : ℕ) → j ≤ last → IsInPass (pool_after (pool_step state step).state (take j steps)) party) →
+    ((j : ℕ) → j ≤ last → (at : ℕ) × IsInCall (pool_after (pool_step state step).state (take j steps)) party at) →
     PassLasts state (step ∷ steps) party 0 (suc last)
 after_first state step steps party last rest zero after within = absurd (omega arith)
 after_first state step steps party last rest (suc j) after within = rest j (omega arith)
@@ -142,7 +142,7 @@ entry_parts step other outcome found same =
     (ap (λ (e : PoolEntry). e.step) parts, ap (λ (e : PoolEntry). e.outcome) parts)
 
 loses_first : (state : PoolState) (step : PoolStep) (steps : List PoolStep) (party bucket : ℕ) → step ≡ Try party →
-    IsLossOf bucket (pool_step state step).outcome → LosesAt (pool_history state (step ∷ steps)) party bucket 0
+    IsLossAt bucket (pool_step state step).outcome → LosesAt (pool_history state (step ∷ steps)) party bucket 0
 loses_first state step steps party bucket by lost = record {
   outcome = (pool_step state step).outcome;
   there = ap (λ (s : PoolStep). Some (entry_of s (pool_step state step).outcome)) by;
@@ -168,9 +168,9 @@ all_behind state (step ∷ steps) party zero bucket refused below =
           (λ j after within. absurd (omega arith))
     ]
   where
-    only_now : bucket < progress_of (slice_get state.passes party) → (j : ℕ) → j ≤ zero →
-        IsInPass (pool_after state (take j (step ∷ steps))) party
-    only_now before zero within = in_pass_from_progress state party bucket (slice_get state.passes party) refl before
+    only_now : bucket < progress_of (slice_get state.calls party) → (j : ℕ) → j ≤ zero →
+        (at : ℕ) × IsInCall (pool_after state (take j (step ∷ steps))) party at
+    only_now before zero within = in_pass_from_progress state party bucket (slice_get state.calls party) refl before
     only_now before (suc j) within = absurd (omega arith)
 all_behind state (step ∷ steps) party (suc last) bucket refused below =
     let move : PoolMove = pool_step state step in
@@ -185,7 +185,7 @@ all_behind state (step ∷ steps) party (suc last) bucket refused below =
           (from_next state step steps party last k pass)
       | earlier less pass ↦ elim (at_progress state step move party bucket (kind_of state step) less) [
         | inl before ↦
-            let start = in_pass_from_progress state party bucket (slice_get state.passes party) refl before in
+            let start = in_pass_from_progress state party bucket (slice_get state.calls party) refl before in
             earlier before (from_start state step steps party last start pass)
         | inr lost ↦
             let first = loses_first state step steps party bucket lost.0 lost.1 in
@@ -199,7 +199,7 @@ taken_at_entry : (state : PoolState) (steps : List PoolStep) (party bucket k : �
 taken_at_entry state [] party bucket k lost = absurd (let there = lost.there in cc)
 taken_at_entry state (step ∷ steps) party bucket zero lost =
     let entry = entry_parts step (Try party) (pool_step state step).outcome lost.outcome lost.there in
-    taken_at_loss state step (pool_step state step) bucket (kind_of state step) (subst (IsLossOf bucket) (sym entry.1) lost.loss)
+    taken_at_loss state step (pool_step state step) bucket (kind_of state step) (subst (IsLossAt bucket) (sym entry.1) lost.loss)
 taken_at_entry state (step ∷ steps) party bucket (suc k) lost =
     let later : LosesAt (pool_history (pool_step state step).state steps) party bucket k =
     record { outcome = lost.outcome; there = lost.there; loss = lost.loss } in

@@ -13,7 +13,7 @@ use Rattle.bb_memory_base.specs.PoolGeometry.{PoolGeometry, bucket_place, IsPool
 use Rattle.bb_memory_base.specs.PoolObject.{IsAt, IsHeld, IsWithin, MayGive, chunk_in}
 use Rattle.bb_memory_base.specs.PoolMachine.{PoolScene, PoolState, PoolMove, IsHolder, IsTaken, pool_step, pool_after, opening_state, left_by}
 use Rattle.bb_memory_base.specs.PoolHistory.{PoolEntry, history_of, pool_history, outcomes_of}
-use Rattle.bb_memory_base.specs.PoolCalls.{AreCalls, PoolCall, AreAsked, IsPoolRun}
+use Rattle.bb_memory_base.specs.PoolCalls.{IsCallRun, PoolCall, AreAsked, IsPoolRun}
 use Rattle.bb_memory_base.specs.declared.layout.Layout.{Layout}
 use Rattle.bb_memory_base.specs.declared.steps.pool.PoolStep.{PoolStep}
 use Rattle.bb_memory_base.specs.declared.steps.pool.PoolOutcome.{PoolOutcome}
@@ -263,7 +263,7 @@ outcomes-drop (entry ∷ history) (suc k) = outcomes-drop history k
 pub run_at_step : (scene : PoolScene) (steps : List PoolStep) (layouts : List Layout) (live : List Chunk)
     (k : ℕ) → IsPoolRun scene steps layouts live →
     (there : List Chunk) × IsPoolRun scene (take k steps) (take k layouts) there
-    × AreCalls scene.geometry there (drop k layouts) (drop k (history_of scene steps)) live
+    × IsCallRun scene.geometry there (drop k layouts) (drop k (history_of scene steps)) live
 run_at_step scene steps layouts live k run =
     let opening : PoolState = opening_state scene in
     let history : List PoolEntry = pool_history opening steps in

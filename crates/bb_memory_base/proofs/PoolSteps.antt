@@ -11,7 +11,7 @@ use Rattle.bb_memory_base.specs.declared.steps.pool.PoolOutcome.TheVariants.{Los
 -- the party's pass is at this bucket, or begins there
 pub record IsNext (state : PoolState) (party bucket : ℕ) : Type 0 where
   pub pass : Option ℕ
-  pub there : slice_get state.passes party ≡ Some pass
+  pub there : slice_get state.calls party ≡ Some pass
   pub at : unwrap_or pass 0 ≡ bucket
 
 -- a step that makes this move is one of these
@@ -64,7 +64,7 @@ kind_of_exchange state party bucket (Some None) next is = takes party bucket nex
 kind_of_exchange state party bucket (Some (Some holder)) next is =
     kind_of_loss state party bucket holder (nat_lt (bucket + 1) (length state.holders)) refl next is
 
-kind_of_try : (state : PoolState) (party : ℕ) (found : Option (Option ℕ)) → slice_get state.passes party ≡ found →
+kind_of_try : (state : PoolState) (party : ℕ) (found : Option (Option ℕ)) → slice_get state.calls party ≡ found →
     StepKind state (Try party) (try_next state party found)
 kind_of_try state party None is = passes (Try party)
 kind_of_try state party (Some pass) is =
@@ -87,7 +87,7 @@ kind_of_give state party bucket (Some (Some holder)) is = kind_of_return state p
 
 -- each step is of some kind
 pub kind_of : (state : PoolState) (step : PoolStep) → StepKind state step (pool_step state step)
-kind_of state (Try party) = kind_of_try state party (slice_get state.passes party) refl
+kind_of state (Try party) = kind_of_try state party (slice_get state.calls party) refl
 kind_of state (GiveBack party bucket) = kind_of_give state party bucket (slice_get state.holders bucket) refl
 
 -- HOW MANY FLAGS THERE ARE

@@ -22,7 +22,8 @@ pub data BumpCall : Type 0 where
 
 -- From `old` the bump object may make this call, and goes on to `new`. A clear empties every list, also the empty one.
 abbrev pub CallStep : Region → List Chunk → BumpCall → List Chunk → Type 0
-CallStep region old (Allocate layout answer) new = Allocates (bump_object region) old layout answer new
+CallStep region old (Allocate layout answer) new =
+    Allocates (bump_object region) old layout answer new
 CallStep region old ClearAll new = new ≡ []
 
 -- the calls, one after another, are a run of the bump object from `old` to `new`
@@ -46,7 +47,7 @@ layout_in _ = None
 -- the layout that a step is about: a read's own, or that of the call that its party is in
 abbrev pub asked_by : BumpState → BumpStep → Option Layout
 asked_by state (Read party layout) = Some layout
-asked_by state (Exchange party) = layout_in (slice_get state.parties party)
+asked_by state (Exchange party) = layout_in (slice_get state.calls party)
 asked_by state _ = None
 
 -- the call that a step decides: a win, a refusal at a read or a loss, and a clear decide one, and other steps none

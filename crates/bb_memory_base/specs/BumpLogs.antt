@@ -1,9 +1,8 @@
 -- Parties' logs: what a log says of its party, and when a bump's position and its parties' logs agree.
-use Rattle.std.specs.Prelude.{ℕ, ◌≡◌, List, [], ◌∷◌, ◌++◌, Option, Some, None, All, IfSome, ◌≤◌, option_map, slice_get, slice_set, max}
+use Rattle.std.specs.Prelude.{ℕ, ◌≡◌, List, [], ◌∷◌, ◌++◌, Option, Some, None, All, IfSome, ◌≤◌, fold, option_map, slice_get, slice_set, max}
 use Rattle.bb_memory_base.specs.Region.{Region}
 use Rattle.bb_memory_base.specs.BumpMachine.{OngoingCall, BumpScene, position_behind, left_by}
 use Rattle.bb_memory_base.specs.BumpHistory.{BumpEntry, BumpLog, history_of, log_of}
-use Rattle.bb_memory_base.specs.declared.layout.Layout.{Layout}
 use Rattle.bb_memory_base.specs.declared.steps.bump.BumpStep.{BumpStep}
 use Rattle.bb_memory_base.specs.declared.steps.bump.BumpStep.TheVariants.{Read}
 use Rattle.bb_memory_base.specs.declared.steps.bump.BumpOutcome.{BumpOutcome}
@@ -11,32 +10,25 @@ use Rattle.bb_memory_base.specs.declared.steps.bump.BumpOutcome.TheVariants.{See
 
 -- THE CALL OF A PARTY
 
--- the layout that a step of a party is about: a read's own, or that of the call that the party is in
-abbrev pub layout_of : Option OngoingCall → BumpStep → Option Layout
-layout_of call (Read party layout) = Some layout
-layout_of call _ = option_map (λ ongoing. ongoing.layout) call
+-- the call, which has now seen this position
+abbrev pub seen_at : ℕ → OngoingCall → OngoingCall
+seen_at position call = record { layout = call.layout; seen = position }
 
--- a call for the layout, which has seen this position
-abbrev pub call_seeing : ℕ → Option Layout → Option OngoingCall
-call_seeing position asked =
-    option_map (λ layout. let call : OngoingCall = record { layout = layout; seen = position } in call) asked
+-- what a party is in after an outcome of its own step: a read that sees a position begins a call, a loss at which the layout fits
+-- goes on with it, and a win or a refusal ends it
+abbrev pub call_left : BumpOutcome → BumpStep → Option OngoingCall → Option OngoingCall
+call_left (Sees position) (Read party layout) call = Some (record { layout = layout; seen = position })
+call_left (Loses position) step call = option_map (λ ongoing. seen_at position ongoing) call
+call_left (Wins chunk) step call = None
+call_left (RefusedAtRead position) step call = None
+call_left (RefusedAtLoss position) step call = None
+call_left _ step call = call
 
--- what a party is in after an outcome of a step about this layout
-abbrev pub call_left : Option OngoingCall → Option Layout → BumpOutcome → Option OngoingCall
-call_left call asked (Sees position) = call_seeing position asked
-call_left call asked (Loses position) = call_seeing position asked
-call_left call asked (Wins chunk) = None
-call_left call asked (RefusedAtRead position) = None
-call_left call asked (RefusedAtLoss position) = None
-call_left call asked _ = call
-
--- what a party is in after an entry of its own
 abbrev pub call_after : Option OngoingCall → BumpEntry → Option OngoingCall
-call_after call entry = call_left call (layout_of call entry.step) entry.outcome
+call_after call entry = call_left entry.outcome entry.step call
 
 abbrev pub call_through : Option OngoingCall → BumpLog → Option OngoingCall
-call_through call [] = call
-call_through call (entry ∷ log) = call_through (call_after call entry) log
+call_through call log = fold call_after call log
 
 -- the call that a party with this log is in, or None where it is idle
 abbrev pub call_in : BumpLog → Option OngoingCall
@@ -54,9 +46,14 @@ position_in region (RefusedAtLoss position) = Some position
 position_in region (Loaded position) = Some position
 position_in region _ = None
 
--- the entry's position, if it has one, is at most this
+-- the entry's position, if it has one, is at least this, and at most this
+abbrev pub HasPositionFrom : ℕ → Region → BumpEntry → Type 0
+HasPositionFrom least region entry =
+    IfSome (position_in region entry.outcome) (λ position. least ≤ position)
+
 abbrev pub HasPositionUpTo : ℕ → Region → BumpEntry → Type 0
-HasPositionUpTo most region entry = IfSome (position_in region entry.outcome) (λ position. position ≤ most)
+HasPositionUpTo most region entry =
+    IfSome (position_in region entry.outcome) (λ position. position ≤ most)
 
 abbrev pub greater_of : ℕ → Option ℕ → ℕ
 greater_of seen (Some position) = max seen position
@@ -64,8 +61,7 @@ greater_of seen None = seen
 
 -- the greatest of a position and those in a log
 abbrev pub greatest_in : Region → ℕ → BumpLog → ℕ
-greatest_in region seen [] = seen
-greatest_in region seen (entry ∷ log) = greatest_in region (greater_of seen (position_in region entry.outcome)) log
+greatest_in region seen log = fold (λ most entry. greater_of most (position_in region entry.outcome)) seen log
 
 -- what a party with this log has seen: the greatest position in it, or the opening where it is empty
 abbrev pub seen_in : BumpScene → BumpLog → ℕ
@@ -100,7 +96,8 @@ with_entry logs party log entry = slice_set logs party (log ++ entry ∷ [])
 
 -- an interleaving of this party's log with some logs of the others, which leaves this position: a list of steps, each
 -- allowed, that has as the party's steps exactly its log, in order
-pub record Interleaving (scene : BumpScene) (party : ℕ) (log : BumpLog) (position : ℕ) : Type 0 where
+pub record Interleaving (scene : BumpScene) (party : ℕ) (log : BumpLog) (position : ℕ)
+    : Type 0 where
   pub steps : List BumpStep
   pub allowed : AllAllowed (history_of scene steps)
   pub leaves : (left_by scene steps).position ≡ position

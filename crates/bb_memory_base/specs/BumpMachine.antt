@@ -20,7 +20,7 @@ pub record OngoingCall : Type 0 where
 -- the position, and of each party the call that it is in, or None where it is idle
 pub record BumpState : Type 0 where
   pub position : ℕ
-  pub parties : List (Option OngoingCall)
+  pub calls : List (Option OngoingCall)
 
 -- where a machine begins: its region, the position that it opens at, and how many parties it has
 pub record BumpScene : Type 0 where
@@ -30,13 +30,13 @@ pub record BumpScene : Type 0 where
 
 -- at the opening every party is idle
 abbrev pub opening_state : BumpScene → BumpState
-opening_state scene = record { position = scene.opening; parties = replicate scene.parties None }
+opening_state scene = record { position = scene.opening; calls = replicate scene.parties None }
 
 abbrev pub IsIdle : BumpState → ℕ → Type 0
-IsIdle state party = slice_get state.parties party ≡ Some None
+IsIdle state party = slice_get state.calls party ≡ Some None
 
 abbrev pub IsInCall : BumpState → ℕ → OngoingCall → Type 0
-IsInCall state party call = slice_get state.parties party ≡ Some (Some call)
+IsInCall state party call = slice_get state.calls party ≡ Some (Some call)
 
 -- CHUNKS
 
@@ -46,7 +46,8 @@ chunk_at region position layout = chunk_at_or_after (region.start + position) la
 
 -- that chunk ends inside the region
 abbrev pub fits : Region → ℕ → Layout → Bool
-fits region position layout = nat_le (chunk_end (chunk_at region position layout)) (region_end region)
+fits region position layout =
+    nat_le (chunk_end (chunk_at region position layout)) (region_end region)
 
 -- the position that ends with a chunk
 abbrev pub position_behind : Region → Chunk → ℕ
@@ -58,7 +59,8 @@ pub record IsFitting (region : Region) (call : OngoingCall) : Type 0 where
   pub fitting : fits region call.seen call.layout ≡ true
 
 abbrev pub AllFitting : Region → BumpState → Type 0
-AllFitting region state = (party : ℕ) (call : OngoingCall) → IsInCall state party call → IsFitting region call
+AllFitting region state =
+    (party : ℕ) (call : OngoingCall) → IsInCall state party call → IsFitting region call
 
 -- STEPS
 
@@ -113,17 +115,20 @@ passed state = record { outcome = Passed; state = state }
 abbrev pub moved : BumpState → ℕ → PartyMove → BumpMove
 moved state party turn = record {
   outcome = turn.outcome;
-  state = record { position = turn.position; parties = slice_set state.parties party turn.call };
+  state = record { position = turn.position; calls = slice_set state.calls party turn.call };
 }
 
 -- a read by a party that is idle (Some None), in a call (Some (Some call)) or not there (None)
 abbrev pub read : Region → BumpState → ℕ → Layout → Option (Option OngoingCall) → BumpMove
 read region state party layout (Some None) =
-    if layout.size == 0 then passed state else moved state party (read_move region state.position layout)
+    if layout.size == 0
+    then passed state
+    else moved state party (read_move region state.position layout)
 read region state party layout _ = passed state
 
 abbrev pub exchange : Region → BumpState → ℕ → Option (Option OngoingCall) → BumpMove
-exchange region state party (Some (Some call)) = moved state party (exchange_move region state.position call)
+exchange region state party (Some (Some call)) =
+    moved state party (exchange_move region state.position call)
 exchange region state party _ = passed state
 
 abbrev pub load : BumpState → Option (Option OngoingCall) → BumpMove
@@ -132,12 +137,13 @@ load state _ = passed state
 
 -- one atomic step
 abbrev pub bump_step : Region → BumpState → BumpStep → BumpMove
-bump_step region state (Read party layout) = read region state party layout (slice_get state.parties party)
-bump_step region state (Exchange party) = exchange region state party (slice_get state.parties party)
-bump_step region state (Load party) = load state (slice_get state.parties party)
+bump_step region state (Read party layout) =
+    read region state party layout (slice_get state.calls party)
+bump_step region state (Exchange party) = exchange region state party (slice_get state.calls party)
+bump_step region state (Load party) = load state (slice_get state.calls party)
 bump_step region state Clear = record {
   outcome = Cleared;
-  state = record { position = 0; parties = state.parties };
+  state = record { position = 0; calls = state.calls };
 }
 
 -- the state that a list of steps leaves

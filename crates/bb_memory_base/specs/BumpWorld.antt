@@ -11,9 +11,9 @@ pub record BumpWorld : Type 0 where
   pub state : BumpState
 
 abbrev pub world_of : ℕ → ℕ → ℕ → List (Option OngoingCall) → BumpWorld
-world_of start size position parties = record {
+world_of start size position calls = record {
   region = record { start = start; size = size };
-  state = record { position = position; parties = parties };
+  state = record { position = position; calls = calls };
 }
 
 -- its position is inside the region, and each call fits at what it has seen

@@ -5,7 +5,7 @@ use Rattle.bb_memory_base.specs.Object.{Allocates, Releases}
 use Rattle.bb_memory_base.specs.Run.{IsRun}
 use Rattle.bb_memory_base.specs.PoolGeometry.{PoolGeometry, bucket_place}
 use Rattle.bb_memory_base.specs.PoolObject.{IsAt, IsHeld, IsWithin, chunk_in, pool_object}
-use Rattle.bb_memory_base.specs.PoolMachine.{PoolScene, left_by, IsInPass}
+use Rattle.bb_memory_base.specs.PoolMachine.{PoolScene, left_by, IsInCall}
 use Rattle.bb_memory_base.specs.PoolHistory.{PoolLog, entry_of, outcomes_of, history_of}
 use Rattle.bb_memory_base.specs.declared.layout.Layout.{Layout}
 use Rattle.bb_memory_base.specs.declared.steps.pool.PoolStep.{PoolStep}
@@ -32,13 +32,14 @@ pub record AreAsked (geometry : PoolGeometry) (steps : List PoolStep)
   pub within : All (IsWithin geometry.bucket) layouts
 
 -- The calls of a history are a run of the pool object, from `old` to `new`.
-abbrev pub AreCalls : PoolGeometry → List Chunk → List Layout → PoolLog → List Chunk → Type 0
-AreCalls geometry old layouts history new =
+abbrev pub IsCallRun : PoolGeometry → List Chunk → List Layout → PoolLog → List Chunk → Type 0
+IsCallRun geometry old layouts history new =
     IsRun (PoolCall geometry) old layouts (outcomes_of history) new
 
 -- the takings and returns of the steps are a run of the pool object, from the empty list to this one
 abbrev pub IsPoolRun : PoolScene → List PoolStep → List Layout → List Chunk → Type 0
-IsPoolRun scene steps layouts live = AreCalls scene.geometry [] layouts (history_of scene steps) live
+IsPoolRun scene steps layouts live =
+    IsCallRun scene.geometry [] layouts (history_of scene steps) live
 
 -- REFUSED PASSES
 
@@ -48,30 +49,32 @@ pub record IsRefusedAt (history : PoolLog) (party k : ℕ) : Type 0 where
   pub there : slice_get history k ≡ Some (entry_of (Try party) (RefusedAtLoss bucket))
 
 -- a loss of this bucket
-abbrev pub IsLossOf : ℕ → PoolOutcome → Type 0
-IsLossOf bucket (Loses other) = other ≡ bucket
-IsLossOf bucket (RefusedAtLoss other) = other ≡ bucket
-IsLossOf bucket _ = ⊥
+abbrev pub IsLossAt : ℕ → PoolOutcome → Type 0
+IsLossAt bucket (Loses other) = other ≡ bucket
+IsLossAt bucket (RefusedAtLoss other) = other ≡ bucket
+IsLossAt bucket _ = ⊥
 
 -- entry k of the history is the party's, and a loss of this bucket
 pub record LosesAt (history : PoolLog) (party bucket k : ℕ) : Type 0 where
   pub outcome : PoolOutcome
   pub there : slice_get history k ≡ Some (entry_of (Try party) outcome)
-  pub loss : IsLossOf bucket outcome
+  pub loss : IsLossAt bucket outcome
 
 -- the party is in one pass from step k to the later step `last`: the pass doesn't end between them
 abbrev pub IsOnePass : PoolScene → List PoolStep → ℕ → ℕ → ℕ → Type 0
 IsOnePass scene steps party k last =
-    (j : ℕ) → k < j → j ≤ last → IsInPass (left_by scene (take j steps)) party
+    (j : ℕ) → k < j → j ≤ last → (bucket : ℕ) × IsInCall (left_by scene (take j steps)) party bucket
 
 -- after these steps the bucket is held in the run, whichever layouts were asked for
 abbrev pub IsHeldInRun : PoolScene → List PoolStep → ℕ → Type 0
 IsHeldInRun scene steps bucket =
-    (layouts : List Layout) (live : List Chunk) → IsPoolRun scene steps layouts live → IsHeld scene.geometry live bucket
+    (layouts : List Layout) (live : List Chunk) → IsPoolRun scene steps layouts live →
+    IsHeld scene.geometry live bucket
 
 -- The pass that is refused at step `last` found this bucket held: at some step of the pass the party lost the bucket, which was
 -- held then in the run.
-pub record FoundHeld (scene : PoolScene) (steps : List PoolStep) (party last bucket : ℕ) : Type 0 where
+pub record FoundHeld (scene : PoolScene) (steps : List PoolStep) (party last bucket : ℕ)
+    : Type 0 where
   pub step : ℕ
   pub before : step ≤ last
   pub one_pass : IsOnePass scene steps party step last

@@ -13,7 +13,7 @@ use Rattle.bb_memory_base.specs.declared.steps.pool.PoolOutcome.TheVariants.{Tak
 -- next, or None where it is idle
 pub record PoolState : Type 0 where
   pub holders : List (Option ℕ)
-  pub passes : List (Option ℕ)
+  pub calls : List (Option ℕ)
 
 -- where a machine begins: the buckets, and how many parties it has
 pub record PoolScene : Type 0 where
@@ -22,7 +22,8 @@ pub record PoolScene : Type 0 where
 
 -- the flags of so many buckets are free, and so many parties are idle
 abbrev pub all_free : ℕ → ℕ → PoolState
-all_free buckets parties = record { holders = replicate buckets None; passes = replicate parties None }
+all_free buckets parties =
+    record { holders = replicate buckets None; calls = replicate parties None }
 
 -- at the opening all flags are free, and every party is idle
 abbrev pub opening_state : PoolScene → PoolState
@@ -38,8 +39,9 @@ IsHolder state bucket party = slice_get state.holders bucket ≡ Some (Some part
 abbrev pub IsTaken : PoolState → ℕ → Type 0
 IsTaken state bucket = (party : ℕ) × IsHolder state bucket party
 
-abbrev pub IsInPass : PoolState → ℕ → Type 0
-IsInPass state party = (bucket : ℕ) × (slice_get state.passes party ≡ Some (Some bucket))
+-- the party is in a pass, which tries this bucket next
+abbrev pub IsInCall : PoolState → ℕ → ℕ → Type 0
+IsInCall state party bucket = slice_get state.calls party ≡ Some (Some bucket)
 
 -- STEPS
 
@@ -54,12 +56,12 @@ move_of outcome state = record { outcome = outcome; state = state }
 -- the bucket's holder is now this
 abbrev pub with_holder : PoolState → ℕ → Option ℕ → PoolState
 with_holder state bucket holder =
-    record { holders = slice_set state.holders bucket holder; passes = state.passes }
+    record { holders = slice_set state.holders bucket holder; calls = state.calls }
 
 -- the party's pass is now this
 abbrev pub with_pass : PoolState → ℕ → Option ℕ → PoolState
 with_pass state party pass =
-    record { holders = state.holders; passes = slice_set state.passes party pass }
+    record { holders = state.holders; calls = slice_set state.calls party pass }
 
 -- the party takes a free flag, and its pass ends
 abbrev pub taking : PoolState → ℕ → ℕ → PoolMove
@@ -102,8 +104,9 @@ give_flag state party bucket _ = passed state
 
 -- one atomic step
 abbrev pub pool_step : PoolState → PoolStep → PoolMove
-pool_step state (Try party) = try_next state party (slice_get state.passes party)
-pool_step state (GiveBack party bucket) = give_flag state party bucket (slice_get state.holders bucket)
+pool_step state (Try party) = try_next state party (slice_get state.calls party)
+pool_step state (GiveBack party bucket) =
+    give_flag state party bucket (slice_get state.holders bucket)
 
 -- the state that a list of steps leaves
 abbrev pub pool_after : PoolState → List PoolStep → PoolState

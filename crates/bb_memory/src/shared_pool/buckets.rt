@@ -1,86 +1,64 @@
 //! What both shared pools are: buckets with a flag each, on which any number of threads step.
-ghost use Rattle.std.specs.Prelude.{◌≡◌, ◌≢◌, ℕ, ◌<◌, ◌≤◌, ◌↔◌, ◌%◌, [], All, Some, None, IsErr, IfOk, IfErr, MatchBool, MatchOption, OnErr, slice_get, vec_capacity, vec_len};
+ghost use Rattle.std.specs.Prelude.{◌≡◌, ◌≢◌, ℕ, ◌<◌, ◌≤◌, ◌↔◌, ◌%◌, [], All, Some, None, IsErr, IfOk, MatchOption, OnErr, length, slice_get, vec_capacity, vec_len};
 ghost use Rattle.bb_memory_base.specs.Region.{IsRegion};
 ghost use Rattle.bb_memory_base.specs.Chunk.{Chunk, IsInside};
 ghost use Rattle.bb_memory_base.specs.FirstPlace.{first_place};
-ghost use Rattle.bb_memory_base.specs.PoolGeometry.{IsPoolGeometry, bucket_place};
+ghost use Rattle.bb_memory_base.specs.PoolGeometry.{bucket_place};
 ghost use Rattle.bb_memory_base.specs.PoolObject.{IsWithin, MayGrow, MayShrink};
-ghost use Rattle.bb_memory_base.specs.PoolLogs.{IsHeldAfter, next_bucket};
-ghost use Rattle.bb_memory.specs.Seats.{fresh_from, number_of, standing_for, view_log};
-ghost use Rattle.bb_memory.specs.SharedPool.{AreAllHeldAfter, AreInterleaved, IsInterleaved, IsParty, MayTake, chunk_of, fresh_party, resized, return_entry, with_entries};
-ghost use Rattle.bb_memory.specs.SharedPoolRule.{IsSeatOf, IsSeatOfIdle};
-ghost use Rattle.bb_memory.specs.SharedPoolSteps.{HasRefused, HasTaken, TellsLoss, TellsTaking};
+ghost use Rattle.bb_memory_base.specs.PoolLogs.{IsHeldAfter};
+ghost use Rattle.bb_memory.specs.Seats.{number_of, view_log};
+ghost use Rattle.bb_memory.specs.SharedPool.{AreAllHeldAfter, AreInterleaved, IsInterleaved, IsParty, IsSharedScene, MayTake, chunk_of, fresh_party, resized, return_entry, with_entries};
+ghost use Rattle.bb_memory.specs.SharedPoolRule.{IsSeatOfIdle, all_parties};
+ghost use Rattle.bb_memory.specs.SharedPoolSteps.{HasRefused, HasTaken};
 
 use super::bucket::Bucket;
+use super::flags::Flags;
 use super::party::PoolParty;
-use super::rule::{Agreement, Gather, GiveFirst, KeepFirst, Meets, Returns, Scene, Tries, View};
+use super::rule::{Scene, View};
 use crate::allocator::{AllocationError, AllocationGrowError, AllocationShrinkError};
 use crate::layout::{Chunk, Layout};
 use crate::pool_allocator::geometry::Geometry;
-use atomic_table::{Seat, Table};
-use std::alloc::Global;
+use atomic_table::Seat;
+use std::alloc::{AllocError, Global};
 use std::marker::Model;
-
-const FREE: u64 = 0;
-
-const TAKEN: u64 = 1;
-
-/// How many words the flags of so many buckets are. A pool without buckets has one word, which is no flag.
-fn count_words(buckets: u32) -> usize
-    ensures some_word { 0 < result }
-    ensures one_each { 0 < buckets → result ≡ buckets }
-{
-    if buckets == 0 { 1 } else { buckets as usize }
-}
 
 /// Buckets with a flag each.
 #[derive(Drop)]
 pub struct SharedBuckets {
-    table: Table<u8, View, Scene, Agreement, Global>,
-    scene: Scene,
+    flags: Flags,
 }
 
 impl Model for SharedBuckets {
-    ghost use Rattle.std.specs.Prelude.{◌≡◌};
     ghost use Rattle.bb_memory.specs.SharedPool.{SharedPool};
     ghost use Rattle.bb_memory.specs.SharedPoolRule.{IsSharedPool};
 
     ghost Value = { SharedPool };
 
-    ghost view = { λ b. record { table = b.table.shared.table_id; scene = b.scene } };
+    ghost view = { λ b. b.flags };
 
-    ghost invariant = { λ b. (b.table.shared.key ≡ b.scene)
-        × IsSharedPool b.table.shared.table_id b.scene };
+    ghost invariant = { λ b. IsSharedPool b.flags.scene };
 }
 
 impl SharedBuckets {
     /// The buckets with all flags free, and so many parties, which are idle.
-    pub fn new(
+    pub fn open(
         alloc: Global,
         geometry: Geometry,
         parties: u32,
-    ) -> Result<(SharedBuckets, Vec<PoolParty>), AllocationError>
+    ) -> Result<(SharedBuckets, Vec<PoolParty>), AllocError>
         requires parties { 1 ≤ parties }
         ensures geometry { IfOk result (λ made. made.0.scene.geometry ≡ geometry) }
         ensures parties { IfOk result (λ made. made.0.scene.parties ≡ parties) }
-        ensures as_many { IfOk result (λ made. vec_len made.1 ≡ parties) }
+        ensures as_many { IfOk result (λ made. length made.1.items ≡ parties) }
         ensures fresh { IfOk result (λ made. (number : ℕ) → number < parties
             → slice_get made.1.items number ≡ Some (fresh_party made.0 number)) }
         ensures theirs { IfOk result (λ made.
             All (λ party. party.allocator ≡ made.0) made.1.items) }
-        ensures refused { IfErr result (λ error. error ≡ AllocationError.OutOfMemory) }
     {
-        let Ok(mut all) = Vec::with_capacity(alloc, parties as usize) else {
-            return Err(AllocationError::OutOfMemory);
-        };
-        let Ok(flags) = Vec::from_elem(alloc, FREE, count_words(geometry.count())) else {
-            return Err(AllocationError::OutOfMemory);
-        };
+        let mut all = Vec::with_capacity(alloc, parties as usize)?;
         let scene = Scene { geometry, parties };
-        let Ok((table, seat)) = Table::of_words(alloc, flags.as_slice(), &scene) else {
-            return Err(AllocationError::OutOfMemory);
-        };
-        let buckets = SharedBuckets { table, scene };
+        let (flags, seat) = Flags::open(alloc, scene)?;
+        let buckets = SharedBuckets { flags };
         buckets.seat_parties(seat, parties, &mut all);
         Ok((buckets, all))
     }
@@ -88,40 +66,19 @@ impl SharedBuckets {
     /// Gives each party a seat of its own.
     fn seat_parties(&self, mut rest: Seat<u8, View>, parties: u32, all: &mut Vec<PoolParty>)
         requires table { rest.table_id ≡ self.now.table }
-        requires seat { rest.me ≡ (standing_for self.now.scene (fresh_from 0 parties), []) }
+        requires seat { rest.me ≡ (all_parties self.now.scene, []) }
         requires parties { parties ≡ self.now.scene.parties }
         requires empty { all.old.items ≡ [] }
         requires room { (vec_len all.old ≡ 0) × (parties ≤ vec_capacity all.old) }
-        ensures as_many { vec_len all.new ≡ parties }
+        ensures as_many { length all.new.items ≡ parties }
         ensures fresh { (number : ℕ) → number < parties
             → slice_get all.new.items number ≡ Some (fresh_party self.now number) }
         ensures theirs { All (λ party. party.allocator ≡ self.now) all.new.items }
     {
         for number in 0..parties {
-            let seat = self.table.shared.split_seat::<GiveFirst>(&mut rest);
-            all.push_reserved(PoolParty { seat, number });
+            let seat = self.flags.deal(&mut rest);
+            all.push_reserved(PoolParty { number, seat });
         }
-    }
-
-    /// One exchange on the flag of the bucket that the party tries next: whether it took the bucket.
-    fn try_flag(&self, seat: &mut Seat<u8, View>, bucket: u32) -> bool
-        requires table { seat.old.table_id ≡ self.now.table }
-        requires seat { IsSeatOf self.now.scene (number_of seat.old.me.0) (view_log seat.old.me.0)
-            seat.old.me }
-        requires next { next_bucket (view_log seat.old.me.0) ≡ bucket }
-        requires below { bucket < self.now.scene.geometry.buckets }
-        ensures table { seat.new.table_id ≡ seat.old.table_id }
-        ensures step { MatchBool result
-            (TellsTaking self.now.scene (number_of seat.old.me.0) (view_log seat.old.me.0)
-            bucket seat.new.me)
-            (TellsLoss self.now.scene (number_of seat.old.me.0) (view_log seat.old.me.0)
-            bucket seat.new.me) }
-    {
-        let found = self
-            .table
-            .shared
-            .compare_exchange::<Tries>(seat, bucket as usize, FREE, TAKEN);
-        found == FREE
     }
 
     /// One whole pass: an exchange on each flag from bucket 0 up, until one is taken.
@@ -137,7 +94,7 @@ impl SharedBuckets {
             seat.new.me) }
     {
         for bucket in 0..self.count() {
-            if self.try_flag(seat, bucket) {
+            if self.flags.try_flag(seat, bucket) {
                 return Some(bucket);
             }
         }
@@ -205,9 +162,7 @@ impl SharedBuckets {
         ensures still_held { (other : ℕ) → other ≢ bucket.entry.number
             → IsHeldAfter party.old.log other → IsHeldAfter party.new.log other }
     {
-        self.table
-            .shared
-            .store::<Returns>(&mut party.seat, bucket.number as usize, FREE);
+        self.flags.give_back(&mut party.seat, bucket.number);
     }
 
     /// Compares the logs of two parties, which it changes no more than any word.
@@ -222,11 +177,7 @@ impl SharedBuckets {
             → ¬ IsHeldAfter b.old.log bucket }
         ensures interleaved { AreInterleaved a.old b.old }
     {
-        let shared = &self.table.shared;
-        let guest = shared.split_seat::<GiveFirst>(&mut b.seat);
-        shared.join_seat::<Gather>(&mut a.seat, guest);
-        shared.load::<Meets>(&mut a.seat, 0);
-        b.seat = shared.split_seat::<KeepFirst>(&mut a.seat);
+        self.flags.meet(&mut a.seat, &mut b.seat);
     }
 
     /// Gives the bucket's chunk the new size, where it may grow so.
@@ -246,7 +197,7 @@ impl SharedBuckets {
         ensures kept { OnErr result (bucket.new ≡ bucket.old) }
     {
         let place = bucket.chunk().place();
-        let grown = self.scene.geometry.grow(place, old, new)?;
+        let grown = self.flags.geometry().grow(place, old, new)?;
         bucket.len = grown.len();
         Ok(grown)
     }
@@ -269,33 +220,32 @@ impl SharedBuckets {
         ensures kept { OnErr result (bucket.new ≡ bucket.old) }
     {
         let place = bucket.chunk().place();
-        let shrunk = self.scene.geometry.shrink(place, old, new)?;
+        let shrunk = self.flags.geometry().shrink(place, old, new)?;
         bucket.len = shrunk.len();
         Ok(shrunk)
     }
 
-    /// How many buckets there are.
+    /// How many buckets there are. They lie in a region, and there is a party.
     pub fn count(&self) -> u32
         ensures value { result ≡ self.now.scene.geometry.buckets }
         ensures region { IsRegion self.now.scene.geometry.region }
-        ensures geometry { IsPoolGeometry self.now.scene.geometry }
-        ensures parties { 1 ≤ self.now.scene.parties }
+        ensures scene { IsSharedScene self.now.scene }
     {
-        self.scene.geometry.count()
+        self.flags.geometry().count()
     }
 
     /// The layout of each bucket.
     pub fn bucket(&self) -> Layout
         ensures { result ≡ self.now.scene.geometry.bucket }
     {
-        self.scene.geometry.bucket()
+        self.flags.geometry().bucket()
     }
 
     /// How many bytes the region has.
     pub fn region_size(&self) -> usize
         ensures { result ≡ self.now.scene.geometry.region.size }
     {
-        self.scene.geometry.region_size()
+        self.flags.geometry().region_size()
     }
 
     /// Where the first bucket is.
@@ -303,7 +253,7 @@ impl SharedBuckets {
         ensures { result
             ≡ first_place self.now.scene.geometry.region self.now.scene.geometry.bucket }
     {
-        self.scene.geometry.first()
+        self.flags.geometry().first()
     }
 
     /// The first `len` bytes of a bucket.
@@ -314,6 +264,6 @@ impl SharedBuckets {
             let chunk : Chunk = record { place = place; len = len } in result ≡ chunk }
         ensures inside { IsInside self.now.scene.geometry.region result }
     {
-        self.scene.geometry.chunk(bucket as usize, len)
+        self.flags.geometry().chunk(bucket as usize, len)
     }
 }

@@ -1,12 +1,12 @@
 //! A shared pool of at most a constant of buckets.
-ghost use Rattle.std.specs.Prelude.{◌≡◌, ◌≢◌, ◌-◌, ◌<◌, ◌≤◌, ◌↔◌, ◌%◌, ◌^◌, ℕ, All, Some, IsErr, IfOk, IfErr, OnErr, slice_get, vec_len};
+ghost use Rattle.std.specs.Prelude.{◌≡◌, ◌≢◌, ◌-◌, ◌<◌, ◌≤◌, ◌↔◌, ◌%◌, ◌^◌, ℕ, All, Some, IsErr, IfOk, IfErr, OnErr, length, slice_get};
 ghost use Rattle.bb_memory_base.specs.Region.{IsRegion, region_at};
 ghost use Rattle.bb_memory_base.specs.Chunk.{IsInside};
-ghost use Rattle.bb_memory_base.specs.PoolGeometry.{PoolGeometry, IsCut, IsPoolGeometry, at_most};
+ghost use Rattle.bb_memory_base.specs.PoolGeometry.{PoolGeometry, IsCut, at_most};
 ghost use Rattle.bb_memory_base.specs.PoolObject.{IsWithin, MayGrow, MayShrink};
 ghost use Rattle.bb_memory_base.specs.PoolLogs.{IsHeldAfter};
 ghost use Rattle.bb_memory.specs.Pool.{MayBeCut};
-ghost use Rattle.bb_memory.specs.SharedPool.{AreAllHeldAfter, AreInterleaved, IsInterleaved, IsParty, MayTake, chunk_of, fresh_party, resized, return_entry, with_entries};
+ghost use Rattle.bb_memory.specs.SharedPool.{AreAllHeldAfter, AreInterleaved, IsInterleaved, IsParty, IsSharedScene, MayTake, chunk_of, fresh_party, resized, return_entry, with_entries};
 
 use super::bucket::Bucket;
 use super::buckets::SharedBuckets;
@@ -14,7 +14,7 @@ use super::party::PoolParty;
 use crate::allocator::{AllocationError, AllocationGrowError, AllocationShrinkError};
 use crate::layout::{Chunk, Layout};
 use crate::pool_allocator::geometry::Geometry;
-use std::alloc::Global;
+use std::alloc::{AllocError, Global};
 use std::marker::Model;
 
 /// Gives buckets of one layout, at most `MAX_NUMBER_OF_BUCKETS` of them, to any number of threads, as
@@ -62,7 +62,7 @@ impl<const MAX_NUMBER_OF_BUCKETS: usize> SharedFixedSizePoolAllocator<MAX_NUMBER
             × IsCut (region_at start size) bucket_layout whole
             × (made.0.scene.geometry ≡ at_most MAX_NUMBER_OF_BUCKETS whole)) }
         ensures parties { IfOk result (λ made. made.0.scene.parties ≡ parties) }
-        ensures as_many { IfOk result (λ made. vec_len made.1 ≡ parties) }
+        ensures as_many { IfOk result (λ made. length made.1.items ≡ parties) }
         ensures fresh { IfOk result (λ made. (number : ℕ) → number < parties
             → slice_get made.1.items number ≡ Some (fresh_party made.0 number)) }
         ensures theirs { IfOk result (λ made.
@@ -72,8 +72,10 @@ impl<const MAX_NUMBER_OF_BUCKETS: usize> SharedFixedSizePoolAllocator<MAX_NUMBER
         let geometry = Geometry::new(bucket_layout, start, size).at_most(
             MAX_NUMBER_OF_BUCKETS as u32,
         );
-        let (buckets, all) = SharedBuckets::new(alloc, geometry, parties)?;
-        Ok((SharedFixedSizePoolAllocator { buckets }, all))
+        match SharedBuckets::open(alloc, geometry, parties) {
+            Ok((buckets, all)) => Ok((SharedFixedSizePoolAllocator { buckets }, all)),
+            Err(AllocError) => Err(AllocationError::OutOfMemory),
+        }
     }
 
     /// Takes a bucket for the party, with a chunk of `layout.size()` bytes. It is refused in this order: with `SizeTooLarge`
@@ -190,12 +192,11 @@ impl<const MAX_NUMBER_OF_BUCKETS: usize> SharedFixedSizePoolAllocator<MAX_NUMBER
         self.buckets.shrink(bucket, old, new)
     }
 
-    /// How many buckets there are.
+    /// How many buckets there are. They lie in a region, and there is a party.
     pub fn number_of_buckets(&self) -> u32
         ensures value { result ≡ self.now.scene.geometry.buckets }
         ensures region { IsRegion self.now.scene.geometry.region }
-        ensures geometry { IsPoolGeometry self.now.scene.geometry }
-        ensures parties { 1 ≤ self.now.scene.parties }
+        ensures scene { IsSharedScene self.now.scene }
     {
         self.buckets.count()
     }

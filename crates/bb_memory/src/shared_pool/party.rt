@@ -10,8 +10,8 @@ use std::marker::Model;
 /// of its steps, its log, is known to contracts alone.
 #[derive(Drop)]
 pub struct PoolParty {
-    pub(super) seat: Seat<u8, View>,
     pub(super) number: u32,
+    pub(super) seat: Seat<u8, View>,
 }
 
 impl Model for PoolParty {

@@ -5,9 +5,9 @@ use std::marker::Model;
 
 /// The scene of a shared pool's machine: where it begins.
 #[derive(Drop)]
-pub struct Scene {
-    pub geometry: Geometry,
-    pub parties: u32,
+pub(crate) struct Scene {
+    pub(crate) geometry: Geometry,
+    pub(crate) parties: u32,
 }
 
 impl Model for Scene {
@@ -19,7 +19,7 @@ impl Model for Scene {
 }
 
 /// What a seat knows: the parties that it stands for, each with its log. No value of this type is made.
-pub struct View {}
+pub(crate) struct View {}
 
 impl Model for View {
     ghost use Rattle.bb_memory.specs.SharedPoolRule.{SeatView, nobody};
@@ -30,7 +30,7 @@ impl Model for View {
 }
 
 /// Words and logs agree.
-pub struct Agreement;
+pub(crate) struct Agreement;
 
 impl TableRule<u8, View, Scene> for Agreement {
     ghost use Rattle.bb_memory.specs.SharedPoolRule.{WordsAndLogsAgree, all_parties};
@@ -41,7 +41,7 @@ impl TableRule<u8, View, Scene> for Agreement {
 }
 
 /// An exchange from free to taken.
-pub struct Tries;
+pub(crate) struct Tries;
 
 impl Play<u8, View> for Tries {
     ghost use Rattle.bb_memory.specs.SharedPoolSteps.{tries};
@@ -50,7 +50,7 @@ impl Play<u8, View> for Tries {
 }
 
 /// A store of free, by a party after whose log the bucket is held.
-pub struct Returns;
+pub(crate) struct Returns;
 
 impl Play<u8, View> for Returns {
     ghost use Rattle.bb_memory.specs.SharedPoolSteps.{returns};
@@ -59,7 +59,7 @@ impl Play<u8, View> for Returns {
 }
 
 /// A load by a seat that stands for two parties.
-pub struct Meets;
+pub(crate) struct Meets;
 
 impl Play<u8, View> for Meets {
     ghost use Rattle.bb_memory.specs.SharedPoolSteps.{meets};
@@ -68,7 +68,7 @@ impl Play<u8, View> for Meets {
 }
 
 /// The first party goes to the new seat.
-pub struct GiveFirst;
+pub(crate) struct GiveFirst;
 
 impl Split<View> for GiveFirst {
     ghost use Rattle.bb_memory.specs.Seats.{first_of, others_of};
@@ -79,7 +79,7 @@ impl Split<View> for GiveFirst {
 }
 
 /// All but the first party go to the new seat.
-pub struct KeepFirst;
+pub(crate) struct KeepFirst;
 
 impl Split<View> for KeepFirst {
     ghost use Rattle.bb_memory.specs.Seats.{first_of, others_of};
@@ -90,7 +90,7 @@ impl Split<View> for KeepFirst {
 }
 
 /// One seat stands for the parties of two.
-pub struct Gather;
+pub(crate) struct Gather;
 
 impl Join<View> for Gather {
     ghost use Rattle.bb_memory.specs.Seats.{both_of};

@@ -74,6 +74,13 @@ pub fn bump_theorem()
         → calls_of scene (before ++ stretch)
         ≡ calls_of scene before ++ calls_after scene before stretch }
 
+    // Such a run has a list at every step: those of the beginning lead to it, and the others are a run
+    // from it.
+    ensures every_step { (scene : BumpScene) (live : List Chunk) (before stretch : List BumpStep)
+        → OpensWith scene live
+        → IsCallRun scene.region (live_after scene live before) (calls_after scene before stretch)
+        (live_after scene live (before ++ stretch)) }
+
     // At every step a bump at the machine's position stands for the object's list there.
     ensures stands { (scene : BumpScene) (live : List Chunk) (steps : List BumpStep)
         → OpensWith scene live
@@ -94,7 +101,8 @@ pub fn bump_theorem()
     ensures within { (scene : BumpScene) (steps : List BumpStep)
         → scene.opening ≤ scene.region.size
         → (left_by scene steps).position ≤ scene.region.size }
-    ensures seen_within { (scene : BumpScene) (steps : List BumpStep) (party : ℕ) (call : OngoingCall)
+    ensures seen_within { (scene : BumpScene) (steps : List BumpStep)
+        (party : ℕ) (call : OngoingCall)
         → scene.opening ≤ scene.region.size → IsInCall (left_by scene steps) party call
         → call.seen ≤ scene.region.size }
 
@@ -141,7 +149,7 @@ pub fn bump_log_theorem()
     // What a party is in the midst of can be read off its own log.
     ensures call { (scene : BumpScene) (steps : List BumpStep) (party : ℕ)
         → party < scene.parties
-        → slice_get (left_by scene steps).parties party
+        → slice_get (left_by scene steps).calls party
         ≡ Some (call_in (log_of scene steps party)) }
 
     // A longer log says what the shorter one says, and then the rest.
@@ -235,7 +243,7 @@ pub fn bump_log_theorem()
         → IsFitting scene.region call }
 
     // The chunks of one party are a sound list.
-    ensures own { (scene : BumpScene) (position : ℕ) (logs : List BumpLog)
+    ensures sound { (scene : BumpScene) (position : ℕ) (logs : List BumpLog)
         (party : ℕ) (log : BumpLog)
         → scene.opening ≤ scene.region.size
         → LogsAgree scene position logs → HasLog logs party log
@@ -256,7 +264,7 @@ pub fn bump_log_theorem()
         ≡ live ++ chunks_won (history_of scene agree.steps) }
 
     // A bump at the position stands for it.
-    ensures since_stands { (scene : BumpScene) (position : ℕ) (logs : List BumpLog)
+    ensures stands { (scene : BumpScene) (position : ℕ) (logs : List BumpLog)
         (live : List Chunk)
         → OpensWith scene live
         → (agree : LogsAgree scene position logs)
@@ -280,22 +288,31 @@ pub fn bump_log_theorem()
         → LogsAgree scene position logs → HasLog logs party log → HasLog logs other other_log
         → CommonInterleaving scene party log other other_log position }
 
-    // The calls of an interleaving are a run of the bump object, from each live list that the opening
-    // stands for.
-    ensures run { (scene : BumpScene) (position party : ℕ) (log : BumpLog) (live : List Chunk)
+    // The calls of whichever steps agree are a run of the bump object, from each live list that the
+    // opening stands for.
+    ensures run { (scene : BumpScene) (position : ℕ) (logs : List BumpLog) (live : List Chunk)
+        (agree : LogsAgree scene position logs)
+        → OpensWith scene live
+        → IsCallRun scene.region live (calls_of scene agree.steps)
+        (live_after scene live agree.steps) }
+
+    // So are the calls of an interleaving.
+    ensures interleaved_run { (scene : BumpScene) (position party : ℕ) (log : BumpLog)
+        (live : List Chunk)
         (interleaving : Interleaving scene party log position)
         → OpensWith scene live
         → IsCallRun scene.region live (calls_of scene interleaving.steps)
         (live_after scene live interleaving.steps) }
 
     // A bump at the position that it leaves stands for the live list that this run leaves.
-    ensures stands { (scene : BumpScene) (position party : ℕ) (log : BumpLog) (live : List Chunk)
+    ensures interleaved_stands { (scene : BumpScene) (position party : ℕ) (log : BumpLog)
+        (live : List Chunk)
         (interleaving : Interleaving scene party log position)
         → OpensWith scene live
         → StandsFor scene.region position (live_after scene live interleaving.steps) }
 
-    // One interleaving is enough for what is said of chunks: for `own`, `older`, `since` and `apart`.
-    ensures interleaved_own { (scene : BumpScene) (position party : ℕ) (log : BumpLog)
+    // One interleaving is enough for what is said of chunks: for `sound`, `older`, `since` and `apart`.
+    ensures interleaved_sound { (scene : BumpScene) (position party : ℕ) (log : BumpLog)
         → scene.opening ≤ scene.region.size
         → Interleaving scene party log position
         → IsSound scene.region (chunks_won log) }

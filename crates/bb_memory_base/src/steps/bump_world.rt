@@ -204,18 +204,18 @@ impl BumpWorld {
 
     /// The call of a party, as [`call_at`].
     fn call_of(&self, party: usize) -> Option<Option<OngoingCall>>
-        ensures value { result ≡ slice_get self.now.state.parties party }
+        ensures value { result ≡ slice_get self.now.state.calls party }
         ensures fitting { (call : OngoingCall) → result ≡ Some (Some call)
             → IsFitting self.now.region call }
-        ensures within { IsSome result → party < length self.now.state.parties }
+        ensures within { IsSome result → party < length self.now.state.calls }
     {
         call_at(&self.calls, party)
     }
 
     fn read(&mut self, party: usize, layout: Layout) -> BumpOutcome
-        ensures outcome { let now = slice_get self.old.state.parties party in
+        ensures outcome { let now = slice_get self.old.state.calls party in
             result ≡ (read self.old.region self.old.state party layout now).outcome }
-        ensures state { let now = slice_get self.old.state.parties party in
+        ensures state { let now = slice_get self.old.state.calls party in
             self.new ≡ in_state self.old (read self.old.region self.old.state party layout now).state }
     {
         match self.call_of(party) {
@@ -232,9 +232,9 @@ impl BumpWorld {
     }
 
     fn exchange(&mut self, party: usize) -> BumpOutcome
-        ensures outcome { let now = slice_get self.old.state.parties party in
+        ensures outcome { let now = slice_get self.old.state.calls party in
             result ≡ (exchange self.old.region self.old.state party now).outcome }
-        ensures state { let now = slice_get self.old.state.parties party in
+        ensures state { let now = slice_get self.old.state.calls party in
             self.new ≡ in_state self.old (exchange self.old.region self.old.state party now).state }
     {
         match self.call_of(party) {
@@ -249,7 +249,7 @@ impl BumpWorld {
     }
 
     fn load(&self, party: usize) -> BumpOutcome
-        ensures { let now = slice_get self.now.state.parties party in
+        ensures { let now = slice_get self.now.state.calls party in
             result ≡ (load self.now.state now).outcome }
     {
         match self.call_of(party) {

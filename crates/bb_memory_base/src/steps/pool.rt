@@ -7,7 +7,7 @@ ghost use Rattle.bb_memory_base.specs.PoolGeometry.{PoolGeometry, pool_geometry,
 ghost use Rattle.bb_memory_base.specs.PoolObject.{IsHeld};
 ghost use Rattle.bb_memory_base.specs.PoolMachine.{PoolScene, IsHolder, IsTaken, left_by};
 ghost use Rattle.bb_memory_base.specs.PoolHistory.{PoolLog, entry_of, history_of, log_of};
-ghost use Rattle.bb_memory_base.specs.PoolCalls.{AreAsked, AreCalls, IsPoolRun, IsRefusedAt, LosesAt, FoundHeld};
+ghost use Rattle.bb_memory_base.specs.PoolCalls.{AreAsked, IsCallRun, IsPoolRun, IsRefusedAt, LosesAt, FoundHeld};
 ghost use Rattle.bb_memory_base.specs.PoolLogs.{AllAllowed, CommonInterleaving, HasLog, Interleaving, IsHeldAfter, LogsAgree, loss_at, next_bucket, pass_in, with_entry};
 ghost use Rattle.bb_memory_base.specs.declared.layout.Layout.{Layout};
 ghost use Rattle.bb_memory_base.specs.declared.steps.pool.PoolStep.{PoolStep};
@@ -66,7 +66,7 @@ pub fn pool_theorem()
         (live : List Chunk) (k : ℕ) → IsPoolRun scene steps layouts live
         → (there : List Chunk) × IsPoolRun scene (take k steps) (take k layouts) there
         × (let history = history_of scene steps in
-        AreCalls scene.geometry there (drop k layouts) (drop k history) live) }
+        IsCallRun scene.geometry there (drop k layouts) (drop k history) live) }
 
     // The taken flags are the buckets that are held in the list that such a run leaves.
     ensures taken { (scene : PoolScene) (steps : List PoolStep) (layouts : List Layout)
@@ -85,7 +85,7 @@ pub fn pool_theorem()
         ↔ IsHeldAfter (log_of scene steps party) bucket) }
 
     // No two parties hold one bucket.
-    ensures one_holder { (scene : PoolScene) (steps : List PoolStep) (party other bucket : ℕ)
+    ensures apart { (scene : PoolScene) (steps : List PoolStep) (party other bucket : ℕ)
         → IsHeldAfter (log_of scene steps party) bucket
         → IsHeldAfter (log_of scene steps other) bucket → party ≡ other }
 
@@ -105,9 +105,9 @@ pub fn pool_theorem()
 /// the theorem.
 pub fn pool_log_theorem()
     // The bucket at which the pass of a party that was made is, if it is in one, stands in its log.
-    ensures pass { (scene : PoolScene) (steps : List PoolStep) (party : ℕ)
+    ensures call { (scene : PoolScene) (steps : List PoolStep) (party : ℕ)
         → party < scene.parties
-        → (slice_get (left_by scene steps).passes party
+        → (slice_get (left_by scene steps).calls party
         ≡ Some (pass_in (log_of scene steps party))) }
 
     // Where all flags are free, they agree with empty logs.
@@ -186,4 +186,17 @@ pub fn pool_log_theorem()
         → (live : List Chunk) × IsPoolRun scene agree.steps layouts live
         × ((bucket : ℕ) → bucket < scene.geometry.buckets
         → ((slice_get flags bucket ≡ Some true) ↔ IsHeld scene.geometry live bucket)) }
+
+    // The takings and returns of an interleaving are a run, too.
+    ensures interleaved_run { (scene : PoolScene) (party : ℕ) (log : PoolLog)
+        (layouts : List Layout) → IsPoolGeometry scene.geometry
+        → (interleaving : Interleaving scene party log)
+        → AreAsked scene.geometry interleaving.steps layouts
+        → (live : List Chunk) × IsPoolRun scene interleaving.steps layouts live }
+
+    // One interleaving is enough for `apart`.
+    ensures interleaved_apart { (scene : PoolScene) (party : ℕ) (log : PoolLog)
+        (other : ℕ) (other_log : PoolLog) (bucket : ℕ)
+        → CommonInterleaving scene party log other other_log
+        → IsHeldAfter log bucket → IsHeldAfter other_log bucket → party ≡ other }
 {}

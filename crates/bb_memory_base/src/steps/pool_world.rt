@@ -35,7 +35,7 @@ impl Model for PoolWorld {
 
     ghost Value = { PoolState };
 
-    ghost view = { λ world. record { holders = world.holders.items; passes = world.passes.items } };
+    ghost view = { λ world. record { holders = world.holders.items; calls = world.passes.items } };
 
     ghost invariant = { λ world. length world.holders.items < 2 ^ 32 };
 }
@@ -95,9 +95,9 @@ impl PoolWorld {
     /// A party tries the next bucket of its pass.
     fn try_next(&mut self, party: u32) -> PoolOutcome
         ensures answer { result
-            ≡ (try_next self.old party (slice_get self.old.passes party)).outcome }
+            ≡ (try_next self.old party (slice_get self.old.calls party)).outcome }
         ensures state { self.new
-            ≡ (try_next self.old party (slice_get self.old.passes party)).state }
+            ≡ (try_next self.old party (slice_get self.old.calls party)).state }
     {
         match entry_at(&self.passes, party as usize) {
             Some(pass) => self.try_flag(party, pass.unwrap_or(0)),
@@ -107,7 +107,7 @@ impl PoolWorld {
 
     /// A party tries the flag of a bucket.
     fn try_flag(&mut self, party: u32, bucket: u32) -> PoolOutcome
-        requires { party < length self.old.passes }
+        requires { party < length self.old.calls }
         ensures answer { result
             ≡ (try_flag self.old party bucket (slice_get self.old.holders bucket)).outcome }
         ensures state { self.new

@@ -7,14 +7,14 @@ pub returns-in-None-clause-call : goal.returns-in-None-clause-call
 returns-in-None-clause-call g c =
     let me = c.args.seat.now.me in
     refused_at_once c.args.self.now.scene (number_of me.0) (view_log me.0) c.args.layout c.read-seen.result c.read-seen.new.seat.me
-    c.read-seen.ensures.step c.in-None.ensures.fits
+    (rw c.self.view_is at c.read-seen.ensures.step) c.in-None.ensures.fits
 
 pub loop-seen-init : goal.loop-seen-init
 loop-seen-init g c =
     let me = c.args.seat.now.me in record {
       table = c.read-seen.ensures.table;
       trying = begins c.args.self.now.scene (number_of me.0) (view_log me.0) c.args.layout c.read-seen.result
-          c.read-seen.new.seat.me c.read-seen.ensures.step c.in-Some.ensures.fits.0;
+          c.read-seen.new.seat.me (rw c.self.view_is at c.read-seen.ensures.step) c.in-Some.ensures.fits.0;
       placed = c.in-Some.ensures.fits.1;
       inside = c.in-Some.ensures.inside;
       aligned = c.in-Some.ensures.aligned;
@@ -25,7 +25,7 @@ returns-then-found-seen-clause-call g c =
     let me = c.args.seat.now.me in
     let before = c.loop-seen.invariant in
     wins c.args.self.now.scene (number_of me.0) (view_log me.0) c.args.layout c.loop-seen.seen c.exchange-found.result
-    c.loop-seen.seat.me c.exchange-found.new.seat.me before.trying c.exchange-found.ensures.step
+    c.loop-seen.seat.me c.exchange-found.new.seat.me before.trying (rw c.self.view_is at c.exchange-found.ensures.step)
     c.loop-seen.chunk c.if-found-seen.true before.placed before.inside.below
 
 pub returns-in-None-place-clause-call : goal.returns-in-None-place-clause-call
@@ -33,7 +33,7 @@ returns-in-None-place-clause-call g c =
     let me = c.args.seat.now.me in
     let before = c.loop-seen.invariant in
     refused_later c.args.self.now.scene (number_of me.0) (view_log me.0) c.args.layout c.loop-seen.seen c.exchange-found.result
-    c.loop-seen.seat.me c.exchange-found.new.seat.me before.trying c.exchange-found.ensures.step
+    c.loop-seen.seat.me c.exchange-found.new.seat.me before.trying (rw c.self.view_is at c.exchange-found.ensures.step)
     c.if-found-seen.false c.in-None-place.ensures.fits
 
 pub loop-seen-preserved : goal.loop-seen-preserved
@@ -42,7 +42,7 @@ loop-seen-preserved g c =
     let before = c.loop-seen.invariant in record {
       table = c.exchange-found.ensures.table ∙ before.table;
       trying = goes_on c.args.self.now.scene (number_of me.0) (view_log me.0) c.args.layout c.loop-seen.seen c.exchange-found.result
-          c.loop-seen.seat.me c.exchange-found.new.seat.me before.trying c.exchange-found.ensures.step
+          c.loop-seen.seat.me c.exchange-found.new.seat.me before.trying (rw c.self.view_is at c.exchange-found.ensures.step)
           c.if-found-seen.false c.in-Some-place.ensures.fits.0;
       placed = c.in-Some-place.ensures.fits.1;
       inside = c.in-Some-place.ensures.inside;
@@ -53,12 +53,12 @@ pub place-requires-in-loop-seen : goal.place-requires-in-loop-seen
 place-requires-in-loop-seen g c =
     let me = c.args.seat.now.me in
     (raises c.args.self.now.scene (number_of me.0) (view_log me.0) c.args.layout c.loop-seen.seen c.exchange-found.result
-    c.loop-seen.seat.me c.exchange-found.new.seat.me c.loop-seen.invariant.trying c.exchange-found.ensures.step).1
+    c.loop-seen.seat.me c.exchange-found.new.seat.me c.loop-seen.invariant.trying (rw c.self.view_is at c.exchange-found.ensures.step)).1
 
 pub loop-seen-smaller : goal.loop-seen-smaller
 loop-seen-smaller g c =
     let me = c.args.seat.now.me in
     let up = raises c.args.self.now.scene (number_of me.0) (view_log me.0) c.args.layout c.loop-seen.seen c.exchange-found.result
-    c.loop-seen.seat.me c.exchange-found.new.seat.me c.loop-seen.invariant.trying c.exchange-found.ensures.step in
+    c.loop-seen.seat.me c.exchange-found.new.seat.me c.loop-seen.invariant.trying (rw c.self.view_is at c.exchange-found.ensures.step) in
     let apart = c.if-found-seen.false in
     omega (arith, up, apart)

@@ -8,24 +8,18 @@ use Rattle.bb_memory.specs.SharedBumpRule.{NumberedLog, SeatView, party_in}
 use Rattle.bb_memory_base.proofs.BumpAllowed.{none_allowed}
 use Rattle.bb_memory.proofs.Seatings.{fresh_more, given_more}
 use Rattle.bb_memory.proofs.SharedBumpParties.{party_seat}
-use Rattle.bb_memory.proofs.SharedBumpSeats.{gives_first}
 use Rattle.bb_memory.proofs.shared_bump.SharedBumpAllocator.seat_parties.Goals as goal
 
-pub split_seat-seat-requires : goal.split_seat-seat-requires
-split_seat-seat-requires c =
-    let fields = c.self.invariant in (
-      c.loop-number.invariant.table ∙ sym (ap (λ b. b.table) c.self.view_is),
-      omega (arith, fields.words),
-      gives_first c.self.inside.table.shared.key c.loop-number.rest.id c.loop-number.rest.me.0,
-    )
+pub deal-seat-requires : goal.deal-seat-requires
+deal-seat-requires c = record { table = c.loop-number.invariant.table ∙ sym (ap (λ (b : SharedBump). b.table) c.self.view_is) }
 
 pub invariant_of-push_reserved : goal.invariant_of-push_reserved
 invariant_of-push_reserved c =
     let scene = c.args.self.now.scene in
     let number = c.loop-number.number in
     let is = c.loop-number.invariant.rest ∙ ap (λ (parties : List NumberedLog). (standing_for scene parties, [])) (fresh_more number c.args.parties (omega arith)) in
-    let seated = c.split_seat-seat.ensures.4 ∙ ap (λ (m : Me ℕ SeatView). (first_of m.0, [])) is in
-    party_seat scene number [] c.split_seat-seat.result.me
+    let seated = c.deal-seat.ensures.first ∙ ap (λ (m : Me ℕ SeatView). (first_of m.0, [])) is in
+    party_seat scene number [] c.deal-seat.result.me
     record {
       seat = record { is = seated; interleaved = record { steps = []; allowed = none_allowed; leaves = refl; logged = refl } };
       idle = refl;
@@ -40,20 +34,20 @@ loop-number-preserved c =
     let number = c.loop-number.number in
     let count = c.args.parties in
     let before = c.loop-number.invariant in
-    let split = c.split_seat-seat.ensures in
+    let dealt = c.deal-seat.ensures in
     let is = before.rest ∙ ap (λ (parties : List NumberedLog). (standing_for scene parties, [])) (fresh_more number count (omega arith)) in
-    let seated = split.4 ∙ ap (λ (m : Me ℕ SeatView). (first_of m.0, [])) is in
-    let value : BumpParty = party_in c.split_seat-seat.result.table_id number c.split_seat-seat.result.me.0 in
+    let seated = dealt.first ∙ ap (λ (m : Me ℕ SeatView). (first_of m.0, [])) is in
+    let value : BumpParty = party_in c.deal-seat.result.table_id number c.deal-seat.result.me.0 in
     let value_is : value ≡ fresh_party bump number = λ j. record {
-      allocator = record { table = (split.3 ∙ before.table) j; scene = ap (λ (m : Me ℕ SeatView). m.0.scene) seated j };
+      allocator = record { table = (dealt.its_table ∙ before.table) j; scene = ap (λ (m : Me ℕ SeatView). m.0.scene) seated j };
       number = number;
       log = ap (λ (m : Me ℕ SeatView). view_log m.0) seated j;
     } in
     let items = c.push_reserved.ensures.items in
     let more = given_more (fresh_party bump) c.loop-number.all.items value (λ j below. before.fresh j (omega arith)) (value_is ∙ ap (fresh_party bump) (sym before.long)) in
     record {
-      table = split.0 ∙ before.table;
-      rest = split.2 ∙ ap (λ (m : Me ℕ SeatView). (others_of m.0, m.1)) is;
+      table = dealt.table ∙ before.table;
+      rest = dealt.rest ∙ ap (λ (m : Me ℕ SeatView). (others_of m.0, m.1)) is;
       len = c.push_reserved.ensures.len ∙ ap (λ (m : ℕ). m + 1) before.len;
       long = ap length items ∙ length-append c.loop-number.all.items (value ∷ []) ∙ ap (λ (m : ℕ). m + 1) before.long;
       room = subst (λ (m : ℕ). count ≤ m) (sym c.push_reserved.ensures.capacity) before.room;

@@ -26,8 +26,8 @@ returns-clause-load c = load_agrees
 pub returns-clause-apart : goal.returns-clause-apart
 returns-clause-apart c = chunks_apart
 
-pub returns-clause-own : goal.returns-clause-own
-returns-clause-own c = own_sound
+pub returns-clause-sound : goal.returns-clause-sound
+returns-clause-sound c = own_sound
 
 pub returns-clause-older : goal.returns-clause-older
 returns-clause-older c = older_apart
@@ -35,8 +35,8 @@ returns-clause-older c = older_apart
 pub returns-clause-since : goal.returns-clause-since
 returns-clause-since c = agreed_since
 
-pub returns-clause-since_stands : goal.returns-clause-since_stands
-returns-clause-since_stands c = agreed_stands
+pub returns-clause-stands : goal.returns-clause-stands
+returns-clause-stands c = agreed_stands
 
 pub returns-clause-nobody_else : goal.returns-clause-nobody_else
 returns-clause-nobody_else c = nobody_else
@@ -44,8 +44,8 @@ returns-clause-nobody_else c = nobody_else
 pub returns-clause-both_interleaved : goal.returns-clause-both_interleaved
 returns-clause-both_interleaved c = both_interleaved
 
-pub returns-clause-interleaved_own : goal.returns-clause-interleaved_own
-returns-clause-interleaved_own c = interleaved_own
+pub returns-clause-interleaved_sound : goal.returns-clause-interleaved_sound
+returns-clause-interleaved_sound c = interleaved_own
 
 pub returns-clause-interleaved_older : goal.returns-clause-interleaved_older
 returns-clause-interleaved_older c = interleaved_older
@@ -81,10 +81,13 @@ pub returns-clause-interleaved : goal.returns-clause-interleaved
 returns-clause-interleaved c = interleaved
 
 pub returns-clause-run : goal.returns-clause-run
-returns-clause-run c = λ scene position party log live interleaving. calls_run scene live interleaving.steps
+returns-clause-run c = λ scene position logs live agree. calls_run scene live agree.steps
 
-pub returns-clause-stands : goal.returns-clause-stands
-returns-clause-stands c = interleaving_stands
+pub returns-clause-interleaved_run : goal.returns-clause-interleaved_run
+returns-clause-interleaved_run c = λ scene position party log live interleaving. calls_run scene live interleaving.steps
+
+pub returns-clause-interleaved_stands : goal.returns-clause-interleaved_stands
+returns-clause-interleaved_stands c = interleaving_stands
 
 pub returns-clause-call_grows : goal.returns-clause-call_grows
 returns-clause-call_grows c = call_grows None

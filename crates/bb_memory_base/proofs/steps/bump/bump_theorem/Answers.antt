@@ -1,5 +1,5 @@
 use Rattle.bb_memory_base.proofs.LiveLists.{stands_for_some}
-use Rattle.bb_memory_base.proofs.BumpRuns.{calls_run, calls_beginning, calls_stand, position_used, live_sound, load_finds}
+use Rattle.bb_memory_base.proofs.BumpRuns.{calls_run, calls_beginning, run_at_step, calls_stand, position_used, live_sound, load_finds}
 use Rattle.bb_memory_base.proofs.BumpStretches.{live_grows, won_sound}
 use Rattle.bb_memory_base.proofs.BumpLosses.{losses_raise, losses_few}
 use Rattle.bb_memory_base.proofs.BumpBounds.{position_in_size, seen_in_size}
@@ -13,6 +13,9 @@ returns-clause-run c = calls_run
 
 pub returns-clause-beginning : goal.returns-clause-beginning
 returns-clause-beginning c = calls_beginning
+
+pub returns-clause-every_step : goal.returns-clause-every_step
+returns-clause-every_step c = run_at_step
 
 pub returns-clause-stands : goal.returns-clause-stands
 returns-clause-stands c = calls_stand

@@ -1,6 +1,11 @@
+use Rattle.std.proofs.Common.{sym, subst}
+use Rattle.bb_memory_base.specs.PoolHistory.{PoolLog}
+use Rattle.bb_memory_base.specs.PoolLogs.{IsHeldAfter}
 use Rattle.bb_memory_base.proofs.PoolLogFacts.{logs_apart, free_not_held, held_is_taken, taken_is_held_alone, length-flags, nobody_else, interleaved_log, interleaved_logs}
 use Rattle.bb_memory_base.proofs.PoolLogSteps.{opening_agrees, take_agrees, lose_agrees, give_agrees, log_pass}
+use Rattle.bb_memory_base.proofs.PoolHolders.{one_holder}
 use Rattle.bb_memory_base.proofs.PoolLogRuns.{flags_run}
+use Rattle.bb_memory_base.proofs.PoolRuns.{pool_run}
 use Rattle.bb_memory_base.proofs.steps.pool.pool_log_theorem.Goals as goal
 
 pub returns-clause-opening : goal.returns-clause-opening
@@ -15,8 +20,8 @@ returns-clause-lose c = lose_agrees
 pub returns-clause-give : goal.returns-clause-give
 returns-clause-give c = give_agrees
 
-pub returns-clause-pass : goal.returns-clause-pass
-returns-clause-pass c = log_pass
+pub returns-clause-call : goal.returns-clause-call
+returns-clause-call c = log_pass
 
 pub returns-clause-apart : goal.returns-clause-apart
 returns-clause-apart c = logs_apart
@@ -44,3 +49,12 @@ returns-clause-both_interleaved c = interleaved_logs
 
 pub returns-clause-run : goal.returns-clause-run
 returns-clause-run c = flags_run
+
+pub returns-clause-interleaved_run : goal.returns-clause-interleaved_run
+returns-clause-interleaved_run c = λ scene party log layouts is interleaving asked. pool_run scene interleaving.steps layouts is asked
+
+pub returns-clause-interleaved_apart : goal.returns-clause-interleaved_apart
+returns-clause-interleaved_apart c = λ scene party log other other_log bucket both held other_held.
+    one_holder scene both.steps party other bucket
+    (subst (λ (l : PoolLog). IsHeldAfter l bucket) (sym both.logged) held)
+    (subst (λ (l : PoolLog). IsHeldAfter l bucket) (sym both.other_logged) other_held)

@@ -22,8 +22,8 @@ returns-clause-sound c = run_is_sound
 pub returns-clause-holder : goal.returns-clause-holder
 returns-clause-holder c = holder_in_log
 
-pub returns-clause-one_holder : goal.returns-clause-one_holder
-returns-clause-one_holder c = one_holder
+pub returns-clause-apart : goal.returns-clause-apart
+returns-clause-apart c = one_holder
 
 pub returns-clause-refused : goal.returns-clause-refused
 returns-clause-refused c = refused_found_held

@@ -21,7 +21,7 @@ pub returns-clause-inside : goal.returns-clause-inside
 returns-clause-inside c =
     let scene : PoolScene = c.args.self.now.scene in
     let own = ap (λ (p : PoolParty). p.allocator.scene) c.party.view_is ∙ ap (λ p. p.scene) c.requires.party in
-    let geometry = subst (λ (s : PoolScene). IsPoolGeometry s.geometry) own c.party.invariant.geometry in
+    let geometry = subst (λ (s : PoolScene). IsPoolGeometry s.geometry) own c.party.invariant.shared.geometry in
     let size = ap (λ (l : Layout). l.size) c.bucket-bucket.ensures in
     elim c.match-pass.branch [
       | in-Some w ↦

@@ -1,5 +1,6 @@
-use Rattle.std.proofs.Common.{◌∙◌, arith, refl}
+use Rattle.std.proofs.Common.{◌∙◌, arith, refl, sym, ap}
 use Rattle.bb_memory.specs.Seats.{number_of, view_log}
+use Rattle.bb_memory.specs.SharedPool.{SharedPool}
 use Rattle.bb_memory.proofs.SharedPoolPasses.{begins, goes_on, passing_next, passing_seat, takes}
 use Rattle.bb_memory.proofs.shared_pool.buckets.SharedBuckets.pass.Goals as goal
 
@@ -12,13 +13,15 @@ loop-bucket-init c =
     }
 
 pub try_flag-requires-clause-table : goal.try_flag-requires-clause-table
-try_flag-requires-clause-table c = c.loop-bucket.invariant.table ∙ c.requires.table
+try_flag-requires-clause-table c =
+    c.loop-bucket.invariant.table ∙ c.requires.table ∙ sym (ap (λ (p : SharedPool). p.table) c.self.view_is)
 
 pub try_flag-requires-clause-seat : goal.try_flag-requires-clause-seat
 try_flag-requires-clause-seat c =
     let me = c.args.seat.now.me in
-    passing_seat c.args.self.now.scene (number_of me.0) (view_log me.0) c.loop-bucket.seat.me c.loop-bucket.bucket
-    c.loop-bucket.invariant.passing
+    let seat = passing_seat c.args.self.now.scene (number_of me.0) (view_log me.0) c.loop-bucket.seat.me c.loop-bucket.bucket
+    c.loop-bucket.invariant.passing in
+    rw (← c.self.view_is) at seat
 
 pub try_flag-requires-clause-next : goal.try_flag-requires-clause-next
 try_flag-requires-clause-next c =
@@ -30,7 +33,7 @@ pub returns-then-try_flag-clause-pass : goal.returns-then-try_flag-clause-pass
 returns-then-try_flag-clause-pass c =
     let me = c.args.seat.now.me in
     takes c.args.self.now.scene (number_of me.0) (view_log me.0) c.loop-bucket.seat.me c.try_flag.new.seat.me
-    c.loop-bucket.bucket c.loop-bucket.invariant.passing (rw c.if-try_flag.true at c.try_flag.ensures.step) (omega arith)
+    c.loop-bucket.bucket c.loop-bucket.invariant.passing (rw c.if-try_flag.true at (rw c.self.view_is at c.try_flag.ensures.step)) (omega arith)
 
 pub loop-bucket-preserved : goal.loop-bucket-preserved
 loop-bucket-preserved c =
@@ -39,5 +42,5 @@ loop-bucket-preserved c =
       table = c.try_flag.ensures.table ∙ c.loop-bucket.invariant.table;
       passing = goes_on c.args.self.now.scene (number_of me.0) (view_log me.0) c.loop-bucket.seat.me
           c.try_flag.new.seat.me c.loop-bucket.bucket c.loop-bucket.invariant.passing
-          (rw c.if-try_flag.false at c.try_flag.ensures.step);
+          (rw c.if-try_flag.false at (rw c.self.view_is at c.try_flag.ensures.step));
     }

@@ -8,7 +8,7 @@ pub returns-clause-value : goal.returns-clause-value
 returns-clause-value c =
     c.call_at.ensures
     ∙ ap (λ calls. slice_get calls c.args.party) c.deref.ensures.value
-    ∙ ap (λ (world : BumpWorld). slice_get world.state.parties c.args.party) c.self.view_is
+    ∙ ap (λ (world : BumpWorld). slice_get world.state.calls c.args.party) c.self.view_is
 
 pub returns-clause-fitting : goal.returns-clause-fitting
 returns-clause-fitting c call is =
@@ -17,4 +17,4 @@ returns-clause-fitting c call is =
 
 pub returns-clause-within : goal.returns-clause-within
 returns-clause-within c some =
-    slice_get-some c.args.self.now.state.parties c.args.party (subst IsSome (returns-clause-value c) some)
+    slice_get-some c.args.self.now.state.calls c.args.party (subst IsSome (returns-clause-value c) some)

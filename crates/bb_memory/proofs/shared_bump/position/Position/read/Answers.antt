@@ -2,7 +2,7 @@ use Rattle.std.proofs.Common.{[], sym, ap, ◌∙◌, arith}
 use Rattle.bb_memory.specs.Seats.{alone, number_of, view_log}
 use Rattle.bb_memory.proofs.SharedBumpKeeps.{reads_as}
 use Rattle.bb_memory.proofs.SharedBumpParties.{told_read}
-use Rattle.bb_memory.proofs.shared_bump.SharedBumpAllocator.read.Goals as goal
+use Rattle.bb_memory.proofs.shared_bump.position.Position.read.Goals as goal
 
 pub load-requires : goal.load-requires
 load-requires g c =

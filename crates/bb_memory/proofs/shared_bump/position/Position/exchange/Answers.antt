@@ -3,7 +3,7 @@ use Rattle.bb_memory_base.specs.BumpMachine.{BumpScene, chunk_at, position_behin
 use Rattle.bb_memory.specs.Seats.{alone, number_of, view_log}
 use Rattle.bb_memory.proofs.SharedBumpKeeps.{exchanges_as}
 use Rattle.bb_memory.proofs.SharedBumpParties.{told_exchange}
-use Rattle.bb_memory.proofs.shared_bump.SharedBumpAllocator.exchange.Goals as goal
+use Rattle.bb_memory.proofs.shared_bump.position.Position.exchange.Goals as goal
 
 pub compare_exchange-found-requires : goal.compare_exchange-found-requires
 compare_exchange-found-requires c =

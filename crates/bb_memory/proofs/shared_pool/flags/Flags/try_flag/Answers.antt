@@ -3,7 +3,7 @@ use Rattle.bb_memory_base.specs.PoolMachine.{PoolScene}
 use Rattle.bb_memory.specs.Seats.{alone, number_of, view_log}
 use Rattle.bb_memory.specs.SharedPool.{SharedPool}
 use Rattle.bb_memory.proofs.SharedPoolKeeps.{tries_as}
-use Rattle.bb_memory.proofs.shared_pool.buckets.SharedBuckets.try_flag.Goals as goal
+use Rattle.bb_memory.proofs.shared_pool.flags.Flags.try_flag.Goals as goal
 
 pub compare_exchange-found-requires : goal.compare_exchange-found-requires
 compare_exchange-found-requires c =
@@ -12,7 +12,7 @@ compare_exchange-found-requires c =
     c.self.invariant.0 ∙ ap (λ (p : SharedPool). p.scene) c.self.view_is in
     let words = c.self.invariant.1 in
     let below = rw (← c.self.view_is) at c.requires.below in
-    let one_each = words.one_each (omega arith) in (
+    let counted = words.words in (
       c.requires.table ∙ sym (ap (λ (p : SharedPool). p.table) c.self.view_is),
       omega arith,
       tries_as c.self.inside.table.shared.key _ _ (number_of me.0) c.args.bucket (view_log me.0) me

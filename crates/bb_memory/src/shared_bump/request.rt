@@ -1,0 +1,62 @@
+//! Requests: a read, and exchanges until one wins or the layout no longer fits.
+ghost use Rattle.std.specs.Prelude.{◌≡◌, ◌+◌, ◌<◌, ◌≤◌, ◌%◌, [], false, true, IfSome, None, Some, MatchOption};
+ghost use Rattle.bb_memory_base.specs.Region.{region_end};
+ghost use Rattle.bb_memory_base.specs.Chunk.{IsInside, chunk_end};
+ghost use Rattle.bb_memory_base.specs.BumpMachine.{chunk_at, fits};
+ghost use Rattle.bb_memory.specs.Seats.{number_of, view_log};
+ghost use Rattle.bb_memory.specs.SharedBumpRule.{IsSeatOf, IsSeatOfIdle};
+ghost use Rattle.bb_memory.specs.SharedBumpSteps.{HasRefused, HasWon};
+
+use super::SharedBumpAllocator;
+use super::rule::{Asked, View};
+use crate::layout::{Chunk, Layout};
+use atomic_table::Seat;
+
+impl SharedBumpAllocator {
+    /// Asks until it wins a chunk or is refused. The layout isn't of size 0.
+    pub(super) fn claim<L: Asked>(&self, seat: &mut Seat<u8, View>, layout: Layout) -> Option<Chunk>
+        requires table { seat.old.table_id ≡ self.now.table }
+        requires seat { IsSeatOfIdle self.now.scene (number_of seat.old.me.0) (view_log seat.old.me.0)
+            seat.old.me }
+        requires asks { 0 < layout.size }
+        requires asked { L.layout ≡ Some layout }
+        ensures table { seat.new.table_id ≡ seat.old.table_id }
+        ensures call { MatchOption result
+            (HasRefused self.now.scene (number_of seat.old.me.0) (view_log seat.old.me.0) layout seat.new.me)
+            (HasWon self.now.scene (number_of seat.old.me.0) (view_log seat.old.me.0) layout seat.new.me) }
+        ensures aligned { IfSome result (λ chunk. chunk.place % layout.align ≡ 0) }
+        ensures inside { IfSome result (IsInside self.now.scene.region) }
+    {
+        let mut seen = self.position.read::<L>(seat, layout);
+        let mut chunk = match self.place(seen, layout) {
+            Some(chunk) => chunk,
+            None => return None,
+        };
+        loop {
+            let found = self
+                .position
+                .exchange(seat, layout, seen, chunk.end() - self.start);
+            if found == seen {
+                return Some(chunk);
+            }
+            seen = found;
+            match self.place(seen, layout) {
+                Some(next) => chunk = next,
+                None => return None,
+            }
+        }
+    }
+
+    /// The chunk that a layout gets at a position, where it fits there.
+    fn place(&self, position: usize, layout: Layout) -> Option<Chunk>
+        requires { position ≤ self.now.scene.region.size }
+        ensures fits { MatchOption result (fits self.now.scene.region position layout ≡ false)
+            (λ chunk. (fits self.now.scene.region position layout ≡ true)
+            × (chunk ≡ chunk_at self.now.scene.region position layout)) }
+        ensures aligned { IfSome result (λ chunk. chunk.place % layout.align ≡ 0) }
+        ensures inside { IfSome result (IsInside self.now.scene.region) }
+        ensures above { IfSome result (λ chunk. self.now.scene.region.start + position ≤ chunk.place) }
+    {
+        Chunk::at_or_after(self.start + position, layout, self.start + self.size)
+    }
+}

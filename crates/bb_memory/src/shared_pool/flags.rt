@@ -1,0 +1,136 @@
+//! The flags that threads share, one a bucket: their words, and the only calls that touch them.
+//!
+//! Each call but `meet` makes one atomic step, by the seat of the party whose step it is, and tells that the party's log then
+//! ends with that step and what it found. `meet` steps for two parties, changes no word, and is in no log.
+ghost use Rattle.std.specs.Prelude.{◌≡◌, ◌<◌, [], IfOk, MatchBool, max};
+ghost use Rattle.bb_memory_base.specs.Region.{IsRegion};
+ghost use Rattle.bb_memory_base.specs.PoolGeometry.{IsPoolGeometry};
+ghost use Rattle.bb_memory_base.specs.PoolLogs.{IsHeldAfter, next_bucket};
+ghost use Rattle.bb_memory.specs.Seats.{first_of, number_of, numbered, others_of, view_log};
+ghost use Rattle.bb_memory.specs.SharedPoolRule.{IsSeatOf, all_parties};
+ghost use Rattle.bb_memory.specs.SharedPoolSteps.{TellsLoss, TellsMeeting, TellsReturn, TellsTaking};
+
+use super::rule::{Agreement, Gather, GiveFirst, KeepFirst, Meets, Returns, Scene, Tries, View};
+use crate::pool_allocator::geometry::Geometry;
+use atomic_table::{Seat, Table};
+use std::alloc::{AllocError, Global};
+use std::marker::Model;
+
+const FREE: u64 = 0;
+
+const TAKEN: u64 = 1;
+
+/// How many words the flags of so many buckets are. A pool without buckets has one word, which is no flag.
+fn count_words(buckets: u32) -> usize
+    ensures { result ≡ max buckets 1 }
+{
+    buckets.max(1) as usize
+}
+
+/// The words that have the flags, and the buckets that these are of.
+#[derive(Drop)]
+pub(super) struct Flags {
+    table: Table<u8, View, Scene, Agreement, Global>,
+    scene: Scene,
+}
+
+impl Model for Flags {
+    ghost use Rattle.std.specs.Prelude.{◌≡◌};
+    ghost use Rattle.bb_memory.specs.SharedPool.{SharedPool};
+    ghost use Rattle.bb_memory.specs.SharedPoolRule.{HasWords};
+
+    ghost Value = { SharedPool };
+
+    ghost view = { λ f. record { table = f.table.shared.table_id; scene = f.scene } };
+
+    ghost invariant = { λ f. (f.table.shared.key ≡ f.scene)
+        × HasWords f.table.shared.table_id f.scene };
+}
+
+impl Flags {
+    /// The flags at a scene's opening, all free, and a seat that stands for all its parties.
+    pub(super) fn open(alloc: Global, scene: Scene) -> Result<(Flags, Seat<u8, View>), AllocError>
+        ensures scene { IfOk result (λ made. made.0.scene ≡ scene) }
+        ensures table { IfOk result (λ made. made.1.table_id ≡ made.0.table) }
+        ensures seat { IfOk result (λ made. made.1.me ≡ (all_parties scene, [])) }
+        ensures region { IfOk result (λ made. IsRegion scene.geometry.region) }
+        ensures geometry { IfOk result (λ made. IsPoolGeometry scene.geometry) }
+    {
+        let words = Vec::from_elem(alloc, FREE, count_words(scene.geometry.count()))?;
+        let (table, seat) = Table::of_words(alloc, words.as_slice(), &scene)?;
+        Ok((Flags { table, scene }, seat))
+    }
+
+    /// A seat of its own for the first party that a seat stands for.
+    pub(super) fn deal(&self, rest: &mut Seat<u8, View>) -> Seat<u8, View>
+        requires table { rest.old.table_id ≡ self.now.table }
+        ensures table { rest.new.table_id ≡ rest.old.table_id }
+        ensures rest { rest.new.me ≡ (others_of rest.old.me.0, rest.old.me.1) }
+        ensures its_table { result.table_id ≡ rest.old.table_id }
+        ensures first { result.me ≡ (first_of rest.old.me.0, []) }
+    {
+        self.table.shared.split_seat::<GiveFirst>(rest)
+    }
+
+    /// One exchange on the flag of the bucket that the party tries next: whether it took the bucket.
+    pub(super) fn try_flag(&self, seat: &mut Seat<u8, View>, bucket: u32) -> bool
+        requires table { seat.old.table_id ≡ self.now.table }
+        requires seat { IsSeatOf self.now.scene (number_of seat.old.me.0) (view_log seat.old.me.0)
+            seat.old.me }
+        requires next { next_bucket (view_log seat.old.me.0) ≡ bucket }
+        requires below { bucket < self.now.scene.geometry.buckets }
+        ensures table { seat.new.table_id ≡ seat.old.table_id }
+        ensures step { MatchBool result
+            (TellsTaking self.now.scene (number_of seat.old.me.0) (view_log seat.old.me.0)
+            bucket seat.new.me)
+            (TellsLoss self.now.scene (number_of seat.old.me.0) (view_log seat.old.me.0)
+            bucket seat.new.me) }
+    {
+        let found = self
+            .table
+            .shared
+            .compare_exchange::<Tries>(seat, bucket as usize, FREE, TAKEN);
+        found == FREE
+    }
+
+    /// A store of free on the flag of a bucket that is held after the party's log.
+    pub(super) fn give_back(&self, seat: &mut Seat<u8, View>, bucket: u32)
+        requires table { seat.old.table_id ≡ self.now.table }
+        requires seat { IsSeatOf self.now.scene (number_of seat.old.me.0) (view_log seat.old.me.0)
+            seat.old.me }
+        requires held { IsHeldAfter (view_log seat.old.me.0) bucket }
+        requires below { bucket < self.now.scene.geometry.buckets }
+        ensures table { seat.new.table_id ≡ seat.old.table_id }
+        ensures step { TellsReturn self.now.scene (number_of seat.old.me.0) (view_log seat.old.me.0)
+            bucket seat.new.me }
+    {
+        self.table
+            .shared
+            .store::<Returns>(seat, bucket as usize, FREE);
+    }
+
+    /// Two parties meet at one seat, load a word there, and go back to their own.
+    pub(super) fn meet(&self, a: &mut Seat<u8, View>, b: &mut Seat<u8, View>)
+        requires tables { (a.old.table_id ≡ self.now.table) × (b.old.table_id ≡ self.now.table) }
+        requires a { IsSeatOf self.now.scene (number_of a.old.me.0) (view_log a.old.me.0) a.old.me }
+        requires b { IsSeatOf self.now.scene (number_of b.old.me.0) (view_log b.old.me.0) b.old.me }
+        ensures tables { (a.new.table_id ≡ a.old.table_id) × (b.new.table_id ≡ b.old.table_id) }
+        ensures kept { (a.new.me ≡ a.old.me) × (b.new.me ≡ b.old.me) }
+        ensures met { TellsMeeting self.now.scene
+            (numbered (number_of a.old.me.0) (view_log a.old.me.0))
+            (numbered (number_of b.old.me.0) (view_log b.old.me.0)) }
+    {
+        let shared = &self.table.shared;
+        let guest = shared.split_seat::<GiveFirst>(b);
+        shared.join_seat::<Gather>(a, guest);
+        shared.load::<Meets>(a, 0);
+        *b = shared.split_seat::<KeepFirst>(a);
+    }
+
+    /// The buckets that the flags are of.
+    pub(super) fn geometry(&self) -> &Geometry
+        ensures value { result.now ≡ self.now.scene.geometry }
+    {
+        &self.scene.geometry
+    }
+}
