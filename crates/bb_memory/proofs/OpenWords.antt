@@ -5,7 +5,7 @@ use Rattle.std.proofs.lemmas.Bool.{cases_eq, cases_lt, ne_eqb}
 use Rattle.std.proofs.lemmas.List.FromFn.{length-map-range_with_len, get_or-map-range_with_len}
 use Rattle.bb_memory.specs.Words.{IsListing, IsWordSet, PutsAt, AreFull, AreIndexWords, open_word}
 use Rattle.bb_memory.specs.IndexWords.{index_words}
-use Rattle.bb_memory.proofs.Listings.{IsStack, put_at, filled, still_open, opened, still, room_in}
+use Rattle.bb_memory.proofs.Listings.{IsStack, filled, still_open, opened, still, room_in}
 
 -- THE WORD IN HAND ON TOP OF THE LIST
 
@@ -71,47 +71,67 @@ pub some_open : (words listed : List ℕ) (hand top : ℕ) → IsListing words l
     get_or words hand 0 ≢ 2 ^ 64 - 1 → 0 < top
 some_open words listed hand top is within not = let there = is.all hand within not in omega (arith, there.1)
 
--- a taking from the word in hand, which isn't full yet
-pub hand_left : (words listed new : List ℕ) (hand top left : ℕ) → IsListing words listed hand top → hand < length words →
-    get_or words hand 0 ≢ 2 ^ 64 - 1 → new ≡ set words hand left → left ≢ 2 ^ 64 - 1 → IsListing new listed hand top
-hand_left words listed new hand top left is within was_open put not =
-    let some = some_open words listed hand top is within was_open in
-    let stack = names listed hand top (length words) in
-    let puts : PutsAt words hand new = rw put (put_at words hand left) in
-    let there : get_or new hand 0 ≡ left = ap (λ (l : List ℕ). get_or l hand 0) put ∙ get_or-set_same words hand left 0 within in
+-- it is the last of the open words
+hand_named : (words listed : List ℕ) (hand top : ℕ) → IsListing words listed hand top → 0 < top →
+    get_or (names listed hand top (length words)) (top - 1) 0 ≡ hand
+hand_named words listed hand top is some =
     let fits = is.fits in
     let last : top - 1 + 1 ≡ top = omega (arith, some) in
-    let last_is : get_or stack (top - 1) 0 ≡ hand =
-    name_at listed hand top (length words) (top - 1) (omega (arith, some, fits)) ∙ top_word listed hand top (top - 1) last in
-    listing_of new stack listed hand top
-    (still_open words new stack top hand (top - 1) (stack_of words listed hand top is) puts (omega (arith, some)) last_is (λ e. not (sym there ∙ e)))
-    (λ k h. sym (name_at listed hand top (length words) k (omega (arith, h, fits))))
+    name_at listed hand top (length words) (top - 1) (omega (arith, some, fits)) ∙ top_word listed hand top (top - 1) last
 
--- the same, and it is full then: the word that is listed last is in hand
-pub hand_filled : (words listed new : List ℕ) (hand top left next : ℕ) → IsListing words listed hand top → hand < length words →
-    get_or words hand 0 ≢ 2 ^ 64 - 1 → new ≡ set words hand left → left ≡ 2 ^ 64 - 1 →
-    (1 < top → next ≡ get_or listed (top - 1 - 1) 0) → IsListing new listed next (top - 1)
-hand_filled words listed new hand top left next is within was_open put full last_listed =
-    let some = some_open words listed hand top is within was_open in
+-- a taking from the word in hand, which isn't full yet
+pub set_left : (bound : ℕ) (words listed new named : List ℕ) (hand top : ℕ) → IsWordSet bound words listed hand top →
+    AreIndexWords bound new → PutsAt words hand new → 0 < length words → get_or words hand 0 ≢ 2 ^ 64 - 1 →
+    get_or new hand 0 ≢ 2 ^ 64 - 1 → named ≡ listed → IsWordSet bound new named hand top
+set_left bound words listed new named hand top is are puts filled_words was_open not name =
+    let listing = is.listing in
+    let within = is.in_hand filled_words in
+    let some = some_open words listed hand top listing within was_open in
     let stack = names listed hand top (length words) in
-    let puts : PutsAt words hand new = rw put (put_at words hand left) in
-    let there : get_or new hand 0 ≡ 2 ^ 64 - 1 =
-    ap (λ (l : List ℕ). get_or l hand 0) put ∙ get_or-set_same words hand left 0 within ∙ full in
-    let fits = is.fits in
-    let last : top - 1 + 1 ≡ top = omega (arith, some) in
-    let last_is : get_or stack (top - 1) 0 ≡ hand =
-    name_at listed hand top (length words) (top - 1) (omega (arith, some, fits)) ∙ top_word listed hand top (top - 1) last in
-    listing_of new stack listed next (top - 1)
-    (filled words new stack top hand (stack_of words listed hand top is) puts some (sym last_is) there)
-    (λ k h.
-    let under : get_or stack k 0 ≡ get_or listed k 0 =
-    name_at listed hand top (length words) k (omega (arith, h, fits)) ∙ under_word listed hand top k (omega (arith, h)) in
-    elim (cases_eq (k + 1) (top - 1)) [
-      | inl e ↦
-          let place : top - 1 - 1 ≡ k = omega (arith, e) in
-          top_word listed next (top - 1) k e ∙ last_listed (omega (arith, e)) ∙ ap (λ x. get_or listed x 0) place ∙ sym under
-      | inr other ↦ under_word listed next (top - 1) k other ∙ sym under
-    ])
+    let fits = listing.fits in
+    record {
+      are = are;
+      room = ap length name ∙ omega (arith, is.room, puts.len);
+      in_hand = λ any. omega (arith, within, puts.len);
+      listing = rw name (listing_of new stack listed hand top
+          (still_open words new stack top hand (top - 1) (stack_of words listed hand top listing) puts (omega (arith, some))
+          (hand_named words listed hand top listing some) not)
+          (λ k h. sym (name_at listed hand top (length words) k (omega (arith, h, fits)))));
+    }
+
+-- the same, and it is full then: the word that is listed last is in hand, if one is listed
+pub set_filled : (bound : ℕ) (words listed new named : List ℕ) (hand top next : ℕ) → IsWordSet bound words listed hand top →
+    AreIndexWords bound new → PutsAt words hand new → 0 < length words → get_or words hand 0 ≢ 2 ^ 64 - 1 →
+    get_or new hand 0 ≡ 2 ^ 64 - 1 → named ≡ listed → (0 < top - 1 → next ≡ get_or listed (top - 1 - 1) 0) →
+    (top - 1 ≡ 0 → next ≡ hand) → IsWordSet bound new named next (top - 1)
+set_filled bound words listed new named hand top next is are puts filled_words was_open full name last_listed none_listed =
+    let listing = is.listing in
+    let within = is.in_hand filled_words in
+    let some = some_open words listed hand top listing within was_open in
+    let stack = names listed hand top (length words) in
+    let fits = listing.fits in
+    record {
+      are = are;
+      room = ap length name ∙ omega (arith, is.room, puts.len);
+      in_hand = λ any. elim (cases_lt 0 (top - 1)) [
+        | inl more ↦
+            let below = listing.below (top - 1 - 1) (omega (arith, more)) in
+            let under = under_word listed hand top (top - 1 - 1) (omega (arith, more)) in
+            omega (arith, below, under, last_listed more, puts.len)
+        | inr none ↦ omega (arith, none_listed (omega (arith, none)), within, puts.len)
+      ];
+      listing = rw name (listing_of new stack listed next (top - 1)
+          (filled words new stack top hand (stack_of words listed hand top listing) puts some (sym (hand_named words listed hand top listing some)) full)
+          (λ k h.
+          let under : get_or stack k 0 ≡ get_or listed k 0 =
+          name_at listed hand top (length words) k (omega (arith, h, fits)) ∙ under_word listed hand top k (omega (arith, h)) in
+          elim (cases_eq (k + 1) (top - 1)) [
+            | inl e ↦
+                let place : top - 1 - 1 ≡ k = omega (arith, e) in
+                top_word listed next (top - 1) k e ∙ last_listed (omega (arith, e)) ∙ ap (λ x. get_or listed x 0) place ∙ sym under
+            | inr other ↦ under_word listed next (top - 1) k other ∙ sym under
+          ]));
+    }
 
 -- with a full word the open ones are fewer than all
 pub room_left : (words listed : List ℕ) (hand top at : ℕ) → IsListing words listed hand top → at < length words →

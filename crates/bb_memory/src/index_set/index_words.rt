@@ -47,12 +47,12 @@ impl Counter {
     }
 }
 
-/// What a search may do with index words: read one through its counter, replace one, and read the list behind them. Number n is
-/// bit n % 64 of word n / 64, counted from the lowest.
+/// What a search may do with index words: read one through its counter, and replace one. Number n is bit n % 64 of word n / 64,
+/// counted from the lowest.
 pub trait Searched {
     ghost use Rattle.bb_memory.specs.Words.{Slots};
 
-    /// The words, and the list.
+    /// The words, and the list behind them.
     ghost slots: { Self → Slots };
 
     /// How many words there are. No word is read.
@@ -71,11 +71,6 @@ pub trait Searched {
         requires { i < length (slots self.old).words }
         ensures words { (slots self.new).words ≡ slice_set (slots self.old).words i word }
         ensures listed { (slots self.new).listed ≡ (slots self.old).listed };
-
-    /// Entry k of the list.
-    fn listed(&self, k: usize) -> usize
-        requires { k < length (slots self.now).listed }
-        ensures { result ≡ slice_index (slots self.now).listed k };
 }
 
 /// Words, and behind them, in the same memory, a list with an entry for each word but one.
@@ -135,6 +130,15 @@ impl<A: Allocator> IndexWords<A> {
         word == u64::MAX
     }
 
+    /// Entry k of the list.
+    #[inline(always)]
+    pub fn listed(&self, k: usize) -> usize
+        requires { k < length self.now.listed }
+        ensures { result ≡ slice_index self.now.listed k }
+    {
+        self.slots[self.count + k] as usize
+    }
+
     /// Replaces entry k of the list.
     #[inline(always)]
     pub fn list(&mut self, k: usize, at: usize)
@@ -163,10 +167,5 @@ impl<A: Allocator> Searched for IndexWords<A> {
     #[inline(always)]
     fn put(&mut self, i: usize, word: u64) {
         self.slots[i] = word;
-    }
-
-    #[inline(always)]
-    fn listed(&self, k: usize) -> usize {
-        self.slots[self.count + k] as usize
     }
 }

@@ -69,11 +69,16 @@ impl<A: Allocator> IndexSet for Words<A> {
         self.bound
     }
 
+    /// Where that fills the word in hand, the one that is listed last is in hand from then on.
     #[inline(always)]
     fn take(&mut self, counter: &mut Counter) -> Option<usize> {
-        let found = search(&mut self.words, self.hand, self.top, counter)?;
-        self.hand = found.hand;
-        self.top = found.top;
+        let found = search(&mut self.words, self.hand, counter)?;
+        if found.full {
+            self.top -= 1;
+            if self.top > 0 {
+                self.hand = self.words.listed(self.top - 1);
+            }
+        }
         Some(found.number)
     }
 
