@@ -1,9 +1,11 @@
 mod Cuts
 mod Geometries
 mod Listings
+mod LowestBits
 mod Measures
 mod NumberFlags
 mod NumberWords
+mod OpenWords
 mod OneChunks
 mod PoolAnswers
 mod PoolCalls

@@ -1,4 +1,4 @@
--- The list of the words that aren't full, after a taking and after a release.
+-- A list of the words that aren't full, after one is full or open again.
 use Rattle.std.proofs.Common.{◌≡◌, ◌≢◌, ℕ, ◌+◌, ◌-◌, ◌^◌, ◌<◌, ◌≤◌, eqb, List, [], ◌∷◌, ◌++◌, length, get_or, set, take, sym, ◌∙◌, ap, refl, inl, inr, arith, length-set, get_or-set_same, get_or-set_other}
 use Rattle.std.proofs.lemmas.Bool.{cases_eq, ne_eqb}
 use Rattle.std.proofs.lemmas.List.{length-take-le, get_or-take, get_or_default, get_or_append_left, get_or_push, length_push}
@@ -6,12 +6,19 @@ use Rattle.std.proofs.lemmas.Map.Keys.{IsDistinct-from_apart}
 use Rattle.std.proofs.lemmas.Map.Steps.{length-le_from_distinct_below}
 use Rattle.std.proofs.lemmas.Map.Views.{Contains-from_any}
 use Rattle.std.proofs.lemmas.Bool.{eqb-true}
-use Rattle.bb_memory.specs.Words.{IsListing, IsWordSet, PutsAt, AreFull, AreIndexWords}
-use Rattle.bb_memory.specs.IndexWords.{index_words}
+use Rattle.bb_memory.specs.Words.{PutsAt}
+
+-- the first entries of a list, so many, are just the words that aren't full, each once
+pub record IsStack (words : List ℕ) (listed : List ℕ) (top : ℕ) : Type 0 where
+  pub fits : top ≤ length words
+  pub below : (k : ℕ) → k < top → get_or listed k 0 < length words
+  pub each : (k : ℕ) → k < top → get_or words (get_or listed k 0) 0 ≢ 2 ^ 64 - 1
+  pub once : (i : ℕ) (k : ℕ) → i < k → k < top → get_or listed i 0 ≢ get_or listed k 0
+  pub all : (at : ℕ) → at < length words → get_or words at 0 ≢ 2 ^ 64 - 1 → (k : ℕ) × (k < top) × (get_or listed k 0 ≡ at)
 
 -- a word that was open is full, and was listed last
-pub filled : (words new listed : List ℕ) (top at : ℕ) → IsListing words listed top → PutsAt words at new → 0 < top →
-    at ≡ get_or listed (top - 1) 0 → get_or new at 0 ≡ 2 ^ 64 - 1 → IsListing new listed (top - 1)
+pub filled : (words new listed : List ℕ) (top at : ℕ) → IsStack words listed top → PutsAt words at new → 0 < top →
+    at ≡ get_or listed (top - 1) 0 → get_or new at 0 ≡ 2 ^ 64 - 1 → IsStack new listed (top - 1)
 filled words new listed top at is puts some last full = record {
   fits = omega (arith, is.fits, puts.len);
   below = λ k h. omega (arith, is.below k (omega arith), puts.len);
@@ -30,8 +37,8 @@ filled words new listed top at is puts some last full = record {
 }
 
 -- a word that was listed, and isn't full
-pub still_open : (words new listed : List ℕ) (top at k : ℕ) → IsListing words listed top → PutsAt words at new → k < top →
-    get_or listed k 0 ≡ at → get_or new at 0 ≢ 2 ^ 64 - 1 → IsListing new listed top
+pub still_open : (words new listed : List ℕ) (top at k : ℕ) → IsStack words listed top → PutsAt words at new → k < top →
+    get_or listed k 0 ≡ at → get_or new at 0 ≢ 2 ^ 64 - 1 → IsStack new listed top
 still_open words new listed top at k is puts there listed_at not_full = record {
   fits = omega (arith, is.fits, puts.len);
   below = λ j h. omega (arith, is.below j h, puts.len);
@@ -61,9 +68,9 @@ few xs n below once =
     omega (arith, below at.0 at.1, value))
 
 -- with a full word there is room for one more entry
-pub room_left : (words listed : List ℕ) (top at : ℕ) → IsListing words listed top → length listed ≡ length words → at < length words →
+pub room_in : (words listed : List ℕ) (top at : ℕ) → IsStack words listed top → length listed ≡ length words → at < length words →
     get_or words at 0 ≡ 2 ^ 64 - 1 → top < length listed
-room_left words listed top at is room within full =
+room_in words listed top at is room within full =
     let some = take top listed in
     let len : length some ≡ top = length-take-le top listed (omega (arith, is.fits)) in
     let xs = some ++ at ∷ [] in
@@ -84,8 +91,8 @@ room_left words listed top at is room within full =
     omega (arith, count, len2)
 
 -- a word that was full is open, and is listed behind the others
-pub opened : (words new listed : List ℕ) (top at : ℕ) → IsListing words listed top → PutsAt words at new → at < length words →
-    top < length listed → get_or words at 0 ≡ 2 ^ 64 - 1 → get_or new at 0 ≢ 2 ^ 64 - 1 → IsListing new (set listed top at) (top + 1)
+pub opened : (words new listed : List ℕ) (top at : ℕ) → IsStack words listed top → PutsAt words at new → at < length words →
+    top < length listed → get_or words at 0 ≡ 2 ^ 64 - 1 → get_or new at 0 ≢ 2 ^ 64 - 1 → IsStack new (set listed top at) (top + 1)
 opened words new listed top at is puts within room full not_full =
     let more = set listed top at in
     let last : get_or more top 0 ≡ at = get_or-set_same listed top at 0 room in
@@ -126,29 +133,11 @@ opened words new listed top at is puts within room full not_full =
     }
 
 -- an open word changes, and stays open
-pub still : (words new listed : List ℕ) (top at : ℕ) → IsListing words listed top → PutsAt words at new → at < length words →
-    get_or words at 0 ≢ 2 ^ 64 - 1 → get_or new at 0 ≢ 2 ^ 64 - 1 → IsListing new listed top
+pub still : (words new listed : List ℕ) (top at : ℕ) → IsStack words listed top → PutsAt words at new → at < length words →
+    get_or words at 0 ≢ 2 ^ 64 - 1 → get_or new at 0 ≢ 2 ^ 64 - 1 → IsStack new listed top
 still words new listed top at is puts within was_open not_full =
     let there = is.all at within was_open in
     still_open words new listed top at there.0 is puts there.1 there.2 not_full
-
--- with nothing listed every word is full
-pub none_listed : (words listed : List ℕ) (top : ℕ) → IsListing words listed top → top ≡ 0 → AreFull words 0 (length words)
-none_listed words listed top is none = λ at from within. elim (cases_eq (get_or words at 0) (2 ^ 64 - 1)) [
-  | inl full ↦ full
-  | inr not ↦ let there = is.all at within not in absurd (omega (arith, there.1))
-]
-
--- every word is open, and the list names all, the first one last
-pub all_listed : (words listed : List ℕ) (count : ℕ) → length words ≡ count → ((k : ℕ) → k < count → get_or listed k 0 ≡ count - 1 - k) →
-    ((at : ℕ) → at < length words → get_or words at 0 ≢ 2 ^ 64 - 1) → IsListing words listed count
-all_listed words listed count len named none = record {
-  fits = omega (arith, len);
-  below = λ k h. omega (arith, named k h, len);
-  each = λ k h. none (get_or listed k 0) (omega (arith, named k h, len));
-  once = λ i k before h same. absurd (omega (arith, named i (omega arith), named k h, same));
-  all = λ at within not. (count - 1 - at, omega (arith, len), named (count - 1 - at) (omega (arith, len)) ∙ omega (arith, len));
-}
 
 -- a store of one word
 pub put_at : (words : List ℕ) (at word : ℕ) → PutsAt words at (set words at word)
@@ -156,67 +145,3 @@ put_at words at word = record {
   len = length-set words at word;
   others = λ other apart. get_or-set_other words at other word 0 apart;
 }
-
--- a taking: the word that is listed last has a bit more, and is full then
-pub set_filled : (bound : ℕ) (words listed new named : List ℕ) (top at left : ℕ) → IsWordSet bound words listed top → 0 < top →
-    at ≡ get_or listed (top - 1) 0 → new ≡ set words at left → named ≡ listed → left ≡ 2 ^ 64 - 1 → AreIndexWords bound new →
-    IsWordSet bound new named (top - 1)
-set_filled bound words listed new named top at left is some last put kept full are =
-    let within : at < length words = omega (arith, is.listing.below (top - 1) (omega arith), last) in
-    let puts : PutsAt words at new = rw put (put_at words at left) in
-    let there : get_or new at 0 ≡ 2 ^ 64 - 1 = ap (λ (l : List ℕ). get_or l at 0) put ∙ get_or-set_same words at left 0 within ∙ full in
-    record {
-      are = are;
-      room = ap length kept ∙ omega (arith, is.room, puts.len);
-      listing = rw kept (filled words new listed top at is.listing puts some last there);
-    }
-
--- the same, and it isn't full yet
-pub set_left : (bound : ℕ) (words listed new named : List ℕ) (top at left : ℕ) → IsWordSet bound words listed top → 0 < top →
-    at ≡ get_or listed (top - 1) 0 → new ≡ set words at left → named ≡ listed → left ≢ 2 ^ 64 - 1 → AreIndexWords bound new →
-    IsWordSet bound new named top
-set_left bound words listed new named top at left is some last put kept not are =
-    let within : at < length words = omega (arith, is.listing.below (top - 1) (omega arith), last) in
-    let puts : PutsAt words at new = rw put (put_at words at left) in
-    let there : get_or new at 0 ≡ left = ap (λ (l : List ℕ). get_or l at 0) put ∙ get_or-set_same words at left 0 within in
-    record {
-      are = are;
-      room = ap length kept ∙ omega (arith, is.room, puts.len);
-      listing = rw kept (still_open words new listed top at (top - 1) is.listing puts (omega arith) (sym last) (λ e. not (sym there ∙ e)));
-    }
-
--- a release: a full word has a bit less, and is listed
-pub set_opened : (bound : ℕ) (words listed new named : List ℕ) (top at : ℕ) → IsWordSet bound words listed top → AreIndexWords bound new →
-    PutsAt words at new → at < length words → get_or words at 0 ≡ 2 ^ 64 - 1 → get_or new at 0 ≢ 2 ^ 64 - 1 →
-    named ≡ set listed top at → IsWordSet bound new named (top + 1)
-set_opened bound words listed new named top at is are puts within full not_full name = record {
-  are = are;
-  room = ap length name ∙ omega (arith, length-set listed top at, is.room, puts.len);
-  listing = rw name (opened words new listed top at is.listing puts within (room_left words listed top at is.listing is.room within full) full not_full);
-}
-
--- the same of a word that wasn't full, and is listed already
-pub set_still : (bound : ℕ) (words listed new named : List ℕ) (top at : ℕ) → IsWordSet bound words listed top → AreIndexWords bound new →
-    PutsAt words at new → at < length words → get_or words at 0 ≢ 2 ^ 64 - 1 → get_or new at 0 ≢ 2 ^ 64 - 1 →
-    named ≡ listed → IsWordSet bound new named top
-set_still bound words listed new named top at is are puts within was_open not_full name = record {
-  are = are;
-  room = ap length name ∙ omega (arith, is.room, puts.len);
-  listing = rw name (still words new listed top at is.listing puts within was_open not_full);
-}
-
--- the list, one entry longer
-pub named_more : (listed : List ℕ) (count k : ℕ) → k < length listed → ((j : ℕ) → j < k → get_or listed j 0 ≡ count - 1 - j) →
-    (j : ℕ) → j < k + 1 → get_or (set listed k (count - 1 - k)) j 0 ≡ count - 1 - j
-named_more listed count k room named j below = elim (cases_eq j k) [
-  | inl e ↦ rw (e, get_or-set_same listed k (count - 1 - k) 0 room) refl
-  | inr other ↦ get_or-set_other listed k j (count - 1 - k) 0 other ∙ named j (omega arith)
-]
-
--- fresh words, all of them listed
-pub fresh_set : (bound count : ℕ) (words zero listed : List ℕ) → words ≡ zero → count ≡ index_words bound → AreIndexWords bound zero →
-    ((at : ℕ) → at < length zero → get_or zero at 0 ≢ 2 ^ 64 - 1) → length listed ≡ count →
-    ((j : ℕ) → j < count → get_or listed j 0 ≡ count - 1 - j) → IsWordSet bound words listed count
-fresh_set bound count words zero listed same is are none room named =
-    let len : length zero ≡ count = omega (arith, are.count) in
-    rw same (record { are = are; room = omega arith; listing = all_listed zero listed count len named none })

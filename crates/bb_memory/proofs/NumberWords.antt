@@ -3,10 +3,10 @@ use Rattle.std.proofs.Common.{◌≡◌, ◌≢◌, ℕ, ◌+◌, ◌-◌, ◌*�
 use Rattle.std.proofs.lemmas.List.{length-replicate, get_or-replicate}
 use Rattle.std.proofs.lemmas.List.FromFn.{length-map-range_with_len, get_or-map-range_with_len}
 use Rattle.std.proofs.lemmas.Bool.{cases_eq, cases_lt, false≢true}
-use Rattle.std.proofs.lemmas.Nat.Bits.{bit_at_set_same, bit_at_set_other, bit_at_clear_same, bit_at_clear_other, bit_at-zero, bit_at_ones, bit_at-trailing_ones, bit_at_mask_inside, bit_at_mask_below, ones_shl}
+use Rattle.std.proofs.lemmas.Nat.Bits.{bit_at_clear_same, bit_at_clear_other, bit_at-zero, bit_at_ones, bit_at_mask_inside, bit_at_mask_below, ones_shl}
 use Rattle.std.proofs.lemmas.Option.{slice_get-get_or, slice_get_within}
-use Rattle.std.specs.Prelude.{bit_and, bit_or, Some, slice_get, IsTrue, ◌↔◌}
-use Rattle.std.specs.Int.{bit_at, bit_not, trailing_ones}
+use Rattle.std.specs.Prelude.{bit_and, Some, slice_get, IsTrue, ◌↔◌}
+use Rattle.std.specs.Int.{bit_at, bit_not}
 use Rattle.bb_memory.specs.IndexWords.{index_words}
 use Rattle.bb_memory.specs.NumberSet.{Has, Lacks, IsFull}
 use Rattle.bb_memory.specs.Words.{has_bit, numbers_of, AreFull, AreIndexWords, SetsBit}
@@ -33,19 +33,15 @@ pub word_count : (bound : ℕ) (words : List ℕ) (numbers : List Bool) → AreI
 word_count bound words numbers are is = omega (arith, are.count, length-numbers_of bound words, ap length is)
 
 -- a bit of a word becomes a flag, and its other bits stay
-abbrev Changes : ℕ → ℕ → ℕ → Bool → Type 0
+abbrev pub Changes : ℕ → ℕ → ℕ → Bool → Type 0
 Changes old new bit flag = (eqb (bit_at new bit) 1 ≡ flag) × ((i : ℕ) → i < 64 → i ≢ bit → bit_at new i ≡ bit_at old i)
-
-set_bit : (word bit : ℕ) → bit < 64 → Changes word (bit_or word (1 * 2 ^ bit % 2 ^ 64)) bit true
-set_bit word bit low =
-    (eq-eqb _ 1 (bit_at_set_same w64 word bit low), λ i within other. bit_at_set_other w64 word bit low i other)
 
 clear_bit : (word bit : ℕ) → bit < 64 → Changes word (bit_and word (bit_not w64 (1 * 2 ^ bit % 2 ^ 64))) bit false
 clear_bit word bit low =
     (ap (λ x. eqb x 1) (bit_at_clear_same w64 word bit low), λ i within other. bit_at_clear_other w64 word bit low i within other)
 
 -- a number's bit changes with that bit of its word
-change : (words : List ℕ) (number new : ℕ) (flag : Bool) → number / 64 < length words →
+pub change : (words : List ℕ) (number new : ℕ) (flag : Bool) → number / 64 < length words →
     Changes (get_or words (number / 64) 0) new (number % 64) flag → SetsBit words number flag (set words (number / 64) new)
 change words number new flag within changes = record {
   len = length-set words (number / 64) new;
@@ -92,28 +88,6 @@ module _ (bound : ℕ) (words new : List ℕ) (number : ℕ) (flag : Bool) (belo
     past = λ n past h. sets.others n (omega arith) ∙ are.past n past (omega (arith, sets.len));
   }
 
--- the lowest clear bit of a word is that of a number below the bound, which isn't in the set
-lowest_clear : (bound : ℕ) (words : List ℕ) (at word : ℕ) → AreIndexWords bound words → at < length words → word ≡ get_or words at 0 →
-    word + 1 < 2 ^ 64 →
-    (trailing_ones w64 word < 64) × (at * 64 + trailing_ones w64 word < bound)
-    × Lacks (numbers_of bound words) (at * 64 + trailing_ones w64 word)
-lowest_clear bound words at word are within read not_full =
-    let bit = trailing_ones w64 word in
-    let lowest = bit_at-trailing_ones w64 word not_full in
-    let low : bit < 64 = lowest.0 in
-    let e : (at * 64 + bit) / 64 ≡ at = omega arith in
-    let f : (at * 64 + bit) % 64 ≡ bit = omega arith in
-    let clear : has_bit words (at * 64 + bit) ≡ false =
-    ap (λ x. eqb (bit_at (get_or words x 0) ((at * 64 + bit) % 64)) 1) e
-    ∙ ap (λ x. eqb (bit_at (get_or words at 0) x) 1) f
-    ∙ ap (λ x. eqb (bit_at x bit) 1) (sym read)
-    ∙ ap (λ x. eqb x 1) lowest.1 in
-    let below : at * 64 + bit < bound = elim (cases_lt (at * 64 + bit) bound) [
-      | inl is ↦ is
-      | inr past ↦ absurd (false≢true (sym clear ∙ are.past (at * 64 + bit) past (omega arith)))
-    ] in
-    (low, below, slice_get-numbers_of bound words _ below ∙ ap Some clear)
-
 -- with every word full, every number is in the set
 pub full_words : (bound : ℕ) (words : List ℕ) → AreIndexWords bound words → AreFull words 0 (length words) →
     IsFull (numbers_of bound words)
@@ -156,30 +130,18 @@ released bound words new number are has sets =
       numbers_of-set bound words new number false there.0 sets,
     )
 
--- the words with the lowest clear bit of one word set
-abbrev pub with_lowest : List ℕ → ℕ → ℕ → List ℕ
-with_lowest words at word = set words at (bit_or word (1 * 2 ^ trailing_ones w64 word % 2 ^ 64))
-
--- A taking from a word that isn't full: its number wasn't in the set. With its bit set it is the set with the number.
-pub taken : (bound : ℕ) (words : List ℕ) (at word : ℕ) → AreIndexWords bound words → at < length words → word ≡ get_or words at 0 →
-    word + 1 < 2 ^ 64 →
-    (trailing_ones w64 word < 64) × Lacks (numbers_of bound words) (at * 64 + trailing_ones w64 word)
-    × AreIndexWords bound (with_lowest words at word)
-    × (numbers_of bound (with_lowest words at word) ≡ set (numbers_of bound words) (at * 64 + trailing_ones w64 word) true)
-taken bound words at word are within read not_full =
-    let bit = trailing_ones w64 word in
-    let lowest = lowest_clear bound words at word are within read not_full in
-    let low : bit < 64 = lowest.0 in
-    let e : (at * 64 + bit) / 64 ≡ at = omega arith in
-    let f : (at * 64 + bit) % 64 ≡ bit = omega arith in
-    let changes : Changes (get_or words ((at * 64 + bit) / 64) 0) (bit_or word (1 * 2 ^ bit % 2 ^ 64)) ((at * 64 + bit) % 64) true =
-    rw (e, f, ← read) (set_bit word bit low) in
-    let sets : SetsBit words (at * 64 + bit) true (with_lowest words at word) =
-    rw e at (change words (at * 64 + bit) (bit_or word (1 * 2 ^ bit % 2 ^ 64)) true (rw e within) changes) in (
-      low,
-      lowest.2,
-      AreIndexWords-set bound words (with_lowest words at word) (at * 64 + bit) true lowest.1 sets are,
-      numbers_of-set bound words (with_lowest words at word) (at * 64 + bit) true lowest.1 sets,
+-- A taking: a number whose bit was clear wasn't in the set. With its bit set it is the set with the number.
+pub taken : (bound : ℕ) (words new : List ℕ) (number : ℕ) → AreIndexWords bound words → number / 64 < length words →
+    has_bit words number ≡ false → SetsBit words number true new →
+    Lacks (numbers_of bound words) number × AreIndexWords bound new × (numbers_of bound new ≡ set (numbers_of bound words) number true)
+taken bound words new number are within clear sets =
+    let below : number < bound = elim (cases_lt number bound) [
+      | inl is ↦ is
+      | inr past ↦ absurd (false≢true (sym clear ∙ are.past number past (omega (arith, within))))
+    ] in (
+      slice_get-numbers_of bound words number below ∙ ap Some clear,
+      AreIndexWords-set bound words new number true below sets are,
+      numbers_of-set bound words new number true below sets,
     )
 
 -- no bit below the bound is set, and each from the bound on is

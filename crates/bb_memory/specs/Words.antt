@@ -1,5 +1,5 @@
 -- A set of numbers below a bound, as the bits of words.
-use Rattle.std.specs.Prelude.{◌≡◌, ◌≢◌, ℕ, ◌-◌, ◌*◌, ◌/◌, ◌%◌, ◌^◌, ◌<◌, ◌≤◌, ◌==◌, Bool, true, List, length, map, take, drop, slice_index}
+use Rattle.std.specs.Prelude.{◌≡◌, ◌≢◌, ℕ, ◌+◌, ◌-◌, ◌*◌, ◌/◌, ◌%◌, ◌^◌, ◌<◌, ◌≤◌, ◌==◌, if◌then◌else◌, Bool, true, List, length, map, take, drop, slice_index}
 use Rattle.std.specs.List.{range_with_len}
 use Rattle.std.specs.Int.{bit_at}
 use Rattle.bb_memory.specs.IndexWords.{index_words}
@@ -40,17 +40,22 @@ pub record PutsAt (words : List ℕ) (at : ℕ) (new : List ℕ) : Type 0 where
   pub len : length new ≡ length words
   pub others : (other : ℕ) → other ≢ at → slice_index new other ≡ slice_index words other
 
--- the first entries of the list, so many, name just the words that aren't full, each once
-pub record IsListing (words : List ℕ) (listed : List ℕ) (top : ℕ) : Type 0 where
-  pub fits : top ≤ length words
-  pub below : (k : ℕ) → k < top → slice_index listed k < length words
-  pub each : (k : ℕ) → k < top → slice_index words (slice_index listed k) ≢ 2 ^ 64 - 1
-  pub once : (i : ℕ) (k : ℕ) → i < k → k < top → slice_index listed i ≢ slice_index listed k
-  pub all : (at : ℕ) → at < length words → slice_index words at ≢ 2 ^ 64 - 1
-      → (k : ℕ) × (k < top) × (slice_index listed k ≡ at)
+-- word k of those that aren't full: an entry of the list, and last the word in hand
+abbrev pub open_word : List ℕ → ℕ → ℕ → ℕ → ℕ
+open_word listed hand top k = if k + 1 == top then hand else slice_index listed k
 
--- the words hold a set, and those that aren't full are listed
-pub record IsWordSet (bound : ℕ) (words : List ℕ) (listed : List ℕ) (top : ℕ) : Type 0 where
+-- these, so many, are just the words that aren't full, each once
+pub record IsListing (words : List ℕ) (listed : List ℕ) (hand : ℕ) (top : ℕ) : Type 0 where
+  pub fits : top ≤ length words
+  pub below : (k : ℕ) → k < top → open_word listed hand top k < length words
+  pub each : (k : ℕ) → k < top → slice_index words (open_word listed hand top k) ≢ 2 ^ 64 - 1
+  pub once : (i : ℕ) (k : ℕ) → i < k → k < top → open_word listed hand top i ≢ open_word listed hand top k
+  pub all : (at : ℕ) → at < length words → slice_index words at ≢ 2 ^ 64 - 1
+      → (k : ℕ) × (k < top) × (open_word listed hand top k ≡ at)
+
+-- the words hold a set, one of them is in hand, and those that aren't full are listed or in hand
+pub record IsWordSet (bound : ℕ) (words : List ℕ) (listed : List ℕ) (hand : ℕ) (top : ℕ) : Type 0 where
   pub are : AreIndexWords bound words
-  pub room : length listed ≡ length words
-  pub listing : IsListing words listed top
+  pub room : length listed ≡ length words - 1
+  pub in_hand : 0 < length words → hand < length words
+  pub listing : IsListing words listed hand top

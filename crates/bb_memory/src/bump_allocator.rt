@@ -54,6 +54,7 @@ impl Model for BumpAllocator {
 impl BumpAllocator {
     /// An allocator over the region of `size` bytes at `start`, with nothing given. The start has to be greater than 0,
     /// and start plus size at most `usize::MAX`; [`BumpAllocator::can_make`] tests both.
+    #[inline]
     pub fn new(start: usize, size: usize) -> Self
         requires { IsRegion (region_at start size) }
         ensures value { result ≡ bump_of start size 0 }
@@ -87,6 +88,7 @@ impl BumpAllocator {
     }
 
     /// Where the region starts.
+    #[inline]
     pub fn start_address(&self) -> usize
         ensures value { result ≡ self.now.region.start }
         ensures is_region { IsRegion self.now.region }
@@ -95,6 +97,7 @@ impl BumpAllocator {
     }
 
     /// How many bytes are used: those from the region's start to the end of the last chunk, padding included.
+    #[inline]
     pub fn used_space(&self) -> usize
         ensures value { result ≡ self.now.used }
         ensures of_live { (live : List Chunk) → StandsFor self.now.region self.now.used live
@@ -104,6 +107,7 @@ impl BumpAllocator {
     }
 
     /// How many bytes are behind the last chunk.
+    #[inline]
     pub fn free_space(&self) -> usize
         ensures { self.now.used + result ≡ self.now.region.size }
     {
@@ -111,6 +115,7 @@ impl BumpAllocator {
     }
 
     /// How many bytes the region has.
+    #[inline]
     pub fn total_space(&self) -> usize
         ensures { result ≡ self.now.region.size }
     {
@@ -191,6 +196,7 @@ impl BaseAllocator for BumpAllocator {
     /// A chunk of exactly `layout.size()` bytes, at the least multiple of `layout.align()` behind what is used. Size 0 is
     /// refused with `SizeIsZero`, and a chunk that would end behind the region with `OutOfMemory`. A refusal leaves the
     /// allocator as it was.
+    #[inline(always)]
     fn allocate(&mut self, layout: Layout) -> Result<Chunk, AllocationError>
         ensures answer { (live : List Chunk) → StandsFor self.old.region self.old.used live
             → MayAllocate self.old.region live layout result }
@@ -230,6 +236,7 @@ impl BaseAllocator for BumpAllocator {
     }
 
     /// Gives back all chunks, whichever place and layout are named.
+    #[inline(always)]
     fn deallocate(&mut self, _place: usize, _layout: Layout)
         ensures { self.new ≡ bump_of self.old.region.start self.old.region.size 0 }
     {
@@ -238,6 +245,7 @@ impl BaseAllocator for BumpAllocator {
 
     /// Asks for a chunk as `allocate` does, and makes its bytes zero. Every other byte of the region stays, and after a
     /// refusal all do. The region's start and size have to be those of the bump's maker.
+    #[inline]
     fn allocate_zeroed(
         &mut self,
         layout: Layout,

@@ -26,6 +26,7 @@ impl Model for HeapBlock {
 
 impl HeapBlock {
     /// How many bytes there are.
+    #[inline]
     pub fn len(&self) -> usize
         ensures length { result ≡ length self.now }
     {
@@ -33,6 +34,7 @@ impl HeapBlock {
     }
 
     /// The bytes.
+    #[inline]
     pub fn as_slice(&self) -> &[u8]
         ensures bytes { result.now ≡ self.now }
     {
@@ -40,6 +42,7 @@ impl HeapBlock {
     }
 
     /// Lends the bytes: what is written there is what the block then holds.
+    #[inline]
     pub fn as_mut_slice(&mut self) -> &mut [u8]
         ensures* writes_back { sem 𝓛 (LendsBlock self.entry result) }
         ensures bytes { result.now ≡ self.old }
@@ -65,12 +68,14 @@ pub struct HeapAllocator {
 
 impl HeapAllocator {
     /// A heap allocator that takes its memory from `alloc`.
+    #[inline]
     pub fn new(alloc: Global) -> Self {
         HeapAllocator { alloc }
     }
 
     /// A block of `layout.size()` zero bytes. It is refused, in this order, with `SizeIsZero` where the size is 0, and with
     /// `OutOfMemory` where memory was refused.
+    #[inline]
     pub fn allocate(&self, layout: Layout) -> Result<HeapBlock, AllocationError>
         ensures answer { MayAllocate layout result }
     {
@@ -84,6 +89,7 @@ impl HeapAllocator {
     }
 
     /// The same as `allocate`, whose blocks are all zero.
+    #[inline]
     pub fn allocate_zeroed(&self, layout: Layout) -> Result<HeapBlock, AllocationError>
         ensures answer { MayAllocate layout result }
     {
@@ -91,11 +97,13 @@ impl HeapAllocator {
     }
 
     /// Gives a block back. The layout decides nothing.
+    #[inline]
     pub fn deallocate(&self, _block: HeapBlock, _layout: Layout) {}
 
     /// The block with zero bytes behind its own, up to the new size. The old size has to be the block's length. It is
     /// refused, in this order, with `GrowWouldShrink` where the new size isn't greater than the old one, and with
     /// `OutOfMemory` where memory was refused. A refusal hands the block back as it was.
+    #[inline]
     pub fn grow(
         &self,
         block: HeapBlock,
@@ -120,6 +128,7 @@ impl HeapAllocator {
     }
 
     /// The same as `grow`, which makes all bytes that it adds zero.
+    #[inline]
     pub fn grow_zeroed(
         &self,
         block: HeapBlock,
@@ -135,6 +144,7 @@ impl HeapAllocator {
     /// The first bytes of the block, up to the new size. The old size has to be the block's length. It is refused, in this
     /// order, with `ShrinkWouldGrow` where the new size isn't smaller than the old one, and with `SizeIsZero` where the new
     /// size is 0. A refusal hands the block back as it was. It takes no memory.
+    #[inline]
     pub fn shrink(
         &self,
         block: HeapBlock,

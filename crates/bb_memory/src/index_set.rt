@@ -1,9 +1,11 @@
 //! A set of numbers below a bound, from which any number that isn't in it can be taken.
 //!
-//! [`words::Words`] takes memory once, for a bit a number and a list of as many words; [`flags::Flags`] takes none, and has an
-//! array with a flag a number. Both keep a list of where a number is free, so that nothing is searched.
+//! [`words::Words`] takes memory once, for a bit a number and a list of the words that have a clear bit; [`flags::Flags`] takes
+//! none, and has an array with a flag a number. Both keep a list of where a number is free, so that no taking looks further than
+//! one place.
 pub mod flags;
 pub mod index_words;
+pub mod search;
 pub mod words;
 
 pub use crate::index_set::index_words::Counter;

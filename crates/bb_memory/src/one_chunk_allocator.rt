@@ -59,6 +59,7 @@ impl Model for OneChunkAllocator {
 impl OneChunkAllocator {
     /// An allocator over the region of `size` bytes at `start`, with nothing given. The start has to be greater than 0,
     /// and start plus size at most `usize::MAX`; [`OneChunkAllocator::can_make`] tests both.
+    #[inline]
     pub fn new(start: usize, size: usize) -> Self
         requires { IsRegion (region_at start size) }
         ensures value { result ≡ one_chunk_of start size None }
@@ -79,6 +80,7 @@ impl OneChunkAllocator {
     }
 
     /// Whether no chunk is out.
+    #[inline(always)]
     pub fn has_chunk_available(&self) -> bool
         ensures value { IsTrue result ↔ (self.now.kept ≡ None) }
         ensures of_live { (live : List Chunk) → StandsFor self.now live
@@ -96,6 +98,7 @@ impl OneChunkAllocator {
     /// assert!(one.holds(chunk.place()));
     /// assert!(!one.holds(chunk.place() + 1));
     /// ```
+    #[inline(always)]
     pub fn holds(&self, place: usize) -> bool
         ensures value { IsTrue result ↔ (self.now.kept ≡ Some place) }
         ensures may_release { IsTrue result
@@ -105,6 +108,7 @@ impl OneChunkAllocator {
     }
 
     /// Where the region starts.
+    #[inline]
     pub fn start_address(&self) -> usize
         ensures value { result ≡ self.now.region.start }
         ensures is_region { IsRegion self.now.region }
@@ -113,6 +117,7 @@ impl OneChunkAllocator {
     }
 
     /// How many bytes the region has.
+    #[inline]
     pub fn size(&self) -> usize
         ensures { result ≡ self.now.region.size }
     {
@@ -146,6 +151,7 @@ impl BaseAllocator for OneChunkAllocator {
     /// A chunk at the least multiple of `layout.align()` from the region's start on, up to the region's end. It is
     /// refused, with `OutOfMemory`, exactly where a chunk is out, or where that place is at or behind the region's end,
     /// or less than `layout.size()` bytes are left there. A refusal leaves the allocator as it was.
+    #[inline(always)]
     fn allocate(&mut self, layout: Layout) -> Result<Chunk, AllocationError>
         ensures answer { (live : List Chunk) → StandsFor self.old live
             → MayAllocate self.old.region live layout result }
@@ -186,6 +192,7 @@ impl BaseAllocator for OneChunkAllocator {
     }
 
     /// Gives back the chunk that is out, which has to be at this place. The layout decides nothing.
+    #[inline(always)]
     fn deallocate(&mut self, _place: usize, _layout: Layout)
         requires { self.old.kept ≡ Some _place }
         ensures value { self.new ≡ record self.old { kept = None } }
@@ -198,6 +205,7 @@ impl BaseAllocator for OneChunkAllocator {
 
     /// Asks for a chunk as `allocate` does, and makes its bytes zero. Every other byte of the region stays, and after a
     /// refusal all do. The region's start and size have to be those of the allocator's maker.
+    #[inline]
     fn allocate_zeroed(
         &mut self,
         layout: Layout,
@@ -267,6 +275,7 @@ impl Allocator for OneChunkAllocator {
     ghost may_shrink = { λ region live. MayShrink };
 
     /// How many bytes there are from the chunk's place to the region's end.
+    #[inline]
     fn reserved(&self, place: usize) -> usize
         requires { self.now.kept ≡ Some place }
         ensures value { result ≡ reserved_at self.now.region place }
@@ -279,6 +288,7 @@ impl Allocator for OneChunkAllocator {
     /// Gives the chunk all that is reserved for it. It is refused in this order: with `GrowWouldShrink` where the new size
     /// isn't greater than the old one, with `AlignmentFailure` where the new alignment is greater than the old one, and
     /// with `OutOfMemory` where less than the new size is reserved. The allocator stays as it was.
+    #[inline]
     fn grow(&mut self, place: usize, old: Layout, new: Layout) -> Result<Chunk, AllocationGrowError>
         requires live { self.old.kept ≡ Some place }
         requires aligned { place % old.align ≡ 0 }
@@ -309,6 +319,7 @@ impl Allocator for OneChunkAllocator {
     /// Gives the chunk exactly the new size. It is refused in this order: with `ShrinkWouldGrow` where the new size isn't
     /// smaller than the old one, and with `AlignmentFailure` where the new alignment is greater than the old one. The
     /// allocator stays as it was.
+    #[inline]
     fn shrink(
         &mut self,
         place: usize,
@@ -341,6 +352,7 @@ impl Allocator for OneChunkAllocator {
 
     /// Grows the chunk as `grow` does, and makes the bytes behind its old size zero, up to the region's end. Every other byte of
     /// the region stays, and after a refusal all do. The region's start and size have to be those of the allocator's maker.
+    #[inline]
     fn grow_zeroed(
         &mut self,
         place: usize,
@@ -443,6 +455,7 @@ pub fn one_chunk_object_law()
 {}
 
 /// The chunk from a place to an end. The place isn't 0, and the end isn't below it.
+#[inline(always)]
 fn chunk_between(place: usize, end: usize) -> Chunk
     requires place { 0 < place }
     requires end { place ≤ end }

@@ -150,6 +150,7 @@ impl PoolAllocator<Global> {
 
 impl<A: LanguageAllocator> PoolAllocator<A> {
     /// How many buckets there are.
+    #[inline]
     pub fn number_of_buckets(&self) -> u32
         ensures { result ≡ self.now.pool.geometry.buckets }
     {
@@ -157,6 +158,7 @@ impl<A: LanguageAllocator> PoolAllocator<A> {
     }
 
     /// The size of a bucket in bytes, as it was asked for. The buckets are at least that far apart.
+    #[inline]
     pub fn bucket_size(&self) -> usize
         ensures { result ≡ self.now.pool.geometry.bucket.size }
     {
@@ -164,6 +166,7 @@ impl<A: LanguageAllocator> PoolAllocator<A> {
     }
 
     /// The greatest alignment that a request may have, of which each bucket's place is a multiple.
+    #[inline]
     pub fn max_alignment(&self) -> usize
         ensures { result ≡ self.now.pool.geometry.bucket.align }
     {
@@ -171,6 +174,7 @@ impl<A: LanguageAllocator> PoolAllocator<A> {
     }
 
     /// How many bytes the region has, as it was handed in.
+    #[inline]
     pub fn size(&self) -> usize
         ensures { result ≡ self.now.pool.geometry.region.size }
     {
@@ -178,6 +182,7 @@ impl<A: LanguageAllocator> PoolAllocator<A> {
     }
 
     /// Where the first bucket is: the region's start, rounded up to the bucket's alignment.
+    #[inline]
     pub fn start_address(&self) -> usize
         ensures { result ≡ first_place self.now.pool.geometry.region self.now.pool.geometry.bucket }
     {
@@ -204,6 +209,7 @@ impl<A: LanguageAllocator> PoolAllocator<A> {
     /// How many index words the last `allocate` or `allocate_zeroed` read: one where it looked for a free bucket in a pool that
     /// has a bucket, and 0 before the first, and where the size or the alignment was refused. It is never more than an eighth of
     /// [`PoolAllocator::memory_size`], nor than the number of buckets divided by 64, rounded up.
+    #[inline]
     pub fn last_reads(&self) -> u32
         ensures value { result ≡ self.now.reads }
         ensures most { result ≤ index_words self.now.pool.geometry.buckets }
@@ -313,6 +319,7 @@ impl<A: LanguageAllocator> BaseAllocator for PoolAllocator<A> {
 
     /// Asks for a chunk as `allocate` does, and makes its bytes zero. Every other byte of the region stays, and after a
     /// refusal all do. The region's start and size have to be those of the pool's maker.
+    #[inline]
     fn allocate_zeroed(
         &mut self,
         layout: Layout,
@@ -384,6 +391,7 @@ impl<A: LanguageAllocator> Allocator for PoolAllocator<A> {
     ghost may_shrink = { λ geometry live. MayShrink geometry.bucket };
 
     /// How many bytes are reserved for the chunk at this place, which has to be a held bucket's: the bucket's size.
+    #[inline]
     fn reserved(&self, _place: usize) -> usize
         requires { HoldsPlace self.now.pool _place }
         ensures { result ≡ self.now.pool.geometry.bucket.size }
@@ -395,6 +403,7 @@ impl<A: LanguageAllocator> Allocator for PoolAllocator<A> {
     /// isn't greater than the old one, with `AlignmentFailure` where the new alignment is greater than the bucket's, and with
     /// `OutOfMemory` where the new size is greater than the bucket's. The pool stays as it was. The place has to be a held
     /// bucket's and a multiple of the old alignment.
+    #[inline]
     fn grow(&mut self, place: usize, old: Layout, new: Layout) -> Result<Chunk, AllocationGrowError>
         requires live { HoldsPlace self.old.pool place }
         requires aligned { place % old.align ≡ 0 }
@@ -416,6 +425,7 @@ impl<A: LanguageAllocator> Allocator for PoolAllocator<A> {
     /// smaller than the old one, and with `AlignmentFailure` where the new alignment is greater than the bucket's. The pool
     /// stays as it was. The place has to be a held bucket's and a multiple of the old alignment, and the old size at most the
     /// bucket's.
+    #[inline]
     fn shrink(
         &mut self,
         place: usize,
@@ -441,6 +451,7 @@ impl<A: LanguageAllocator> Allocator for PoolAllocator<A> {
 
     /// Grows the chunk as `grow` does, and makes the bytes behind its old size zero, up to the new one. Every other byte of the
     /// region stays, and after a refusal all do. The region's start and size have to be those of the pool's maker.
+    #[inline]
     fn grow_zeroed(
         &mut self,
         place: usize,

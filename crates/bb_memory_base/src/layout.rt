@@ -33,6 +33,7 @@ pub struct LayoutError {}
 impl Layout {
     /// The layout of this size and alignment. It is refused exactly where the alignment is no power of two, or the size
     /// rounded up to a multiple of the alignment exceeds `isize::MAX`.
+    #[inline]
     pub fn from_size_align(size: usize, align: usize) -> Result<Layout, LayoutError>
         ensures accepted { IsOk result ↔ IsLayout size align }
         ensures value { IfOk result (λ layout. (layout.size ≡ size) × (layout.align ≡ align)) }
@@ -48,6 +49,7 @@ impl Layout {
     }
 
     /// The layout of no bytes, for a call in which the layout decides nothing.
+    #[inline]
     pub fn empty() -> Layout
         ensures size { result.size ≡ 0 }
         ensures align { result.align ≡ 1 }
@@ -56,6 +58,7 @@ impl Layout {
     }
 
     /// The size in bytes.
+    #[inline(always)]
     pub fn size(&self) -> usize
         ensures { result ≡ self.now.size }
     {
@@ -63,6 +66,7 @@ impl Layout {
     }
 
     /// The alignment, a power of two.
+    #[inline(always)]
     pub fn align(&self) -> usize
         ensures value { result ≡ self.now.align }
         ensures power_of_two { IsPowerOfTwo self.now.align }
@@ -84,6 +88,7 @@ pub fn layout_law()
 /// ```
 /// assert_eq!(round_up(4097, 8), Some(4104));
 /// ```
+#[inline(always)]
 pub fn round_up(v: usize, align: usize) -> Option<usize>
     requires { IsPowerOfTwo align }
     ensures value { SomeIff result (least_place v align < 2 ^ 64) (least_place v align) }

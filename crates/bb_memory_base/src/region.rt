@@ -57,6 +57,7 @@ impl Region {
     }
 
     /// The place of the first byte.
+    #[inline]
     pub fn start_address(&self) -> usize
         ensures value { result ≡ self.now.start }
         ensures is_region { IsRegion (held_region self.now) }
@@ -65,6 +66,7 @@ impl Region {
     }
 
     /// How many bytes there are.
+    #[inline]
     pub fn size(&self) -> usize
         ensures { result ≡ length self.now.bytes }
     {
@@ -72,6 +74,7 @@ impl Region {
     }
 
     /// All bytes, from the start on.
+    #[inline]
     pub fn bytes(&self) -> &[u8]
         ensures { result.now ≡ self.now.bytes }
     {
@@ -79,6 +82,7 @@ impl Region {
     }
 
     /// The bytes of a chunk, which has to lie inside.
+    #[inline]
     pub fn chunk(&self, c: Chunk) -> &[u8]
         requires { IsInside (held_region self.now) c }
         ensures { result.now ≡ bytes_in self.now c }
@@ -89,6 +93,7 @@ impl Region {
 
     /// Lends the bytes of a chunk, which has to lie inside: what is written there is what the region then holds there,
     /// and every other byte stays.
+    #[inline]
     pub fn chunk_mut(&mut self, c: Chunk) -> &mut [u8]
         requires { IsInside (held_region self.old) c }
         ensures* writes_back { sem 𝓛 (LendsChunk self.entry c result) }
@@ -125,6 +130,7 @@ impl Region {
     }
 
     /// Makes the bytes of a chunk zero, which has to lie inside. Every other byte stays.
+    #[inline]
     pub fn zero(&mut self, c: Chunk)
         requires { IsInside (held_region self.old) c }
         ensures { ZeroesOnly self.old self.new c }

@@ -53,6 +53,7 @@ impl<const N: usize> IndexSet for Flags<N> {
 
     ghost words = { λ bound. 0 };
 
+    #[inline(always)]
     fn bound(&self) -> u32 {
         self.bound
     }

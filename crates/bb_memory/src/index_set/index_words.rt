@@ -1,6 +1,6 @@
 //! Words of 64 bits that a search reads only through a counter, and a list of some of them.
 //!
-//! Both types stand in one module: [`IndexWords::word`] alone hands out a word, and it alone counts a read.
+//! What hands out a word and what counts a read stand in one module: no other code can count.
 ghost use Rattle.std.specs.Prelude.{◌≡◌, ◌≢◌, ℕ, ◌+◌, ◌-◌, ◌/◌, ◌^◌, ◌<◌, ◌≤◌, false, IsTrue, IsFalse, length, replicate, slice_index, slice_set, IfOk};
 ghost use Rattle.bb_memory.specs.Words.{SetsBit, PutsAt, has_bit};
 
@@ -23,7 +23,7 @@ impl Model for Counter {
 
 impl Counter {
     /// A counter that has counted nothing.
-    #[inline]
+    #[inline(always)]
     pub fn new() -> Counter
         ensures { result ≡ 0 }
     {
@@ -31,14 +31,14 @@ impl Counter {
     }
 
     /// How many words were read.
-    #[inline]
+    #[inline(always)]
     pub fn count(&self) -> u32
         ensures { result ≡ self.now }
     {
         self.count
     }
 
-    #[inline]
+    #[inline(always)]
     fn increment(&mut self)
         requires { self.old + 1 < 2 ^ 32 }
         ensures { self.new ≡ self.old + 1 }
@@ -47,8 +47,36 @@ impl Counter {
     }
 }
 
-/// Words that [`IndexWords::word`] alone hands out to a search; a release changes a bit in place, and `has` tells one. Number n is bit n % 64
-/// of word n / 64, counted from the lowest. Behind them, in the same memory, is room for a list of as many words' numbers.
+/// What a search may do with index words: read one through its counter, and replace one. Number n is bit n % 64 of word n / 64,
+/// counted from the lowest.
+pub trait Searched {
+    ghost use Rattle.bb_memory.specs.Words.{Slots};
+
+    /// The words, and the list behind them.
+    ghost slots: { Self → Slots };
+
+    /// How many words there are. No word is read.
+    fn len(&self) -> usize
+        ensures { result ≡ length (slots self.now).words };
+
+    /// Reads word i, and counts the read.
+    fn word(&self, i: usize, counter: &mut Counter) -> u64
+        requires index { i < length (slots self.now).words }
+        requires room { counter.old + 1 < 2 ^ 32 }
+        ensures value { result ≡ slice_index (slots self.now).words i }
+        ensures counted { counter.new ≡ counter.old + 1 };
+
+    /// Replaces word i.
+    fn put(&mut self, i: usize, word: u64)
+        requires { i < length (slots self.old).words }
+        ensures words { (slots self.new).words ≡ slice_set (slots self.old).words i word }
+        ensures listed { (slots self.new).listed ≡ (slots self.old).listed };
+}
+
+/// Words, and behind them, in the same memory, a list with an entry for each word but one.
+///
+/// A search is a function of any [`Searched`]: so it reads a word by [`Searched::word`] alone. A release changes a bit in place,
+/// and `has` tells one.
 #[derive(Drop)]
 pub struct IndexWords<A: Allocator> {
     slots: Vec<u64, A>,
@@ -67,44 +95,14 @@ impl<A: Allocator> Model for IndexWords<A> {
 }
 
 impl<A: Allocator> IndexWords<A> {
-    /// So many words, all zero, and room for the list. It is refused only where a request for memory was.
+    /// So many words, all zero, and room for the list: eight bytes for each. It is refused only where a request for memory was.
     pub fn new(alloc: A, len: usize) -> Result<Self, AllocError>
         requires { len < 2 ^ 32 }
         ensures zero { IfOk result (λ slots. slots.words ≡ replicate len 0) }
-        ensures room { IfOk result (λ slots. length slots.listed ≡ len) }
+        ensures room { IfOk result (λ slots. length slots.listed ≡ len - 1) }
     {
-        let slots = Vec::from_elem(alloc, 0u64, len + len)?;
+        let slots = Vec::from_elem(alloc, 0u64, len + len.saturating_sub(1))?;
         Ok(IndexWords { slots, count: len })
-    }
-
-    /// How many words there are. No word is read.
-    #[inline(always)]
-    pub fn len(&self) -> usize
-        ensures { result ≡ length self.now.words }
-    {
-        self.count
-    }
-
-    /// Reads word i, and counts the read.
-    #[inline(always)]
-    pub fn word(&self, i: usize, counter: &mut Counter) -> u64
-        requires index { i < length self.now.words }
-        requires room { counter.old + 1 < 2 ^ 32 }
-        ensures value { result ≡ slice_index self.now.words i }
-        ensures counted { counter.new ≡ counter.old + 1 }
-    {
-        counter.increment();
-        self.slots[i]
-    }
-
-    /// Replaces word i.
-    #[inline(always)]
-    pub fn put(&mut self, i: usize, word: u64)
-        requires { i < length self.old.words }
-        ensures words { self.new.words ≡ slice_set self.old.words i word }
-        ensures listed { self.new.listed ≡ self.old.listed }
-    {
-        self.slots[i] = word;
     }
 
     /// Whether the bit of a number is set. It is read in place, and isn't counted.
@@ -149,5 +147,25 @@ impl<A: Allocator> IndexWords<A> {
         ensures listed { self.new.listed ≡ slice_set self.old.listed k at }
     {
         self.slots[self.count + k] = at as u64;
+    }
+}
+
+impl<A: Allocator> Searched for IndexWords<A> {
+    ghost slots = { λ words. words };
+
+    #[inline(always)]
+    fn len(&self) -> usize {
+        self.count
+    }
+
+    #[inline(always)]
+    fn word(&self, i: usize, counter: &mut Counter) -> u64 {
+        counter.increment();
+        self.slots[i]
+    }
+
+    #[inline(always)]
+    fn put(&mut self, i: usize, word: u64) {
+        self.slots[i] = word;
     }
 }

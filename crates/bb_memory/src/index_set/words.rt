@@ -2,7 +2,8 @@
 ghost use Rattle.std.specs.Prelude.{◌≡◌, ◌+◌, ◌-◌, ◌^◌, ◌<◌, ◌≤◌, ◌≢◌, ℕ, false, length, replicate, slice_index, IfOk};
 ghost use Rattle.bb_memory.specs.Words.{};
 
-use crate::index_set::index_words::IndexWords;
+use crate::index_set::index_words::{IndexWords, Searched};
+use crate::index_set::search::search;
 use crate::index_set::{Counter, IndexSet};
 use std::alloc::{AllocError, Allocator};
 use std::marker::Model;
@@ -10,12 +11,14 @@ use std::marker::Model;
 /// A bit for each number below the bound. The bits from the bound on are set for good, so that a word with a clear bit has a
 /// number to give.
 ///
-/// The words that aren't full are listed, each once. A taking reads the word that is listed last, and no other: so it reads one
-/// word, however many are full. A refusal finds the list empty, and reads one word, too.
+/// The words that aren't full are named, each once: one of them is in hand, and the others are listed. A taking reads the word in
+/// hand, and no other: so it reads one word, however many are full. That word is full only where every word is, and then the
+/// taking is refused.
 #[derive(Drop)]
 pub struct Words<A: Allocator> {
     words: IndexWords<A>,
     bound: u32,
+    hand: usize,
     top: usize,
 }
 
@@ -27,18 +30,19 @@ impl<A: Allocator> Model for Words<A> {
 
     ghost view = { λ a. numbers_of a.bound a.words.words };
 
-    ghost invariant = { λ a. IsWordSet a.bound a.words.words a.words.listed a.top };
+    ghost invariant = { λ a. IsWordSet a.bound a.words.words a.words.listed a.hand a.top };
 }
 
 impl<A: Allocator> Words<A> {
-    /// The empty set of numbers below a bound. It is refused only where a request for memory was.
+    /// The empty set of numbers below a bound: eight bytes for each word, and eight for each word but one. It is refused only
+    /// where a request for memory was.
     pub fn new(alloc: A, bound: u32) -> Result<Self, AllocError>
         ensures { IfOk result (λ set. set ≡ replicate bound false) }
     {
         let count = (bound as usize).div_ceil(64);
         let mut words = IndexWords::new(alloc, count)?;
-        for k in 0..count {
-            words.list(k, count - 1 - k);
+        for k in 1..count {
+            words.list(k - 1, count - k);
         }
         let used = bound % 64;
         if used != 0 {
@@ -47,6 +51,7 @@ impl<A: Allocator> Words<A> {
         Ok(Words {
             words,
             bound,
+            hand: 0,
             top: count,
         })
     }
@@ -59,35 +64,33 @@ impl<A: Allocator> IndexSet for Words<A> {
 
     ghost words = { index_words };
 
+    #[inline(always)]
     fn bound(&self) -> u32 {
         self.bound
     }
 
+    /// Where that fills the word in hand, the one that is listed last is in hand from then on.
     #[inline(always)]
     fn take(&mut self, counter: &mut Counter) -> Option<usize> {
-        if self.top == 0 {
-            if self.words.len() > 0 {
-                let _ = self.words.word(0, counter);
-            }
-            return None;
-        }
-        let at = self.words.listed(self.top - 1);
-        let word = self.words.word(at, counter);
-        let bit = word.trailing_ones();
-        let left = word | 1u64 << bit;
-        self.words.put(at, left);
-        if left == u64::MAX {
+        let found = search(&mut self.words, self.hand, counter)?;
+        if found.full {
             self.top -= 1;
+            if self.top > 0 {
+                self.hand = self.words.listed(self.top - 1);
+            }
         }
-        Some(at * 64 + bit as usize)
+        Some(found.number)
     }
 
-    /// Lists the number's word, where it was full.
+    /// Takes the number's word in hand, where it was full, and lists the one that was in hand.
     #[inline(always)]
     fn release(&mut self, number: usize) {
         let was_full = self.words.clear(number);
         if was_full {
-            self.words.list(self.top, number / 64);
+            if self.top > 0 {
+                self.words.list(self.top - 1, self.hand);
+            }
+            self.hand = number / 64;
             self.top += 1;
         }
     }

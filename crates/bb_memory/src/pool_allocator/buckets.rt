@@ -57,14 +57,14 @@ impl<S: IndexSet> Buckets<S> {
         }
     }
 
-    #[inline]
+    #[inline(always)]
     pub fn count(&self) -> u32
         ensures { result ≡ self.now.geometry.buckets }
     {
         self.geometry.count()
     }
 
-    #[inline]
+    #[inline(always)]
     pub fn bucket(&self) -> Layout
         ensures { result ≡ self.now.geometry.bucket }
     {
@@ -79,7 +79,7 @@ impl<S: IndexSet> Buckets<S> {
     }
 
     /// Where the first bucket is.
-    #[inline]
+    #[inline(always)]
     pub fn first(&self) -> usize
         ensures { result ≡ first_place self.now.geometry.region self.now.geometry.bucket }
     {
@@ -169,6 +169,7 @@ impl<S: IndexSet> Buckets<S> {
     }
 
     /// What the chunk at this place of a held bucket is answered that is to grow.
+    #[inline]
     pub fn grow(&self, place: usize, old: Layout, new: Layout) -> Result<Chunk, AllocationGrowError>
         requires { HoldsPlace self.now place }
         ensures { MayGrow self.now.geometry.bucket place old new result }
@@ -177,6 +178,7 @@ impl<S: IndexSet> Buckets<S> {
     }
 
     /// What the chunk at this place of a held bucket is answered that is to shrink.
+    #[inline]
     pub fn shrink(
         &self,
         place: usize,

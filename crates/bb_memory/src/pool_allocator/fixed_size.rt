@@ -82,6 +82,7 @@ impl<const MAX_NUMBER_OF_BUCKETS: usize> FixedSizePoolAllocator<MAX_NUMBER_OF_BU
     }
 
     /// How many buckets there are.
+    #[inline]
     pub fn number_of_buckets(&self) -> u32
         ensures { result ≡ self.now.geometry.buckets }
     {
@@ -89,6 +90,7 @@ impl<const MAX_NUMBER_OF_BUCKETS: usize> FixedSizePoolAllocator<MAX_NUMBER_OF_BU
     }
 
     /// The size of a bucket in bytes, as it was asked for. The buckets are at least that far apart.
+    #[inline]
     pub fn bucket_size(&self) -> usize
         ensures { result ≡ self.now.geometry.bucket.size }
     {
@@ -96,6 +98,7 @@ impl<const MAX_NUMBER_OF_BUCKETS: usize> FixedSizePoolAllocator<MAX_NUMBER_OF_BU
     }
 
     /// The greatest alignment that a request may have, of which each bucket's place is a multiple.
+    #[inline]
     pub fn max_alignment(&self) -> usize
         ensures { result ≡ self.now.geometry.bucket.align }
     {
@@ -103,6 +106,7 @@ impl<const MAX_NUMBER_OF_BUCKETS: usize> FixedSizePoolAllocator<MAX_NUMBER_OF_BU
     }
 
     /// How many bytes the region has, as it was handed in.
+    #[inline]
     pub fn size(&self) -> usize
         ensures { result ≡ self.now.geometry.region.size }
     {
@@ -203,6 +207,7 @@ impl<const MAX_NUMBER_OF_BUCKETS: usize> BaseAllocator
 
     /// Asks for a chunk as `allocate` does, and makes its bytes zero. Every other byte of the region stays, and after a
     /// refusal all do. The region's start and size have to be those of the pool's maker.
+    #[inline]
     fn allocate_zeroed(
         &mut self,
         layout: Layout,
@@ -271,6 +276,7 @@ impl<const MAX_NUMBER_OF_BUCKETS: usize> Allocator
     ghost may_shrink = { λ geometry live. MayShrink geometry.bucket };
 
     /// How many bytes are reserved for the chunk at this place, which has to be a held bucket's: the bucket's size.
+    #[inline]
     fn reserved(&self, _place: usize) -> usize
         requires { HoldsPlace self.now _place }
         ensures { result ≡ self.now.geometry.bucket.size }
@@ -282,6 +288,7 @@ impl<const MAX_NUMBER_OF_BUCKETS: usize> Allocator
     /// isn't greater than the old one, with `AlignmentFailure` where the new alignment is greater than the bucket's, and with
     /// `OutOfMemory` where the new size is greater than the bucket's. The pool stays as it was. The place has to be a held
     /// bucket's and a multiple of the old alignment.
+    #[inline]
     fn grow(&mut self, place: usize, old: Layout, new: Layout) -> Result<Chunk, AllocationGrowError>
         requires live { HoldsPlace self.old place }
         requires aligned { place % old.align ≡ 0 }
@@ -303,6 +310,7 @@ impl<const MAX_NUMBER_OF_BUCKETS: usize> Allocator
     /// smaller than the old one, and with `AlignmentFailure` where the new alignment is greater than the bucket's. The pool
     /// stays as it was. The place has to be a held bucket's and a multiple of the old alignment, and the old size at most the
     /// bucket's.
+    #[inline]
     fn shrink(
         &mut self,
         place: usize,
@@ -328,6 +336,7 @@ impl<const MAX_NUMBER_OF_BUCKETS: usize> Allocator
 
     /// Grows the chunk as `grow` does, and makes the bytes behind its old size zero, up to the new one. Every other byte of the
     /// region stays, and after a refusal all do. The region's start and size have to be those of the pool's maker.
+    #[inline]
     fn grow_zeroed(
         &mut self,
         place: usize,

@@ -101,7 +101,7 @@ impl Geometry {
     }
 
     /// How many buckets there are.
-    #[inline]
+    #[inline(always)]
     pub fn count(&self) -> u32
         ensures value { result ≡ self.now.buckets }
         ensures region { IsRegion self.now.region }
@@ -111,7 +111,7 @@ impl Geometry {
     }
 
     /// The layout of each bucket.
-    #[inline]
+    #[inline(always)]
     pub fn bucket(&self) -> Layout
         ensures { result ≡ self.now.bucket }
     {
@@ -127,7 +127,7 @@ impl Geometry {
     }
 
     /// Where the first bucket is.
-    #[inline]
+    #[inline(always)]
     pub fn first(&self) -> usize
         ensures { result ≡ first_place self.now.region self.now.bucket }
     {
@@ -135,7 +135,7 @@ impl Geometry {
     }
 
     /// How far each bucket is from the next.
-    #[inline]
+    #[inline(always)]
     pub fn stride(&self) -> usize
         ensures value { result ≡ stride self.now.bucket }
         ensures some { 0 < result }
@@ -144,7 +144,7 @@ impl Geometry {
     }
 
     /// The first `len` bytes of a bucket.
-    #[inline]
+    #[inline(always)]
     pub fn chunk(&self, bucket: usize, len: usize) -> Chunk
         requires below { bucket < self.now.buckets }
         requires short { len ≤ self.now.bucket.size }
@@ -158,6 +158,7 @@ impl Geometry {
     }
 
     /// What the chunk at a bucket's place is answered that is to grow.
+    #[inline]
     pub fn grow(&self, place: usize, old: Layout, new: Layout) -> Result<Chunk, AllocationGrowError>
         requires { IsPlaceOfBucket self.now place }
         ensures answer { MayGrow self.now.bucket place old new result }
@@ -176,6 +177,7 @@ impl Geometry {
     }
 
     /// What the chunk at a bucket's place is answered that is to shrink.
+    #[inline]
     pub fn shrink(
         &self,
         place: usize,

@@ -32,6 +32,7 @@ impl Model for Chunk {
 impl Chunk {
     /// The chunk of a place and a length in bytes: `None` exactly where the place is 0 or place plus length exceeds
     /// `usize::MAX`.
+    #[inline(always)]
     pub fn new(place: usize, len: usize) -> Option<Chunk>
         ensures { let chunk : Chunk = record { place = place; len = len } in
             SomeIff result (IsChunk chunk) chunk }
@@ -45,6 +46,7 @@ impl Chunk {
 
     /// The chunk that a layout gets at or after `v`: `layout.size()` bytes at the least multiple of `layout.align()` that
     /// isn't below `v`, or `None` exactly where that chunk would end behind `end`. `v` isn't 0.
+    #[inline(always)]
     pub fn at_or_after(v: usize, layout: Layout, end: usize) -> Option<Chunk>
         requires { 0 < v }
         ensures value { SomeIff result (chunk_end (chunk_at_or_after v layout) ≤ end) (chunk_at_or_after v layout) }
@@ -60,6 +62,7 @@ impl Chunk {
     }
 
     /// The place, which isn't 0.
+    #[inline(always)]
     pub fn place(&self) -> usize
         ensures value { result ≡ self.now.place }
         ensures not_zero { 0 < result }
@@ -68,6 +71,7 @@ impl Chunk {
     }
 
     /// The length in bytes, which may be 0.
+    #[inline(always)]
     pub fn len(&self) -> usize
         ensures { result ≡ self.now.len }
     {
@@ -75,6 +79,7 @@ impl Chunk {
     }
 
     /// Whether it has no bytes.
+    #[inline(always)]
     pub fn is_empty(&self) -> bool
         ensures { IsTrue result ↔ (self.now.len ≡ 0) }
     {
@@ -82,6 +87,7 @@ impl Chunk {
     }
 
     /// Place plus length.
+    #[inline(always)]
     pub fn end(&self) -> usize
         ensures { result ≡ chunk_end self.now }
     {
@@ -89,6 +95,7 @@ impl Chunk {
     }
 
     /// What lies behind its first `size` bytes, of which it has to have so many.
+    #[inline]
     pub fn behind(&self, size: usize) -> Chunk
         requires { size ≤ self.now.len }
         ensures { result ≡ part_behind size self.now }

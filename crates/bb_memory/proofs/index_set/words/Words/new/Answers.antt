@@ -2,7 +2,7 @@ use Rattle.std.proofs.Common.{◌≡◌, ◌∙◌, ℕ, List, ap, arith, set, �
 use Rattle.bb_memory.specs.IndexWords.{index_words}
 use Rattle.bb_memory.specs.Words.{Slots, numbers_of}
 use Rattle.bb_memory.proofs.NumberWords.{fresh_whole, fresh_part, last_word, zeros}
-use Rattle.bb_memory.proofs.Listings.{fresh_set, named_more}
+use Rattle.bb_memory.proofs.OpenWords.{fresh_set, named_more}
 use Rattle.bb_memory.proofs.index_set.words.Words.new.Goals as goal
 use Rattle.bb_memory.proofs.index_set.words.Words.new.Goals.{then-used-ne0, else-used-ne0}
 
@@ -11,11 +11,13 @@ loop-k-preserved g c =
     let is = c.loop-k.invariant in
     let count = c.div_ceil-count.result in
     let k = c.loop-k.k in
-    let room : k < length c.loop-k.words.listed = omega (arith, is.room) in
+    let some : 0 < k = is.some in
+    let room : k - 1 < length c.loop-k.words.listed = omega (arith, is.room, some) in
     record {
+      some = omega arith;
       words = c.list.ensures.words ∙ is.words;
-      room = ap length c.list.ensures.listed ∙ length-set c.loop-k.words.listed k (count - 1 - k) ∙ is.room;
-      named = λ j h. rw c.list.ensures.listed (named_more c.loop-k.words.listed count k room is.named j h);
+      room = ap length c.list.ensures.listed ∙ length-set c.loop-k.words.listed (k - 1) (count - k) ∙ is.room;
+      named = λ j h. rw c.list.ensures.listed (named_more c.loop-k.words.listed count k some room is.named j h);
     }
 
 pub invariant_of-result : goal.invariant_of-result

@@ -1,99 +1,148 @@
-use Rattle.std.proofs.Common.{◌≡◌, ◌≢◌, ℕ, ◌+◌, ◌-◌, ◌*◌, ◌^◌, ◌<◌, ◌∙◌, ap, sym, arith, length, get_or, true}
-use Rattle.std.specs.Prelude.{slice_set}
+use Rattle.std.proofs.Common.{◌≡◌, ◌+◌, ◌-◌, ◌/◌, ◌<◌, ◌∙◌, ap, refl, sym, get_or, arith, length, ℕ, List}
 use Rattle.bb_memory.specs.IndexWords.{index_words}
-use Rattle.bb_memory.specs.Words.{numbers_of}
 use Rattle.bb_memory.proofs.NumberWords.{full_words, taken, word_count}
-use Rattle.bb_memory.proofs.Listings.{none_listed, set_filled, set_left}
+use Rattle.bb_memory.proofs.OpenWords.{hand_full, set_left, set_filled}
 use Rattle.bb_memory.proofs.index_set.words.WordsIndexSet.take.Goals as goal
-use Rattle.bb_memory.proofs.index_set.words.WordsIndexSet.take.Goals.{then-len-gt0, else-len-gt0, then-left, else-left}
 
-pub returns-then-self-eq0-clause-full : goal.returns-then-self-eq0-clause-full
-returns-then-self-eq0-clause-full g c =
-    let inside = c.self.inside in
-    let none = none_listed inside.words.words inside.words.listed inside.top c.self.invariant.listing (omega arith) in
-    rw (← c.self.view_is) (full_words inside.bound inside.words.words c.self.invariant.are none)
-
-pub returns-then-self-eq0-clause-counted : goal.returns-then-self-eq0-clause-counted
-returns-then-self-eq0-clause-counted g c =
-    let inside = c.self.inside in
-    let count : length inside.words.words ≡ index_words (length c.args.self.now) = word_count inside.bound inside.words.words _ c.self.invariant.are c.self.view_is in
-    elim c.if-len-gt0.branch [
-      | then-len-gt0 w ↦ omega (arith, count, w.word.ensures.counted, c.len.ensures, c.requires)
-      | else-len-gt0 w ↦ omega (arith, count, c.len.ensures, c.requires)
-    ]
-
-pub invariant_of-self : goal.invariant_of-self
-invariant_of-self g c =
+pub returns-in_err-found-clause-full : goal.returns-in_err-found-clause-full
+returns-in_err-found-clause-full g c =
     let inside = c.self.inside in
     let words = inside.words.words in
-    let listed = inside.words.listed in
-    let at = c.listed-at.result in
-    let word = c.word-word.result in
     let is = c.self.invariant in
-    let last : inside.top - 1 < inside.top = omega arith in
-    let within : at < length words = omega (arith, is.listing.below (inside.top - 1) last, c.listed-at.ensures) in
-    let not : word ≢ 2 ^ 64 - 1 = λ e. is.listing.each (inside.top - 1) last
-    (ap (λ (x : ℕ). get_or words x 0) (sym c.listed-at.ensures) ∙ sym c.word-word.ensures.value ∙ e) in
-    let small : word + 1 < 2 ^ 64 = omega (arith, not) in
-    let taking = taken inside.bound words at word is.are within c.word-word.ensures.value small in
-    set_filled inside.bound words listed c.put.new.self.words c.put.new.self.listed inside.top at _ is (omega arith) c.listed-at.ensures
-    c.put.ensures.words c.put.ensures.listed c.if-left.true (rw (c.put.ensures.words, c.trailing_ones-bit.ensures) taking.2)
+    rw (c.from_residual.ensures, ← c.self.view_is)
+    (full_words inside.bound words is.are
+    (λ at from within. hand_full words inside.words.listed inside.hand inside.top is.listing
+    (c.in_err-found.ensures.was_full (omega (arith, within))) at from within))
 
-pub invariant_of-self-else-left : goal.invariant_of-self-else-left
-invariant_of-self-else-left g c =
+pub returns-in_err-found-clause-counted : goal.returns-in_err-found-clause-counted
+returns-in_err-found-clause-counted g c =
+    let inside = c.self.inside in
+    let count : length inside.words.words ≡ index_words (length c.args.self.now) =
+    word_count inside.bound inside.words.words _ c.self.invariant.are c.self.view_is in
+    rw (← count) c.search.ensures.counted
+
+pub invariant_of-self-then-self-gt0 : goal.invariant_of-self-then-self-gt0
+invariant_of-self-then-self-gt0 g c =
     let inside = c.self.inside in
     let words = inside.words.words in
-    let listed = inside.words.listed in
-    let at = c.listed-at.result in
-    let word = c.word-word.result in
     let is = c.self.invariant in
-    let last : inside.top - 1 < inside.top = omega arith in
-    let within : at < length words = omega (arith, is.listing.below (inside.top - 1) last, c.listed-at.ensures) in
-    let not : word ≢ 2 ^ 64 - 1 = λ e. is.listing.each (inside.top - 1) last
-    (ap (λ (x : ℕ). get_or words x 0) (sym c.listed-at.ensures) ∙ sym c.word-word.ensures.value ∙ e) in
-    let small : word + 1 < 2 ^ 64 = omega (arith, not) in
-    let taking = taken inside.bound words at word is.are within c.word-word.ensures.value small in
-    set_left inside.bound words listed c.put.new.self.words c.put.new.self.listed inside.top at _ is (omega arith) c.listed-at.ensures
-    c.put.ensures.words c.put.ensures.listed c.if-left.false (rw (c.put.ensures.words, c.trailing_ones-bit.ensures) taking.2)
+    let told = c.in_ok-found.ensures in
+    let hand = is.in_hand told.some in
+    let within : c.in_ok-found.found.number / 64 < length words = omega (arith, told.in_hand, hand) in
+    let taking = taken inside.bound words c.search.new.words.words c.in_ok-found.found.number is.are within told.lacked told.set in
+    set_filled inside.bound words inside.words.listed c.search.new.words.words c.search.new.words.listed inside.hand inside.top _ is taking.1
+    c.search.ensures.others told.some told.was_open (told.is_full c.if-found.true) c.search.ensures.listed
+    (λ more. c.listed-self-inside.ensures ∙ ap (λ (l : List ℕ). get_or l (inside.top - 1 - 1) 0) c.search.ensures.listed)
+    (λ none. absurd (omega (arith, none, c.if-self-gt0.true)))
 
-pub returns-clause-lacked : goal.returns-clause-lacked
-returns-clause-lacked g c =
+pub invariant_of-self-else-self-gt0 : goal.invariant_of-self-else-self-gt0
+invariant_of-self-else-self-gt0 g c =
     let inside = c.self.inside in
     let words = inside.words.words in
-    let at = c.listed-at.result in
-    let word = c.word-word.result in
     let is = c.self.invariant in
-    let last : inside.top - 1 < inside.top = omega arith in
-    let within : at < length words = omega (arith, is.listing.below (inside.top - 1) last, c.listed-at.ensures) in
-    let not : word ≢ 2 ^ 64 - 1 = λ e. is.listing.each (inside.top - 1) last
-    (ap (λ (x : ℕ). get_or words x 0) (sym c.listed-at.ensures) ∙ sym c.word-word.ensures.value ∙ e) in
-    let small : word + 1 < 2 ^ 64 = omega (arith, not) in
-    let taking = taken inside.bound words at word is.are within c.word-word.ensures.value small in
-    rw (← c.self.view_is, c.trailing_ones-bit.ensures) taking.1
+    let told = c.in_ok-found.ensures in
+    let hand = is.in_hand told.some in
+    let within : c.in_ok-found.found.number / 64 < length words = omega (arith, told.in_hand, hand) in
+    let taking = taken inside.bound words c.search.new.words.words c.in_ok-found.found.number is.are within told.lacked told.set in
+    set_filled inside.bound words inside.words.listed c.search.new.words.words c.search.new.words.listed inside.hand inside.top _ is taking.1
+    c.search.ensures.others told.some told.was_open (told.is_full c.if-found.true) c.search.ensures.listed
+    (λ more. absurd (omega (arith, more, c.if-self-gt0.false))) (λ none. refl)
 
-pub returns-clause-taken : goal.returns-clause-taken
-returns-clause-taken g c =
+pub invariant_of-self-else-found : goal.invariant_of-self-else-found
+invariant_of-self-else-found g c =
     let inside = c.self.inside in
     let words = inside.words.words in
-    let at = c.listed-at.result in
-    let word = c.word-word.result in
     let is = c.self.invariant in
-    let last : inside.top - 1 < inside.top = omega arith in
-    let within : at < length words = omega (arith, is.listing.below (inside.top - 1) last, c.listed-at.ensures) in
-    let not : word ≢ 2 ^ 64 - 1 = λ e. is.listing.each (inside.top - 1) last
-    (ap (λ (x : ℕ). get_or words x 0) (sym c.listed-at.ensures) ∙ sym c.word-word.ensures.value ∙ e) in
-    let small : word + 1 < 2 ^ 64 = omega (arith, not) in
-    let taking = taken inside.bound words at word is.are within c.word-word.ensures.value small in
-    let put : numbers_of inside.bound c.put.new.self.words ≡ slice_set c.args.self.now (at * 64 + c.trailing_ones-bit.result) true =
-    rw (← c.self.view_is, c.put.ensures.words, c.trailing_ones-bit.ensures) taking.3 in
-    elim c.if-left.branch [
-      | then-left w ↦ w.self-is ∙ put
-      | else-left w ↦ w.self-is ∙ put
-    ]
+    let told = c.in_ok-found.ensures in
+    let hand = is.in_hand told.some in
+    let within : c.in_ok-found.found.number / 64 < length words = omega (arith, told.in_hand, hand) in
+    let taking = taken inside.bound words c.search.new.words.words c.in_ok-found.found.number is.are within told.lacked told.set in
+    set_left inside.bound words inside.words.listed c.search.new.words.words c.search.new.words.listed inside.hand inside.top is taking.1
+    c.search.ensures.others told.some told.was_open (told.is_open c.if-found.false) c.search.ensures.listed
 
-pub returns-clause-counted : goal.returns-clause-counted
-returns-clause-counted g c =
+pub returns-then-self-gt0-clause-lacked : goal.returns-then-self-gt0-clause-lacked
+returns-then-self-gt0-clause-lacked g c =
     let inside = c.self.inside in
-    let count : length inside.words.words ≡ index_words (length c.args.self.now) = word_count inside.bound inside.words.words _ c.self.invariant.are c.self.view_is in
-    let below = c.self.invariant.listing.below (inside.top - 1) (omega arith) in
-    omega (arith, count, below, c.word-word.ensures.counted, c.requires)
+    let words = inside.words.words in
+    let is = c.self.invariant in
+    let told = c.in_ok-found.ensures in
+    let hand = is.in_hand told.some in
+    let within : c.in_ok-found.found.number / 64 < length words = omega (arith, told.in_hand, hand) in
+    let taking = taken inside.bound words c.search.new.words.words c.in_ok-found.found.number is.are within told.lacked told.set in
+    rw (← c.self.view_is) taking.0
+
+pub returns-then-self-gt0-clause-taken : goal.returns-then-self-gt0-clause-taken
+returns-then-self-gt0-clause-taken g c =
+    let inside = c.self.inside in
+    let words = inside.words.words in
+    let is = c.self.invariant in
+    let told = c.in_ok-found.ensures in
+    let hand = is.in_hand told.some in
+    let within : c.in_ok-found.found.number / 64 < length words = omega (arith, told.in_hand, hand) in
+    let taking = taken inside.bound words c.search.new.words.words c.in_ok-found.found.number is.are within told.lacked told.set in
+    rw (← c.self.view_is) taking.2
+
+pub returns-then-self-gt0-clause-counted : goal.returns-then-self-gt0-clause-counted
+returns-then-self-gt0-clause-counted g c =
+    let inside = c.self.inside in
+    let count : length inside.words.words ≡ index_words (length c.args.self.now) =
+    word_count inside.bound inside.words.words _ c.self.invariant.are c.self.view_is in
+    rw (← count) c.search.ensures.counted
+
+pub returns-else-self-gt0-clause-lacked : goal.returns-else-self-gt0-clause-lacked
+returns-else-self-gt0-clause-lacked g c =
+    let inside = c.self.inside in
+    let words = inside.words.words in
+    let is = c.self.invariant in
+    let told = c.in_ok-found.ensures in
+    let hand = is.in_hand told.some in
+    let within : c.in_ok-found.found.number / 64 < length words = omega (arith, told.in_hand, hand) in
+    let taking = taken inside.bound words c.search.new.words.words c.in_ok-found.found.number is.are within told.lacked told.set in
+    rw (← c.self.view_is) taking.0
+
+pub returns-else-self-gt0-clause-taken : goal.returns-else-self-gt0-clause-taken
+returns-else-self-gt0-clause-taken g c =
+    let inside = c.self.inside in
+    let words = inside.words.words in
+    let is = c.self.invariant in
+    let told = c.in_ok-found.ensures in
+    let hand = is.in_hand told.some in
+    let within : c.in_ok-found.found.number / 64 < length words = omega (arith, told.in_hand, hand) in
+    let taking = taken inside.bound words c.search.new.words.words c.in_ok-found.found.number is.are within told.lacked told.set in
+    rw (← c.self.view_is) taking.2
+
+pub returns-else-self-gt0-clause-counted : goal.returns-else-self-gt0-clause-counted
+returns-else-self-gt0-clause-counted g c =
+    let inside = c.self.inside in
+    let count : length inside.words.words ≡ index_words (length c.args.self.now) =
+    word_count inside.bound inside.words.words _ c.self.invariant.are c.self.view_is in
+    rw (← count) c.search.ensures.counted
+
+pub returns-else-found-clause-lacked : goal.returns-else-found-clause-lacked
+returns-else-found-clause-lacked g c =
+    let inside = c.self.inside in
+    let words = inside.words.words in
+    let is = c.self.invariant in
+    let told = c.in_ok-found.ensures in
+    let hand = is.in_hand told.some in
+    let within : c.in_ok-found.found.number / 64 < length words = omega (arith, told.in_hand, hand) in
+    let taking = taken inside.bound words c.search.new.words.words c.in_ok-found.found.number is.are within told.lacked told.set in
+    rw (← c.self.view_is) taking.0
+
+pub returns-else-found-clause-taken : goal.returns-else-found-clause-taken
+returns-else-found-clause-taken g c =
+    let inside = c.self.inside in
+    let words = inside.words.words in
+    let is = c.self.invariant in
+    let told = c.in_ok-found.ensures in
+    let hand = is.in_hand told.some in
+    let within : c.in_ok-found.found.number / 64 < length words = omega (arith, told.in_hand, hand) in
+    let taking = taken inside.bound words c.search.new.words.words c.in_ok-found.found.number is.are within told.lacked told.set in
+    rw (← c.self.view_is) taking.2
+
+pub returns-else-found-clause-counted : goal.returns-else-found-clause-counted
+returns-else-found-clause-counted g c =
+    let inside = c.self.inside in
+    let count : length inside.words.words ≡ index_words (length c.args.self.now) =
+    word_count inside.bound inside.words.words _ c.self.invariant.are c.self.view_is in
+    rw (← count) c.search.ensures.counted

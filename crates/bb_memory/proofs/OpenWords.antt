@@ -1,0 +1,233 @@
+-- The words that aren't full, the one in hand and the listed ones: after a taking and after a release.
+use Rattle.std.proofs.Common.{◌≡◌, ◌≢◌, ℕ, ◌+◌, ◌-◌, ◌^◌, ◌<◌, ◌≤◌, List, length, map, get_or, set, sym, ◌∙◌, ap, if◌then◌else◌, inl, inr, arith, eq-eqb, get_or-set_same, get_or-set_other}
+use Rattle.std.specs.List.{range_with_len}
+use Rattle.std.proofs.lemmas.Bool.{cases_eq, cases_lt, ne_eqb}
+use Rattle.std.proofs.lemmas.List.FromFn.{length-map-range_with_len, get_or-map-range_with_len}
+use Rattle.bb_memory.specs.Words.{IsListing, IsWordSet, PutsAt, AreFull, AreIndexWords, open_word}
+use Rattle.bb_memory.specs.IndexWords.{index_words}
+use Rattle.bb_memory.proofs.Listings.{IsStack, filled, still_open, opened, still, room_in}
+
+-- THE WORD IN HAND ON TOP OF THE LIST
+
+-- the last of the open words is the one in hand
+top_word : (listed : List ℕ) (hand top k : ℕ) → k + 1 ≡ top → open_word listed hand top k ≡ hand
+top_word listed hand top k is = ap (λ b. if b then hand else get_or listed k 0) (eq-eqb (k + 1) top is)
+
+-- the others are listed
+under_word : (listed : List ℕ) (hand top k : ℕ) → k + 1 ≢ top → open_word listed hand top k ≡ get_or listed k 0
+under_word listed hand top k other = ap (λ b. if b then hand else get_or listed k 0) (ne_eqb (k + 1) top other)
+
+-- the open words as one list
+names : List ℕ → ℕ → ℕ → ℕ → List ℕ
+names listed hand top count = map (open_word listed hand top) (range_with_len 0 count)
+
+length-names : (listed : List ℕ) (hand top count : ℕ) → length (names listed hand top count) ≡ count
+unfolding names
+length-names listed hand top count = length-map-range_with_len (open_word listed hand top) 0 count
+
+name_at : (listed : List ℕ) (hand top count k : ℕ) → k < count → get_or (names listed hand top count) k 0 ≡ open_word listed hand top k
+unfolding names
+name_at listed hand top count k within = get_or-map-range_with_len (open_word listed hand top) 0 count k k 0 within (omega arith)
+
+stack_of : (words listed : List ℕ) (hand top : ℕ) → IsListing words listed hand top →
+    IsStack words (names listed hand top (length words)) top
+stack_of words listed hand top is =
+    let fits = is.fits in
+    let at : (k : ℕ) → k < top → get_or (names listed hand top (length words)) k 0 ≡ open_word listed hand top k = λ k h.
+    name_at listed hand top (length words) k (omega (arith, h, fits)) in
+    record {
+      fits = fits;
+      below = λ k h. rw (at k h) (is.below k h);
+      each = λ k h. rw (at k h) (is.each k h);
+      once = λ i k before h. rw (at i (omega (arith, before, h)), at k h) (is.once i k before h);
+      all = λ a within not. let there = is.all a within not in (there.0, there.1, at there.0 there.1 ∙ there.2);
+    }
+
+listing_of : (words stack listed : List ℕ) (hand top : ℕ) → IsStack words stack top →
+    ((k : ℕ) → k < top → open_word listed hand top k ≡ get_or stack k 0) → IsListing words listed hand top
+listing_of words stack listed hand top is at = record {
+  fits = is.fits;
+  below = λ k h. rw (at k h) (is.below k h);
+  each = λ k h. rw (at k h) (is.each k h);
+  once = λ i k before h. rw (at i (omega (arith, before, h)), at k h) (is.once i k before h);
+  all = λ a within not. let there = is.all a within not in (there.0, there.1, at there.0 there.1 ∙ there.2);
+}
+
+-- the word in hand is full only where every word is
+pub hand_full : (words listed : List ℕ) (hand top : ℕ) → IsListing words listed hand top → get_or words hand 0 ≡ 2 ^ 64 - 1 →
+    AreFull words 0 (length words)
+hand_full words listed hand top is full = elim (cases_lt 0 top) [
+  | inl some ↦
+      let last : top - 1 + 1 ≡ top = omega arith in
+      absurd (is.each (top - 1) (omega arith) (ap (λ x. get_or words x 0) (top_word listed hand top (top - 1) last) ∙ full))
+  | inr none ↦ λ at from within. elim (cases_eq (get_or words at 0) (2 ^ 64 - 1)) [
+    | inl is_full ↦ is_full
+    | inr not ↦ let there = is.all at within not in absurd (omega (arith, there.1, none))
+  ]
+]
+
+-- where it isn't full, it is one of the open words
+pub some_open : (words listed : List ℕ) (hand top : ℕ) → IsListing words listed hand top → hand < length words →
+    get_or words hand 0 ≢ 2 ^ 64 - 1 → 0 < top
+some_open words listed hand top is within not = let there = is.all hand within not in omega (arith, there.1)
+
+-- it is the last of the open words
+hand_named : (words listed : List ℕ) (hand top : ℕ) → IsListing words listed hand top → 0 < top →
+    get_or (names listed hand top (length words)) (top - 1) 0 ≡ hand
+hand_named words listed hand top is some =
+    let fits = is.fits in
+    let last : top - 1 + 1 ≡ top = omega (arith, some) in
+    name_at listed hand top (length words) (top - 1) (omega (arith, some, fits)) ∙ top_word listed hand top (top - 1) last
+
+-- a taking from the word in hand, which isn't full yet
+pub set_left : (bound : ℕ) (words listed new named : List ℕ) (hand top : ℕ) → IsWordSet bound words listed hand top →
+    AreIndexWords bound new → PutsAt words hand new → 0 < length words → get_or words hand 0 ≢ 2 ^ 64 - 1 →
+    get_or new hand 0 ≢ 2 ^ 64 - 1 → named ≡ listed → IsWordSet bound new named hand top
+set_left bound words listed new named hand top is are puts filled_words was_open not name =
+    let listing = is.listing in
+    let within = is.in_hand filled_words in
+    let some = some_open words listed hand top listing within was_open in
+    let stack = names listed hand top (length words) in
+    let fits = listing.fits in
+    record {
+      are = are;
+      room = ap length name ∙ omega (arith, is.room, puts.len);
+      in_hand = λ any. omega (arith, within, puts.len);
+      listing = rw name (listing_of new stack listed hand top
+          (still_open words new stack top hand (top - 1) (stack_of words listed hand top listing) puts (omega (arith, some))
+          (hand_named words listed hand top listing some) not)
+          (λ k h. sym (name_at listed hand top (length words) k (omega (arith, h, fits)))));
+    }
+
+-- the same, and it is full then: the word that is listed last is in hand, if one is listed
+pub set_filled : (bound : ℕ) (words listed new named : List ℕ) (hand top next : ℕ) → IsWordSet bound words listed hand top →
+    AreIndexWords bound new → PutsAt words hand new → 0 < length words → get_or words hand 0 ≢ 2 ^ 64 - 1 →
+    get_or new hand 0 ≡ 2 ^ 64 - 1 → named ≡ listed → (0 < top - 1 → next ≡ get_or listed (top - 1 - 1) 0) →
+    (top - 1 ≡ 0 → next ≡ hand) → IsWordSet bound new named next (top - 1)
+set_filled bound words listed new named hand top next is are puts filled_words was_open full name last_listed none_listed =
+    let listing = is.listing in
+    let within = is.in_hand filled_words in
+    let some = some_open words listed hand top listing within was_open in
+    let stack = names listed hand top (length words) in
+    let fits = listing.fits in
+    record {
+      are = are;
+      room = ap length name ∙ omega (arith, is.room, puts.len);
+      in_hand = λ any. elim (cases_lt 0 (top - 1)) [
+        | inl more ↦
+            let below = listing.below (top - 1 - 1) (omega (arith, more)) in
+            let under = under_word listed hand top (top - 1 - 1) (omega (arith, more)) in
+            omega (arith, below, under, last_listed more, puts.len)
+        | inr none ↦ omega (arith, none_listed (omega (arith, none)), within, puts.len)
+      ];
+      listing = rw name (listing_of new stack listed next (top - 1)
+          (filled words new stack top hand (stack_of words listed hand top listing) puts some (sym (hand_named words listed hand top listing some)) full)
+          (λ k h.
+          let under : get_or stack k 0 ≡ get_or listed k 0 =
+          name_at listed hand top (length words) k (omega (arith, h, fits)) ∙ under_word listed hand top k (omega (arith, h)) in
+          elim (cases_eq (k + 1) (top - 1)) [
+            | inl e ↦
+                let place : top - 1 - 1 ≡ k = omega (arith, e) in
+                top_word listed next (top - 1) k e ∙ last_listed (omega (arith, e)) ∙ ap (λ x. get_or listed x 0) place ∙ sym under
+            | inr other ↦ under_word listed next (top - 1) k other ∙ sym under
+          ]));
+    }
+
+-- with a full word the open ones are fewer than all
+pub room_left : (words listed : List ℕ) (hand top at : ℕ) → IsListing words listed hand top → at < length words →
+    get_or words at 0 ≡ 2 ^ 64 - 1 → top < length words
+room_left words listed hand top at is within full =
+    let stack = names listed hand top (length words) in
+    let len : length stack ≡ length words = length-names listed hand top (length words) in
+    omega (arith, room_in words stack top at (stack_of words listed hand top is) len within full, len)
+
+-- a release: a full word has a bit less, and is in hand, and the one that was in hand is listed
+pub set_opened : (bound : ℕ) (words listed new named : List ℕ) (hand top at : ℕ) → IsWordSet bound words listed hand top →
+    AreIndexWords bound new → PutsAt words at new → at < length words → get_or words at 0 ≡ 2 ^ 64 - 1 →
+    get_or new at 0 ≢ 2 ^ 64 - 1 → length named ≡ length listed →
+    ((k : ℕ) → k < top → get_or named k 0 ≡ open_word listed hand top k) → IsWordSet bound new named at (top + 1)
+set_opened bound words listed new named hand top at is are puts within full not_full len name =
+    let listing = is.listing in
+    let stack = names listed hand top (length words) in
+    let fits = listing.fits in
+    let stack_len : length stack ≡ length words = length-names listed hand top (length words) in
+    let room : top < length stack = omega (arith, room_left words listed hand top at listing within full, stack_len) in
+    record {
+      are = are;
+      room = omega (arith, len, is.room, puts.len);
+      in_hand = λ some. omega (arith, within, puts.len);
+      listing = listing_of new (set stack top at) named at (top + 1)
+          (opened words new stack top at (stack_of words listed hand top listing) puts within room full not_full)
+          (λ k h. elim (cases_eq k top) [
+            | inl e ↦
+                top_word named at (top + 1) k (omega (arith, e))
+                ∙ sym (ap (λ x. get_or (set stack top at) x 0) e ∙ get_or-set_same stack top at 0 room)
+            | inr other ↦
+                under_word named at (top + 1) k (omega (arith, other))
+                ∙ name k (omega (arith, h, other))
+                ∙ sym (name_at listed hand top (length words) k (omega (arith, h, other, fits)))
+                ∙ sym (get_or-set_other stack top k at 0 other)
+          ]);
+    }
+
+-- the list with the word in hand at its end
+pub named_hand : (listed : List ℕ) (hand top k : ℕ) → k < top → top ≤ length listed →
+    get_or (set listed (top - 1) hand) k 0 ≡ open_word listed hand top k
+named_hand listed hand top k h room = elim (cases_eq (k + 1) top) [
+  | inl e ↦
+      let place : k ≡ top - 1 = omega (arith, e) in
+      ap (λ x. get_or (set listed (top - 1) hand) x 0) place ∙ get_or-set_same listed (top - 1) hand 0 (omega (arith, h, room))
+      ∙ sym (top_word listed hand top k e)
+  | inr other ↦
+      get_or-set_other listed (top - 1) k hand 0 (omega (arith, h, other)) ∙ sym (under_word listed hand top k other)
+]
+
+-- a release of a number whose word wasn't full, and is named already
+pub set_still : (bound : ℕ) (words listed new named : List ℕ) (hand top at : ℕ) → IsWordSet bound words listed hand top →
+    AreIndexWords bound new → PutsAt words at new → at < length words → get_or words at 0 ≢ 2 ^ 64 - 1 →
+    get_or new at 0 ≢ 2 ^ 64 - 1 → named ≡ listed → IsWordSet bound new named hand top
+set_still bound words listed new named hand top at is are puts within was_open not_full name =
+    let listing = is.listing in
+    let stack = names listed hand top (length words) in
+    let fits = listing.fits in
+    record {
+      are = are;
+      room = ap length name ∙ omega (arith, is.room, puts.len);
+      in_hand = λ some. omega (arith, is.in_hand (omega (arith, within)), puts.len);
+      listing = rw name (listing_of new stack listed hand top
+          (still words new stack top at (stack_of words listed hand top listing) puts within was_open not_full)
+          (λ k h. sym (name_at listed hand top (length words) k (omega (arith, h, fits)))));
+    }
+
+-- fresh words, all of them open: the first in hand, and the others listed, the second one last
+pub fresh_set : (bound count : ℕ) (words zero listed : List ℕ) → words ≡ zero → count ≡ index_words bound → AreIndexWords bound zero →
+    ((at : ℕ) → at < length zero → get_or zero at 0 ≢ 2 ^ 64 - 1) → length listed ≡ count - 1 →
+    ((j : ℕ) → j + 1 < count → get_or listed j 0 ≡ count - 1 - j) → IsWordSet bound words listed 0 count
+fresh_set bound count words zero listed same is are none room named =
+    let len : length zero ≡ count = omega (arith, are.count) in
+    let at : (k : ℕ) → k < count → open_word listed 0 count k ≡ count - 1 - k = λ k h. elim (cases_eq (k + 1) count) [
+      | inl e ↦ top_word listed 0 count k e ∙ omega (arith, e)
+      | inr other ↦ under_word listed 0 count k other ∙ named k (omega (arith, h, other))
+    ] in
+    rw same (record {
+      are = are;
+      room = omega (arith, room, len);
+      in_hand = λ some. some;
+      listing = record {
+        fits = omega (arith, len);
+        below = λ k h. omega (arith, at k h, len, h);
+        each = λ k h. none (open_word listed 0 count k) (omega (arith, at k h, len, h));
+        once = λ i k before h e. absurd (omega (arith, at i (omega (arith, before, h)), at k h, e, before, h));
+        all = λ a within not. (count - 1 - a, omega (arith, len, within), at (count - 1 - a) (omega (arith, len, within)) ∙ omega (arith, len, within));
+      };
+    })
+
+-- the list, one entry longer
+pub named_more : (listed : List ℕ) (count k : ℕ) → 0 < k → k - 1 < length listed →
+    ((j : ℕ) → j + 1 < k → get_or listed j 0 ≡ count - 1 - j) →
+    (j : ℕ) → j + 1 < k + 1 → get_or (set listed (k - 1) (count - k)) j 0 ≡ count - 1 - j
+named_more listed count k some room named j below = elim (cases_eq j (k - 1)) [
+  | inl e ↦
+      ap (λ x. get_or (set listed (k - 1) (count - k)) x 0) e ∙ get_or-set_same listed (k - 1) (count - k) 0 room ∙ omega (arith, e, some)
+  | inr other ↦ get_or-set_other listed (k - 1) j (count - k) 0 other ∙ named j (omega (arith, other, below))
+]
