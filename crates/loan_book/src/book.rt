@@ -96,7 +96,7 @@ impl<A: Allocator> LoanBook<A> {
         }
         match self.allocator.allocate(layout) {
             Ok(chunk) => {
-                self.out.push_back_reserved(Sample::new(id, layout, chunk));
+                self.out.push_back_reserved(Sample::new(id, chunk));
                 self.next = id.checked_add(1);
                 Ok((id, chunk))
             }
@@ -193,7 +193,7 @@ impl<A: Allocator> LoanBook<A> {
             .ok()
     }
 
-    /// Takes out the sample at a position, and gives its chunk back.
+    /// Takes out the sample at a position, and gives its chunk back. The layout of a return decides nothing.
     fn take_out(&mut self, position: usize)
         requires { position < length self.old.book.out }
         ensures book { self.new.book ≡ without self.old.book position }
@@ -201,6 +201,6 @@ impl<A: Allocator> LoanBook<A> {
         ensures geometry { A.geometry self.new.allocator ≡ A.geometry self.old.allocator }
     {
         let sample = self.out.remove(position).unwrap();
-        self.allocator.deallocate(sample.place(), sample.layout());
+        self.allocator.deallocate(sample.place(), Layout::empty());
     }
 }

@@ -2,15 +2,13 @@
 ghost use Rattle.std.specs.Prelude.{◌≡◌, ◌↔◌, None, Some, IsSome, IsTrue};
 ghost use Rattle.loan_book.specs.Sample.{Sample, returns_to_come};
 
-use bb_memory_base::layout::{Chunk, Layout};
+use bb_memory_base::layout::Chunk;
 use std::marker::Model;
 
 /// A sample that is out.
 #[derive(Drop)]
 pub(crate) struct Sample {
     id: u64,
-    /// What the allocator was asked for, and gets told again at the return.
-    layout: Layout,
     chunk: Chunk,
     /// How many returns are to come, or `None` until the sample is published.
     returns: Option<u32>,
@@ -26,12 +24,11 @@ impl Model for Sample {
 
 impl Sample {
     /// A sample that wasn't published yet.
-    pub(crate) fn new(id: u64, layout: Layout, chunk: Chunk) -> Sample
+    pub(crate) fn new(id: u64, chunk: Chunk) -> Sample
         ensures { result ≡ record { id = id; chunk = chunk; returns = None } }
     {
         Sample {
             id,
-            layout,
             chunk,
             returns: None,
         }
@@ -68,10 +65,5 @@ impl Sample {
         ensures { result ≡ self.now.chunk.place }
     {
         self.chunk.place()
-    }
-
-    /// What the allocator was asked for.
-    pub(crate) fn layout(&self) -> Layout {
-        self.layout
     }
 }

@@ -15,10 +15,10 @@ pub record Limited (G : Type 0) : Type 0 where
   pub inner : G
   pub budget : ℕ
 
--- it answers as the allocator below, or refuses where so many chunks are out
+-- where fewer chunks are out it answers as the allocator below, and where so many are out it refuses
 abbrev pub MayAnswerChunks : Type 0 → ℕ → List Chunk → Result Chunk AllocationError → Type 0
 MayAnswerChunks Below budget live answer =
-    Below ⊎ ((answer ≡ Err OutOfMemory) × (budget ≤ length live))
+    ((length live < budget) × Below) ⊎ ((budget ≤ length live) × (answer ≡ Err OutOfMemory))
 
 -- how many bytes are reserved for these chunks
 abbrev pub reserved_bytes : (ℕ → ℕ) → List Chunk → ℕ
@@ -30,9 +30,10 @@ pub record LimitedBytes (G F : Type 0) : Type 0 where
   pub figures : F
   pub budget : ℕ
 
--- it gives a chunk of the allocator below whose reserved bytes are within what is left of the budget, or refuses as the allocator
--- below does, or refuses a chunk for which too little is left
-abbrev pub MayAnswerBytes : (Result Chunk AllocationError → Type 0) → (ℕ → ℕ) → ℕ → List Chunk → Result Chunk AllocationError → Type 0
+-- it gives a chunk of the allocator below whose reserved bytes are within what is left of the budget, or refuses as the
+-- allocator below does, or refuses a chunk for which too little is left
+abbrev pub MayAnswerBytes :
+    (Result Chunk AllocationError → Type 0) → (ℕ → ℕ) → ℕ → List Chunk → Result Chunk AllocationError → Type 0
 MayAnswerBytes Below reserved_at budget live (Ok chunk) =
     Below (Ok chunk) × (reserved_bytes reserved_at live + reserved_at chunk.place ≤ budget)
 MayAnswerBytes Below reserved_at budget live (Err error) =

@@ -21,7 +21,11 @@ abbrev pub readers_of : List Sample → List ℕ
 readers_of samples = map (λ sample. returns_to_come sample.returns) samples
 
 abbrev pub ring_of : ℕ → HeldBytes → Book → Ring
-ring_of readers held book = record { readers = readers; messages = records_in held (chunks_out book); to_come = readers_of book.out }
+ring_of readers held book = record {
+  readers = readers;
+  messages = records_in held (chunks_out book);
+  to_come = readers_of book.out;
+}
 
 -- the first sample has left, at the one return that it waited for
 pub record HasLeft (old new : List Sample) : Type 0 where

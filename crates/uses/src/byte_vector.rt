@@ -1,7 +1,13 @@
 //! A vector of bytes that lives at an offset of a region, and can move to another region with its bytes.
-ghost use Rattle.std.specs.Prelude.{◌≡◌, ◌+◌, ◌∷◌, ◌++◌, ◌<◌, ◌≤◌, [], ℕ, OnOk, OnErr, length, slice_index};
-ghost use Rattle.bb_memory_base.specs.HeldBytes.{held_region};
-ghost use Rattle.uses.specs.ByteVectors.{contents};
+ghost use Rattle.std.specs.Prelude.{◌≡◌, ◌+◌, ◌∷◌, ◌++◌, ◌<◌, ◌≤◌, ◌^◌, [], ℕ, List, Some, IsOk, IfOk, IfErr, OnOk, OnErr, Result, Err, length, slice_get, slice_index};
+ghost use Rattle.std.specs.Align.{IsLayout};
+ghost use Rattle.bb_memory_base.specs.Chunk.{Chunk, AreApart, IsInside};
+ghost use Rattle.bb_memory_base.specs.HeldBytes.{HeldBytes, held_region, bytes_in};
+ghost use Rattle.bb_memory_base.specs.declared.layout.Layout.{Layout};
+ghost use Rattle.bb_memory_base.specs.declared.allocator.AllocationGrowError.{AllocationGrowError};
+ghost use Rattle.uses.specs.declared.byte_vector.PushError.{PushError};
+ghost use Rattle.uses.specs.declared.byte_vector.PushError.TheVariants.{Full};
+ghost use Rattle.uses.specs.ByteVectors.{ByteVector, IsOfBytes, IsRefused, IsTooLong, IsWhyFull, MayRefuseOneMore, contents};
 
 use bb_memory_base::allocator::{AllocationGrowError, Allocator, BaseAllocator};
 use bb_memory_base::layout::{Chunk, Layout, LayoutError};
@@ -13,7 +19,7 @@ use thiserror::Error;
 #[derive(Debug, Clone, Copy, PartialEq, Eq, Error)]
 pub enum PushError {
     #[error("too long: {0}")]
-    Layout(#[from] LayoutError),
+    TooLong(#[from] LayoutError),
     #[error("no room: {0}")]
     Full(#[from] AllocationGrowError),
 }
@@ -76,6 +82,7 @@ impl ByteVec {
         requires inside { self.old.offset + self.old.capacity ≤ length region.old.bytes }
         ensures contents { contents region.new self.new ≡ contents region.old self.old ++ byte ∷ [] }
         ensures longer { self.new ≡ record self.old { len = self.old.len + 1 } }
+        ensures region { held_region region.new ≡ held_region region.old }
     {
         let place = region.start_address() + self.offset + self.len;
         let behind = Chunk::new(place, 1).unwrap();
@@ -83,7 +90,8 @@ impl ByteVec {
         self.len += 1;
     }
 
-    /// Makes room for another byte, where there is none.
+    /// Makes room for another byte, where there is none, by growing the chunk in place. It is refused only where there is no
+    /// room: with `TooLong` where no layout has a byte more, else as the allocator refuses to grow the chunk.
     pub fn reserve<A: Allocator>(
         &mut self,
         allocator: &mut A,
@@ -95,17 +103,150 @@ impl ByteVec {
         ensures room { OnOk result (self.new.len < self.new.capacity) }
         ensures inside { self.new.offset + self.new.capacity ≤ length region.now.bytes }
         ensures contents { contents region.now self.new ≡ contents region.now self.old }
+        ensures offset { self.new.offset ≡ self.old.offset }
         ensures kept { OnErr result (self.new ≡ self.old) }
+        ensures at_once { self.old.len < self.old.capacity → IsOk result × (self.new ≡ self.old) }
+        ensures refused { IfErr result (λ error. (live : List Chunk) (position : ℕ) (chunk : Chunk)
+            → A.stands_for allocator.old live → slice_get live position ≡ Some chunk
+            → chunk.place ≡ region.now.start + self.old.offset
+            → IsWhyFull (A.may_grow (A.figures allocator.old) live chunk.place) self.old.capacity error) }
         ensures allocator { allocator.new ≡ allocator.old }
     {
         if self.len < self.capacity {
             return Ok(());
         }
-        let old = Layout::from_size_align(self.capacity, 1)?;
-        let new = Layout::from_size_align(self.capacity.saturating_add(1), 1)?;
         let place = region.start_address() + self.offset;
-        let grown = allocator.grow(place, old, new)?;
-        self.capacity = grown.len();
-        Ok(())
+        match grow_by_one(allocator, place, self.capacity) {
+            Ok(grown) => {
+                self.capacity = grown.len();
+                Ok(())
+            }
+            Err(error) => Err(error),
+        }
+    }
+
+    /// One more byte, for which the chunk is grown where it is full. A refusal keeps all.
+    pub fn push<A: Allocator>(
+        &mut self,
+        allocator: &mut A,
+        region: &mut Region,
+        byte: u8,
+    ) -> Result<(), PushError>
+        requires same_region { held_region region.old ≡ A.region_of (A.geometry allocator.old) }
+        requires live { A.may_release allocator.old (region.old.start + self.old.offset) }
+        requires inside { self.old.offset + self.old.capacity ≤ length region.old.bytes }
+        ensures pushed { OnOk result (contents region.new self.new ≡ contents region.old self.old ++ byte ∷ []) }
+        ensures kept { OnErr result ((self.new ≡ self.old) × (region.new ≡ region.old)) }
+        ensures offset { self.new.offset ≡ self.old.offset }
+        ensures inside { self.new.offset + self.new.capacity ≤ length region.new.bytes }
+        ensures region { held_region region.new ≡ held_region region.old }
+        ensures allocator { allocator.new ≡ allocator.old }
+    {
+        match self.reserve(allocator, &*region) {
+            Ok(()) => {
+                self.push_within(region, byte);
+                Ok(())
+            }
+            Err(error) => Err(error),
+        }
+    }
+
+    /// The same bytes in a chunk of another region, which has to have room for them: a copy of the vector, with the chunk's
+    /// room. All that lies there outside the chunk stays.
+    pub fn copy_to(&self, region: &Region, other: &mut Region, chunk: Chunk) -> ByteVec
+        requires inside { self.now.offset + self.now.capacity ≤ length region.now.bytes }
+        requires there { IsInside (held_region other.old) chunk }
+        requires room { self.now.len ≤ chunk.len }
+        ensures contents { contents other.new result ≡ contents region.now self.now }
+        ensures place { other.old.start + result.offset ≡ chunk.place }
+        ensures capacity { result.capacity ≡ chunk.len }
+        ensures inside { result.offset + result.capacity ≤ length other.new.bytes }
+        ensures apart { (another : Chunk) → IsInside (held_region other.old) another → AreApart chunk another
+            → bytes_in other.new another ≡ bytes_in other.old another }
+        ensures region { held_region other.new ≡ held_region other.old }
+    {
+        let front = Chunk::new(chunk.place(), self.len).unwrap();
+        other.write(front, &region.bytes()[self.offset..self.offset + self.len]);
+        ByteVec {
+            offset: chunk.place() - other.start_address(),
+            capacity: chunk.len(),
+            len: self.len,
+        }
     }
 }
+
+/// Asks for one byte more at the end of a live chunk.
+fn grow_by_one<A: Allocator>(
+    allocator: &mut A,
+    place: usize,
+    size: usize,
+) -> Result<Chunk, PushError>
+    requires live { A.may_release allocator.old place }
+    requires fits { size + 1 < 2 ^ 64 }
+    ensures longer { IfOk result (λ grown. size < grown.len) }
+    ensures place { IfOk result (λ grown. grown.place ≡ place) }
+    ensures inside { IfOk result (IsInside (A.region_of (A.geometry allocator.old))) }
+    ensures refused { IfErr result (λ error. (live : List Chunk) (position : ℕ) (chunk : Chunk)
+        → A.stands_for allocator.old live → slice_get live position ≡ Some chunk → chunk.place ≡ place
+        → IsWhyFull (A.may_grow (A.figures allocator.old) live chunk.place) size error) }
+    ensures still { allocator.new ≡ allocator.old }
+{
+    let old = bytes_layout(size)?;
+    let new = bytes_layout(size + 1)?;
+    grow_between(allocator, place, old, new, size)
+}
+
+/// Asks for one byte more, by the layouts of as many bytes and of one more.
+fn grow_between<A: Allocator>(
+    allocator: &mut A,
+    place: usize,
+    old: Layout,
+    new: Layout,
+    size: usize,
+) -> Result<Chunk, PushError>
+    requires live { A.may_release allocator.old place }
+    requires old { IsOfBytes old size }
+    requires new { IsOfBytes new (size + 1) }
+    ensures longer { IfOk result (λ grown. new.size ≤ grown.len) }
+    ensures place { IfOk result (λ grown. grown.place ≡ place) }
+    ensures inside { IfOk result (IsInside (A.region_of (A.geometry allocator.old))) }
+    ensures refused { IfErr result (λ error. (live : List Chunk) (position : ℕ) (chunk : Chunk)
+        → A.stands_for allocator.old live → slice_get live position ≡ Some chunk → chunk.place ≡ place
+        → MayRefuseOneMore (A.may_grow (A.figures allocator.old) live chunk.place) size error) }
+    ensures still { allocator.new ≡ allocator.old }
+{
+    let _ = size;
+    refused_law(&*allocator);
+    match allocator.grow(place, old, new) {
+        Ok(grown) => Ok(grown),
+        Err(error) => Err(PushError::Full(error)),
+    }
+}
+
+/// An answer that may come for layouts of these sizes may come. It does nothing: its contract is the law.
+fn refused_law<A: Allocator>(allocator: &A)
+    ensures { (live : List Chunk) (place size : ℕ) (old new : Layout) (error : AllocationGrowError)
+        → IsOfBytes old size → IsOfBytes new (size + 1)
+        → A.may_grow (A.figures allocator.now) live place old new (Err error)
+        → MayRefuseOneMore (A.may_grow (A.figures allocator.now) live place) size (Full error) }
+{
+    let _ = allocator;
+}
+
+/// The layout of so many bytes at any place.
+fn bytes_layout(size: usize) -> Result<Layout, PushError>
+    ensures layout { IfOk result (λ layout. IsOfBytes layout size) }
+    ensures refused { IfErr result (λ error. IsTooLong error × (¬ IsLayout size 1)) }
+{
+    match Layout::from_size_align(size, 1) {
+        Ok(layout) => Ok(layout),
+        Err(error) => Err(PushError::TooLong(error)),
+    }
+}
+
+/// Where the bytes of a region lie at another start, a vector has the same bytes there: it is addressed by its offset. It does
+/// nothing: its contract is the law.
+pub fn moved_law()
+    ensures { (here there : HeldBytes) (vector : ByteVector) → here.bytes ≡ there.bytes
+        → contents here vector ≡ contents there vector }
+{}

@@ -5,6 +5,7 @@ pub mod byte_budget;
 pub mod byte_vector;
 pub mod chunk_budget;
 pub mod errors;
+pub mod job_board;
 pub mod mailbox;
 pub mod ring;
 pub mod scripts;

@@ -3,17 +3,18 @@ ghost use Rattle.std.specs.Prelude.{◌≡◌, [], IfOk};
 ghost use Rattle.bb_memory_base.specs.HeldBytes.{held_region};
 ghost use Rattle.bb_memory.specs.Pool.{StandsFor};
 
-use crate::byte_budget::ByteBudget;
-use crate::chunk_budget::ChunkBudget;
+mod boards;
+mod budgets;
+mod byte_vectors;
+mod results;
+
 use crate::mailbox::Mailbox;
 use crate::ring::MessageRing;
 use crate::slab::Slab;
 use crate::workers::two_workers;
 use bb_memory::bump_allocator::BumpAllocator;
-use bb_memory::layout::{Chunk, Layout};
-use bb_memory::pool_allocator::{
-    AllocationError, BaseAllocator, FixedSizePoolAllocator, pool_count_law, pool_object_law,
-};
+use bb_memory::layout::Layout;
+use bb_memory::pool_allocator::{FixedSizePoolAllocator, pool_count_law, pool_object_law};
 use bb_memory::region::Region;
 use std::alloc::Global;
 use std::sync::Arc;
@@ -80,22 +81,6 @@ fn ring_for_two_readers(rt: HostRuntime) -> Result<(), Fail> {
     assert!(rt; ring.finish());
     assert_eq!(rt; ring.front(), Some([3].as_slice()));
     assert_eq!(rt; ring.waiting(), 1);
-    Ok(())
-}
-
-#[test]
-fn budgets_refuse(rt: HostRuntime) -> Result<(), Fail> {
-    let ten = Layout::from_size_align(10, 1)?;
-    let mut two = ChunkBudget::new(eight_buckets()?, 2);
-    two.allocate(ten)?;
-    two.allocate(ten)?;
-    assert_eq!(rt; two.allocate(ten), Err(AllocationError::OutOfMemory));
-    assert_eq!(rt; two.out(), 2);
-    let mut bytes = ByteBudget::new(eight_buckets()?, 300);
-    bytes.allocate(ten)?;
-    bytes.allocate(ten)?;
-    assert_eq!(rt; bytes.out(), 256);
-    assert_eq!(rt; bytes.allocate(ten), Err(AllocationError::OutOfMemory));
     Ok(())
 }
 

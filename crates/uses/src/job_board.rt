@@ -1,0 +1,93 @@
+//! Slots for jobs that threads share: a slot has one holder at a time.
+ghost use Rattle.std.specs.Prelude.{◌≡◌, ◌≢◌, ◌≤◌, All, IfOk, IsErr, ℕ, vec_len};
+ghost use Rattle.bb_memory_base.specs.Chunk.{AreApart};
+ghost use Rattle.bb_memory_base.specs.PoolLogs.{IsHeldAfter};
+ghost use Rattle.bb_memory_base.specs.Region.{region_at};
+ghost use Rattle.bb_memory.specs.Pool.{MayBeCut};
+ghost use Rattle.bb_memory.specs.SharedPool.{PoolParty, TakenBucket, chunk_of};
+
+use bb_memory::allocator::AllocationError;
+use bb_memory::layout::{Chunk, Layout};
+use bb_memory::shared_pool::{Bucket, PoolParty, SharedPoolAllocator, shared_pool_law};
+use std::alloc::Global;
+use std::marker::Model;
+use std::thread;
+use std::thread::Threads;
+
+/// A board of slots, each with room for one job. Any number of threads take slots of it, each as a worker of its own.
+#[derive(Drop)]
+pub struct JobBoard {
+    slots: SharedPoolAllocator,
+    job: Layout,
+}
+
+impl Model for JobBoard {
+    ghost use Rattle.bb_memory.specs.SharedPool.{SharedPool};
+
+    ghost Value = { SharedPool };
+
+    ghost view = { λ b. b.slots };
+}
+
+impl JobBoard {
+    /// A board over the region of `size` bytes at `start`, with slots for jobs of this layout, and its workers.
+    pub fn new(
+        alloc: Global,
+        job: Layout,
+        start: usize,
+        size: usize,
+        workers: u32,
+    ) -> Result<(JobBoard, Vec<PoolParty>), AllocationError>
+        requires cut { MayBeCut (region_at start size) job }
+        requires workers { 1 ≤ workers }
+        ensures as_many { IfOk result (λ made. vec_len made.1 ≡ workers) }
+        ensures theirs { IfOk result (λ made. All (λ worker. worker.allocator ≡ made.0) made.1.items) }
+    {
+        let (slots, parties) = SharedPoolAllocator::new(alloc, job, start, size, workers)?;
+        Ok((JobBoard { slots, job }, parties))
+    }
+
+    /// Takes a slot for the worker, which it didn't have. What it had it keeps.
+    pub fn take(&self, worker: &mut PoolParty) -> Result<Bucket<'_>, AllocationError>
+        requires worker { worker.old.allocator ≡ self.now }
+        ensures worker { worker.new.allocator ≡ self.now }
+        ensures slot { IfOk result (λ slot. slot.allocator ≡ self.now) }
+        ensures has { IfOk result (λ slot. IsHeldAfter worker.new.log slot.number) }
+        ensures keeps { (other : ℕ) → IsHeldAfter worker.old.log other → IsHeldAfter worker.new.log other }
+    {
+        self.slots.allocate(worker, self.job)
+    }
+
+    /// Gives back a slot that the worker has. Its other slots it keeps.
+    pub fn done(&self, worker: &mut PoolParty, slot: Bucket<'_>)
+        requires worker { worker.old.allocator ≡ self.now }
+        requires slot { slot.allocator ≡ self.now }
+        requires has { IsHeldAfter worker.old.log slot.number }
+        ensures worker { worker.new.allocator ≡ self.now }
+        ensures given_back { ¬ IsHeldAfter worker.new.log slot.entry.number }
+        ensures keeps { (other : ℕ) → other ≢ slot.entry.number
+            → IsHeldAfter worker.old.log other → IsHeldAfter worker.new.log other }
+    {
+        self.slots.deallocate_bucket(worker, slot);
+    }
+
+    /// Both workers take a slot, in two threads at once. The slots are different ones, and so their chunks don't overlap.
+    pub fn take_two<R: Threads + Sync>(
+        &self,
+        rt: &R,
+        here: &mut PoolParty,
+        there: &mut PoolParty,
+    ) -> Result<(Bucket<'_>, Bucket<'_>), AllocationError>
+        requires here { here.old.allocator ≡ self.now }
+        requires there { there.old.allocator ≡ self.now }
+        ensures here { here.new.allocator ≡ self.now }
+        ensures there { there.new.allocator ≡ self.now }
+        ensures one_holder { IfOk result (λ slots. slots.0.number ≢ slots.1.number) }
+        ensures has { IfOk result (λ slots. IsHeldAfter here.new.log slots.0.number) }
+        ensures its_has { IfOk result (λ slots. IsHeldAfter there.new.log slots.1.number) }
+    {
+        let (one, other) = thread::join_mut(rt, &mut || self.take(here), &mut || self.take(there));
+        self.slots.meet(here, there);
+        Ok((one?, other?))
+    }
+}

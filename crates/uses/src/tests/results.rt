@@ -1,0 +1,27 @@
+//! Errors through `?`, and blocks of the heap.
+use crate::errors::{GiveError, by_enum, open};
+use crate::scripts::heap::grown;
+use bb_memory::layout::Layout;
+use bb_memory::pool_allocator::AllocationError;
+use std::test::Fail;
+
+#[test]
+fn errors_go_through(rt: HostRuntime) -> Result<(), Fail> {
+    assert_eq!(rt; by_enum()?, 4096);
+    let pool = open(rt.alloc(), Layout::from_size_align(128, 8)?)?;
+    assert_eq!(rt; pool.number_of_buckets(), 8);
+    let refused = open(rt.alloc(), Layout::empty());
+    assert!(rt;
+        matches!(
+            refused,
+            Err(GiveError::Refused(AllocationError::OutOfMemory))
+        )
+    );
+    Ok(())
+}
+
+#[test]
+fn heap_block_grows(rt: HostRuntime) -> Result<(), Fail> {
+    grown(rt.alloc())?;
+    Ok(())
+}
