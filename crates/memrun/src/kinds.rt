@@ -2,6 +2,7 @@
 
 pub mod allocators;
 pub mod bounds;
+pub mod buckets;
 pub mod bump;
 pub mod bump_steps;
 pub mod commands;
@@ -17,12 +18,11 @@ use crate::engine::driven::Driven;
 use crate::engine::driving::drive;
 use crate::kinds::allocators::Live;
 use crate::kinds::loan_pool::LoanPool;
-use crate::kinds::pool_steps::PoolSteps;
 use crate::status::Status;
 use bb_memory::bump_allocator::BumpAllocator;
 use bb_memory::one_chunk_allocator::OneChunkAllocator;
 use bb_memory::pool_allocator::{FixedSizePoolAllocator, PoolAllocator};
-use bb_memory::steps::BumpWorld;
+use bb_memory::steps::{BumpWorld, PoolWorld};
 use std::alloc::Global;
 use std::io::Write;
 
@@ -37,7 +37,7 @@ type FromFixedPool = (Live<FixedSizePoolAllocator<512>>, FromBumpSteps);
 
 type FromBumpSteps = (BumpWorld, FromPoolSteps);
 
-type FromPoolSteps = (PoolSteps, FromLoanPool);
+type FromPoolSteps = (PoolWorld, FromLoanPool);
 
 type FromLoanPool = (LoanPool, ());
 
