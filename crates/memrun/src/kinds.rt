@@ -5,7 +5,6 @@ pub mod bounds;
 pub mod buckets;
 pub mod bump;
 pub mod bump_steps;
-pub mod commands;
 pub mod fixed_pool;
 pub mod loan_pool;
 pub mod one_chunk;
@@ -48,7 +47,7 @@ pub trait Kinds {
     ghost use Rattle.memrun.specs.Status.{IsCutShort};
     ghost use Rattle.memrun.specs.engine.Lines.{lines_of};
     ghost use Rattle.memrun.specs.engine.Rules.{Kind, SomeOf, are_apart};
-    ghost use Rattle.memrun.specs.Table.{IsOpenedBy, IsAnsweredBy, IsUnreadableAt, BeginsOutputOf};
+    ghost use Rattle.memrun.specs.Program.{IsOpenedBy, IsAnsweredBy, IsUnreadableAt, BeginsOutputOf};
     ghost use Rattle.memrun.specs.engine.Transcript.{unreadable_text};
     ghost use Rattle.memrun.specs.declared.status.Status.TheVariants.{Done, Unreadable, InputFailed};
 
