@@ -1,4 +1,4 @@
--- A bump world: a region, and the bump machine over it.
+-- A bump world: the bump machine over a region.
 use Rattle.std.specs.Prelude.{ℕ, ◌≤◌, List, Option, map}
 use Rattle.bb_memory_base.specs.Region.{Region, IsRegion}
 use Rattle.bb_memory_base.specs.BumpMachine.{OngoingCall, BumpState, BumpScene, AllFitting, opening_state, bump_step, bump_after}
@@ -6,6 +6,7 @@ use Rattle.bb_memory_base.specs.BumpHistory.{bump_history}
 use Rattle.bb_memory_base.specs.declared.steps.bump.BumpStep.{BumpStep}
 use Rattle.bb_memory_base.specs.declared.steps.bump.BumpOutcome.{BumpOutcome}
 
+-- the region, and the machine's state
 pub record BumpWorld : Type 0 where
   pub region : Region
   pub state : BumpState
@@ -22,9 +23,11 @@ pub record IsBumpWorld (world : BumpWorld) : Type 0 where
   pub within : world.state.position ≤ world.region.size
   pub fitting : AllFitting world.region world.state
 
--- the world at a machine's opening
-abbrev pub opened : BumpScene → BumpWorld
-opened scene = record { region = scene.region; state = opening_state scene }
+-- the machine over a region, at position 0, with so many parties, all idle
+abbrev pub opened : Region → ℕ → BumpWorld
+opened region parties =
+    let scene : BumpScene = record { region = region; opening = 0; parties = parties } in
+    record { region = region; state = opening_state scene }
 
 -- the world in another state
 abbrev pub in_state : BumpWorld → BumpState → BumpWorld

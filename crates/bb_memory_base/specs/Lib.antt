@@ -18,6 +18,7 @@ pub mod PoolHistory
 pub mod PoolLogs
 pub mod PoolMachine
 pub mod PoolObject
+pub mod PoolWorld
 pub mod Region
 pub mod ResizableObject
 pub mod Run

@@ -6,7 +6,7 @@ use Rattle.std.specs.Option.{option_map}
 use Rattle.bb_memory_base.specs.declared.allocator.Command.{Command}
 use Rattle.bb_memory_base.specs.declared.allocator.Command.TheVariants.{Allocate, Release, Grow, Shrink}
 use Rattle.bb_memory_base.specs.declared.layout.Layout.{Layout}
-use Rattle.memrun.specs.kinds.Commands.{command_line, resize_text, IsResizeOfNumbers, IsCommandOfNumbers}
+use Rattle.memrun.specs.kinds.Allocators.{command_line, resize_text, IsResizeOfNumbers, IsCommandOfNumbers}
 use Rattle.memrun.specs.Fields.{layout_text, IsNumber, IsLayoutOfNumbers}
 use Rattle.memrun.proofs.Cuts.{Without, Without-nil, Without-cons, Without-cut}
 

@@ -28,7 +28,7 @@ pub lines_first : (bytes : List ℕ) → 0 < length bytes → lines_of bytes ≡
 lines_first [] some = absurd (omega (arith, some))
 lines_first (byte ∷ bytes) some = onto_by (feed byte) byte bytes refl (lines_first bytes)
 
--- the place that is found is the first
+-- the index that is found is the first
 position_is : (is : Bool) (n end : ℕ) → Some end ≡ cond is (Some n) None → end ≡ n
 position_is true n end e = cc
 position_is false n end e = cc

@@ -3,7 +3,7 @@ use Rattle.std.proofs.Common.{◌≡◌, ◌==◌, ◌-◌, ℕ, zero, suc, true
 use Rattle.std.specs.Prelude.{slice_get}
 use Rattle.std.proofs.lemmas.Bool.{and_parts, or_cases, both_ways, not-true, eq-eqb}
 use Rattle.memrun.specs.engine.Rules.{Rules, Kind, kind, SomeOf, first_line, apart, apart_from}
-use Rattle.memrun.specs.Table.{IsOpenedBy, IsScriptOf, AreReadable, IsUnreadableAt, BeginsOutputOf}
+use Rattle.memrun.specs.Program.{IsOpenedBy, IsScriptOf, AreReadable, IsUnreadableAt, BeginsOutputOf}
 use Rattle.memrun.specs.engine.Transcript.{IsLaterUnreadable, IsLineText, BeginsLaterOutput}
 
 -- texts that are apart begin no text both
@@ -81,30 +81,30 @@ apart_unopened (one ∷ others) start text first rest test e (inr later) =
     apart_unopened others start text first rest parts.1 e later
 
 -- a line further than those that are read
-further_unread : (P : List ℕ → Type 0) (rest : List (List ℕ)) (place : ℕ) (line : List ℕ) → slice_get rest place ≡ Some line → All P (take (suc place) rest) → P line
-further_unread P [] place line got all = absurd (cc)
+further_unread : (P : List ℕ → Type 0) (rest : List (List ℕ)) (index : ℕ) (line : List ℕ) → slice_get rest index ≡ Some line → All P (take (suc index) rest) → P line
+further_unread P [] index line got all = absurd (cc)
 further_unread P (x ∷ xs) zero line got all = let same : x ≡ line = cc in rw (← same) (all 0 x (omega arith))
-further_unread P (x ∷ xs) (suc place) line got all = further_unread P xs place line got (λ k d below. all (suc k) d (omega (arith, below)))
+further_unread P (x ∷ xs) (suc index) line got all = further_unread P xs index line got (λ k d below. all (suc k) d (omega (arith, below)))
 
 -- behind a first line of a kind that is apart from the others, the kind's first unreadable line is the first
 pub unreadable_here : {S O C R : Type 0} (rules : Rules S O C R) (others : List Kind) (opening : O) (first : List ℕ) (rest : List (List ℕ)) (number : ℕ)
     → apart_from (rules.name ++ codes " ") others ≡ true → rules.may_open opening → first ≡ first_line rules opening → IsLaterUnreadable rules rest number
     → IsUnreadableAt (kind rules ∷ others) (first ∷ rest) number
-unreadable_here rules others opening first rest number test allowed e (place, (before, line, got, unread), is) =
-    let same : number ≡ suc (suc place) = omega (arith, is) in
-    let less : number - 1 ≡ suc place = omega (arith, is) in
+unreadable_here rules others opening first rest number test allowed e (index, (before, line, got, unread), is) =
+    let same : number ≡ suc (suc index) = omega (arith, is) in
+    let less : number - 1 ≡ suc index = omega (arith, is) in
     let whole : first ≡ (rules.name ++ codes " ") ++ rules.opening_text opening = e ∙ sym (append_assoc rules.name (codes " ") (rules.opening_text opening)) in
-    let readable : AreReadable (kind rules ∷ others) (take (suc place) (first ∷ rest)) =
-    inl (opening, take place rest, record { allowed = allowed; cut = ap (λ l. l ∷ take place rest) e }, before) in
-    let unreadable : AreReadable (kind rules ∷ others) (take (suc (suc place)) (first ∷ rest)) → ⊥ =
+    let readable : AreReadable (kind rules ∷ others) (take (suc index) (first ∷ rest)) =
+    inl (opening, take index rest, record { allowed = allowed; cut = ap (λ l. l ∷ take index rest) e }, before) in
+    let unreadable : AreReadable (kind rules ∷ others) (take (suc (suc index)) (first ∷ rest)) → ⊥ =
     elim [
       | inl (again, after, opens, read) ↦
-          let cut : first ∷ take (suc place) rest ≡ first_line rules again ∷ after = opens.cut in
-          let same_after : after ≡ take (suc place) rest = cc in
-          unread (further_unread (IsLineText rules) rest place line got (rw same_after at read))
+          let cut : first ∷ take (suc index) rest ≡ first_line rules again ∷ after = opens.cut in
+          let same_after : after ≡ take (suc index) rest = cc in
+          unread (further_unread (IsLineText rules) rest index line got (rw same_after at read))
       | inr there ↦
           apart_unopened others (rules.name ++ codes " ") (rules.opening_text opening) first rest test whole
-          (some-map others (IsScriptOf (take (suc (suc place)) (first ∷ rest))) (IsOpenedBy (first ∷ rest)) (script_opened first rest (suc (suc place))) there)
+          (some-map others (IsScriptOf (take (suc (suc index)) (first ∷ rest))) (IsOpenedBy (first ∷ rest)) (script_opened first rest (suc (suc index))) there)
     ] in
     rw (less, same) (inr readable, unreadable)
 

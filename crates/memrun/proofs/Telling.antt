@@ -5,7 +5,7 @@ use Rattle.std.specs.Prelude.{slice_get}
 use Rattle.std.specs.Io.KnownBytes.{Appends}
 use Rattle.std.proofs.lemmas.List.{append_assoc, append-nil, take_more, take_all}
 use Rattle.std.proofs.lemmas.Option.{get_or_from_slice_get, slice_get_within}
-use Rattle.memrun.specs.engine.Batches.{Batches}
+use Rattle.memrun.specs.engine.Script.{Batches}
 use Rattle.memrun.specs.engine.Sending.{AppendsPart}
 use Rattle.memrun.proofs.Appending.{appends_again}
 use Rattle.memrun.proofs.Sends.{begins_after, begins_all}

@@ -2,6 +2,5 @@ pub mod AllKinds
 pub mod Fields
 pub mod Program
 pub mod Status
-pub mod Table
 pub mod engine
 pub mod kinds

@@ -1,9 +1,9 @@
 -- The kinds of scripts, each with its lines, its runs and its replies.
 pub mod Allocators
 pub mod Bounds
+pub mod Buckets
 pub mod Bump
 pub mod BumpSteps
-pub mod Commands
 pub mod FixedPool
 pub mod LoanPool
 pub mod OneChunk

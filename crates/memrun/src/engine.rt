@@ -1,6 +1,5 @@
 //! From the lines of a script of any kind to the lines of its replies.
 pub mod driven;
 pub mod driving;
-pub mod lines;
 pub mod reading;
 pub mod script;

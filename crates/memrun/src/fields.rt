@@ -1,5 +1,6 @@
 //! The fields of a line: what stands between its spaces. Numbers and layouts are read from them.
-ghost use Rattle.std.specs.Prelude.{◌≡◌, ◌≢◌, ◌↔◌, ℕ, IsTrue, IfSome, Some, length, slice_index, List, ◌++◌, ◌∷◌, All, IfNone, IsSomeAnd, codes};
+ghost use Rattle.std.specs.Prelude.{◌≡◌, ◌≢◌, ◌↔◌, ◌++◌, ◌∷◌, ℕ, List, All, IsTrue, Some, codes};
+ghost use Rattle.std.specs.Prelude.{IfNone, IfSome, IsSomeAnd, length, slice_index};
 ghost use Rattle.std.specs.Fmt.{decimal};
 ghost use Rattle.memrun.specs.Fields.{IsNumber, IsLayoutOfNumbers, layout_text};
 ghost use Rattle.bb_memory_base.specs.declared.layout.Layout.{Layout};
@@ -41,15 +42,16 @@ pub fn cut(text: &[u8], byte: u8) -> Option<(&[u8], &[u8])>
         → text.now ≡ front ++ byte ∷ back
         → IsSomeAnd result (λ (before, after). (before.now ≡ front) × (after.now ≡ back)) }
 {
-    let place = text.iter().position(|b| *b == byte)?;
-    Some((&text[..place], &text[place + 1..]))
+    let index = text.iter().position(|b| *b == byte)?;
+    Some((&text[..index], &text[index + 1..]))
 }
 
 /// The number at the front, and what is behind the space that follows it.
 #[tactic(auto, using(crate::proofs::Cuts::spaceless_decimal))]
 pub fn number_and_rest(text: &[u8]) -> Option<(usize, &[u8])>
     ensures written { IfSome result (λ (n, rest). text.now ≡ decimal n ++ (codes " " ++ rest.now)) }
-    ensures each { (n : ℕ) (rest : List ℕ) → IsNumber n → text.now ≡ decimal n ++ (codes " " ++ rest)
+    ensures each { (n : ℕ) (rest : List ℕ) → IsNumber n
+        → text.now ≡ decimal n ++ (codes " " ++ rest)
         → IsSomeAnd result (λ (m, left). (m ≡ n) × (left.now ≡ rest)) }
 {
     let (field, rest) = cut(text, b' ')?;

@@ -2,9 +2,9 @@
 
 pub mod allocators;
 pub mod bounds;
+pub mod buckets;
 pub mod bump;
 pub mod bump_steps;
-pub mod commands;
 pub mod fixed_pool;
 pub mod loan_pool;
 pub mod one_chunk;
@@ -17,12 +17,11 @@ use crate::engine::driven::Driven;
 use crate::engine::driving::drive;
 use crate::kinds::allocators::Live;
 use crate::kinds::loan_pool::LoanPool;
-use crate::kinds::pool_steps::PoolSteps;
 use crate::status::Status;
 use bb_memory::bump_allocator::BumpAllocator;
 use bb_memory::one_chunk_allocator::OneChunkAllocator;
 use bb_memory::pool_allocator::{FixedSizePoolAllocator, PoolAllocator};
-use bb_memory::steps::BumpWorld;
+use bb_memory::steps::{BumpWorld, PoolWorld};
 use std::alloc::Global;
 use std::io::Write;
 
@@ -37,7 +36,7 @@ type FromFixedPool = (Live<FixedSizePoolAllocator<512>>, FromBumpSteps);
 
 type FromBumpSteps = (BumpWorld, FromPoolSteps);
 
-type FromPoolSteps = (PoolSteps, FromLoanPool);
+type FromPoolSteps = (PoolWorld, FromLoanPool);
 
 type FromLoanPool = (LoanPool, ());
 
@@ -48,7 +47,7 @@ pub trait Kinds {
     ghost use Rattle.memrun.specs.Status.{IsCutShort};
     ghost use Rattle.memrun.specs.engine.Lines.{lines_of};
     ghost use Rattle.memrun.specs.engine.Rules.{Kind, SomeOf, are_apart};
-    ghost use Rattle.memrun.specs.Table.{IsOpenedBy, IsAnsweredBy, IsUnreadableAt, BeginsOutputOf};
+    ghost use Rattle.memrun.specs.Program.{IsOpenedBy, IsAnsweredBy, IsUnreadableAt, BeginsOutputOf};
     ghost use Rattle.memrun.specs.engine.Transcript.{unreadable_text};
     ghost use Rattle.memrun.specs.declared.status.Status.TheVariants.{Done, Unreadable, InputFailed};
 

@@ -4,11 +4,11 @@
 //! The files, in the order in which to read them; `specs` has the same rooms:
 //!
 //! - `program`: from the bytes of a script to the bytes that it is answered. `status`: how a run ends.
-//! - `engine`, what all kinds of scripts share. `lines` cuts an input; `driven` says what a kind of script has to have;
-//!   `driving` runs a script of a kind; `reading` reads its lines, by `script`.
-//! - `kinds`, the table of the kinds and a file for each. Of the allocators: `allocators` and `commands`, which they share;
-//!   `bump` and `one_chunk`, over `bounds`; `pool` and `fixed_pool`, over `pool_plan`. Of the machines of steps: `bump_steps`
-//!   and `pool_steps`, over `parties`. Of the loan books: `loan_pool`.
+//! - `engine`, what all kinds of scripts share. `driven` says what a kind of script has to have; `driving` runs a script of a
+//!   kind; `reading` cuts the input into lines and reads them, and `script` keeps what they say.
+//! - `kinds`, the table of the kinds and a file for each: `bump`, `one_chunk`, `pool` and `fixed_pool` over what `allocators`
+//!   share; `bump_steps` and `pool_steps`, the twins; `loan_pool`. What first lines and steps name: `bounds`, `pool_plan`,
+//!   `buckets`, `parties`.
 //! - `fields`: the numbers and layouts that stand between the spaces of a line.
 #![tactic(auto)]
 

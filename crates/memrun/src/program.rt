@@ -2,11 +2,11 @@
 ghost use Rattle.std.specs.Prelude.{◌≡◌, ◌≢◌, ◌⊎◌, ℕ, List, IfOk, IfErr};
 ghost use Rattle.std.specs.Io.KnownBytes.{Keeps, Appends};
 ghost use Rattle.memrun.specs.Status.{IsCutShort};
-ghost use Rattle.memrun.specs.Program.{IsAnswered, IsUnreadable, BeginsOutput, Gives};
+ghost use Rattle.memrun.specs.Program.{IsAnswered, IsUnreadable, BeginsOutput, IsLeft};
 ghost use Rattle.memrun.specs.engine.Transcript.{unreadable_text};
 
 use crate::engine::driving::tell_unreadable;
-use crate::engine::lines::first_line;
+use crate::engine::reading::first_line;
 use crate::kinds::{AllKinds, Kinds};
 use crate::status::Status;
 use std::alloc::Global;
@@ -16,16 +16,16 @@ use std::io::{ErrorKind, Read, Write};
 /// Reads a script to its end, checks every line of it, and then runs it.
 pub fn run<R: Read + Drop, W: Write>(alloc: Global, reader: R, writer: &mut W) -> Status
     ensures done { result ≡ Status.Done → (input : List ℕ) × (text : List ℕ)
-        × Gives (R.remaining reader) input × IsAnswered input text
+        × IsLeft input (R.remaining reader) × IsAnswered input text
         × Appends (W.contents writer.old) (W.contents writer.new) text }
     ensures unreadable { result ≡ Status.Unreadable → (input : List ℕ) × (number : ℕ)
-        × Gives (R.remaining reader) input × IsUnreadable input number
+        × IsLeft input (R.remaining reader) × IsUnreadable input number
         × Appends (W.contents writer.old) (W.contents writer.new) (unreadable_text number) }
     ensures input_failed { result ≡ Status.InputFailed
         → Keeps (W.contents writer.old) (W.contents writer.new) }
     ensures cut_short { IsCutShort result → Keeps (W.contents writer.old) (W.contents writer.new)
         ⊎ ((input : List ℕ) × (sent : List ℕ)
-        × Gives (R.remaining reader) input × BeginsOutput input sent
+        × IsLeft input (R.remaining reader) × BeginsOutput input sent
         × Appends (W.contents writer.old) (W.contents writer.new) sent) }
 {
     match read_input(alloc, reader) {
@@ -36,7 +36,7 @@ pub fn run<R: Read + Drop, W: Write>(alloc: Global, reader: R, writer: &mut W) -
 
 /// Reads an input to its end.
 fn read_input<R: Read + Drop>(alloc: Global, mut reader: R) -> Result<Vec<u8>, Status>
-    ensures read { IfOk result (λ input. Gives (R.remaining reader) input.items) }
+    ensures read { IfOk result (λ input. IsLeft input.items (R.remaining reader)) }
     ensures failed { IfErr result (λ status.
         (status ≡ Status.InputFailed) ⊎ (status ≡ Status.OutOfMemory)) }
 {

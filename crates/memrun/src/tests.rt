@@ -1,4 +1,5 @@
 //! Scripts with what they write, faults of readers and writers, and the program with memory refused.
+mod buckets;
 mod faults;
 mod large_scripts;
 mod loan_scripts;

@@ -1,7 +1,7 @@
 //! A bump machine that can be run: a region, a position, and of each party the call that it is in.
 ghost use Rattle.std.specs.Prelude.{◌≡◌, ◌+◌, ◌<◌, ◌≤◌, IfOk, IfSome, IsSome, OnErr, OnOk, Some, None, slice_get, length};
 ghost use Rattle.bb_memory_base.specs.Region.{Region, IsRegion};
-ghost use Rattle.bb_memory_base.specs.BumpMachine.{BumpScene, OngoingCall, IsFitting, PartyMove, ending, seeing, read_move, exchange_move, read, exchange, load};
+ghost use Rattle.bb_memory_base.specs.BumpMachine.{OngoingCall, IsFitting, PartyMove, ending, seeing, read_move, exchange_move, read, exchange, load};
 ghost use Rattle.bb_memory_base.specs.BumpWorld.{BumpWorld, opened, in_state, outcome_of, outcomes_of, after_step, after_steps};
 
 use super::{BumpOutcome, BumpStep};
@@ -104,13 +104,6 @@ impl PartyMove {
     }
 }
 
-/// The call of a party, if there is such a party, and if it is in one.
-fn call_at(calls: &[Option<OngoingCall>], party: usize) -> Option<Option<OngoingCall>>
-    ensures { result ≡ slice_get calls.now party }
-{
-    calls.get(party).copied()
-}
-
 /// The bump machine over a region, with its parties. No step takes memory.
 ///
 /// ```
@@ -141,7 +134,8 @@ impl Model for BumpWorld {
 
 impl BumpWorld {
     /// The machine over the region of `size` bytes at `start`, at position 0, with that many parties, all idle. The start
-    /// has to be greater than 0, start plus size at most `usize::MAX`, and there has to be a party.
+    /// has to be greater than 0, start plus size at most `usize::MAX`, and there has to be a party. It is refused only where
+    /// memory was.
     pub fn new(
         alloc: Global,
         start: usize,
@@ -150,9 +144,8 @@ impl BumpWorld {
     ) -> Result<BumpWorld, AllocError>
         requires region { IsRegion (record { start = start; size = size }) }
         requires parties { 1 ≤ parties }
-        ensures { let region : Region = record { start = start; size = size } in
-            let scene : BumpScene = record { region = region; opening = 0; parties = parties } in
-            IfOk result (λ world. world ≡ opened scene) }
+        ensures opened { let region : Region = record { start = start; size = size } in
+            IfOk result (λ world. world ≡ opened region parties) }
     {
         let calls = vec![in alloc; None; parties as usize]?;
         Ok(BumpWorld {
@@ -164,7 +157,7 @@ impl BumpWorld {
         })
     }
 
-    /// Takes one atomic step.
+    /// Takes one atomic step, and answers what it found. It takes no memory.
     pub fn step(&mut self, step: BumpStep) -> BumpOutcome
         ensures outcome { result ≡ outcome_of self.old step }
         ensures state { self.new ≡ after_step self.old step }
@@ -180,10 +173,10 @@ impl BumpWorld {
         }
     }
 
-    /// Takes the steps in order, and answers what each did. The memory for the answers is reserved first: where it is
+    /// Takes the steps in order, and answers what each found. The memory for the answers is reserved first: where it is
     /// refused, no step is taken.
     pub fn replay(&mut self, steps: &[BumpStep]) -> Result<Vec<BumpOutcome>, AllocError>
-        ensures outcomes { IfOk result (λ answers. answers.items ≡ outcomes_of self.old steps.now) }
+        ensures outcomes { IfOk result (λ found. found.items ≡ outcomes_of self.old steps.now) }
         ensures state { OnOk result (self.new ≡ after_steps self.old steps.now) }
         ensures kept { OnErr result (self.new ≡ self.old) }
     {
@@ -202,7 +195,7 @@ impl BumpWorld {
         self.position
     }
 
-    /// The call of a party, as [`call_at`].
+    /// The call of a party, as [`call_at`] has it.
     fn call_of(&self, party: usize) -> Option<Option<OngoingCall>>
         ensures value { result ≡ slice_get self.now.state.calls party }
         ensures fitting { (call : OngoingCall) → result ≡ Some (Some call)
@@ -212,6 +205,7 @@ impl BumpWorld {
         call_at(&self.calls, party)
     }
 
+    /// An idle party reads the position.
     fn read(&mut self, party: usize, layout: Layout) -> BumpOutcome
         ensures outcome { let now = slice_get self.old.state.calls party in
             result ≡ (read self.old.region self.old.state party layout now).outcome }
@@ -231,6 +225,7 @@ impl BumpWorld {
         }
     }
 
+    /// A party in a call puts the end of its chunk in the position's place.
     fn exchange(&mut self, party: usize) -> BumpOutcome
         ensures outcome { let now = slice_get self.old.state.calls party in
             result ≡ (exchange self.old.region self.old.state party now).outcome }
@@ -248,6 +243,7 @@ impl BumpWorld {
         }
     }
 
+    /// An idle party reads how much is used.
     fn load(&self, party: usize) -> BumpOutcome
         ensures { let now = slice_get self.now.state.calls party in
             result ≡ (load self.now.state now).outcome }
@@ -257,4 +253,11 @@ impl BumpWorld {
             Some(Some(_)) | None => BumpOutcome::Passed,
         }
     }
+}
+
+/// The call of a party, if it is in one, where there is such a party.
+fn call_at(calls: &[Option<OngoingCall>], party: usize) -> Option<Option<OngoingCall>>
+    ensures { result ≡ slice_get calls.now party }
+{
+    calls.get(party).copied()
 }

@@ -1,21 +1,13 @@
-//! A pool scene that runs.
+//! A pool machine that can be run: of each bucket its holder, and of each party the bucket that its pass tries next.
 ghost use Rattle.std.specs.Prelude.{◌≡◌, ◌+◌, ◌<◌, ◌≤◌, ℕ, IsSome, IfOk, OnErr, OnOk, length, slice_get};
-ghost use Rattle.bb_memory_base.specs.PoolMachine.{PoolState, all_free, holder_of, try_flag, try_next, give_flag, pool_step, pool_after};
-ghost use Rattle.bb_memory_base.specs.PoolHistory.{pool_history, outcomes_of};
+ghost use Rattle.bb_memory_base.specs.PoolMachine.{holder_of, try_flag, try_next, give_flag};
+ghost use Rattle.bb_memory_base.specs.PoolWorld.{opened, outcome_of, outcomes_of, after_step, after_steps};
 
-use super::pool::{PoolOutcome, PoolStep};
+use super::{PoolOutcome, PoolStep};
 use std::alloc::{AllocError, Global};
 use std::marker::Model;
 
-/// What a list has at an index.
-fn entry_at(list: &[Option<u32>], i: usize) -> Option<Option<u32>>
-    ensures value { result ≡ slice_get list.now i }
-    ensures within { IsSome result → i < length list.now }
-{
-    list.get(i).copied()
-}
-
-/// The pool scene with its buckets and parties, each numbered from 0.
+/// The pool machine over some buckets, with its parties. No step takes memory.
 ///
 /// ```
 /// let mut world = PoolWorld::new(alloc, 2, 3)?;
@@ -30,21 +22,20 @@ pub struct PoolWorld {
 }
 
 impl Model for PoolWorld {
-    ghost use Rattle.std.specs.Prelude.{◌^◌, ◌<◌, length};
-    ghost use Rattle.bb_memory_base.specs.PoolMachine.{PoolState};
+    ghost use Rattle.bb_memory_base.specs.PoolWorld.{PoolWorld, IsPoolWorld};
 
-    ghost Value = { PoolState };
+    ghost Value = { PoolWorld };
 
-    ghost view = { λ world. record { holders = world.holders.items; calls = world.passes.items } };
+    ghost view = { λ w. record { holders = w.holders.items; calls = w.passes.items } };
 
-    ghost invariant = { λ world. length world.holders.items < 2 ^ 32 };
+    ghost invariant = { λ w. IsPoolWorld (record { holders = w.holders.items; calls = w.passes.items }) };
 }
 
 impl PoolWorld {
-    /// The scene with this many buckets and parties. All flags are free, and every party is idle. It is refused only
-    /// where memory was.
-    pub fn new(alloc: Global, buckets: u32, parties: u32) -> Result<Self, AllocError>
-        ensures { IfOk result (λ world. world ≡ all_free buckets parties) }
+    /// The machine over that many buckets, all flags free, with that many parties, all idle. It is refused only where
+    /// memory was.
+    pub fn new(alloc: Global, buckets: u32, parties: u32) -> Result<PoolWorld, AllocError>
+        ensures opened { IfOk result (λ world. world ≡ opened buckets parties) }
     {
         let holders = vec![in alloc; None; buckets as usize]?;
         let passes = vec![in alloc; None; parties as usize]?;
@@ -55,20 +46,10 @@ impl PoolWorld {
         })
     }
 
-    /// The party that holds the bucket: `None` where its flag is free, or where there is no such bucket.
-    pub fn holder(&self, bucket: u32) -> Option<u32>
-        ensures { result ≡ holder_of self.now bucket }
-    {
-        match entry_at(&self.holders, bucket as usize) {
-            Some(holder) => holder,
-            None => None,
-        }
-    }
-
-    /// Takes one step, and answers what it found. It takes no memory.
+    /// Takes one atomic step, and answers what it found. It takes no memory.
     pub fn step(&mut self, step: PoolStep) -> PoolOutcome
-        ensures answer { result ≡ (pool_step self.old step).outcome }
-        ensures state { self.new ≡ (pool_step self.old step).state }
+        ensures outcome { result ≡ outcome_of self.old step }
+        ensures state { self.new ≡ after_step self.old step }
     {
         match step {
             PoolStep::Try { party } => self.try_next(party),
@@ -76,12 +57,11 @@ impl PoolWorld {
         }
     }
 
-    /// Takes the steps in order, and answers what each found. Memory for the answers is reserved first. Where it is
+    /// Takes the steps in order, and answers what each found. The memory for the answers is reserved first: where it is
     /// refused, no step is taken.
     pub fn replay(&mut self, steps: &[PoolStep]) -> Result<Vec<PoolOutcome>, AllocError>
-        ensures answers { IfOk result (λ outcomes.
-            outcomes.items ≡ outcomes_of (pool_history self.old steps.now)) }
-        ensures state { OnOk result (self.new ≡ pool_after self.old steps.now) }
+        ensures outcomes { IfOk result (λ found. found.items ≡ outcomes_of self.old steps.now) }
+        ensures state { OnOk result (self.new ≡ after_steps self.old steps.now) }
         ensures kept { OnErr result (self.new ≡ self.old) }
     {
         let mut outcomes = Vec::with_capacity(self.alloc, steps.len())?;
@@ -92,14 +72,31 @@ impl PoolWorld {
         Ok(outcomes)
     }
 
+    /// How many buckets there are.
+    pub fn number_of_buckets(&self) -> u32
+        ensures { result ≡ length self.now.holders }
+    {
+        self.holders.len() as u32
+    }
+
+    /// The party that holds the bucket: `None` where its flag is free, or where there is no such bucket.
+    pub fn holder(&self, bucket: u32) -> Option<u32>
+        ensures { result ≡ holder_of self.now bucket }
+    {
+        match found_at(&self.holders, bucket as usize) {
+            Some(holder) => holder,
+            None => None,
+        }
+    }
+
     /// A party tries the next bucket of its pass.
     fn try_next(&mut self, party: u32) -> PoolOutcome
-        ensures answer { result
-            ≡ (try_next self.old party (slice_get self.old.calls party)).outcome }
-        ensures state { self.new
-            ≡ (try_next self.old party (slice_get self.old.calls party)).state }
+        ensures outcome { let pass = slice_get self.old.calls party in
+            result ≡ (try_next self.old party pass).outcome }
+        ensures state { let pass = slice_get self.old.calls party in
+            self.new ≡ (try_next self.old party pass).state }
     {
-        match entry_at(&self.passes, party as usize) {
+        match found_at(&self.passes, party as usize) {
             Some(pass) => self.try_flag(party, pass.unwrap_or(0)),
             None => PoolOutcome::Passed,
         }
@@ -108,12 +105,12 @@ impl PoolWorld {
     /// A party tries the flag of a bucket.
     fn try_flag(&mut self, party: u32, bucket: u32) -> PoolOutcome
         requires { party < length self.old.calls }
-        ensures answer { result
-            ≡ (try_flag self.old party bucket (slice_get self.old.holders bucket)).outcome }
-        ensures state { self.new
-            ≡ (try_flag self.old party bucket (slice_get self.old.holders bucket)).state }
+        ensures outcome { let flag = slice_get self.old.holders bucket in
+            result ≡ (try_flag self.old party bucket flag).outcome }
+        ensures state { let flag = slice_get self.old.holders bucket in
+            self.new ≡ (try_flag self.old party bucket flag).state }
     {
-        match entry_at(&self.holders, bucket as usize) {
+        match found_at(&self.holders, bucket as usize) {
             Some(None) => {
                 self.holders[bucket as usize] = Some(party);
                 self.passes[party as usize] = None;
@@ -134,12 +131,12 @@ impl PoolWorld {
 
     /// A party gives back a bucket.
     fn give_flag(&mut self, party: u32, bucket: u32) -> PoolOutcome
-        ensures answer { result
-            ≡ (give_flag self.old party bucket (slice_get self.old.holders bucket)).outcome }
-        ensures state { self.new
-            ≡ (give_flag self.old party bucket (slice_get self.old.holders bucket)).state }
+        ensures outcome { let flag = slice_get self.old.holders bucket in
+            result ≡ (give_flag self.old party bucket flag).outcome }
+        ensures state { let flag = slice_get self.old.holders bucket in
+            self.new ≡ (give_flag self.old party bucket flag).state }
     {
-        match entry_at(&self.holders, bucket as usize) {
+        match found_at(&self.holders, bucket as usize) {
             Some(Some(holder)) => {
                 if holder == party {
                     self.holders[bucket as usize] = None;
@@ -148,8 +145,15 @@ impl PoolWorld {
                     PoolOutcome::Passed
                 }
             }
-            Some(None) => PoolOutcome::Passed,
-            None => PoolOutcome::Passed,
+            Some(None) | None => PoolOutcome::Passed,
         }
     }
+}
+
+/// The holder of a bucket or the pass of a party, where there is such a bucket or party.
+fn found_at(all: &[Option<u32>], number: usize) -> Option<Option<u32>>
+    ensures value { result ≡ slice_get all.now number }
+    ensures within { IsSome result → number < length all.now }
+{
+    all.get(number).copied()
 }

@@ -45,7 +45,7 @@ abbrev pub SomeOf : List Kind → (Kind → Type 0) → Type 0
 SomeOf [] Holds = ⊥
 SomeOf (one ∷ others) Holds = Holds one ⊎ SomeOf others Holds
 
--- at some place that both have, their bytes differ
+-- at some index that both have, their bytes differ
 abbrev pub apart : List ℕ → List ℕ → Bool
 apart [] other = false
 apart (a ∷ one) [] = false

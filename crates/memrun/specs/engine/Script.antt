@@ -1,9 +1,33 @@
--- Scripts, and which lines they are.
-use Rattle.std.specs.Prelude.{ℕ, ◌≡◌, List, [], ◌∷◌, ◌++◌, map, All, take, slice_get, Some}
+-- Scripts: their commands, cut at each show, and which lines they are.
+use Rattle.std.specs.Prelude.{ℕ, ◌≡◌, ◌≤◌, List, [], ◌∷◌, ◌++◌, map, All, take, slice_get, slice_range, Some}
 use Rattle.std.specs.List.{flat_map}
-use Rattle.memrun.specs.engine.Batches.{Batches}
 use Rattle.memrun.specs.declared.engine.script.Line.{Line}
 use Rattle.memrun.specs.declared.engine.script.Line.TheVariants.{Command, Show}
+
+-- BATCHES
+
+-- the commands before each show, and those after the last
+pub record Batches (C : Type 0) : Type 0 where
+  pub shown : List (List C)
+  pub last : List C
+
+-- the batches with these ends, of the commands from an index on
+abbrev pub batches_from : {C : Type 0} → ℕ → List ℕ → List C → List (List C)
+batches_from start [] commands = []
+batches_from start (end ∷ ends) commands =
+    slice_range commands start end ∷ batches_from end ends commands
+
+-- where the last of them ends
+abbrev pub last_end : ℕ → List ℕ → ℕ
+last_end start [] = start
+last_end start (end ∷ ends) = last_end end ends
+
+-- the ends come in order, and none lies past the length
+abbrev pub AreInOrder : ℕ → List ℕ → ℕ → Type 0
+AreInOrder start [] len = start ≤ len
+AreInOrder start (end ∷ ends) len = (start ≤ end) × AreInOrder end ends len
+
+-- LINES
 
 -- the commands, and then a show
 abbrev pub shown_lines : {C : Type 0} → List C → List (Line C)
@@ -23,8 +47,8 @@ abbrev pub WritesScript : {C : Type 0} → (Line C → Type 0) → (Line C → L
 WritesScript IsAllowed text_of lines script =
     All IsAllowed (script_lines script) × (lines ≡ map text_of (script_lines script))
 
--- the line at this place, counted from 0, is the first that is not readable
+-- the line at this index, counted from 0, is the first that is not readable
 abbrev pub IsFirstUnreadable : (List ℕ → Type 0) → List (List ℕ) → ℕ → Type 0
-IsFirstUnreadable IsReadable lines place =
-    All IsReadable (take place lines)
-    × (line : List ℕ) × (slice_get lines place ≡ Some line) × ¬ IsReadable line
+IsFirstUnreadable IsReadable lines index =
+    All IsReadable (take index lines)
+    × (line : List ℕ) × (slice_get lines index ≡ Some line) × ¬ IsReadable line

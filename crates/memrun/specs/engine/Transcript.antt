@@ -2,7 +2,7 @@
 use Rattle.std.specs.Prelude.{ℕ, ◌≡◌, ◌+◌, ◌⊎◌, List, [], ◌∷◌, ◌++◌, codes, take}
 use Rattle.std.specs.Fmt.{decimal}
 use Rattle.std.specs.List.{flat_map}
-use Rattle.memrun.specs.engine.Batches.{Batches}
+use Rattle.memrun.specs.engine.Script.{Batches}
 use Rattle.memrun.specs.engine.Sending.{Begins}
 use Rattle.memrun.specs.engine.Rules.{Rules, IsLine, line_text}
 use Rattle.memrun.specs.engine.Script.{IsTextOf, WritesScript, IsFirstUnreadable}
@@ -22,7 +22,7 @@ IsPlayed {S} {O} {C} {R} rules old script text new =
     × rules.runs mid script.last replies new
     × (text ≡ front ++ flat_map rules.reply_text replies)
 
--- what is told of a script up to some place
+-- what is told of a script up to some show, or of all of it
 abbrev pub IsSoFar : {S O C R : Type 0} → Rules S O C R → S → Batches C → List ℕ → S → Type 0
 IsSoFar rules old script text new =
     ((count : ℕ) × IsTold rules old (take count script.shown) text new)
@@ -54,14 +54,15 @@ IsLineText rules line = IsTextOf (IsLine rules) (line_text rules) line
 -- behind a readable first line, the first that is unreadable has this number
 abbrev pub IsLaterUnreadable : {S O C R : Type 0} → Rules S O C R → List (List ℕ) → ℕ → Type 0
 IsLaterUnreadable rules rest number =
-    (place : ℕ) × IsFirstUnreadable (IsLineText rules) rest place × (number ≡ place + 2)
+    (index : ℕ) × IsFirstUnreadable (IsLineText rules) rest index × (number ≡ index + 2)
 
 -- what is written of the first unreadable line, a line feed included
 abbrev pub unreadable_text : ℕ → List ℕ
 unreadable_text number = codes "line " ++ (decimal number ++ codes ": refused\n")
 
 -- the bytes begin what is written of the first unreadable line
-abbrev pub IsBegunLaterUnreadable : {S O C R : Type 0} → Rules S O C R → List (List ℕ) → List ℕ → Type 0
+abbrev pub IsBegunLaterUnreadable : {S O C R : Type 0} → Rules S O C R
+    → List (List ℕ) → List ℕ → Type 0
 IsBegunLaterUnreadable rules rest sent =
     (number : ℕ) × IsLaterUnreadable rules rest number × Begins sent (unreadable_text number)
 

@@ -12,7 +12,8 @@ use Rattle.memrun.specs.kinds.Bounds.{region_text}
 use Rattle.memrun.specs.kinds.Allocators.{AllocatorRules}
 
 -- the replies are a run of the bump object over the bump's region, and the bump stands for the list that the run leaves
-pub record BumpRuns (old : Bump) (live : List Chunk) (commands : List Command) (replies : List Reply) (new : Bump) (left : List Chunk) : Type 0 where
+pub record BumpRuns (old : Bump) (live : List Chunk) (commands : List Command)
+    (replies : List Reply) (new : Bump) (left : List Chunk) : Type 0 where
   pub run : IsRun (Step (bump_object old.region)) live commands replies left
   pub region : new.region ≡ old.region
   pub stands : StandsFor new.region new.used left
@@ -20,12 +21,14 @@ pub record BumpRuns (old : Bump) (live : List Chunk) (commands : List Command) (
 -- how much is used, free and there
 abbrev pub figures_line : ℕ → ℕ → ℕ → List ℕ
 figures_line used free total =
-    codes "used " ++ (decimal used ++ (codes " free " ++ (decimal free ++ (codes " total " ++ (decimal total ++ codes "\n")))))
+    codes "used " ++ (decimal used ++ (codes " free " ++ (decimal free
+    ++ (codes " total " ++ (decimal total ++ codes "\n")))))
 
 -- what `show` writes
 abbrev pub bump_lines : Bump → List ℕ
 bump_lines bump =
-    (bump_text bump ++ codes "\n") ++ figures_line bump.used (bump.region.size - bump.used) bump.region.size
+    (bump_text bump ++ codes "\n")
+    ++ figures_line bump.used (bump.region.size - bump.used) bump.region.size
 
 -- a bump that a script drives: it begins with nothing used
 abbrev pub bump_rules : AllocatorRules Bump Region

@@ -9,7 +9,8 @@ use Rattle.memrun.specs.kinds.Allocators.{AllocatorRules}
 -- the pool's region is cut into the buckets that it has room for, but into at most 512; none is held
 abbrev pub BeginsFixedPool : PoolPlan → Pool → Type 0
 BeginsFixedPool plan pool =
-    (whole : PoolGeometry) × IsCut plan.region plan.bucket whole × (pool ≡ fresh_pool (at_most 512 whole))
+    (whole : PoolGeometry) × IsCut plan.region plan.bucket whole
+    × (pool ≡ fresh_pool (at_most 512 whole))
 
 -- what `show` writes
 abbrev pub fixed_pool_state : Pool → ℕ → List ℕ

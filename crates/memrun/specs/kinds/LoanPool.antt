@@ -17,7 +17,7 @@ use Rattle.loan_book.specs.declared.run.LoanReply.TheVariants as reply
 use Rattle.memrun.specs.Fields.{IsNumber}
 use Rattle.memrun.specs.kinds.PoolPlan.{PoolPlan, IsPoolPlan, pool_plan_text}
 use Rattle.memrun.specs.kinds.Pool.{BeginsPool}
-use Rattle.memrun.specs.kinds.Commands.{refusal_line}
+use Rattle.memrun.specs.kinds.Allocators.{refusal_line}
 use Rattle.memrun.specs.engine.Rules.{Rules}
 
 -- LINES
@@ -60,7 +60,8 @@ call_line (IsOut id) = out_line id
 
 abbrev pub loaned_line : ℕ → Chunk → List ℕ
 loaned_line id chunk =
-    codes "loan " ++ (decimal id ++ (codes " " ++ (decimal chunk.place ++ (codes " " ++ (decimal chunk.len ++ codes "\n")))))
+    codes "loan " ++ (decimal id ++ (codes " " ++ (decimal chunk.place
+    ++ (codes " " ++ (decimal chunk.len ++ codes "\n")))))
 
 -- a refusal is written by its name, and the pool's by the name that the pool gave it
 abbrev pub loan_refusal_line : LoanError → List ℕ
@@ -89,7 +90,8 @@ loan_reply_line (reply.Refused error) = loan_refusal_line error
 
 -- the replies are a run of a book over the pool object of the pool's geometry, none is that a record found no memory, and
 -- the pool stands for exactly the chunks of the samples that are out
-pub record LoansRun (old : LoanBook CountedPool) (calls : List LoanCall) (replies : List LoanReply) (new : LoanBook CountedPool) : Type 0 where
+pub record LoansRun (old : LoanBook CountedPool) (calls : List LoanCall)
+    (replies : List LoanReply) (new : LoanBook CountedPool) : Type 0 where
   pub run : IsRun (BookStep (MayAllocate old.allocator.pool.geometry)) old.book calls replies new.book
   pub remembered : ¬ Contains replies (reply.Refused refused.Memory)
   pub geometry : new.allocator.pool.geometry ≡ old.allocator.pool.geometry

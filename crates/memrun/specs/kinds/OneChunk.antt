@@ -13,7 +13,8 @@ use Rattle.memrun.specs.kinds.Bounds.{region_text}
 use Rattle.memrun.specs.kinds.Allocators.{AllocatorRules}
 
 -- the replies are a run of the one-chunk object over its region, and it stands for the list that the run leaves
-pub record OneChunkRuns (old : OneChunk) (live : List Chunk) (commands : List Command) (replies : List Reply) (new : OneChunk) (left : List Chunk) : Type 0 where
+pub record OneChunkRuns (old : OneChunk) (live : List Chunk) (commands : List Command)
+    (replies : List Reply) (new : OneChunk) (left : List Chunk) : Type 0 where
   pub run : IsRun (ResizableStep (one_chunk_object old.region)) live commands replies left
   pub region : new.region ≡ old.region
   pub stands : StandsFor new left
@@ -26,7 +27,8 @@ available_text (Some place) = codes " available no\n"
 -- what `show` writes
 abbrev pub one_chunk_state : OneChunk → List ℕ
 one_chunk_state one =
-    codes "one start " ++ (decimal one.region.start ++ (codes " size " ++ (decimal one.region.size ++ available_text one.kept)))
+    codes "one start " ++ (decimal one.region.start
+    ++ (codes " size " ++ (decimal one.region.size ++ available_text one.kept)))
 
 -- a one chunk that a script drives: it begins with nothing kept
 abbrev pub one_chunk_rules : AllocatorRules OneChunk Region

@@ -17,16 +17,19 @@ use Rattle.memrun.specs.kinds.Allocators.{AllocatorRules}
 -- the pool's region is cut into all the buckets that it has room for; none is held, and no index word was read
 abbrev pub BeginsPool : PoolPlan → CountedPool → Type 0
 BeginsPool plan pool =
-    (geometry : PoolGeometry) × IsCut plan.region plan.bucket geometry × (pool ≡ counted (fresh_pool geometry) 0)
+    (geometry : PoolGeometry) × IsCut plan.region plan.bucket geometry
+    × (pool ≡ counted (fresh_pool geometry) 0)
 
 -- the replies are a run of the pool object over the pool's geometry, and the pool stands for the list that the run leaves
-pub record PoolRuns (old : Pool) (live : List Chunk) (commands : List Command) (replies : List Reply) (new : Pool) (left : List Chunk) : Type 0 where
+pub record PoolRuns (old : Pool) (live : List Chunk) (commands : List Command)
+    (replies : List Reply) (new : Pool) (left : List Chunk) : Type 0 where
   pub run : IsRun (ResizableStep (pool_object old.geometry)) live commands replies left
   pub geometry : new.geometry ≡ old.geometry
   pub stands : StandsFor new left
 
 -- the same, and the last request made at most as many reads as there are index words
-pub record CountedPoolRuns (old : CountedPool) (live : List Chunk) (commands : List Command) (replies : List Reply) (new : CountedPool) (left : List Chunk) : Type 0 where
+pub record CountedPoolRuns (old : CountedPool) (live : List Chunk) (commands : List Command)
+    (replies : List Reply) (new : CountedPool) (left : List Chunk) : Type 0 where
   pub runs : PoolRuns old.pool live commands replies new.pool left
   pub reads : new.reads ≤ index_words new.pool.geometry.buckets
 

@@ -21,4 +21,5 @@ IsPoolPlan plan = MayBeCut plan.region plan.bucket
 -- `START SIZE BUCKET ALIGN`
 abbrev pub pool_plan_text : PoolPlan → List ℕ
 pool_plan_text plan =
-    decimal plan.region.start ++ (codes " " ++ (decimal plan.region.size ++ (codes " " ++ layout_text plan.bucket)))
+    decimal plan.region.start ++ (codes " " ++ (decimal plan.region.size
+    ++ (codes " " ++ layout_text plan.bucket)))

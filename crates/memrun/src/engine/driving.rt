@@ -5,7 +5,8 @@ ghost use Rattle.std.specs.Io.KnownBytes.{Keeps, Appends};
 ghost use Rattle.memrun.specs.Status.{IsCutShort};
 ghost use Rattle.memrun.specs.engine.Lines.{lines_of};
 ghost use Rattle.memrun.specs.engine.Sending.{Sends, AppendsPart};
-ghost use Rattle.memrun.specs.engine.Transcript.{IsPlayed, IsBegun, IsTranscript, BeginsLaterOutput, IsLaterUnreadable, unreadable_text};
+ghost use Rattle.memrun.specs.engine.Transcript.{IsPlayed, IsBegun, IsTranscript};
+ghost use Rattle.memrun.specs.engine.Transcript.{BeginsLaterOutput, IsLaterUnreadable, unreadable_text};
 
 use crate::engine::driven::Driven;
 use crate::engine::reading::read_script;
@@ -34,7 +35,7 @@ pub fn drive<K: Driven, W: Write>(
 {
     match read_script::<K>(alloc, rest) {
         Ok(Ok(script)) => answer::<K, W>(alloc, opening, &script, writer),
-        Ok(Err(place)) => tell_unreadable(alloc, place + 2, writer),
+        Ok(Err(index)) => tell_unreadable(alloc, index + 2, writer),
         Err(_) => Status::OutOfMemory,
     }
 }
@@ -54,7 +55,8 @@ pub fn tell_unreadable<W: Write>(alloc: Global, number: usize, writer: &mut W) -
 }
 
 fn write_unreadable<W: Write>(alloc: Global, number: usize, writer: &mut W) -> Result<(), Failure>
-    ensures { Sends (W.contents writer.old) (W.contents writer.new) (unreadable_text number) result }
+    ensures { Sends (W.contents writer.old) (W.contents writer.new)
+        (unreadable_text number) result }
 {
     let mut line = Vec::new(alloc);
     unreadable_line(number, &mut line)?;

@@ -1,34 +1,35 @@
-//! How a script is read.
-ghost use Rattle.std.specs.Prelude.{◌<◌, ◌≡◌, length, IfOk, IfErr, IfSome, IfNone};
-ghost use Rattle.memrun.specs.engine.Lines.{lines_of};
+//! How an input is cut into lines, and how a script is read from them.
+ghost use Rattle.std.specs.Prelude.{◌≡◌, ◌==◌, ◌<◌, ◌∷◌, [], List, ℕ, length, IfOk, IfErr, IfSome, IfNone};
+ghost use Rattle.std.specs.List.{position};
+ghost use Rattle.memrun.specs.engine.Lines.{lines_of, AreLines};
 ghost use Rattle.memrun.specs.engine.Rules.{IsLine, line_text};
 ghost use Rattle.memrun.specs.engine.Script.{WritesScript, IsFirstUnreadable, IsTextOf};
 
 use crate::engine::driven::Driven;
-use crate::engine::lines::first_line;
 use crate::engine::script::{Line, Script};
 use std::alloc::{AllocError, Global};
 
-/// Reads the lines after the first, or gives the place of the first that is unreadable.
+/// Reads the lines after the first, or gives the index of the first that is unreadable.
 pub fn read_script<K: Driven>(
     alloc: Global,
     input: &[u8],
 ) -> Result<Result<Script<K::Command>, usize>, AllocError>
     ensures read { IfOk result (λ outcome. IfOk outcome (λ script.
         WritesScript (IsLine K.rules) (line_text K.rules) (lines_of input.now) script)) }
-    ensures unreadable { IfOk result (λ outcome. IfErr outcome (λ place.
-        IsFirstUnreadable (IsTextOf (IsLine K.rules) (line_text K.rules)) (lines_of input.now) place)) }
-    ensures within { IfOk result (λ outcome. IfErr outcome (λ place. place < length input.now)) }
+    ensures unreadable { IfOk result (λ outcome. IfErr outcome (λ index.
+        IsFirstUnreadable (IsTextOf (IsLine K.rules) (line_text K.rules))
+        (lines_of input.now) index)) }
+    ensures within { IfOk result (λ outcome. IfErr outcome (λ index. index < length input.now)) }
 {
     let mut script = Script::new(alloc);
-    let mut place = 0;
+    let mut index = 0;
     let mut left = input;
     while let Some((line, rest)) = first_line(left) {
         let Some(line) = read_line::<K>(line) else {
-            return Ok(Err(place));
+            return Ok(Err(index));
         };
         script.push(line)?;
-        place += 1;
+        index += 1;
         left = rest;
     }
     Ok(Ok(script))
@@ -48,4 +49,35 @@ fn read_line<K: Driven>(text: &[u8]) -> Option<Line<K::Command>>
         return Some(Line::Show);
     }
     None
+}
+
+/// What the lines of an input are.
+pub fn lines_law()
+    ensures are { (input : List ℕ) → AreLines input (lines_of input) }
+    ensures only { (input : List ℕ) (lines : List (List ℕ)) → AreLines input lines
+        → lines ≡ lines_of input }
+{}
+
+/// The first line of an input and what comes after it, where a line is left.
+pub fn first_line(input: &[u8]) -> Option<(&[u8], &[u8])>
+    ensures none { IfNone result (input.now ≡ []) }
+    ensures cut { IfSome result (λ (line, rest).
+        lines_of input.now ≡ line.now ∷ lines_of rest.now) }
+    ensures shorter { IfSome result (λ (_, rest). length rest.now < length input.now) }
+{
+    if input.is_empty() {
+        return None;
+    }
+    match line_end(input) {
+        Some(end) => Some((&input[..end], &input[end + 1..])),
+        None => Some((input, &[])),
+    }
+}
+
+/// Where the first line feed stands.
+fn line_end(input: &[u8]) -> Option<usize>
+    ensures index { result ≡ position (λ byte. byte == 10) input.now }
+    ensures within { IfSome result (λ end. end < length input.now) }
+{
+    input.iter().position(|byte| *byte == b'\n')
 }

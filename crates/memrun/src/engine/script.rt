@@ -1,6 +1,7 @@
 //! Scripts: the commands after the first line, cut at each `show`.
-ghost use Rattle.std.specs.Prelude.{◌≡◌, ◌<◌, ◌≤◌, ◌∷◌, ◌++◌, [], length, OnOk, OnErr, slice_get, slice_index, slice_range, Some};
-ghost use Rattle.memrun.specs.engine.Batches.{batches_from, AreInOrder};
+ghost use Rattle.std.specs.Prelude.{◌≡◌, ◌<◌, ◌≤◌, ◌∷◌, ◌++◌, [], length, OnOk, OnErr, Some};
+ghost use Rattle.std.specs.Prelude.{slice_get, slice_index, slice_range};
+ghost use Rattle.memrun.specs.engine.Script.{batches_from, AreInOrder};
 ghost use Rattle.memrun.specs.engine.Script.{script_lines};
 
 use std::alloc::{AllocError, Global};
@@ -23,13 +24,13 @@ pub struct Script<C> {
 
 impl<C> Model for Script<C> {
     ghost use Rattle.std.specs.Prelude.{drop, length};
-    ghost use Rattle.memrun.specs.engine.Batches.{Batches, batches_from, last_place, AreInOrder};
+    ghost use Rattle.memrun.specs.engine.Script.{Batches, batches_from, last_end, AreInOrder};
 
     ghost Value = { Batches C };
 
     ghost view = { λ s. record {
       shown = batches_from 0 s.shows.items s.commands.items;
-      last = drop (last_place 0 s.shows.items) s.commands.items;
+      last = drop (last_end 0 s.shows.items) s.commands.items;
     } };
 
     ghost invariant = { λ s. AreInOrder 0 s.shows.items (length s.commands.items) };
@@ -100,7 +101,7 @@ impl<C: Drop> Script<C> {
     }
 }
 
-/// The batch of this index, of those that end at these places.
+/// The batch of this index, of those with these ends.
 fn batch<'a, C>(commands: &'a [C], ends: &[usize], index: usize) -> &'a [C]
     requires ordered { AreInOrder 0 ends.now (length commands.now) }
     requires within { index < length ends.now }
@@ -109,7 +110,7 @@ fn batch<'a, C>(commands: &'a [C], ends: &[usize], index: usize) -> &'a [C]
     part(commands, start(ends, index), ends[index])
 }
 
-/// Where the batch of this index starts, of those that end at these places.
+/// Where the batch of this index starts, of those with these ends.
 fn start(ends: &[usize], index: usize) -> usize
     requires { index ≤ length ends.now }
     ensures { result ≡ slice_index (0 ∷ ends.now) index }
@@ -117,7 +118,7 @@ fn start(ends: &[usize], index: usize) -> usize
     if index == 0 { 0 } else { ends[index - 1] }
 }
 
-/// The commands from one place up to another.
+/// The commands from one index up to another.
 fn part<C>(commands: &[C], start: usize, end: usize) -> &[C]
     requires ordered { start ≤ end }
     requires within { end ≤ length commands.now }

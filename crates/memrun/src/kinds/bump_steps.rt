@@ -1,9 +1,10 @@
 //! A bump world that a script drives by its steps.
-ghost use Rattle.std.specs.Prelude.{OnOk, ◌≡◌, ℕ, IfSome, Some};
+ghost use Rattle.std.specs.Prelude.{◌≡◌, ℕ, IfSome, Some, OnOk};
 ghost use Rattle.std.specs.Io.KnownBytes.{Appends};
-ghost use Rattle.memrun.specs.kinds.BumpSteps.{outcome_line, wins_line, IsPartyRead, IsStep, exchange_line, load_line, party_read_text, read_line, step_line};
 ghost use Rattle.bb_memory_base.specs.declared.layout.Layout.{Layout};
 ghost use Rattle.bb_memory_base.specs.declared.steps.bump.BumpStep.{BumpStep};
+ghost use Rattle.memrun.specs.kinds.BumpSteps.{IsReading, IsStep, exchange_line, load_line, read_line};
+ghost use Rattle.memrun.specs.kinds.BumpSteps.{outcome_line, reading_text, step_line, wins_line};
 ghost use Rattle.memrun.specs.kinds.Parties.{IsParty};
 
 use crate::engine::driven::Driven;
@@ -84,7 +85,7 @@ fn write_win<W: Write>(chunk: &Chunk, writer: &mut W) -> io::Result<()>
 }
 
 /// The step that this line writes.
-pub fn read_step(line: &[u8]) -> Option<BumpStep>
+fn read_step(line: &[u8]) -> Option<BumpStep>
     ensures written { IfSome result (λ step. IsStep step × (line.now ≡ step_line step)) }
     ensures each { (step : BumpStep) → IsStep step → line.now ≡ step_line step
         → result ≡ Some step }
@@ -102,6 +103,7 @@ pub fn read_step(line: &[u8]) -> Option<BumpStep>
     Some(BumpStep::Read { party, layout })
 }
 
+/// The party that this line has exchange.
 fn read_exchange(line: &[u8]) -> Option<u32>
     ensures written { IfSome result (λ party. IsParty party × (line.now ≡ exchange_line party)) }
     ensures each { (party : ℕ) → IsParty party → line.now ≡ exchange_line party
@@ -110,6 +112,7 @@ fn read_exchange(line: &[u8]) -> Option<u32>
     read_party(line.strip_prefix(b"exchange ")?)
 }
 
+/// The party that this line has load.
 fn read_load(line: &[u8]) -> Option<u32>
     ensures written { IfSome result (λ party. IsParty party × (line.now ≡ load_line party)) }
     ensures each { (party : ℕ) → IsParty party → line.now ≡ load_line party
@@ -118,22 +121,23 @@ fn read_load(line: &[u8]) -> Option<u32>
     read_party(line.strip_prefix(b"load ")?)
 }
 
+/// The party that this line has read for a layout, and the layout.
 fn read_read(line: &[u8]) -> Option<(u32, Layout)>
-    ensures written { IfSome result (λ (party, layout). IsPartyRead party layout
+    ensures written { IfSome result (λ (party, layout). IsReading party layout
         × (line.now ≡ read_line party layout)) }
-    ensures each { (party : ℕ) (layout : Layout) → IsPartyRead party layout
+    ensures each { (party : ℕ) (layout : Layout) → IsReading party layout
         → line.now ≡ read_line party layout → result ≡ Some (party, layout) }
 {
-    read_party_and_layout(line.strip_prefix(b"read ")?)
+    reading(line.strip_prefix(b"read ")?)
 }
 
 /// The party and the layout that `PARTY SIZE ALIGN` names.
-fn read_party_and_layout(text: &[u8]) -> Option<(u32, Layout)>
-    ensures written { IfSome result (λ (party, layout). IsPartyRead party layout
-        × (text.now ≡ party_read_text party layout)) }
-    ensures each { (party : ℕ) (layout : Layout) → IsPartyRead party layout
-        → text.now ≡ party_read_text party layout → result ≡ Some (party, layout) }
+fn reading(text: &[u8]) -> Option<(u32, Layout)>
+    ensures written { IfSome result (λ (party, layout). IsReading party layout
+        × (text.now ≡ reading_text party layout)) }
+    ensures each { (party : ℕ) (layout : Layout) → IsReading party layout
+        → text.now ≡ reading_text party layout → result ≡ Some (party, layout) }
 {
-    let (number, rest) = number_and_rest(text)?;
-    Some((party_of(number)?, layout(rest)?))
+    let (party, rest) = number_and_rest(text)?;
+    Some((party_of(party)?, layout(rest)?))
 }

@@ -5,11 +5,13 @@ ghost use Rattle.std.specs.Io.KnownBytes.{Appends};
 ghost use Rattle.std.specs.Option.{SomeIff};
 ghost use Rattle.loan_book.specs.declared.run.LoanCall.{LoanCall};
 ghost use Rattle.memrun.specs.Fields.{IsNumber};
-ghost use Rattle.memrun.specs.kinds.LoanPool.{IsCall, IsPublishing, answer_line, back_line, call_line, loan_line, loan_refusal_line, loan_reply_line, loaned_line, out_line, publish_line, publishing_text};
+ghost use Rattle.memrun.specs.kinds.LoanPool.{IsCall, IsPublishing, call_line, publishing_text};
+ghost use Rattle.memrun.specs.kinds.LoanPool.{back_line, loan_line, out_line, publish_line};
+ghost use Rattle.memrun.specs.kinds.LoanPool.{answer_line, loan_refusal_line, loan_reply_line, loaned_line};
 
 use crate::engine::driven::Driven;
 use crate::fields::{number, number_and_rest};
-use crate::kinds::commands::write_refusal;
+use crate::kinds::allocators::write_refusal;
 use crate::kinds::pool::pool_of;
 use crate::kinds::pool_plan::PoolPlan;
 use bb_memory::layout::Chunk;
@@ -147,8 +149,8 @@ fn id(text: &[u8]) -> Option<u64>
 fn publishing(text: &[u8]) -> Option<(u64, u32)>
     ensures written { IfSome result (λ (id, readers). IsPublishing id readers
         × (text.now ≡ publishing_text id readers)) }
-    ensures each { (id readers : ℕ) → IsPublishing id readers → text.now ≡ publishing_text id readers
-        → result ≡ Some (id, readers) }
+    ensures each { (id readers : ℕ) → IsPublishing id readers
+        → text.now ≡ publishing_text id readers → result ≡ Some (id, readers) }
 {
     let (id, rest) = number_and_rest(text)?;
     Some((id as u64, readers(number(rest)?)?))

@@ -29,7 +29,8 @@ impl Model for PoolPlan {
 
     ghost invariant = { λ a. MayBeCut (region_at a.start a.size) a.bucket };
 
-    ghost inverse = { λ plan. record { start = plan.region.start; size = plan.region.size; bucket = plan.bucket } };
+    ghost inverse = { λ plan.
+        record { start = plan.region.start; size = plan.region.size; bucket = plan.bucket } };
 }
 
 impl PoolPlan {

@@ -1,4 +1,5 @@
 //! Scripts of thousands of lines and many buckets, and with figures of 1 MiB, 4 GiB and 1 TiB.
+use super::buckets::{Named, between, line_and_rest};
 use super::rows::lines;
 use crate::program::run;
 use crate::status::Status;
@@ -88,6 +89,54 @@ fn a_bump_of_five_thousand_chunks(rt: HostRuntime) -> Result<(), Fail> {
 }
 
 #[test]
+fn a_one_chunk_of_ten_thousand_commands(rt: HostRuntime) -> Result<(), Fail> {
+    let mut wanted = Vec::new(rt.alloc());
+    for _ in 0..5000 {
+        writeln!(wanted, "chunk 1048576 1048576\nreleased")?;
+    }
+    writeln!(wanted, "one start 1048576 size 1048576 available yes")?;
+    let script = script(
+        rt.alloc(),
+        "one 1048576 1048576",
+        "alloc 4096 1048576; free 0",
+        5000,
+        "show",
+    )?;
+    let mut told = Vec::new(rt.alloc());
+    assert_eq!(rt; run(rt.alloc(), script.as_slice(), &mut told), Status::Done);
+    assert_eq!(rt; told, wanted);
+    Ok(())
+}
+
+/// Line 1 is the first line, and the one that is unreadable comes behind 10,000 that aren't.
+#[test]
+fn an_unreadable_line_behind_ten_thousand(rt: HostRuntime) -> Result<(), Fail> {
+    for (first, further) in [
+        ("bump 4096 8", "alloc 8 1; free 0"),
+        ("one 4096 8", "alloc 8 1; show"),
+        ("pool 4096 8 8 8", "alloc 8 1; free 0"),
+        ("fixed 4096 8 8 8", "alloc 8 1; show"),
+        ("steps-bump 4096 8", "read 0 8 1; clear"),
+        ("steps-pool 8", "try 0; show"),
+        ("loan-pool 4096 8 8 8", "loan 8; out 7"),
+    ] {
+        let script = script(rt.alloc(), first, further, 5000, "bad; worse")?;
+        let mut told = Vec::new(rt.alloc());
+        assert_eq!(rt;
+            run(rt.alloc(), script.as_slice(), &mut told),
+            Status::Unreadable,
+            "{first}"
+        );
+        assert_eq!(rt;
+            told.as_slice(),
+            b"line 10002: refused\n".as_slice(),
+            "{first}"
+        );
+    }
+    Ok(())
+}
+
+#[test]
 fn a_bump_world_of_ten_thousand_steps(rt: HostRuntime) -> Result<(), Fail> {
     let mut wanted = Vec::new(rt.alloc());
     for call in 0..5000_usize {
@@ -134,26 +183,18 @@ fn a_pool_machine_of_4096_buckets(rt: HostRuntime) -> Result<(), Fail> {
     Ok(())
 }
 
-/// Each bucket of these pools is taken, and one request more is refused.
+/// Each bucket of these pools is given once, and one request more is refused.
 #[test]
 fn pools_of_many_buckets(rt: HostRuntime) -> Result<(), Fail> {
-    for (first, times, last) in [
-        (
-            "pool 4096 4294967296 1048576 4096",
-            4096,
-            "OutOfMemory\nreleased\n",
-        ),
-        (
-            "fixed 4096 4294967296 1048576 4096",
-            512,
-            "OutOfMemory\nreleased\n",
-        ),
+    for (first, buckets) in [
+        ("pool 4096 5242880000 1048576 4096", 5000),
+        ("fixed 4096 5242880000 1048576 4096", 512),
     ] {
         let script = script(
             rt.alloc(),
             first,
             "alloc 1048576 4096",
-            times,
+            buckets,
             "alloc 0 1; free 0",
         )?;
         let mut told = Vec::new(rt.alloc());
@@ -162,28 +203,48 @@ fn pools_of_many_buckets(rt: HostRuntime) -> Result<(), Fail> {
             Status::Done,
             "{first}"
         );
-        let told = str::from_utf8(&told).unwrap_or("");
-        let given = told.strip_suffix(last).unwrap_or("");
-        assert_eq!(rt; given.matches(" 1048576\n").count(), times, "{first}");
-        assert!(rt; !given.contains("OutOfMemory"), "{first}");
+        let mut named = Named::new(rt.alloc(), 4096, 1048576, buckets)?;
+        let mut left = str::from_utf8(&told).unwrap_or("");
+        for _ in 0..buckets {
+            let (line, rest) = line_and_rest(left);
+            assert!(rt;
+                named.adds(between(line, "chunk ", " 1048576")),
+                "{first}: {line}"
+            );
+            left = rest;
+        }
+        assert_eq!(rt; left, "OutOfMemory\nreleased\n", "{first}");
     }
     Ok(())
 }
 
 #[test]
-fn a_loan_pool_of_4096_buckets(rt: HostRuntime) -> Result<(), Fail> {
+fn a_loan_pool_of_5000_buckets(rt: HostRuntime) -> Result<(), Fail> {
     let script = script(
         rt.alloc(),
-        "loan-pool 4096 4294967296 1048576 4096",
+        "loan-pool 4096 5242880000 1048576 4096",
         "loan 1048576",
-        4096,
-        "loan 0; out 4095; out 4096; back 2048; loan 7; out 2048; back 4096; back 4096",
+        5000,
+        "loan 0; out 4999; out 5000; back 2048; loan 7; out 2048; back 5000; back 5000",
     )?;
     let mut told = Vec::new(rt.alloc());
     assert_eq!(rt; run(rt.alloc(), script.as_slice(), &mut told), Status::Done);
-    let told = str::from_utf8(&told).unwrap_or("");
-    assert!(rt; told.contains("\nloan 4095 "));
-    assert!(rt; told.contains("\nOutOfMemory\nyes\nno\nreturned\nloan 4096 "));
-    assert!(rt; told.ends_with(" 7\nno\nreturned\nUnknownSample\n"));
+    let mut named = Named::new(rt.alloc(), 4096, 1048576, 5000)?;
+    let mut left = str::from_utf8(&told).unwrap_or("");
+    let mut returned = "";
+    for id in 0..5000 {
+        let (line, rest) = line_and_rest(left);
+        let before = format!(in rt.alloc(); "loan {id} ")?;
+        let place = between(line, &before, " 1048576");
+        assert!(rt; named.adds(place), "{line}");
+        if id == 2048 {
+            returned = place;
+        }
+        left = rest;
+    }
+    let last = format!(in rt.alloc();
+        "OutOfMemory\nyes\nno\nreturned\nloan 5000 {returned} 7\nno\nreturned\nUnknownSample\n"
+    )?;
+    assert_eq!(rt; left, last.as_str());
     Ok(())
 }

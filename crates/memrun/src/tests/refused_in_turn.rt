@@ -1,6 +1,7 @@
 //! Scripts that hold with any one request for memory refused: the program ends with status 4, and what it wrote begins what
 //! it writes where none is refused. `.ci/refuse-in-turn` runs each test with its first request refused, then its second, and
 //! so on, until none is left to refuse. What a test makes for itself may be refused, too: then it ends.
+use super::buckets::{Named, between, line_and_rest};
 use super::{FIRST_PATH, FIRST_PATH_LINES};
 use crate::program::run;
 use crate::status::Status;
@@ -94,6 +95,42 @@ fn a_script_of_loans(rt: HostRuntime) -> Result<(), Fail> {
         b"loan-pool 4096 128 128 8\nout 0\nloan 48\nloan 1\npublish 0 2\nback 0\nback 0\nloan 7\n",
         b"no\nloan 0 4096 48\nOutOfMemory\npublished\nkept\nreturned\nloan 1 4096 7\n",
     )
+}
+
+/// The book grows several times while twenty samples go out, each with a bucket of its own.
+#[test]
+fn a_script_of_twenty_samples_out(rt: HostRuntime) -> Result<(), Fail> {
+    let mut script = Vec::new(rt.alloc());
+    let mut told = Vec::new(rt.alloc());
+    if script.reserve(300).is_err() || told.reserve(1000).is_err() {
+        return Ok(());
+    }
+    let Ok(mut named) = Named::new(rt.alloc(), 4096, 128, 20) else {
+        return Ok(());
+    };
+    script.extend_from_slice(b"loan-pool 4096 2560 128 8\n")?;
+    for _ in 0..20 {
+        script.extend_from_slice(b"loan 48\n")?;
+    }
+    script.extend_from_slice(b"loan 48\nout 19\n")?;
+    let status = run(rt.alloc(), script.as_slice(), &mut told);
+    if status != Status::Done {
+        assert_eq!(rt; status, Status::OutOfMemory);
+        assert!(rt; told.is_empty() || told.starts_with(b"loan 0 "));
+        told.clear();
+        assert_eq!(rt; run(rt.alloc(), script.as_slice(), &mut told), Status::Done);
+    }
+    let mut left = str::from_utf8(&told).unwrap_or("");
+    for id in 0..20 {
+        let (line, rest) = line_and_rest(left);
+        let (number, place) = between(line, "loan ", " 48")
+            .split_once(" ")
+            .unwrap_or(("", ""));
+        assert!(rt; number.parse() == Ok(id) && named.adds(place), "{line}");
+        left = rest;
+    }
+    assert_eq!(rt; left, "OutOfMemory\nyes\n");
+    Ok(())
 }
 
 /// The line that is told of a first unreadable one takes memory, too.

@@ -1,5 +1,5 @@
 //! Scripts with what they write, each row by its name. A semicolon stands for a line feed.
-use crate::engine::lines::lines_law;
+use crate::engine::reading::lines_law;
 use crate::program::run;
 use crate::status::Status;
 use std::alloc::{AllocError, Global};

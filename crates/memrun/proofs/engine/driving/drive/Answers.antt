@@ -4,6 +4,6 @@ use Rattle.memrun.proofs.engine.driving.drive.Goals as goal
 pub returns-in-Ok-Err-clause-cut_short : goal.returns-in-Ok-Err-clause-cut_short
 returns-in-Ok-Err-clause-cut_short g c short =
     let (sent, begins, wrote) = c.tell_unreadable.ensures.cut_short short in
-    let place = c.in-Ok-Err.place in
+    let index = c.in-Ok-Err.index in
     let unreadable = rw c.in-Ok-Err.field-0-is at c.in-Ok-Err.ensures.unreadable in
-    inr (sent, inr (place + 2, (place, unreadable, refl), begins), wrote)
+    inr (sent, inr (index + 2, (index, unreadable, refl), begins), wrote)

@@ -11,8 +11,8 @@ invariant-loop-line g l =
     record {
       read : lines_of l.input ≡ map (line_text rules) (script_lines l.script) ++ lines_of l.left;
       allowed : All (IsLine rules) (script_lines l.script);
-      counted : l.place ≡ length (script_lines l.script);
-      short : l.place + length l.left ≤ length l.input;
+      counted : l.index ≡ length (script_lines l.script);
+      short : l.index + length l.left ≤ length l.input;
     }
 
 abbrev pub decreases-loop-line : goal.decreases-loop-line

@@ -1,7 +1,7 @@
 use Rattle.std.proofs.Common.{◌∙◌, arith, ◌∷◌, ◌++◌, codes, length, ap, None, Some}
 use Rattle.std.proofs.lemmas.Grind.{common_steps}
 use Rattle.memrun.proofs.CommandLines.{Writes-cut, has_space, same_text, by_name, reads_alloc, reads_free, reads_grow, reads_shrink}
-use Rattle.memrun.proofs.kinds.commands.read_command.Goals as goal
+use Rattle.memrun.proofs.kinds.allocators.read_command.Goals as goal
 
 pub returns-in_err-name-clause-each : goal.returns-in_err-name-clause-each
 returns-in_err-name-clause-each c command numbers e =

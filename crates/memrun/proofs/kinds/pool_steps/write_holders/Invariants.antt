@@ -2,9 +2,10 @@ use Rattle.std.proofs.Common.{take}
 use Rattle.std.specs.Io.KnownBytes.{Appends}
 use Rattle.std.specs.List.{flat_map}
 use Rattle.memrun.specs.kinds.PoolSteps.{holder_text}
-use Rattle.memrun.proofs.kinds.pool_steps.PoolSteps.write_holders.Given as goal
+use Rattle.memrun.proofs.kinds.pool_steps.write_holders.Given as goal
 
 -- the holders of the buckets so far are written
 abbrev pub invariant-loop-bucket : goal.invariant-loop-bucket
 invariant-loop-bucket g l =
-    Appends (g.W.Write.contents l.fn.writer) (g.W.Write.contents l.writer) (flat_map holder_text (take l.bucket l.self.holders))
+    Appends (g.W.Write.contents l.fn.writer) (g.W.Write.contents l.writer)
+    (flat_map holder_text (take l.bucket l.world.holders))

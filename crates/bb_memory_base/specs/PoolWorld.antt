@@ -1,0 +1,32 @@
+-- A pool world: the pool machine over some buckets.
+use Rattle.std.specs.Prelude.{ℕ, ◌<◌, ◌^◌, List, length, map}
+use Rattle.bb_memory_base.specs.PoolMachine.{PoolState, all_free, pool_step, pool_after}
+use Rattle.bb_memory_base.specs.PoolHistory.{pool_history}
+use Rattle.bb_memory_base.specs.declared.steps.pool.PoolStep.{PoolStep}
+use Rattle.bb_memory_base.specs.declared.steps.pool.PoolOutcome.{PoolOutcome}
+
+-- the machine's state
+abbrev pub PoolWorld : Type 0
+PoolWorld = PoolState
+
+-- each bucket has a number that a step can name
+abbrev pub IsPoolWorld : PoolWorld → Type 0
+IsPoolWorld world = length world.holders < 2 ^ 32
+
+-- the machine over so many buckets, all flags free, with so many parties, all idle
+abbrev pub opened : ℕ → ℕ → PoolWorld
+opened buckets parties = all_free buckets parties
+
+-- what the machine answers to a step, and the world that it leaves
+abbrev pub outcome_of : PoolWorld → PoolStep → PoolOutcome
+outcome_of world step = (pool_step world step).outcome
+
+abbrev pub after_step : PoolWorld → PoolStep → PoolWorld
+after_step world step = (pool_step world step).state
+
+-- the same of a list of steps
+abbrev pub outcomes_of : PoolWorld → List PoolStep → List PoolOutcome
+outcomes_of world steps = map (λ entry. entry.outcome) (pool_history world steps)
+
+abbrev pub after_steps : PoolWorld → List PoolStep → PoolWorld
+after_steps world steps = pool_after world steps

@@ -1,0 +1,64 @@
+//! The places that a pool's replies name. Which free bucket is given is open, but no bucket is given twice.
+use std::alloc::{AllocError, Global};
+
+/// The buckets of a pool, and which of them were named.
+#[derive(Drop)]
+pub(super) struct Named {
+    first: usize,
+    stride: usize,
+    named: Vec<bool>,
+}
+
+impl Named {
+    /// So many buckets, the first at this place and each a stride behind the one before. None was named.
+    pub(super) fn new(
+        alloc: Global,
+        first: usize,
+        stride: usize,
+        buckets: usize,
+    ) -> Result<Named, AllocError> {
+        let named = vec![in alloc; false; buckets]?;
+        Ok(Named {
+            first,
+            stride,
+            named,
+        })
+    }
+
+    /// Whether this is the place of a bucket that wasn't named. Then it is.
+    pub(super) fn adds(&mut self, place: &str) -> bool {
+        let Some(number) = self.number_at(place) else {
+            return false;
+        };
+        match self.named.get_mut(number) {
+            Some(named) if !*named => {
+                *named = true;
+                true
+            }
+            _ => false,
+        }
+    }
+
+    fn number_at(&self, place: &str) -> Option<usize> {
+        let behind = place.parse::<usize>().ok()?.checked_sub(self.first)?;
+        let number = behind.checked_div(self.stride)?;
+        if number.checked_mul(self.stride)? == behind {
+            Some(number)
+        } else {
+            None
+        }
+    }
+}
+
+/// The first line of a text without its line feed, and the text behind it. Where there is none, both are empty.
+pub(super) fn line_and_rest(text: &str) -> (&str, &str) {
+    text.split_once("\n").unwrap_or(("", ""))
+}
+
+/// What stands between these two in the line, or nothing where they don't stand there.
+pub(super) fn between<'a>(line: &'a str, before: &str, behind: &str) -> &'a str {
+    let Some(line) = line.strip_prefix(before) else {
+        return "";
+    };
+    line.strip_suffix(behind).unwrap_or("")
+}
