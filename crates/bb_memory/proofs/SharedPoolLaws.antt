@@ -35,6 +35,16 @@ holder_then party is bucket held =
     (holder_in_log party.allocator.scene is.interleaved.steps party.number bucket).1
     (subst (λ (log : PoolLog). IsHeldAfter log bucket) (sym is.interleaved.logged) held)
 
+-- a bucket that is held after a party's log is one of the pool's
+pub held_below : (party : PoolParty) (is : IsParty party) (bucket : ℕ) → IsHeldAfter party.log bucket →
+    bucket < party.allocator.scene.geometry.buckets
+held_below party is bucket held =
+    let scene = party.allocator.scene in
+    let steps = is.interleaved.steps in
+    let holder = holder_then party is bucket held in
+    let within = slice_get_within (left_by scene steps).holders bucket (Some party.number) holder in
+    omega (arith, within, length-left_by scene steps)
+
 pub history_held : (party : PoolParty) (is : IsParty party) (layouts : List Layout) (live : List Chunk) (bucket : ℕ) →
     IsHistoryRun party is layouts live → IsHeldAfter party.log bucket →
     (bucket < party.allocator.scene.geometry.buckets) × IsHeld party.allocator.scene.geometry live bucket
@@ -42,8 +52,7 @@ history_held party is layouts live bucket run held =
     let scene = party.allocator.scene in
     let steps = is.interleaved.steps in
     let holder = holder_then party is bucket held in
-    let within = slice_get_within (left_by scene steps).holders bucket (Some party.number) holder in
-    let below : bucket < scene.geometry.buckets = omega (arith, within, length-left_by scene steps) in
+    let below = held_below party is bucket held in
     (below, (taken_is_held scene steps layouts live bucket is.geometry run below).0 (party.number, holder))
 
 pub history_sound : (party : PoolParty) (is : IsParty party) (layouts : List Layout) (live : List Chunk) →
