@@ -1,3 +1,4 @@
 pub mod Values
 pub mod Handles
+pub mod HeldFlags
 pub mod Layouts

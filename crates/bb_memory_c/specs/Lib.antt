@@ -4,3 +4,4 @@ pub mod Codes
 pub mod Handles
 pub mod Layouts
 pub mod Pools
+pub mod SharedPools

@@ -18,3 +18,4 @@ mod layout;
 mod loose;
 mod made;
 mod pool;
+mod pool_seat;

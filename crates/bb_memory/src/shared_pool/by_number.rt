@@ -1,5 +1,5 @@
 //! Buckets by their numbers and places, for a user that keeps numbers where it can't keep a [`Bucket`], which borrows its pool.
-ghost use Rattle.std.specs.Prelude.{◌≡◌, ◌<◌, ◌≤◌, ◌/◌, IfSome, IfNone};
+ghost use Rattle.std.specs.Prelude.{◌≡◌, ℕ, ◌<◌, ◌≤◌, ◌/◌, IfSome, IfNone};
 ghost use Rattle.bb_memory_base.specs.PoolGeometry.{bucket_place, stride};
 ghost use Rattle.bb_memory_base.specs.PoolLogs.{IsHeldAfter};
 ghost use Rattle.bb_memory.specs.Buckets.{IsPlaceOfBucket};
@@ -28,6 +28,8 @@ impl SharedBuckets {
         ensures below { IfSome result (λ number. number < self.now.scene.geometry.buckets) }
         ensures there { IfSome result (λ number.
             place ≡ bucket_place self.now.scene.geometry number) }
+        ensures one { IfSome result (λ number. (other : ℕ)
+            → place ≡ bucket_place self.now.scene.geometry other → other ≡ number) }
         ensures none { IfNone result (¬ IsPlaceOfBucket self.now.scene.geometry place) }
     {
         let distance = place.checked_sub(self.first())?;
@@ -66,6 +68,8 @@ impl SharedPoolAllocator {
         ensures below { IfSome result (λ number. number < self.now.scene.geometry.buckets) }
         ensures there { IfSome result (λ number.
             place ≡ bucket_place self.now.scene.geometry number) }
+        ensures one { IfSome result (λ number. (other : ℕ)
+            → place ≡ bucket_place self.now.scene.geometry other → other ≡ number) }
         ensures none { IfNone result (¬ IsPlaceOfBucket self.now.scene.geometry place) }
     {
         self.buckets.number_at(place)
@@ -96,6 +100,8 @@ impl<const MAX_NUMBER_OF_BUCKETS: usize> SharedFixedSizePoolAllocator<MAX_NUMBER
         ensures below { IfSome result (λ number. number < self.now.scene.geometry.buckets) }
         ensures there { IfSome result (λ number.
             place ≡ bucket_place self.now.scene.geometry number) }
+        ensures one { IfSome result (λ number. (other : ℕ)
+            → place ≡ bucket_place self.now.scene.geometry other → other ≡ number) }
         ensures none { IfNone result (¬ IsPlaceOfBucket self.now.scene.geometry place) }
     {
         self.buckets.number_at(place)
