@@ -1,3 +1,4 @@
+pub mod Unseated
 pub mod Values
 pub mod Handles
 pub mod HeldFlags

@@ -1,5 +1,5 @@
--- A shared pool behind handles, the seats of its parties, and what their requests are answered.
-use Rattle.std.specs.Prelude.{◌≡◌, ◌≢◌, ◌<◌, ◌↔◌, ℕ, Bool, List, Option, Some, Result, Ok, Err, length, slice_get}
+-- A shared pool, the seats of its parties, and what a seat's calls are answered.
+use Rattle.std.specs.Prelude.{◌≡◌, ◌<◌, ◌↔◌, ℕ, Bool, List, Some, Result, Ok, Err, length, slice_get}
 use Rattle.bb_memory_base.specs.Region.{Region}
 use Rattle.bb_memory_base.specs.Chunk.{Chunk}
 use Rattle.bb_memory_base.specs.PoolGeometry.{IsCut, bucket_place}
@@ -9,8 +9,6 @@ use Rattle.bb_memory_base.specs.declared.layout.Layout.{Layout}
 use Rattle.bb_memory_base.specs.declared.allocator.AllocationError.{AllocationError}
 use Rattle.bb_memory.specs.NumberSet.{Has}
 use Rattle.bb_memory.specs.SharedPool.{MayTake, PoolParty, SharedPool, TakenBucket, chunk_of, fresh_party, return_entry, with_entries}
-use Rattle.bb_memory_c.specs.declared.answer.Answer.{Answer}
-use Rattle.bb_memory_c.specs.Answers.{answer_of}
 
 -- a shared pool, and how many of its parties have no seat yet
 pub record PoolSeats : Type 0 where
@@ -30,10 +28,15 @@ abbrev pub AreHeldFlags : List Bool → PoolLog → Type 0
 AreHeldFlags flags log = (bucket : ℕ) → Has flags bucket ↔ IsHeldAfter log bucket
 
 -- the party is this pool's, and the flags say which buckets it holds
-pub record IsPoolSeat (pool : SharedPool) (party : PoolParty) (flags : List Bool) : Type 0 where
+pub record IsSeatAt (pool : SharedPool) (party : PoolParty) (flags : List Bool) : Type 0 where
   pub theirs : party.allocator ≡ pool
   pub as_many : length flags ≡ pool.scene.geometry.buckets
   pub exact : AreHeldFlags flags party.log
+
+-- a pool over the region, cut into buckets of the layout, of so many parties
+pub record IsSharedPoolOver (region : Region) (bucket : Layout) (many : ℕ) (pool : SharedPool) : Type 0 where
+  pub cut : IsCut region bucket pool.scene.geometry
+  pub parties : pool.scene.parties ≡ many
 
 -- the party holds the bucket of this number, which is at this place
 pub record HoldsAt (party : PoolParty) (place number : ℕ) : Type 0 where
@@ -53,11 +56,6 @@ chunk_in (Err error) = Err error
 abbrev pub Gives : PoolParty → Layout → Result Chunk AllocationError → PoolParty → Type 0
 Gives party layout answer after =
     (taken : Result TakenBucket AllocationError) × (answer ≡ chunk_in taken) × MayTake party layout taken after
-
--- C is told what the party's request is answered
-abbrev pub Tells : PoolParty → Layout → Answer → PoolParty → Type 0
-Tells party layout told after =
-    (answer : Result Chunk AllocationError) × (told ≡ answer_of answer) × Gives party layout answer after
 
 -- the bucket at the place was given back, by one step
 abbrev pub GivesBack : PoolParty → ℕ → PoolParty → Type 0

@@ -11,6 +11,7 @@
 
 mod answer;
 mod bump;
+mod bump_seat;
 mod code;
 mod fixed_pool;
 mod handle;
@@ -19,3 +20,5 @@ mod loose;
 mod made;
 mod pool;
 mod pool_seat;
+mod shared_bump;
+mod shared_pool;
