@@ -45,6 +45,16 @@ held_in_list scene steps party bucket log layouts live geometry logged run held 
     let below : bucket < scene.geometry.buckets = omega (arith, within, length-left_by scene steps) in
     (below, (taken_is_held scene steps layouts live bucket geometry run below).0 (party, holder))
 
+-- a bucket that is held after a party's log is one of the pool's
+pub held_below : (party : PoolParty) (is : IsParty party) (bucket : ℕ) → IsHeldAfter party.log bucket →
+    bucket < party.allocator.scene.geometry.buckets
+held_below party is bucket held =
+    let scene = party.allocator.scene in
+    let steps = is.interleaved.steps in
+    let holder = holder_then scene steps party.number bucket party.log is.interleaved.logged held in
+    let within = slice_get_within (left_by scene steps).holders bucket (Some party.number) holder in
+    omega (arith, within, length-left_by scene steps)
+
 pub history_held : (party : PoolParty) (is : IsParty party) (layouts : List Layout) (live : List Chunk) (bucket : ℕ) →
     IsHistoryRun party is layouts live → IsHeldAfter party.log bucket →
     (bucket < party.allocator.scene.geometry.buckets) × IsHeld party.allocator.scene.geometry live bucket

@@ -15,6 +15,7 @@ ghost use Rattle.bb_memory.specs.SharedPool.{AreAllHeldAfter, AreInterleaved, Ha
 
 mod bucket;
 mod buckets;
+mod by_number;
 mod fixed_size;
 mod flags;
 mod party;

@@ -1,5 +1,5 @@
 -- Layouts of two numbers.
-use Rattle.std.proofs.Common.{◌≡◌, ℕ, Result, Ok, Err, Option, Some, None, IsOk, IfOk, ◌↔◌, ap, ◌∙◌, sym}
+use Rattle.std.proofs.Common.{◌≡◌, ℕ, Result, Ok, Err, Option, Some, None, IsOk, IfOk, ◌↔◌, ap, ◌∙◌, sym, subst, ◌≤◌}
 use Rattle.std.proofs.Props.{props}
 use Rattle.std.proofs.lemmas.Bool.{false≢true}
 use Rattle.std.specs.Align.{IsLayout}
@@ -7,7 +7,9 @@ use Rattle.std.specs.Result.{result_ok}
 use Rattle.std.specs.Option.{is_some}
 use mathlib.Core.HLevel.{is_prop→PathP}
 use Rattle.bb_memory_base.specs.declared.layout.Layout.{Layout}
-use Rattle.bb_memory_c.specs.Layouts.{IsOf}
+use Rattle.bb_memory_base.specs.Region.{Region}
+use Rattle.bb_memory.specs.Pool.{MayBeCut}
+use Rattle.bb_memory_c.specs.Layouts.{CannotCut, CannotShare, IsCuttable, IsOf}
 
 -- layouts of the same numbers are the same
 pub same_layout : (a b : Layout) → a.size ≡ b.size → a.align ≡ b.align → a ≡ b
@@ -39,3 +41,36 @@ the_same made layout given size align is each of = ap (layout_or made) (sym is �
 pub is_none : {X : Type 0} (layout : Layout) (given : Option Layout) (size align : ℕ) → given ≡ None
     → ((other : Layout) → IsOf size align other → given ≡ Some other) → IsOf size align layout → X
 is_none layout given size align is each of = absurd (false≢true (ap is_some (sym is ∙ each layout of)))
+
+-- CUTS
+
+-- the numbers of a layout make one
+pub is_layout : (size align : ℕ) (layout : Layout) → IsOf size align layout → IsLayout size align
+is_layout size align layout of = rw (sym of.0, sym of.1) layout.valid
+
+-- one layout can't both cut the region and not
+pub cut-or-not : {X : Type 0} (size align : ℕ) (region : Region) (bucket : Layout) → IsCuttable size align region bucket →
+    CannotCut size align region → X
+cut-or-not size align region bucket is not =
+    let same = same_layout bucket not.0 (is.layout.0 ∙ sym not.1.layout.0) (is.layout.1 ∙ sym not.1.layout.1) in
+    absurd (not.1.not (subst (λ (b : Layout). MayBeCut region b) same is.may))
+
+-- what can't be cut can't be shared
+pub cut-share : (size align : ℕ) (region : Region) (parties : ℕ) → CannotCut size align region →
+    CannotShare size align region parties
+cut-share size align region parties not = (not.0, not.1.layout, λ _. not.1.not)
+
+-- what can be cut can be shared by a party
+pub share-or-not : {X : Type 0} (size align : ℕ) (region : Region) (parties : ℕ) (bucket : Layout) →
+    IsCuttable size align region bucket → 1 ≤ parties → CannotShare size align region parties → X
+share-or-not size align region parties bucket is one not =
+    let same = same_layout bucket not.0 (is.layout.0 ∙ sym not.1.0) (is.layout.1 ∙ sym not.1.1) in
+    absurd (not.2 one (subst (λ (b : Layout). MayBeCut region b) same is.may))
+
+-- what can't be shared has a layout
+pub share-layout : (size align : ℕ) (region : Region) (parties : ℕ) → CannotShare size align region parties →
+    IsLayout size align
+share-layout size align region parties not = is_layout size align not.0 not.1
+
+pub same_Err : {T E : Type 0} (r : Result T E) (a b : E) → r ≡ Err a → r ≡ Err b → a ≡ b
+same_Err r a b one other = cc

@@ -40,3 +40,7 @@ already_made = 10
 -- the numbers describe nothing that could be made
 abbrev pub cannot_make : ℕ
 cannot_make = 11
+
+-- each party has a seat already
+abbrev pub no_seat : ℕ
+no_seat = 12

@@ -4,3 +4,7 @@ pub mod Codes
 pub mod Handles
 pub mod Layouts
 pub mod Pools
+pub mod SharedBumpHandles
+pub mod SharedBumps
+pub mod SharedPoolHandles
+pub mod SharedPools

@@ -5,12 +5,11 @@ use Rattle.bb_memory_base.specs.Chunk.{Chunk}
 use Rattle.bb_memory_base.specs.PoolGeometry.{PoolGeometry, IsCut, at_most}
 use Rattle.bb_memory_base.specs.declared.layout.Layout.{Layout}
 use Rattle.bb_memory_base.specs.declared.allocator.AllocationError.{AllocationError}
-use Rattle.bb_memory.specs.Pool.{CountedPool, Pool, Frees, MayBeCut, Takes, counted, fresh_pool}
+use Rattle.bb_memory.specs.Pool.{CountedPool, Pool, Frees, Takes, counted, fresh_pool}
 use Rattle.bb_memory_c.specs.declared.answer.Answer.{Answer}
 use Rattle.bb_memory_c.specs.declared.made.Made.{Made}
 use Rattle.bb_memory_c.specs.declared.made.Made.TheVariants.{Pool as APool, FixedPool as AFixedPool}
 use Rattle.bb_memory_c.specs.Answers.{answer_of}
-use Rattle.bb_memory_c.specs.Layouts.{IsOf}
 
 -- the handle stands for this pool
 abbrev pub IsPool : Option Made → CountedPool → Type 0
@@ -27,16 +26,6 @@ IsFixedPool value pool = value ≡ Some (AFixedPool pool)
 -- the handle stands for no such pool
 abbrev pub IsNoFixedPool : Option Made → Type 0
 IsNoFixedPool value = (pool : Pool) → value ≢ Some (AFixedPool pool)
-
--- the layout of these numbers, into buckets of which the region may be cut
-pub record IsCuttable (size align : ℕ) (region : Region) (bucket : Layout) : Type 0 where
-  pub layout : IsOf size align bucket
-  pub may : MayBeCut region bucket
-
--- the layout of these numbers, into buckets of which the region may not be cut
-pub record IsUncuttable (size align : ℕ) (region : Region) (bucket : Layout) : Type 0 where
-  pub layout : IsOf size align bucket
-  pub not : ¬ MayBeCut region bucket
 
 -- a fresh pool over the region, cut into buckets of the layout
 abbrev pub MakesPool : Region → Layout → Option Made → Type 0

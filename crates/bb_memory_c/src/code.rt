@@ -23,3 +23,6 @@ pub(crate) const ALREADY_MADE: u32 = 10;
 
 /// The numbers describe nothing that could be made.
 pub(crate) const CANNOT_MAKE: u32 = 11;
+
+/// Each party has a seat already.
+pub(crate) const NO_SEAT: u32 = 12;

@@ -6,14 +6,14 @@ ghost use Rattle.bb_memory_base.specs.declared.layout.Layout.{Layout as Asked};
 ghost use Rattle.bb_memory.specs.Pool.{Pool, Frees, HoldsPlace};
 ghost use Rattle.bb_memory_c.specs.Answers.{figure_of, no_figure, refused};
 ghost use Rattle.bb_memory_c.specs.Codes.{already_made, cannot_make, done, not_a_layout, not_held, not_made, out_of_memory};
-ghost use Rattle.bb_memory_c.specs.Layouts.{IsOf};
+ghost use Rattle.bb_memory_c.specs.Layouts.{CannotCut, IsCuttable, IsOf};
 ghost use Rattle.bb_memory_c.specs.Pools.{GivesBackFixed, GivesFixed, Tells};
-ghost use Rattle.bb_memory_c.specs.Pools.{IsCuttable, IsFixedPool, IsNoFixedPool, IsUncuttable, MakesFixedPool};
+ghost use Rattle.bb_memory_c.specs.Pools.{IsFixedPool, IsNoFixedPool, MakesFixedPool};
 
 use crate::answer::{Answer, Figure};
 use crate::code;
 use crate::handle::Handle;
-use crate::layout::layout_of;
+use crate::layout::{cut_into, layout_of};
 use crate::made::Made;
 use bb_memory::layout::Layout;
 use bb_memory::pool_allocator::{BaseAllocator, FixedSizePoolAllocator};
@@ -36,24 +36,22 @@ pub extern "C" fn bb_fixed_pool_make(
         × IsCuttable bucket_size bucket_align (region_at start size) bucket
         × MakesFixedPool (region_at start size) bucket handle.new.value }
     ensures already_made { (result ≡ already_made) ↔ (handle.old.value ≢ None) }
-    ensures not_a_layout { result ≡ not_a_layout → ¬ IsLayout bucket_size bucket_align }
-    ensures cannot_make { result ≡ cannot_make → (bucket : Asked)
-        × IsUncuttable bucket_size bucket_align (region_at start size) bucket }
+    ensures not_a_layout { (result ≡ not_a_layout)
+        ↔ ((handle.old.value ≡ None) × (¬ IsLayout bucket_size bucket_align)) }
+    ensures cannot_make { (result ≡ cannot_make) ↔ ((handle.old.value ≡ None)
+        × CannotCut bucket_size bucket_align (region_at start size)) }
     ensures else_memory { result ≢ done → result ≢ already_made → result ≢ not_a_layout
-        → result ≢ cannot_make → (result ≡ out_of_memory) × ((bucket : Asked)
-        × IsCuttable bucket_size bucket_align (region_at start size) bucket) }
+        → result ≢ cannot_make → result ≡ out_of_memory }
     ensures kept { result ≢ done → handle.new.value ≡ handle.old.value }
 {
     if let Some(made) = handle.take(alloc) {
         handle.put(made);
         return code::ALREADY_MADE;
     }
-    let Some(bucket) = layout_of(bucket_size, bucket_align) else {
-        return code::NOT_A_LAYOUT;
+    let bucket = match cut_into(bucket_size, bucket_align, start, size) {
+        Ok(bucket) => bucket,
+        Err(code) => return code,
     };
-    if !FixedSizePoolAllocator::<512>::can_make(bucket, start, size) {
-        return code::CANNOT_MAKE;
-    }
     let pool = FixedSizePoolAllocator::<512>::new(bucket, start, size);
     let Ok(made) = Box::new(alloc, Made::FixedPool(pool)) else {
         return code::OUT_OF_MEMORY;

@@ -1,10 +1,15 @@
 //! Layouts of two numbers that C hands in.
-ghost use Rattle.std.specs.Prelude.{◌≡◌, IfSome, None, Some};
+ghost use Rattle.std.specs.Prelude.{◌≡◌, ◌≢◌, ◌↔◌, IfOk, IfErr, IfSome, None, Some, Err};
 ghost use Rattle.std.specs.Align.{IsLayout};
 ghost use Rattle.bb_memory_base.specs.declared.layout.Layout.{Layout as Asked};
-ghost use Rattle.bb_memory_c.specs.Layouts.{IsOf};
+ghost use Rattle.bb_memory_base.specs.Region.{region_at};
+ghost use Rattle.bb_memory_c.specs.Codes.{cannot_make, not_a_layout};
+ghost use Rattle.bb_memory_c.specs.Layouts.{CannotCut, IsCuttable, IsOf};
 
+use crate::code;
 use bb_memory::layout::Layout;
+use bb_memory::pool_allocator::PoolAllocator;
+use std::alloc::Global;
 
 /// The layout of this size and this alignment, if they make one.
 pub(crate) fn layout_of(size: usize, align: usize) -> Option<Layout>
@@ -14,4 +19,27 @@ pub(crate) fn layout_of(size: usize, align: usize) -> Option<Layout>
     ensures none { ¬ IsLayout size align → result ≡ None }
 {
     Layout::from_size_align(size, align).ok()
+}
+
+/// The layout of this size and this alignment, into buckets of which the region of `size` bytes at `start` may be cut, or the
+/// code for why there is none.
+pub(crate) fn cut_into(
+    bucket_size: usize,
+    bucket_align: usize,
+    start: usize,
+    size: usize,
+) -> Result<Layout, u32>
+    ensures cut { IfOk result (IsCuttable bucket_size bucket_align (region_at start size)) }
+    ensures not_a_layout { (result ≡ Err not_a_layout) ↔ (¬ IsLayout bucket_size bucket_align) }
+    ensures cannot_make { (result ≡ Err cannot_make)
+        ↔ CannotCut bucket_size bucket_align (region_at start size) }
+    ensures others { IfErr result (λ code. code ≢ not_a_layout → code ≡ cannot_make) }
+{
+    let Some(bucket) = layout_of(bucket_size, bucket_align) else {
+        return Err(code::NOT_A_LAYOUT);
+    };
+    if !PoolAllocator::<Global>::can_make(bucket, start, size) {
+        return Err(code::CANNOT_MAKE);
+    }
+    Ok(bucket)
 }

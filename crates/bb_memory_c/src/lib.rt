@@ -11,6 +11,7 @@
 
 mod answer;
 mod bump;
+mod bump_seat;
 mod code;
 mod fixed_pool;
 mod handle;
@@ -18,3 +19,6 @@ mod layout;
 mod loose;
 mod made;
 mod pool;
+mod pool_seat;
+mod shared_bump;
+mod shared_pool;

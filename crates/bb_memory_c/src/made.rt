@@ -1,4 +1,6 @@
 //! What a handle may stand for.
+use crate::bump_seat::{BumpSeat, BumpSeats};
+use crate::pool_seat::{PoolSeat, PoolSeats};
 use bb_memory::bump_allocator::BumpAllocator;
 use bb_memory::pool_allocator::{FixedSizePoolAllocator, PoolAllocator};
 use std::alloc::Global;
@@ -9,4 +11,8 @@ pub enum Made {
     Bump(BumpAllocator),
     Pool(PoolAllocator<Global>),
     FixedPool(FixedSizePoolAllocator<512>),
+    SharedBump(BumpSeats),
+    BumpSeat(BumpSeat),
+    SharedPool(PoolSeats),
+    PoolSeat(PoolSeat),
 }

@@ -30,7 +30,7 @@ use std::marker::Model;
 /// ```
 #[derive(Drop)]
 pub struct SharedFixedSizePoolAllocator<const MAX_NUMBER_OF_BUCKETS: usize> {
-    buckets: SharedBuckets,
+    pub(super) buckets: SharedBuckets,
 }
 
 impl<const MAX_NUMBER_OF_BUCKETS: usize> Model

@@ -1,0 +1,143 @@
+-- A seat's flags, and what a pass or a return makes of the log that they tell of.
+use Rattle.std.proofs.Common.{◌≡◌, ℕ, zero, suc, ◌<◌, Bool, true, false, List, [], ◌∷◌, ◌++◌, length, refl, sym, ap, ◌∙◌, subst, inl, inr}
+use Rattle.std.specs.Prelude.{Some, Ok, Err, fold, nat_lt, ◌==◌, ◌+◌, if◌then◌else◌, replicate, slice_get, slice_set}
+use Rattle.std.proofs.lemmas.Bool.{cases_eq, false≢true}
+use Rattle.std.proofs.lemmas.List.{length-replicate}
+use Rattle.std.proofs.lemmas.Option.{same_Some, slice_get-get_or, slice_get_within}
+use Rattle.bb_memory_base.specs.PoolHistory.{PoolLog, entry_of}
+use Rattle.bb_memory_base.specs.PoolLogs.{IsHeldAfter, held_after, loss_at}
+use Rattle.bb_memory_base.specs.declared.layout.Layout.{Layout}
+use Rattle.bb_memory_base.specs.declared.allocator.AllocationError.{AllocationError}
+use Rattle.bb_memory_base.specs.declared.allocator.AllocationError.TheVariants.{SizeIsZero, SizeTooLarge, AlignmentFailure, OutOfMemory}
+use Rattle.bb_memory_base.specs.declared.steps.pool.PoolStep.TheVariants.{Try}
+use Rattle.bb_memory_base.specs.declared.steps.pool.PoolOutcome.TheVariants.{Takes, Loses, RefusedAtLoss}
+use Rattle.bb_memory_base.proofs.PoolSteps.{test_same, test_apart}
+use Rattle.bb_memory_base.proofs.SliceGets.{length-set_at, slice_get-replicated}
+use Rattle.bb_memory_base.proofs.SliceSets.{slice_get-set_other, slice_get-set_same}
+use Rattle.bb_memory.specs.SharedPool.{MayTake, PoolParty, SharedPool, TakenBucket, fresh_party, losses, refused_pass, return_entry, taking_pass, with_entries}
+use Rattle.bb_memory_c.specs.SharedPools.{AreHeldFlags, IsSeatAt}
+
+-- LOGS
+
+abbrev held_through : ℕ → Bool → PoolLog → Bool
+held_through bucket held log = fold (λ held entry. held_after bucket held entry.outcome) held log
+
+held-append : (bucket : ℕ) (held : Bool) (log more : PoolLog) →
+    held_through bucket held (log ++ more) ≡ held_through bucket (held_through bucket held log) more
+held-append bucket held [] more = refl
+held-append bucket held (entry ∷ log) more = held-append bucket (held_after bucket held entry.outcome) log more
+
+held-loss : (bucket lost : ℕ) (held more : Bool) →
+    held_after bucket held (if more then Loses lost else RefusedAtLoss lost) ≡ held
+held-loss bucket lost held true = refl
+held-loss bucket lost held false = refl
+
+-- losses change nothing of what is held
+held-losses : (buckets party lost bucket : ℕ) (held : Bool) →
+    held_through bucket held (losses buckets party lost) ≡ held
+held-losses buckets party zero bucket held = refl
+held-losses buckets party (suc lost) bucket held =
+    held-append bucket held (losses buckets party lost) (entry_of (Try party) (loss_at buckets lost) ∷ [])
+    ∙ held-loss bucket lost (held_through bucket held (losses buckets party lost)) (nat_lt (lost + 1) buckets)
+    ∙ held-losses buckets party lost bucket held
+
+after-refusal : (buckets party bucket : ℕ) (log : PoolLog) →
+    held_through bucket false (log ++ refused_pass buckets party) ≡ held_through bucket false log
+after-refusal buckets party bucket log =
+    held-append bucket false log (refused_pass buckets party)
+    ∙ held-losses buckets party buckets bucket (held_through bucket false log)
+
+after-taking : (buckets party taken bucket : ℕ) (log : PoolLog) →
+    held_through bucket false (log ++ taking_pass buckets party taken)
+    ≡ (if taken == bucket then true else held_through bucket false log)
+after-taking buckets party taken bucket log =
+    let before : Bool = held_through bucket false log in
+    held-append bucket false log (taking_pass buckets party taken)
+    ∙ held-append bucket before (losses buckets party taken) (entry_of (Try party) (Takes taken) ∷ [])
+    ∙ ap (λ (held : Bool). if taken == bucket then true else held) (held-losses buckets party taken bucket before)
+
+after-return : (party returned bucket : ℕ) (log : PoolLog) →
+    held_through bucket false (log ++ return_entry party returned)
+    ≡ (if returned == bucket then false else held_through bucket false log)
+after-return party returned bucket log = held-append bucket false log (return_entry party returned)
+
+-- FLAGS
+
+-- where one bucket is held or not as its flag is set, and the others as before, the flags still say which are held
+flags-set : (flags : List Bool) (number : ℕ) (flag : Bool) (log after : PoolLog) → number < length flags →
+    AreHeldFlags flags log →
+    ((bucket : ℕ) → held_through bucket false after ≡ (if number == bucket then flag else held_through bucket false log)) →
+    AreHeldFlags (slice_set flags number flag) after
+flags-set flags number flag log after below exact left = λ bucket. elim (cases_eq number bucket) [
+  | inl same ↦
+      let there : slice_get (slice_set flags number flag) bucket ≡ Some flag =
+      slice_get-set_same flags number bucket flag _ same (slice_get-get_or flags number false below) in
+      let held : held_through bucket false after ≡ flag =
+      left bucket ∙ ap (λ (b : Bool). if b then flag else held_through bucket false log) (test_same number bucket same) in
+      (λ has. held ∙ same_Some _ _ (sym there ∙ has), λ is. there ∙ ap Some (sym held ∙ is))
+  | inr apart ↦
+      let there : slice_get (slice_set flags number flag) bucket ≡ slice_get flags bucket =
+      slice_get-set_other flags number bucket flag apart in
+      let held : held_through bucket false after ≡ held_through bucket false log =
+      left bucket ∙ ap (λ (b : Bool). if b then flag else held_through bucket false log) (test_apart number bucket apart) in
+      (λ has. held ∙ (exact bucket).0 (sym there ∙ has), λ is. there ∙ (exact bucket).1 (sym held ∙ is))
+]
+
+-- SEATS
+
+-- of a fresh party no bucket is held
+pub fresh-seat : (pool : SharedPool) (party : PoolParty) (number : ℕ) → party ≡ fresh_party pool number →
+    IsSeatAt pool party (replicate pool.scene.geometry.buckets false)
+fresh-seat pool party number is = subst (λ (p : PoolParty). IsSeatAt pool p (replicate pool.scene.geometry.buckets false)) (sym is) record {
+  theirs = refl;
+  as_many = length-replicate pool.scene.geometry.buckets false;
+  exact = λ bucket. (
+    λ has. absurd (false≢true (slice_get-replicated pool.scene.geometry.buckets bucket false true has)),
+    λ held. absurd (false≢true held),
+  );
+}
+
+-- a request that took no bucket leaves the flags
+pub refused-seat : (pool : SharedPool) (party new : PoolParty) (flags : List Bool) (layout : Layout) (error : AllocationError) →
+    IsSeatAt pool party flags → MayTake party layout (Err error) new → IsSeatAt pool new flags
+refused-seat pool party new flags layout SizeIsZero is told = absurd told
+refused-seat pool party new flags layout SizeTooLarge is told = subst (λ (p : PoolParty). IsSeatAt pool p flags) (sym told.1) is
+refused-seat pool party new flags layout AlignmentFailure is told =
+    subst (λ (p : PoolParty). IsSeatAt pool p flags) (sym told.2) is
+refused-seat pool party new flags layout OutOfMemory is told =
+    let buckets = party.allocator.scene.geometry.buckets in
+    let same = λ (bucket : ℕ). after-refusal buckets party.number bucket party.log in
+    subst (λ (p : PoolParty). IsSeatAt pool p flags) (sym told.1) record {
+      theirs = is.theirs;
+      as_many = is.as_many;
+      exact = λ bucket. (λ has. same bucket ∙ (is.exact bucket).0 has, λ held. (is.exact bucket).1 (sym (same bucket) ∙ held));
+    }
+
+-- one that took a bucket sets its flag
+pub taking-seat : (pool : SharedPool) (party new : PoolParty) (flags : List Bool) (layout : Layout) (taken : TakenBucket) →
+    IsSeatAt pool party flags → MayTake party layout (Ok taken) new →
+    IsSeatAt pool new (slice_set flags taken.number true)
+taking-seat pool party new flags layout taken is told =
+    let buckets = party.allocator.scene.geometry.buckets in
+    let below : taken.number < length flags =
+    subst (λ n. taken.number < n) (sym (is.as_many ∙ ap (λ (p : SharedPool). p.scene.geometry.buckets) (sym is.theirs))) told.0.below in
+    subst (λ (p : PoolParty). IsSeatAt pool p (slice_set flags taken.number true)) (sym told.2) record {
+      theirs = is.theirs;
+      as_many = length-set_at flags taken.number true ∙ is.as_many;
+      exact = flags-set flags taken.number true party.log (party.log ++ taking_pass buckets party.number taken.number) below is.exact
+          (λ bucket. after-taking buckets party.number taken.number bucket party.log);
+    }
+
+-- a return unsets it
+pub returned-seat : (pool : SharedPool) (party new : PoolParty) (flags : List Bool) (number : ℕ) →
+    IsSeatAt pool party flags → IsHeldAfter party.log number →
+    new ≡ with_entries party (return_entry party.number number) →
+    IsSeatAt pool new (slice_set flags number false)
+returned-seat pool party new flags number is held told =
+    let below : number < length flags = slice_get_within flags number true ((is.exact number).1 held) in
+    subst (λ (p : PoolParty). IsSeatAt pool p (slice_set flags number false)) (sym told) record {
+      theirs = is.theirs;
+      as_many = length-set_at flags number false ∙ is.as_many;
+      exact = flags-set flags number false party.log (party.log ++ return_entry party.number number) below is.exact
+          (λ bucket. after-return party.number number bucket party.log);
+    }

@@ -1,0 +1,38 @@
+-- The parties that have no seat yet, of which the last is given one.
+use Rattle.std.proofs.Common.{◌≡◌, ℕ, zero, suc, ◌+◌, ◌<◌, List, [], ◌∷◌, ◌++◌, length, refl, sym, ap, ◌∙◌, arith, Some}
+use Rattle.std.specs.Prelude.{slice_get}
+use Rattle.std.proofs.lemmas.List.{length_push}
+use Rattle.std.proofs.lemmas.Option.{same_Some}
+
+slice_get-front : {X : Type 0} (xs : List X) (y : X) (i : ℕ) → i < length xs → slice_get (xs ++ y ∷ []) i ≡ slice_get xs i
+slice_get-front [] y i below = absurd (omega arith)
+slice_get-front (x ∷ xs) y zero below = refl
+slice_get-front (x ∷ xs) y (suc i) below = slice_get-front xs y i (omega arith)
+
+slice_get-last : {X : Type 0} (xs : List X) (y : X) → slice_get (xs ++ y ∷ []) (length xs) ≡ Some y
+slice_get-last [] y = refl
+slice_get-last (x ∷ xs) y = slice_get-last xs y
+
+-- each is the one that is made for its position
+abbrev pub AreMadeBy : {X : Type 0} → (ℕ → X) → List X → Type 0
+AreMadeBy make xs = (i : ℕ) → i < length xs → slice_get xs i ≡ Some (make i)
+
+-- without the last one they still are
+pub front_made : {X : Type 0} (make : ℕ → X) (old new : List X) (last : X) → old ≡ new ++ last ∷ [] →
+    AreMadeBy make old → AreMadeBy make new
+front_made make old new last parts made = λ i below.
+    let whole : length old ≡ length new + 1 = ap length parts ∙ length_push new last in
+    sym (slice_get-front new last i below) ∙ ap (λ xs. slice_get xs i) (sym parts) ∙ made i (omega (arith, whole, below))
+
+-- and the last one is that of its position
+pub last_made : {X : Type 0} (make : ℕ → X) (old new : List X) (last : X) → old ≡ new ++ last ∷ [] →
+    AreMadeBy make old → last ≡ make (length new)
+last_made make old new last parts made =
+    let whole : length old ≡ length new + 1 = ap length parts ∙ length_push new last in
+    same_Some _ _ (sym (slice_get-last new last) ∙ ap (λ xs. slice_get xs (length new)) (sym parts)
+    ∙ made (length new) (omega (arith, whole)))
+
+-- put back at the end, they are those that were
+pub put_back : {X : Type 0} (old new back : List X) (last again : X) → old ≡ new ++ last ∷ [] → again ≡ last →
+    back ≡ new ++ again ∷ [] → back ≡ old
+put_back old new back last again parts same is = is ∙ ap (λ x. new ++ x ∷ []) same ∙ sym parts

@@ -1,0 +1,375 @@
+//! A shared pool behind handles: one for the pool, and one for the seat of each party.
+ghost use Rattle.std.specs.Prelude.{◌≡◌, ◌≢◌, ◌+◌, ◌<◌, ◌≤◌, ◌↔◌, None, Some, Err, IfOk, IfErr, OnErr};
+ghost use Rattle.std.specs.Align.{IsLayout};
+ghost use Rattle.bb_memory_base.specs.FirstPlace.{first_place};
+ghost use Rattle.bb_memory_base.specs.Region.{region_at};
+ghost use Rattle.bb_memory_base.specs.declared.layout.Layout.{Layout as Asked};
+ghost use Rattle.bb_memory.specs.SharedPool.{PoolParty as Party, fresh_party};
+ghost use Rattle.bb_memory_c.specs.Answers.{figure_of, no_figure, refused};
+ghost use Rattle.bb_memory_c.specs.Codes.{already_made, cannot_make, done, no_seat, not_a_layout, not_held, not_made, out_of_memory};
+ghost use Rattle.bb_memory_c.specs.Layouts.{CannotShare, IsCuttable, IsOf};
+ghost use Rattle.bb_memory_c.specs.SharedPools.{HoldsPlace, PoolSeats as Seats};
+ghost use Rattle.bb_memory_c.specs.SharedPoolHandles.{AnswersSeat, GivesBackSeat, IsNoPoolSeat, IsNoSharedPool, IsPoolSeat, IsSharedPool, MakesSharedPool, SeatsOne, Tells};
+
+use crate::answer::{Answer, Figure};
+use crate::code;
+use crate::handle::Handle;
+use crate::layout::{cut_into, layout_of};
+use crate::made::Made;
+use crate::pool_seat::{PoolSeat, PoolSeats};
+use bb_memory::layout::Layout;
+use bb_memory::shared_pool::PoolParty;
+use std::alloc::Global;
+use std::sync::Arc;
+
+/// The party of a seat.
+fn party_of(made: Made) -> Option<PoolParty>
+    ensures { (party : Party) → IsPoolSeat (Some made) party → result ≡ Some party }
+{
+    match made {
+        Made::PoolSeat(seat) => Some(seat.into_party()),
+        _other => None,
+    }
+}
+
+/// A seat for the last party that has none, in memory of its own.
+fn next_seat(seats: &mut PoolSeats, alloc: Global) -> Result<Box<Made>, u32>
+    ensures seated { IfOk result (λ seat. seats.old.left ≡ seats.new.left + 1) }
+    ensures pool { seats.new.pool ≡ seats.old.pool }
+    ensures party { IfOk result (λ seat.
+        IsPoolSeat (Some seat.value) (fresh_party seats.old.pool seats.new.left)) }
+    ensures no_seat { (result ≡ Err no_seat) ↔ (seats.old.left ≡ 0) }
+    ensures refused { IfErr result (λ code. code ≢ no_seat → code ≡ out_of_memory) }
+    ensures kept { OnErr result (seats.new ≡ seats.old) }
+{
+    if seats.parties.is_empty() {
+        return Err(code::NO_SEAT);
+    }
+    let Ok(pool) = Arc::try_clone(&seats.pool) else {
+        return Err(code::OUT_OF_MEMORY);
+    };
+    let Ok(held) = Vec::from_elem(alloc, false, pool.number_of_buckets() as usize) else {
+        return Err(code::OUT_OF_MEMORY);
+    };
+    let Some(party) = seats.parties.pop() else {
+        return Err(code::NO_SEAT);
+    };
+    match Box::new(alloc, Made::PoolSeat(PoolSeat { pool, party, held })) {
+        Ok(seat) => Ok(seat),
+        Err(refused) => {
+            if let Some(party) = party_of(refused.value) {
+                seats.parties.push_reserved(party);
+            }
+            Err(code::OUT_OF_MEMORY)
+        }
+    }
+}
+
+/// Makes a shared pool over the region of `size` bytes at `start`, behind a handle that has to be empty. The region is cut into
+/// buckets of `bucket_size` bytes at multiples of `bucket_align`. Each of the parties, at least one, can be given a seat.
+///
+/// C guarantees of the handle what the crate's page says.
+#[unsafe(no_mangle)]
+pub extern "C" fn bb_shared_pool_make(
+    alloc: Global,
+    handle: &mut Handle,
+    bucket_size: usize,
+    bucket_align: usize,
+    start: usize,
+    size: usize,
+    parties: u32,
+) -> u32
+    ensures made { result ≡ done → (bucket : Asked)
+        × IsCuttable bucket_size bucket_align (region_at start size) bucket × (1 ≤ parties)
+        × MakesSharedPool (region_at start size) bucket parties handle.new.value }
+    ensures already_made { (result ≡ already_made) ↔ (handle.old.value ≢ None) }
+    ensures not_a_layout { (result ≡ not_a_layout)
+        ↔ ((handle.old.value ≡ None) × (¬ IsLayout bucket_size bucket_align)) }
+    ensures cannot_make { (result ≡ cannot_make) ↔ ((handle.old.value ≡ None)
+        × CannotShare bucket_size bucket_align (region_at start size) parties) }
+    ensures else_memory { result ≢ done → result ≢ already_made → result ≢ not_a_layout
+        → result ≢ cannot_make → result ≡ out_of_memory }
+    ensures kept { result ≢ done → handle.new.value ≡ handle.old.value }
+{
+    if let Some(made) = handle.take(alloc) {
+        handle.put(made);
+        return code::ALREADY_MADE;
+    }
+    let bucket = match cut_into(bucket_size, bucket_align, start, size) {
+        Ok(bucket) => bucket,
+        Err(code) => return code,
+    };
+    if parties == 0 {
+        return code::CANNOT_MAKE;
+    }
+    let Some(seats) = PoolSeats::new(alloc, bucket, start, size, parties) else {
+        return code::OUT_OF_MEMORY;
+    };
+    let Ok(made) = Box::new(alloc, Made::SharedPool(seats)) else {
+        return code::OUT_OF_MEMORY;
+    };
+    handle.put(made);
+    code::DONE
+}
+
+/// Gives a seat to the last party that has none, behind a handle that has to be empty.
+///
+/// C guarantees of both handles what the crate's page says, and that they are two.
+#[unsafe(no_mangle)]
+pub extern "C" fn bb_shared_pool_seat(alloc: Global, handle: &mut Handle, seat: &mut Handle) -> u32
+    ensures seated { (seats : Seats) → IsSharedPool handle.old.value seats → result ≡ done
+        → SeatsOne seats handle.new.value seat.new.value }
+    ensures already_made { (result ≡ already_made) ↔ (seat.old.value ≢ None) }
+    ensures not_made { (result ≡ not_made)
+        ↔ ((seat.old.value ≡ None) × IsNoSharedPool handle.old.value) }
+    ensures no_seat { (seats : Seats) → IsSharedPool handle.old.value seats
+        → ((result ≡ no_seat) ↔ ((seat.old.value ≡ None) × (seats.left ≡ 0))) }
+    ensures else_memory { result ≢ done → result ≢ already_made → result ≢ not_made
+        → result ≢ no_seat → result ≡ out_of_memory }
+    ensures kept { result ≢ done → (handle.new.value ≡ handle.old.value)
+        × (seat.new.value ≡ seat.old.value) }
+{
+    if let Some(made) = seat.take(alloc) {
+        seat.put(made);
+        return code::ALREADY_MADE;
+    }
+    let Some(mut made) = handle.take(alloc) else {
+        return code::NOT_MADE;
+    };
+    let next = match &mut *made {
+        Made::SharedPool(seats) => next_seat(seats, alloc),
+        _ => Err(code::NOT_MADE),
+    };
+    handle.put(made);
+    match next {
+        Ok(next) => {
+            seat.put(next);
+            code::DONE
+        }
+        Err(code) => code,
+    }
+}
+
+/// What the party of a seat is told of its request for so many bytes at a multiple of `align`.
+fn request(seat: &mut PoolSeat, size: usize, align: usize) -> Answer
+    ensures answer { (layout : Asked) → IsOf size align layout
+        → Tells seat.old layout result seat.new }
+    ensures not_a_layout { ¬ IsLayout size align
+        → (result ≡ refused not_a_layout) × (seat.new ≡ seat.old) }
+{
+    match layout_of(size, align) {
+        Some(layout) => give(seat, layout),
+        None => Answer::refusal(code::NOT_A_LAYOUT),
+    }
+}
+
+/// What the party of a seat is told of its request for this layout.
+fn give(seat: &mut PoolSeat, layout: Layout) -> Answer
+    ensures { Tells seat.old layout result seat.new }
+{
+    Answer::of(seat.allocate(layout))
+}
+
+/// Asks for a chunk of `size` bytes at a multiple of `align`, in a bucket that isn't held.
+///
+/// C guarantees of the handle what the crate's page says.
+#[unsafe(no_mangle)]
+pub extern "C" fn bb_shared_pool_allocate(
+    alloc: Global,
+    handle: &mut Handle,
+    size: usize,
+    align: usize,
+) -> Answer
+    ensures answer { (party : Party) (layout : Asked) → IsPoolSeat handle.old.value party
+        → IsOf size align layout → AnswersSeat party layout result handle.new.value }
+    ensures not_a_layout { (party : Party) → IsPoolSeat handle.old.value party
+        → ¬ IsLayout size align
+        → (result ≡ refused not_a_layout) × (handle.new.value ≡ handle.old.value) }
+    ensures not_made { IsNoPoolSeat handle.old.value
+        → (result ≡ refused not_made) × (handle.new.value ≡ handle.old.value) }
+{
+    let Some(mut made) = handle.take(alloc) else {
+        return Answer::refusal(code::NOT_MADE);
+    };
+    let answer = match &mut *made {
+        Made::PoolSeat(seat) => request(seat, size, align),
+        _ => Answer::refusal(code::NOT_MADE),
+    };
+    handle.put(made);
+    answer
+}
+
+/// Gives back the bucket at this place. A place that isn't that of a bucket which this seat holds is refused, so that a wild or
+/// a second return changes nothing, nor does a return of another seat's bucket.
+///
+/// C guarantees of the handle what the crate's page says.
+#[unsafe(no_mangle)]
+pub extern "C" fn bb_shared_pool_deallocate(alloc: Global, handle: &mut Handle, place: usize) -> u32
+    ensures freed { (party : Party) → IsPoolSeat handle.old.value party → HoldsPlace party place
+        → (result ≡ done) × GivesBackSeat party place handle.new.value }
+    ensures not_held { (party : Party) → IsPoolSeat handle.old.value party
+        → ¬ HoldsPlace party place
+        → (result ≡ not_held) × (handle.new.value ≡ handle.old.value) }
+    ensures not_made { IsNoPoolSeat handle.old.value
+        → (result ≡ not_made) × (handle.new.value ≡ handle.old.value) }
+{
+    let Some(mut made) = handle.take(alloc) else {
+        return code::NOT_MADE;
+    };
+    let code = match &mut *made {
+        Made::PoolSeat(seat) => seat.give_back(place),
+        _ => code::NOT_MADE,
+    };
+    handle.put(made);
+    code
+}
+
+/// Whether this is the place of a bucket that this seat holds: 1 or 0.
+///
+/// C guarantees of the handle what the crate's page says.
+#[unsafe(no_mangle)]
+pub extern "C" fn bb_shared_pool_holds(alloc: Global, handle: &mut Handle, place: usize) -> Figure
+    ensures held { (party : Party) → IsPoolSeat handle.old.value party → HoldsPlace party place
+        → result ≡ figure_of 1 }
+    ensures not_held { (party : Party) → IsPoolSeat handle.old.value party
+        → ¬ HoldsPlace party place → result ≡ figure_of 0 }
+    ensures not_made { IsNoPoolSeat handle.old.value → result ≡ no_figure not_made }
+    ensures kept { handle.new.value ≡ handle.old.value }
+{
+    let Some(made) = handle.take(alloc) else {
+        return Figure::refusal(code::NOT_MADE);
+    };
+    let figure = match &*made {
+        Made::PoolSeat(seat) => Figure::of(if seat.holds(place) { 1 } else { 0 }),
+        _ => Figure::refusal(code::NOT_MADE),
+    };
+    handle.put(made);
+    figure
+}
+
+/// The number of this seat's party, from 0.
+///
+/// C guarantees of the handle what the crate's page says.
+#[unsafe(no_mangle)]
+pub extern "C" fn bb_shared_pool_party(alloc: Global, handle: &mut Handle) -> Figure
+    ensures value { (party : Party) → IsPoolSeat handle.old.value party
+        → result ≡ figure_of party.number }
+    ensures not_made { IsNoPoolSeat handle.old.value → result ≡ no_figure not_made }
+    ensures kept { handle.new.value ≡ handle.old.value }
+{
+    let Some(made) = handle.take(alloc) else {
+        return Figure::refusal(code::NOT_MADE);
+    };
+    let figure = match &*made {
+        Made::PoolSeat(seat) => Figure::of(seat.number() as usize),
+        _ => Figure::refusal(code::NOT_MADE),
+    };
+    handle.put(made);
+    figure
+}
+
+/// How many buckets the pool has.
+///
+/// C guarantees of the handle what the crate's page says.
+#[unsafe(no_mangle)]
+pub extern "C" fn bb_shared_pool_number_of_buckets(alloc: Global, handle: &mut Handle) -> Figure
+    ensures value { (party : Party) → IsPoolSeat handle.old.value party
+        → result ≡ figure_of party.allocator.scene.geometry.buckets }
+    ensures not_made { IsNoPoolSeat handle.old.value → result ≡ no_figure not_made }
+    ensures kept { handle.new.value ≡ handle.old.value }
+{
+    let Some(made) = handle.take(alloc) else {
+        return Figure::refusal(code::NOT_MADE);
+    };
+    let figure = match &*made {
+        Made::PoolSeat(seat) => Figure::of(seat.pool().number_of_buckets() as usize),
+        _ => Figure::refusal(code::NOT_MADE),
+    };
+    handle.put(made);
+    figure
+}
+
+/// The size of a bucket in bytes, as it was asked for.
+///
+/// C guarantees of the handle what the crate's page says.
+#[unsafe(no_mangle)]
+pub extern "C" fn bb_shared_pool_bucket_size(alloc: Global, handle: &mut Handle) -> Figure
+    ensures value { (party : Party) → IsPoolSeat handle.old.value party
+        → result ≡ figure_of party.allocator.scene.geometry.bucket.size }
+    ensures not_made { IsNoPoolSeat handle.old.value → result ≡ no_figure not_made }
+    ensures kept { handle.new.value ≡ handle.old.value }
+{
+    let Some(made) = handle.take(alloc) else {
+        return Figure::refusal(code::NOT_MADE);
+    };
+    let figure = match &*made {
+        Made::PoolSeat(seat) => Figure::of(seat.pool().bucket_size()),
+        _ => Figure::refusal(code::NOT_MADE),
+    };
+    handle.put(made);
+    figure
+}
+
+/// The greatest alignment that a request may have.
+///
+/// C guarantees of the handle what the crate's page says.
+#[unsafe(no_mangle)]
+pub extern "C" fn bb_shared_pool_max_alignment(alloc: Global, handle: &mut Handle) -> Figure
+    ensures value { (party : Party) → IsPoolSeat handle.old.value party
+        → result ≡ figure_of party.allocator.scene.geometry.bucket.align }
+    ensures not_made { IsNoPoolSeat handle.old.value → result ≡ no_figure not_made }
+    ensures kept { handle.new.value ≡ handle.old.value }
+{
+    let Some(made) = handle.take(alloc) else {
+        return Figure::refusal(code::NOT_MADE);
+    };
+    let figure = match &*made {
+        Made::PoolSeat(seat) => Figure::of(seat.pool().max_alignment()),
+        _ => Figure::refusal(code::NOT_MADE),
+    };
+    handle.put(made);
+    figure
+}
+
+/// How many bytes the region has, as it was handed in.
+///
+/// C guarantees of the handle what the crate's page says.
+#[unsafe(no_mangle)]
+pub extern "C" fn bb_shared_pool_size(alloc: Global, handle: &mut Handle) -> Figure
+    ensures value { (party : Party) → IsPoolSeat handle.old.value party
+        → result ≡ figure_of party.allocator.scene.geometry.region.size }
+    ensures not_made { IsNoPoolSeat handle.old.value → result ≡ no_figure not_made }
+    ensures kept { handle.new.value ≡ handle.old.value }
+{
+    let Some(made) = handle.take(alloc) else {
+        return Figure::refusal(code::NOT_MADE);
+    };
+    let figure = match &*made {
+        Made::PoolSeat(seat) => Figure::of(seat.pool().size()),
+        _ => Figure::refusal(code::NOT_MADE),
+    };
+    handle.put(made);
+    figure
+}
+
+/// Where the first bucket is: the region's start, rounded up to the bucket's alignment.
+///
+/// C guarantees of the handle what the crate's page says.
+#[unsafe(no_mangle)]
+pub extern "C" fn bb_shared_pool_start_address(alloc: Global, handle: &mut Handle) -> Figure
+    ensures value { (party : Party) → IsPoolSeat handle.old.value party
+        → result ≡ figure_of (first_place party.allocator.scene.geometry.region
+        party.allocator.scene.geometry.bucket) }
+    ensures not_made { IsNoPoolSeat handle.old.value → result ≡ no_figure not_made }
+    ensures kept { handle.new.value ≡ handle.old.value }
+{
+    let Some(made) = handle.take(alloc) else {
+        return Figure::refusal(code::NOT_MADE);
+    };
+    let figure = match &*made {
+        Made::PoolSeat(seat) => Figure::of(seat.pool().start_address()),
+        _ => Figure::refusal(code::NOT_MADE),
+    };
+    handle.put(made);
+    figure
+}
