@@ -18,7 +18,7 @@ use std::marker::Model;
 pub struct PoolWorld {
     alloc: Global,
     holders: Vec<Option<u32>>,
-    passes: Vec<Option<u32>>,
+    calls: Vec<Option<u32>>,
 }
 
 impl Model for PoolWorld {
@@ -26,9 +26,9 @@ impl Model for PoolWorld {
 
     ghost Value = { PoolWorld };
 
-    ghost view = { λ w. record { holders = w.holders.items; calls = w.passes.items } };
+    ghost view = { λ w. record { holders = w.holders.items; calls = w.calls.items } };
 
-    ghost invariant = { λ w. IsPoolWorld (record { holders = w.holders.items; calls = w.passes.items }) };
+    ghost invariant = { λ w. IsPoolWorld (record { holders = w.holders.items; calls = w.calls.items }) };
 }
 
 impl PoolWorld {
@@ -38,11 +38,11 @@ impl PoolWorld {
         ensures opened { IfOk result (λ world. world ≡ opened buckets parties) }
     {
         let holders = vec![in alloc; None; buckets as usize]?;
-        let passes = vec![in alloc; None; parties as usize]?;
+        let calls = vec![in alloc; None; parties as usize]?;
         Ok(PoolWorld {
             alloc,
             holders,
-            passes,
+            calls,
         })
     }
 
@@ -96,7 +96,7 @@ impl PoolWorld {
         ensures state { let pass = slice_get self.old.calls party in
             self.new ≡ (try_next self.old party pass).state }
     {
-        match found_at(&self.passes, party as usize) {
+        match found_at(&self.calls, party as usize) {
             Some(pass) => self.try_flag(party, pass.unwrap_or(0)),
             None => PoolOutcome::Passed,
         }
@@ -113,15 +113,15 @@ impl PoolWorld {
         match found_at(&self.holders, bucket as usize) {
             Some(None) => {
                 self.holders[bucket as usize] = Some(party);
-                self.passes[party as usize] = None;
+                self.calls[party as usize] = None;
                 PoolOutcome::Takes(bucket)
             }
             Some(Some(_)) => {
                 if bucket as usize + 1 < self.holders.len() {
-                    self.passes[party as usize] = Some(bucket + 1);
+                    self.calls[party as usize] = Some(bucket + 1);
                     PoolOutcome::Loses(bucket)
                 } else {
-                    self.passes[party as usize] = None;
+                    self.calls[party as usize] = None;
                     PoolOutcome::RefusedAtLoss(bucket)
                 }
             }
