@@ -17,7 +17,7 @@ nonzero_div-result c =
     let sizes : c.size.result ≡ c.args.self.now.scene.geometry.bucket.size = cc in
     let aligns : c.align.result ≡ c.args.self.now.scene.geometry.bucket.align = cc in
     let is : c.unwrap.result ≡ stride c.args.self.now.scene.geometry.bucket = cc in
-    omega (arith, is, stride-positive c.args.self.now.scene.geometry.bucket c.count.ensures.geometry.filled)
+    omega (arith, is, stride-positive c.args.self.now.scene.geometry.bucket c.count.ensures.scene.geometry.filled)
 
 pub returns-clause-some : goal.returns-clause-some
-returns-clause-some c = stride-positive c.args.self.now.scene.geometry.bucket c.count.ensures.geometry.filled
+returns-clause-some c = stride-positive c.args.self.now.scene.geometry.bucket c.count.ensures.scene.geometry.filled
