@@ -24,16 +24,21 @@ SeatView = Seat PoolScene PoolEntry
 
 -- the party of a seat in the table
 abbrev pub party_in : TableId → ℕ → SeatView → PoolParty
-party_in table number view =
-    record { allocator = record { table = table; scene = view.scene }; number = number; log = view_log view }
+party_in table number view = record {
+  allocator = record { table = table; scene = view.scene };
+  number = number;
+  log = view_log view;
+}
 
 -- the seat stands for this party alone, whose log some interleaving has
-pub record IsSeatOf (scene : PoolScene) (number : ℕ) (log : PoolLog) (me : Me ℕ SeatView) : Type 0 where
+pub record IsSeatOf (scene : PoolScene) (number : ℕ) (log : PoolLog) (me : Me ℕ SeatView)
+    : Type 0 where
   pub is : me ≡ (alone scene number log, [])
   pub interleaved : Interleaving scene number log
 
 -- the same of an idle party
-pub record IsSeatOfIdle (scene : PoolScene) (number : ℕ) (log : PoolLog) (me : Me ℕ SeatView) : Type 0 where
+pub record IsSeatOfIdle (scene : PoolScene) (number : ℕ) (log : PoolLog) (me : Me ℕ SeatView)
+    : Type 0 where
   pub seat : IsSeatOf scene number log me
   pub idle : pass_in log ≡ None
 
