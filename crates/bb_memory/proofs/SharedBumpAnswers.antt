@@ -1,5 +1,5 @@
 -- What a request that has ended says of its answer and of its party.
-use Rattle.std.proofs.Common.{◌≡◌, ℕ, ◌≤◌, List, [], ◌++◌, length, sym, ap, ◌∙◌, subst, append-nil, arith, Option, Some, None}
+use Rattle.std.proofs.Common.{◌≡◌, ℕ, ◌<◌, ◌≤◌, List, [], ◌++◌, length, sym, ap, ◌∙◌, subst, append-nil, arith, Option, Some, None, Ok, Err}
 use Rattle.std.specs.Prelude.{MatchOption, drop}
 use Rattle.std.proofs.Math.Seq.{drop-append_seam}
 use Rattle.std.proofs.lemmas.List.Elements.{All-nil}
@@ -10,9 +10,10 @@ use Rattle.bb_memory_base.specs.BumpMachine.{BumpScene}
 use Rattle.bb_memory_base.specs.BumpHistory.{BumpLog, chunks_won, losses_in}
 use Rattle.bb_memory_base.specs.BumpLogs.{HasPositionFrom, HasPositionUpTo}
 use Rattle.bb_memory_base.specs.declared.layout.Layout.{Layout}
+use Rattle.bb_memory_base.specs.declared.allocator.AllocationError.TheVariants.{OutOfMemory}
 use Rattle.bb_memory_base.proofs.BumpBounds.{won_grows}
 use Rattle.bb_memory.specs.Seats.{number_of, view_log}
-use Rattle.bb_memory.specs.SharedBump.{BumpParty, IsFoundBy, seen_by, with_entries}
+use Rattle.bb_memory.specs.SharedBump.{BumpParty, IsFoundBy, IsRefused, IsWon, MayTake, seen_by, with_entries}
 use Rattle.bb_memory.specs.SharedBumpRule.{SeatView, party_in}
 use Rattle.bb_memory.specs.SharedBumpSteps.{HasEnded, HasRefused, HasWon, IsCounted}
 use Rattle.bb_memory.proofs.SharedBumpParties.{entries_added}
@@ -94,3 +95,26 @@ module _ (scene : BumpScene) (table was : TableId) (number : ℕ) (old new : Me 
       ap (λ (p : BumpParty). chunks_won p.log) (then added ended)
       ∙ won_grows party.log added
       ∙ ap (λ (chunks : List Chunk). chunks_won party.log ++ chunks) won_is
+
+  -- what the request may be answered
+  module _ (layout : Layout) (asks : 0 < layout.size) (own : number_of old.0 ≡ number) where
+    told_to : number_of old.0 ≡ party.number
+    told_to = own ∙ ap (λ (p : BumpParty). p.number) view_is
+
+    pub answers_won : (chunk : Chunk) → HasWon scene (number_of old.0) (view_log old.0) layout new chunk →
+        MayTake party layout (Ok chunk) (party_in table number new.0)
+    answers_won chunk won = (
+      asks,
+      won.added,
+      subst (λ (x : BumpScene × ℕ). IsWon x.0.region x.1 layout won.added chunk) (λ i. (sym scene_is i, told_to i)) won.won,
+      then won.added won.ended,
+    )
+
+    pub answers_refused : HasRefused scene (number_of old.0) (view_log old.0) layout new →
+        MayTake party layout (Err OutOfMemory) (party_in table number new.0)
+    answers_refused refused = (
+      asks,
+      refused.added,
+      subst (λ (x : BumpScene × ℕ). IsRefused x.0.region x.1 layout refused.added) (λ i. (sym scene_is i, told_to i)) refused.refused,
+      then refused.added refused.ended,
+    )

@@ -1,12 +1,12 @@
 -- How a request goes on: from its read to the step that decides it.
-use Rattle.std.proofs.Common.{◌≡◌, ◌≢◌, inl, inr, ℕ, ◌+◌, ◌<◌, ◌≤◌, [], ◌∷◌, ◌++◌, Bool, true, false, refl, sym, ap, ◌∙◌, subst, arith, append_assoc, Some, eq-eqb, ne_eqb}
+use Rattle.std.proofs.Common.{◌≡◌, ◌≢◌, ℕ, ◌<◌, ◌≤◌, [], ◌∷◌, ◌++◌, Bool, true, false, refl, sym, ap, ◌∙◌, subst, arith, append_assoc, Some, eq-eqb, ne_eqb}
 use Rattle.std.specs.Prelude.{if◌then◌else◌}
 use Rattle.std.proofs.lemmas.List.Elements.{All-from_recursion}
 use Rattle.atomic_table.specs.Table.{Me}
 use Rattle.bb_memory_base.specs.Region.{Region, region_end}
 use Rattle.bb_memory_base.specs.Chunk.{Chunk, chunk_end}
 use Rattle.bb_memory_base.specs.BumpMachine.{BumpScene, OngoingCall, chunk_at, ending, exchange_move, fits, loss_move, position_behind, read_move, seeing}
-use Rattle.bb_memory_base.specs.BumpHistory.{BumpLog, entry_of}
+use Rattle.bb_memory_base.specs.BumpHistory.{BumpLog, entry_of, is_loss}
 use Rattle.bb_memory_base.specs.BumpLogs.{HasPositionFrom, HasPositionUpTo, call_after, call_in, seen_in}
 use Rattle.bb_memory_base.specs.declared.layout.Layout.{Layout}
 use Rattle.bb_memory_base.specs.declared.steps.bump.BumpStep.TheVariants.{Read, Exchange}
@@ -15,8 +15,9 @@ use Rattle.bb_memory_base.specs.declared.steps.bump.BumpOutcome.TheVariants.{See
 use Rattle.bb_memory_base.proofs.BumpRuns.{chunk_at-above}
 use Rattle.bb_memory.specs.Seats.{number_of, view_log}
 use Rattle.bb_memory.specs.SharedBumpRule.{IsSeatOf, SeatView}
-use Rattle.bb_memory.specs.SharedBumpSteps.{HasRefused, HasWon, IsTrying, Tells, TellsExchange, TellsRead}
-use Rattle.bb_memory.proofs.SharedBumpTries.{losses_more, rises_above, rises_more, tried_counted, tried_won}
+use Rattle.bb_memory.specs.SharedBump.{at_loss, at_read, by_loss, by_read}
+use Rattle.bb_memory.specs.SharedBumpSteps.{HasRefused, HasWon, IsCounted, IsTrying, Tells, TellsExchange, TellsRead}
+use Rattle.bb_memory.proofs.SharedBumpTries.{counted_more, losses_more, won_then}
 use Rattle.bb_memory.proofs.SharedLogs.{call_next, losses_in-cons, seen_next}
 
 -- WHAT THE MACHINE ANSWERS, BY ITS TESTS
@@ -59,13 +60,26 @@ module _ (scene : BumpScene) (party : ℕ) (log : BumpLog) (layout : Layout) (fo
       Tells scene party log (Read party layout) outcome found new
   read_told outcome is = subst (λ (o : BumpOutcome). Tells scene party log (Read party layout) o found new) is told
 
+  read_counted : (outcome : BumpOutcome) → HasPositionFrom (seen_in scene log) scene.region (entry_of (Read party layout) outcome) →
+      HasPositionUpTo scene.region.size scene.region (entry_of (Read party layout) outcome) → is_loss outcome ≡ false →
+      IsCounted scene log (entry_of (Read party layout) outcome ∷ [])
+  read_counted outcome from up_to no_loss =
+      let entry = entry_of (Read party layout) outcome in record {
+        seen = All-from_recursion (HasPositionFrom (seen_in scene log) scene.region) (entry ∷ []) (from, tt);
+        within = All-from_recursion (HasPositionUpTo scene.region.size scene.region) (entry ∷ []) (up_to, tt);
+        losses = let one = losses_in-cons entry [] in
+            let none = ap {B = ℕ} (λ (b : Bool). if b then 1 else 0) no_loss in omega (arith, one, none);
+      }
+
   pub begins : fits scene.region found layout ≡ true → IsTrying scene party log layout found new
   begins fit =
       let tells = read_told (Sees found) (read_answers scene.region found layout true fit) in record {
         tried = entry_of (Read party layout) (Sees found) ∷ [];
         seat = tells.seat;
-        tries = record { first = found; losses = []; entries = refl; rising = refl; fitting = fit };
-        least = tells.seen;
+        tries = by_read (entry_of (Read party layout) (Sees found) ∷ []) found refl fit;
+        counted = read_counted (Sees found) tells.seen tells.within refl;
+        few = let none = losses_in-cons (entry_of (Read party layout) (Sees found)) [] in omega (arith, none, tells.seen);
+        chunks = refl;
         within = tells.within;
         call = call_next log (Read party layout) (Sees found);
         seen = let next = seen_next scene log (Read party layout) (Sees found) in omega arith;
@@ -78,13 +92,9 @@ module _ (scene : BumpScene) (party : ℕ) (log : BumpLog) (layout : Layout) (fo
         added = decides ∷ [];
         ended = record {
           seat = record { seat = tells.seat; idle = call_next log (Read party layout) (RefusedAtRead found) };
-          counted = record {
-            seen = All-from_recursion (HasPositionFrom (seen_in scene log) scene.region) (decides ∷ []) (tells.seen, tt);
-            within = All-from_recursion (HasPositionUpTo scene.region.size scene.region) (decides ∷ []) (tells.within, tt);
-            losses = let none = losses_in-cons decides [] in omega arith;
-          };
+          counted = read_counted (RefusedAtRead found) tells.seen tells.within refl;
         };
-        refused = inl record { position = found; is = refl; unfit = unfit };
+        refused = at_read found refl unfit;
         chunks = refl;
       }
 
@@ -124,12 +134,12 @@ module _ (scene : BumpScene) (party : ℕ) (log : BumpLog) (layout : Layout) (la
   then_seat outcome tells = subst (λ (l : BumpLog). IsSeatOf scene party l new) (joined outcome) tells.seat
 
   above_least : seen_in scene log ≤ last
-  above_least = omega (arith, trying.least, rises_above trying.tries.first trying.tries.losses last trying.tries.rising)
+  above_least = omega (arith, trying.few)
 
   -- a loss at which the layout fits
   pub goes_on : found ≢ last → fits scene.region found layout ≡ true → IsTrying scene party log layout found new
   goes_on apart fit =
-      let tries = trying.tries in
+      let above = above_least in
       let tells = exchange_told (Loses found) (loss_answers scene.region found (record { layout = layout; seen = last }) true apart fit) in
       let risen = raises.0 in
       let less : last < found = grind (arith, risen, apart) in
@@ -137,15 +147,11 @@ module _ (scene : BumpScene) (party : ℕ) (log : BumpLog) (layout : Layout) (la
       record {
         tried = trying.tried ++ lost ∷ [];
         seat = then_seat (Loses found) tells;
-        tries = record {
-          first = tries.first;
-          losses = tries.losses ++ found ∷ [];
-          entries = ap (λ (entries : BumpLog). entries ++ lost ∷ []) tries.entries
-              ∙ ap (λ (entries : BumpLog). entry_of (Read party layout) (Sees tries.first) ∷ entries) (sym (losses_more party found tries.losses));
-          rising = rises_more tries.first tries.losses last found tries.rising less;
-          fitting = fit;
-        };
-        least = trying.least;
+        tries = by_loss trying.tried (trying.tried ++ lost ∷ []) last found trying.tries refl less fit;
+        counted = counted_more scene log trying.tried lost trying.counted (omega (arith, above, less)) tells.within
+            (omega (arith, trying.few, less, tells.within));
+        few = let more = losses_more trying.tried lost in omega (arith, more, trying.few, less);
+        chunks = won_then trying.tried lost trying.chunks;
         within = tells.within;
         call = then_call (Loses found);
         seen = let next = seen_next scene (log ++ trying.tried) (Exchange party) (Loses found) in
@@ -161,15 +167,15 @@ module _ (scene : BumpScene) (party : ℕ) (log : BumpLog) (layout : Layout) (la
       let above = above_least in
       let less : last < found = grind (arith, risen, apart) in
       let from : seen_in scene log ≤ found = omega (arith, above, less) in
-      let few : 1 + last ≤ scene.region.size = omega (arith, less, tells.within) in
       record {
         added = trying.tried ++ decides ∷ [];
         ended = record {
           seat = record { seat = then_seat (RefusedAtLoss found) tells; idle = then_call (RefusedAtLoss found) };
-          counted = tried_counted scene party layout log trying.tried last trying.tries trying.least decides from tells.within few;
+          counted = counted_more scene log trying.tried decides trying.counted from tells.within
+              (omega (arith, trying.few, less, tells.within));
         };
-        refused = inr record { last = last; tried = trying.tried; tries = trying.tries; position = found; is = refl; rises = less; unfit = unfit };
-        chunks = tried_won scene party layout log trying.tried last trying.tries trying.least decides;
+        refused = at_loss trying.tried last found trying.tries refl less unfit;
+        chunks = won_then trying.tried decides trying.chunks;
       }
 
   -- a win: the chunk is the one at what was seen last, and ends inside the region
@@ -185,13 +191,12 @@ module _ (scene : BumpScene) (party : ℕ) (log : BumpLog) (layout : Layout) (la
       let end = ap (λ (c : Chunk). chunk_end c) placed in
       let from : seen_in scene log ≤ position_behind region chunk = omega (arith, above, place, end) in
       let up_to : position_behind region chunk ≤ region.size = omega (arith, inside) in
-      let few : 0 + last ≤ region.size = omega (arith, trying.within) in
       record {
         added = trying.tried ++ decides ∷ [];
         ended = record {
           seat = record { seat = then_seat (Wins chunk) tells; idle = then_call (Wins chunk) };
-          counted = tried_counted scene party layout log trying.tried last trying.tries trying.least decides from up_to few;
+          counted = counted_more scene log trying.tried decides trying.counted from up_to (omega (arith, trying.few, trying.within));
         };
-        won = record { last = last; tried = trying.tried; tries = trying.tries; is = refl; placed = placed };
-        chunks = tried_won scene party layout log trying.tried last trying.tries trying.least decides;
+        won = record { seen = last; tried = trying.tried; tries = trying.tries; is = refl; placed = placed };
+        chunks = won_then trying.tried decides trying.chunks;
       }

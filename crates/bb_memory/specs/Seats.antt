@@ -45,7 +45,9 @@ view_log view = first_log view.parties
 abbrev pub HaveLogs : {E : Type 0} → ℕ → List (List E) → List (Numbered E) → Type 0
 HaveLogs made logs [] = Unit {0}
 HaveLogs made logs (party ∷ parties) =
-    (party.number < made) × (slice_get logs party.number ≡ Some party.log) × HaveLogs made logs parties
+    (party.number < made)
+    × (slice_get logs party.number ≡ Some party.log)
+    × HaveLogs made logs parties
 
 abbrev pub one_if : Bool → ℕ
 one_if true = 1
@@ -61,8 +63,10 @@ times_in_views number [] = 0
 times_in_views number (view ∷ views) = times_in number view.parties + times_in_views number views
 
 -- each party of a view has this log, and each party that was made stands in exactly one view; a dropped party's view stays
-pub record AreSeated {S E : Type 0} (made : ℕ) (logs : List (List E)) (views : List (Seat S E)) : Type 0 where
-  pub known : (seat : ℕ) (view : Seat S E) → get_elem? views seat ≡ some view → HaveLogs made logs view.parties
+pub record AreSeated {S E : Type 0} (made : ℕ) (logs : List (List E)) (views : List (Seat S E))
+    : Type 0 where
+  pub known : (seat : ℕ) (view : Seat S E) → get_elem? views seat ≡ some view →
+      HaveLogs made logs view.parties
   pub once : (number : ℕ) → number < made → times_in_views number views ≡ 1
 
 -- SPLITS AND JOINS

@@ -1,5 +1,5 @@
 -- A shared bump and its parties, as their contracts see them, and what each call adds to its party's log.
-use Rattle.std.specs.Prelude.{◌≡◌, ℕ, ◌<◌, ◌≤◌, ◌⊎◌, true, false, List, [], ◌∷◌, ◌++◌, None, Result, Ok, Err, All}
+use Rattle.std.specs.Prelude.{◌≡◌, ℕ, ◌<◌, ◌≤◌, true, false, [], ◌∷◌, ◌++◌, None, Result, Ok, Err, All}
 use Rattle.atomic_table.specs.Seated.{TableId}
 use Rattle.bb_memory_base.specs.Region.{Region}
 use Rattle.bb_memory_base.specs.Chunk.{Chunk, AreApart}
@@ -50,56 +50,39 @@ seen_by party = seen_in party.allocator.scene party.log
 abbrev pub load_entry : ℕ → ℕ → BumpLog
 load_entry party position = entry_of (Load party) (Loaded position) ∷ []
 
--- exchanges that lost at these positions, and went on
-abbrev pub losses_at : ℕ → List ℕ → BumpLog
-losses_at party [] = []
-losses_at party (position ∷ positions) = entry_of (Exchange party) (Loses position) ∷ losses_at party positions
+-- A request under way, and the position that it has seen: a read, and then losses, each at a greater position. The layout fits
+-- at each of them.
+pub data Tries (region : Region) (party : ℕ) (layout : Layout) : BumpLog → ℕ → Type 0 where
+  by_read : (tried : BumpLog) (position : ℕ) →
+      tried ≡ entry_of (Read party layout) (Sees position) ∷ [] →
+      fits region position layout ≡ true → Tries region party layout tried position
+  by_loss : (before tried : BumpLog) (seen position : ℕ) → Tries region party layout before seen →
+      tried ≡ before ++ entry_of (Exchange party) (Loses position) ∷ [] → seen < position →
+      fits region position layout ≡ true → Tries region party layout tried position
 
--- from the one position to the other, through these: each greater than the one before, and the other the last
-abbrev pub Rises : ℕ → List ℕ → ℕ → Type 0
-Rises seen [] last = seen ≡ last
-Rises seen (position ∷ positions) last = (seen < position) × Rises position positions last
-
--- a read that sees a position, then losses, each at a greater one. The layout fits at the last of these positions
-pub record IsTried (region : Region) (party : ℕ) (layout : Layout) (tried : BumpLog) (last : ℕ) : Type 0 where
-  pub first : ℕ
-  pub losses : List ℕ
-  pub entries : tried ≡ entry_of (Read party layout) (Sees first) ∷ losses_at party losses
-  pub rising : Rises first losses last
-  pub fitting : fits region last layout ≡ true
-
--- a read, losses, and a win: the chunk is the one that the layout gets at the position that was seen last
-pub record IsWon (region : Region) (party : ℕ) (layout : Layout) (added : BumpLog) (chunk : Chunk) : Type 0 where
-  pub last : ℕ
+-- A request that has won this chunk, which is the one that the layout gets at the position that it had seen.
+pub record IsWon (region : Region) (party : ℕ) (layout : Layout) (added : BumpLog) (chunk : Chunk)
+    : Type 0 where
+  pub seen : ℕ
   pub tried : BumpLog
-  pub tries : IsTried region party layout tried last
+  pub tries : Tries region party layout tried seen
   pub is : added ≡ tried ++ entry_of (Exchange party) (Wins chunk) ∷ []
-  pub placed : chunk ≡ chunk_at region last layout
+  pub placed : chunk ≡ chunk_at region seen layout
 
--- a read that refuses: the layout doesn't fit at the position that it found
-pub record IsRefusedAtRead (region : Region) (party : ℕ) (layout : Layout) (added : BumpLog) : Type 0 where
-  pub position : ℕ
-  pub is : added ≡ entry_of (Read party layout) (RefusedAtRead position) ∷ []
-  pub unfit : fits region position layout ≡ false
-
--- a read, losses, and a loss that refuses: the layout doesn't fit at the position that it found
-pub record IsRefusedAtLoss (region : Region) (party : ℕ) (layout : Layout) (added : BumpLog) : Type 0 where
-  pub last : ℕ
-  pub tried : BumpLog
-  pub tries : IsTried region party layout tried last
-  pub position : ℕ
-  pub is : added ≡ tried ++ entry_of (Exchange party) (RefusedAtLoss position) ∷ []
-  pub rises : last < position
-  pub unfit : fits region position layout ≡ false
-
--- one of the two
-abbrev pub IsRefused : Region → ℕ → Layout → BumpLog → Type 0
-IsRefused region party layout added = IsRefusedAtRead region party layout added ⊎ IsRefusedAtLoss region party layout added
+-- A request that was refused: by a read, or by a loss at a greater position, at which the layout doesn't fit.
+pub data IsRefused (region : Region) (party : ℕ) (layout : Layout) (added : BumpLog) : Type 0 where
+  at_read : (position : ℕ) →
+      added ≡ entry_of (Read party layout) (RefusedAtRead position) ∷ [] →
+      fits region position layout ≡ false → IsRefused region party layout added
+  at_loss : (tried : BumpLog) (seen position : ℕ) → Tries region party layout tried seen →
+      added ≡ tried ++ entry_of (Exchange party) (RefusedAtLoss position) ∷ [] → seen < position →
+      fits region position layout ≡ false → IsRefused region party layout added
 
 -- each position in these entries is at least what the party had seen, and at most the region's size
 pub record IsFoundBy (party : BumpParty) (added : BumpLog) : Type 0 where
   pub seen : All (HasPositionFrom (seen_by party) party.allocator.scene.region) added
-  pub within : All (HasPositionUpTo party.allocator.scene.region.size party.allocator.scene.region) added
+  pub within : let region = party.allocator.scene.region in
+      All (HasPositionUpTo region.size region) added
 
 -- WHAT A REQUEST MAY BE ANSWERED
 
@@ -140,4 +123,5 @@ AreInterleaved a b =
 
 -- no chunk that was won in the one log overlaps one of the other
 abbrev pub HaveChunksApart : BumpLog → BumpLog → Type 0
-HaveChunksApart log other_log = All (λ chunk. All (AreApart chunk) (chunks_won other_log)) (chunks_won log)
+HaveChunksApart log other_log =
+    All (λ chunk. All (AreApart chunk) (chunks_won other_log)) (chunks_won log)

@@ -20,16 +20,21 @@ SeatView = Seat BumpScene BumpEntry
 
 -- the party of a seat in the table
 abbrev pub party_in : TableId → ℕ → SeatView → BumpParty
-party_in table number view =
-    record { allocator = record { table = table; scene = view.scene }; number = number; log = view_log view }
+party_in table number view = record {
+  allocator = record { table = table; scene = view.scene };
+  number = number;
+  log = view_log view;
+}
 
 -- the seat stands for this party alone, whose log some interleaving has, which leaves what the party has seen
-pub record IsSeatOf (scene : BumpScene) (number : ℕ) (log : BumpLog) (me : Me ℕ SeatView) : Type 0 where
+pub record IsSeatOf (scene : BumpScene) (number : ℕ) (log : BumpLog) (me : Me ℕ SeatView)
+    : Type 0 where
   pub is : me ≡ (alone scene number log, [])
   pub interleaved : Interleaving scene number log (seen_in scene log)
 
 -- the same of an idle party
-pub record IsSeatOfIdle (scene : BumpScene) (number : ℕ) (log : BumpLog) (me : Me ℕ SeatView) : Type 0 where
+pub record IsSeatOfIdle (scene : BumpScene) (number : ℕ) (log : BumpLog) (me : Me ℕ SeatView)
+    : Type 0 where
   pub seat : IsSeatOf scene number log me
   pub idle : call_in log ≡ None
 

@@ -58,7 +58,10 @@ resized bucket len = taken_bucket bucket.allocator bucket.number len
 
 -- its chunk: so many bytes at the bucket's place
 abbrev pub chunk_of : TakenBucket → Chunk
-chunk_of bucket = record { place = bucket_place bucket.allocator.scene.geometry bucket.number; len = bucket.len }
+chunk_of bucket = record {
+  place = bucket_place bucket.allocator.scene.geometry bucket.number;
+  len = bucket.len;
+}
 
 -- after this log each of so many buckets is held
 abbrev pub AreAllHeldAfter : PoolLog → ℕ → Type 0
@@ -69,11 +72,13 @@ AreAllHeldAfter log buckets = (bucket : ℕ) → bucket < buckets → IsHeldAfte
 -- a party's losses at so many of the buckets, from bucket 0 up
 abbrev pub losses : ℕ → ℕ → ℕ → PoolLog
 losses buckets party zero = []
-losses buckets party (suc bucket) = losses buckets party bucket ++ entry_of (Try party) (loss_at buckets bucket) ∷ []
+losses buckets party (suc bucket) =
+    losses buckets party bucket ++ entry_of (Try party) (loss_at buckets bucket) ∷ []
 
 -- a pass that takes a bucket: losses at those below it, and its taking
 abbrev pub taking_pass : ℕ → ℕ → ℕ → PoolLog
-taking_pass buckets party bucket = losses buckets party bucket ++ entry_of (Try party) (Takes bucket) ∷ []
+taking_pass buckets party bucket =
+    losses buckets party bucket ++ entry_of (Try party) (Takes bucket) ∷ []
 
 -- a pass that is refused: losses at all
 abbrev pub refused_pass : ℕ → ℕ → PoolLog
@@ -96,9 +101,10 @@ pub record MayTakeBucket (party : PoolParty) (layout : Layout) (bucket : ℕ) : 
 abbrev pub MayTake : PoolParty → Layout → Result TakenBucket AllocationError → PoolParty → Type 0
 -- one whole pass: it took some bucket
 MayTake party layout (Ok bucket) new =
+    let buckets = party.allocator.scene.geometry.buckets in
     MayTakeBucket party layout bucket.number
     × (bucket ≡ taken_bucket party.allocator bucket.number layout.size)
-    × (new ≡ with_entries party (taking_pass party.allocator.scene.geometry.buckets party.number bucket.number))
+    × (new ≡ with_entries party (taking_pass buckets party.number bucket.number))
 -- no step
 MayTake party layout (Err SizeTooLarge) new =
     (party.allocator.scene.geometry.bucket.size < layout.size) × (new ≡ party)
@@ -108,8 +114,9 @@ MayTake party layout (Err AlignmentFailure) new =
     × (new ≡ party)
 -- one whole pass: it lost at each bucket
 MayTake party layout (Err OutOfMemory) new =
+    let buckets = party.allocator.scene.geometry.buckets in
     IsWithin party.allocator.scene.geometry.bucket layout
-    × (new ≡ with_entries party (refused_pass party.allocator.scene.geometry.buckets party.number))
+    × (new ≡ with_entries party (refused_pass buckets party.number))
 -- it never refuses so
 MayTake party layout (Err SizeIsZero) new = ⊥
 
@@ -129,8 +136,10 @@ pub record IsParty (party : PoolParty) : Type 0 where
 -- the party's last step refused its pass, which has found each bucket held in the run, each at a step of its own
 pub record HasFoundAllHeld (party : PoolParty) (is : IsParty party) : Type 0 where
   pub last : ℕ
-  pub its_last : entries_by party.number (take (last + 1) (history_of party.allocator.scene is.interleaved.steps)) ≡ party.log
-  pub refused : IsRefusedAt (history_of party.allocator.scene is.interleaved.steps) party.number last
+  pub its_last : let history = history_of party.allocator.scene is.interleaved.steps in
+      entries_by party.number (take (last + 1) history) ≡ party.log
+  pub refused : let history = history_of party.allocator.scene is.interleaved.steps in
+      IsRefusedAt history party.number last
   pub found : (bucket : ℕ) → bucket < party.allocator.scene.geometry.buckets →
       FoundHeld party.allocator.scene is.interleaved.steps party.number last bucket
 
@@ -140,4 +149,5 @@ AreInterleaved a b = CommonInterleaving a.allocator.scene a.number a.log b.numbe
 
 -- the takings and returns of the party's interleaving are a run of the pool object, from the empty list to this one
 abbrev pub IsHistoryRun : (party : PoolParty) → IsParty party → List Layout → List Chunk → Type 0
-IsHistoryRun party is layouts live = IsPoolRun party.allocator.scene is.interleaved.steps layouts live
+IsHistoryRun party is layouts live =
+    IsPoolRun party.allocator.scene is.interleaved.steps layouts live

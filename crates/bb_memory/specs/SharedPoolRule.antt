@@ -1,5 +1,7 @@
 -- The rule of a shared pool's words, and what its seats and fields stand for.
 use Rattle.std.specs.Prelude.{◌≡◌, ℕ, ◌<◌, Bool, true, false, List, [], ◌∷◌, None, map, max, length}
+use mathlib.Core.Path.{refl}
+use native.Mathlib.Nat.{zero-lt-suc}
 use Rattle.atomic_table.specs.Seated.{TableId}
 use Rattle.atomic_table.specs.Table.{State, Me}
 use Rattle.bb_memory_base.specs.Region.{IsRegion, region_at}
@@ -8,7 +10,6 @@ use Rattle.bb_memory_base.specs.PoolMachine.{PoolScene}
 use Rattle.bb_memory_base.specs.PoolHistory.{PoolEntry, PoolLog}
 use Rattle.bb_memory_base.specs.PoolLogs.{Interleaving, LogsAgree, pass_in}
 use Rattle.bb_memory_base.specs.declared.layout.Layout.{Layout}
-use Rattle.bb_memory_base.proofs.Layouts.{empty-valid}
 use Rattle.bb_memory.specs.SharedPool.{PoolParty, IsSharedScene, scene_at}
 use Rattle.bb_memory.specs.Seats.{AreSeated, Numbered, Seat, alone, fresh_from, standing_for, view_log}
 
@@ -23,16 +24,21 @@ SeatView = Seat PoolScene PoolEntry
 
 -- the party of a seat in the table
 abbrev pub party_in : TableId → ℕ → SeatView → PoolParty
-party_in table number view =
-    record { allocator = record { table = table; scene = view.scene }; number = number; log = view_log view }
+party_in table number view = record {
+  allocator = record { table = table; scene = view.scene };
+  number = number;
+  log = view_log view;
+}
 
 -- the seat stands for this party alone, whose log some interleaving has
-pub record IsSeatOf (scene : PoolScene) (number : ℕ) (log : PoolLog) (me : Me ℕ SeatView) : Type 0 where
+pub record IsSeatOf (scene : PoolScene) (number : ℕ) (log : PoolLog) (me : Me ℕ SeatView)
+    : Type 0 where
   pub is : me ≡ (alone scene number log, [])
   pub interleaved : Interleaving scene number log
 
 -- the same of an idle party
-pub record IsSeatOfIdle (scene : PoolScene) (number : ℕ) (log : PoolLog) (me : Me ℕ SeatView) : Type 0 where
+pub record IsSeatOfIdle (scene : PoolScene) (number : ℕ) (log : PoolLog) (me : Me ℕ SeatView)
+    : Type 0 where
   pub seat : IsSeatOf scene number log me
   pub idle : pass_in log ≡ None
 
@@ -79,9 +85,15 @@ pub record IsSharedPool (scene : PoolScene) : Type 0 where
 abbrev pub all_parties : PoolScene → SeatView
 all_parties scene = standing_for scene (fresh_from 0 scene.parties)
 
+-- no bytes, at any place
+pub no_bytes : Layout
+unfolding lib.Count.ones
+no_bytes = record {
+  size = 0;
+  align = 1;
+  valid = record { power_of_two = refl; positive = zero-lt-suc 0; fits = zero-lt-suc 9223372036854775807 };
+}
+
 -- a view of no party
 abbrev pub nobody : SeatView
 nobody = standing_for (scene_at (pool_geometry (region_at 0 0) no_bytes 0) 0) []
-  where
-    no_bytes : Layout
-    no_bytes = record { size = 0; align = 1; valid = empty-valid }

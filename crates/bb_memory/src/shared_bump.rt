@@ -71,12 +71,14 @@ impl SharedBumpAllocator {
         requires region { IsRegion (region_at start size) }
         requires position { position ≤ size }
         requires parties { 1 ≤ parties }
-        ensures scene { IfOk result (λ made. made.0.scene ≡ scene_at (region_at start size) position parties) }
+        ensures scene { IfOk result (λ made.
+            made.0.scene ≡ scene_at (region_at start size) position parties) }
         ensures parties { IfOk result (λ made. made.0.scene.parties ≡ parties) }
         ensures as_many { IfOk result (λ made. length made.1.items ≡ parties) }
         ensures fresh { IfOk result (λ made. (number : ℕ) → number < parties
             → slice_get made.1.items number ≡ Some (fresh_party made.0 number)) }
-        ensures theirs { IfOk result (λ made. All (λ party. party.allocator ≡ made.0) made.1.items) }
+        ensures theirs { IfOk result (λ made.
+            All (λ party. party.allocator ≡ made.0) made.1.items) }
     {
         let mut all = Vec::with_capacity(alloc, parties as usize)?;
         let scene = Scene {

@@ -17,7 +17,8 @@ seen_at position call = record { layout = call.layout; seen = position }
 -- what a party is in after an outcome of its own step: a read that sees a position begins a call, a loss at which the layout fits
 -- goes on with it, and a win or a refusal ends it
 abbrev pub call_left : BumpOutcome → BumpStep → Option OngoingCall → Option OngoingCall
-call_left (Sees position) (Read party layout) call = Some (record { layout = layout; seen = position })
+call_left (Sees position) (Read party layout) call =
+    Some (record { layout = layout; seen = position })
 call_left (Loses position) step call = option_map (λ ongoing. seen_at position ongoing) call
 call_left (Wins chunk) step call = None
 call_left (RefusedAtRead position) step call = None
@@ -61,7 +62,8 @@ greater_of seen None = seen
 
 -- the greatest of a position and those in a log
 abbrev pub greatest_in : Region → ℕ → BumpLog → ℕ
-greatest_in region seen log = fold (λ most entry. greater_of most (position_in region entry.outcome)) seen log
+greatest_in region seen log =
+    fold (λ most entry. greater_of most (position_in region entry.outcome)) seen log
 
 -- what a party with this log has seen: the greatest position in it, or the opening where it is empty
 abbrev pub seen_in : BumpScene → BumpLog → ℕ

@@ -64,13 +64,13 @@ impl Position {
     /// The read that begins a request. For which layout it is, the step says by its type.
     pub(super) fn read<L: Asked>(&self, seat: &mut Seat<u8, View>, _layout: Layout) -> usize
         requires table { seat.old.table_id ≡ self.now.table }
-        requires seat { IsSeatOfIdle self.now.scene (number_of seat.old.me.0) (view_log seat.old.me.0)
-            seat.old.me }
+        requires seat { IsSeatOfIdle self.now.scene
+            (number_of seat.old.me.0) (view_log seat.old.me.0) seat.old.me }
         requires asks { 0 < _layout.size }
         requires asked { L.layout ≡ Some _layout }
         ensures table { seat.new.table_id ≡ seat.old.table_id }
-        ensures step { TellsRead self.now.scene (number_of seat.old.me.0) (view_log seat.old.me.0) _layout
-            result seat.new.me }
+        ensures step { TellsRead self.now.scene
+            (number_of seat.old.me.0) (view_log seat.old.me.0) _layout result seat.new.me }
     {
         self.table.shared.load::<Reads<L>>(seat, 0) as usize
     }
@@ -84,13 +84,15 @@ impl Position {
         behind: usize,
     ) -> usize
         requires table { seat.old.table_id ≡ self.now.table }
-        requires seat { IsSeatOf self.now.scene (number_of seat.old.me.0) (view_log seat.old.me.0)
-            seat.old.me }
-        requires call { call_in (view_log seat.old.me.0) ≡ Some (record { layout = layout; seen = seen }) }
-        requires behind { behind ≡ position_behind self.now.scene.region (chunk_at self.now.scene.region seen layout) }
+        requires seat { IsSeatOf self.now.scene
+            (number_of seat.old.me.0) (view_log seat.old.me.0) seat.old.me }
+        requires call { call_in (view_log seat.old.me.0)
+            ≡ Some (record { layout = layout; seen = seen }) }
+        requires behind { let region = self.now.scene.region in
+            behind ≡ position_behind region (chunk_at region seen layout) }
         ensures table { seat.new.table_id ≡ seat.old.table_id }
-        ensures step { TellsExchange self.now.scene (number_of seat.old.me.0) (view_log seat.old.me.0) result
-            seat.new.me }
+        ensures step { TellsExchange self.now.scene
+            (number_of seat.old.me.0) (view_log seat.old.me.0) result seat.new.me }
     {
         let shared = &self.table.shared;
         let found = shared.compare_exchange::<Exchanges>(seat, 0, seen as u64, behind as u64);
@@ -100,11 +102,11 @@ impl Position {
     /// A load that asks how much is used.
     pub(super) fn load(&self, seat: &mut Seat<u8, View>) -> usize
         requires table { seat.old.table_id ≡ self.now.table }
-        requires seat { IsSeatOfIdle self.now.scene (number_of seat.old.me.0) (view_log seat.old.me.0)
-            seat.old.me }
+        requires seat { IsSeatOfIdle self.now.scene
+            (number_of seat.old.me.0) (view_log seat.old.me.0) seat.old.me }
         ensures table { seat.new.table_id ≡ seat.old.table_id }
-        ensures step { TellsLoad self.now.scene (number_of seat.old.me.0) (view_log seat.old.me.0)
-            result seat.new.me }
+        ensures step { TellsLoad self.now.scene
+            (number_of seat.old.me.0) (view_log seat.old.me.0) result seat.new.me }
     {
         self.table.shared.load::<Loads>(seat, 0) as usize
     }

@@ -16,14 +16,16 @@ impl SharedBumpAllocator {
     /// Asks until it wins a chunk or is refused. The layout isn't of size 0.
     pub(super) fn claim<L: Asked>(&self, seat: &mut Seat<u8, View>, layout: Layout) -> Option<Chunk>
         requires table { seat.old.table_id ≡ self.now.table }
-        requires seat { IsSeatOfIdle self.now.scene (number_of seat.old.me.0) (view_log seat.old.me.0)
-            seat.old.me }
+        requires seat { IsSeatOfIdle self.now.scene
+            (number_of seat.old.me.0) (view_log seat.old.me.0) seat.old.me }
         requires asks { 0 < layout.size }
         requires asked { L.layout ≡ Some layout }
         ensures table { seat.new.table_id ≡ seat.old.table_id }
         ensures call { MatchOption result
-            (HasRefused self.now.scene (number_of seat.old.me.0) (view_log seat.old.me.0) layout seat.new.me)
-            (HasWon self.now.scene (number_of seat.old.me.0) (view_log seat.old.me.0) layout seat.new.me) }
+            (HasRefused self.now.scene
+            (number_of seat.old.me.0) (view_log seat.old.me.0) layout seat.new.me)
+            (HasWon self.now.scene
+            (number_of seat.old.me.0) (view_log seat.old.me.0) layout seat.new.me) }
         ensures aligned { IfSome result (λ chunk. chunk.place % layout.align ≡ 0) }
         ensures inside { IfSome result (IsInside self.now.scene.region) }
     {
@@ -55,7 +57,8 @@ impl SharedBumpAllocator {
             × (chunk ≡ chunk_at self.now.scene.region position layout)) }
         ensures aligned { IfSome result (λ chunk. chunk.place % layout.align ≡ 0) }
         ensures inside { IfSome result (IsInside self.now.scene.region) }
-        ensures above { IfSome result (λ chunk. self.now.scene.region.start + position ≤ chunk.place) }
+        ensures above { IfSome result (λ chunk.
+            self.now.scene.region.start + position ≤ chunk.place) }
     {
         Chunk::at_or_after(self.start + position, layout, self.start + self.size)
     }

@@ -17,7 +17,9 @@ impl Model for Scene {
 
     ghost Value = { BumpScene };
 
-    ghost view = { λ s. record { region = region_at s.start s.size; opening = s.opening; parties = s.parties } };
+    ghost use Rattle.bb_memory.specs.SharedBump.{scene_at};
+
+    ghost view = { λ s. scene_at (region_at s.start s.size) s.opening s.parties };
 }
 
 /// What a seat knows: the parties that it stands for, each with its log. No value of this type is made.

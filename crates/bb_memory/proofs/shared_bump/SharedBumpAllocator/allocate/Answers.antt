@@ -1,7 +1,9 @@
-use Rattle.std.proofs.Common.{[], ◌∷◌, append-nil, ap, ◌∙◌}
+use Rattle.std.proofs.Common.{[], ◌∷◌, ◌<◌, ℕ, append-nil, arith, ap, ◌∙◌}
+use Rattle.atomic_table.specs.Table.{Me}
 use Rattle.bb_memory_base.specs.BumpHistory.{chunks_won}
 use Rattle.bb_memory.specs.Seats.{number_of, view_log}
-use Rattle.bb_memory.proofs.SharedBumpAnswers.{ended_by, found_by, lost_by, nothing_found, nothing_lost, won_by}
+use Rattle.bb_memory.specs.SharedBumpRule.{SeatView}
+use Rattle.bb_memory.proofs.SharedBumpAnswers.{answers_refused, answers_won, ended_by, found_by, lost_by, nothing_found, nothing_lost, won_by}
 use Rattle.bb_memory.proofs.shared_bump.SharedBumpAllocator.allocate.Goals.{in-Some, in-None}
 use Rattle.bb_memory.proofs.shared_bump.SharedBumpAllocator.allocate.Goals as goal
 
@@ -10,6 +12,26 @@ returns-then-size-eq0-clause-found c = nothing_found c.args.party.now
 
 pub returns-then-size-eq0-clause-losses : goal.returns-then-size-eq0-clause-losses
 returns-then-size-eq0-clause-losses c = λ added. nothing_lost c.args.party.now added c.args.self.now.scene.region.size
+
+pub returns-clause-answer : goal.returns-clause-answer
+returns-clause-answer c =
+    let scene = c.args.self.now.scene in
+    let me = c.party.inside.seat.me in
+    let apart = c.if-size-eq0.false in
+    let asks : 0 < c.args.layout.size = grind (arith, apart) in
+    let own = ap (λ (m : Me ℕ SeatView). number_of m.0) c.party.invariant.seat.seat.is in
+    let same = c.claim.ensures.table in
+    let is = ap (λ b. b.scene) c.requires.party in
+    elim c.match-claim.branch [
+      | in-Some w ↦
+          rw w.result-is
+          (answers_won scene c.claim.new.seat.table_id c.party.inside.seat.table_id c.party.inside.number me c.claim.new.seat.me
+          c.args.party.now same c.party.view_is is c.args.layout asks own w.in-Some.chunk w.in-Some.ensures.call)
+      | in-None w ↦
+          rw w.result-is
+          (answers_refused scene c.claim.new.seat.table_id c.party.inside.seat.table_id c.party.inside.number me c.claim.new.seat.me
+          c.args.party.now same c.party.view_is is c.args.layout asks own w.in-None.ensures.call)
+    ]
 
 pub returns-clause-found : goal.returns-clause-found
 returns-clause-found c =
