@@ -1,12 +1,15 @@
 -- Numbers in decimal, without a sign or a leading zero.
-use Rattle.std.proofs.Common.{arith, ◌≡◌, ℕ, ◌+◌, ◌*◌, ◌<◌, ◌≤◌, ◌^◌, zero, suc, List, [], length, take, take_all, get_or, slice_index, Option, Some, None, IfSome, sym, ap, ◌∙◌, ◌++◌, ◌∷◌, ◌/◌, ◌%◌, drop, set, append_assoc, length-append, length-drop}
+use Rattle.std.proofs.Common.{arith, ◌≡◌, ℕ, ◌+◌, ◌*◌, ◌<◌, ◌≤◌, ◌^◌, zero, suc, List, [], length, take, take_all}
+use Rattle.std.proofs.Common.{get_or, slice_index, Option, Some, None, IfSome, sym, ap, ◌∙◌, ◌++◌, ◌∷◌, ◌/◌, ◌%◌, drop}
+use Rattle.std.proofs.Common.{set, append_assoc, length-append, length-drop}
 use Rattle.std.specs.Char.{digit_value}
 use Rattle.std.specs.Fmt.{decimal}
 use Rattle.std.specs.Option.{SomeIff}
 use Rattle.std.specs.Str.Parse.{AllDigits, digits_value}
 use Rattle.std.proofs.lemmas.Int.Digits.{digits_value_more}
 use Rattle.std.proofs.lemmas.Str.Parse.{IsNumeralModel, numerals_by_value, tells_digits, digits_value-take-le}
-use Rattle.std.proofs.lemmas.Fmt.{decimal-digits_value, decimal_nonempty, digits_decimal, digits_value-decimal, first_decimal, decimal_digit, decimal_step, length-decimal-le}
+use Rattle.std.proofs.lemmas.Fmt.{decimal-digits_value, decimal_nonempty, digits_decimal, digits_value-decimal}
+use Rattle.std.proofs.lemmas.Fmt.{first_decimal, decimal_digit, decimal_step, length-decimal-le}
 use Rattle.std.proofs.lemmas.List.{drop-set}
 
 -- the field has something, and begins with no zero unless that is all of it

@@ -13,7 +13,8 @@ loop-left-preserved c =
     let l = c.loop-left in
     let i = l.invariant in
     let small : c.args.number < 2 ^ 64 = omega (arith, c.ranges.number.fits) in
-    let room = room_for_two c.args.number l.left l.start l.digits small i.fits (omega (arith, c.loop-left-test.true)) i.len i.written in
+    let room =
+    room_for_two c.args.number l.left l.start l.digits small i.fits (omega (arith, c.loop-left-test.true)) i.len i.written in
     record {
       len = length-set l.digits (l.start - 1) _ ∙ i.len;
       within = omega (arith, i.within);
