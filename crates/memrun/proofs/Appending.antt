@@ -4,7 +4,8 @@ use Rattle.std.specs.Io.KnownBytes.{Appends, Keeps}
 use Rattle.std.proofs.lemmas.List.{append_assoc}
 
 -- by one text and then by another
-pub appends_again : (old mid new : Option (List ℕ)) (xs ys : List ℕ) → Appends old mid xs → Appends mid new ys → Appends old new (xs ++ ys)
+pub appends_again : (old mid new : Option (List ℕ)) (xs ys : List ℕ) → Appends old mid xs → Appends mid new ys
+    → Appends old new (xs ++ ys)
 appends_again None mid new xs ys one two = tt
 appends_again (Some a) None new xs ys one two = absurd one
 appends_again (Some a) (Some b) None xs ys one two = absurd two

@@ -1,5 +1,6 @@
 -- The lines of commands, each as a name and what is behind it.
-use Rattle.std.proofs.Common.{arith, ◌≡◌, ◌≢◌, ◌∙◌, sym, ap, refl, ℕ, ◌+◌, List, [], ◌∷◌, ◌++◌, length, get_or, drop, codes, Option, Some}
+use Rattle.std.proofs.Common.{arith, ◌≡◌, ◌≢◌, ◌∙◌, sym, ap, refl, ℕ, ◌+◌, List, [], ◌∷◌, ◌++◌, length, get_or, drop}
+use Rattle.std.proofs.Common.{codes, Option, Some}
 use Rattle.std.proofs.lemmas.List.{drop_all, drop_more}
 use Rattle.std.specs.Fmt.{decimal}
 use Rattle.std.specs.Option.{option_map}
@@ -75,29 +76,36 @@ apart name one other is is_other differ = differ (ap (λ l. get_or l 0 0) (sym i
 
 -- a claim that holds under each of the four names
 pub by_name : (name : List ℕ) (command : Command) (claim : Type 0) → name ≡ command_name command
-    → (name ≡ codes "alloc" → claim) → (name ≡ codes "free" → claim) → (name ≡ codes "grow" → claim) → (name ≡ codes "shrink" → claim) → claim
+    → (name ≡ codes "alloc" → claim) → (name ≡ codes "free" → claim) → (name ≡ codes "grow" → claim)
+    → (name ≡ codes "shrink" → claim) → claim
 by_name name (Allocate layout) claim is alloc free grow shrink = alloc is
 by_name name (Release position) claim is alloc free grow shrink = free is
 by_name name (Grow position old new) claim is alloc free grow shrink = grow is
 by_name name (Shrink position old new) claim is alloc free grow shrink = shrink is
 
 -- behind `alloc` the command is read where its layout is
-pub reads_alloc : (name rest : List ℕ) (read : Option Layout) (command : Command) → name ≡ codes "alloc" → Writes name rest command → IsCommandOfNumbers command
+pub reads_alloc : (name rest : List ℕ) (read : Option Layout) (command : Command) → name ≡ codes "alloc"
+    → Writes name rest command → IsCommandOfNumbers command
     → ((layout : Layout) → IsLayoutOfNumbers layout → rest ≡ layout_text layout → read ≡ Some layout)
     → option_map Allocate read ≡ Some command
 reads_alloc name rest read (Allocate layout) is parts numbers each = ap (option_map Allocate) (each layout numbers parts.1)
 reads_alloc name rest read (Release position) is parts numbers each = absurd (apart name _ _ is parts.0 (λ e. omega (arith, e)))
-reads_alloc name rest read (Grow position old new) is parts numbers each = absurd (apart name _ _ is parts.0 (λ e. omega (arith, e)))
-reads_alloc name rest read (Shrink position old new) is parts numbers each = absurd (apart name _ _ is parts.0 (λ e. omega (arith, e)))
+reads_alloc name rest read (Grow position old new) is parts numbers each =
+    absurd (apart name _ _ is parts.0 (λ e. omega (arith, e)))
+reads_alloc name rest read (Shrink position old new) is parts numbers each =
+    absurd (apart name _ _ is parts.0 (λ e. omega (arith, e)))
 
 -- behind `free` the command is read where its position is
-pub reads_free : (name rest : List ℕ) (read : Option ℕ) (command : Command) → name ≡ codes "free" → Writes name rest command → IsCommandOfNumbers command
+pub reads_free : (name rest : List ℕ) (read : Option ℕ) (command : Command) → name ≡ codes "free"
+    → Writes name rest command → IsCommandOfNumbers command
     → ((position : ℕ) → IsNumber position → rest ≡ decimal position → read ≡ Some position)
     → option_map Release read ≡ Some command
 reads_free name rest read (Allocate layout) is parts numbers each = absurd (apart name _ _ is parts.0 (λ e. omega (arith, e)))
 reads_free name rest read (Release position) is parts numbers each = ap (option_map Release) (each position numbers parts.1)
-reads_free name rest read (Grow position old new) is parts numbers each = absurd (apart name _ _ is parts.0 (λ e. omega (arith, e)))
-reads_free name rest read (Shrink position old new) is parts numbers each = absurd (apart name _ _ is parts.0 (λ e. omega (arith, e)))
+reads_free name rest read (Grow position old new) is parts numbers each =
+    absurd (apart name _ _ is parts.0 (λ e. omega (arith, e)))
+reads_free name rest read (Shrink position old new) is parts numbers each =
+    absurd (apart name _ _ is parts.0 (λ e. omega (arith, e)))
 
 -- a position, the old layout and the new one
 abbrev pub Resize : Type 0
@@ -105,7 +113,9 @@ Resize = ℕ × Layout × Layout
 
 -- each text of a resize is read
 abbrev pub ReadsResize : List ℕ → Option Resize → Type 0
-ReadsResize rest read = (position : ℕ) (old new : Layout) → IsResizeOfNumbers position old new → rest ≡ resize_text position old new → read ≡ Some (position, old, new)
+ReadsResize rest read =
+    (position : ℕ) (old new : Layout) → IsResizeOfNumbers position old new → rest ≡ resize_text position old new → read
+    ≡ Some (position, old, new)
 
 abbrev grow_of : Resize → Command
 grow_of (position, old, new) = Grow position old new
@@ -114,17 +124,23 @@ abbrev shrink_of : Resize → Command
 shrink_of (position, old, new) = Shrink position old new
 
 -- behind `grow` the command is read where its numbers are
-pub reads_grow : (name rest : List ℕ) (read : Option Resize) (command : Command) → name ≡ codes "grow" → Writes name rest command → IsCommandOfNumbers command
+pub reads_grow : (name rest : List ℕ) (read : Option Resize) (command : Command) → name ≡ codes "grow"
+    → Writes name rest command → IsCommandOfNumbers command
     → ReadsResize rest read → option_map grow_of read ≡ Some command
 reads_grow name rest read (Allocate layout) is parts numbers each = absurd (apart name _ _ is parts.0 (λ e. omega (arith, e)))
 reads_grow name rest read (Release position) is parts numbers each = absurd (apart name _ _ is parts.0 (λ e. omega (arith, e)))
-reads_grow name rest read (Grow position old new) is parts numbers each = ap (option_map grow_of) (each position old new numbers parts.1)
-reads_grow name rest read (Shrink position old new) is parts numbers each = absurd (apart name _ _ is parts.0 (λ e. omega (arith, e)))
+reads_grow name rest read (Grow position old new) is parts numbers each =
+    ap (option_map grow_of) (each position old new numbers parts.1)
+reads_grow name rest read (Shrink position old new) is parts numbers each =
+    absurd (apart name _ _ is parts.0 (λ e. omega (arith, e)))
 
 -- behind `shrink` the command is read where its numbers are
-pub reads_shrink : (name rest : List ℕ) (read : Option Resize) (command : Command) → name ≡ codes "shrink" → Writes name rest command → IsCommandOfNumbers command
+pub reads_shrink : (name rest : List ℕ) (read : Option Resize) (command : Command) → name ≡ codes "shrink"
+    → Writes name rest command → IsCommandOfNumbers command
     → ReadsResize rest read → option_map shrink_of read ≡ Some command
 reads_shrink name rest read (Allocate layout) is parts numbers each = absurd (apart name _ _ is parts.0 (λ e. omega (arith, e)))
 reads_shrink name rest read (Release position) is parts numbers each = absurd (apart name _ _ is parts.0 (λ e. omega (arith, e)))
-reads_shrink name rest read (Grow position old new) is parts numbers each = absurd (apart name _ _ is parts.0 (λ e. omega (arith, e)))
-reads_shrink name rest read (Shrink position old new) is parts numbers each = ap (option_map shrink_of) (each position old new numbers parts.1)
+reads_shrink name rest read (Grow position old new) is parts numbers each =
+    absurd (apart name _ _ is parts.0 (λ e. omega (arith, e)))
+reads_shrink name rest read (Shrink position old new) is parts numbers each =
+    ap (option_map shrink_of) (each position old new numbers parts.1)

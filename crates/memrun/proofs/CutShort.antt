@@ -5,7 +5,8 @@ use Rattle.memrun.specs.engine.Sending.{Sends}
 use Rattle.memrun.proofs.Sends.{begins_all}
 
 -- what is all written is sent, also where the flush fails
-pub sends_all : {T E : Type 0} (old new : Option (List ℕ)) (text : List ℕ) (r : Result T E) → Appends old new text → Sends old new text r
+pub sends_all : {T E : Type 0} (old new : Option (List ℕ)) (text : List ℕ) (r : Result T E) → Appends old new text
+    → Sends old new text r
 sends_all old new text (Ok x) wrote = wrote
 sends_all old new text (Err e) wrote = (text, begins_all text, wrote)
 

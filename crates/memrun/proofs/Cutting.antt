@@ -1,5 +1,6 @@
 -- Commands that are cut into batches.
-use Rattle.std.proofs.Common.{◌≡◌, ℕ, ◌-◌, ◌<◌, ◌≤◌, suc, zero, List, [], ◌∷◌, ◌++◌, length, take, drop, map, Some, refl, sym, ap, ap₂, ◌∙◌, arith, append_assoc, append-nil, length-drop, le_refl}
+use Rattle.std.proofs.Common.{◌≡◌, ℕ, ◌-◌, ◌<◌, ◌≤◌, suc, zero, List, [], ◌∷◌, ◌++◌, length, take, drop, map, Some}
+use Rattle.std.proofs.Common.{refl, sym, ap, ap₂, ◌∙◌, arith, append_assoc, append-nil, length-drop, le_refl}
 use Rattle.std.specs.Prelude.{slice_get, slice_index, slice_range}
 use Rattle.std.specs.List.{flat_map}
 use Rattle.std.proofs.lemmas.List.{drop-append-le, take-append-le, take_rest, drop_all, map_push, flat_map_more}
@@ -37,13 +38,16 @@ batch_within start (end ∷ ends) len (suc index) order below = batch_within end
 
 -- which batch stands at an index
 pub slice_get-batches_from : {C : Type 0} (start : ℕ) (ends : List ℕ) (commands : List C) (index : ℕ) → index < length ends →
-    slice_get (batches_from start ends commands) index ≡ Some (slice_range commands (slice_index (start ∷ ends) index) (slice_index ends index))
+    slice_get (batches_from start ends commands) index
+    ≡ Some (slice_range commands (slice_index (start ∷ ends) index) (slice_index ends index))
 slice_get-batches_from start [] commands index below = absurd (omega (arith, below))
 slice_get-batches_from start (end ∷ ends) commands zero below = refl
-slice_get-batches_from start (end ∷ ends) commands (suc index) below = slice_get-batches_from end ends commands index (omega (arith, below))
+slice_get-batches_from start (end ∷ ends) commands (suc index) below =
+    slice_get-batches_from end ends commands index (omega (arith, below))
 
 -- one command more leaves the order
-pub AreInOrder-longer : (start : ℕ) (ends : List ℕ) (len more : ℕ) → AreInOrder start ends len → len ≤ more → AreInOrder start ends more
+pub AreInOrder-longer : (start : ℕ) (ends : List ℕ) (len more : ℕ) → AreInOrder start ends len → len ≤ more
+    → AreInOrder start ends more
 AreInOrder-longer start [] len more order longer = omega (arith, order)
 AreInOrder-longer start (end ∷ ends) len more order longer = (order.0, AreInOrder-longer end ends len more order.1 longer)
 
@@ -61,7 +65,8 @@ slice_range-append commands more start end ordered within =
     ap (take (end - start)) (drop-append-le start commands more from) ∙ take-append-le (end - start) (drop start commands) more up
 
 -- the batches stay where a command comes at the end
-pub batches_from-append : {C : Type 0} (start : ℕ) (ends : List ℕ) (commands more : List C) → AreInOrder start ends (length commands) →
+pub batches_from-append : {C : Type 0} (start : ℕ) (ends : List ℕ) (commands more : List C)
+    → AreInOrder start ends (length commands) →
     batches_from start ends (commands ++ more) ≡ batches_from start ends commands
 batches_from-append start [] commands more order = refl
 batches_from-append start (end ∷ ends) commands more order =
@@ -70,7 +75,8 @@ batches_from-append start (end ∷ ends) commands more order =
 
 -- one batch more, up to an end
 pub batches_from-push : {C : Type 0} (start : ℕ) (ends : List ℕ) (added : ℕ) (commands : List C) →
-    batches_from start (ends ++ added ∷ []) commands ≡ batches_from start ends commands ++ slice_range commands (last_end start ends) added ∷ []
+    batches_from start (ends ++ added ∷ []) commands
+    ≡ batches_from start ends commands ++ slice_range commands (last_end start ends) added ∷ []
 batches_from-push start [] added commands = refl
 batches_from-push start (end ∷ ends) added commands =
     ap (λ bs. slice_range commands start end ∷ bs) (batches_from-push end ends added commands)
@@ -82,13 +88,16 @@ last_end-push start (end ∷ ends) added = last_end-push end ends added
 
 -- a script with one command more
 pub script_lines-command : {C : Type 0} (shown : List (List C)) (last : List C) (command : C) →
-    script_lines (record { shown = shown; last = last ++ command ∷ [] }) ≡ script_lines (record { shown = shown; last = last }) ++ Command command ∷ []
+    script_lines (record { shown = shown; last = last ++ command ∷ [] })
+    ≡ script_lines (record { shown = shown; last = last }) ++ Command command ∷ []
 script_lines-command shown last command =
-    ap (λ l. flat_map shown_lines shown ++ l) (map_push Command last command) ∙ sym (append_assoc (flat_map shown_lines shown) (map Command last) (Command command ∷ []))
+    ap (λ l. flat_map shown_lines shown ++ l) (map_push Command last command)
+    ∙ sym (append_assoc (flat_map shown_lines shown) (map Command last) (Command command ∷ []))
 
 -- a script with one show more
 pub script_lines-show : {C : Type 0} (shown : List (List C)) (last : List C) →
-    script_lines (record { shown = shown ++ last ∷ []; last = [] }) ≡ script_lines (record { shown = shown; last = last }) ++ Show ∷ []
+    script_lines (record { shown = shown ++ last ∷ []; last = [] })
+    ≡ script_lines (record { shown = shown; last = last }) ++ Show ∷ []
 script_lines-show {C} shown last =
     append-nil (flat_map shown_lines (shown ++ last ∷ []))
     ∙ (sym (flat_map_more shown_lines [] shown last)

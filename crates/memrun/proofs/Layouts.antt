@@ -1,5 +1,6 @@
 -- Layouts made of two numbers.
-use Rattle.std.proofs.Common.{◌≡◌, ℕ, zero, suc, ◌*◌, ◌<◌, ◌≤◌, ◌^◌, Result, Ok, Err, Some, IsOk, IfOk, ◌↔◌, ap, ◌∙◌, arith, mul-le-mul_right}
+use Rattle.std.proofs.Common.{◌≡◌, ℕ, zero, suc, ◌*◌, ◌<◌, ◌≤◌, ◌^◌, Result, Ok, Err, Some, IsOk, IfOk, ◌↔◌, ap, ◌∙◌}
+use Rattle.std.proofs.Common.{arith, mul-le-mul_right}
 use Rattle.std.proofs.Props.{props}
 use Rattle.std.proofs.lemmas.Bool.{false≢true}
 use Rattle.std.specs.Align.{IsLayout}

@@ -1,5 +1,6 @@
 -- Where the first line of an input ends.
-use Rattle.std.proofs.Common.{◌≡◌, ℕ, ◌+◌, ◌<◌, ◌≤◌, Bool, true, false, cond, eqb, List, [], ◌∷◌, length, take, drop, refl, sym, ap, ◌∙◌, arith, add-one, one-add, ap₂, Some, None, ltb, ltb-false, ◌-◌}
+use Rattle.std.proofs.Common.{◌≡◌, ℕ, ◌+◌, ◌<◌, ◌≤◌, Bool, true, false, cond, eqb, List, [], ◌∷◌, length, take, drop}
+use Rattle.std.proofs.Common.{refl, sym, ap, ◌∙◌, arith, add-one, one-add, ap₂, Some, None, ltb, ltb-false, ◌-◌}
 use Rattle.std.specs.List.{onto_first, before_first, after_first, position, position_or_len}
 use Rattle.std.proofs.lemmas.List.{drop_all, take_all, take_rest}
 use Rattle.std.proofs.lemmas.List.Quantifiers.{position-Some}
@@ -24,7 +25,8 @@ onto_by false byte (next ∷ bytes) e later =
     rw e (ap (onto_first byte) (later (omega arith)) ∙ cut-cons byte (next ∷ bytes) (position_or_len feed (next ∷ bytes)))
 
 -- the first line ends before the first line feed
-pub lines_first : (bytes : List ℕ) → 0 < length bytes → lines_of bytes ≡ before_first feed bytes ∷ lines_of (after_first feed bytes)
+pub lines_first : (bytes : List ℕ) → 0 < length bytes
+    → lines_of bytes ≡ before_first feed bytes ∷ lines_of (after_first feed bytes)
 lines_first [] some = absurd (omega (arith, some))
 lines_first (byte ∷ bytes) some = onto_by (feed byte) byte bytes refl (lines_first bytes)
 
@@ -43,7 +45,8 @@ pub lines_at : (bytes : List ℕ) (end : ℕ) → Some end ≡ position feed byt
     lines_of bytes ≡ take end bytes ∷ lines_of (take (length bytes - (end + 1)) (drop (end + 1) bytes))
 lines_at bytes end e =
     let here = position-Some feed bytes end 0 (sym e) in
-    let same : end ≡ position_or_len feed bytes = position_is (ltb (position_or_len feed bytes) (length bytes)) (position_or_len feed bytes) end e in
+    let same : end ≡ position_or_len feed bytes =
+    position_is (ltb (position_or_len feed bytes) (length bytes)) (position_or_len feed bytes) end e in
     rw (same, take_rest bytes (position_or_len feed bytes + 1)) (lines_first bytes (omega (arith, here.0)))
 
 -- with no line feed left there is one line
@@ -51,4 +54,5 @@ pub lines_all : (bytes : List ℕ) → 0 < length bytes → None ≡ position fe
 lines_all bytes some e =
     let n : ℕ = position_or_len feed bytes in
     let past : length bytes ≤ n = past_by (ltb n (length bytes)) n (length bytes) refl e in
-    lines_first bytes some ∙ ap₂ (λ line rest. line ∷ lines_of rest) (take_all n bytes past) (drop_all (n + 1) bytes (omega arith))
+    lines_first bytes some
+    ∙ ap₂ (λ line rest. line ∷ lines_of rest) (take_all n bytes past) (drop_all (n + 1) bytes (omega arith))

@@ -1,43 +1,120 @@
 -- Numbers in decimal, without a sign or a leading zero.
-use Rattle.std.proofs.Common.{arith, ◌≡◌, ◌≢◌, ℕ, ◌<◌, ◌^◌, zero, suc, List, length, slice_index, Some, Ok, Err, Result, IfSome, sym, ap}
-use Rattle.std.specs.Result.{result_ok}
+use Rattle.std.proofs.Common.{arith, ◌≡◌, ℕ, ◌+◌, ◌*◌, ◌<◌, ◌≤◌, ◌^◌, zero, suc, List, [], length, take, take_all}
+use Rattle.std.proofs.Common.{get_or, slice_index, Option, Some, None, IfSome, sym, ap, ◌∙◌, ◌++◌, ◌∷◌, ◌/◌, ◌%◌, drop}
+use Rattle.std.proofs.Common.{set, append_assoc, length-append, length-drop}
+use Rattle.std.specs.Char.{digit_value}
 use Rattle.std.specs.Fmt.{decimal}
-use Rattle.std.specs.Str.{IsUtf8}
-use Rattle.std.specs.Str.Parse.{AllDigits, digits_value, ParsesUnsigned}
-use Rattle.std.proofs.lemmas.Str.{IsUtf8-from_ascii}
-use Rattle.std.proofs.lemmas.Str.Parse.{IsNumeralModel, numerals_by_value, tells_digits, parse_plain}
-use Rattle.std.proofs.lemmas.Fmt.{IsAscii-decimal, decimal-digits_value, parse-decimal, first_decimal, decimal_digit}
+use Rattle.std.specs.Option.{SomeIff}
+use Rattle.std.specs.Str.Parse.{AllDigits, digits_value}
+use Rattle.std.proofs.lemmas.Int.Digits.{digits_value_more}
+use Rattle.std.proofs.lemmas.Str.Parse.{IsNumeralModel, numerals_by_value, tells_digits, digits_value-take-le}
+use Rattle.std.proofs.lemmas.Fmt.{decimal-digits_value, decimal_nonempty, digits_decimal, digits_value-decimal}
+use Rattle.std.proofs.lemmas.Fmt.{first_decimal, decimal_digit, decimal_step, length-decimal-le}
+use Rattle.std.proofs.lemmas.List.{drop-set}
 
--- the field begins with no plus, and with no zero unless that is all of it
+-- the field has something, and begins with no zero unless that is all of it
 abbrev pub IsPlain : List ℕ → Type 0
-IsPlain field = (slice_index field 0 ≢ 43) × (slice_index field 0 ≡ 48 → length field ≡ 1)
+IsPlain field = (0 < length field) × (slice_index field 0 ≡ 48 → length field ≡ 1)
+
+-- digits whose value a machine word has
+abbrev pub AreDigits : List ℕ → Type 0
+AreDigits field = AllDigits 10 field × (digits_value 10 field < 2 ^ 64)
 
 -- std's own words for digits and their value
 pub own : IsNumeralModel (AllDigits 10) (digits_value 10)
 own = numerals_by_value (AllDigits 10) tells_digits
 
--- what a plain field is parsed to, it writes
-pub parse_writes : {E : Type 0} (field : List ℕ) (r : Result ℕ E) → ParsesUnsigned 64 10 field r → IsPlain field → IfSome (result_ok r) (λ n. field ≡ decimal n)
-parse_writes {E} field (Ok m) h p =
-    let k = parse_plain own {E = E} 64 field (Ok m) h p.0 in
-    rw k.1 (sym (decimal-digits_value own field k.0.0 k.0.1 p.1 k.0.2))
-parse_writes field (Err e) h p = tt
+-- each of them is one
+digit_below : (ds : List ℕ) (i : ℕ) → AllDigits 10 ds → i < length ds → digit_value (get_or ds i 0) < 10
+digit_below [] i all below = absurd (omega (arith, below))
+digit_below (c ∷ cs) zero all below = all.0
+digit_below (c ∷ cs) (suc i) all below = digit_below cs i all.1 (omega (arith, below))
 
--- a field that writes a number is parsed to it
-pub parse_gives_each : {E : Type 0} (field : List ℕ) (r : Result ℕ E) (n : ℕ) → ParsesUnsigned 64 10 field r → n < 2 ^ 64 → field ≡ decimal n → result_ok r ≡ Some n
-parse_gives_each field r n h small e = ap result_ok (parse-decimal 64 n field r small small e h)
+-- a byte that is no digit stands among no digits
+pub no_digit : (ds : List ℕ) (i : ℕ) → i < length ds → ¬ (digit_value (get_or ds i 0) < 10) → ¬ AreDigits ds
+no_digit ds i below none all = none (digit_below ds i all.0 below)
+
+-- digits have at least the value of those in front
+pub too_large : (ds : List ℕ) (i value digit : ℕ) → i < length ds → value ≡ digits_value 10 (take i ds)
+    → digit ≡ digit_value (get_or ds i 0) → ¬ (value * 10 + digit < 2 ^ 64) → ¬ AreDigits ds
+too_large ds i value digit below is is_digit large all =
+    let more = digits_value_more 10 ds i below in
+    let longer = digits_value-take-le 10 ds (i + 1) (omega arith) in
+    large (omega (arith, all.1, is, is_digit, more, longer))
+
+-- all of them are read
+pub read_all : (ds : List ℕ) (i value : ℕ) → length ds ≤ i → value < 2 ^ 64 → AllDigits 10 (take i ds)
+    → value ≡ digits_value 10 (take i ds) → AreDigits ds × (value ≡ digits_value 10 ds)
+read_all ds i value past small all is =
+    let whole : take i ds ≡ ds = take_all i ds past in
+    let value_is : value ≡ digits_value 10 ds = rw whole at is in
+    ((rw whole at all, omega (arith, small, value_is)), value_is)
+
+-- a plain field of digits writes their value
+pub value_writes : (field : List ℕ) (read : Option ℕ) → IsPlain field → SomeIff read (AreDigits field) (digits_value 10 field)
+    → IfSome read (λ n. field ≡ decimal n)
+value_writes field None plain is = tt
+value_writes field (Some n) plain is =
+    rw is.1 (sym (decimal-digits_value own field is.0.0 plain.0 plain.1 is.0.1))
+
+-- a field that writes a number is read as it
+pub value_gives_each : (field : List ℕ) (read : Option ℕ) (n : ℕ) → SomeIff read (AreDigits field) (digits_value 10 field)
+    → n < 2 ^ 64 → field ≡ decimal n → read ≡ Some n
+value_gives_each field None n is small e =
+    absurd (is (rw (e, digits_value-decimal own n small) (digits_decimal own n small, small)))
+value_gives_each field (Some m) n is small e =
+    let same : digits_value 10 field ≡ n = ap (digits_value 10) e ∙ digits_value-decimal own n small in
+    ap Some (is.1 ∙ same)
 
 -- a number is written plainly
 IsPlain-decimal : (n : ℕ) → n < 2 ^ 64 → IsPlain (decimal n)
-IsPlain-decimal zero small = rw (decimal_digit 0 (omega arith)) ((λ e. absurd (omega (arith, e))), (λ e. omega arith))
+IsPlain-decimal zero small = rw (decimal_digit 0 (omega arith)) (omega arith, λ e. omega arith)
 IsPlain-decimal (suc n) small =
     let f = first_decimal (suc n) (omega arith) small in
-    ((λ e. absurd (omega (arith, e, f))), (λ e. absurd (omega (arith, e, f))))
+    (decimal_nonempty (suc n) small, λ e. absurd (omega (arith, e, f)))
 
--- a field that writes a number is plain
+-- so is a field that writes a number
 pub IsPlain-writes : (field : List ℕ) (n : ℕ) → n < 2 ^ 64 → field ≡ decimal n → IsPlain field
 IsPlain-writes field n small e = rw e (IsPlain-decimal n small)
 
--- a field that writes a number is text
-pub IsUtf8-writes : (field : List ℕ) (n : ℕ) → n < 2 ^ 64 → field ≡ decimal n → IsUtf8 field
-IsUtf8-writes field n small e = rw e (IsUtf8-from_ascii (decimal n) (IsAscii-decimal n small))
+-- there is room for the digits that are left
+pub room_left : (n left start : ℕ) (digits : List ℕ) → n < 2 ^ 64 → left < 2 ^ 64 → length digits ≡ 20
+    → decimal n ≡ decimal left ++ drop start digits → 0 < start
+room_left n left start digits small fits len written =
+    let long = length-decimal-le 20 n (omega arith) (omega (arith, small)) small in
+    omega (arith, long, ap length written, length-append (decimal left) (drop start digits), length-drop start digits, len, decimal_nonempty left fits)
+
+pub room_for_two : (n left start : ℕ) (digits : List ℕ) → n < 2 ^ 64 → left < 2 ^ 64 → 9 < left → length digits ≡ 20
+    → decimal n ≡ decimal left ++ drop start digits → 1 < start
+room_for_two n left start digits small fits more len written =
+    let long = length-decimal-le 20 n (omega arith) (omega (arith, small)) small in
+    let step = ap length (decimal_step left (omega (arith, more)) fits) in
+    omega (
+      arith,
+      long,
+      ap length written,
+      length-append (decimal left) (drop start digits),
+      length-drop start digits,
+      len,
+      step,
+      length-append (decimal (left / 10)) ((48 + left % 10) ∷ []),
+      decimal_nonempty (left / 10) (omega (arith, fits)),
+    )
+
+-- one digit more is put in front of those so far
+pub put_more : (n left start front : ℕ) (digits : List ℕ) → left < 2 ^ 64 → 9 < left → start ≡ front + 1 → front < length digits
+    → decimal n ≡ decimal left ++ drop start digits
+    → decimal n ≡ decimal (left / 10) ++ drop front (set digits front (48 + left % 10))
+put_more n left start front digits fits more is below written =
+    let found : decimal n ≡ decimal left ++ drop (front + 1) digits = rw is at written in
+    found ∙ (ap (λ l. l ++ drop (front + 1) digits) (decimal_step left (omega (arith, more)) fits)
+    ∙ (append_assoc (decimal (left / 10)) ((48 + left % 10) ∷ []) (drop (front + 1) digits)
+    ∙ ap (λ l. decimal (left / 10) ++ l) (sym (drop-set digits front (48 + left % 10) below))))
+
+-- the last digit is put, and they are whole
+pub put_last : (n left start front : ℕ) (digits : List ℕ) → left < 10 → start ≡ front + 1 → front < length digits
+    → decimal n ≡ decimal left ++ drop start digits → drop front (set digits front (48 + left)) ≡ decimal n
+put_last n left start front digits small is below written =
+    let found : decimal n ≡ decimal left ++ drop (front + 1) digits = rw is at written in
+    drop-set digits front (48 + left) below
+    ∙ (ap (λ l. l ++ drop (front + 1) digits) (sym (decimal_digit left small)) ∙ sym found)

@@ -8,7 +8,8 @@ use Rattle.bb_memory.specs.Pool.{MayBeCut}
 use Rattle.memrun.specs.kinds.PoolPlan.{PoolPlan, IsPoolPlan, pool_plan}
 
 -- there is the value where the condition holds
-there : {T : Type 0} (made : Option T) (condition : Type 0) (value : T) → SomeIff made condition value → condition → made ≡ Some value
+there : {T : Type 0} (made : Option T) (condition : Type 0) (value : T) → SomeIff made condition value → condition
+    → made ≡ Some value
 there None condition value none holds = absurd (none holds)
 there (Some x) condition value some holds = ap Some some.1
 

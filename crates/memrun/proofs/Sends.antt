@@ -1,5 +1,6 @@
 -- Bytes that are sent, all or a beginning.
-use Rattle.std.proofs.Common.{◌≡◌, ℕ, ◌+◌, ◌-◌, ◌<◌, List, [], ◌++◌, length, take, drop, get_or, Option, Some, None, sym, ap, ◌∙◌, refl}
+use Rattle.std.proofs.Common.{◌≡◌, ℕ, ◌+◌, ◌-◌, ◌<◌, List, [], ◌++◌, length, take, drop, get_or, Option, Some, None}
+use Rattle.std.proofs.Common.{sym, ap, ◌∙◌, refl}
 use Rattle.std.specs.List.{flat_map}
 use Rattle.std.specs.Io.KnownBytes.{Appends}
 use Rattle.std.proofs.lemmas.List.{append_assoc, append-nil, take-append-drop, take_rest, drop_more}
@@ -38,7 +39,8 @@ part_after old mid new front part rest before (sent, begins, wrote) =
     (front ++ sent, begins_after front sent part rest begins, appends_again old mid new front sent before wrote)
 
 -- the texts up to an item, its own and those after it
-pub flat_map-at : {X : Type 0} (text_of : X → List ℕ) (items : List X) (index : ℕ) (item : X) → index < length items → item ≡ get_or items index item →
+pub flat_map-at : {X : Type 0} (text_of : X → List ℕ) (items : List X) (index : ℕ) (item : X) → index < length items
+    → item ≡ get_or items index item →
     flat_map text_of items ≡ flat_map text_of (take index items) ++ (text_of item ++ flat_map text_of (drop (index + 1) items))
 flat_map-at text_of items index item below is =
     ap (flat_map text_of) (sym (take-append-drop index items))

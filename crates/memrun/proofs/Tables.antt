@@ -1,5 +1,6 @@
 -- Tables of kinds, and which kind a first line has.
-use Rattle.std.proofs.Common.{◌≡◌, ◌==◌, ◌-◌, ℕ, zero, suc, true, List, [], ◌∷◌, ◌++◌, inl, inr, All, take, codes, not, Option, Some, None, IfSome, refl, sym, ap, ◌∙◌, arith, append_assoc}
+use Rattle.std.proofs.Common.{◌≡◌, ◌==◌, ◌-◌, ℕ, zero, suc, true, List, [], ◌∷◌, ◌++◌, inl, inr, All, take, codes, not}
+use Rattle.std.proofs.Common.{Option, Some, None, IfSome, refl, sym, ap, ◌∙◌, arith, append_assoc}
 use Rattle.std.specs.Prelude.{slice_get}
 use Rattle.std.proofs.lemmas.Bool.{and_parts, or_cases, both_ways, not-true, eq-eqb}
 use Rattle.memrun.specs.engine.Rules.{Rules, Kind, kind, SomeOf, first_line, apart, apart_from}
@@ -31,7 +32,8 @@ some-none (one ∷ others) P f (inl p) = f one p
 some-none (one ∷ others) P f (inr later) = some-none others P f later
 
 -- the lines up to some number are a script of a kind only where the first is of that kind
-pub script_opened : (first : List ℕ) (rest : List (List ℕ)) (number : ℕ) (one : Kind) → IsScriptOf (take number (first ∷ rest)) one → IsOpenedBy (first ∷ rest) one
+pub script_opened : (first : List ℕ) (rest : List (List ℕ)) (number : ℕ) (one : Kind)
+    → IsScriptOf (take number (first ∷ rest)) one → IsOpenedBy (first ∷ rest) one
 script_opened first rest zero one (opening, after, opens, read) =
     let cut : [] ≡ first_line one.rules opening ∷ after = opens.cut in absurd (cc)
 script_opened first rest (suc n) one (opening, after, opens, read) =
@@ -40,7 +42,8 @@ script_opened first rest (suc n) one (opening, after, opens, read) =
     (opening, rest, record { allowed = opens.allowed; cut = ap (λ l. l ∷ rest) head })
 
 -- a line of no kind is the first that is unreadable
-pub unreadable_first : (table : List Kind) (first : List ℕ) (rest : List (List ℕ)) → (SomeOf table (IsOpenedBy (first ∷ rest)) → ⊥) → IsUnreadableAt table (first ∷ rest) 1
+pub unreadable_first : (table : List Kind) (first : List ℕ) (rest : List (List ℕ))
+    → (SomeOf table (IsOpenedBy (first ∷ rest)) → ⊥) → IsUnreadableAt table (first ∷ rest) 1
 unreadable_first table first rest none =
     (inl refl, λ readable. none (some-map table (IsScriptOf (take 1 (first ∷ rest))) (IsOpenedBy (first ∷ rest)) (script_opened first rest 1) readable))
 
@@ -50,7 +53,9 @@ unreadable_empty table =
     (inl refl, some-none table (IsScriptOf []) (λ one (opening, after, opens, read). let cut : [] ≡ first_line one.rules opening ∷ after = opens.cut in cc))
 
 -- a line that is the first unreadable one to other kinds is so also with a kind more that doesn't read the first line
-pub unreadable_later : (one : Kind) (others : List Kind) (first : List ℕ) (rest : List (List ℕ)) (number : ℕ) → (IsOpenedBy (first ∷ rest) one → ⊥) → IsUnreadableAt others (first ∷ rest) number → IsUnreadableAt (one ∷ others) (first ∷ rest) number
+pub unreadable_later : (one : Kind) (others : List Kind) (first : List ℕ) (rest : List (List ℕ)) (number : ℕ)
+    → (IsOpenedBy (first ∷ rest) one → ⊥) → IsUnreadableAt others (first ∷ rest) number
+    → IsUnreadableAt (one ∷ others) (first ∷ rest) number
 unreadable_later one others first rest number unopened (inl is, unread) = (
   inl is,
   elim [
@@ -67,7 +72,8 @@ unreadable_later one others first rest number unopened (inr read, unread) = (
 )
 
 -- a first line that begins with a text apart from each kind's name is of none
-pub apart_unopened : (table : List Kind) (start text : List ℕ) (first : List ℕ) (rest : List (List ℕ)) → apart_from start table ≡ true → first ≡ start ++ text → SomeOf table (IsOpenedBy (first ∷ rest)) → ⊥
+pub apart_unopened : (table : List Kind) (start text : List ℕ) (first : List ℕ) (rest : List (List ℕ))
+    → apart_from start table ≡ true → first ≡ start ++ text → SomeOf table (IsOpenedBy (first ∷ rest)) → ⊥
 apart_unopened [] start text first rest test e h = h
 apart_unopened (one ∷ others) start text first rest test e (inl (opening, after, opens)) =
     let name : List ℕ = one.rules.name in
@@ -81,19 +87,24 @@ apart_unopened (one ∷ others) start text first rest test e (inr later) =
     apart_unopened others start text first rest parts.1 e later
 
 -- a line further than those that are read
-further_unread : (P : List ℕ → Type 0) (rest : List (List ℕ)) (index : ℕ) (line : List ℕ) → slice_get rest index ≡ Some line → All P (take (suc index) rest) → P line
+further_unread : (P : List ℕ → Type 0) (rest : List (List ℕ)) (index : ℕ) (line : List ℕ)
+    → slice_get rest index ≡ Some line → All P (take (suc index) rest) → P line
 further_unread P [] index line got all = absurd (cc)
 further_unread P (x ∷ xs) zero line got all = let same : x ≡ line = cc in rw (← same) (all 0 x (omega arith))
-further_unread P (x ∷ xs) (suc index) line got all = further_unread P xs index line got (λ k d below. all (suc k) d (omega (arith, below)))
+further_unread P (x ∷ xs) (suc index) line got all =
+    further_unread P xs index line got (λ k d below. all (suc k) d (omega (arith, below)))
 
 -- behind a first line of a kind that is apart from the others, the kind's first unreadable line is the first
-pub unreadable_here : {S O C R : Type 0} (rules : Rules S O C R) (others : List Kind) (opening : O) (first : List ℕ) (rest : List (List ℕ)) (number : ℕ)
-    → apart_from (rules.name ++ codes " ") others ≡ true → rules.may_open opening → first ≡ first_line rules opening → IsLaterUnreadable rules rest number
+pub unreadable_here : {S O C R : Type 0} (rules : Rules S O C R) (others : List Kind) (opening : O) (first : List ℕ)
+    (rest : List (List ℕ)) (number : ℕ)
+    → apart_from (rules.name ++ codes " ") others ≡ true → rules.may_open opening → first ≡ first_line rules opening
+    → IsLaterUnreadable rules rest number
     → IsUnreadableAt (kind rules ∷ others) (first ∷ rest) number
 unreadable_here rules others opening first rest number test allowed e (index, (before, line, got, unread), is) =
     let same : number ≡ suc (suc index) = omega (arith, is) in
     let less : number - 1 ≡ suc index = omega (arith, is) in
-    let whole : first ≡ (rules.name ++ codes " ") ++ rules.opening_text opening = e ∙ sym (append_assoc rules.name (codes " ") (rules.opening_text opening)) in
+    let whole : first ≡ (rules.name ++ codes " ") ++ rules.opening_text opening =
+    e ∙ sym (append_assoc rules.name (codes " ") (rules.opening_text opening)) in
     let readable : AreReadable (kind rules ∷ others) (take (suc index) (first ∷ rest)) =
     inl (opening, take index rest, record { allowed = allowed; cut = ap (λ l. l ∷ take index rest) e }, before) in
     let unreadable : AreReadable (kind rules ∷ others) (take (suc (suc index)) (first ∷ rest)) → ⊥ =
@@ -109,15 +120,18 @@ unreadable_here rules others opening first rest number test allowed e (index, (b
     rw (less, same) (inr readable, unreadable)
 
 -- the same of what is written of the lines
-pub begun_here : {S O C R : Type 0} (rules : Rules S O C R) (others : List Kind) (opening : O) (first : List ℕ) (rest : List (List ℕ)) (sent : List ℕ)
-    → apart_from (rules.name ++ codes " ") others ≡ true → rules.may_open opening → first ≡ first_line rules opening → BeginsLaterOutput rules opening rest sent
+pub begun_here : {S O C R : Type 0} (rules : Rules S O C R) (others : List Kind) (opening : O) (first : List ℕ)
+    (rest : List (List ℕ)) (sent : List ℕ)
+    → apart_from (rules.name ++ codes " ") others ≡ true → rules.may_open opening → first ≡ first_line rules opening
+    → BeginsLaterOutput rules opening rest sent
     → BeginsOutputOf (kind rules ∷ others) (first ∷ rest) sent
 begun_here rules others opening first rest sent test allowed e (inl begun) =
     inl (inl (opening, rest, record { allowed = allowed; cut = ap (λ l. l ∷ rest) e }, begun))
 begun_here rules others opening first rest sent test allowed e (inr (number, is_unreadable, begins)) =
     inr (number, unreadable_here rules others opening first rest number test allowed e is_unreadable, begins)
 
-pub begun_later : (one : Kind) (others : List Kind) (first : List ℕ) (rest : List (List ℕ)) (sent : List ℕ) → (IsOpenedBy (first ∷ rest) one → ⊥)
+pub begun_later : (one : Kind) (others : List Kind) (first : List ℕ) (rest : List (List ℕ)) (sent : List ℕ)
+    → (IsOpenedBy (first ∷ rest) one → ⊥)
     → BeginsOutputOf others (first ∷ rest) sent → BeginsOutputOf (one ∷ others) (first ∷ rest) sent
 begun_later one others first rest sent unopened (inl begun) = inl (inr begun)
 begun_later one others first rest sent unopened (inr (number, is_unreadable, begins)) =
@@ -134,6 +148,7 @@ unopened rules first rest each (opening, after, opens) =
     cc
 
 -- what a status tells, in other words
-pub if_some : {T : Type 0} (made : Option T) (P Q : T → Type 0) → ((value : T) → P value → Q value) → IfSome made P → IfSome made Q
+pub if_some : {T : Type 0} (made : Option T) (P Q : T → Type 0) → ((value : T) → P value → Q value) → IfSome made P
+    → IfSome made Q
 if_some None P Q f h = h
 if_some (Some value) P Q f h = f value h

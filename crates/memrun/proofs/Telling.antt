@@ -13,7 +13,8 @@ use Rattle.memrun.specs.engine.Transcript.{IsTold, IsPlayed, IsSoFar, IsBegun}
 use Rattle.memrun.specs.engine.Rules.{Rules}
 
 -- what is told, one batch longer
-pub IsTold-push : {S O C R : Type 0} (rules : Rules S O C R) (old mid new : S) (batches : List (List C)) (batch : List C) (text : List ℕ) (replies : List R) →
+pub IsTold-push : {S O C R : Type 0} (rules : Rules S O C R) (old mid new : S) (batches : List (List C))
+    (batch : List C) (text : List ℕ) (replies : List R) →
     IsTold rules old batches text mid → rules.runs mid batch replies new →
     IsTold rules old (batches ++ batch ∷ []) (text ++ (flat_map rules.reply_text replies ++ rules.state_text new)) new
 IsTold-push rules old mid new [] batch text replies (same, none) step =
@@ -37,30 +38,36 @@ IsTold-push rules old mid new (b ∷ batches) batch text replies (m, rs, rest, f
     )
 
 -- what is told up to an index, and of the batch there
-pub told_more : {S O C R : Type 0} (rules : Rules S O C R) (start mid end : S) (shown : List (List C)) (index : ℕ) (batch : List C) (text : List ℕ) (replies : List R) →
+pub told_more : {S O C R : Type 0} (rules : Rules S O C R) (start mid end : S) (shown : List (List C)) (index : ℕ)
+    (batch : List C) (text : List ℕ) (replies : List R) →
     slice_get shown index ≡ Some batch → IsTold rules start (take index shown) text mid → rules.runs mid batch replies end →
     IsTold rules start (take (index + 1) shown) (text ++ (flat_map rules.reply_text replies ++ rules.state_text end)) end
 told_more rules start mid end shown index batch text replies here told run =
     let below : index < length shown = slice_get_within shown index batch here in
     let longer : take (index + 1) shown ≡ take index shown ++ batch ∷ [] =
-    take_more shown index batch below ∙ ap (λ b. take index shown ++ b ∷ []) (get_or_from_slice_get shown index batch batch here) in
+    take_more shown index batch below
+    ∙ ap (λ b. take index shown ++ b ∷ []) (get_or_from_slice_get shown index batch batch here) in
     rw longer (IsTold-push rules start mid end (take index shown) batch text replies told run)
 
 -- what is told of all batches that are shown, and of the last
-pub played : {S O C R : Type 0} (rules : Rules S O C R) (start mid end : S) (script : Batches C) (index : ℕ) (text : List ℕ) (replies : List R) →
+pub played : {S O C R : Type 0} (rules : Rules S O C R) (start mid end : S) (script : Batches C) (index : ℕ)
+    (text : List ℕ) (replies : List R) →
     length script.shown ≤ index → IsTold rules start (take index script.shown) text mid → rules.runs mid script.last replies end →
     IsPlayed rules start script (text ++ flat_map rules.reply_text replies) end
 played rules start mid end script index text replies past told run =
     (mid, text, replies, rw (take_all index script.shown past) at told, run, refl)
 
 -- what is sent of a part begins what is told so far
-pub begun_part : {S O C R : Type 0} (rules : Rules S O C R) (start end : S) (script : Batches C) (old mid new : Option (List ℕ)) (whole front part rest : List ℕ) →
+pub begun_part : {S O C R : Type 0} (rules : Rules S O C R) (start end : S) (script : Batches C)
+    (old mid new : Option (List ℕ)) (whole front part rest : List ℕ) →
     whole ≡ front ++ (part ++ rest) → IsSoFar rules start script whole end → Appends old mid front → AppendsPart mid new part →
     (sent : List ℕ) × IsBegun rules start script sent × Appends old new sent
 begun_part rules start end script old mid new whole front part rest same so_far before (sent, begins, wrote) =
     (front ++ sent, (whole, end, rw same (begins_after front sent part rest begins), so_far), appends_again old mid new front sent before wrote)
 
 -- what is sent and is all of it begins it
-pub begun_all : {S O C R : Type 0} (rules : Rules S O C R) (start end : S) (script : Batches C) (old new : Option (List ℕ)) (whole : List ℕ) →
-    IsSoFar rules start script whole end → Appends old new whole → (sent : List ℕ) × IsBegun rules start script sent × Appends old new sent
+pub begun_all : {S O C R : Type 0} (rules : Rules S O C R) (start end : S) (script : Batches C)
+    (old new : Option (List ℕ)) (whole : List ℕ) →
+    IsSoFar rules start script whole end → Appends old new whole → (sent : List ℕ) × IsBegun rules start script sent
+    × Appends old new sent
 begun_all rules start end script old new whole so_far wrote = (whole, (whole, end, begins_all whole, so_far), wrote)

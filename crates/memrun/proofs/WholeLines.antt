@@ -1,5 +1,7 @@
 -- What the lines of an input are, and that no others are.
-use Rattle.std.proofs.Common.{◌≡◌, ◌≢◌, ℕ, suc, zero, Bool, true, false, List, [], ◌∷◌, ◌++◌, length, refl, sym, ap, ◌∙◌, arith, inl, inr, ◌⊎◌, append_assoc, subst, append-nil, length-append, tests, All, Contains}
+use Rattle.std.proofs.Common.{◌≡◌, ◌≢◌, ℕ, suc, zero, Bool, true, false, List, [], ◌∷◌, ◌++◌, length, refl, sym, ap}
+use Rattle.std.proofs.Common.{◌∙◌, arith, inl, inr, ◌⊎◌, append_assoc, subst, append-nil, length-append, tests, All}
+use Rattle.std.proofs.Common.{Contains}
 use Rattle.std.specs.List.{onto_first}
 use Rattle.std.proofs.lemmas.List.{append_cancel_right, flat_map_more}
 use Rattle.std.proofs.lemmas.List.Elements.{All-nil, All-cons, All-head, All-tail}
@@ -46,10 +48,12 @@ no_feed-onto : (byte : ℕ) (lines : List (List ℕ)) → byte ≢ 10 → All Ha
 no_feed-onto byte [] other all =
     All-cons HasNoFeed (byte ∷ []) [] (no_feed-cons byte [] other no_feed-nil) (All-nil HasNoFeed)
 no_feed-onto byte (line ∷ lines) other all =
-    All-cons HasNoFeed (byte ∷ line) lines (no_feed-cons byte line other (All-head HasNoFeed line lines all)) (All-tail HasNoFeed line lines all)
+    All-cons HasNoFeed (byte ∷ line) lines (no_feed-cons byte line other (All-head HasNoFeed line lines all))
+    (All-tail HasNoFeed line lines all)
 
 -- one byte more leaves lines without a line feed
-no_feed_by : (is : Bool) (byte : ℕ) (bytes : List ℕ) → feed byte ≡ is → All HasNoFeed (lines_of bytes) → All HasNoFeed (lines_of (byte ∷ bytes))
+no_feed_by : (is : Bool) (byte : ℕ) (bytes : List ℕ) → feed byte ≡ is → All HasNoFeed (lines_of bytes)
+    → All HasNoFeed (lines_of (byte ∷ bytes))
 no_feed_by true byte bytes e later = rw e (All-cons HasNoFeed [] (lines_of bytes) no_feed-nil later)
 no_feed_by false byte bytes e later = rw e (no_feed-onto byte (lines_of bytes) (other_byte byte e) later)
 
@@ -72,7 +76,8 @@ no_text : ¬ EndsInText []
 no_text (front, last, same, some) = omega (arith, ap length same, length-append front (last ∷ []))
 
 -- a byte onto the first line goes before the input
-whole-onto : (byte : ℕ) (bytes : List ℕ) (lines : List (List ℕ)) → Whole bytes lines → Whole (byte ∷ bytes) (onto_first byte lines)
+whole-onto : (byte : ℕ) (bytes : List ℕ) (lines : List (List ℕ)) → Whole bytes lines
+    → Whole (byte ∷ bytes) (onto_first byte lines)
 whole-onto byte bytes [] (inl e) = inr (ap (λ bs. byte ∷ (bs ++ 10 ∷ [])) e, ([], byte ∷ [], refl, λ n. cc))
 whole-onto byte bytes [] (inr (e, text)) = absurd (no_text text)
 whole-onto byte bytes (line ∷ lines) (inl e) = inl (ap (λ bs. byte ∷ bs) e)
@@ -85,7 +90,8 @@ whole-feed bytes lines (inr (e, (front, last, same, some))) =
     inr (ap (λ bs. 10 ∷ bs) e, ([] ∷ front, last, ap (λ ls. [] ∷ ls) same, some))
 
 -- one byte more at the front
-whole_by : (is : Bool) (byte : ℕ) (bytes : List ℕ) → feed byte ≡ is → Whole bytes (lines_of bytes) → Whole (byte ∷ bytes) (lines_of (byte ∷ bytes))
+whole_by : (is : Bool) (byte : ℕ) (bytes : List ℕ) → feed byte ≡ is → Whole bytes (lines_of bytes)
+    → Whole (byte ∷ bytes) (lines_of (byte ∷ bytes))
 whole_by true byte bytes e later =
     rw e (subst (λ b. Whole (b ∷ bytes) ([] ∷ lines_of bytes)) (sym (feed_byte byte e)) (whole-feed bytes (lines_of bytes) later))
 whole_by false byte bytes e later = rw e (whole-onto byte bytes (lines_of bytes) later)
@@ -112,7 +118,8 @@ no_feed-tail byte line none (k, below, at) = none (suc k, omega (arith, below), 
 -- a line that ends comes first
 lines_line : (line rest : List ℕ) → HasNoFeed line → lines_of (line ++ 10 ∷ rest) ≡ line ∷ lines_of rest
 lines_line [] rest none = refl
-lines_line (byte ∷ line) rest none = line_by (feed byte) byte line rest refl none (lines_line line rest (no_feed-tail byte line none))
+lines_line (byte ∷ line) rest none =
+    line_by (feed byte) byte line rest refl none (lines_line line rest (no_feed-tail byte line none))
 
 -- a byte more onto a line that doesn't end
 last_by : (is : Bool) (byte : ℕ) (line : List ℕ) → feed byte ≡ is → HasNoFeed (byte ∷ line) →
@@ -127,7 +134,8 @@ lines_last [] none some = absurd (some refl)
 lines_last (byte ∷ line) none some = last_by (feed byte) byte line refl none (lines_last line (no_feed-tail byte line none))
 
 -- lines that end come first
-lines_ended : (front : List (List ℕ)) (rest : List ℕ) → All HasNoFeed front → lines_of (ended front ++ rest) ≡ front ++ lines_of rest
+lines_ended : (front : List (List ℕ)) (rest : List ℕ) → All HasNoFeed front
+    → lines_of (ended front ++ rest) ≡ front ++ lines_of rest
 lines_ended [] rest none = refl
 lines_ended (line ∷ front) rest none =
     rw (append_assoc (line ++ 10 ∷ []) (ended front) rest, append_assoc line (10 ∷ []) (ended front ++ rest))
@@ -143,7 +151,8 @@ only_by input lines none (inr (e, (front, last, same, some))) =
     let before : All HasNoFeed front = All-front HasNoFeed front (last ∷ []) all in
     let final : HasNoFeed last = All-last HasNoFeed front last all in
     let bytes : (ended front ++ last) ++ 10 ∷ [] ≡ input ++ 10 ∷ [] =
-    append_assoc (ended front) last (10 ∷ []) ∙ (flat_map_more (λ line. line ++ 10 ∷ []) [] front last ∙ (ap ended (sym same) ∙ e)) in
+    append_assoc (ended front) last (10 ∷ [])
+    ∙ (flat_map_more (λ line. line ++ 10 ∷ []) [] front last ∙ (ap ended (sym same) ∙ e)) in
     same ∙ (ap (λ ls. front ++ ls) (sym (lines_last last final some))
     ∙ (sym (lines_ended front last before) ∙ ap lines_of (append_cancel_right (ended front ++ last) input (10 ∷ []) bytes)))
 

@@ -8,7 +8,7 @@ ghost use Rattle.memrun.specs.kinds.Allocators.{command_line, resize_text, chunk
 ghost use Rattle.memrun.specs.kinds.Allocators.{refusal_line, grow_refusal_line, shrink_refusal_line};
 
 use crate::engine::driven::Driven;
-use crate::fields::{cut, layout, layout_and_rest, number, number_and_rest};
+use crate::fields::{cut, layout, layout_and_rest, number, number_and_rest, write_number};
 use bb_memory::allocator::{
     AllocationError, AllocationGrowError, AllocationShrinkError, BaseAllocator, Command, Reply,
 };
@@ -156,8 +156,8 @@ pub fn write_reply<W: Write>(reply: &Reply, writer: &mut W) -> io::Result<()>
 {
     match reply {
         Reply::Chunk(chunk) => write_chunk(chunk, writer),
-        Reply::Released => writeln!(writer, "released"),
-        Reply::Passed => writeln!(writer, "passed"),
+        Reply::Released => writer.write_all(b"released\n"),
+        Reply::Passed => writer.write_all(b"passed\n"),
         Reply::Refused(error) => write_refusal(error, writer),
         Reply::GrowRefused(error) => write_grow_refusal(error, writer),
         Reply::ShrinkRefused(error) => write_shrink_refusal(error, writer),
@@ -168,9 +168,11 @@ fn write_chunk<W: Write>(chunk: &Chunk, writer: &mut W) -> io::Result<()>
     ensures { OnOk result
         (Appends (W.contents writer.old) (W.contents writer.new) (chunk_line chunk.now)) }
 {
-    let place = chunk.place();
-    let len = chunk.len();
-    writeln!(writer, "chunk {place} {len}")
+    writer.write_all(b"chunk ")?;
+    write_number(chunk.place(), writer)?;
+    writer.write_all(b" ")?;
+    write_number(chunk.len(), writer)?;
+    writer.write_all(b"\n")
 }
 
 /// Writes the line of a refused request.
@@ -179,10 +181,10 @@ pub fn write_refusal<W: Write>(error: &AllocationError, writer: &mut W) -> io::R
         (Appends (W.contents writer.old) (W.contents writer.new) (refusal_line error.now)) }
 {
     match error {
-        AllocationError::SizeIsZero => writeln!(writer, "SizeIsZero"),
-        AllocationError::SizeTooLarge => writeln!(writer, "SizeTooLarge"),
-        AllocationError::AlignmentFailure => writeln!(writer, "AlignmentFailure"),
-        AllocationError::OutOfMemory => writeln!(writer, "OutOfMemory"),
+        AllocationError::SizeIsZero => writer.write_all(b"SizeIsZero\n"),
+        AllocationError::SizeTooLarge => writer.write_all(b"SizeTooLarge\n"),
+        AllocationError::AlignmentFailure => writer.write_all(b"AlignmentFailure\n"),
+        AllocationError::OutOfMemory => writer.write_all(b"OutOfMemory\n"),
     }
 }
 
@@ -191,9 +193,9 @@ fn write_grow_refusal<W: Write>(error: &AllocationGrowError, writer: &mut W) -> 
         (Appends (W.contents writer.old) (W.contents writer.new) (grow_refusal_line error.now)) }
 {
     match error {
-        AllocationGrowError::GrowWouldShrink => writeln!(writer, "GrowWouldShrink"),
-        AllocationGrowError::AlignmentFailure => writeln!(writer, "AlignmentFailure"),
-        AllocationGrowError::OutOfMemory => writeln!(writer, "OutOfMemory"),
+        AllocationGrowError::GrowWouldShrink => writer.write_all(b"GrowWouldShrink\n"),
+        AllocationGrowError::AlignmentFailure => writer.write_all(b"AlignmentFailure\n"),
+        AllocationGrowError::OutOfMemory => writer.write_all(b"OutOfMemory\n"),
     }
 }
 
@@ -202,8 +204,8 @@ fn write_shrink_refusal<W: Write>(error: &AllocationShrinkError, writer: &mut W)
         (Appends (W.contents writer.old) (W.contents writer.new) (shrink_refusal_line error.now)) }
 {
     match error {
-        AllocationShrinkError::ShrinkWouldGrow => writeln!(writer, "ShrinkWouldGrow"),
-        AllocationShrinkError::AlignmentFailure => writeln!(writer, "AlignmentFailure"),
-        AllocationShrinkError::SizeIsZero => writeln!(writer, "SizeIsZero"),
+        AllocationShrinkError::ShrinkWouldGrow => writer.write_all(b"ShrinkWouldGrow\n"),
+        AllocationShrinkError::AlignmentFailure => writer.write_all(b"AlignmentFailure\n"),
+        AllocationShrinkError::SizeIsZero => writer.write_all(b"SizeIsZero\n"),
     }
 }

@@ -10,7 +10,7 @@ ghost use Rattle.memrun.specs.kinds.LoanPool.{back_line, loan_line, out_line, pu
 ghost use Rattle.memrun.specs.kinds.LoanPool.{answer_line, loan_refusal_line, loan_reply_line, loaned_line};
 
 use crate::engine::driven::Driven;
-use crate::fields::{number, number_and_rest};
+use crate::fields::{number, number_and_rest, write_number};
 use crate::kinds::allocators::write_refusal;
 use crate::kinds::pool::pool_of;
 use crate::kinds::pool_plan::PoolPlan;
@@ -174,9 +174,9 @@ fn write_loan_reply<W: Write>(reply: &LoanReply, writer: &mut W) -> io::Result<(
 {
     match reply {
         LoanReply::Loaned(id, chunk) => write_loaned(*id, chunk, writer),
-        LoanReply::Published => writeln!(writer, "published"),
-        LoanReply::Returned => writeln!(writer, "returned"),
-        LoanReply::Kept => writeln!(writer, "kept"),
+        LoanReply::Published => writer.write_all(b"published\n"),
+        LoanReply::Returned => writer.write_all(b"returned\n"),
+        LoanReply::Kept => writer.write_all(b"kept\n"),
         LoanReply::Out(answer) => write_answer(*answer, writer),
         LoanReply::Refused(error) => write_loan_refusal(error, writer),
     }
@@ -186,9 +186,13 @@ fn write_loaned<W: Write>(id: u64, chunk: &Chunk, writer: &mut W) -> io::Result<
     ensures { OnOk result
         (Appends (W.contents writer.old) (W.contents writer.new) (loaned_line id chunk.now)) }
 {
-    let place = chunk.place();
-    let len = chunk.len();
-    writeln!(writer, "loan {id} {place} {len}")
+    writer.write_all(b"loan ")?;
+    write_number(id as usize, writer)?;
+    writer.write_all(b" ")?;
+    write_number(chunk.place(), writer)?;
+    writer.write_all(b" ")?;
+    write_number(chunk.len(), writer)?;
+    writer.write_all(b"\n")
 }
 
 fn write_answer<W: Write>(answer: bool, writer: &mut W) -> io::Result<()>
@@ -196,9 +200,9 @@ fn write_answer<W: Write>(answer: bool, writer: &mut W) -> io::Result<()>
         (Appends (W.contents writer.old) (W.contents writer.new) (answer_line answer)) }
 {
     if answer {
-        writeln!(writer, "yes")
+        writer.write_all(b"yes\n")
     } else {
-        writeln!(writer, "no")
+        writer.write_all(b"no\n")
     }
 }
 
@@ -207,12 +211,12 @@ fn write_loan_refusal<W: Write>(error: &LoanError, writer: &mut W) -> io::Result
         (Appends (W.contents writer.old) (W.contents writer.new) (loan_refusal_line error.now)) }
 {
     match error {
-        LoanError::Size => writeln!(writer, "Size"),
-        LoanError::IdsExhausted => writeln!(writer, "IdsExhausted"),
-        LoanError::Memory => writeln!(writer, "Memory"),
+        LoanError::Size => writer.write_all(b"Size\n"),
+        LoanError::IdsExhausted => writer.write_all(b"IdsExhausted\n"),
+        LoanError::Memory => writer.write_all(b"Memory\n"),
         LoanError::Allocation(error) => write_refusal(error, writer),
-        LoanError::UnknownSample => writeln!(writer, "UnknownSample"),
-        LoanError::AlreadyPublished => writeln!(writer, "AlreadyPublished"),
-        LoanError::NoReaders => writeln!(writer, "NoReaders"),
+        LoanError::UnknownSample => writer.write_all(b"UnknownSample\n"),
+        LoanError::AlreadyPublished => writer.write_all(b"AlreadyPublished\n"),
+        LoanError::NoReaders => writer.write_all(b"NoReaders\n"),
     }
 }

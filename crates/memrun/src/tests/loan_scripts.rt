@@ -8,9 +8,11 @@ use std::test::Fail;
 #[test]
 fn loan_pool_two_readers(rt: HostRuntime) -> Result<(), Fail> {
     let script =
-        "loan-pool 4096 256 128 8; loan 48; loan 48; loan 48; publish 0 2; back 0; out 0; back 0; out 0; back 0; loan 10";
+        "loan-pool 4096 256 128 8; loan 48; loan 48; loan 48; publish 0 2; back 0; out 0; back 0; out 0; \
+         back 0; loan 10";
     let wrote =
-        "loan 0 P 48; loan 1 Q 48; OutOfMemory; published; kept; yes; returned; no; UnknownSample; loan 2 P 10";
+        "loan 0 P 48; loan 1 Q 48; OutOfMemory; published; kept; yes; returned; no; UnknownSample; \
+         loan 2 P 10";
     let mut told = Vec::new(rt.alloc());
     let status = run(rt.alloc(), lines(rt.alloc(), script)?.as_slice(), &mut told);
     assert_eq!(rt; status, Status::Done);
@@ -31,12 +33,16 @@ fn loan_scripts(rt: HostRuntime) -> Result<(), Fail> {
     for (name, script, wrote) in [
         (
             "loan-pool-refusals",
-            "loan-pool 4096 128 128 8; loan 9223372036854775808; loan 200; loan 0; loan 1; publish 0 0; publish 0 1; publish 0 0; publish 7 0; back 0; out 0; loan 1",
-            "Size; SizeTooLarge; loan 0 4096 0; OutOfMemory; NoReaders; published; AlreadyPublished; UnknownSample; returned; no; loan 1 4096 1",
+            "loan-pool 4096 128 128 8; loan 9223372036854775808; loan 200; loan 0; loan 1; publish 0 0; \
+             publish 0 1; publish 0 0; publish 7 0; back 0; out 0; loan 1",
+            "Size; SizeTooLarge; loan 0 4096 0; OutOfMemory; NoReaders; published; AlreadyPublished; \
+             UnknownSample; returned; no; loan 1 4096 1",
         ),
         (
             "the greatest numbers",
-            "loan-pool 4096 128 128 8; loan 18446744073709551615; loan 1; publish 18446744073709551615 4294967295; publish 0 4294967295; back 18446744073709551615; out 18446744073709551615; back 0; out 0",
+            "loan-pool 4096 128 128 8; loan 18446744073709551615; loan 1; \
+             publish 18446744073709551615 4294967295; publish 0 4294967295; back 18446744073709551615; \
+             out 18446744073709551615; back 0; out 0",
             "Size; loan 0 4096 1; UnknownSample; published; UnknownSample; no; kept; yes",
         ),
         ("a first line alone", "loan-pool 4096 128 128 8", ""),

@@ -29,7 +29,8 @@ fn pool_scripts(rt: HostRuntime) -> Result<(), Fail> {
         (
             "pool-huge-alignment",
             "pool 4096 1024 1 4611686018427387904; alloc 1 1; alloc 2 1; show",
-            "OutOfMemory; SizeTooLarge; pool start 4611686018427387904 size 1024 bucket 1 align 4611686018427387904 buckets 0 live 0 reads 0",
+            "OutOfMemory; SizeTooLarge; \
+             pool start 4611686018427387904 size 1024 bucket 1 align 4611686018427387904 buckets 0 live 0 reads 0",
             "",
         ),
         (
@@ -41,25 +42,32 @@ fn pool_scripts(rt: HostRuntime) -> Result<(), Fail> {
         (
             "pool-refusal-order",
             "pool 4097 64 12 8; alloc 12 8; alloc 13 8; alloc 0 16; show",
-            "chunk P 12; SizeTooLarge; AlignmentFailure; pool start 4104 size 64 bucket 12 align 8 buckets 3 live 1 reads 0",
+            "chunk P 12; SizeTooLarge; AlignmentFailure; \
+             pool start 4104 size 64 bucket 12 align 8 buckets 3 live 1 reads 0",
             "4104 4120 4136",
         ),
         (
             "pool-reads-shown",
             "pool 4096 1024 128 8; show; alloc 48 4; show; alloc 129 8; show; free 0; show",
-            "pool start 4096 size 1024 bucket 128 align 8 buckets 8 live 0 reads 0; chunk P 48; pool start 4096 size 1024 bucket 128 align 8 buckets 8 live 1 reads 1; SizeTooLarge; pool start 4096 size 1024 bucket 128 align 8 buckets 8 live 1 reads 0; released; pool start 4096 size 1024 bucket 128 align 8 buckets 8 live 0 reads 0",
+            "pool start 4096 size 1024 bucket 128 align 8 buckets 8 live 0 reads 0; chunk P 48; \
+             pool start 4096 size 1024 bucket 128 align 8 buckets 8 live 1 reads 1; SizeTooLarge; \
+             pool start 4096 size 1024 bucket 128 align 8 buckets 8 live 1 reads 0; released; \
+             pool start 4096 size 1024 bucket 128 align 8 buckets 8 live 0 reads 0",
             "4096 4224 4352 4480 4608 4736 4864 4992",
         ),
         (
             "fixed-near-the-top",
             "fixed 18446744073709551608 7 4 2; alloc 4 2; alloc 0 1; free 0; alloc 0 1; show",
-            "chunk 18446744073709551608 4; OutOfMemory; released; chunk 18446744073709551608 0; fixed size 7 bucket 4 align 2 buckets 1 live 1",
+            "chunk 18446744073709551608 4; OutOfMemory; released; chunk 18446744073709551608 0; \
+             fixed size 7 bucket 4 align 2 buckets 1 live 1",
             "18446744073709551608",
         ),
         (
             "fixed-resizes",
-            "fixed 4096 1024 128 8; alloc 48 4; grow 0 48 4 64 4; grow 0 48 4 129 16; grow 0 48 4 129 4; shrink 0 64 4 32 4; shrink 0 32 4 32 4; shrink 0 32 4 16 16; free 0; show",
-            "chunk P 48; chunk P 64; AlignmentFailure; OutOfMemory; chunk P 32; ShrinkWouldGrow; AlignmentFailure; released; fixed size 1024 bucket 128 align 8 buckets 8 live 0",
+            "fixed 4096 1024 128 8; alloc 48 4; grow 0 48 4 64 4; grow 0 48 4 129 16; grow 0 48 4 129 4; \
+             shrink 0 64 4 32 4; shrink 0 32 4 32 4; shrink 0 32 4 16 16; free 0; show",
+            "chunk P 48; chunk P 64; AlignmentFailure; OutOfMemory; chunk P 32; ShrinkWouldGrow; \
+             AlignmentFailure; released; fixed size 1024 bucket 128 align 8 buckets 8 live 0",
             "4096 4224 4352 4480 4608 4736 4864 4992",
         ),
     ] {
@@ -80,7 +88,8 @@ fn pool_eight_buckets(rt: HostRuntime) -> Result<(), Fail> {
     let mut told = Vec::new(rt.alloc());
     let script = lines(
         rt.alloc(),
-        "pool 4096 1024 128 8; alloc 129 8; alloc 129 16; alloc 48 16; alloc 48 4; alloc 48 4; alloc 48 4; alloc 48 4; alloc 48 4; alloc 48 4; alloc 48 4; alloc 48 4; alloc 48 4; free 0; alloc 48 4",
+        "pool 4096 1024 128 8; alloc 129 8; alloc 129 16; alloc 48 16; alloc 48 4; alloc 48 4; alloc 48 4; \
+         alloc 48 4; alloc 48 4; alloc 48 4; alloc 48 4; alloc 48 4; alloc 48 4; free 0; alloc 48 4",
     )?;
     let status = run(rt.alloc(), script.as_slice(), &mut told);
     assert_eq!(rt; status, Status::Done);

@@ -24,7 +24,10 @@ fn bump_scripts(rt: HostRuntime) -> Result<(), Fail> {
         (
             "bump-first-path",
             "bump 4096 1024; alloc 48 4; show; alloc 10 32; alloc 950 1; alloc 1 1; show",
-            "chunk 4096 48; BumpAllocator { start: 4096, size: 1024, current_position: 48 }; used 48 free 976 total 1024; chunk 4160 10; chunk 4170 950; OutOfMemory; BumpAllocator { start: 4096, size: 1024, current_position: 1024 }; used 1024 free 0 total 1024",
+            "chunk 4096 48; BumpAllocator { start: 4096, size: 1024, current_position: 48 }; \
+             used 48 free 976 total 1024; chunk 4160 10; chunk 4170 950; OutOfMemory; \
+             BumpAllocator { start: 4096, size: 1024, current_position: 1024 }; \
+             used 1024 free 0 total 1024",
         ),
         (
             "bump-odd-start-refused",
@@ -39,12 +42,15 @@ fn bump_scripts(rt: HostRuntime) -> Result<(), Fail> {
         (
             "bump-near-the-top",
             "bump 18446744073709551600 15; alloc 8 16; alloc 1 16; alloc 7 1; show",
-            "chunk 18446744073709551600 8; OutOfMemory; chunk 18446744073709551608 7; BumpAllocator { start: 18446744073709551600, size: 15, current_position: 15 }; used 15 free 0 total 15",
+            "chunk 18446744073709551600 8; OutOfMemory; chunk 18446744073709551608 7; \
+             BumpAllocator { start: 18446744073709551600, size: 15, current_position: 15 }; \
+             used 15 free 0 total 15",
         ),
         (
             "bump-passed-commands",
             "bump 4097 8; grow 0 1 1 2 1; alloc 1 1; shrink 0 1 1 0 1; free 0; free 0; show",
-            "passed; chunk 4097 1; passed; released; passed; BumpAllocator { start: 4097, size: 8, current_position: 0 }; used 0 free 8 total 8",
+            "passed; chunk 4097 1; passed; released; passed; \
+             BumpAllocator { start: 4097, size: 8, current_position: 0 }; used 0 free 8 total 8",
         ),
         (
             "bump-huge-alignment",
@@ -92,8 +98,10 @@ fn one_chunk_scripts(rt: HostRuntime) -> Result<(), Fail> {
         ),
         (
             "one-resizes",
-            "one 4097 1024; alloc 48 4; shrink 0 64 4 32 4; grow 0 48 4 64 4; grow 0 64 4 64 4; grow 0 48 4 64 8; grow 0 48 4 1022 4; grow 0 48 4 1021 4; grow 0 48 16 64 16",
-            "chunk 4100 1021; chunk 4100 32; chunk 4100 1021; GrowWouldShrink; AlignmentFailure; OutOfMemory; chunk 4100 1021; passed",
+            "one 4097 1024; alloc 48 4; shrink 0 64 4 32 4; grow 0 48 4 64 4; grow 0 64 4 64 4; \
+             grow 0 48 4 64 8; grow 0 48 4 1022 4; grow 0 48 4 1021 4; grow 0 48 16 64 16",
+            "chunk 4100 1021; chunk 4100 32; chunk 4100 1021; GrowWouldShrink; AlignmentFailure; \
+             OutOfMemory; chunk 4100 1021; passed",
         ),
         (
             "one-padding-past-end",
@@ -102,8 +110,10 @@ fn one_chunk_scripts(rt: HostRuntime) -> Result<(), Fail> {
         ),
         (
             "one-reserved-limit",
-            "one 4096 64; grow 0 1 1 2 1; alloc 8 8; shrink 0 65 1 8 1; shrink 0 64 1 8 1; grow 0 8 1 64 1; free 0; show",
-            "passed; chunk 4096 64; passed; chunk 4096 8; chunk 4096 64; released; one start 4096 size 64 available yes",
+            "one 4096 64; grow 0 1 1 2 1; alloc 8 8; shrink 0 65 1 8 1; shrink 0 64 1 8 1; grow 0 8 1 64 1; \
+             free 0; show",
+            "passed; chunk 4096 64; passed; chunk 4096 8; chunk 4096 64; released; \
+             one start 4096 size 64 available yes",
         ),
         (
             "one-near-the-top",

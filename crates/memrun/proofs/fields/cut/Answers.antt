@@ -13,5 +13,6 @@ returns-clause-each c front back clear e =
     let text = c.args.text.now in
     let index = c.in_ok-index.index in
     let first : Without c.args.byte (take index text) = grind (arith, common_steps) in
-    let parts : text ≡ take index text ++ c.args.byte ∷ take (length text - (index + 1)) (drop (index + 1) text) = grind (arith, common_steps) in
+    let parts : text ≡ take index text ++ c.args.byte ∷ take (length text - (index + 1)) (drop (index + 1) text) =
+    grind (arith, common_steps) in
     cut_same c.args.byte _ _ _ _ first clear (sym parts ∙ e)

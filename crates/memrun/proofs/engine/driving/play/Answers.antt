@@ -9,7 +9,8 @@ pub returns-in_err-replies-clause-err : goal.returns-in_err-replies-clause-err
 returns-in_err-replies-clause-err g c =
     let rules = g.K.Driven.rules in
     let (text, told, wrote) = c.loop-index.invariant.told in
-    on_err c.from_residual.result (begun_all rules c.args.driven.now c.loop-index.driven c.args.script.now _ _ text (inl (c.loop-index.index, told)) wrote)
+    on_err c.from_residual.result
+    (begun_all rules c.args.driven.now c.loop-index.driven c.args.script.now _ _ text (inl (c.loop-index.index, told)) wrote)
 
 pub returns-in_err-tell-clause-err : goal.returns-in_err-tell-clause-err
 returns-in_err-tell-clause-err g c =
@@ -22,7 +23,8 @@ returns-in_err-tell-clause-err g c =
     let end = c.run.new.self in
     let more : List ℕ = flat_map rules.reply_text replies in
     let state : List ℕ = rules.state_text end in
-    let longer = told_more rules start c.loop-index.driven end script.shown i c.shown.result.now text replies c.shown.ensures told c.in_ok-replies.ensures in
+    let longer =
+    told_more rules start c.loop-index.driven end script.shown i c.shown.result.now text replies c.shown.ensures told c.in_ok-replies.ensures in
     let part = rw c.deref.ensures.value at c.in_err-tell.ensures in
     on_err c.from_residual-in_err-tell.result
     (begun_part rules start end script _ _ _ (text ++ (more ++ state)) text more state refl (inl (i + 1, longer)) wrote part)
@@ -38,7 +40,8 @@ returns-in_err-show-clause-err g c =
     let end = c.run.new.self in
     let more : List ℕ = flat_map rules.reply_text replies in
     let state : List ℕ = rules.state_text end in
-    let longer = told_more rules start c.loop-index.driven end script.shown i c.shown.result.now text replies c.shown.ensures told c.in_ok-replies.ensures in
+    let longer =
+    told_more rules start c.loop-index.driven end script.shown i c.shown.result.now text replies c.shown.ensures told c.in_ok-replies.ensures in
     let lines = rw c.deref.ensures.value at c.in_ok-tell.ensures in
     let split = sym (ap (λ l. (text ++ more) ++ l) (append-nil state) ∙ append_assoc text more state) in
     on_err c.from_residual-in_err-show.result
@@ -58,7 +61,8 @@ loop-index-preserved g c =
     record {
       told = (
         text ++ (more ++ state),
-        told_more rules c.args.driven.now c.loop-index.driven end shown c.loop-index.index c.shown.result.now text replies c.shown.ensures told c.in_ok-replies.ensures,
+        told_more rules c.args.driven.now c.loop-index.driven end shown c.loop-index.index c.shown.result.now text replies
+            c.shown.ensures told c.in_ok-replies.ensures,
         appends_again _ _ _ text (more ++ state) wrote (appends_again _ _ _ more state lines c.in_ok-show.ensures),
       );
     }
@@ -97,7 +101,8 @@ returns-clause-ok g c =
     let run = rw c.last.ensures at c.in_ok-replies-2.ensures in
     let all = played rules c.args.driven.now c.loop-index.driven c.run-2.new.self script i text replies past told run in
     let lines = rw c.deref-2.ensures.value at c.in_ok-tell-2.ensures in
-    on_ok c.map_err.result (text ++ more, all, appends_kept _ _ _ (text ++ more) (appends_again _ _ _ text more wrote lines) c.flush.ensures.bytes)
+    on_ok c.map_err.result
+    (text ++ more, all, appends_kept _ _ _ (text ++ more) (appends_again _ _ _ text more wrote lines) c.flush.ensures.bytes)
 
 pub returns-clause-err : goal.returns-clause-err
 returns-clause-err g c =

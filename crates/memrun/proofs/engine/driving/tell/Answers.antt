@@ -14,7 +14,8 @@ returns-in_err-reply_line g c =
     let front : List ℕ = flat_map rules.reply_text (take i replies) in
     let back : List ℕ = flat_map rules.reply_text (drop i replies) in
     let whole : flat_map rules.reply_text replies ≡ front ++ back =
-    ap (flat_map rules.reply_text) (sym (take-append-drop i replies)) ∙ flat_map-append rules.reply_text (take i replies) (drop i replies) in
+    ap (flat_map rules.reply_text) (sym (take-append-drop i replies))
+    ∙ flat_map-append rules.reply_text (take i replies) (drop i replies) in
     let p = err_from_is_err_and c.from_residual.result c.from_residual.ensures.1 in
     rw p.1 (front, (back, whole), c.loop-reply.invariant)
 

@@ -6,4 +6,5 @@ use Rattle.memrun.proofs.engine.driving.tell.Given as goal
 -- the lines of the replies so far are written
 abbrev pub invariant-loop-reply : goal.invariant-loop-reply
 invariant-loop-reply g l =
-    Appends (g.W.Write.contents l.fn.writer) (g.W.Write.contents l.writer) (flat_map g.K.Driven.rules.reply_text (take l.reply-index l.replies))
+    Appends (g.W.Write.contents l.fn.writer) (g.W.Write.contents l.writer)
+    (flat_map g.K.Driven.rules.reply_text (take l.reply-index l.replies))

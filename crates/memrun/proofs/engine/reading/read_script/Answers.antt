@@ -14,8 +14,10 @@ returns-in_default-read_line-clause-unreadable g c =
     let lines = script_lines c.loop-line.script in
     let before = map (line_text rules) lines in
     let none = rw c.in_default-read_line.is at c.read_line.ensures.unreadable in
-    first_unreadable (IsLine rules) (line_text rules) (lines_of c.args.input.now) (lines_of c.in-Some.rest.now) lines line c.loop-line.index
-    (c.loop-line.invariant.read ∙ ap (λ ls. before ++ ls) c.in-Some.ensures.cut) c.loop-line.invariant.allowed c.loop-line.invariant.counted none
+    first_unreadable (IsLine rules) (line_text rules) (lines_of c.args.input.now) (lines_of c.in-Some.rest.now) lines line
+    c.loop-line.index
+    (c.loop-line.invariant.read ∙ ap (λ ls. before ++ ls) c.in-Some.ensures.cut) c.loop-line.invariant.allowed
+    c.loop-line.invariant.counted none
 
 pub loop-line-preserved : goal.loop-line-preserved
 loop-line-preserved g c =

@@ -23,7 +23,8 @@ returns-in-Some-clause-cut_short g c short =
     elim (c.drive.ensures.cut_short short) [
       | inl kept ↦ inl kept
       | inr (sent, begun, wrote) ↦
-          inr (sent, begun_here rules others c.in-Some.opening c.args.first.now (lines_of c.args.rest.now) sent apart.0 written.0 written.1 begun, wrote)
+          inr
+          (sent, begun_here rules others c.in-Some.opening c.args.first.now (lines_of c.args.rest.now) sent apart.0 written.0 written.1 begun, wrote)
     ]
 
 pub returns-in-None-clause-unreadable : goal.returns-in-None-clause-unreadable
@@ -46,6 +47,7 @@ returns-in-None-clause-cut_short g c =
     (λ status later short. elim (later short) [
       | inl kept ↦ inl kept
       | inr (sent, begun, wrote) ↦
-          inr (sent, begun_later (kind rules) others c.args.first.now (lines_of c.args.rest.now) sent (unopened rules c.args.first.now (lines_of c.args.rest.now) none) begun, wrote)
+          inr
+          (sent, begun_later (kind rules) others c.args.first.now (lines_of c.args.rest.now) sent (unopened rules c.args.first.now (lines_of c.args.rest.now) none) begun, wrote)
     ])
     c.run.ensures.cut_short

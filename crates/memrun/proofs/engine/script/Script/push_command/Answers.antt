@@ -14,5 +14,6 @@ invariant_of-self-2 g c =
 
 pub returns-clause-ok : goal.returns-clause-ok
 returns-clause-ok g c =
-    script_lines-push_command c.args.self.now c.self.inside.shows.items c.self.inside.commands.items c.push.new.self.items c.args.command
+    script_lines-push_command c.args.self.now c.self.inside.shows.items c.self.inside.commands.items c.push.new.self.items
+    c.args.command
     c.self.invariant c.self.view_is c.in_ok-push.ensures.items
