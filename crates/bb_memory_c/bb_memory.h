@@ -3,18 +3,21 @@
 //
 // - A handle is a variable of the host's, all bytes zero before its first use: `bb_pool pool = BB_EMPTY;`. It is passed
 //   by its address, which isn't null. Nothing but these functions writes it, and a copy of it is not used.
-// - One call at a time has a handle. It may go to another thread between two calls, if the threads order that by a lock
-//   or by a thread's start or join.
+// - One call at a time has a handle, and a call that takes two handles is passed two. A handle may go to another thread
+//   between two calls, if the threads order that by a lock or by a thread's start or join. Threads share a bump or a pool
+//   by the shared forms alone, each thread through a seat of its own.
 // - No function is called from a signal handler, or in a child that a process of several threads forked.
 // - `malloc` and `free` come from one allocator, and `malloc` aligns as C says. Where it refuses, the answer is
 //   BB_OUT_OF_MEMORY.
 //
-// A place is a number, such as the address of a byte in a buffer of the host's. No function reads or writes a byte
-// there. Chunks that are out lie inside the region, at multiples of the asked alignment, and never overlap. Sizes and
-// alignments are in bytes. The numbers are tested, so none breaks an allocator: a wild place is answered by a code, and
-// so is a second return.
+// A place is a number, such as the address of a byte in a buffer of the host's; a host that hands in the address and the
+// size of its buffer gets places in it. No function reads or writes a byte there, so the host zeroes what it wants zero.
+// Chunks that are out lie inside the region, at multiples of the asked alignment, and never overlap. Sizes and alignments
+// are in bytes. The numbers are tested, so none breaks an allocator: a wild place is answered by a code, and so is a
+// second return.
 //
-// A Rust program declares these functions in an `unsafe extern "C"` block, with `#[repr(C)]` structs of the same fields.
+// A Rust program declares these functions in an `unsafe extern "C"` block, with `#[repr(C)]` structs of the same fields;
+// examples/c/from_rust.rs does so.
 #ifndef BB_MEMORY_H
 #define BB_MEMORY_H
 
@@ -35,9 +38,10 @@ enum {
     BB_OUT_OF_MEMORY = 4,      // no room left in the region, or `malloc` refused
     BB_NOT_A_LAYOUT = 7,       // the alignment is no power of two, or the size rounded up to it is greater than PTRDIFF_MAX
     BB_NOT_MADE = 8,           // the handle is empty, or of another kind
-    BB_NOT_HELD = 9,           // the place isn't that of a held bucket
+    BB_NOT_HELD = 9,           // the place isn't that of a held bucket; of a seat, not of a bucket that this seat holds
     BB_ALREADY_MADE = 10,      // the handle isn't empty
-    BB_CANNOT_MAKE = 11,       // the region or the buckets can't be; each maker says when
+    BB_CANNOT_MAKE = 11,       // the region, the buckets or the parties can't be; each maker says when
+    BB_NO_SEAT = 12,           // each party has a seat already
 };
 
 #define BB_EMPTY {0, false}
@@ -46,6 +50,10 @@ enum {
 typedef struct { void *at; bool made; } bb_bump;
 typedef struct { void *at; bool made; } bb_pool;
 typedef struct { void *at; bool made; } bb_fixed_pool;
+typedef struct { void *at; bool made; } bb_shared_bump;
+typedef struct { void *at; bool made; } bb_bump_seat;
+typedef struct { void *at; bool made; } bb_shared_pool;
+typedef struct { void *at; bool made; } bb_pool_seat;
 
 // A chunk that was given: where it begins, and how many bytes it has.
 typedef struct { uint32_t code; size_t place; size_t len; } bb_answer;
@@ -54,7 +62,8 @@ typedef struct { uint32_t code; size_t place; size_t len; } bb_answer;
 typedef struct { uint32_t code; size_t number; } bb_figure;
 
 // Frees what is behind a handle of any kind, which is empty then: `bb_free(&pool)`. BB_NOT_MADE where it was empty
-// already. The bytes of chunks that are out stay the host's.
+// already. The bytes of chunks that are out stay the host's. A shared bump or pool stays as long as one of its handles
+// does, a seat's or its own, in whichever order they are freed. The buckets of a freed seat stay held for good.
 uint32_t bb_free(void *handle);
 
 // A bump gives one chunk after another, and takes all of them back at once.
@@ -97,6 +106,48 @@ bb_figure bb_fixed_pool_number_of_buckets(bb_fixed_pool *);
 bb_figure bb_fixed_pool_bucket_size(bb_fixed_pool *);
 bb_figure bb_fixed_pool_max_alignment(bb_fixed_pool *);
 bb_figure bb_fixed_pool_size(bb_fixed_pool *);
+
+// A bump that threads share. It is made for some number of parties; `bb_shared_bump_seat` gives the last party without a
+// seat one, behind a handle of its own. Each thread that allocates has a seat, and no call waits for another.
+
+// Over the region of `size` bytes at `start`. BB_CANNOT_MAKE where the start is 0, start plus size exceeds SIZE_MAX, or
+// there is no party. No call but the maker and `bb_shared_bump_seat` takes memory.
+uint32_t bb_shared_bump_make(bb_shared_bump *, size_t start, size_t size, uint32_t parties);
+// BB_ALREADY_MADE where the seat isn't empty, then BB_NOT_MADE, then BB_NO_SEAT. Two handles; it is no call of a seat, so
+// one thread at a time makes it.
+uint32_t bb_shared_bump_seat(bb_shared_bump *, bb_bump_seat *);
+// A chunk of exactly `size` bytes at the least multiple of `align` behind what is used.
+bb_answer bb_shared_bump_allocate(bb_bump_seat *, size_t size, size_t align);
+// What one look found.
+bb_figure bb_shared_bump_used_space(bb_bump_seat *);
+bb_figure bb_shared_bump_free_space(bb_bump_seat *);
+bb_figure bb_shared_bump_total_space(bb_bump_seat *);
+bb_figure bb_shared_bump_start_address(bb_bump_seat *);
+// The party's number, from 0.
+bb_figure bb_shared_bump_party(bb_bump_seat *);
+
+// A pool that threads share, in the same way. A bucket is given back through the seat that took it.
+
+// BB_CANNOT_MAKE as of `bb_pool_make`, and where there is no party. No call but the maker and `bb_shared_pool_seat` takes
+// memory.
+uint32_t bb_shared_pool_make(bb_shared_pool *, size_t bucket_size, size_t bucket_align, size_t start, size_t size,
+                             uint32_t parties);
+// As of the shared bump.
+uint32_t bb_shared_pool_seat(bb_shared_pool *, bb_pool_seat *);
+// A chunk of `size` bytes in a bucket that isn't held, found by one pass over the buckets. BB_OUT_OF_MEMORY where each was
+// held when the pass looked at it; while other threads step, that need not have been at one moment.
+bb_answer bb_shared_pool_allocate(bb_pool_seat *, size_t size, size_t align);
+// Gives back the bucket at this place; BB_NOT_HELD where it isn't that of a bucket which this seat holds.
+uint32_t bb_shared_pool_deallocate(bb_pool_seat *, size_t place);
+// 1 where this is the place of a bucket which this seat holds, else 0.
+bb_figure bb_shared_pool_holds(bb_pool_seat *, size_t place);
+bb_figure bb_shared_pool_number_of_buckets(bb_pool_seat *);
+bb_figure bb_shared_pool_bucket_size(bb_pool_seat *);
+bb_figure bb_shared_pool_max_alignment(bb_pool_seat *);
+bb_figure bb_shared_pool_size(bb_pool_seat *);
+bb_figure bb_shared_pool_start_address(bb_pool_seat *);
+// The party's number, from 0.
+bb_figure bb_shared_pool_party(bb_pool_seat *);
 
 #ifdef __cplusplus
 }

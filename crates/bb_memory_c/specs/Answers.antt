@@ -1,11 +1,16 @@
 -- What C sees of an answer.
-use Rattle.std.specs.Prelude.{ℕ, Result, Ok, Err}
+use Rattle.std.specs.Prelude.{◌≡◌, ◌≢◌, ◌≤◌, ◌%◌, ℕ, Result, Ok, Err}
 use Rattle.bb_memory_base.specs.Chunk.{Chunk}
+use Rattle.bb_memory_base.specs.declared.layout.Layout.{Layout}
 use Rattle.bb_memory_base.specs.declared.allocator.AllocationError.{AllocationError}
 use Rattle.bb_memory_base.specs.declared.allocator.AllocationError.TheVariants.{SizeIsZero, SizeTooLarge, AlignmentFailure, OutOfMemory}
 use Rattle.bb_memory_c.specs.declared.answer.Answer.{Answer}
 use Rattle.bb_memory_c.specs.declared.answer.Figure.{Figure}
-use Rattle.bb_memory_c.specs.Codes.{done, size_is_zero, size_too_large, alignment_failure, out_of_memory}
+use Rattle.bb_memory_base.specs.declared.allocator.AllocationGrowError.{AllocationGrowError}
+use Rattle.bb_memory_base.specs.declared.allocator.AllocationGrowError.TheVariants as grow
+use Rattle.bb_memory_base.specs.declared.allocator.AllocationShrinkError.{AllocationShrinkError}
+use Rattle.bb_memory_base.specs.declared.allocator.AllocationShrinkError.TheVariants as shrink
+use Rattle.bb_memory_c.specs.Codes.{done, size_is_zero, size_too_large, alignment_failure, out_of_memory, grow_would_shrink, shrink_would_grow, not_held, not_the_old}
 
 -- nothing was given, by this code
 abbrev pub refused : ℕ → Answer
@@ -30,3 +35,45 @@ figure_of number = record { code = done; number = number }
 -- no number, by this code
 abbrev pub no_figure : ℕ → Figure
 no_figure code = record { code = code; number = 0 }
+
+-- RESIZES
+
+abbrev pub grow_code : AllocationGrowError → ℕ
+grow_code grow.GrowWouldShrink = grow_would_shrink
+grow_code grow.AlignmentFailure = alignment_failure
+grow_code grow.OutOfMemory = out_of_memory
+
+abbrev pub grow_answer : Result Chunk AllocationGrowError → Answer
+grow_answer (Ok chunk) = record { code = done; place = chunk.place; len = chunk.len }
+grow_answer (Err error) = refused (grow_code error)
+
+abbrev pub shrink_code : AllocationShrinkError → ℕ
+shrink_code shrink.ShrinkWouldGrow = shrink_would_grow
+shrink_code shrink.AlignmentFailure = alignment_failure
+shrink_code shrink.SizeIsZero = size_is_zero
+
+abbrev pub shrink_answer : Result Chunk AllocationShrinkError → Answer
+shrink_answer (Ok chunk) = record { code = done; place = chunk.place; len = chunk.len }
+shrink_answer (Err error) = refused (shrink_code error)
+
+-- the old size is at most what is reserved, and the place a multiple of the old alignment
+pub record FitsOld (place reserved : ℕ) (old : Layout) : Type 0 where
+  pub aligned : place % old.align ≡ 0
+  pub short : old.size ≤ reserved
+
+-- What C is told where the chunk at a place is to grow: what may be answered, where a chunk is held there and its place is a
+-- multiple of the old alignment.
+pub record TellsGrow (held : Type 0) (place : ℕ) (old : Layout) (may : Result Chunk AllocationGrowError → Type 0)
+    (told : Answer) : Type 0 where
+  pub answered : held → place % old.align ≡ 0
+      → (answer : Result Chunk AllocationGrowError) × (told ≡ grow_answer answer) × may answer
+  pub misfit : held → place % old.align ≢ 0 → told ≡ refused not_the_old
+  pub nothing : ¬ held → told ≡ refused not_held
+
+-- The same where it is to shrink, and where the old size is also at most what is reserved.
+pub record TellsShrink (held : Type 0) (place reserved : ℕ) (old : Layout)
+    (may : Result Chunk AllocationShrinkError → Type 0) (told : Answer) : Type 0 where
+  pub answered : held → FitsOld place reserved old
+      → (answer : Result Chunk AllocationShrinkError) × (told ≡ shrink_answer answer) × may answer
+  pub misfit : held → ¬ FitsOld place reserved old → told ≡ refused not_the_old
+  pub nothing : ¬ held → told ≡ refused not_held

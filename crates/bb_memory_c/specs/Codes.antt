@@ -21,6 +21,14 @@ alignment_failure = 3
 abbrev pub out_of_memory : ℕ
 out_of_memory = 4
 
+-- the new size isn't greater than the old one
+abbrev pub grow_would_shrink : ℕ
+grow_would_shrink = 5
+
+-- the new size isn't smaller than the old one
+abbrev pub shrink_would_grow : ℕ
+shrink_would_grow = 6
+
 -- the size and the alignment make no layout
 abbrev pub not_a_layout : ℕ
 not_a_layout = 7
@@ -29,7 +37,7 @@ not_a_layout = 7
 abbrev pub not_made : ℕ
 not_made = 8
 
--- the place isn't that of a held bucket
+-- the place isn't that of a held bucket, or of the chunk that is out
 abbrev pub not_held : ℕ
 not_held = 9
 
@@ -44,3 +52,7 @@ cannot_make = 11
 -- each party has a seat already
 abbrev pub no_seat : ℕ
 no_seat = 12
+
+-- the chunk can't have the old layout
+abbrev pub not_the_old : ℕ
+not_the_old = 13

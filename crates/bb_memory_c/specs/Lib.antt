@@ -3,6 +3,7 @@ pub mod Bumps
 pub mod Codes
 pub mod Handles
 pub mod Layouts
+pub mod OneChunks
 pub mod Pools
 pub mod SharedBumpHandles
 pub mod SharedBumps

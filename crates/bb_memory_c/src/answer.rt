@@ -1,9 +1,9 @@
 //! What C sees of an answer.
 ghost use Rattle.std.specs.Prelude.{◌≡◌};
-ghost use Rattle.bb_memory_c.specs.Answers.{answer_of, figure_of, no_figure, refused};
+ghost use Rattle.bb_memory_c.specs.Answers.{answer_of, figure_of, grow_answer, no_figure, refused, shrink_answer};
 
 use crate::code;
-use bb_memory::bump_allocator::AllocationError;
+use bb_memory::allocator::{AllocationError, AllocationGrowError, AllocationShrinkError};
 use bb_memory::layout::Chunk;
 
 /// A code, and with code 0 the chunk that was given: its place, and how many bytes it has. With any other code both are 0.
@@ -49,6 +49,44 @@ impl Answer {
             Err(AllocationError::SizeTooLarge) => Answer::refusal(code::SIZE_TOO_LARGE),
             Err(AllocationError::AlignmentFailure) => Answer::refusal(code::ALIGNMENT_FAILURE),
             Err(AllocationError::OutOfMemory) => Answer::refusal(code::OUT_OF_MEMORY),
+        }
+    }
+}
+
+impl Answer {
+    /// What a grow was answered.
+    pub(crate) fn of_grow(answer: Result<Chunk, AllocationGrowError>) -> Answer
+        ensures { result ≡ grow_answer answer }
+    {
+        match answer {
+            Ok(chunk) => Answer {
+                code: code::DONE,
+                place: chunk.place(),
+                len: chunk.len(),
+            },
+            Err(AllocationGrowError::GrowWouldShrink) => Answer::refusal(code::GROW_WOULD_SHRINK),
+            Err(AllocationGrowError::AlignmentFailure) => {
+                Answer::refusal(code::ALIGNMENT_FAILURE)
+            }
+            Err(AllocationGrowError::OutOfMemory) => Answer::refusal(code::OUT_OF_MEMORY),
+        }
+    }
+
+    /// What a shrink was answered.
+    pub(crate) fn of_shrink(answer: Result<Chunk, AllocationShrinkError>) -> Answer
+        ensures { result ≡ shrink_answer answer }
+    {
+        match answer {
+            Ok(chunk) => Answer {
+                code: code::DONE,
+                place: chunk.place(),
+                len: chunk.len(),
+            },
+            Err(AllocationShrinkError::ShrinkWouldGrow) => Answer::refusal(code::SHRINK_WOULD_GROW),
+            Err(AllocationShrinkError::AlignmentFailure) => {
+                Answer::refusal(code::ALIGNMENT_FAILURE)
+            }
+            Err(AllocationShrinkError::SizeIsZero) => Answer::refusal(code::SIZE_IS_ZERO),
         }
     }
 }

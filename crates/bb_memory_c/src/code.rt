@@ -9,13 +9,17 @@ pub(crate) const ALIGNMENT_FAILURE: u32 = 3;
 
 pub(crate) const OUT_OF_MEMORY: u32 = 4;
 
+pub(crate) const GROW_WOULD_SHRINK: u32 = 5;
+
+pub(crate) const SHRINK_WOULD_GROW: u32 = 6;
+
 /// The size and the alignment make no layout.
 pub(crate) const NOT_A_LAYOUT: u32 = 7;
 
 /// The handle is empty, or of another kind.
 pub(crate) const NOT_MADE: u32 = 8;
 
-/// The place isn't that of a held bucket.
+/// The place isn't that of a held bucket, or of the chunk that is out.
 pub(crate) const NOT_HELD: u32 = 9;
 
 /// The handle isn't empty, where one was to be made.
@@ -26,3 +30,6 @@ pub(crate) const CANNOT_MAKE: u32 = 11;
 
 /// Each party has a seat already.
 pub(crate) const NO_SEAT: u32 = 12;
+
+/// The chunk can't have the old layout: its place isn't a multiple of the alignment, or the size is more than is reserved.
+pub(crate) const NOT_THE_OLD: u32 = 13;

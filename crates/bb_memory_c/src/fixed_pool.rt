@@ -1,10 +1,11 @@
 //! A pool of at most 512 buckets behind a handle.
-ghost use Rattle.std.specs.Prelude.{◌≡◌, ◌≢◌, ◌↔◌, None};
+ghost use Rattle.std.specs.Prelude.{◌≡◌, ◌≢◌, ◌↔◌, None, Some};
 ghost use Rattle.std.specs.Align.{IsLayout};
 ghost use Rattle.bb_memory_base.specs.Region.{region_at};
 ghost use Rattle.bb_memory_base.specs.declared.layout.Layout.{Layout as Asked};
+ghost use Rattle.bb_memory_base.specs.PoolObject.{MayGrow, MayShrink};
 ghost use Rattle.bb_memory.specs.Pool.{Pool, Frees, HoldsPlace};
-ghost use Rattle.bb_memory_c.specs.Answers.{figure_of, no_figure, refused};
+ghost use Rattle.bb_memory_c.specs.Answers.{TellsGrow, TellsShrink, figure_of, no_figure, refused};
 ghost use Rattle.bb_memory_c.specs.Codes.{already_made, cannot_make, done, not_a_layout, not_held, not_made, out_of_memory};
 ghost use Rattle.bb_memory_c.specs.Layouts.{CannotCut, IsCuttable, IsOf};
 ghost use Rattle.bb_memory_c.specs.Pools.{GivesBackFixed, GivesFixed, Tells};
@@ -13,10 +14,10 @@ ghost use Rattle.bb_memory_c.specs.Pools.{IsFixedPool, IsNoFixedPool, MakesFixed
 use crate::answer::{Answer, Figure};
 use crate::code;
 use crate::handle::Handle;
-use crate::layout::{cut_into, layout_of};
+use crate::layout::{cut_into, layout_of, layouts_of};
 use crate::made::Made;
 use bb_memory::layout::Layout;
-use bb_memory::pool_allocator::{BaseAllocator, FixedSizePoolAllocator};
+use bb_memory::pool_allocator::{Allocator, BaseAllocator, FixedSizePoolAllocator};
 use std::alloc::Global;
 
 /// Makes a pool over the region of `size` bytes at `start`, behind a handle that has to be empty. The region is cut into
@@ -242,6 +243,158 @@ pub extern "C" fn bb_fixed_pool_size(alloc: Global, handle: &mut Handle) -> Figu
     };
     let figure = match &*made {
         Made::FixedPool(pool) => Figure::of(pool.size()),
+        _ => Figure::refusal(code::NOT_MADE),
+    };
+    handle.put(made);
+    figure
+}
+
+/// Whether the chunk at this place may have the old layout, and what it is then answered that is to grow.
+fn grow(
+    pool: &mut FixedSizePoolAllocator<512>,
+    place: usize,
+    layouts: Option<(Layout, Layout)>,
+) -> Answer
+    ensures answer { (old new : Asked) → layouts ≡ Some (old, new)
+        → TellsGrow (HoldsPlace pool.old place) place old
+        (MayGrow pool.old.geometry.bucket place old new) result }
+    ensures not_a_layout { layouts ≡ None → result ≡ refused not_a_layout }
+    ensures still { pool.new ≡ pool.old }
+{
+    let Some((old, new)) = layouts else {
+        return Answer::refusal(code::NOT_A_LAYOUT);
+    };
+    if !pool.holds(place) {
+        return Answer::refusal(code::NOT_HELD);
+    }
+    if place % old.align() != 0 {
+        return Answer::refusal(code::NOT_THE_OLD);
+    }
+    Answer::of_grow(pool.grow(place, old, new))
+}
+
+/// Gives the chunk at this place the new size, in its bucket.
+///
+/// C guarantees of the handle what the crate's page says.
+#[unsafe(no_mangle)]
+pub extern "C" fn bb_fixed_pool_grow(
+    alloc: Global,
+    handle: &mut Handle,
+    place: usize,
+    old_size: usize,
+    old_align: usize,
+    new_size: usize,
+    new_align: usize,
+) -> Answer
+    ensures answer { (pool : Pool) (old new : Asked) → IsFixedPool handle.old.value pool
+        → IsOf old_size old_align old → IsOf new_size new_align new
+        → TellsGrow (HoldsPlace pool place) place old (MayGrow pool.geometry.bucket place old new)
+        result }
+    ensures not_a_layout { (pool : Pool) → IsFixedPool handle.old.value pool
+        → ¬ (IsLayout old_size old_align × IsLayout new_size new_align)
+        → result ≡ refused not_a_layout }
+    ensures not_made { IsNoFixedPool handle.old.value → result ≡ refused not_made }
+    ensures kept { handle.new.value ≡ handle.old.value }
+{
+    let layouts = layouts_of(old_size, old_align, new_size, new_align);
+    let Some(mut made) = handle.take(alloc) else {
+        return Answer::refusal(code::NOT_MADE);
+    };
+    let answer = match &mut *made {
+        Made::FixedPool(pool) => grow(pool, place, layouts),
+        _ => Answer::refusal(code::NOT_MADE),
+    };
+    handle.put(made);
+    answer
+}
+
+/// Whether the chunk at this place may have the old layout, and what it is then answered that is to shrink.
+fn shrink(
+    pool: &mut FixedSizePoolAllocator<512>,
+    place: usize,
+    layouts: Option<(Layout, Layout)>,
+) -> Answer
+    ensures answer { (old new : Asked) → layouts ≡ Some (old, new)
+        → TellsShrink (HoldsPlace pool.old place) place (pool.old.geometry.bucket.size) old
+        (MayShrink pool.old.geometry.bucket place old new) result }
+    ensures not_a_layout { layouts ≡ None → result ≡ refused not_a_layout }
+    ensures still { pool.new ≡ pool.old }
+{
+    let Some((old, new)) = layouts else {
+        return Answer::refusal(code::NOT_A_LAYOUT);
+    };
+    if !pool.holds(place) {
+        return Answer::refusal(code::NOT_HELD);
+    }
+    if place % old.align() != 0 || old.size() > pool.reserved(place) {
+        return Answer::refusal(code::NOT_THE_OLD);
+    }
+    Answer::of_shrink(pool.shrink(place, old, new))
+}
+
+/// Gives the chunk at this place exactly the new size.
+///
+/// C guarantees of the handle what the crate's page says.
+#[unsafe(no_mangle)]
+pub extern "C" fn bb_fixed_pool_shrink(
+    alloc: Global,
+    handle: &mut Handle,
+    place: usize,
+    old_size: usize,
+    old_align: usize,
+    new_size: usize,
+    new_align: usize,
+) -> Answer
+    ensures answer { (pool : Pool) (old new : Asked) → IsFixedPool handle.old.value pool
+        → IsOf old_size old_align old → IsOf new_size new_align new
+        → TellsShrink (HoldsPlace pool place) place (pool.geometry.bucket.size) old
+        (MayShrink pool.geometry.bucket place old new) result }
+    ensures not_a_layout { (pool : Pool) → IsFixedPool handle.old.value pool
+        → ¬ (IsLayout old_size old_align × IsLayout new_size new_align)
+        → result ≡ refused not_a_layout }
+    ensures not_made { IsNoFixedPool handle.old.value → result ≡ refused not_made }
+    ensures kept { handle.new.value ≡ handle.old.value }
+{
+    let layouts = layouts_of(old_size, old_align, new_size, new_align);
+    let Some(mut made) = handle.take(alloc) else {
+        return Answer::refusal(code::NOT_MADE);
+    };
+    let answer = match &mut *made {
+        Made::FixedPool(pool) => shrink(pool, place, layouts),
+        _ => Answer::refusal(code::NOT_MADE),
+    };
+    handle.put(made);
+    answer
+}
+
+/// How many bytes are reserved for the chunk at this place, if one is held there.
+fn reserved(pool: &FixedSizePoolAllocator<512>, place: usize) -> Figure
+    ensures value { HoldsPlace pool.now place → result ≡ figure_of (pool.now.geometry.bucket.size) }
+    ensures not_held { ¬ (HoldsPlace pool.now place) → result ≡ no_figure not_held }
+{
+    if !pool.holds(place) {
+        return Figure::refusal(code::NOT_HELD);
+    }
+    Figure::of(pool.reserved(place))
+}
+
+/// How many bytes are reserved for the chunk at this place: the bucket's size.
+///
+/// C guarantees of the handle what the crate's page says.
+#[unsafe(no_mangle)]
+pub extern "C" fn bb_fixed_pool_reserved(alloc: Global, handle: &mut Handle, place: usize) -> Figure
+    ensures value { (pool : Pool) → IsFixedPool handle.old.value pool → HoldsPlace pool place
+        → result ≡ figure_of (pool.geometry.bucket.size) }
+    ensures not_held { (pool : Pool) → IsFixedPool handle.old.value pool → ¬ (HoldsPlace pool place)
+        → result ≡ no_figure not_held }
+    ensures not_made { IsNoFixedPool handle.old.value → result ≡ no_figure not_made }
+    ensures kept { handle.new.value ≡ handle.old.value }
+{
+    let Some(made) = handle.take(alloc) else {
+        return Figure::refusal(code::NOT_MADE);
+    };
+    let figure = match &*made {
+        Made::FixedPool(pool) => reserved(pool, place),
         _ => Figure::refusal(code::NOT_MADE),
     };
     handle.put(made);

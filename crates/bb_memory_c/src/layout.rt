@@ -21,6 +21,27 @@ pub(crate) fn layout_of(size: usize, align: usize) -> Option<Layout>
     Layout::from_size_align(size, align).ok()
 }
 
+/// The two layouts of these numbers, if they make two.
+pub(crate) fn layouts_of(
+    old_size: usize,
+    old_align: usize,
+    new_size: usize,
+    new_align: usize,
+) -> Option<(Layout, Layout)>
+    ensures each { (old new : Asked) → IsOf old_size old_align old → IsOf new_size new_align new
+        → result ≡ Some (old, new) }
+    ensures none { ¬ (IsLayout old_size old_align × IsLayout new_size new_align)
+        → result ≡ None }
+{
+    match (
+        layout_of(old_size, old_align),
+        layout_of(new_size, new_align),
+    ) {
+        (Some(old), Some(new)) => Some((old, new)),
+        _ => None,
+    }
+}
+
 /// The layout of this size and this alignment, into buckets of which the region of `size` bytes at `start` may be cut, or the
 /// code for why there is none.
 pub(crate) fn cut_into(

@@ -18,6 +18,7 @@ mod handle;
 mod layout;
 mod loose;
 mod made;
+mod one_chunk;
 mod pool;
 mod pool_seat;
 mod shared_bump;

@@ -2,6 +2,7 @@
 use crate::bump_seat::{BumpSeat, BumpSeats};
 use crate::pool_seat::{PoolSeat, PoolSeats};
 use bb_memory::bump_allocator::BumpAllocator;
+use bb_memory::one_chunk_allocator::OneChunkAllocator;
 use bb_memory::pool_allocator::{FixedSizePoolAllocator, PoolAllocator};
 use std::alloc::Global;
 
@@ -9,6 +10,7 @@ use std::alloc::Global;
 #[derive(Drop)]
 pub enum Made {
     Bump(BumpAllocator),
+    OneChunk(OneChunkAllocator),
     Pool(PoolAllocator<Global>),
     FixedPool(FixedSizePoolAllocator<512>),
     SharedBump(BumpSeats),

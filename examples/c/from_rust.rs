@@ -1,0 +1,40 @@
+// A pool from Rust, by the header alone: the declarations are those of bb_memory.h.
+#[repr(C)]
+pub struct Handle {
+    at: *mut core::ffi::c_void,
+    made: bool,
+}
+
+#[repr(C)]
+pub struct Answer {
+    pub code: u32,
+    pub place: usize,
+    pub len: usize,
+}
+
+unsafe extern "C" {
+    fn bb_pool_make(pool: *mut Handle, bucket_size: usize, bucket_align: usize, start: usize, size: usize) -> u32;
+    fn bb_pool_allocate(pool: *mut Handle, size: usize, align: usize) -> Answer;
+    fn bb_pool_deallocate(pool: *mut Handle, place: usize) -> u32;
+    fn bb_free(handle: *mut Handle) -> u32;
+}
+
+const BB_DONE: u32 = 0;
+const BB_NOT_HELD: u32 = 9;
+
+fn main() {
+    let mut buffer = vec![0u64; 128];
+    let start = buffer.as_mut_ptr() as usize;
+    let mut pool = Handle { at: core::ptr::null_mut(), made: false };
+    // The handle is this function's own and passed by its address; the buffer outlives the pool.
+    unsafe {
+        assert_eq!(bb_pool_make(&mut pool, 128, 8, start, 1024), BB_DONE);
+        let given = bb_pool_allocate(&mut pool, 48, 4);
+        assert_eq!((given.code, given.len), (BB_DONE, 48));
+        assert!(start <= given.place && given.place + given.len <= start + 1024);
+        assert_eq!(bb_pool_deallocate(&mut pool, given.place), BB_DONE);
+        assert_eq!(bb_pool_deallocate(&mut pool, given.place), BB_NOT_HELD);
+        assert_eq!(bb_free(&mut pool), BB_DONE);
+    }
+    println!("from_rust: a pool was made, used and freed");
+}

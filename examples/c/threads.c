@@ -1,0 +1,189 @@
+// Four threads over one shared pool and one shared bump. Each thread has a seat at both, fills each chunk with a pattern of its
+// own, checks that nobody else wrote there, and gives the bucket back. What one thread holds, another can't return.
+#include <pthread.h>
+#include <sched.h>
+#include <stdatomic.h>
+#include <stdint.h>
+#include <stdio.h>
+#include <stdlib.h>
+#include <string.h>
+
+#include "bb_memory.h"
+
+enum { THREADS = 4, ROUNDS = 2000, HELD = 2, BUCKETS = 8, BUCKET_SIZE = 64, SHARE = 40, CHUNKS = 100, CHUNK = 24 };
+
+static _Alignas(64) unsigned char pool_bytes[BUCKETS * BUCKET_SIZE];
+static _Alignas(64) unsigned char bump_bytes[THREADS * CHUNKS * CHUNK];
+
+typedef struct {
+    size_t number;
+    bb_pool_seat pool;
+    bb_bump_seat bump;
+    size_t taken;
+    size_t places[CHUNKS];
+} worker;
+
+static worker workers[THREADS];
+
+static void expect(int holds, const char *what) {
+    if (!holds) {
+        fprintf(stderr, "threads: not so: %s\n", what);
+        exit(1);
+    }
+}
+
+static void fill(size_t place, size_t len, size_t pattern) {
+    memset((unsigned char *)place, (int)(pattern & 255), len);
+}
+
+static void expect_filled(size_t place, size_t len, size_t pattern) {
+    const unsigned char *bytes = (const unsigned char *)place;
+    for (size_t at = 0; at < len; at++)
+        expect(bytes[at] == (unsigned char)(pattern & 255), "a chunk has what its own thread wrote");
+}
+
+// Takes so many buckets, and holds up to two at a time. Where it finds none free, it lets others run and looks again.
+static void use_pool(worker *self) {
+    size_t places[HELD], patterns[HELD], held = 0;
+    while (self->taken < ROUNDS) {
+        bb_answer given = bb_shared_pool_allocate(&self->pool, SHARE, 8);
+        expect(given.code == BB_DONE || given.code == BB_OUT_OF_MEMORY, "a bucket is given, or none is free");
+        if (given.code == BB_DONE) {
+            expect(given.len == SHARE && given.place % 8 == 0, "a chunk is as it was asked for");
+            expect(bb_shared_pool_holds(&self->pool, given.place).number == 1, "a seat holds what it took");
+            places[held] = given.place;
+            patterns[held] = self->number * 64 + self->taken % 64 + 1;
+            fill(places[held], SHARE, patterns[held]);
+            held++;
+            self->taken++;
+        }
+        if (given.code == BB_OUT_OF_MEMORY)
+            sched_yield();
+        if (held == HELD || (given.code == BB_OUT_OF_MEMORY && held > 0)) {
+            held--;
+            expect_filled(places[held], SHARE, patterns[held]);
+            expect(bb_shared_pool_deallocate(&self->pool, places[held] + 1) == BB_NOT_HELD, "a wild return is refused");
+            expect(bb_shared_pool_deallocate(&self->pool, places[held]) == BB_DONE, "a bucket is given back");
+            expect(bb_shared_pool_deallocate(&self->pool, places[held]) == BB_NOT_HELD, "a second return is refused");
+        }
+    }
+    while (held > 0) {
+        held--;
+        expect_filled(places[held], SHARE, patterns[held]);
+        expect(bb_shared_pool_deallocate(&self->pool, places[held]) == BB_DONE, "a bucket is given back");
+    }
+}
+
+static void use_bump(worker *self) {
+    size_t seen = 0;
+    for (size_t chunk = 0; chunk < CHUNKS; chunk++) {
+        bb_answer given = bb_shared_bump_allocate(&self->bump, CHUNK, 8);
+        expect(given.code == BB_DONE && given.len == CHUNK && given.place % 8 == 0, "the bump has room for all");
+        self->places[chunk] = given.place;
+        fill(given.place, CHUNK, self->number * 61 + chunk + 1);
+        bb_figure used = bb_shared_bump_used_space(&self->bump);
+        expect(used.code == BB_DONE && used.number >= seen + CHUNK && used.number <= sizeof bump_bytes, "what is used grows");
+        seen = used.number;
+    }
+}
+
+static atomic_size_t started;
+
+// All begin together.
+static void *work(void *argument) {
+    worker *self = argument;
+    atomic_fetch_add(&started, 1);
+    while (atomic_load(&started) < THREADS)
+        sched_yield();
+    use_pool(self);
+    use_bump(self);
+    return NULL;
+}
+
+static void make(bb_shared_pool *pool, bb_shared_bump *bump) {
+    size_t pool_start = (size_t)(uintptr_t)pool_bytes, bump_start = (size_t)(uintptr_t)bump_bytes;
+    expect(bb_shared_pool_make(pool, BUCKET_SIZE, 8, pool_start, sizeof pool_bytes, 0) == BB_CANNOT_MAKE, "a party is there");
+    expect(bb_shared_pool_make(pool, BUCKET_SIZE, 3, pool_start, 64, 1) == BB_NOT_A_LAYOUT, "3 is no power of two");
+    expect(bb_shared_pool_make(pool, 0, 8, pool_start, 64, 1) == BB_CANNOT_MAKE, "a bucket has a byte");
+    expect(bb_shared_pool_make(pool, BUCKET_SIZE, 8, pool_start, sizeof pool_bytes, THREADS) == BB_DONE, "a pool is made");
+    expect(bb_shared_pool_make(pool, BUCKET_SIZE, 8, pool_start, 64, 1) == BB_ALREADY_MADE, "a handle holds one");
+    expect(bb_shared_bump_make(bump, 0, 64, 1) == BB_CANNOT_MAKE, "a region doesn't start at 0");
+    expect(bb_shared_bump_make(bump, bump_start, sizeof bump_bytes, THREADS) == BB_DONE, "a bump is made");
+
+    unsigned seats = 0;
+    for (size_t number = 0; number < THREADS; number++) {
+        workers[number].number = number;
+        expect(bb_shared_pool_seat(pool, &workers[number].pool) == BB_DONE, "a party has a seat");
+        expect(bb_shared_pool_seat(pool, &workers[number].pool) == BB_ALREADY_MADE, "a handle holds one seat");
+        expect(bb_shared_bump_seat(bump, &workers[number].bump) == BB_DONE, "a party has a seat");
+        seats |= 1u << bb_shared_pool_party(&workers[number].pool).number;
+    }
+    expect(seats == 15, "each party has one seat");
+    bb_pool_seat none = BB_EMPTY;
+    expect(bb_shared_pool_seat(pool, &none) == BB_NO_SEAT, "no party is left");
+    expect(bb_shared_pool_seat((bb_shared_pool *)bump, &none) == BB_NOT_MADE, "a bump is no pool");
+    expect(bb_shared_pool_allocate(&none, 8, 8).code == BB_NOT_MADE, "an empty handle has no seat");
+    expect(bb_shared_bump_allocate((bb_bump_seat *)&workers[0].pool, 8, 8).code == BB_NOT_MADE, "a pool's seat is no bump's");
+}
+
+// What one seat holds is not another's, and each cause of a refusal.
+static void one_by_one(void) {
+    bb_pool_seat *mine = &workers[0].pool, *other = &workers[1].pool;
+    expect(bb_shared_pool_number_of_buckets(mine).number == BUCKETS, "eight buckets");
+    expect(bb_shared_pool_bucket_size(mine).number == BUCKET_SIZE, "of 64 bytes");
+    expect(bb_shared_pool_max_alignment(mine).number == 8, "at multiples of 8");
+    expect(bb_shared_pool_size(mine).number == sizeof pool_bytes, "over the region");
+    expect(bb_shared_pool_start_address(mine).number == (size_t)(uintptr_t)pool_bytes, "from its start");
+    expect(bb_shared_pool_allocate(mine, BUCKET_SIZE + 1, 16).code == BB_SIZE_TOO_LARGE, "65 bytes are too many");
+    expect(bb_shared_pool_allocate(mine, 1, 16).code == BB_ALIGNMENT_FAILURE, "16 is too wide");
+    expect(bb_shared_pool_allocate(mine, 1, 3).code == BB_NOT_A_LAYOUT, "3 is no power of two");
+    size_t places[BUCKETS];
+    for (size_t bucket = 0; bucket < BUCKETS; bucket++) {
+        bb_answer given = bb_shared_pool_allocate(mine, SHARE, 8);
+        expect(given.code == BB_DONE && given.len == SHARE, "a bucket is given");
+        places[bucket] = given.place;
+        for (size_t before = 0; before < bucket; before++)
+            expect(places[before] != given.place, "each bucket is given once");
+    }
+    expect(bb_shared_pool_allocate(other, 1, 1).code == BB_OUT_OF_MEMORY, "no bucket is free");
+    expect(bb_shared_pool_deallocate(other, places[0]) == BB_NOT_HELD, "another seat's bucket isn't given back");
+    expect(bb_shared_pool_holds(other, places[0]).number == 0, "another seat's bucket isn't held");
+    for (size_t bucket = 0; bucket < BUCKETS; bucket++)
+        expect(bb_shared_pool_deallocate(mine, places[bucket]) == BB_DONE, "a bucket is given back");
+    bb_bump_seat *bump = &workers[0].bump;
+    expect(bb_shared_bump_allocate(bump, 0, 1).code == BB_SIZE_IS_ZERO, "no chunk has no byte");
+    expect(bb_shared_bump_used_space(bump).number == 0, "nothing is used");
+    expect(bb_shared_bump_free_space(bump).number == sizeof bump_bytes, "all is free");
+    expect(bb_shared_bump_total_space(bump).number == sizeof bump_bytes, "all of the region");
+    expect(bb_shared_bump_start_address(bump).number == (size_t)(uintptr_t)bump_bytes, "from its start");
+    expect(bb_shared_bump_party(bump).number < THREADS, "a party has a number");
+    expect(bb_shared_bump_allocate(bump, sizeof bump_bytes + 1, 1).code == BB_OUT_OF_MEMORY, "it has no room for more");
+}
+
+int main(void) {
+    bb_shared_pool pool = BB_EMPTY;
+    bb_shared_bump bump = BB_EMPTY;
+    make(&pool, &bump);
+    one_by_one();
+    // The seats keep the pool and the bump.
+    expect(bb_free(&pool) == BB_DONE && bb_free(&pool) == BB_NOT_MADE, "a pool's handle is freed once");
+
+    pthread_t threads[THREADS];
+    for (size_t number = 0; number < THREADS; number++)
+        expect(pthread_create(&threads[number], NULL, work, &workers[number]) == 0, "a thread starts");
+    for (size_t number = 0; number < THREADS; number++)
+        pthread_join(threads[number], NULL);
+
+    for (size_t number = 0; number < THREADS; number++) {
+        expect(workers[number].taken == ROUNDS, "each thread had its buckets");
+        for (size_t chunk = 0; chunk < CHUNKS; chunk++)
+            expect_filled(workers[number].places[chunk], CHUNK, number * 61 + chunk + 1);
+    }
+    expect(bb_shared_bump_free_space(&workers[0].bump).number == 0, "all of the bump is used");
+    expect(bb_shared_bump_allocate(&workers[0].bump, 1, 1).code == BB_OUT_OF_MEMORY, "the bump is full");
+    for (size_t number = 0; number < THREADS; number++)
+        expect(bb_free(&workers[number].pool) == BB_DONE && bb_free(&workers[number].bump) == BB_DONE, "a seat is freed");
+    expect(bb_free(&bump) == BB_DONE, "a bump's handle is freed");
+    puts("threads: every chunk kept what its thread wrote");
+    return 0;
+}
