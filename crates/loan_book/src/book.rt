@@ -24,13 +24,12 @@ use std::marker::Model;
 ///
 /// ```
 /// let mut book = LoanBook::new(alloc, allocator);
-/// let (id, chunk) = book.loan(48)?;
-/// assert_eq!(id, 0);
+/// let (id, _) = book.loan(48)?;
+/// prove!(id == 0);
 /// book.publish(id, 2)?;
-/// assert_eq!(book.give_back(id), Ok(false));
-/// assert!(book.is_out(id));
-/// assert_eq!(book.give_back(id), Ok(true));
-/// assert_eq!(book.give_back(id), Err(LoanError::UnknownSample));
+/// let first = book.give_back(id)?;
+/// let second = book.give_back(id)?;
+/// prove!(!first && second);
 /// ```
 #[derive(Drop)]
 pub struct LoanBook<A: Allocator> {

@@ -1,14 +1,13 @@
 //! Slots for jobs that threads share: a slot has one holder at a time.
-ghost use Rattle.std.specs.Prelude.{◌≡◌, ◌≢◌, ◌≤◌, All, IfOk, IsErr, ℕ, vec_len};
-ghost use Rattle.bb_memory_base.specs.Chunk.{AreApart};
+ghost use Rattle.std.specs.Prelude.{◌≡◌, ◌≢◌, ◌≤◌, All, IfOk, ℕ, vec_len};
 ghost use Rattle.bb_memory_base.specs.PoolLogs.{IsHeldAfter};
 ghost use Rattle.bb_memory_base.specs.Region.{region_at};
 ghost use Rattle.bb_memory.specs.Pool.{MayBeCut};
-ghost use Rattle.bb_memory.specs.SharedPool.{PoolParty, TakenBucket, chunk_of};
+ghost use Rattle.bb_memory.specs.SharedPool.{PoolParty};
 
 use bb_memory::allocator::AllocationError;
-use bb_memory::layout::{Chunk, Layout};
-use bb_memory::shared_pool::{Bucket, PoolParty, SharedPoolAllocator, shared_pool_law};
+use bb_memory::layout::Layout;
+use bb_memory::shared_pool::{Bucket, PoolParty, SharedPoolAllocator};
 use std::alloc::Global;
 use std::marker::Model;
 use std::thread;
@@ -71,7 +70,7 @@ impl JobBoard {
         self.slots.deallocate_bucket(worker, slot);
     }
 
-    /// Both workers take a slot, in two threads at once. The slots are different ones, and so their chunks don't overlap.
+    /// Both workers take a slot, in two threads at once. The slots are different ones.
     pub fn take_two<R: Threads + Sync>(
         &self,
         rt: &R,
