@@ -1,9 +1,9 @@
 //! Slots for jobs that threads share: a slot has one holder at a time.
-ghost use Rattle.std.specs.Prelude.{◌≡◌, ◌≢◌, ◌≤◌, All, IfOk, ℕ, vec_len};
+ghost use Rattle.std.specs.Prelude.{◌≡◌, ◌≢◌, ◌≤◌, ◌↔◌, ℕ, All, IfOk, IfErr, IsErr, vec_len};
 ghost use Rattle.bb_memory_base.specs.PoolLogs.{IsHeldAfter};
 ghost use Rattle.bb_memory_base.specs.Region.{region_at};
 ghost use Rattle.bb_memory.specs.Pool.{MayBeCut};
-ghost use Rattle.bb_memory.specs.SharedPool.{PoolParty};
+ghost use Rattle.bb_memory.specs.SharedPool.{AreAllHeldAfter, PoolParty, refused_pass, with_entries};
 
 use bb_memory::allocator::AllocationError;
 use bb_memory::layout::Layout;
@@ -22,10 +22,13 @@ pub struct JobBoard {
 
 impl Model for JobBoard {
     ghost use Rattle.bb_memory.specs.SharedPool.{SharedPool};
+    ghost use Rattle.bb_memory_base.specs.PoolObject.{IsWithin};
 
     ghost Value = { SharedPool };
 
     ghost view = { λ b. b.slots };
+
+    ghost invariant = { λ b. IsWithin b.slots.scene.geometry.bucket b.job };
 }
 
 impl JobBoard {
@@ -46,13 +49,19 @@ impl JobBoard {
         Ok((JobBoard { slots, job }, parties))
     }
 
-    /// Takes a slot for the worker, which it didn't have. What it had it keeps.
+    /// Takes a slot for the worker, which it didn't have. What it had it keeps. It is refused, with `OutOfMemory`, only where it
+    /// has found each slot taken; on a board of one worker, exactly where that one has them all.
     pub fn take(&self, worker: &mut PoolParty) -> Result<Bucket<'_>, AllocationError>
         requires worker { worker.old.allocator ≡ self.now }
         ensures worker { worker.new.allocator ≡ self.now }
         ensures slot { IfOk result (λ slot. slot.allocator ≡ self.now) }
+        ensures fresh { IfOk result (λ slot. ¬ IsHeldAfter worker.old.log slot.number) }
         ensures has { IfOk result (λ slot. IsHeldAfter worker.new.log slot.number) }
         ensures keeps { (other : ℕ) → IsHeldAfter worker.old.log other → IsHeldAfter worker.new.log other }
+        ensures refused { IfErr result (λ error. (error ≡ AllocationError.OutOfMemory) × (worker.new
+            ≡ with_entries worker.old (refused_pass self.now.scene.geometry.buckets worker.old.number))) }
+        ensures alone { self.now.scene.parties ≡ 1
+            → (IsErr result ↔ AreAllHeldAfter worker.old.log self.now.scene.geometry.buckets) }
     {
         self.slots.allocate(worker, self.job)
     }
@@ -70,23 +79,26 @@ impl JobBoard {
         self.slots.deallocate_bucket(worker, slot);
     }
 
-    /// Both workers take a slot, in two threads at once. The slots are different ones.
+    /// Both workers ask for a slot, in two threads at once. Where both get one, the slots are different ones.
     pub fn take_two<R: Threads + Sync>(
         &self,
         rt: &R,
         here: &mut PoolParty,
         there: &mut PoolParty,
-    ) -> Result<(Bucket<'_>, Bucket<'_>), AllocationError>
+    ) -> (
+        Result<Bucket<'_>, AllocationError>,
+        Result<Bucket<'_>, AllocationError>,
+    )
         requires here { here.old.allocator ≡ self.now }
         requires there { there.old.allocator ≡ self.now }
         ensures here { here.new.allocator ≡ self.now }
         ensures there { there.new.allocator ≡ self.now }
-        ensures one_holder { IfOk result (λ slots. slots.0.number ≢ slots.1.number) }
-        ensures has { IfOk result (λ slots. IsHeldAfter here.new.log slots.0.number) }
-        ensures its_has { IfOk result (λ slots. IsHeldAfter there.new.log slots.1.number) }
+        ensures one_holder { IfOk result.0 (λ slot. IfOk result.1 (λ other. slot.number ≢ other.number)) }
+        ensures has { IfOk result.0 (λ slot. IsHeldAfter here.new.log slot.number) }
+        ensures its_has { IfOk result.1 (λ slot. IsHeldAfter there.new.log slot.number) }
     {
-        let (one, other) = thread::join_mut(rt, &mut || self.take(here), &mut || self.take(there));
+        let answers = thread::join_mut(rt, &mut || self.take(here), &mut || self.take(there));
         self.slots.meet(here, there);
-        Ok((one?, other?))
+        answers
     }
 }
