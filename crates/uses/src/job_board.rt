@@ -43,7 +43,8 @@ impl JobBoard {
         requires cut { MayBeCut (region_at start size) job }
         requires workers { 1 ≤ workers }
         ensures as_many { IfOk result (λ made. vec_len made.1 ≡ workers) }
-        ensures theirs { IfOk result (λ made. All (λ worker. worker.allocator ≡ made.0) made.1.items) }
+        ensures theirs { IfOk result
+            (λ made. All (λ worker. worker.allocator ≡ made.0) made.1.items) }
     {
         let (slots, parties) = SharedPoolAllocator::new(alloc, job, start, size, workers)?;
         Ok((JobBoard { slots, job }, parties))
@@ -57,9 +58,11 @@ impl JobBoard {
         ensures slot { IfOk result (λ slot. slot.allocator ≡ self.now) }
         ensures fresh { IfOk result (λ slot. ¬ IsHeldAfter worker.old.log slot.number) }
         ensures has { IfOk result (λ slot. IsHeldAfter worker.new.log slot.number) }
-        ensures keeps { (other : ℕ) → IsHeldAfter worker.old.log other → IsHeldAfter worker.new.log other }
+        ensures keeps { (other : ℕ) → IsHeldAfter worker.old.log other
+            → IsHeldAfter worker.new.log other }
         ensures refused { IfErr result (λ error. (error ≡ AllocationError.OutOfMemory) × (worker.new
-            ≡ with_entries worker.old (refused_pass self.now.scene.geometry.buckets worker.old.number))) }
+            ≡ with_entries worker.old
+            (refused_pass self.now.scene.geometry.buckets worker.old.number))) }
         ensures alone { self.now.scene.parties ≡ 1
             → (IsErr result ↔ AreAllHeldAfter worker.old.log self.now.scene.geometry.buckets) }
     {
@@ -93,7 +96,8 @@ impl JobBoard {
         requires there { there.old.allocator ≡ self.now }
         ensures here { here.new.allocator ≡ self.now }
         ensures there { there.new.allocator ≡ self.now }
-        ensures one_holder { IfOk result.0 (λ slot. IfOk result.1 (λ other. slot.number ≢ other.number)) }
+        ensures one_holder { IfOk result.0
+            (λ slot. IfOk result.1 (λ other. slot.number ≢ other.number)) }
         ensures has { IfOk result.0 (λ slot. IsHeldAfter here.new.log slot.number) }
         ensures its_has { IfOk result.1 (λ slot. IsHeldAfter there.new.log slot.number) }
     {
