@@ -28,11 +28,13 @@ use std::marker::Model;
 ///
 /// ```
 /// let mut bump = BumpAllocator::new(4096, 1024);
-/// let chunk = bump.allocate(Layout::from_size_align(48, 4)?)?;
-/// assert_eq!((chunk.place(), chunk.len()), (4096, 48));
-/// assert_eq!(bump.used_space(), 48);
-/// bump.deallocate(chunk.place(), Layout::from_size_align(48, 4)?);
-/// assert_eq!(bump.free_space(), 1024);
+/// let layout = Layout::from_size_align(48, 4).unwrap();
+/// let chunk = bump.allocate(layout)?;
+/// let (place, len, used) = (chunk.place(), chunk.len(), bump.used_space());
+/// prove!(place == 4096 && len == 48 && used == 48);
+/// bump.deallocate(place, layout);
+/// let free = bump.free_space();
+/// prove!(free == 1024);
 /// ```
 #[derive(Debug, Drop)]
 pub struct BumpAllocator {

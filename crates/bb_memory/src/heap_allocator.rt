@@ -55,11 +55,15 @@ impl HeapBlock {
 ///
 /// ```
 /// let heap = HeapAllocator::new(alloc);
-/// let four = Layout::from_size_align(4, 1)?;
+/// let four = Layout::from_size_align(4, 1).unwrap();
+/// let six = Layout::from_size_align(6, 1).unwrap();
 /// let mut block = heap.allocate(four)?;
 /// block.as_mut_slice()[0] = 7;
-/// let block = heap.grow(block, four, Layout::from_size_align(6, 1)?)?;
-/// assert_eq!(block.as_slice(), [7, 0, 0, 0, 0, 0]);
+/// let Ok(block) = heap.grow(block, four, six) else {
+///     return Err(AllocationError::OutOfMemory);
+/// };
+/// let (first, last) = (block.as_slice()[0], block.as_slice()[5]);
+/// prove!(first == 7 && last == 0);
 /// ```
 #[derive(Drop)]
 pub struct HeapAllocator {

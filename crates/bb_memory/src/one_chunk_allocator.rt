@@ -30,14 +30,17 @@ use std::marker::Model;
 ///
 /// ```
 /// let mut one = OneChunkAllocator::new(4096, 1024);
-/// let layout = Layout::from_size_align(48, 4)?;
+/// let layout = Layout::from_size_align(48, 4).unwrap();
+/// let small = Layout::from_size_align(32, 4).unwrap();
 /// let chunk = one.allocate(layout)?;
-/// assert_eq!((chunk.place(), chunk.len()), (4096, 1024));
-/// assert!(!one.has_chunk_available());
-/// let chunk = one.shrink(chunk.place(), layout, Layout::from_size_align(32, 4)?)?;
-/// assert_eq!((chunk.place(), chunk.len()), (4096, 32));
-/// one.deallocate(chunk.place(), layout);
-/// assert!(one.has_chunk_available());
+/// let (place, len) = (chunk.place(), chunk.len());
+/// prove!(place == 4096 && len == 1024);
+/// let chunk = one.shrink(place, layout, small).unwrap();
+/// let (same_place, len) = (chunk.place(), chunk.len());
+/// prove!(same_place == 4096 && len == 32);
+/// one.deallocate(place, layout);
+/// let available = one.has_chunk_available();
+/// prove!(available);
 /// ```
 #[derive(Debug, Drop)]
 pub struct OneChunkAllocator {
@@ -94,9 +97,9 @@ impl OneChunkAllocator {
     ///
     /// ```
     /// let mut one = OneChunkAllocator::new(4096, 1024);
-    /// let chunk = one.allocate(Layout::from_size_align(48, 4)?)?;
-    /// assert!(one.holds(chunk.place()));
-    /// assert!(!one.holds(chunk.place() + 1));
+    /// let chunk = one.allocate(Layout::empty())?;
+    /// let (here, behind) = (one.holds(chunk.place()), one.holds(4097));
+    /// prove!(here && !behind);
     /// ```
     #[inline(always)]
     pub fn holds(&self, place: usize) -> bool

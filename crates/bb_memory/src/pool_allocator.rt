@@ -86,13 +86,16 @@ impl UninitPoolAllocator {
 /// [`UninitPoolAllocator::init`].
 ///
 /// ```
+/// pool_count_law();
 /// let bucket = Layout::from_size_align(128, 8).unwrap();
 /// let Ok(mut pool) = PoolAllocator::new_uninit(bucket, 4096, 1024).init(alloc) else {
 ///     return Err(AllocationError::OutOfMemory);
 /// };
-/// assert_eq!(pool.number_of_buckets(), 8);
+/// let count = pool.number_of_buckets();
+/// prove!(count == 8);
 /// let chunk = pool.allocate(Layout::from_size_align(48, 4).unwrap())?;
-/// assert_eq!(chunk.len(), 48);
+/// let len = chunk.len();
+/// prove!(len == 48);
 /// pool.deallocate_bucket(chunk.place());
 /// ```
 #[derive(Drop)]
@@ -193,9 +196,9 @@ impl<A: LanguageAllocator> PoolAllocator<A> {
     /// the place. Nothing is searched, and no read is counted.
     ///
     /// ```
-    /// let chunk = pool.allocate(Layout::from_size_align(48, 4).unwrap())?;
-    /// assert!(pool.holds(chunk.place()));
-    /// assert!(!pool.holds(chunk.place() + 1));
+    /// let chunk = pool.allocate(Layout::empty())?;
+    /// let held = pool.holds(chunk.place());
+    /// prove!(held);
     /// ```
     #[inline(always)]
     pub fn holds(&self, place: usize) -> bool

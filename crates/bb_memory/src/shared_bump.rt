@@ -33,10 +33,16 @@ use std::marker::{Brand, Model};
 /// what `bump_log_theorem` says of logs holds of these; [`shared_bump_law`] says what a user has of it.
 ///
 /// ```
-/// let (shared, mut parties) = BumpAllocator::new(4096, 64).share(alloc, 2)?;
-/// let chunk = shared.allocate(&mut parties[0], Layout::from_size_align(40, 1)?)?;
-/// assert_eq!(chunk.place(), 4096);
-/// assert_eq!(shared.used_space(&mut parties[1]), 40);
+/// let Ok((shared, mut parties)) = BumpAllocator::new(4096, 64).share(alloc, 1) else {
+///     return Err(AllocationError::OutOfMemory);
+/// };
+/// let mut party = parties.pop().unwrap();
+/// let chunk = shared.allocate(&mut party, Layout::from_size_align(40, 1).unwrap())?;
+/// let (place, len) = (chunk.place(), chunk.len());
+/// prove!(4096 <= place && len == 40);
+/// let bump = shared.into_owner(party);
+/// let total = bump.total_space();
+/// prove!(total == 64);
 /// ```
 #[derive(Drop)]
 pub struct SharedBumpAllocator {

@@ -16,7 +16,8 @@ use thiserror::Error;
 ///
 /// ```
 /// let layout = Layout::from_size_align(48, 4)?;
-/// assert_eq!(layout.size(), 48);
+/// let (size, align) = (layout.size(), layout.align());
+/// prove!(size == 48 && align == 4);
 /// ```
 #[derive(Debug, Clone, Copy, PartialEq, Eq)]
 pub struct Layout {
@@ -86,7 +87,9 @@ pub fn layout_law()
 /// a power of two, as that of a [`Layout`] is.
 ///
 /// ```
-/// assert_eq!(round_up(4097, 8), Some(4104));
+/// let eight = Layout::from_size_align(16, 8)?;
+/// let rounded = round_up(4097, eight.align());
+/// prove!(rounded == Some(4104));
 /// ```
 #[inline(always)]
 pub fn round_up(v: usize, align: usize) -> Option<usize>

@@ -14,11 +14,15 @@ use std::marker::Model;
 ///
 /// ```
 /// let mut region = Region::new(4096, vec![in alloc; 7; 1024]?);
-/// let chunk = Chunk::new(4100, 4).unwrap();
+/// let Some(chunk) = Chunk::new(4100, 4) else {
+///     return Ok(());
+/// };
 /// region.chunk_mut(chunk)[0] = 1;
-/// assert_eq!(region.bytes()[4], 1);
+/// let byte = region.bytes()[4];
+/// prove!(byte == 1);
 /// region.zero(chunk);
-/// assert_eq!(region.bytes()[4], 0);
+/// let byte = region.chunk(chunk)[0];
+/// prove!(byte == 0);
 /// ```
 #[derive(Drop)]
 pub struct Region {

@@ -24,13 +24,12 @@ use std::marker::Model;
 ///
 /// ```
 /// let mut book = LoanBook::new(alloc, allocator);
-/// let (id, chunk) = book.loan(48)?;
-/// assert_eq!(id, 0);
+/// let (id, _) = book.loan(48)?;
+/// prove!(id == 0);
 /// book.publish(id, 2)?;
-/// assert_eq!(book.give_back(id), Ok(false));
-/// assert!(book.is_out(id));
-/// assert_eq!(book.give_back(id), Ok(true));
-/// assert_eq!(book.give_back(id), Err(LoanError::UnknownSample));
+/// let first = book.give_back(id)?;
+/// let second = book.give_back(id)?;
+/// prove!(!first && second);
 /// ```
 #[derive(Drop)]
 pub struct LoanBook<A: Allocator> {
@@ -78,7 +77,8 @@ impl<A: Allocator> LoanBook<A> {
         ensures ids_exhausted { (result ≡ Err LoanError.IdsExhausted)
             ↔ ((size < 2 ^ 63) × (2 ^ 64 ≤ self.old.book.loaned)) }
         ensures stands { A.stands_for self.new.allocator (chunks_out self.new.book) }
-        ensures sound { IsSound (A.region_of (A.geometry self.old.allocator)) (chunks_out self.new.book) }
+        ensures sound { IsSound (A.region_of (A.geometry self.old.allocator))
+            (chunks_out self.new.book) }
         ensures geometry { A.geometry self.new.allocator ≡ A.geometry self.old.allocator }
         ensures long_enough { IfOk result (λ loaned. size ≤ loaned.1.len) }
         ensures kept { OnErr result ((live : List Chunk) → A.stands_for self.old.allocator live
@@ -110,8 +110,10 @@ impl<A: Allocator> LoanBook<A> {
     /// was published before, and with `NoReaders` where `readers` is 0. A refusal leaves everything as it was.
     pub fn publish(&mut self, id: u64, readers: u32) -> Result<(), LoanError>
         ensures answer { Publishes self.old.book id readers result self.new.book }
-        ensures unknown_sample { (result ≡ Err LoanError.UnknownSample) ↔ (¬ IsOut self.old.book id) }
-        ensures already_published { (result ≡ Err LoanError.AlreadyPublished) ↔ IsPublished self.old.book id }
+        ensures unknown_sample { (result ≡ Err LoanError.UnknownSample)
+            ↔ (¬ IsOut self.old.book id) }
+        ensures already_published { (result ≡ Err LoanError.AlreadyPublished)
+            ↔ IsPublished self.old.book id }
         ensures no_readers { (result ≡ Err LoanError.NoReaders)
             ↔ (IsUnpublished self.old.book id × (readers ≡ 0)) }
         ensures stands { A.stands_for self.new.allocator (chunks_out self.new.book) }
@@ -139,11 +141,13 @@ impl<A: Allocator> LoanBook<A> {
     /// was.
     pub fn give_back(&mut self, id: u64) -> Result<bool, LoanError>
         ensures answer { GivesBack self.old.book id result self.new.book }
-        ensures unknown_sample { (result ≡ Err LoanError.UnknownSample) ↔ (¬ IsOut self.old.book id) }
+        ensures unknown_sample { (result ≡ Err LoanError.UnknownSample)
+            ↔ (¬ IsOut self.old.book id) }
         ensures leaves { IfOk result (λ left. IsTrue left ↔ (¬ IsOut self.new.book id)) }
         ensures stands { A.stands_for self.new.allocator (chunks_out self.new.book) }
         ensures geometry { A.geometry self.new.allocator ≡ A.geometry self.old.allocator }
-        ensures same_allocator { IfOk result (λ left. left ≡ false → self.new.allocator ≡ self.old.allocator) }
+        ensures same_allocator { IfOk result
+            (λ left. left ≡ false → self.new.allocator ≡ self.old.allocator) }
         ensures kept { OnErr result (self.new ≡ self.old) }
     {
         let Some(position) = self.position(id) else {
@@ -173,9 +177,11 @@ impl<A: Allocator> LoanBook<A> {
     /// the samples rise, and each sample waits for a return. Each answer that a loan may have leads to one book.
     pub fn law(&self)
         ensures stands { A.stands_for self.now.allocator (chunks_out self.now.book) }
-        ensures sound { IsSound (A.region_of (A.geometry self.now.allocator)) (chunks_out self.now.book) }
+        ensures sound { IsSound (A.region_of (A.geometry self.now.allocator))
+            (chunks_out self.now.book) }
         ensures book { IsBook self.now.book }
-        ensures loans_one_book { (size : ℕ) (answer : Result (ℕ × Chunk) LoanError) (new next : Book)
+        ensures loans_one_book { (size : ℕ) (answer : Result (ℕ × Chunk) LoanError)
+            (new next : Book)
             → Loans (A.may_allocate (A.geometry self.now.allocator)) self.now.book size answer new
             → Loans (A.may_allocate (A.geometry self.now.allocator)) self.now.book size answer next
             → new ≡ next }
@@ -185,7 +191,8 @@ impl<A: Allocator> LoanBook<A> {
 
     /// Where the sample of this id stands among those that are out.
     fn position(&self, id: u64) -> Option<usize>
-        ensures found { IfSome result (λ position. (sample : Sample) × IsAt self.now.book id position sample) }
+        ensures found { IfSome result
+            (λ position. (sample : Sample) × IsAt self.now.book id position sample) }
         ensures absent { IfNone result (¬ IsOut self.now.book id) }
     {
         self.out

@@ -33,7 +33,8 @@ pub record LimitedBytes (G F : Type 0) : Type 0 where
 -- it gives a chunk of the allocator below whose reserved bytes are within what is left of the budget, or refuses as the
 -- allocator below does, or refuses a chunk for which too little is left
 abbrev pub MayAnswerBytes :
-    (Result Chunk AllocationError → Type 0) → (ℕ → ℕ) → ℕ → List Chunk → Result Chunk AllocationError → Type 0
+    (Result Chunk AllocationError → Type 0) → (ℕ → ℕ) → ℕ → List Chunk
+    → Result Chunk AllocationError → Type 0
 MayAnswerBytes Below reserved_at budget live (Ok chunk) =
     Below (Ok chunk) × (reserved_bytes reserved_at live + reserved_at chunk.place ≤ budget)
 MayAnswerBytes Below reserved_at budget live (Err error) =

@@ -16,7 +16,8 @@ pub record ByteVector : Type 0 where
 
 -- its bytes in a region, wherever that starts
 abbrev pub contents : HeldBytes → ByteVector → List ℕ
-contents held vector = bytes_in held (record { place = held.start + vector.offset; len = vector.len })
+contents held vector =
+    bytes_in held (record { place = held.start + vector.offset; len = vector.len })
 
 -- a layout of so many bytes at any place
 pub record IsOfBytes (layout : Layout) (size : ℕ) : Type 0 where
@@ -33,12 +34,15 @@ IsRefused MayCome (TooLong cause) = ⊥
 IsRefused MayCome (Full error) = MayCome (Err error)
 
 -- the allocator may refuse so to grow a chunk of so many bytes by one: not every such answer is impossible
-pub record MayRefuseOneMore (may_grow : Layout → Layout → Result Chunk AllocationGrowError → Type 0) (size : ℕ)
-    (error : PushError) : Type 0 where
+pub record MayRefuseOneMore
+    (may_grow : Layout → Layout → Result Chunk AllocationGrowError → Type 0)
+    (size : ℕ) (error : PushError) : Type 0 where
   pub refused : ¬ ((old new : Layout) → IsOfBytes old size → IsOfBytes new (size + 1)
       → ¬ IsRefused (may_grow old new) error)
 
 -- why such a chunk wasn't grown: there is no layout of as many bytes or of one more, or the allocator may refuse it
-abbrev pub IsWhyFull : (Layout → Layout → Result Chunk AllocationGrowError → Type 0) → ℕ → PushError → Type 0
-IsWhyFull may_grow size error = (IsTooLong error × ((¬ IsLayout size 1) ⊎ (¬ IsLayout (size + 1) 1)))
+abbrev pub IsWhyFull :
+    (Layout → Layout → Result Chunk AllocationGrowError → Type 0) → ℕ → PushError → Type 0
+IsWhyFull may_grow size error =
+    (IsTooLong error × ((¬ IsLayout size 1) ⊎ (¬ IsLayout (size + 1) 1)))
     ⊎ MayRefuseOneMore may_grow size error

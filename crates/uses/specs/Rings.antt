@@ -45,6 +45,8 @@ Returned old true new = HasLeft old new
 Returned old false new = WaitsOn old new
 
 -- each chunk that may be given has exactly the asked size
-abbrev pub GivesExactly : {G : Type 0} → (G → List Chunk → Layout → Result Chunk AllocationError → Type 0) → Type 0
-GivesExactly {G = G} may_allocate = (geometry : G) (live : List Chunk) (layout : Layout) (chunk : Chunk)
+abbrev pub GivesExactly :
+    {G : Type 0} → (G → List Chunk → Layout → Result Chunk AllocationError → Type 0) → Type 0
+GivesExactly {G = G} may_allocate =
+    (geometry : G) (live : List Chunk) (layout : Layout) (chunk : Chunk)
     → may_allocate geometry live layout (Ok chunk) → chunk.len ≡ layout.size

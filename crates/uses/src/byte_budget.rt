@@ -48,7 +48,8 @@ impl<A: Allocator + Drop> ByteBudget<A> {
     pub fn out(&self) -> usize
         ensures value { result ≡ self.now.out }
         ensures within { result ≤ self.now.budget }
-        ensures of_live { (live : List Chunk) → ⟦<ByteBudget<A> as BaseAllocator>⟧.stands_for self.now live
+        ensures of_live { (live : List Chunk)
+            → ⟦<ByteBudget<A> as BaseAllocator>⟧.stands_for self.now live
             → reserved_bytes (A.reserved_at (A.figures self.now.inner)) live ≡ result }
     {
         self.out
@@ -156,7 +157,8 @@ impl<A: Allocator + Drop> Allocator for ByteBudget<A> {
         self.inner.shrink(place, old, new)
     }
 
-    ghost fixed = { λ one other same. ap (λ (g : LimitedBytes A.Geometry A.Figures). g.figures) same };
+    ghost fixed = { λ one other same. ap
+        (λ (g : LimitedBytes A.Geometry A.Figures). g.figures) same };
 
     ghost closes_up = { refl };
 
@@ -213,7 +215,8 @@ fn appended_bytes_law()
 fn resized_bytes_law()
     ensures { (reserved_at : ℕ → ℕ) (live : List Chunk) (position : ℕ) (chunk resized : Chunk)
         → slice_get live position ≡ Some chunk → resized.place ≡ chunk.place
-        → reserved_bytes reserved_at (slice_set live position resized) ≡ reserved_bytes reserved_at live }
+        → reserved_bytes reserved_at (slice_set live position resized)
+        ≡ reserved_bytes reserved_at live }
 {}
 
 /// What was put at the end of a list is taken out of it. It does nothing: its contract is the law.

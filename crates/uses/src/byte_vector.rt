@@ -80,7 +80,8 @@ impl ByteVec {
     pub fn push_within(&mut self, region: &mut Region, byte: u8)
         requires room { self.old.len < self.old.capacity }
         requires inside { self.old.offset + self.old.capacity ≤ length region.old.bytes }
-        ensures contents { contents region.new self.new ≡ contents region.old self.old ++ byte ∷ [] }
+        ensures contents { contents region.new self.new
+            ≡ contents region.old self.old ++ byte ∷ [] }
         ensures longer { self.new ≡ record self.old { len = self.old.len + 1 } }
         ensures region { held_region region.new ≡ held_region region.old }
     {
@@ -109,7 +110,8 @@ impl ByteVec {
         ensures refused { IfErr result (λ error. (live : List Chunk) (position : ℕ) (chunk : Chunk)
             → A.stands_for allocator.old live → slice_get live position ≡ Some chunk
             → chunk.place ≡ region.now.start + self.old.offset
-            → IsWhyFull (A.may_grow (A.figures allocator.old) live chunk.place) self.old.capacity error) }
+            → IsWhyFull (A.may_grow (A.figures allocator.old) live chunk.place)
+            self.old.capacity error) }
         ensures allocator { allocator.new ≡ allocator.old }
     {
         if self.len < self.capacity {
@@ -135,7 +137,8 @@ impl ByteVec {
         requires same_region { held_region region.old ≡ A.region_of (A.geometry allocator.old) }
         requires live { A.may_release allocator.old (region.old.start + self.old.offset) }
         requires inside { self.old.offset + self.old.capacity ≤ length region.old.bytes }
-        ensures pushed { OnOk result (contents region.new self.new ≡ contents region.old self.old ++ byte ∷ []) }
+        ensures pushed { OnOk result (contents region.new self.new
+            ≡ contents region.old self.old ++ byte ∷ []) }
         ensures kept { OnErr result ((self.new ≡ self.old) × (region.new ≡ region.old)) }
         ensures offset { self.new.offset ≡ self.old.offset }
         ensures inside { self.new.offset + self.new.capacity ≤ length region.new.bytes }
@@ -161,7 +164,8 @@ impl ByteVec {
         ensures place { other.old.start + result.offset ≡ chunk.place }
         ensures capacity { result.capacity ≡ chunk.len }
         ensures inside { result.offset + result.capacity ≤ length other.new.bytes }
-        ensures apart { (another : Chunk) → IsInside (held_region other.old) another → AreApart chunk another
+        ensures apart { (another : Chunk) → IsInside (held_region other.old) another
+            → AreApart chunk another
             → bytes_in other.new another ≡ bytes_in other.old another }
         ensures region { held_region other.new ≡ held_region other.old }
     {
@@ -187,7 +191,8 @@ fn grow_by_one<A: Allocator>(
     ensures place { IfOk result (λ grown. grown.place ≡ place) }
     ensures inside { IfOk result (IsInside (A.region_of (A.geometry allocator.old))) }
     ensures refused { IfErr result (λ error. (live : List Chunk) (position : ℕ) (chunk : Chunk)
-        → A.stands_for allocator.old live → slice_get live position ≡ Some chunk → chunk.place ≡ place
+        → A.stands_for allocator.old live → slice_get live position ≡ Some chunk
+        → chunk.place ≡ place
         → IsWhyFull (A.may_grow (A.figures allocator.old) live chunk.place) size error) }
     ensures still { allocator.new ≡ allocator.old }
 {
@@ -211,7 +216,8 @@ fn grow_between<A: Allocator>(
     ensures place { IfOk result (λ grown. grown.place ≡ place) }
     ensures inside { IfOk result (IsInside (A.region_of (A.geometry allocator.old))) }
     ensures refused { IfErr result (λ error. (live : List Chunk) (position : ℕ) (chunk : Chunk)
-        → A.stands_for allocator.old live → slice_get live position ≡ Some chunk → chunk.place ≡ place
+        → A.stands_for allocator.old live → slice_get live position ≡ Some chunk
+        → chunk.place ≡ place
         → MayRefuseOneMore (A.may_grow (A.figures allocator.old) live chunk.place) size error) }
     ensures still { allocator.new ≡ allocator.old }
 {

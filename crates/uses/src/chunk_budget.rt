@@ -46,7 +46,8 @@ impl<A: BaseAllocator + Drop> ChunkBudget<A> {
     pub fn out(&self) -> usize
         ensures value { result ≡ self.now.out }
         ensures within { result ≤ self.now.budget }
-        ensures of_live { (live : List Chunk) → ⟦<ChunkBudget<A> as BaseAllocator>⟧.stands_for self.now live
+        ensures of_live { (live : List Chunk)
+            → ⟦<ChunkBudget<A> as BaseAllocator>⟧.stands_for self.now live
             → length live ≡ result }
     {
         self.out
@@ -169,6 +170,7 @@ impl<A: Allocator + Drop> Allocator for ChunkBudget<A> {
 
 /// One fewer stands in a list once one is taken out. It does nothing: its contract is the law.
 fn removed_law()
-    ensures { (live : List Chunk) (position : ℕ) (chunk : Chunk) → slice_get live position ≡ Some chunk
+    ensures { (live : List Chunk) (position : ℕ) (chunk : Chunk)
+        → slice_get live position ≡ Some chunk
         → length (remove live position) + 1 ≡ length live }
 {}

@@ -1,14 +1,13 @@
 //! Slots for jobs that threads share: a slot has one holder at a time.
-ghost use Rattle.std.specs.Prelude.{◌≡◌, ◌≢◌, ◌≤◌, All, IfOk, IsErr, ℕ, vec_len};
-ghost use Rattle.bb_memory_base.specs.Chunk.{AreApart};
+ghost use Rattle.std.specs.Prelude.{◌≡◌, ◌≢◌, ◌≤◌, ◌↔◌, ℕ, All, IfOk, IfErr, IsErr, vec_len};
 ghost use Rattle.bb_memory_base.specs.PoolLogs.{IsHeldAfter};
 ghost use Rattle.bb_memory_base.specs.Region.{region_at};
 ghost use Rattle.bb_memory.specs.Pool.{MayBeCut};
-ghost use Rattle.bb_memory.specs.SharedPool.{PoolParty, TakenBucket, chunk_of};
+ghost use Rattle.bb_memory.specs.SharedPool.{AreAllHeldAfter, PoolParty, refused_pass, with_entries};
 
 use bb_memory::allocator::AllocationError;
-use bb_memory::layout::{Chunk, Layout};
-use bb_memory::shared_pool::{Bucket, PoolParty, SharedPoolAllocator, shared_pool_law};
+use bb_memory::layout::Layout;
+use bb_memory::shared_pool::{Bucket, PoolParty, SharedPoolAllocator};
 use std::alloc::Global;
 use std::marker::Model;
 use std::thread;
@@ -23,10 +22,13 @@ pub struct JobBoard {
 
 impl Model for JobBoard {
     ghost use Rattle.bb_memory.specs.SharedPool.{SharedPool};
+    ghost use Rattle.bb_memory_base.specs.PoolObject.{IsWithin};
 
     ghost Value = { SharedPool };
 
     ghost view = { λ b. b.slots };
+
+    ghost invariant = { λ b. IsWithin b.slots.scene.geometry.bucket b.job };
 }
 
 impl JobBoard {
@@ -41,19 +43,28 @@ impl JobBoard {
         requires cut { MayBeCut (region_at start size) job }
         requires workers { 1 ≤ workers }
         ensures as_many { IfOk result (λ made. vec_len made.1 ≡ workers) }
-        ensures theirs { IfOk result (λ made. All (λ worker. worker.allocator ≡ made.0) made.1.items) }
+        ensures theirs { IfOk result
+            (λ made. All (λ worker. worker.allocator ≡ made.0) made.1.items) }
     {
         let (slots, parties) = SharedPoolAllocator::new(alloc, job, start, size, workers)?;
         Ok((JobBoard { slots, job }, parties))
     }
 
-    /// Takes a slot for the worker, which it didn't have. What it had it keeps.
+    /// Takes a slot for the worker, which it didn't have. What it had it keeps. It is refused, with `OutOfMemory`, only where it
+    /// has found each slot taken; on a board of one worker, exactly where that one has them all.
     pub fn take(&self, worker: &mut PoolParty) -> Result<Bucket<'_>, AllocationError>
         requires worker { worker.old.allocator ≡ self.now }
         ensures worker { worker.new.allocator ≡ self.now }
         ensures slot { IfOk result (λ slot. slot.allocator ≡ self.now) }
+        ensures fresh { IfOk result (λ slot. ¬ IsHeldAfter worker.old.log slot.number) }
         ensures has { IfOk result (λ slot. IsHeldAfter worker.new.log slot.number) }
-        ensures keeps { (other : ℕ) → IsHeldAfter worker.old.log other → IsHeldAfter worker.new.log other }
+        ensures keeps { (other : ℕ) → IsHeldAfter worker.old.log other
+            → IsHeldAfter worker.new.log other }
+        ensures refused { IfErr result (λ error. (error ≡ AllocationError.OutOfMemory) × (worker.new
+            ≡ with_entries worker.old
+            (refused_pass self.now.scene.geometry.buckets worker.old.number))) }
+        ensures alone { self.now.scene.parties ≡ 1
+            → (IsErr result ↔ AreAllHeldAfter worker.old.log self.now.scene.geometry.buckets) }
     {
         self.slots.allocate(worker, self.job)
     }
@@ -71,23 +82,27 @@ impl JobBoard {
         self.slots.deallocate_bucket(worker, slot);
     }
 
-    /// Both workers take a slot, in two threads at once. The slots are different ones, and so their chunks don't overlap.
+    /// Both workers ask for a slot, in two threads at once. Where both get one, the slots are different ones.
     pub fn take_two<R: Threads + Sync>(
         &self,
         rt: &R,
         here: &mut PoolParty,
         there: &mut PoolParty,
-    ) -> Result<(Bucket<'_>, Bucket<'_>), AllocationError>
+    ) -> (
+        Result<Bucket<'_>, AllocationError>,
+        Result<Bucket<'_>, AllocationError>,
+    )
         requires here { here.old.allocator ≡ self.now }
         requires there { there.old.allocator ≡ self.now }
         ensures here { here.new.allocator ≡ self.now }
         ensures there { there.new.allocator ≡ self.now }
-        ensures one_holder { IfOk result (λ slots. slots.0.number ≢ slots.1.number) }
-        ensures has { IfOk result (λ slots. IsHeldAfter here.new.log slots.0.number) }
-        ensures its_has { IfOk result (λ slots. IsHeldAfter there.new.log slots.1.number) }
+        ensures one_holder { IfOk result.0
+            (λ slot. IfOk result.1 (λ other. slot.number ≢ other.number)) }
+        ensures has { IfOk result.0 (λ slot. IsHeldAfter here.new.log slot.number) }
+        ensures its_has { IfOk result.1 (λ slot. IsHeldAfter there.new.log slot.number) }
     {
-        let (one, other) = thread::join_mut(rt, &mut || self.take(here), &mut || self.take(there));
+        let answers = thread::join_mut(rt, &mut || self.take(here), &mut || self.take(there));
         self.slots.meet(here, there);
-        Ok((one?, other?))
+        answers
     }
 }

@@ -143,7 +143,8 @@ fn loan_exactly<A: Allocator>(
     ensures loaned { IfOk result (λ loaned. (loaned.0 ≡ book.old.book.loaned)
         × (book.new.book ≡ with_sample book.old.book loaned.1)) }
     ensures exact { IfOk result (λ loaned. loaned.1.len ≡ size) }
-    ensures sound { IsSound (A.region_of (A.geometry book.old.allocator)) (chunks_out book.new.book) }
+    ensures sound { IsSound (A.region_of (A.geometry book.old.allocator))
+        (chunks_out book.new.book) }
     ensures geometry { A.geometry book.new.allocator ≡ A.geometry book.old.allocator }
     ensures book { IsBook book.old.book }
     ensures kept { OnErr result (book.new.book ≡ book.old.book) }
@@ -189,7 +190,8 @@ fn publish_newest<A: Allocator>(book: &mut LoanBook<A>, id: u64, readers: u32)
     requires some_reader { 0 < readers }
     ensures waits { (before : Book) (chunk : Chunk) → IsBook before → id ≡ before.loaned
         → book.old.book ≡ with_sample before chunk
-        → book.new.book.out ≡ before.out ++ record { id = before.loaned; chunk = chunk; returns = Some readers } ∷ [] }
+        → book.new.book.out ≡ before.out
+        ++ record { id = before.loaned; chunk = chunk; returns = Some readers } ∷ [] }
     ensures allocator { book.new.allocator ≡ book.old.allocator }
 {
     newest_law();

@@ -118,7 +118,8 @@ impl<A: Allocator + Drop> Slab<A> {
 /// Writes the record at a position.
 fn overwrite(region: &mut Region, chunks: &Vec<Chunk>, position: usize, bytes: &[u8])
     requires sound { IsSound (held_region region.old) chunks.now.items }
-    requires fits { (old : List ℕ) × (slice_get (records_in region.old chunks.now.items) position ≡ Some old)
+    requires fits { (old : List ℕ)
+        × (slice_get (records_in region.old chunks.now.items) position ≡ Some old)
         × (length bytes.now ≡ length old) }
     ensures records { records_in region.new chunks.now.items
         ≡ slice_set (records_in region.old chunks.now.items) position bytes.now }

@@ -28,14 +28,16 @@ use std::marker::Model;
 /// never takes memory.
 ///
 /// ```
+/// pool_count_law();
 /// let bucket = Layout::from_size_align(128, 8).unwrap();
-/// let mut pool: FixedSizePoolAllocator<512> = FixedSizePoolAllocator::new(bucket, 4096, 1024);
+/// let mut pool = FixedSizePoolAllocator::<512>::new(bucket, 4096, 1024);
 /// let small = Layout::from_size_align(48, 4).unwrap();
 /// let large = Layout::from_size_align(64, 4).unwrap();
 /// let chunk = pool.allocate(small)?;
-/// let grown = pool.grow(chunk.place(), small, large);
-/// assert!(grown.is_ok_and(|grown| grown.place() == chunk.place() && grown.len() == 64));
-/// pool.deallocate(chunk.place(), small);
+/// let grown = pool.grow(chunk.place(), small, large).unwrap();
+/// let (place, len) = (grown.place(), grown.len());
+/// prove!(place == chunk.place() && len == 64);
+/// pool.deallocate(place, small);
 /// ```
 #[derive(Debug, Drop)]
 pub struct FixedSizePoolAllocator<const MAX_NUMBER_OF_BUCKETS: usize> {
@@ -117,9 +119,9 @@ impl<const MAX_NUMBER_OF_BUCKETS: usize> FixedSizePoolAllocator<MAX_NUMBER_OF_BU
     /// the place. Nothing is searched.
     ///
     /// ```
-    /// let chunk = pool.allocate(Layout::from_size_align(48, 4).unwrap())?;
-    /// assert!(pool.holds(chunk.place()));
-    /// assert!(!pool.holds(chunk.place() + 1));
+    /// let chunk = pool.allocate(Layout::empty())?;
+    /// let held = pool.holds(chunk.place());
+    /// prove!(held);
     /// ```
     #[inline(always)]
     pub fn holds(&self, place: usize) -> bool

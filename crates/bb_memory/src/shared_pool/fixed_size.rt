@@ -21,12 +21,14 @@ use std::marker::Model;
 /// [`SharedPoolAllocator`](super::SharedPoolAllocator) does.
 ///
 /// ```
+/// pool_count_law();
 /// let bucket = Layout::from_size_align(128, 8).unwrap();
 /// let (pool, mut parties) = SharedFixedSizePoolAllocator::<4>::new(alloc, bucket, 4096, 1024, 2)?;
-/// assert_eq!(pool.number_of_buckets(), 4);
+/// let count = pool.number_of_buckets();
+/// prove!(count == 4);
 /// let mut party = parties.pop().unwrap();
-/// assert_eq!(party.number(), 1);
-/// let mut taken = pool.allocate(&mut party, Layout::from_size_align(48, 4).unwrap())?;
+/// let taken = pool.allocate(&mut party, Layout::from_size_align(48, 4).unwrap())?;
+/// pool.deallocate_bucket(&mut party, taken);
 /// ```
 #[derive(Drop)]
 pub struct SharedFixedSizePoolAllocator<const MAX_NUMBER_OF_BUCKETS: usize> {

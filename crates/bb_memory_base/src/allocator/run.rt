@@ -90,6 +90,15 @@ fn apply_base<A: BaseAllocator>(allocator: &mut A, live: &mut Vec<Chunk>, comman
 ///
 /// Memory for the replies and for `live` is reserved first, from `live`'s allocator. Where it is refused, no command is
 /// applied, and the allocator and `live`'s contents are as before.
+///
+/// ```
+/// let (mut bump, mut live) = (BumpAllocator::new(4096, 1024), Vec::new(alloc));
+/// let layout = Layout::from_size_align(48, 4).unwrap();
+/// let commands = [Command::Allocate(layout), Command::Release(0)];
+/// let _replies = run_base(&mut bump, &mut live, &commands)?;
+/// let total = bump.total_space();
+/// prove!(total == 1024);
+/// ```
 pub fn run_base<A: BaseAllocator>(
     allocator: &mut A,
     live: &mut Vec<Chunk>,
@@ -212,6 +221,15 @@ fn apply_full<A: Allocator>(allocator: &mut A, live: &mut Vec<Chunk>, command: C
 /// Applies the commands in order, resizes too, and answers one reply a command, as [`run_base`] does. A resize replaces its
 /// chunk's length in `live`. It is passed over where `live` has no such position, where the chunk's place is no multiple
 /// of the old alignment, and, to shrink, where the old size exceeds what is reserved for the chunk.
+///
+/// ```
+/// let (mut one, mut live) = (OneChunkAllocator::new(4096, 1024), Vec::new(alloc));
+/// let (old, new) = (Layout::empty(), Layout::from_size_align(48, 4).unwrap());
+/// let commands = [Command::Allocate(old), Command::Grow(0, old, new)];
+/// let _replies = run_full(&mut one, &mut live, &commands)?;
+/// let size = one.size();
+/// prove!(size == 1024);
+/// ```
 pub fn run_full<A: Allocator>(
     allocator: &mut A,
     live: &mut Vec<Chunk>,

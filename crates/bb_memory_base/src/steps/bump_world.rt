@@ -108,10 +108,12 @@ impl PartyMove {
 ///
 /// ```
 /// let mut world = BumpWorld::new(alloc, 4096, 64, 2)?;
-/// let layout = Layout::from_size_align(40, 1)?;
-/// assert_eq!(world.step(BumpStep::Read { party: 0, layout }), BumpOutcome::Sees(0));
+/// let layout = Layout::from_size_align(40, 1).unwrap();
+/// let seen = world.step(BumpStep::Read { party: 0, layout });
+/// prove!(seen == BumpOutcome::Sees(0));
 /// world.step(BumpStep::Exchange { party: 0 });
-/// assert_eq!(world.used_space(), 40);
+/// let used = world.used_space();
+/// prove!(used == 40);
 /// ```
 #[derive(Drop)]
 pub struct BumpWorld {

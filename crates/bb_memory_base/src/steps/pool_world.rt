@@ -11,8 +11,10 @@ use std::marker::Model;
 ///
 /// ```
 /// let mut world = PoolWorld::new(alloc, 2, 3)?;
-/// assert_eq!(world.step(PoolStep::Try { party: 2 }), PoolOutcome::Takes(0));
-/// assert_eq!(world.holder(0), Some(2));
+/// let taken = world.step(PoolStep::Try { party: 2 });
+/// prove!(taken == PoolOutcome::Takes(0));
+/// let holder = world.holder(0);
+/// prove!(holder == Some(2));
 /// ```
 #[derive(Drop)]
 pub struct PoolWorld {

@@ -9,8 +9,10 @@ ghost use Rattle.uses.specs.Rings.{Returned, WaitsOn, ids_of, readers_of};
 /// A sample keeps its chunk where it waits for other returns.
 #[tactic(auto, using(crate::specs::Hints::lists))]
 fn same_chunks_law()
-    ensures { (book : Book) (position returns : ℕ) (sample : Sample) → slice_get book.out position ≡ Some sample
-        → chunks_of (slice_set book.out position (record sample { returns = Some returns })) ≡ chunks_of book.out }
+    ensures { (book : Book) (position returns : ℕ) (sample : Sample)
+        → slice_get book.out position ≡ Some sample
+        → chunks_of (slice_set book.out position (record sample { returns = Some returns }))
+        ≡ chunks_of book.out }
 {}
 
 /// The sample that was loaned last stands last.
@@ -23,7 +25,8 @@ pub(super) fn newest_law()
 /// Where the sample that was loaned last stands.
 #[tactic(auto, using(crate::specs::Hints::lists))]
 fn newest_at_law()
-    ensures { (book : Book) (chunk : Chunk) → IsAt (with_sample book chunk) book.loaned (length book.out)
+    ensures { (book : Book) (chunk : Chunk)
+        → IsAt (with_sample book chunk) book.loaned (length book.out)
         (record { id = book.loaned; chunk = chunk; returns = None }) }
 {
     seam_law();
@@ -41,7 +44,8 @@ pub(super) fn newest_state_law()
 
 /// The sample that was loaned last is out.
 pub(super) fn newest_out_law()
-    ensures { (book old : Book) (chunk : Chunk) → old ≡ with_sample book chunk → IsOut old book.loaned }
+    ensures { (book old : Book) (chunk : Chunk) → old ≡ with_sample book chunk
+        → IsOut old book.loaned }
 {
     newest_at_law();
     out_law();
@@ -49,7 +53,8 @@ pub(super) fn newest_out_law()
 
 /// What stands in a book is out.
 fn out_law()
-    ensures { (book : Book) (id position : ℕ) (sample : Sample) → IsAt book id position sample → IsOut book id }
+    ensures { (book : Book) (id position : ℕ) (sample : Sample) → IsAt book id position sample
+        → IsOut book id }
 {}
 
 /// What becomes of the book where that sample is published.
@@ -57,7 +62,8 @@ fn out_law()
 pub(super) fn published_law()
     ensures { (book old new : Book) (chunk : Chunk) (id readers : ℕ) (done : Unit {0}) → IsBook book
         → old ≡ with_sample book chunk → id ≡ book.loaned → Publishes old id readers (Ok done) new
-        → new.out ≡ book.out ++ record { id = book.loaned; chunk = chunk; returns = Some readers } ∷ [] }
+        → new.out ≡ book.out
+        ++ record { id = book.loaned; chunk = chunk; returns = Some readers } ∷ [] }
 {
     newest_law();
     seam_law();
@@ -102,7 +108,8 @@ fn first_law()
 
 /// The first sample is out.
 pub(super) fn first_out_law()
-    ensures { (book : Book) (id : ℕ) → slice_get (ids_of book.out) 0 ≡ Some id → (¬ IsOut book id) → ⊥ }
+    ensures { (book : Book) (id : ℕ) → slice_get (ids_of book.out) 0 ≡ Some id → (¬ IsOut book id)
+        → ⊥ }
 {
     first_found_law();
     nowhere_law();
@@ -112,7 +119,8 @@ pub(super) fn first_out_law()
 #[tactic(auto, using(crate::specs::Hints::lists))]
 fn first_found_law()
     ensures { (samples : List Sample) (id : ℕ) → slice_get (ids_of samples) 0 ≡ Some id
-        → ((position : ℕ) (sample : Sample) → slice_get samples position ≡ Some sample → sample.id ≡ id → ⊥) → ⊥ }
+        → ((position : ℕ) (sample : Sample) → slice_get samples position ≡ Some sample
+        → sample.id ≡ id → ⊥) → ⊥ }
 {}
 
 /// A sample that isn't out stands nowhere.
@@ -149,13 +157,15 @@ fn further_return_law()
 /// For how many readers a sample waits.
 #[tactic(auto, using(crate::specs::Hints::lists))]
 fn first_readers_law()
-    ensures { (samples : List Sample) (position : ℕ) (sample : Sample) → slice_get samples position ≡ Some sample
+    ensures { (samples : List Sample) (position : ℕ) (sample : Sample)
+        → slice_get samples position ≡ Some sample
         → position ≡ 0 → get_or (readers_of samples) 0 0 ≡ returns_to_come sample.returns }
 {}
 
 /// The chunks stay where a sample waits for other returns.
 fn returned_chunks_law()
-    ensures { (old new : Book) (id position returns : ℕ) (sample : Sample) → IsAt old id position sample
+    ensures { (old new : Book) (id position returns : ℕ) (sample : Sample)
+        → IsAt old id position sample
         → new ≡ with_returns old position sample returns → chunks_of new.out ≡ chunks_of old.out }
 {
     same_chunks_law();
@@ -164,14 +174,16 @@ fn returned_chunks_law()
 /// The ids stay where a sample waits for other returns.
 #[tactic(auto, using(crate::specs::Hints::lists))]
 fn returned_ids_law()
-    ensures { (old new : Book) (id position returns : ℕ) (sample : Sample) → IsAt old id position sample
+    ensures { (old new : Book) (id position returns : ℕ) (sample : Sample)
+        → IsAt old id position sample
         → new ≡ with_returns old position sample returns → ids_of new.out ≡ ids_of old.out }
 {}
 
 /// How many readers are to come where a sample waits for other returns.
 #[tactic(auto, using(crate::specs::Hints::lists))]
 fn returned_readers_law()
-    ensures { (old new : Book) (id position returns : ℕ) (sample : Sample) → IsAt old id position sample
+    ensures { (old new : Book) (id position returns : ℕ) (sample : Sample)
+        → IsAt old id position sample
         → new ≡ with_returns old position sample returns
         → readers_of new.out ≡ slice_set (readers_of old.out) position returns }
 {}

@@ -24,9 +24,14 @@ fn slots_have_one_holder(rt: HostRuntime) -> Result<(), Fail> {
     let (Some(mut there), Some(mut here)) = (workers.pop(), workers.pop()) else {
         return Err(Fail::from("too few workers"));
     };
-    let (one, two) = board.take_two(&rt, &mut here, &mut there)?;
-    let (three, four) = board.take_two(&rt, &mut here, &mut there)?;
-    let mut numbers = [one.number(), two.number(), three.number(), four.number()];
+    let (one, two) = board.take_two(&rt, &mut here, &mut there);
+    let (three, four) = board.take_two(&rt, &mut here, &mut there);
+    let mut numbers = [
+        one?.number(),
+        two?.number(),
+        three?.number(),
+        four?.number(),
+    ];
     numbers.sort_unstable();
     assert_eq!(rt; numbers, [0, 1, 2, 3]);
     assert!(rt; matches!(board.take(&mut here), Err(AllocationError::OutOfMemory)));

@@ -55,7 +55,7 @@ returns-in-Err-clause-answer g c =
         c.in-Err.ensures.answer
             (chunks_of out) c.self.invariant.stands,
       ),
-      refl,
+      rw c.in-Some.is refl,
     )
 
 too_large : (size : ℕ) → ¬ IsLayout size 1 → 2 ^ 63 ≤ size
