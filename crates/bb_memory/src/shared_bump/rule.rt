@@ -14,10 +14,9 @@ pub(crate) struct Scene {
 impl Model for Scene {
     ghost use Rattle.bb_memory_base.specs.Region.{region_at};
     ghost use Rattle.bb_memory_base.specs.BumpMachine.{BumpScene};
+    ghost use Rattle.bb_memory.specs.SharedBump.{scene_at};
 
     ghost Value = { BumpScene };
-
-    ghost use Rattle.bb_memory.specs.SharedBump.{scene_at};
 
     ghost view = { λ s. scene_at (region_at s.start s.size) s.opening s.parties };
 }
