@@ -1,5 +1,5 @@
 -- A pool world: the pool machine over some buckets.
-use Rattle.std.specs.Prelude.{ℕ, ◌<◌, ◌^◌, List, length, map}
+use Rattle.std.specs.Prelude.{ℕ, ◌<◌, ◌^◌, List, Option, length, map}
 use Rattle.bb_memory_base.specs.PoolMachine.{PoolState, all_free, pool_step, pool_after}
 use Rattle.bb_memory_base.specs.PoolHistory.{pool_history}
 use Rattle.bb_memory_base.specs.declared.steps.pool.PoolStep.{PoolStep}
@@ -8,6 +8,9 @@ use Rattle.bb_memory_base.specs.declared.steps.pool.PoolOutcome.{PoolOutcome}
 -- the machine's state
 abbrev pub PoolWorld : Type 0
 PoolWorld = PoolState
+
+abbrev pub world_of : List (Option ℕ) → List (Option ℕ) → PoolWorld
+world_of holders calls = record { holders = holders; calls = calls }
 
 -- each bucket has a number that a step can name
 abbrev pub IsPoolWorld : PoolWorld → Type 0

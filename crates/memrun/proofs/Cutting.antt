@@ -113,7 +113,12 @@ pub script_lines-push_command : {C : Type 0} (script : Batches C) (ends : List �
     script_lines (cut ends grown) ≡ script_lines script ++ Command command ∷ []
 script_lines-push_command script ends commands grown command order is longer =
     let end : ℕ = last_end 0 ends in
-    rw (longer, ← is, batches_from-append 0 ends commands (command ∷ []) order, drop-append-le end commands (command ∷ []) (last_within 0 ends (length commands) order))
+    rw (
+      longer,
+      ← is,
+      batches_from-append 0 ends commands (command ∷ []) order,
+      drop-append-le end commands (command ∷ []) (last_within 0 ends (length commands) order),
+    )
     (script_lines-command (batches_from 0 ends commands) (drop end commands) command)
 
 -- so is a show
@@ -122,5 +127,13 @@ pub script_lines-push_show : {C : Type 0} (script : Batches C) (ends grown : Lis
     script_lines (cut grown commands) ≡ script_lines script ++ Show ∷ []
 script_lines-push_show script ends grown commands end is at_end longer =
     let start : ℕ = last_end 0 ends in
-    rw (longer, at_end, ← is, batches_from-push 0 ends (length commands) commands, last_end-push 0 ends (length commands), take_rest commands start, drop_all (length commands) commands (le_refl (length commands)))
+    rw (
+      longer,
+      at_end,
+      ← is,
+      batches_from-push 0 ends (length commands) commands,
+      last_end-push 0 ends (length commands),
+      take_rest commands start,
+      drop_all (length commands) commands (le_refl (length commands)),
+    )
     (script_lines-show (batches_from 0 ends commands) (drop start commands))

@@ -82,7 +82,15 @@ pub room_left : (n left start : ℕ) (digits : List ℕ) → n < 2 ^ 64 → left
     → decimal n ≡ decimal left ++ drop start digits → 0 < start
 room_left n left start digits small fits len written =
     let long = length-decimal-le 20 n (omega arith) (omega (arith, small)) small in
-    omega (arith, long, ap length written, length-append (decimal left) (drop start digits), length-drop start digits, len, decimal_nonempty left fits)
+    omega (
+      arith,
+      long,
+      ap length written,
+      length-append (decimal left) (drop start digits),
+      length-drop start digits,
+      len,
+      decimal_nonempty left fits,
+    )
 
 pub room_for_two : (n left start : ℕ) (digits : List ℕ) → n < 2 ^ 64 → left < 2 ^ 64 → 9 < left → length digits ≡ 20
     → decimal n ≡ decimal left ++ drop start digits → 1 < start

@@ -14,7 +14,11 @@ texts-more : (holders : List (Option ℕ)) (i : ℕ) → i < length holders
     → flat_map holder_text (take (i + 1) holders) ≡ flat_map holder_text (take i holders) ++ holder_text
     (unwrap_or (slice_get holders i) None)
 texts-more holders i below =
-    rw (take_more holders i None below, flat_map-append holder_text (take i holders) (get_or holders i None ∷ []), unwrap_or-slice_get holders i None)
+    rw (
+      take_more holders i None below,
+      flat_map-append holder_text (take i holders) (get_or holders i None ∷ []),
+      unwrap_or-slice_get holders i None,
+    )
     (ap (λ t. flat_map holder_text (take i holders) ++ t) (append-nil (holder_text (get_or holders i None))))
 
 -- the holders so far are written, and then one more

@@ -45,7 +45,8 @@ script_opened first rest (suc n) one (opening, after, opens, read) =
 pub unreadable_first : (table : List Kind) (first : List ℕ) (rest : List (List ℕ))
     → (SomeOf table (IsOpenedBy (first ∷ rest)) → ⊥) → IsUnreadableAt table (first ∷ rest) 1
 unreadable_first table first rest none =
-    (inl refl, λ readable. none (some-map table (IsScriptOf (take 1 (first ∷ rest))) (IsOpenedBy (first ∷ rest)) (script_opened first rest 1) readable))
+    let opened = some-map table (IsScriptOf (take 1 (first ∷ rest))) (IsOpenedBy (first ∷ rest)) (script_opened first rest 1) in
+    (inl refl, λ readable. none (opened readable))
 
 -- where there is no line it is the first too
 pub unreadable_empty : (table : List Kind) → IsUnreadableAt table [] 1

@@ -62,8 +62,11 @@ pub begun_part : {S O C R : Type 0} (rules : Rules S O C R) (start end : S) (scr
     (old mid new : Option (List ℕ)) (whole front part rest : List ℕ) →
     whole ≡ front ++ (part ++ rest) → IsSoFar rules start script whole end → Appends old mid front → AppendsPart mid new part →
     (sent : List ℕ) × IsBegun rules start script sent × Appends old new sent
-begun_part rules start end script old mid new whole front part rest same so_far before (sent, begins, wrote) =
-    (front ++ sent, (whole, end, rw same (begins_after front sent part rest begins), so_far), appends_again old mid new front sent before wrote)
+begun_part rules start end script old mid new whole front part rest same so_far before (sent, begins, wrote) = (
+  front ++ sent,
+  (whole, end, rw same (begins_after front sent part rest begins), so_far),
+  appends_again old mid new front sent before wrote,
+)
 
 -- what is sent and is all of it begins it
 pub begun_all : {S O C R : Type 0} (rules : Rules S O C R) (start end : S) (script : Batches C)

@@ -24,13 +24,13 @@ pub struct PoolWorld {
 }
 
 impl Model for PoolWorld {
-    ghost use Rattle.bb_memory_base.specs.PoolWorld.{PoolWorld, IsPoolWorld};
+    ghost use Rattle.bb_memory_base.specs.PoolWorld.{PoolWorld, IsPoolWorld, world_of};
 
     ghost Value = { PoolWorld };
 
-    ghost view = { λ w. record { holders = w.holders.items; calls = w.calls.items } };
+    ghost view = { λ w. world_of w.holders.items w.calls.items };
 
-    ghost invariant = { λ w. IsPoolWorld (record { holders = w.holders.items; calls = w.calls.items }) };
+    ghost invariant = { λ w. IsPoolWorld (world_of w.holders.items w.calls.items) };
 }
 
 impl PoolWorld {

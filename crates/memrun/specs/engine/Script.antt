@@ -41,12 +41,6 @@ script_lines script = flat_map shown_lines script.shown ++ map Command script.la
 abbrev pub IsTextOf : {A : Type 0} → (A → Type 0) → (A → List ℕ) → List ℕ → Type 0
 IsTextOf {A} IsAllowed text_of text = (value : A) × IsAllowed value × (text ≡ text_of value)
 
--- these lines write the script, each as it may be
-abbrev pub WritesScript : {C : Type 0} → (Line C → Type 0) → (Line C → List ℕ)
-    → List (List ℕ) → Batches C → Type 0
-WritesScript IsAllowed text_of lines script =
-    All IsAllowed (script_lines script) × (lines ≡ map text_of (script_lines script))
-
 -- the line at this index, counted from 0, is the first that is not readable
 abbrev pub IsFirstUnreadable : (List ℕ → Type 0) → List (List ℕ) → ℕ → Type 0
 IsFirstUnreadable IsReadable lines index =

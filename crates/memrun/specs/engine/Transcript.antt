@@ -1,11 +1,20 @@
 -- What a run writes.
-use Rattle.std.specs.Prelude.{ℕ, ◌≡◌, ◌+◌, ◌⊎◌, List, [], ◌∷◌, ◌++◌, codes, take}
+use Rattle.std.specs.Prelude.{ℕ, ◌≡◌, ◌+◌, ◌⊎◌, List, [], ◌∷◌, ◌++◌, All, codes, map, take}
 use Rattle.std.specs.Fmt.{decimal}
 use Rattle.std.specs.List.{flat_map}
 use Rattle.memrun.specs.engine.Script.{Batches}
 use Rattle.memrun.specs.engine.Sending.{Begins}
 use Rattle.memrun.specs.engine.Rules.{Rules, IsLine, line_text}
-use Rattle.memrun.specs.engine.Script.{IsTextOf, WritesScript, IsFirstUnreadable}
+use Rattle.memrun.specs.engine.Script.{IsTextOf, IsFirstUnreadable, script_lines}
+
+-- the line may stand behind the first
+abbrev pub IsLineText : {S O C R : Type 0} → Rules S O C R → List ℕ → Type 0
+IsLineText rules line = IsTextOf (IsLine rules) (line_text rules) line
+
+-- these lines behind the first write the script, each as it may be
+abbrev pub AreScript : {S O C R : Type 0} → Rules S O C R → List (List ℕ) → Batches C → Type 0
+AreScript rules lines script =
+    All (IsLine rules) (script_lines script) × (lines ≡ map (line_text rules) (script_lines script))
 
 -- Each batch is a run from where the one before ended; after its replies the state is written.
 abbrev pub IsTold : {S O C R : Type 0} → Rules S O C R → S → List (List C) → List ℕ → S → Type 0
@@ -36,20 +45,15 @@ IsBegun {S} rules old script sent =
 -- these lines are a script, and the text is what it is answered where it opens so
 abbrev pub IsTranscript : {S O C R : Type 0} → Rules S O C R → O → List (List ℕ) → List ℕ → Type 0
 IsTranscript {S} {O} {C} {R} rules opening lines text =
-    (script : Batches C) × (first : S) × (last : S)
-    × WritesScript (IsLine rules) (line_text rules) lines script
+    (script : Batches C) × (first : S) × (last : S) × AreScript rules lines script
     × rules.opens opening first × IsPlayed rules first script text last
 
 -- these lines are a script, and the bytes begin what it is answered
 abbrev pub IsBegunTranscript : {S O C R : Type 0} → Rules S O C R → O
     → List (List ℕ) → List ℕ → Type 0
 IsBegunTranscript {S} {O} {C} {R} rules opening lines sent =
-    (script : Batches C) × (first : S) × WritesScript (IsLine rules) (line_text rules) lines script
+    (script : Batches C) × (first : S) × AreScript rules lines script
     × rules.opens opening first × IsBegun rules first script sent
-
--- the line may stand behind the first
-abbrev pub IsLineText : {S O C R : Type 0} → Rules S O C R → List ℕ → Type 0
-IsLineText rules line = IsTextOf (IsLine rules) (line_text rules) line
 
 -- behind a readable first line, the first that is unreadable has this number
 abbrev pub IsLaterUnreadable : {S O C R : Type 0} → Rules S O C R → List (List ℕ) → ℕ → Type 0

@@ -3,7 +3,8 @@ ghost use Rattle.std.specs.Prelude.{◌≡◌, ◌==◌, ◌<◌, ◌∷◌, [],
 ghost use Rattle.std.specs.List.{position};
 ghost use Rattle.memrun.specs.engine.Lines.{lines_of, AreLines};
 ghost use Rattle.memrun.specs.engine.Rules.{IsLine, line_text};
-ghost use Rattle.memrun.specs.engine.Script.{WritesScript, IsFirstUnreadable, IsTextOf};
+ghost use Rattle.memrun.specs.engine.Script.{IsFirstUnreadable};
+ghost use Rattle.memrun.specs.engine.Transcript.{AreScript, IsLineText};
 
 use crate::engine::driven::Driven;
 use crate::engine::script::{Line, Script};
@@ -15,10 +16,9 @@ pub fn read_script<K: Driven>(
     input: &[u8],
 ) -> Result<Result<Script<K::Command>, usize>, AllocError>
     ensures read { IfOk result (λ outcome. IfOk outcome (λ script.
-        WritesScript (IsLine K.rules) (line_text K.rules) (lines_of input.now) script)) }
+        AreScript K.rules (lines_of input.now) script)) }
     ensures unreadable { IfOk result (λ outcome. IfErr outcome (λ index.
-        IsFirstUnreadable (IsTextOf (IsLine K.rules) (line_text K.rules))
-        (lines_of input.now) index)) }
+        IsFirstUnreadable (IsLineText K.rules) (lines_of input.now) index)) }
     ensures within { IfOk result (λ outcome. IfErr outcome (λ index. index < length input.now)) }
 {
     let mut script = Script::new(alloc);
@@ -39,8 +39,7 @@ pub fn read_script<K: Driven>(
 fn read_line<K: Driven>(text: &[u8]) -> Option<Line<K::Command>>
     ensures written { IfSome result (λ line. IsLine K.rules line
         × (text.now ≡ line_text K.rules line)) }
-    ensures unreadable { IfNone result
-        (¬ IsTextOf (IsLine K.rules) (line_text K.rules) text.now) }
+    ensures unreadable { IfNone result (¬ IsLineText K.rules text.now) }
 {
     if let Some(command) = K::read(text) {
         return Some(Line::Command(command));

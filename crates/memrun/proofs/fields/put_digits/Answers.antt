@@ -19,7 +19,10 @@ loop-left-preserved c =
       len = length-set l.digits (l.start - 1) _ ∙ i.len;
       within = omega (arith, i.within);
       fits = omega (arith, i.fits);
-      written = put_more c.args.number l.left l.start (l.start - 1) l.digits i.fits (omega (arith, c.loop-left-test.true)) (omega (arith, room))
+      written = put_more c.args.number l.left l.start (l.start - 1) l.digits i.fits (omega (
+        arith,
+        c.loop-left-test.true,
+      )) (omega (arith, room))
           (omega (arith, i.within, i.len, room)) i.written;
     }
 

@@ -22,7 +22,13 @@ loop-byte-preserved c =
     let below : i < length digits = omega arith in
     record {
       digits = digits_more 10 digits i below c.loop-byte.invariant.digits (search (arith, c.in_ok-digit.ensures));
-      value = omega (arith, c.in_ok-value.ensures, c.in_ok-digit.ensures, c.loop-byte.invariant.value, digits_value_more 10 digits i below);
+      value = omega (
+        arith,
+        c.in_ok-value.ensures,
+        c.in_ok-digit.ensures,
+        c.loop-byte.invariant.value,
+        digits_value_more 10 digits i below,
+      );
       fits = omega (arith, c.in_ok-value.ensures);
     }
 

@@ -26,8 +26,12 @@ returns-in-Some-run-clause-cut_short g c = rw c.in-Some.ensures.cut c.in-Some-ru
 
 pub returns-in-None-clause-unreadable : goal.returns-in-None-clause-unreadable
 returns-in-None-clause-unreadable g c e =
-    let is_unreadable = unreadable_first kinds c.in-Some.first.now (lines_of c.in-Some.rest.now) c.in-None.ensures.none in
-    (1, rw c.in-Some.ensures.cut is_unreadable, rw c.in-None.ensures.untouched at (c.tell_unreadable-in-None.ensures.unreadable e))
+    let is_unreadable = unreadable_first kinds c.in-Some.first.now (lines_of c.in-Some.rest.now) c.in-None.ensures.none in (
+      1,
+      rw c.in-Some.ensures.cut is_unreadable,
+      rw c.in-None.ensures.untouched at
+          (c.tell_unreadable-in-None.ensures.unreadable e),
+    )
 
 pub returns-in-None-clause-cut_short : goal.returns-in-None-clause-cut_short
 returns-in-None-clause-cut_short g c short =

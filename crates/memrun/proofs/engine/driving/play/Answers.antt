@@ -87,7 +87,8 @@ returns-in_err-tell-2-clause-err g c =
     let all = played rules c.args.driven.now c.loop-index.driven c.run-2.new.self script i text replies past told run in
     let part = rw c.deref-2.ensures.value at c.in_err-tell-2.ensures in
     on_err c.from_residual-in_err-tell-2.result
-    (begun_part rules c.args.driven.now c.run-2.new.self script _ _ _ (text ++ more) text more [] (sym (ap (λ l. text ++ l) (append-nil more))) (inr all) wrote part)
+    (begun_part rules c.args.driven.now c.run-2.new.self script _ _ _ (text ++ more) text more []
+    (sym (ap (λ l. text ++ l) (append-nil more))) (inr all) wrote part)
 
 pub returns-clause-ok : goal.returns-clause-ok
 returns-clause-ok g c =

@@ -30,4 +30,5 @@ returns-in_err-send g c =
     let p = err_from_is_err_and c.from_residual-in_err-send.result c.from_residual-in_err-send.ensures.1 in
     let part = rw (c.deref.ensures.value, c.in_ok-reply_line.ensures) at c.in_err-send.ensures in
     rw (p.1, flat_map-at rules.reply_text replies i reply below c.reply-item.is)
-    (part_after _ _ _ front (rules.reply_text reply) (flat_map rules.reply_text (drop (i + 1) replies)) c.loop-reply.invariant part)
+    (part_after _ _ _ front (rules.reply_text reply) (flat_map rules.reply_text (drop (i + 1) replies))
+    c.loop-reply.invariant part)

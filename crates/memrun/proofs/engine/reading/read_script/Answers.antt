@@ -31,8 +31,10 @@ loop-line-preserved g c =
     let written = c.in-Some-read_line.ensures.written in
     let found = c.loop-line.invariant.read ∙ ap (λ ls. before ++ ls) c.in-Some.ensures.cut in
     record {
-      read = lines_more (line_text rules) lines grown line (lines_of c.args.input.now) (lines_of c.in-Some.rest.now) c.in-Some.line.now found written.1 pushed;
-      allowed = All-same (IsLine rules) grown (lines ++ line ∷ []) pushed (All-push (IsLine rules) lines line c.loop-line.invariant.allowed written.0);
+      read = lines_more (line_text rules) lines grown line (lines_of c.args.input.now) (lines_of c.in-Some.rest.now)
+          c.in-Some.line.now found written.1 pushed;
+      allowed = All-same (IsLine rules) grown (lines ++ line ∷ []) pushed
+          (All-push (IsLine rules) lines line c.loop-line.invariant.allowed written.0);
       counted = omega (arith, c.loop-line.invariant.counted, counted, length_push lines line);
       short = omega (arith, c.loop-line.invariant.short, c.in-Some.ensures.shorter);
     }

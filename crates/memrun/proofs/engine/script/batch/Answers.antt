@@ -16,4 +16,5 @@ part-requires-clause-within g c =
 pub returns : goal.returns
 returns g c =
     slice_get-batches_from 0 c.args.ends.now c.args.commands.now c.args.index c.requires.within
-    ∙ ap Some (ap (λ from. slice_range c.args.commands.now from (slice_index c.args.ends.now c.args.index)) (sym c.start.ensures) ∙ sym c.part.ensures)
+    ∙ ap Some (ap (λ from. slice_range c.args.commands.now from (slice_index c.args.ends.now c.args.index))
+    (sym c.start.ensures) ∙ sym c.part.ensures)

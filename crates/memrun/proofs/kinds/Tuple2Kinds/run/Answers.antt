@@ -11,8 +11,12 @@ returns-in-Some-clause-unreadable g c e =
     let others = g.Others.Kinds.table in
     let apart = and_parts (apart_from (rules.name ++ codes " ") others) (are_apart others) c.requires in
     let (number, is_unreadable, wrote) = c.drive.ensures.unreadable e in
-    let written = c.in-Some.ensures.written in
-    (number, unreadable_here rules others c.in-Some.opening c.args.first.now (lines_of c.args.rest.now) number apart.0 written.0 written.1 is_unreadable, wrote)
+    let written = c.in-Some.ensures.written in (
+      number,
+      unreadable_here rules others c.in-Some.opening c.args.first.now (lines_of c.args.rest.now) number apart.0
+          written.0 written.1 is_unreadable,
+      wrote,
+    )
 
 pub returns-in-Some-clause-cut_short : goal.returns-in-Some-clause-cut_short
 returns-in-Some-clause-cut_short g c short =
@@ -23,8 +27,12 @@ returns-in-Some-clause-cut_short g c short =
     elim (c.drive.ensures.cut_short short) [
       | inl kept ↦ inl kept
       | inr (sent, begun, wrote) ↦
-          inr
-          (sent, begun_here rules others c.in-Some.opening c.args.first.now (lines_of c.args.rest.now) sent apart.0 written.0 written.1 begun, wrote)
+          inr (
+            sent,
+            begun_here rules others c.in-Some.opening c.args.first.now (lines_of c.args.rest.now) sent apart.0
+                written.0 written.1 begun,
+            wrote,
+          )
     ]
 
 pub returns-in-None-clause-unreadable : goal.returns-in-None-clause-unreadable
@@ -34,8 +42,12 @@ returns-in-None-clause-unreadable g c =
     let none = rw c.in-None.is at c.read_first.ensures.each in
     if_some c.run.result _ _
     (λ status later e.
-    let (number, is_unreadable, wrote) = later e in
-    (number, unreadable_later (kind rules) others c.args.first.now (lines_of c.args.rest.now) number (unopened rules c.args.first.now (lines_of c.args.rest.now) none) is_unreadable, wrote))
+    let (number, is_unreadable, wrote) = later e in (
+      number,
+      unreadable_later (kind rules) others c.args.first.now (lines_of c.args.rest.now) number
+          (unopened rules c.args.first.now (lines_of c.args.rest.now) none) is_unreadable,
+      wrote,
+    ))
     c.run.ensures.unreadable
 
 pub returns-in-None-clause-cut_short : goal.returns-in-None-clause-cut_short
@@ -47,7 +59,11 @@ returns-in-None-clause-cut_short g c =
     (λ status later short. elim (later short) [
       | inl kept ↦ inl kept
       | inr (sent, begun, wrote) ↦
-          inr
-          (sent, begun_later (kind rules) others c.args.first.now (lines_of c.args.rest.now) sent (unopened rules c.args.first.now (lines_of c.args.rest.now) none) begun, wrote)
+          inr (
+            sent,
+            begun_later (kind rules) others c.args.first.now (lines_of c.args.rest.now) sent
+                (unopened rules c.args.first.now (lines_of c.args.rest.now) none) begun,
+            wrote,
+          )
     ])
     c.run.ensures.cut_short

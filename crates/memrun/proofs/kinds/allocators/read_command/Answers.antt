@@ -25,8 +25,11 @@ returns-in_ok-layout-in-alloc-clause-each c command numbers e =
 pub returns-in_ok-layout-in-alloc-clause-written : goal.returns-in_ok-layout-in-alloc-clause-written
 returns-in_ok-layout-in-alloc-clause-written c =
     let is_alloc = same_text c.in_ok-name.name.now (codes "alloc") (omega arith) (search arith) in
-    let (numbers, rest) = c.in_ok-layout-in-alloc.ensures.written in
-    (numbers, c.in_ok-name.ensures.parts ∙ (ap (λ l. l ++ 32 ∷ c.in_ok-name.rest.now) is_alloc ∙ ap (λ l. codes "alloc" ++ 32 ∷ l) rest))
+    let (numbers, rest) = c.in_ok-layout-in-alloc.ensures.written in (
+      numbers,
+      c.in_ok-name.ensures.parts ∙ (ap (λ l. l ++ 32 ∷ c.in_ok-name.rest.now) is_alloc ∙ ap
+          (λ l. codes "alloc" ++ 32 ∷ l) rest),
+    )
 
 pub returns-in_err-number-in-free-clause-each : goal.returns-in_err-number-in-free-clause-each
 returns-in_err-number-in-free-clause-each c command numbers e =
@@ -60,8 +63,11 @@ returns-in_ok-position-in-grow-clause-each c command numbers e =
 pub returns-in_ok-position-in-grow-clause-written : goal.returns-in_ok-position-in-grow-clause-written
 returns-in_ok-position-in-grow-clause-written c =
     let is_grow = same_text c.in_ok-name.name.now (codes "grow") (omega arith) (search arith) in
-    let (numbers, rest) = c.in_ok-position-in-grow.ensures.written in
-    (numbers, c.in_ok-name.ensures.parts ∙ (ap (λ l. l ++ 32 ∷ c.in_ok-name.rest.now) is_grow ∙ ap (λ l. codes "grow" ++ 32 ∷ l) rest))
+    let (numbers, rest) = c.in_ok-position-in-grow.ensures.written in (
+      numbers,
+      c.in_ok-name.ensures.parts ∙ (ap (λ l. l ++ 32 ∷ c.in_ok-name.rest.now) is_grow ∙ ap
+          (λ l. codes "grow" ++ 32 ∷ l) rest),
+    )
 
 pub returns-in_err-position-in-shrink-clause-each : goal.returns-in_err-position-in-shrink-clause-each
 returns-in_err-position-in-shrink-clause-each c command numbers e =
@@ -81,8 +87,11 @@ returns-in_ok-position-in-shrink-clause-each c command numbers e =
 pub returns-in_ok-position-in-shrink-clause-written : goal.returns-in_ok-position-in-shrink-clause-written
 returns-in_ok-position-in-shrink-clause-written c =
     let is_shrink = same_text c.in_ok-name.name.now (codes "shrink") (omega arith) (search arith) in
-    let (numbers, rest) = c.in_ok-position-in-shrink.ensures.written in
-    (numbers, c.in_ok-name.ensures.parts ∙ (ap (λ l. l ++ 32 ∷ c.in_ok-name.rest.now) is_shrink ∙ ap (λ l. codes "shrink" ++ 32 ∷ l) rest))
+    let (numbers, rest) = c.in_ok-position-in-shrink.ensures.written in (
+      numbers,
+      c.in_ok-name.ensures.parts ∙ (ap (λ l. l ++ 32 ∷ c.in_ok-name.rest.now) is_shrink ∙ ap
+          (λ l. codes "shrink" ++ 32 ∷ l) rest),
+    )
 
 pub returns-in_default-clause-each : goal.returns-in_default-clause-each
 returns-in_default-clause-each c command numbers e =
