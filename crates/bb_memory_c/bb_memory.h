@@ -34,20 +34,24 @@ enum {
     BB_DONE = 0,
     BB_SIZE_IS_ZERO = 1,
     BB_SIZE_TOO_LARGE = 2,     // greater than a bucket's size
-    BB_ALIGNMENT_FAILURE = 3,  // greater than a bucket's alignment
+    BB_ALIGNMENT_FAILURE = 3,  // greater than a bucket's alignment; of one chunk that is resized, than the old alignment
     BB_OUT_OF_MEMORY = 4,      // no room left in the region, or `malloc` refused
+    BB_GROW_WOULD_SHRINK = 5,  // the new size isn't greater than the old one
+    BB_SHRINK_WOULD_GROW = 6,  // the new size isn't smaller than the old one
     BB_NOT_A_LAYOUT = 7,       // the alignment is no power of two, or the size rounded up to it is greater than PTRDIFF_MAX
     BB_NOT_MADE = 8,           // the handle is empty, or of another kind
-    BB_NOT_HELD = 9,           // the place isn't that of a held bucket; of a seat, not of a bucket that this seat holds
+    BB_NOT_HELD = 9,           // no chunk that is out begins at the place; of a seat, no bucket that this seat holds
     BB_ALREADY_MADE = 10,      // the handle isn't empty
     BB_CANNOT_MAKE = 11,       // the region, the buckets or the parties can't be; each maker says when
     BB_NO_SEAT = 12,           // each party has a seat already
+    BB_NOT_THE_OLD = 13,       // the place isn't a multiple of the old alignment, or more bytes are to be shrunk than reserved
 };
 
 #define BB_EMPTY {0, false}
 
 // Handles. `at` and `made` are not for the host.
 typedef struct { void *at; bool made; } bb_bump;
+typedef struct { void *at; bool made; } bb_one_chunk;
 typedef struct { void *at; bool made; } bb_pool;
 typedef struct { void *at; bool made; } bb_fixed_pool;
 typedef struct { void *at; bool made; } bb_shared_bump;
@@ -79,6 +83,35 @@ bb_figure bb_bump_free_space(bb_bump *);
 bb_figure bb_bump_total_space(bb_bump *);
 bb_figure bb_bump_start_address(bb_bump *);
 
+// A resize names a chunk that is out by its place, its old layout and its new one. It is tested in this order: BB_NOT_MADE;
+// BB_NOT_A_LAYOUT, of either; BB_NOT_HELD; BB_NOT_THE_OLD; then the causes that its function tells. The chunk keeps its place,
+// and the allocator stays as it was.
+
+// One chunk gives all of its region, from the first multiple of the asked alignment on, to one request at a time.
+
+// BB_CANNOT_MAKE as of `bb_bump_make`.
+uint32_t bb_one_chunk_make(bb_one_chunk *, size_t start, size_t size);
+// A chunk of at least `size` bytes, up to the region's end. BB_OUT_OF_MEMORY where one is out, where none of the region is
+// left behind the first multiple of `align`, or less than `size` bytes are.
+bb_answer bb_one_chunk_allocate(bb_one_chunk *, size_t size, size_t align);
+// Gives back the chunk at this place; BB_NOT_HELD where none that is out begins there.
+uint32_t bb_one_chunk_deallocate(bb_one_chunk *, size_t place);
+// The chunk gets all that is reserved for it. BB_GROW_WOULD_SHRINK, then BB_ALIGNMENT_FAILURE where the new alignment is
+// greater than the old one, then BB_OUT_OF_MEMORY where less than the new size is reserved.
+bb_answer bb_one_chunk_grow(bb_one_chunk *, size_t place, size_t old_size, size_t old_align, size_t new_size,
+                            size_t new_align);
+// The chunk gets exactly the new size. BB_SHRINK_WOULD_GROW, then BB_ALIGNMENT_FAILURE as above.
+bb_answer bb_one_chunk_shrink(bb_one_chunk *, size_t place, size_t old_size, size_t old_align, size_t new_size,
+                              size_t new_align);
+// How many bytes are reserved for the chunk at this place, or BB_NOT_HELD: all of the region from it on.
+bb_figure bb_one_chunk_reserved(bb_one_chunk *, size_t place);
+// 1 where this is the place of the chunk that is out, else 0.
+bb_figure bb_one_chunk_holds(bb_one_chunk *, size_t place);
+// 1 where no chunk is out, else 0.
+bb_figure bb_one_chunk_has_chunk_available(bb_one_chunk *);
+bb_figure bb_one_chunk_start_address(bb_one_chunk *);
+bb_figure bb_one_chunk_size(bb_one_chunk *);
+
 // A pool cuts its region into buckets of one layout, and gives a bucket for each request.
 
 // BB_CANNOT_MAKE where the start is 0, start plus size or the start rounded up to the alignment exceeds SIZE_MAX, the
@@ -91,6 +124,15 @@ bb_answer bb_pool_allocate(bb_pool *, size_t size, size_t align);
 uint32_t bb_pool_deallocate(bb_pool *, size_t place);
 // 1 where this is the place of a held bucket, else 0.
 bb_figure bb_pool_holds(bb_pool *, size_t place);
+// The chunk gets the new size, in its bucket. BB_GROW_WOULD_SHRINK, then BB_ALIGNMENT_FAILURE where the new alignment is
+// greater than the bucket's, then BB_OUT_OF_MEMORY where the new size is greater than the bucket's.
+bb_answer bb_pool_grow(bb_pool *, size_t place, size_t old_size, size_t old_align, size_t new_size,
+                       size_t new_align);
+// The chunk gets exactly the new size. BB_SHRINK_WOULD_GROW, then BB_ALIGNMENT_FAILURE as above.
+bb_answer bb_pool_shrink(bb_pool *, size_t place, size_t old_size, size_t old_align, size_t new_size,
+                         size_t new_align);
+// The bucket's size, which is reserved for a chunk at this place, or BB_NOT_HELD.
+bb_figure bb_pool_reserved(bb_pool *, size_t place);
 bb_figure bb_pool_number_of_buckets(bb_pool *);
 bb_figure bb_pool_bucket_size(bb_pool *);
 bb_figure bb_pool_max_alignment(bb_pool *);
@@ -102,6 +144,11 @@ uint32_t bb_fixed_pool_make(bb_fixed_pool *, size_t bucket_size, size_t bucket_a
 bb_answer bb_fixed_pool_allocate(bb_fixed_pool *, size_t size, size_t align);
 uint32_t bb_fixed_pool_deallocate(bb_fixed_pool *, size_t place);
 bb_figure bb_fixed_pool_holds(bb_fixed_pool *, size_t place);
+bb_answer bb_fixed_pool_grow(bb_fixed_pool *, size_t place, size_t old_size, size_t old_align, size_t new_size,
+                             size_t new_align);
+bb_answer bb_fixed_pool_shrink(bb_fixed_pool *, size_t place, size_t old_size, size_t old_align, size_t new_size,
+                               size_t new_align);
+bb_figure bb_fixed_pool_reserved(bb_fixed_pool *, size_t place);
 bb_figure bb_fixed_pool_number_of_buckets(bb_fixed_pool *);
 bb_figure bb_fixed_pool_bucket_size(bb_fixed_pool *);
 bb_figure bb_fixed_pool_max_alignment(bb_fixed_pool *);

@@ -55,7 +55,8 @@ fn give(bump: &mut BumpAllocator, layout: Layout) -> Answer
 
 /// What the bump answers to a request for so many bytes at a multiple of `align`.
 fn request(bump: &mut BumpAllocator, size: usize, align: usize) -> Answer
-    ensures answer { (layout : Asked) → IsOf size align layout → Tells bump.old layout result bump.new }
+    ensures answer { (layout : Asked) → IsOf size align layout
+        → Tells bump.old layout result bump.new }
     ensures not_a_layout { ¬ IsLayout size align
         → (result ≡ refused not_a_layout) × (bump.new ≡ bump.old) }
 {
@@ -142,7 +143,8 @@ pub extern "C" fn bb_bump_used_space(alloc: Global, handle: &mut Handle) -> Figu
 /// C guarantees of the handle what the crate's page says.
 #[unsafe(no_mangle)]
 pub extern "C" fn bb_bump_free_space(alloc: Global, handle: &mut Handle) -> Figure
-    ensures value { (bump : Bump) → IsBump handle.old.value bump → result ≡ figure_of (bump.region.size - bump.used) }
+    ensures value { (bump : Bump) → IsBump handle.old.value bump
+        → result ≡ figure_of (bump.region.size - bump.used) }
     ensures not_made { IsNoBump handle.old.value → result ≡ no_figure not_made }
     ensures kept { handle.new.value ≡ handle.old.value }
 {
@@ -162,7 +164,8 @@ pub extern "C" fn bb_bump_free_space(alloc: Global, handle: &mut Handle) -> Figu
 /// C guarantees of the handle what the crate's page says.
 #[unsafe(no_mangle)]
 pub extern "C" fn bb_bump_total_space(alloc: Global, handle: &mut Handle) -> Figure
-    ensures value { (bump : Bump) → IsBump handle.old.value bump → result ≡ figure_of bump.region.size }
+    ensures value { (bump : Bump) → IsBump handle.old.value bump
+        → result ≡ figure_of bump.region.size }
     ensures not_made { IsNoBump handle.old.value → result ≡ no_figure not_made }
     ensures kept { handle.new.value ≡ handle.old.value }
 {
@@ -182,7 +185,8 @@ pub extern "C" fn bb_bump_total_space(alloc: Global, handle: &mut Handle) -> Fig
 /// C guarantees of the handle what the crate's page says.
 #[unsafe(no_mangle)]
 pub extern "C" fn bb_bump_start_address(alloc: Global, handle: &mut Handle) -> Figure
-    ensures value { (bump : Bump) → IsBump handle.old.value bump → result ≡ figure_of bump.region.start }
+    ensures value { (bump : Bump) → IsBump handle.old.value bump
+        → result ≡ figure_of bump.region.start }
     ensures not_made { IsNoBump handle.old.value → result ≡ no_figure not_made }
     ensures kept { handle.new.value ≡ handle.old.value }
 {

@@ -174,7 +174,8 @@ pub extern "C" fn bb_fixed_pool_holds(alloc: Global, handle: &mut Handle, place:
 /// C guarantees of the handle what the crate's page says.
 #[unsafe(no_mangle)]
 pub extern "C" fn bb_fixed_pool_number_of_buckets(alloc: Global, handle: &mut Handle) -> Figure
-    ensures value { (pool : Pool) → IsFixedPool handle.old.value pool → result ≡ figure_of pool.geometry.buckets }
+    ensures value { (pool : Pool) → IsFixedPool handle.old.value pool
+        → result ≡ figure_of pool.geometry.buckets }
     ensures not_made { IsNoFixedPool handle.old.value → result ≡ no_figure not_made }
     ensures kept { handle.new.value ≡ handle.old.value }
 {
@@ -194,7 +195,8 @@ pub extern "C" fn bb_fixed_pool_number_of_buckets(alloc: Global, handle: &mut Ha
 /// C guarantees of the handle what the crate's page says.
 #[unsafe(no_mangle)]
 pub extern "C" fn bb_fixed_pool_bucket_size(alloc: Global, handle: &mut Handle) -> Figure
-    ensures value { (pool : Pool) → IsFixedPool handle.old.value pool → result ≡ figure_of pool.geometry.bucket.size }
+    ensures value { (pool : Pool) → IsFixedPool handle.old.value pool
+        → result ≡ figure_of pool.geometry.bucket.size }
     ensures not_made { IsNoFixedPool handle.old.value → result ≡ no_figure not_made }
     ensures kept { handle.new.value ≡ handle.old.value }
 {
@@ -214,7 +216,8 @@ pub extern "C" fn bb_fixed_pool_bucket_size(alloc: Global, handle: &mut Handle) 
 /// C guarantees of the handle what the crate's page says.
 #[unsafe(no_mangle)]
 pub extern "C" fn bb_fixed_pool_max_alignment(alloc: Global, handle: &mut Handle) -> Figure
-    ensures value { (pool : Pool) → IsFixedPool handle.old.value pool → result ≡ figure_of pool.geometry.bucket.align }
+    ensures value { (pool : Pool) → IsFixedPool handle.old.value pool
+        → result ≡ figure_of pool.geometry.bucket.align }
     ensures not_made { IsNoFixedPool handle.old.value → result ≡ no_figure not_made }
     ensures kept { handle.new.value ≡ handle.old.value }
 {
@@ -234,7 +237,8 @@ pub extern "C" fn bb_fixed_pool_max_alignment(alloc: Global, handle: &mut Handle
 /// C guarantees of the handle what the crate's page says.
 #[unsafe(no_mangle)]
 pub extern "C" fn bb_fixed_pool_size(alloc: Global, handle: &mut Handle) -> Figure
-    ensures value { (pool : Pool) → IsFixedPool handle.old.value pool → result ≡ figure_of pool.geometry.region.size }
+    ensures value { (pool : Pool) → IsFixedPool handle.old.value pool
+        → result ≡ figure_of pool.geometry.region.size }
     ensures not_made { IsNoFixedPool handle.old.value → result ≡ no_figure not_made }
     ensures kept { handle.new.value ≡ handle.old.value }
 {

@@ -77,7 +77,8 @@ impl Handle {
     /// What it owned, if it wasn't empty. It is empty then.
     pub(crate) fn take(&mut self, alloc: Global) -> Option<Box<Made>>
         ensures empty { self.new.value ≡ None }
-        ensures value { MatchOption result (self.old.value ≡ None) (λ made. self.old.value ≡ Some made.value) }
+        ensures value { MatchOption result (self.old.value ≡ None)
+            (λ made. self.old.value ≡ Some made.value) }
     {
         let held = mem::replace(self, Handle::empty(alloc));
         match held.into_loose(alloc) {

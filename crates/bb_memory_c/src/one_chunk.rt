@@ -61,7 +61,8 @@ fn give(one: &mut OneChunkAllocator, layout: Layout) -> Answer
 
 /// What the allocator answers to a request for so many bytes at a multiple of `align`.
 fn request(one: &mut OneChunkAllocator, size: usize, align: usize) -> Answer
-    ensures answer { (layout : Asked) → IsOf size align layout → Tells one.old layout result one.new }
+    ensures answer { (layout : Asked) → IsOf size align layout
+        → Tells one.old layout result one.new }
     ensures not_a_layout { ¬ IsLayout size align
         → (result ≡ refused not_a_layout) × (one.new ≡ one.old) }
 {
@@ -83,7 +84,8 @@ pub extern "C" fn bb_one_chunk_allocate(
 ) -> Answer
     ensures answer { (one : OneChunk) (layout : Asked) → IsOneChunk handle.old.value one
         → IsOf size align layout → Gives one layout result handle.new.value }
-    ensures not_a_layout { (one : OneChunk) → IsOneChunk handle.old.value one → ¬ IsLayout size align
+    ensures not_a_layout { (one : OneChunk) → IsOneChunk handle.old.value one
+        → ¬ IsLayout size align
         → (result ≡ refused not_a_layout) × (handle.new.value ≡ handle.old.value) }
     ensures not_made { IsNoOneChunk handle.old.value
         → (result ≡ refused not_made) × (handle.new.value ≡ handle.old.value) }
@@ -337,7 +339,8 @@ pub extern "C" fn bb_one_chunk_shrink(
 
 /// How many bytes are reserved for the chunk at this place, if one is held there.
 fn reserved(one: &OneChunkAllocator, place: usize) -> Figure
-    ensures value { one.now.kept ≡ Some place → result ≡ figure_of (reserved_at one.now.region place) }
+    ensures value { one.now.kept ≡ Some place
+        → result ≡ figure_of (reserved_at one.now.region place) }
     ensures not_held { ¬ (one.now.kept ≡ Some place) → result ≡ no_figure not_held }
 {
     if !one.holds(place) {
@@ -353,7 +356,8 @@ fn reserved(one: &OneChunkAllocator, place: usize) -> Figure
 pub extern "C" fn bb_one_chunk_reserved(alloc: Global, handle: &mut Handle, place: usize) -> Figure
     ensures value { (one : OneChunk) → IsOneChunk handle.old.value one → one.kept ≡ Some place
         → result ≡ figure_of (reserved_at one.region place) }
-    ensures not_held { (one : OneChunk) → IsOneChunk handle.old.value one → ¬ (one.kept ≡ Some place)
+    ensures not_held { (one : OneChunk) → IsOneChunk handle.old.value one
+        → ¬ (one.kept ≡ Some place)
         → result ≡ no_figure not_held }
     ensures not_made { IsNoOneChunk handle.old.value → result ≡ no_figure not_made }
     ensures kept { handle.new.value ≡ handle.old.value }

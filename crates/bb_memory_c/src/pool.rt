@@ -96,7 +96,8 @@ pub extern "C" fn bb_pool_allocate(
 ) -> Answer
     ensures answer { (pool : CountedPool) (layout : Asked) → IsPool handle.old.value pool
         → IsOf size align layout → Gives pool layout result handle.new.value }
-    ensures not_a_layout { (pool : CountedPool) → IsPool handle.old.value pool → ¬ IsLayout size align
+    ensures not_a_layout { (pool : CountedPool) → IsPool handle.old.value pool
+        → ¬ IsLayout size align
         → (result ≡ refused not_a_layout) × (handle.new.value ≡ handle.old.value) }
     ensures not_made { IsNoPool handle.old.value
         → (result ≡ refused not_made) × (handle.new.value ≡ handle.old.value) }
@@ -116,7 +117,8 @@ pub extern "C" fn bb_pool_allocate(
 fn give_back(pool: &mut PoolAllocator<Global>, place: usize) -> u32
     ensures freed { HoldsPlace pool.old.pool place
         → (result ≡ done) × Frees pool.old.pool place pool.new.pool }
-    ensures not_held { ¬ HoldsPlace pool.old.pool place → (result ≡ not_held) × (pool.new ≡ pool.old) }
+    ensures not_held { ¬ HoldsPlace pool.old.pool place
+        → (result ≡ not_held) × (pool.new ≡ pool.old) }
 {
     if !pool.holds(place) {
         return code::NOT_HELD;
@@ -133,7 +135,8 @@ fn give_back(pool: &mut PoolAllocator<Global>, place: usize) -> u32
 pub extern "C" fn bb_pool_deallocate(alloc: Global, handle: &mut Handle, place: usize) -> u32
     ensures freed { (pool : CountedPool) → IsPool handle.old.value pool → HoldsPlace pool.pool place
         → (result ≡ done) × GivesBack pool place handle.new.value }
-    ensures not_held { (pool : CountedPool) → IsPool handle.old.value pool → ¬ HoldsPlace pool.pool place
+    ensures not_held { (pool : CountedPool) → IsPool handle.old.value pool
+        → ¬ HoldsPlace pool.pool place
         → (result ≡ not_held) × (handle.new.value ≡ handle.old.value) }
     ensures not_made { IsNoPool handle.old.value
         → (result ≡ not_made) × (handle.new.value ≡ handle.old.value) }
@@ -156,7 +159,8 @@ pub extern "C" fn bb_pool_deallocate(alloc: Global, handle: &mut Handle, place: 
 pub extern "C" fn bb_pool_holds(alloc: Global, handle: &mut Handle, place: usize) -> Figure
     ensures held { (pool : CountedPool) → IsPool handle.old.value pool → HoldsPlace pool.pool place
         → result ≡ figure_of 1 }
-    ensures not_held { (pool : CountedPool) → IsPool handle.old.value pool → ¬ HoldsPlace pool.pool place
+    ensures not_held { (pool : CountedPool) → IsPool handle.old.value pool
+        → ¬ HoldsPlace pool.pool place
         → result ≡ figure_of 0 }
     ensures not_made { IsNoPool handle.old.value → result ≡ no_figure not_made }
     ensures kept { handle.new.value ≡ handle.old.value }
@@ -177,7 +181,8 @@ pub extern "C" fn bb_pool_holds(alloc: Global, handle: &mut Handle, place: usize
 /// C guarantees of the handle what the crate's page says.
 #[unsafe(no_mangle)]
 pub extern "C" fn bb_pool_number_of_buckets(alloc: Global, handle: &mut Handle) -> Figure
-    ensures value { (pool : CountedPool) → IsPool handle.old.value pool → result ≡ figure_of pool.pool.geometry.buckets }
+    ensures value { (pool : CountedPool) → IsPool handle.old.value pool
+        → result ≡ figure_of pool.pool.geometry.buckets }
     ensures not_made { IsNoPool handle.old.value → result ≡ no_figure not_made }
     ensures kept { handle.new.value ≡ handle.old.value }
 {
@@ -197,7 +202,8 @@ pub extern "C" fn bb_pool_number_of_buckets(alloc: Global, handle: &mut Handle) 
 /// C guarantees of the handle what the crate's page says.
 #[unsafe(no_mangle)]
 pub extern "C" fn bb_pool_bucket_size(alloc: Global, handle: &mut Handle) -> Figure
-    ensures value { (pool : CountedPool) → IsPool handle.old.value pool → result ≡ figure_of pool.pool.geometry.bucket.size }
+    ensures value { (pool : CountedPool) → IsPool handle.old.value pool
+        → result ≡ figure_of pool.pool.geometry.bucket.size }
     ensures not_made { IsNoPool handle.old.value → result ≡ no_figure not_made }
     ensures kept { handle.new.value ≡ handle.old.value }
 {
@@ -217,7 +223,8 @@ pub extern "C" fn bb_pool_bucket_size(alloc: Global, handle: &mut Handle) -> Fig
 /// C guarantees of the handle what the crate's page says.
 #[unsafe(no_mangle)]
 pub extern "C" fn bb_pool_max_alignment(alloc: Global, handle: &mut Handle) -> Figure
-    ensures value { (pool : CountedPool) → IsPool handle.old.value pool → result ≡ figure_of pool.pool.geometry.bucket.align }
+    ensures value { (pool : CountedPool) → IsPool handle.old.value pool
+        → result ≡ figure_of pool.pool.geometry.bucket.align }
     ensures not_made { IsNoPool handle.old.value → result ≡ no_figure not_made }
     ensures kept { handle.new.value ≡ handle.old.value }
 {
@@ -237,7 +244,8 @@ pub extern "C" fn bb_pool_max_alignment(alloc: Global, handle: &mut Handle) -> F
 /// C guarantees of the handle what the crate's page says.
 #[unsafe(no_mangle)]
 pub extern "C" fn bb_pool_size(alloc: Global, handle: &mut Handle) -> Figure
-    ensures value { (pool : CountedPool) → IsPool handle.old.value pool → result ≡ figure_of pool.pool.geometry.region.size }
+    ensures value { (pool : CountedPool) → IsPool handle.old.value pool
+        → result ≡ figure_of pool.pool.geometry.region.size }
     ensures not_made { IsNoPool handle.old.value → result ≡ no_figure not_made }
     ensures kept { handle.new.value ≡ handle.old.value }
 {
@@ -308,7 +316,8 @@ pub extern "C" fn bb_pool_grow(
 ) -> Answer
     ensures answer { (pool : CountedPool) (old new : Asked) → IsPool handle.old.value pool
         → IsOf old_size old_align old → IsOf new_size new_align new
-        → TellsGrow (HoldsPlace pool.pool place) place old (MayGrow pool.pool.geometry.bucket place old new)
+        → TellsGrow (HoldsPlace pool.pool place) place old
+        (MayGrow pool.pool.geometry.bucket place old new)
         result }
     ensures not_a_layout { (pool : CountedPool) → IsPool handle.old.value pool
         → ¬ (IsLayout old_size old_align × IsLayout new_size new_align)
@@ -335,7 +344,8 @@ fn shrink(
     layouts: Option<(Layout, Layout)>,
 ) -> Answer
     ensures answer { (old new : Asked) → layouts ≡ Some (old, new)
-        → TellsShrink (HoldsPlace pool.old.pool place) place (pool.old.pool.geometry.bucket.size) old
+        → TellsShrink (HoldsPlace pool.old.pool place) place (pool.old.pool.geometry.bucket.size)
+        old
         (MayShrink pool.old.pool.geometry.bucket place old new) result }
     ensures not_a_layout { layouts ≡ None → result ≡ refused not_a_layout }
     ensures still { pool.new ≡ pool.old }
@@ -389,7 +399,8 @@ pub extern "C" fn bb_pool_shrink(
 
 /// How many bytes are reserved for the chunk at this place, if one is held there.
 fn reserved(pool: &PoolAllocator<Global>, place: usize) -> Figure
-    ensures value { HoldsPlace pool.now.pool place → result ≡ figure_of (pool.now.pool.geometry.bucket.size) }
+    ensures value { HoldsPlace pool.now.pool place
+        → result ≡ figure_of (pool.now.pool.geometry.bucket.size) }
     ensures not_held { ¬ (HoldsPlace pool.now.pool place) → result ≡ no_figure not_held }
 {
     if !pool.holds(place) {
@@ -405,7 +416,8 @@ fn reserved(pool: &PoolAllocator<Global>, place: usize) -> Figure
 pub extern "C" fn bb_pool_reserved(alloc: Global, handle: &mut Handle, place: usize) -> Figure
     ensures value { (pool : CountedPool) → IsPool handle.old.value pool → HoldsPlace pool.pool place
         → result ≡ figure_of (pool.pool.geometry.bucket.size) }
-    ensures not_held { (pool : CountedPool) → IsPool handle.old.value pool → ¬ (HoldsPlace pool.pool place)
+    ensures not_held { (pool : CountedPool) → IsPool handle.old.value pool
+        → ¬ (HoldsPlace pool.pool place)
         → result ≡ no_figure not_held }
     ensures not_made { IsNoPool handle.old.value → result ≡ no_figure not_made }
     ensures kept { handle.new.value ≡ handle.old.value }

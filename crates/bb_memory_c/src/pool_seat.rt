@@ -1,5 +1,6 @@
 //! The seats at a shared pool: a party each, and which buckets it holds.
-ghost use Rattle.std.specs.Prelude.{◌≡◌, ◌≢◌, ◌+◌, ◌<◌, ◌≤◌, ◌↔◌, ℕ, Some, IfOk, IfErr, IfSome, IfNone, OnErr, Err, length, slice_get, IsTrue, vec_len, vec_capacity};
+ghost use Rattle.std.specs.Prelude.{◌≡◌, ◌≢◌, ◌+◌, ◌<◌, ◌≤◌, ◌↔◌, ℕ, Some, IfOk, IfErr, IfSome, IfNone, OnErr, Err, length};
+ghost use Rattle.std.specs.Prelude.{slice_get, IsTrue, vec_len, vec_capacity};
 ghost use Rattle.std.specs.Arc.{arc_value};
 ghost use Rattle.bb_memory_base.specs.FirstPlace.{first_place};
 ghost use Rattle.bb_memory_base.specs.Region.{region_at};
@@ -141,7 +142,8 @@ impl PoolSeats {
     ) -> Option<PoolSeats>
         requires cut { MayBeCut (region_at start size) bucket }
         requires parties { 1 ≤ parties }
-        ensures pool { IfSome result (λ seats. IsSharedPoolOver (region_at start size) bucket parties seats.pool) }
+        ensures pool { IfSome result (λ seats.
+            IsSharedPoolOver (region_at start size) bucket parties seats.pool) }
         ensures left { IfSome result (λ seats. seats.left ≡ parties) }
     {
         let Ok((pool, parties)) = SharedPoolAllocator::new(alloc, bucket, start, size, parties)

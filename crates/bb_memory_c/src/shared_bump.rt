@@ -8,7 +8,8 @@ ghost use Rattle.bb_memory_c.specs.Answers.{figure_of, no_figure, refused};
 ghost use Rattle.bb_memory_c.specs.Codes.{already_made, cannot_make, done, no_seat, not_a_layout, not_made, out_of_memory};
 ghost use Rattle.bb_memory_c.specs.Layouts.{IsOf};
 ghost use Rattle.bb_memory_c.specs.SharedBumps.{BumpSeats as Seats};
-ghost use Rattle.bb_memory_c.specs.SharedBumpHandles.{AnswersSeat, IsBumpSeat, IsNoBumpSeat, IsNoSharedBump, IsShareable, IsSharedBump, MakesSharedBump, SeatsOne, Tells, TellsFree, TellsUsed};
+ghost use Rattle.bb_memory_c.specs.SharedBumpHandles.{AnswersSeat, IsBumpSeat, IsNoBumpSeat, IsNoSharedBump, IsShareable};
+ghost use Rattle.bb_memory_c.specs.SharedBumpHandles.{IsSharedBump, MakesSharedBump, SeatsOne, Tells, TellsFree, TellsUsed};
 
 use crate::answer::{Answer, Figure};
 use crate::bump_seat::{BumpSeat, BumpSeats};

@@ -6,10 +6,12 @@ ghost use Rattle.bb_memory_base.specs.Region.{region_at};
 ghost use Rattle.bb_memory_base.specs.declared.layout.Layout.{Layout as Asked};
 ghost use Rattle.bb_memory.specs.SharedPool.{PoolParty as Party, fresh_party};
 ghost use Rattle.bb_memory_c.specs.Answers.{figure_of, no_figure, refused};
-ghost use Rattle.bb_memory_c.specs.Codes.{already_made, cannot_make, done, no_seat, not_a_layout, not_held, not_made, out_of_memory};
+ghost use Rattle.bb_memory_c.specs.Codes.{already_made, cannot_make, done, no_seat, not_a_layout, not_held, not_made};
+ghost use Rattle.bb_memory_c.specs.Codes.{out_of_memory};
 ghost use Rattle.bb_memory_c.specs.Layouts.{CannotShare, IsCuttable, IsOf};
 ghost use Rattle.bb_memory_c.specs.SharedPools.{HoldsPlace, PoolSeats as Seats};
-ghost use Rattle.bb_memory_c.specs.SharedPoolHandles.{AnswersSeat, GivesBackSeat, IsNoPoolSeat, IsNoSharedPool, IsPoolSeat, IsSharedPool, MakesSharedPool, SeatsOne, Tells};
+ghost use Rattle.bb_memory_c.specs.SharedPoolHandles.{AnswersSeat, GivesBackSeat, IsNoPoolSeat, IsNoSharedPool, IsPoolSeat};
+ghost use Rattle.bb_memory_c.specs.SharedPoolHandles.{IsSharedPool, MakesSharedPool, SeatsOne, Tells};
 
 use crate::answer::{Answer, Figure};
 use crate::code;

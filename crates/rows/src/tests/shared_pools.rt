@@ -185,6 +185,42 @@ fn one_bucket_for_two_parties(rt: HostRuntime) -> Result<(), Fail> {
     Ok(())
 }
 
+/// A bucket is found again by its place and by its number, and given back.
+#[test]
+fn shared_pool_bucket_by_number(rt: HostRuntime) -> Result<(), Fail> {
+    let asked = Layout::from_size_align(48, 4)?;
+    let bucket = Layout::from_size_align(128, 8)?;
+    let (pool, mut parties) = shared_over(rt.alloc(), bucket, 4097, 300, 1)?;
+    let mut party = parties.pop().unwrap();
+    let places = [4096, 4104, 4105, 4232, 4360];
+    let numbers = places.map(|place| pool.number_at(place));
+    assert_eq!(rt; numbers, [None, Some(0), None, Some(1), None]);
+    let taken = pool.allocate(&mut party, asked)?;
+    let (number, len) = (taken.number(), taken.chunk().len());
+    let again = pool.bucket(&party, number, len);
+    assert_eq!(rt; (again.number(), again.chunk()), (0, Chunk::new(4104, 48).unwrap()));
+    pool.deallocate_bucket(&mut party, again);
+    assert_eq!(rt; pool.allocate(&mut party, asked)?.number(), 0);
+    Ok(())
+}
+
+/// The same of a pool of at most four buckets, of which three have room.
+#[test]
+fn shared_fixed_bucket_by_number(rt: HostRuntime) -> Result<(), Fail> {
+    let asked = Layout::from_size_align(48, 4)?;
+    let bucket = Layout::from_size_align(128, 8)?;
+    let (pool, mut parties) = shared_fixed_over(rt.alloc(), bucket, 4096, 511, 1)?;
+    let mut party = parties.pop().unwrap();
+    assert_eq!(rt; (pool.number_at(4352), pool.number_at(4480)), (Some(2), None));
+    let taken = pool.allocate(&mut party, asked)?;
+    let (number, len) = (taken.number(), taken.chunk().len());
+    let again = pool.bucket(&party, number, len);
+    assert_eq!(rt; again.chunk(), Chunk::new(4096, 48).unwrap());
+    pool.deallocate_bucket(&mut party, again);
+    assert_eq!(rt; pool.allocate(&mut party, asked)?.number(), 0);
+    Ok(())
+}
+
 /// A pool without buckets refuses at once, and its parties can meet.
 #[test]
 fn shared_pool_of_no_bucket(rt: HostRuntime) -> Result<(), Fail> {

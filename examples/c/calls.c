@@ -1,0 +1,187 @@
+// Each call of the allocators with one owner, and each cause of a refusal; and the makers with each request for memory refused in
+// turn: `malloc` is wrapped at the link.
+#include <stdint.h>
+#include <stdio.h>
+#include <stdlib.h>
+
+#include "bb_memory.h"
+
+static size_t to_refuse, requests;
+
+void *__real_malloc(size_t size);
+void *__wrap_malloc(size_t size);
+
+void *__wrap_malloc(size_t size) {
+    requests++;
+    return requests == to_refuse ? NULL : __real_malloc(size);
+}
+
+static void expect_at(int line, int holds) {
+    if (!holds) {
+        fprintf(stderr, "calls: not so: line %d\n", line);
+        exit(1);
+    }
+}
+
+#define EXPECT(holds) expect_at(__LINE__, holds)
+
+static int given(bb_answer answer, size_t place, size_t len) {
+    return answer.code == BB_DONE && answer.place == place && answer.len == len;
+}
+
+static int refused(bb_answer answer, uint32_t code) { return answer.code == code && answer.place == 0 && answer.len == 0; }
+
+static int is(bb_figure figure, size_t number) { return figure.code == BB_DONE && figure.number == number; }
+
+static int has_none(bb_figure figure, uint32_t code) { return figure.code == code && figure.number == 0; }
+
+static void run_bump(void) {
+    bb_bump bump = BB_EMPTY;
+    EXPECT(bb_bump_make(&bump, 0, 8) == BB_CANNOT_MAKE && bb_bump_make(&bump, SIZE_MAX, 1) == BB_CANNOT_MAKE);
+    EXPECT(refused(bb_bump_allocate(&bump, 8, 8), BB_NOT_MADE) && bb_bump_deallocate(&bump) == BB_NOT_MADE);
+    EXPECT(bb_bump_make(&bump, 4096, 1024) == BB_DONE && bb_bump_make(&bump, 4096, 1024) == BB_ALREADY_MADE);
+    EXPECT(given(bb_bump_allocate(&bump, 48, 4), 4096, 48) && given(bb_bump_allocate(&bump, 10, 32), 4160, 10));
+    EXPECT(is(bb_bump_used_space(&bump), 74) && is(bb_bump_free_space(&bump), 950));
+    EXPECT(given(bb_bump_allocate(&bump, 950, 1), 4170, 950) && refused(bb_bump_allocate(&bump, 1, 1), BB_OUT_OF_MEMORY));
+    EXPECT(refused(bb_bump_allocate(&bump, 0, 1), BB_SIZE_IS_ZERO) && refused(bb_bump_allocate(&bump, 1, 3), BB_NOT_A_LAYOUT));
+    EXPECT(bb_bump_deallocate(&bump) == BB_DONE && is(bb_bump_used_space(&bump), 0));
+    EXPECT(is(bb_bump_total_space(&bump), 1024) && is(bb_bump_start_address(&bump), 4096));
+    EXPECT(bb_free(&bump) == BB_DONE && has_none(bb_bump_used_space(&bump), BB_NOT_MADE));
+}
+
+static void run_one_chunk(void) {
+    bb_one_chunk one = BB_EMPTY;
+    EXPECT(bb_one_chunk_make(&one, 0, 8) == BB_CANNOT_MAKE);
+    EXPECT(bb_one_chunk_make(&one, 4097, 1024) == BB_DONE && bb_one_chunk_make(&one, 4097, 1024) == BB_ALREADY_MADE);
+    EXPECT(is(bb_one_chunk_has_chunk_available(&one), 1));
+    EXPECT(is(bb_one_chunk_start_address(&one), 4097) && is(bb_one_chunk_size(&one), 1024));
+    EXPECT(refused(bb_one_chunk_allocate(&one, 1022, 4), BB_OUT_OF_MEMORY));
+    EXPECT(given(bb_one_chunk_allocate(&one, 48, 4), 4100, 1021) && is(bb_one_chunk_has_chunk_available(&one), 0));
+    EXPECT(refused(bb_one_chunk_allocate(&one, 1, 1), BB_OUT_OF_MEMORY));
+    EXPECT(is(bb_one_chunk_holds(&one, 4100), 1) && is(bb_one_chunk_holds(&one, 4101), 0));
+    EXPECT(is(bb_one_chunk_reserved(&one, 4100), 1021) && has_none(bb_one_chunk_reserved(&one, 4101), BB_NOT_HELD));
+    EXPECT(given(bb_one_chunk_shrink(&one, 4100, 64, 4, 32, 4), 4100, 32));
+    EXPECT(given(bb_one_chunk_grow(&one, 4100, 48, 4, 64, 4), 4100, 1021));
+    EXPECT(refused(bb_one_chunk_grow(&one, 4100, 64, 4, 64, 4), BB_GROW_WOULD_SHRINK));
+    EXPECT(refused(bb_one_chunk_grow(&one, 4100, 48, 4, 64, 8), BB_ALIGNMENT_FAILURE));
+    EXPECT(refused(bb_one_chunk_grow(&one, 4100, 48, 4, 1022, 4), BB_OUT_OF_MEMORY));
+    EXPECT(given(bb_one_chunk_grow(&one, 4100, 48, 4, 1021, 4), 4100, 1021));
+    EXPECT(refused(bb_one_chunk_grow(&one, 4100, 48, 16, 64, 16), BB_NOT_THE_OLD));
+    EXPECT(refused(bb_one_chunk_grow(&one, 4104, 48, 4, 64, 4), BB_NOT_HELD));
+    EXPECT(refused(bb_one_chunk_grow(&one, 4100, 48, 3, 64, 4), BB_NOT_A_LAYOUT));
+    EXPECT(refused(bb_one_chunk_shrink(&one, 4100, 48, 4, 32, 3), BB_NOT_A_LAYOUT));
+    EXPECT(refused(bb_one_chunk_shrink(&one, 4100, 32, 4, 32, 4), BB_SHRINK_WOULD_GROW));
+    EXPECT(refused(bb_one_chunk_shrink(&one, 4100, 32, 4, 16, 8), BB_ALIGNMENT_FAILURE));
+    EXPECT(refused(bb_one_chunk_shrink(&one, 4100, 1022, 4, 16, 4), BB_NOT_THE_OLD));
+    EXPECT(bb_one_chunk_deallocate(&one, 4101) == BB_NOT_HELD && bb_one_chunk_deallocate(&one, 4100) == BB_DONE);
+    EXPECT(bb_one_chunk_deallocate(&one, 4100) == BB_NOT_HELD && is(bb_one_chunk_has_chunk_available(&one), 1));
+    EXPECT(bb_free(&one) == BB_DONE && refused(bb_one_chunk_grow(&one, 4100, 48, 4, 64, 4), BB_NOT_MADE));
+}
+
+// Both pools with one owner have the same calls, but for the start.
+#define RUN_POOL(POOL)                                                                                                        \
+    static void run_##POOL(void) {                                                                                            \
+        POOL pool = BB_EMPTY;                                                                                                 \
+        EXPECT(POOL##_make(&pool, 128, 3, 4096, 1024) == BB_NOT_A_LAYOUT);                                                    \
+        EXPECT(POOL##_make(&pool, 128, 8, 0, 1024) == BB_CANNOT_MAKE && POOL##_make(&pool, 0, 8, 4096, 1) == BB_CANNOT_MAKE); \
+        EXPECT(POOL##_make(&pool, 128, 8, 4097, 1024) == BB_DONE);                                                            \
+        EXPECT(POOL##_make(&pool, 128, 8, 4097, 1024) == BB_ALREADY_MADE);                                                    \
+        EXPECT(is(POOL##_number_of_buckets(&pool), 7) && is(POOL##_size(&pool), 1024));                                       \
+        EXPECT(is(POOL##_bucket_size(&pool), 128) && is(POOL##_max_alignment(&pool), 8));                                     \
+        EXPECT(refused(POOL##_allocate(&pool, 129, 16), BB_SIZE_TOO_LARGE));                                                  \
+        EXPECT(refused(POOL##_allocate(&pool, 48, 16), BB_ALIGNMENT_FAILURE));                                                \
+        EXPECT(refused(POOL##_allocate(&pool, 48, 0), BB_NOT_A_LAYOUT));                                                      \
+        size_t places[7];                                                                                                     \
+        for (size_t at = 0; at < 7; at++) {                                                                                   \
+            bb_answer answer = POOL##_allocate(&pool, 48, 4);                                                                 \
+            EXPECT(answer.code == BB_DONE && answer.len == 48 && (answer.place - 4104) % 128 == 0);                           \
+            places[at] = answer.place;                                                                                        \
+        }                                                                                                                     \
+        EXPECT(refused(POOL##_allocate(&pool, 0, 1), BB_OUT_OF_MEMORY));                                                      \
+        size_t place = places[3];                                                                                             \
+        EXPECT(is(POOL##_holds(&pool, place), 1) && is(POOL##_holds(&pool, place + 1), 0));                                   \
+        EXPECT(is(POOL##_reserved(&pool, place), 128) && has_none(POOL##_reserved(&pool, 1), BB_NOT_HELD));                   \
+        EXPECT(given(POOL##_grow(&pool, place, 48, 4, 64, 4), place, 64));                                                    \
+        EXPECT(refused(POOL##_grow(&pool, place, 64, 4, 64, 4), BB_GROW_WOULD_SHRINK));                                       \
+        EXPECT(refused(POOL##_grow(&pool, place, 48, 4, 129, 16), BB_ALIGNMENT_FAILURE));                                     \
+        EXPECT(refused(POOL##_grow(&pool, place, 48, 4, 129, 4), BB_OUT_OF_MEMORY));                                          \
+        EXPECT(refused(POOL##_grow(&pool, place, 48, 4096, 64, 4), BB_NOT_THE_OLD));                                          \
+        EXPECT(refused(POOL##_grow(&pool, place + 4, 48, 4, 64, 4), BB_NOT_HELD));                                            \
+        EXPECT(given(POOL##_shrink(&pool, place, 64, 4, 32, 4), place, 32));                                                  \
+        EXPECT(refused(POOL##_shrink(&pool, place, 32, 4, 32, 4), BB_SHRINK_WOULD_GROW));                                     \
+        EXPECT(refused(POOL##_shrink(&pool, place, 32, 4, 16, 16), BB_ALIGNMENT_FAILURE));                                    \
+        EXPECT(refused(POOL##_shrink(&pool, place, 200, 8, 100, 8), BB_NOT_THE_OLD));                                         \
+        EXPECT(refused(POOL##_shrink(&pool, place, 32, 4, 16, 3), BB_NOT_A_LAYOUT));                                          \
+        EXPECT(POOL##_deallocate(&pool, place + 1) == BB_NOT_HELD && POOL##_deallocate(&pool, place) == BB_DONE);             \
+        EXPECT(POOL##_deallocate(&pool, place) == BB_NOT_HELD);                                                               \
+        EXPECT(given(POOL##_allocate(&pool, 48, 4), place, 48));                                                              \
+        EXPECT(bb_free(&pool) == BB_DONE && POOL##_deallocate(&pool, place) == BB_NOT_MADE);                                  \
+    }
+
+RUN_POOL(bb_pool)
+RUN_POOL(bb_fixed_pool)
+
+// A maker answers BB_OUT_OF_MEMORY with each of its requests refused, and leaves its handle empty. With none refused it makes.
+#define WITH_EACH_REFUSED(HANDLE, MAKE)                                                   \
+    do {                                                                                  \
+        uint32_t told = BB_OUT_OF_MEMORY;                                                 \
+        size_t nth = 0;                                                                   \
+        while (told == BB_OUT_OF_MEMORY) {                                                \
+            EXPECT(++nth < 100);                                                          \
+            requests = 0;                                                                 \
+            to_refuse = nth;                                                              \
+            told = (MAKE);                                                                \
+            to_refuse = 0;                                                                \
+            EXPECT(told == BB_DONE || (told == BB_OUT_OF_MEMORY && requests == nth));     \
+            EXPECT(told == BB_DONE || bb_free(HANDLE) == BB_NOT_MADE);                    \
+        }                                                                                 \
+        EXPECT(told == BB_DONE && requests == nth - 1 && nth > 1);                        \
+    } while (0)
+
+static void run_makers(void) {
+    bb_bump bump = BB_EMPTY;
+    bb_one_chunk one = BB_EMPTY;
+    bb_pool pool = BB_EMPTY;
+    bb_fixed_pool fixed = BB_EMPTY;
+    bb_shared_bump shared_bump = BB_EMPTY;
+    bb_shared_pool shared_pool = BB_EMPTY;
+    WITH_EACH_REFUSED(&bump, bb_bump_make(&bump, 4096, 1024));
+    WITH_EACH_REFUSED(&one, bb_one_chunk_make(&one, 4096, 1024));
+    WITH_EACH_REFUSED(&pool, bb_pool_make(&pool, 128, 8, 4096, 1024));
+    WITH_EACH_REFUSED(&fixed, bb_fixed_pool_make(&fixed, 128, 8, 4096, 1024));
+    WITH_EACH_REFUSED(&shared_bump, bb_shared_bump_make(&shared_bump, 4096, 1024, 2));
+    WITH_EACH_REFUSED(&shared_pool, bb_shared_pool_make(&shared_pool, 128, 8, 4096, 1024, 2));
+    bb_bump_seat bump_seats[2] = {BB_EMPTY, BB_EMPTY};
+    bb_pool_seat pool_seats[2] = {BB_EMPTY, BB_EMPTY};
+    for (size_t at = 0; at < 2; at++) {
+        WITH_EACH_REFUSED(&bump_seats[at], bb_shared_bump_seat(&shared_bump, &bump_seats[at]));
+        WITH_EACH_REFUSED(&pool_seats[at], bb_shared_pool_seat(&shared_pool, &pool_seats[at]));
+        // A refused seat loses no party.
+        EXPECT(is(bb_shared_bump_party(&bump_seats[at]), 1 - at) && is(bb_shared_pool_party(&pool_seats[at]), 1 - at));
+    }
+    bb_bump_seat no_bump_seat = BB_EMPTY;
+    EXPECT(bb_shared_bump_seat(&shared_bump, &no_bump_seat) == BB_NO_SEAT);
+    // No other call takes memory.
+    requests = 0;
+    EXPECT(given(bb_shared_bump_allocate(&bump_seats[0], 40, 1), 4096, 40));
+    EXPECT(is(bb_shared_bump_used_space(&bump_seats[1]), 40) && is(bb_shared_bump_free_space(&bump_seats[1]), 984));
+    EXPECT(given(bb_shared_pool_allocate(&pool_seats[0], 48, 4), 4096, 48));
+    EXPECT(bb_shared_pool_deallocate(&pool_seats[1], 4096) == BB_NOT_HELD);
+    EXPECT(bb_shared_pool_deallocate(&pool_seats[0], 4096) == BB_DONE);
+    EXPECT(bb_pool_allocate(&pool, 48, 4).code == BB_DONE && bb_bump_allocate(&bump, 48, 4).code == BB_DONE);
+    EXPECT(requests == 0);
+    EXPECT(bb_free(&bump) == BB_DONE && bb_free(&one) == BB_DONE && bb_free(&pool) == BB_DONE && bb_free(&fixed) == BB_DONE);
+    EXPECT(bb_free(&shared_bump) == BB_DONE && bb_free(&shared_pool) == BB_DONE);
+    for (size_t at = 0; at < 2; at++)
+        EXPECT(bb_free(&bump_seats[at]) == BB_DONE && bb_free(&pool_seats[at]) == BB_DONE);
+}
+
+int main(void) {
+    run_bump();
+    run_one_chunk();
+    run_bb_pool();
+    run_bb_fixed_pool();
+    run_makers();
+    puts("calls: each is answered as it has to be");
+    return 0;
+}
