@@ -1,4 +1,7 @@
 //! Allocators over a region that is handed in as numbers: a start and a size in bytes.
+//!
+//! The examples in the comments of this crate stand in `crates/uses/src/scripts/examples.rt`, where they are proved; its first
+//! lines have the imports, and the attribute that computes least places.
 #![tactic(auto)]
 
 pub use bb_memory_base::{allocator, layout, region, steps};

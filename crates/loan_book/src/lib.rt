@@ -1,6 +1,9 @@
 //! Samples that are loaned from an allocator and have several readers: a sample goes back to the allocator when the last
 //! of its readers has returned it. The crate stands on the trait [`Allocator`](bb_memory_base::allocator::Allocator)
 //! alone, and names no allocator.
+//!
+//! The examples in the comments of this crate stand in `crates/uses/src/scripts/examples.rt`, where they are proved; its first
+//! lines have the imports, and the attribute that computes least places.
 #![tactic(auto)]
 
 mod book;

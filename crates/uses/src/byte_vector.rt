@@ -235,9 +235,7 @@ fn refused_law<A: Allocator>(allocator: &A)
         → IsOfBytes old size → IsOfBytes new (size + 1)
         → A.may_grow (A.figures allocator.now) live place old new (Err error)
         → MayRefuseOneMore (A.may_grow (A.figures allocator.now) live place) size (Full error) }
-{
-    let _ = allocator;
-}
+{}
 
 /// The layout of so many bytes at any place.
 fn bytes_layout(size: usize) -> Result<Layout, PushError>
