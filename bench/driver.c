@@ -12,7 +12,8 @@ enum { GROUP = 64 };
 typedef enum { ONE, TWO, LAST, OLDEST, RANDOM, REFUSED } pattern;
 
 static const char *const pattern_names[PATTERNS] = {"one", "two", "last", "oldest", "random", "refused"};
-static const char *const pool_names[POOLS] = {"pool on words", "fixed pool", "plain list", "lock-free list", "malloc and free", "loop alone"};
+static const char *const pool_names[POOLS] = {"pool on words",  "fixed pool",      "plain list",
+                                              "lock-free list", "malloc and free", "loop alone"};
 static follow *const pools[POOLS] = {bench_words, bench_fixed, plain_list, lock_free_list, malloc_free, no_pool};
 static const uint32_t sizes[SIZES] = {8, 64, 512, 4096, MOST_BUCKETS};
 static const uint32_t fills[FILLS] = {50, 99, 100};
@@ -124,7 +125,9 @@ static task task_of(uint32_t buckets) { return (task){buckets, 128, 8, 48}; }
 static uint32_t part(uint32_t buckets, uint32_t percent) { return (uint32_t)((uint64_t)buckets * percent / 100); }
 
 // A full pool alone refuses. Where filling it takes far longer than the refusals, nothing can be said of them.
-static int has_row(pattern p, size_t row) { return p != REFUSED || (fills[row % FILLS] == 100 && sizes[row / FILLS] < MOST_BUCKETS); }
+static int has_row(pattern p, size_t row) {
+    return p != REFUSED || (fills[row % FILLS] == 100 && sizes[row / FILLS] < MOST_BUCKETS);
+}
 
 // The nanoseconds for a call, in each round.
 static double spent[PATTERNS][ROWS][POOLS][ROUNDS];

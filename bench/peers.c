@@ -1,5 +1,5 @@
-// The same loops over other allocators, and over none. Each pool tests a request as the pools in Rattle do, and finds the bucket of a
-// place by a division of 32 bits.
+// The same loops over other allocators, and over none. Each pool tests a request as the pools in Rattle do, and finds the bucket
+// of a place by a division of 32 bits.
 #include "pool_bench.h"
 #include <stdatomic.h>
 #include <stdlib.h>

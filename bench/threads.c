@@ -1,5 +1,5 @@
-// A bump and a list of free buckets in C, by several threads at once, as shared_bench times the shared forms. Its arguments are the
-// number of rounds and the number of calls of each thread in a round.
+// A bump and a list of free buckets in C, by several threads at once, as shared_bench times the shared forms. Its arguments are
+// the number of rounds and the number of calls of each thread in a round.
 #include <pthread.h>
 #include <stdatomic.h>
 #include <stdint.h>
