@@ -1,15 +1,20 @@
-// Times the pools and their peers, and prints the tables of docs/benchmarks.md.
+// Times the allocators with one owner and their peers, and prints a line for each figure, which `report` reads.
 #include "pool_bench.h"
 #include <stdio.h>
 #include <stdlib.h>
 #include <string.h>
 #include <time.h>
 
-enum { ROUNDS = 41, PICKS = 100000, READ_PICKS = 200000, MOST_BUCKETS = 65536 };
-enum { KINDS = 5, SIZES = 5, FILLS = 3, ROWS = SIZES * FILLS };
+enum { ROUNDS = 31, CALLS = 40000, MOST_BUCKETS = 65536, MOST_CALLS = 2 * MOST_BUCKETS + CALLS };
+enum { POOLS = 6, PATTERNS = 6, SIZES = 5, FILLS = 3, ROWS = SIZES * FILLS };
+enum { GROUP = 64 };
 
-static const char *const names[KINDS] = {"pool on words", "fixed pool", "plain list", "lock-free list", "loop alone"};
-static loop *const loops[KINDS] = {pool_bench_words, pool_bench_fixed, plain_list, lock_free_list, no_pool};
+typedef enum { ONE, TWO, LAST, OLDEST, RANDOM, REFUSED } pattern;
+
+static const char *const pattern_names[PATTERNS] = {"one", "two", "last", "oldest", "random", "refused"};
+static const char *const pool_names[POOLS] = {"pool on words",  "fixed pool",      "plain list",
+                                              "lock-free list", "malloc and free", "loop alone"};
+static follow *const pools[POOLS] = {bench_words, bench_fixed, plain_list, lock_free_list, malloc_free, no_pool};
 static const uint32_t sizes[SIZES] = {8, 64, 512, 4096, MOST_BUCKETS};
 static const uint32_t fills[FILLS] = {50, 99, 100};
 
@@ -25,16 +30,65 @@ static uint64_t next_random(void) {
 // A number below the bound.
 static uint32_t below(uint32_t bound) { return (uint32_t)((next_random() >> 32) * bound >> 32); }
 
-static uint32_t holes[MOST_BUCKETS], picks[READ_PICKS];
-static size_t hole_count;
+// A script, and which bucket is kept at each index while it is written: they are counted in the order in which they are taken.
+static uint32_t script[MOST_CALLS], kept[MOST_BUCKETS + 1], where[MOST_CALLS];
+static size_t calls;
+static uint32_t count, born, oldest;
 
-// Chooses which buckets are given back, first until so many are held, and then in the loop.
-static void choose(const task *t, uint32_t held, size_t pick_count) {
-    hole_count = t->buckets - held;
-    for (size_t i = 0; i < hole_count; i++)
-        holes[i] = below(t->buckets - (uint32_t)i);
-    for (size_t i = 0; i < pick_count; i++)
-        picks[i] = below(held - (uint32_t)(i % t->together));
+static void take(void) {
+    script[calls++] = TAKE;
+    kept[count] = born;
+    where[born++] = count++;
+}
+
+static void give(uint32_t at) {
+    script[calls++] = at;
+    where[kept[at]] = UINT32_MAX;
+    uint32_t last = kept[--count];
+    if (at != count) {
+        kept[at] = last;
+        where[last] = at;
+    }
+}
+
+static void give_oldest(void) {
+    while (where[oldest] == UINT32_MAX)
+        oldest++;
+    give(where[oldest]);
+}
+
+// Fills a pool, and gives back buckets at random until so many are held.
+static void fill(uint32_t buckets, uint32_t held) {
+    calls = 0, count = 0, born = 0, oldest = 0;
+    while (count < buckets)
+        take();
+    while (count > held)
+        give(below(count));
+}
+
+static void some_calls(pattern p, uint32_t buckets) {
+    uint32_t group = p == TWO ? 2 : p == LAST ? (count < 32 ? count : 32) : 1;
+    switch (p) {
+    case REFUSED:
+        script[calls++] = TAKE;
+        return;
+    case RANDOM:
+        if (count == buckets || (count && next_random() >> 63))
+            give(below(count));
+        else
+            take();
+        return;
+    default:
+        for (uint32_t i = 0; i < group; i++)
+            if (p == LAST)
+                give(count - 1);
+            else if (p == OLDEST)
+                give_oldest();
+            else
+                give(below(count));
+        for (uint32_t i = 0; i < group; i++)
+            take();
+    }
 }
 
 static double seconds(void) {
@@ -43,13 +97,13 @@ static double seconds(void) {
     return (double)now.tv_sec + (double)now.tv_nsec * 1e-9;
 }
 
-// How long a run takes, in seconds, which ought to take a bucket for each pick.
-static double timed(loop *run, const task *t, size_t pick_count) {
+// How long the first calls of the script take, in seconds, of which so many ought to take a bucket.
+static double timed(follow *run, const task *t, size_t of, uint32_t expected) {
     double start = seconds();
-    uint64_t taken = run(t, holes, hole_count, picks, pick_count);
+    uint64_t taken = run(t, script, of);
     double end = seconds();
-    if (taken != pick_count) {
-        fprintf(stderr, "taken: %llu of %zu\n", (unsigned long long)taken, pick_count);
+    if (taken != expected) {
+        fprintf(stderr, "taken: %llu of %u\n", (unsigned long long)taken, expected);
         exit(1);
     }
     return end - start;
@@ -60,91 +114,119 @@ static int by_size(const void *one, const void *other) {
     return (x > y) - (x < y);
 }
 
-static task task_of(uint32_t buckets, uint32_t together) { return (task){buckets, 128, 8, 48, together}; }
+static void print_times(double *of) {
+    qsort(of, ROUNDS, sizeof *of, by_size);
+    printf("%.2f,%.2f,%.2f\n", of[ROUNDS / 2], of[ROUNDS / 4], of[ROUNDS * 3 / 4]);
+}
+
+static task task_of(uint32_t buckets) { return (task){buckets, 128, 8, 48}; }
 
 // So many per cent of the buckets, rounded down.
 static uint32_t part(uint32_t buckets, uint32_t percent) { return (uint32_t)((uint64_t)buckets * percent / 100); }
 
-// What a line of a table is about.
-typedef struct {
-    task t;
-    uint32_t percent;
-} row;
+// A full pool alone refuses. Where filling it takes far longer than the refusals, nothing can be said of them.
+static int has_row(pattern p, size_t row) {
+    return p != REFUSED || (fills[row % FILLS] == 100 && sizes[row / FILLS] < MOST_BUCKETS);
+}
 
-static row row_of(size_t i, uint32_t together) { return (row){task_of(sizes[i / FILLS], together), fills[i % FILLS]}; }
+// The nanoseconds for a call, in each round.
+static double spent[PATTERNS][ROWS][POOLS][ROUNDS];
 
-// For each line and each loop, the nanoseconds for a taking and a return in each round.
-static double spent[ROWS][KINDS][ROUNDS];
-
-// One round of one line: each loop in turn. The time that making and filling the pool takes is subtracted.
-static void time_row(row r, double found[KINDS][ROUNDS], int round) {
-    choose(&r.t, part(r.t.buckets, r.percent), PICKS);
-    for (int kind = 0; kind < KINDS; kind++) {
-        double made = timed(loops[kind], &r.t, 0);
-        found[kind][round] = (timed(loops[kind], &r.t, PICKS) - made) * 1e9 / PICKS;
+// One round of one line: each pool in turn. The time that making and filling the pool takes is subtracted.
+static void time_row(pattern p, size_t row, int round) {
+    task t = task_of(sizes[row / FILLS]);
+    fill(t.buckets, part(t.buckets, fills[row % FILLS]));
+    size_t before = calls;
+    uint32_t first = born;
+    while (calls < before + CALLS)
+        some_calls(p, t.buckets);
+    for (int kind = 0; kind < POOLS; kind++) {
+        // The first run finds what the loop before left in the caches and in the heap, and isn't counted.
+        timed(pools[kind], &t, before, first);
+        double made = timed(pools[kind], &t, before, first);
+        spent[p][row][kind][round] = (timed(pools[kind], &t, calls, born) - made) * 1e9 / (double)(calls - before);
     }
 }
 
-// One line: the median of each loop's rounds, and the limits of their middle half.
-static void print_row(row r, double found[KINDS][ROUNDS]) {
-    printf("| %u | %u%% (%u) |", r.t.buckets, r.percent, part(r.t.buckets, r.percent));
-    for (int kind = 0; kind < KINDS; kind++) {
-        double *of = found[kind];
-        qsort(of, ROUNDS, sizeof *of, by_size);
-        printf(" %.1f (%.1f–%.1f) |", of[ROUNDS / 2], of[ROUNDS / 4], of[ROUNDS * 3 / 4]);
-    }
-    printf("\n");
-}
-
-// The lines take turns too, so that each has its rounds spread over the whole run.
-static void table_of_times(uint32_t together) {
+// The lines take turns, so that each has its rounds spread over the whole run.
+static void time_pools(void) {
     for (int round = 0; round < ROUNDS; round++)
-        for (size_t i = 0; i < ROWS; i++)
-            time_row(row_of(i, together), spent[i], round);
-    printf("\n| Buckets | Held |");
-    for (int kind = 0; kind < KINDS; kind++)
-        printf(" %s |", names[kind]);
-    printf("\n|---|---|---|---|---|---|---|\n");
-    for (size_t i = 0; i < ROWS; i++)
-        print_row(row_of(i, together), spent[i]);
-    fflush(stdout);
+        for (int p = 0; p < PATTERNS; p++)
+            for (size_t row = 0; row < ROWS; row++)
+                if (has_row(p, row))
+                    time_row(p, row, round);
+    for (int p = 0; p < PATTERNS; p++)
+        for (size_t row = 0; row < ROWS; row++)
+            for (int kind = 0; has_row(p, row) && kind < POOLS; kind++) {
+                printf("pools,%s,%u,%u,%s,", pattern_names[p], sizes[row / FILLS], fills[row % FILLS], pool_names[kind]);
+                print_times(spent[p][row][kind]);
+            }
 }
 
-static void table_of_reads(void) {
-    printf("\n| Buckets | Index words | Held | One: mean | One: greatest | Two: mean | Two: greatest |\n");
-    printf("|---|---|---|---|---|---|---|\n");
-    for (size_t i = 0; i < SIZES; i++)
-        for (size_t j = 0; j < FILLS; j++) {
-            task t = task_of(sizes[i], 1);
-            uint32_t held = part(t.buckets, fills[j]);
-            printf("| %u | %u | %u%% (%u) |", t.buckets, (t.buckets + 63) / 64, fills[j], held);
-            for (t.together = 1; t.together <= 2; t.together++) {
-                reads found = {0, 0};
-                choose(&t, held, READ_PICKS);
-                pool_bench_reads(&t, holes, hole_count, picks, READ_PICKS, &found);
-                printf(" %.2f | %u |", (double)found.sum / READ_PICKS, found.greatest);
-            }
-            printf("\n");
+static void count_reads(void) {
+    for (int p = 0; p < PATTERNS; p++)
+        for (size_t row = 0; row < ROWS; row++) {
+            task t = task_of(sizes[row / FILLS]);
+            uint32_t held = part(t.buckets, fills[row % FILLS]);
+            if (!has_row(p, row))
+                continue;
+            fill(t.buckets, held);
+            size_t before = calls;
+            while (calls < before + CALLS)
+                some_calls(p, t.buckets);
+            uint64_t takings = 0;
+            for (size_t i = 0; i < calls; i++)
+                takings += script[i] == TAKE;
+            reads found = {0, 0};
+            bench_reads(&t, script, calls, &found);
+            printf("reads,%s,%u,%u,%u,%.2f,%u\n", pattern_names[p], t.buckets, fills[row % FILLS], (t.buckets + 63) / 64,
+                   (double)found.sum / (double)takings, found.greatest);
         }
 }
 
-static void table_of_refusals(void) {
-    printf("\n| Buckets | Index words | First refusal | Second refusal |\n|---|---|---|---|\n");
-    for (size_t i = 0; i < SIZES; i++) {
-        task t = task_of(sizes[i], 1);
-        refusals found = {0, 0};
-        pool_bench_refusals(&t, &found);
-        printf("| %u | %u | %u | %u |\n", t.buckets, (t.buckets + 63) / 64, found.first, found.second);
+typedef struct {
+    const char *name;
+    const char *kind;
+    rounds_of *run;
+    int mixed;
+} line;
+
+static const line lines[] = {
+    {"bump, 48 bytes", "ours", bench_bump, 0},
+    {"bump, 48 bytes", "in C", plain_bump, 0},
+    {"bump, mixed sizes", "ours", bench_bump, 1},
+    {"bump, mixed sizes", "in C", plain_bump, 1},
+    {"one chunk", "ours", bench_one_chunk, 0},
+    {"one chunk", "in C", plain_chunk, 0},
+    {"heap, 48 bytes", "ours", bench_heap, 0},
+    {"heap, 48 bytes", "in C", calloc_free, 0},
+    {"heap, mixed sizes", "ours", bench_heap, 1},
+    {"heap, mixed sizes", "in C", calloc_free, 1},
+    {"loop alone", "ours", no_allocator, 0},
+};
+enum { LINES = sizeof lines / sizeof *lines };
+
+static double line_spent[LINES][ROUNDS];
+
+// The others: for each request its nanoseconds, together with those of giving back what it took.
+static void time_lines(void) {
+    uint32_t same[GROUP], mixed[GROUP], rounds = CALLS / GROUP;
+    for (size_t i = 0; i < GROUP; i++)
+        same[i] = 48, mixed[i] = 1 + below(256);
+    for (int round = 0; round < ROUNDS; round++)
+        for (size_t i = 0; i < LINES; i++) {
+            double start = seconds();
+            lines[i].run(lines[i].mixed ? mixed : same, GROUP, 8, rounds);
+            line_spent[i][round] = (seconds() - start) * 1e9 / (rounds * GROUP);
+        }
+    for (size_t i = 0; i < LINES; i++) {
+        printf("others,%s,0,0,%s,", lines[i].name, lines[i].kind);
+        print_times(line_spent[i]);
     }
 }
 
 int main(void) {
-    printf("Index words read, one or two buckets given back at a time\n");
-    table_of_reads();
-    printf("\nIndex words read by refusals of a full pool\n");
-    table_of_refusals();
-    printf("\nNanoseconds for a taking and a return, one given back at a time\n");
-    table_of_times(1);
-    printf("\nNanoseconds for a taking and a return, two given back at a time\n");
-    table_of_times(2);
+    count_reads();
+    time_lines();
+    time_pools();
 }

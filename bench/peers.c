@@ -1,59 +1,44 @@
-// The same loop over two other pools, and over none. Each peer tests a request as the pools do, and finds the bucket of a
-// place by a division. Its division is of 32 bits, which is the quicker one.
+// The same loops over other allocators, and over none. Each pool tests a request as the pools in Rattle do, and finds the bucket
+// of a place by a division of 32 bits.
 #include "pool_bench.h"
 #include <stdatomic.h>
 #include <stdlib.h>
 
 #define NONE UINT32_MAX
 #define START 4096
+#define SIZE ((size_t)1 << 40)
 
-// Makes the loop for a kind of pool, of which it calls NAME_make, NAME_take, NAME_give and NAME_drop. A place is never 0.
+// Makes the loop for a kind of pool, of which it calls NAME_make, NAME_take, NAME_give and NAME_drop. A place is never 0. What is
+// kept in the end is given back, for the sake of malloc.
 #define LOOP(NAME, POOL)                                                                                                  \
-    uint64_t NAME(const task *t, const uint32_t *holes, size_t hole_count, const uint32_t *picks, size_t pick_count) {    \
+    uint64_t NAME(const task *t, const uint32_t *script, size_t calls) {                                                  \
         POOL pool;                                                                                                        \
         size_t *places = malloc((t->buckets + 1) * sizeof *places);                                                       \
         size_t count = 0;                                                                                                 \
         uint64_t taken = 0;                                                                                               \
         if (!places || !NAME##_make(&pool, t))                                                                            \
             abort();                                                                                                      \
-        for (uint32_t i = 0; i < t->buckets; i++)                                                                         \
-            TAKE(NAME)                                                                                                    \
-        for (size_t i = 0; i < hole_count; i++)                                                                           \
-            GIVE(NAME, holes[i])                                                                                          \
-        taken = 0;                                                                                                        \
-        size_t together = t->together == 1 ? 1 : 2;                                                                       \
-        if (together == 1)                                                                                                \
-            for (size_t i = 0; i < pick_count; i++) {                                                                     \
-                GIVE(NAME, picks[i])                                                                                      \
-                TAKE(NAME)                                                                                                \
+        for (size_t i = 0; i < calls; i++) {                                                                              \
+            size_t at = script[i];                                                                                        \
+            if (at == TAKE) {                                                                                             \
+                if (count > t->buckets)                                                                                   \
+                    continue;                                                                                             \
+                size_t place = NAME##_take(&pool, t->request_size, t->align);                                             \
+                if (place) {                                                                                              \
+                    places[count++] = place;                                                                              \
+                    taken++;                                                                                              \
+                }                                                                                                         \
+            } else if (at < count) {                                                                                      \
+                size_t place = places[at];                                                                                \
+                places[at] = places[--count];                                                                             \
+                NAME##_give(&pool, place);                                                                                \
             }                                                                                                             \
-        else                                                                                                              \
-            for (size_t i = 0; i + 1 < pick_count; i += 2) {                                                              \
-                GIVE(NAME, picks[i])                                                                                      \
-                GIVE(NAME, picks[i + 1])                                                                                  \
-                TAKE(NAME)                                                                                                \
-                TAKE(NAME)                                                                                                \
-            }                                                                                                             \
+        }                                                                                                                 \
+        while (count)                                                                                                     \
+            NAME##_give(&pool, places[--count]);                                                                          \
         NAME##_drop(&pool);                                                                                               \
         free(places);                                                                                                     \
         return taken;                                                                                                     \
-    }
-
-#define GIVE(NAME, PICK)                                                                                                  \
-    if ((PICK) < count) {                                                                                                 \
-        size_t at = (PICK);                                                                                               \
-        size_t place = places[at];                                                                                        \
-        places[at] = places[--count];                                                                                     \
-        NAME##_give(&pool, place);                                                                                        \
-    }
-
-#define TAKE(NAME)                                                                                                        \
-    {                                                                                                                     \
-        size_t place = NAME##_take(&pool, t->request_size, t->align);                                                     \
-        if (place && count < t->buckets) {                                                                                \
-            places[count++] = place;                                                                                      \
-            taken++;                                                                                                      \
-        }                                                                                                                 \
     }
 
 // A list of the free buckets, of which the last one given back is taken first.
@@ -143,25 +128,115 @@ static void lock_free_list_drop(shared *p) { free((void *)p->next); }
 
 LOOP(lock_free_list, shared)
 
-// No pool: what the loop itself takes. A taking answers one of the two places that were given back last.
+// The C library's allocator, which knows no last bucket: it is told how many there are.
 typedef struct {
-    size_t given[2];
-    uint32_t count;
+    uint32_t left;
+} heap;
+
+static int malloc_free_make(heap *p, const task *t) {
+    p->left = t->buckets;
+    return 1;
+}
+
+static size_t malloc_free_take(heap *p, size_t size, size_t align) {
+    (void)align;
+    if (!p->left)
+        return 0;
+    p->left--;
+    return (size_t)malloc(size);
+}
+
+static void malloc_free_give(heap *p, size_t place) {
+    p->left++;
+    free((void *)place);
+}
+
+static void malloc_free_drop(heap *p) { (void)p; }
+
+LOOP(malloc_free, heap)
+
+// No pool: what the loop itself takes. A taking answers the place that was given back last.
+typedef struct {
+    uint32_t left;
+    size_t given;
 } nothing;
 
 static int no_pool_make(nothing *p, const task *t) {
-    (void)t;
-    *p = (nothing){{START, START}, 0};
+    *p = (nothing){t->buckets, START};
     return 1;
 }
 
 static size_t no_pool_take(nothing *p, size_t size, size_t align) {
     (void)size, (void)align;
-    return p->given[--p->count & 1];
+    if (!p->left)
+        return 0;
+    p->left--;
+    return p->given;
 }
 
-static void no_pool_give(nothing *p, size_t place) { p->given[p->count++ & 1] = place; }
+static void no_pool_give(nothing *p, size_t place) {
+    p->left++;
+    p->given = place;
+}
 
 static void no_pool_drop(nothing *p) { (void)p; }
 
 LOOP(no_pool, nothing)
+
+// A bump in C, with the tests of the one in Rattle.
+uint64_t plain_bump(const uint32_t *sizes, size_t count, size_t align, uint32_t rounds) {
+    size_t used = 0;
+    uint64_t sum = 0;
+    for (uint32_t round = 0; round < rounds; round++) {
+        for (size_t i = 0; i < count; i++) {
+            size_t place = (START + used + align - 1) & ~(align - 1), end;
+            if (!sizes[i] || __builtin_add_overflow(place, sizes[i], &end) || end > START + SIZE)
+                continue;
+            used = end - START;
+            sum += place;
+        }
+        used = 0;
+    }
+    return sum;
+}
+
+// One chunk in C, with the same tests.
+uint64_t plain_chunk(const uint32_t *sizes, size_t count, size_t align, uint32_t rounds) {
+    volatile size_t kept = 0;
+    uint64_t sum = 0;
+    for (uint32_t round = 0; round < rounds; round++)
+        for (size_t i = 0; i < count; i++) {
+            size_t place = (START + align - 1) & ~(align - 1), end;
+            if (kept || __builtin_add_overflow(place, sizes[i], &end) || end >= START + SIZE)
+                continue;
+            kept = place;
+            sum += place;
+            kept = 0;
+        }
+    return sum;
+}
+
+uint64_t calloc_free(const uint32_t *sizes, size_t count, size_t align, uint32_t rounds) {
+    uint64_t sum = 0;
+    (void)align;
+    for (uint32_t round = 0; round < rounds; round++)
+        for (size_t i = 0; i < count; i++) {
+            void *volatile block = calloc(sizes[i], 1);
+            if (block)
+                sum += sizes[i];
+            free(block);
+        }
+    return sum;
+}
+
+// What the loop itself takes.
+uint64_t no_allocator(const uint32_t *sizes, size_t count, size_t align, uint32_t rounds) {
+    uint64_t sum = 0;
+    (void)align;
+    for (uint32_t round = 0; round < rounds; round++)
+        for (size_t i = 0; i < count; i++) {
+            sum += sizes[i];
+            __asm__ volatile("" : "+r"(sum));
+        }
+    return sum;
+}

@@ -1,4 +1,4 @@
-// What the pools' loops in Rattle and the peers' loops in C share.
+// What the loops in Rattle and the peers' loops in C share.
 #include <stddef.h>
 #include <stdint.h>
 
@@ -8,7 +8,6 @@ typedef struct {
     size_t bucket_size;
     size_t align;
     size_t request_size;
-    uint32_t together;
 } task;
 
 typedef struct {
@@ -16,17 +15,18 @@ typedef struct {
     uint32_t greatest;
 } reads;
 
-typedef struct {
-    uint32_t first;
-    uint32_t second;
-} refusals;
+// The call of a script that asks for a bucket. Any other number gives back the bucket whose place stands at that index of those
+// that are kept: the last place moves there.
+#define TAKE UINT32_MAX
 
-// Each makes a pool, takes every bucket, and gives back one for each hole. Then it gives back one and takes one for each pick, or
-// two for each two picks. The answer is how many were taken for the picks. A hole or a pick is an index of the places that are
-// held then.
-typedef uint64_t loop(const task *, const uint32_t *holes, size_t hole_count, const uint32_t *picks, size_t pick_count);
+// Makes a pool, and the calls of a script. The answer is how many buckets were taken.
+typedef uint64_t follow(const task *, const uint32_t *script, size_t calls);
 
-loop pool_bench_words, pool_bench_fixed, plain_list, lock_free_list, no_pool;
+follow bench_words, bench_fixed, plain_list, lock_free_list, malloc_free, no_pool;
 
-void pool_bench_reads(const task *, const uint32_t *holes, size_t hole_count, const uint32_t *picks, size_t pick_count, reads *);
-void pool_bench_refusals(const task *, refusals *);
+void bench_reads(const task *, const uint32_t *script, size_t calls, reads *);
+
+// In each round makes a request for each size, and gives back what it took.
+typedef uint64_t rounds_of(const uint32_t *sizes, size_t count, size_t align, uint32_t rounds);
+
+rounds_of bench_bump, bench_one_chunk, bench_heap, plain_bump, plain_chunk, calloc_free, no_allocator;

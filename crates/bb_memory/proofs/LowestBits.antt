@@ -33,11 +33,13 @@ next_above zero n (suc i) clear ones above =
 next_above (suc bit) n (suc i) clear ones above =
     let odd : n % 2 ≡ 1 = sym (bit_at_lowest n) ∙ ones 0 (omega arith) in
     bit_at-suc (n + 1) i ∙ ap (λ m. bit_at m i) (half_odd n odd)
-    ∙ next_above bit (n / 2) i (sym (bit_at-suc n bit) ∙ clear) (λ j h. sym (bit_at-suc n j) ∙ ones (suc j) (omega (arith, h))) (omega (arith, above))
+    ∙ next_above bit (n / 2) i (sym (bit_at-suc n bit) ∙ clear) (λ j h. sym (bit_at-suc n j) ∙ ones (suc j) (omega (arith, h)))
+    (omega (arith, above))
     ∙ sym (bit_at-suc n i)
 
 -- a number or the next has the lowest clear bit more, and no other
-next_or : (word bit : ℕ) → bit_at word bit ≡ 0 → ((i : ℕ) → i < bit → bit_at word i ≡ 1) → Changes word (bit_or word (word + 1)) bit true
+next_or : (word bit : ℕ) → bit_at word bit ≡ 0 → ((i : ℕ) → i < bit → bit_at word i ≡ 1) →
+    Changes word (bit_or word (word + 1)) bit true
 next_or word bit clear ones = (
   let next = next_same bit word clear ones in
       let both = bit_at_or word (word + 1) bit in

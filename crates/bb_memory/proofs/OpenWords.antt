@@ -25,7 +25,8 @@ length-names : (listed : List ℕ) (hand top count : ℕ) → length (names list
 unfolding names
 length-names listed hand top count = length-map-range_with_len (open_word listed hand top) 0 count
 
-name_at : (listed : List ℕ) (hand top count k : ℕ) → k < count → get_or (names listed hand top count) k 0 ≡ open_word listed hand top k
+name_at : (listed : List ℕ) (hand top count k : ℕ) → k < count →
+    get_or (names listed hand top count) k 0 ≡ open_word listed hand top k
 unfolding names
 name_at listed hand top count k within = get_or-map-range_with_len (open_word listed hand top) 0 count k k 0 within (omega arith)
 
@@ -121,14 +122,16 @@ set_filled bound words listed new named hand top next is are puts filled_words w
         | inr none ↦ omega (arith, none_listed (omega (arith, none)), within, puts.len)
       ];
       listing = rw name (listing_of new stack listed next (top - 1)
-          (filled words new stack top hand (stack_of words listed hand top listing) puts some (sym (hand_named words listed hand top listing some)) full)
+          (filled words new stack top hand (stack_of words listed hand top listing) puts some
+          (sym (hand_named words listed hand top listing some)) full)
           (λ k h.
           let under : get_or stack k 0 ≡ get_or listed k 0 =
           name_at listed hand top (length words) k (omega (arith, h, fits)) ∙ under_word listed hand top k (omega (arith, h)) in
           elim (cases_eq (k + 1) (top - 1)) [
             | inl e ↦
                 let place : top - 1 - 1 ≡ k = omega (arith, e) in
-                top_word listed next (top - 1) k e ∙ last_listed (omega (arith, e)) ∙ ap (λ x. get_or listed x 0) place ∙ sym under
+                top_word listed next (top - 1) k e ∙ last_listed (omega (arith, e)) ∙ ap (λ x. get_or listed x 0) place
+                ∙ sym under
             | inr other ↦ under_word listed next (top - 1) k other ∙ sym under
           ]));
     }
@@ -200,7 +203,8 @@ set_still bound words listed new named hand top at is are puts within was_open n
     }
 
 -- fresh words, all of them open: the first in hand, and the others listed, the second one last
-pub fresh_set : (bound count : ℕ) (words zero listed : List ℕ) → words ≡ zero → count ≡ index_words bound → AreIndexWords bound zero →
+pub fresh_set : (bound count : ℕ) (words zero listed : List ℕ) → words ≡ zero → count ≡ index_words bound →
+    AreIndexWords bound zero →
     ((at : ℕ) → at < length zero → get_or zero at 0 ≢ 2 ^ 64 - 1) → length listed ≡ count - 1 →
     ((j : ℕ) → j + 1 < count → get_or listed j 0 ≡ count - 1 - j) → IsWordSet bound words listed 0 count
 fresh_set bound count words zero listed same is are none room named =
@@ -218,7 +222,8 @@ fresh_set bound count words zero listed same is are none room named =
         below = λ k h. omega (arith, at k h, len, h);
         each = λ k h. none (open_word listed 0 count k) (omega (arith, at k h, len, h));
         once = λ i k before h e. absurd (omega (arith, at i (omega (arith, before, h)), at k h, e, before, h));
-        all = λ a within not. (count - 1 - a, omega (arith, len, within), at (count - 1 - a) (omega (arith, len, within)) ∙ omega (arith, len, within));
+        all = λ a within not.
+            (count - 1 - a, omega (arith, len, within), at (count - 1 - a) (omega (arith, len, within)) ∙ omega (arith, len, within));
       };
     })
 
@@ -228,6 +233,7 @@ pub named_more : (listed : List ℕ) (count k : ℕ) → 0 < k → k - 1 < lengt
     (j : ℕ) → j + 1 < k + 1 → get_or (set listed (k - 1) (count - k)) j 0 ≡ count - 1 - j
 named_more listed count k some room named j below = elim (cases_eq j (k - 1)) [
   | inl e ↦
-      ap (λ x. get_or (set listed (k - 1) (count - k)) x 0) e ∙ get_or-set_same listed (k - 1) (count - k) 0 room ∙ omega (arith, e, some)
+      ap (λ x. get_or (set listed (k - 1) (count - k)) x 0) e ∙ get_or-set_same listed (k - 1) (count - k) 0 room
+      ∙ omega (arith, e, some)
   | inr other ↦ get_or-set_other listed (k - 1) j (count - k) 0 other ∙ named j (omega (arith, other, below))
 ]

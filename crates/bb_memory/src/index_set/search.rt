@@ -14,8 +14,8 @@ pub struct Found {
     pub full: bool,
 }
 
-/// Sets the lowest clear bit of the word in hand. Where that word is full, or there is none, nothing changes. So one word is read,
-/// where there is one.
+/// Sets the lowest clear bit of the word in hand. Where that word is full, or there is none, nothing changes. So one word is
+/// read, where there is one.
 #[inline(always)]
 pub fn search<W: Searched>(words: &mut W, hand: usize, counter: &mut Counter) -> Option<Found>
     requires count { counter.old ≡ 0 }

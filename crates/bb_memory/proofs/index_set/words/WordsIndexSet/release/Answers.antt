@@ -19,7 +19,8 @@ list-requires g c =
     let has = rw (← c.self.view_is) at c.requires in
     let is = c.self.invariant in
     let within = (has_word inside.bound inside.words.words c.args.number is.are has).1 in
-    let left = room_left inside.words.words inside.words.listed inside.hand inside.top (c.args.number / 64) is.listing within (told.was_full c.if-was_full.true) in
+    let left = room_left inside.words.words inside.words.listed inside.hand inside.top (c.args.number / 64) is.listing within
+    (told.was_full c.if-was_full.true) in
     let room = is.room in
     omega (arith, left, room, ap length told.listed, c.if-self-gt0.true)
 
@@ -41,14 +42,16 @@ invariant_of-self g c =
       | then-self-gt0 w ↦
           let named = w.list.ensures.listed ∙ ap (λ (l : List ℕ). set l (inside.top - 1) inside.hand) told.listed in
           rw (w.self-inside-is, w.list.ensures.words)
-          (set_opened inside.bound words listed c.clear-was_full.new.self.words w.list.new.self.listed inside.hand inside.top at is left.0 told.others within
-          full told.not_full
+          (set_opened inside.bound words listed c.clear-was_full.new.self.words w.list.new.self.listed inside.hand inside.top at is
+          left.0 told.others within full told.not_full
           (ap length named ∙ length-set listed (inside.top - 1) inside.hand)
-          (λ k h. ap (λ (l : List ℕ). get_or l k 0) named ∙ named_hand listed inside.hand inside.top k h (omega (arith, fits, room))))
+          (λ k h. ap (λ (l : List ℕ). get_or l k 0) named
+          ∙ named_hand listed inside.hand inside.top k h (omega (arith, fits, room))))
       | else-self-gt0 w ↦
           rw w.self-inside-is
-          (set_opened inside.bound words listed c.clear-was_full.new.self.words c.clear-was_full.new.self.listed inside.hand inside.top at is left.0 told.others
-          within full told.not_full (ap length told.listed) (λ k h. absurd (omega (arith, h, w.if-self-gt0.false))))
+          (set_opened inside.bound words listed c.clear-was_full.new.self.words c.clear-was_full.new.self.listed inside.hand
+          inside.top at is left.0 told.others within full told.not_full (ap length told.listed)
+          (λ k h. absurd (omega (arith, h, w.if-self-gt0.false))))
     ]
 
 pub invariant_of-self-else-was_full : goal.invariant_of-self-else-was_full
@@ -59,8 +62,8 @@ invariant_of-self-else-was_full g c =
     let is = c.self.invariant in
     let left = released inside.bound inside.words.words _ c.args.number is.are has told.bit in
     let within = (has_word inside.bound inside.words.words c.args.number is.are has).1 in
-    set_still inside.bound inside.words.words inside.words.listed c.clear-was_full.new.self.words c.clear-was_full.new.self.listed inside.hand inside.top
-    (c.args.number / 64) is left.0 told.others within (told.was_open c.if-was_full.false) told.not_full told.listed
+    set_still inside.bound inside.words.words inside.words.listed c.clear-was_full.new.self.words c.clear-was_full.new.self.listed
+    inside.hand inside.top (c.args.number / 64) is left.0 told.others within (told.was_open c.if-was_full.false) told.not_full told.listed
 
 pub returns-after-self-gt0 : goal.returns-after-self-gt0
 returns-after-self-gt0 g c =

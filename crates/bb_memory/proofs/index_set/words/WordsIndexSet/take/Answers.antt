@@ -29,9 +29,10 @@ invariant_of-self-then-self-gt0 g c =
     let told = c.in_ok-found.ensures in
     let hand = is.in_hand told.some in
     let within : c.in_ok-found.found.number / 64 < length words = omega (arith, told.in_hand, hand) in
-    let taking = taken inside.bound words c.search.new.words.words c.in_ok-found.found.number is.are within told.lacked told.set in
-    set_filled inside.bound words inside.words.listed c.search.new.words.words c.search.new.words.listed inside.hand inside.top _ is taking.1
-    c.search.ensures.others told.some told.was_open (told.is_full c.if-found.true) c.search.ensures.listed
+    let taking = taken inside.bound words c.search.new.words.words c.in_ok-found.found.number is.are within told.lacked
+    told.set in
+    set_filled inside.bound words inside.words.listed c.search.new.words.words c.search.new.words.listed inside.hand
+    inside.top _ is taking.1 c.search.ensures.others told.some told.was_open (told.is_full c.if-found.true) c.search.ensures.listed
     (λ more. c.listed-self-inside.ensures ∙ ap (λ (l : List ℕ). get_or l (inside.top - 1 - 1) 0) c.search.ensures.listed)
     (λ none. absurd (omega (arith, none, c.if-self-gt0.true)))
 
@@ -43,9 +44,10 @@ invariant_of-self-else-self-gt0 g c =
     let told = c.in_ok-found.ensures in
     let hand = is.in_hand told.some in
     let within : c.in_ok-found.found.number / 64 < length words = omega (arith, told.in_hand, hand) in
-    let taking = taken inside.bound words c.search.new.words.words c.in_ok-found.found.number is.are within told.lacked told.set in
-    set_filled inside.bound words inside.words.listed c.search.new.words.words c.search.new.words.listed inside.hand inside.top _ is taking.1
-    c.search.ensures.others told.some told.was_open (told.is_full c.if-found.true) c.search.ensures.listed
+    let taking = taken inside.bound words c.search.new.words.words c.in_ok-found.found.number is.are within told.lacked
+    told.set in
+    set_filled inside.bound words inside.words.listed c.search.new.words.words c.search.new.words.listed inside.hand
+    inside.top _ is taking.1 c.search.ensures.others told.some told.was_open (told.is_full c.if-found.true) c.search.ensures.listed
     (λ more. absurd (omega (arith, more, c.if-self-gt0.false))) (λ none. refl)
 
 pub invariant_of-self-else-found : goal.invariant_of-self-else-found
@@ -56,9 +58,10 @@ invariant_of-self-else-found g c =
     let told = c.in_ok-found.ensures in
     let hand = is.in_hand told.some in
     let within : c.in_ok-found.found.number / 64 < length words = omega (arith, told.in_hand, hand) in
-    let taking = taken inside.bound words c.search.new.words.words c.in_ok-found.found.number is.are within told.lacked told.set in
-    set_left inside.bound words inside.words.listed c.search.new.words.words c.search.new.words.listed inside.hand inside.top is taking.1
-    c.search.ensures.others told.some told.was_open (told.is_open c.if-found.false) c.search.ensures.listed
+    let taking = taken inside.bound words c.search.new.words.words c.in_ok-found.found.number is.are within told.lacked
+    told.set in
+    set_left inside.bound words inside.words.listed c.search.new.words.words c.search.new.words.listed inside.hand
+    inside.top is taking.1 c.search.ensures.others told.some told.was_open (told.is_open c.if-found.false) c.search.ensures.listed
 
 pub returns-then-self-gt0-clause-lacked : goal.returns-then-self-gt0-clause-lacked
 returns-then-self-gt0-clause-lacked g c =
@@ -68,7 +71,8 @@ returns-then-self-gt0-clause-lacked g c =
     let told = c.in_ok-found.ensures in
     let hand = is.in_hand told.some in
     let within : c.in_ok-found.found.number / 64 < length words = omega (arith, told.in_hand, hand) in
-    let taking = taken inside.bound words c.search.new.words.words c.in_ok-found.found.number is.are within told.lacked told.set in
+    let taking = taken inside.bound words c.search.new.words.words c.in_ok-found.found.number is.are within told.lacked
+    told.set in
     rw (← c.self.view_is) taking.0
 
 pub returns-then-self-gt0-clause-taken : goal.returns-then-self-gt0-clause-taken
@@ -79,7 +83,8 @@ returns-then-self-gt0-clause-taken g c =
     let told = c.in_ok-found.ensures in
     let hand = is.in_hand told.some in
     let within : c.in_ok-found.found.number / 64 < length words = omega (arith, told.in_hand, hand) in
-    let taking = taken inside.bound words c.search.new.words.words c.in_ok-found.found.number is.are within told.lacked told.set in
+    let taking = taken inside.bound words c.search.new.words.words c.in_ok-found.found.number is.are within told.lacked
+    told.set in
     rw (← c.self.view_is) taking.2
 
 pub returns-then-self-gt0-clause-counted : goal.returns-then-self-gt0-clause-counted
@@ -97,7 +102,8 @@ returns-else-self-gt0-clause-lacked g c =
     let told = c.in_ok-found.ensures in
     let hand = is.in_hand told.some in
     let within : c.in_ok-found.found.number / 64 < length words = omega (arith, told.in_hand, hand) in
-    let taking = taken inside.bound words c.search.new.words.words c.in_ok-found.found.number is.are within told.lacked told.set in
+    let taking = taken inside.bound words c.search.new.words.words c.in_ok-found.found.number is.are within told.lacked
+    told.set in
     rw (← c.self.view_is) taking.0
 
 pub returns-else-self-gt0-clause-taken : goal.returns-else-self-gt0-clause-taken
@@ -108,7 +114,8 @@ returns-else-self-gt0-clause-taken g c =
     let told = c.in_ok-found.ensures in
     let hand = is.in_hand told.some in
     let within : c.in_ok-found.found.number / 64 < length words = omega (arith, told.in_hand, hand) in
-    let taking = taken inside.bound words c.search.new.words.words c.in_ok-found.found.number is.are within told.lacked told.set in
+    let taking = taken inside.bound words c.search.new.words.words c.in_ok-found.found.number is.are within told.lacked
+    told.set in
     rw (← c.self.view_is) taking.2
 
 pub returns-else-self-gt0-clause-counted : goal.returns-else-self-gt0-clause-counted
@@ -126,7 +133,8 @@ returns-else-found-clause-lacked g c =
     let told = c.in_ok-found.ensures in
     let hand = is.in_hand told.some in
     let within : c.in_ok-found.found.number / 64 < length words = omega (arith, told.in_hand, hand) in
-    let taking = taken inside.bound words c.search.new.words.words c.in_ok-found.found.number is.are within told.lacked told.set in
+    let taking = taken inside.bound words c.search.new.words.words c.in_ok-found.found.number is.are within told.lacked
+    told.set in
     rw (← c.self.view_is) taking.0
 
 pub returns-else-found-clause-taken : goal.returns-else-found-clause-taken
@@ -137,7 +145,8 @@ returns-else-found-clause-taken g c =
     let told = c.in_ok-found.ensures in
     let hand = is.in_hand told.some in
     let within : c.in_ok-found.found.number / 64 < length words = omega (arith, told.in_hand, hand) in
-    let taking = taken inside.bound words c.search.new.words.words c.in_ok-found.found.number is.are within told.lacked told.set in
+    let taking = taken inside.bound words c.search.new.words.words c.in_ok-found.found.number is.are within told.lacked
+    told.set in
     rw (← c.self.view_is) taking.2
 
 pub returns-else-found-clause-counted : goal.returns-else-found-clause-counted
