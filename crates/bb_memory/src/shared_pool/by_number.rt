@@ -80,7 +80,8 @@ impl SharedPoolAllocator {
     /// wasn't given back since. The length has to be at most the bucket's size.
     ///
     /// ```
-    /// let number = pool.allocate(&mut party, Layout::from_size_align(48, 4)?)?.number();
+    /// let taken = pool.allocate(&mut party, Layout::from_size_align(48, 4).unwrap())?;
+    /// let number = taken.number();
     /// let again = pool.bucket(&party, number, 48);
     /// pool.deallocate_bucket(&mut party, again);
     /// ```

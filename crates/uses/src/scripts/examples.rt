@@ -186,6 +186,18 @@ pub fn shared_pool(alloc: Global) -> Result<(), AllocationError> {
     Ok(())
 }
 
+pub fn shared_pool_by_number(alloc: Global) -> Result<(), AllocationError> {
+    pool_count_law();
+    let bucket = Layout::from_size_align(128, 8).unwrap();
+    let (pool, mut parties) = SharedPoolAllocator::new(alloc, bucket, 4096, 1024, 1)?;
+    let mut party = parties.pop().unwrap();
+    let taken = pool.allocate(&mut party, Layout::from_size_align(48, 4).unwrap())?;
+    let number = taken.number();
+    let again = pool.bucket(&party, number, 48);
+    pool.deallocate_bucket(&mut party, again);
+    Ok(())
+}
+
 pub fn shared_fixed_pool(alloc: Global) -> Result<(), AllocationError> {
     pool_count_law();
     let bucket = Layout::from_size_align(128, 8).unwrap();
