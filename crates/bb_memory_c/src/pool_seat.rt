@@ -1,14 +1,12 @@
 //! The seats at a shared pool: a party each, and which buckets it holds.
-ghost use Rattle.std.specs.Prelude.{◌≡◌, ◌≢◌, ◌+◌, ◌<◌, ◌≤◌, ◌↔◌, ℕ, Some, IfOk, IfErr, IfSome, IfNone, OnErr, Err, length};
-ghost use Rattle.std.specs.Prelude.{slice_get, IsTrue, vec_len, vec_capacity};
+ghost use Rattle.std.specs.Prelude.{◌≡◌, ◌<◌, ◌≤◌, ◌↔◌, Some, IfSome, IfNone};
+ghost use Rattle.std.specs.Prelude.{IsTrue, vec_len};
 ghost use Rattle.std.specs.Arc.{arc_value};
-ghost use Rattle.bb_memory_base.specs.FirstPlace.{first_place};
 ghost use Rattle.bb_memory_base.specs.Region.{region_at};
 ghost use Rattle.bb_memory_base.specs.PoolObject.{MayGrow, MayShrink};
 ghost use Rattle.bb_memory_base.specs.declared.layout.Layout.{Layout as Asked};
 ghost use Rattle.bb_memory.specs.Pool.{MayBeCut};
 ghost use Rattle.bb_memory_c.specs.Answers.{TellsGrow, TellsShrink, refused};
-ghost use Rattle.bb_memory.specs.SharedPool.{fresh_party};
 ghost use Rattle.bb_memory_c.specs.Codes.{done, not_a_layout, not_held};
 ghost use Rattle.bb_memory_c.specs.SharedPools.{Gives, GivesBack, HoldsAt, HoldsPlace, IsSharedPoolOver};
 
