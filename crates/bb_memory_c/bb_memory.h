@@ -188,6 +188,12 @@ bb_answer bb_shared_pool_allocate(bb_pool_seat *, size_t size, size_t align);
 uint32_t bb_shared_pool_deallocate(bb_pool_seat *, size_t place);
 // 1 where this is the place of a bucket which this seat holds, else 0.
 bb_figure bb_shared_pool_holds(bb_pool_seat *, size_t place);
+// As of a pool with one owner, of a bucket which this seat holds.
+bb_answer bb_shared_pool_grow(bb_pool_seat *, size_t place, size_t old_size, size_t old_align, size_t new_size,
+                              size_t new_align);
+bb_answer bb_shared_pool_shrink(bb_pool_seat *, size_t place, size_t old_size, size_t old_align, size_t new_size,
+                                size_t new_align);
+bb_figure bb_shared_pool_reserved(bb_pool_seat *, size_t place);
 bb_figure bb_shared_pool_number_of_buckets(bb_pool_seat *);
 bb_figure bb_shared_pool_bucket_size(bb_pool_seat *);
 bb_figure bb_shared_pool_max_alignment(bb_pool_seat *);

@@ -166,6 +166,15 @@ static void run_makers(void) {
     EXPECT(given(bb_shared_bump_allocate(&bump_seats[0], 40, 1), 4096, 40));
     EXPECT(is(bb_shared_bump_used_space(&bump_seats[1]), 40) && is(bb_shared_bump_free_space(&bump_seats[1]), 984));
     EXPECT(given(bb_shared_pool_allocate(&pool_seats[0], 48, 4), 4096, 48));
+    EXPECT(given(bb_shared_pool_grow(&pool_seats[0], 4096, 48, 4, 64, 4), 4096, 64));
+    EXPECT(refused(bb_shared_pool_grow(&pool_seats[0], 4096, 64, 4, 129, 8), BB_OUT_OF_MEMORY));
+    EXPECT(refused(bb_shared_pool_grow(&pool_seats[0], 4096, 48, 8192, 64, 4), BB_NOT_THE_OLD));
+    EXPECT(refused(bb_shared_pool_grow(&pool_seats[1], 4096, 48, 4, 64, 4), BB_NOT_HELD));
+    EXPECT(given(bb_shared_pool_shrink(&pool_seats[0], 4096, 64, 4, 32, 4), 4096, 32));
+    EXPECT(refused(bb_shared_pool_shrink(&pool_seats[0], 4096, 129, 4, 32, 4), BB_NOT_THE_OLD));
+    EXPECT(refused(bb_shared_pool_shrink(&pool_seats[0], 4096, 32, 4, 16, 3), BB_NOT_A_LAYOUT));
+    EXPECT(is(bb_shared_pool_reserved(&pool_seats[0], 4096), 128));
+    EXPECT(has_none(bb_shared_pool_reserved(&pool_seats[1], 4096), BB_NOT_HELD));
     EXPECT(bb_shared_pool_deallocate(&pool_seats[1], 4096) == BB_NOT_HELD);
     EXPECT(bb_shared_pool_deallocate(&pool_seats[0], 4096) == BB_DONE);
     EXPECT(bb_pool_allocate(&pool, 48, 4).code == BB_DONE && bb_bump_allocate(&bump, 48, 4).code == BB_DONE);

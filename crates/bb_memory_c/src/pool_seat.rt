@@ -1,14 +1,16 @@
 //! The seats at a shared pool: a party each, and which buckets it holds.
-ghost use Rattle.std.specs.Prelude.{◌≡◌, ◌≢◌, ◌+◌, ◌<◌, ◌≤◌, ◌↔◌, ℕ, Some, IfOk, IfErr, IfSome, IfNone, OnErr, Err, length};
-ghost use Rattle.std.specs.Prelude.{slice_get, IsTrue, vec_len, vec_capacity};
+ghost use Rattle.std.specs.Prelude.{◌≡◌, ◌<◌, ◌≤◌, ◌↔◌, Some, IfSome, IfNone};
+ghost use Rattle.std.specs.Prelude.{IsTrue, vec_len};
 ghost use Rattle.std.specs.Arc.{arc_value};
-ghost use Rattle.bb_memory_base.specs.FirstPlace.{first_place};
 ghost use Rattle.bb_memory_base.specs.Region.{region_at};
+ghost use Rattle.bb_memory_base.specs.PoolObject.{MayGrow, MayShrink};
+ghost use Rattle.bb_memory_base.specs.declared.layout.Layout.{Layout as Asked};
 ghost use Rattle.bb_memory.specs.Pool.{MayBeCut};
-ghost use Rattle.bb_memory.specs.SharedPool.{fresh_party};
-ghost use Rattle.bb_memory_c.specs.Codes.{done, no_seat, not_held, out_of_memory};
+ghost use Rattle.bb_memory_c.specs.Answers.{TellsGrow, TellsShrink, refused};
+ghost use Rattle.bb_memory_c.specs.Codes.{done, not_a_layout, not_held};
 ghost use Rattle.bb_memory_c.specs.SharedPools.{Gives, GivesBack, HoldsAt, HoldsPlace, IsSharedPoolOver};
 
+use crate::answer::Answer;
 use crate::code;
 use bb_memory::layout::{Chunk, Layout};
 use bb_memory::pool_allocator::AllocationError;
@@ -82,6 +84,47 @@ impl PoolSeat {
         self.pool.deallocate_bucket(&mut self.party, bucket);
         self.held[number as usize] = false;
         code::DONE
+    }
+
+    /// What a grow of the chunk at this place is answered, where the party holds its bucket.
+    pub(crate) fn grow(&self, place: usize, layouts: Option<(Layout, Layout)>) -> Answer
+        ensures answer { (old new : Asked) → layouts ≡ Some (old, new)
+            → TellsGrow (HoldsPlace self.now place) place old
+            (MayGrow self.now.allocator.scene.geometry.bucket place old new) result }
+        ensures not_a_layout { layouts ≡ None → result ≡ refused not_a_layout }
+    {
+        let Some((old, new)) = layouts else {
+            return Answer::refusal(code::NOT_A_LAYOUT);
+        };
+        let Some(number) = self.held_at(place) else {
+            return Answer::refusal(code::NOT_HELD);
+        };
+        if place % old.align() != 0 {
+            return Answer::refusal(code::NOT_THE_OLD);
+        }
+        let mut bucket = self.pool.bucket(&self.party, number, 0);
+        Answer::of_grow(self.pool.grow(&mut bucket, old, new))
+    }
+
+    /// What a shrink of the chunk at this place is answered, where the party holds its bucket.
+    pub(crate) fn shrink(&self, place: usize, layouts: Option<(Layout, Layout)>) -> Answer
+        ensures answer { (old new : Asked) → layouts ≡ Some (old, new)
+            → TellsShrink (HoldsPlace self.now place) place
+            self.now.allocator.scene.geometry.bucket.size old
+            (MayShrink self.now.allocator.scene.geometry.bucket place old new) result }
+        ensures not_a_layout { layouts ≡ None → result ≡ refused not_a_layout }
+    {
+        let Some((old, new)) = layouts else {
+            return Answer::refusal(code::NOT_A_LAYOUT);
+        };
+        let Some(number) = self.held_at(place) else {
+            return Answer::refusal(code::NOT_HELD);
+        };
+        if place % old.align() != 0 || old.size() > self.pool.bucket_size() {
+            return Answer::refusal(code::NOT_THE_OLD);
+        }
+        let mut bucket = self.pool.bucket(&self.party, number, 0);
+        Answer::of_shrink(self.pool.shrink(&mut bucket, old, new))
     }
 
     /// The party, without its seat.

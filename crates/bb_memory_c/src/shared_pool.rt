@@ -4,8 +4,9 @@ ghost use Rattle.std.specs.Align.{IsLayout};
 ghost use Rattle.bb_memory_base.specs.FirstPlace.{first_place};
 ghost use Rattle.bb_memory_base.specs.Region.{region_at};
 ghost use Rattle.bb_memory_base.specs.declared.layout.Layout.{Layout as Asked};
+ghost use Rattle.bb_memory_base.specs.PoolObject.{MayGrow, MayShrink};
 ghost use Rattle.bb_memory.specs.SharedPool.{PoolParty as Party, fresh_party};
-ghost use Rattle.bb_memory_c.specs.Answers.{figure_of, no_figure, refused};
+ghost use Rattle.bb_memory_c.specs.Answers.{TellsGrow, TellsShrink, figure_of, no_figure, refused};
 ghost use Rattle.bb_memory_c.specs.Codes.{already_made, cannot_make, done, no_seat, not_a_layout, not_held, not_made};
 ghost use Rattle.bb_memory_c.specs.Codes.{out_of_memory};
 ghost use Rattle.bb_memory_c.specs.Layouts.{CannotShare, IsCuttable, IsOf};
@@ -16,7 +17,7 @@ ghost use Rattle.bb_memory_c.specs.SharedPoolHandles.{IsSharedPool, MakesSharedP
 use crate::answer::{Answer, Figure};
 use crate::code;
 use crate::handle::Handle;
-use crate::layout::{cut_into, layout_of};
+use crate::layout::{cut_into, layout_of, layouts_of};
 use crate::made::Made;
 use crate::pool_seat::{PoolSeat, PoolSeats};
 use bb_memory::layout::Layout;
@@ -370,6 +371,116 @@ pub extern "C" fn bb_shared_pool_start_address(alloc: Global, handle: &mut Handl
     };
     let figure = match &*made {
         Made::PoolSeat(seat) => Figure::of(seat.pool().start_address()),
+        _ => Figure::refusal(code::NOT_MADE),
+    };
+    handle.put(made);
+    figure
+}
+
+/// Gives the chunk at this place the new size, in its bucket, which this seat has to hold.
+///
+/// C guarantees of the handle what the crate's page says.
+#[unsafe(no_mangle)]
+pub extern "C" fn bb_shared_pool_grow(
+    alloc: Global,
+    handle: &mut Handle,
+    place: usize,
+    old_size: usize,
+    old_align: usize,
+    new_size: usize,
+    new_align: usize,
+) -> Answer
+    ensures answer { (party : Party) (old new : Asked) → IsPoolSeat handle.old.value party
+        → IsOf old_size old_align old → IsOf new_size new_align new
+        → TellsGrow (HoldsPlace party place) place old
+        (MayGrow party.allocator.scene.geometry.bucket place old new) result }
+    ensures not_a_layout { (party : Party) → IsPoolSeat handle.old.value party
+        → ¬ (IsLayout old_size old_align × IsLayout new_size new_align)
+        → result ≡ refused not_a_layout }
+    ensures not_made { IsNoPoolSeat handle.old.value → result ≡ refused not_made }
+    ensures kept { handle.new.value ≡ handle.old.value }
+{
+    let layouts = layouts_of(old_size, old_align, new_size, new_align);
+    let Some(made) = handle.take(alloc) else {
+        return Answer::refusal(code::NOT_MADE);
+    };
+    let answer = match &*made {
+        Made::PoolSeat(seat) => seat.grow(place, layouts),
+        _ => Answer::refusal(code::NOT_MADE),
+    };
+    handle.put(made);
+    answer
+}
+
+/// Gives the chunk at this place exactly the new size. This seat has to hold its bucket.
+///
+/// C guarantees of the handle what the crate's page says.
+#[unsafe(no_mangle)]
+pub extern "C" fn bb_shared_pool_shrink(
+    alloc: Global,
+    handle: &mut Handle,
+    place: usize,
+    old_size: usize,
+    old_align: usize,
+    new_size: usize,
+    new_align: usize,
+) -> Answer
+    ensures answer { (party : Party) (old new : Asked) → IsPoolSeat handle.old.value party
+        → IsOf old_size old_align old → IsOf new_size new_align new
+        → TellsShrink (HoldsPlace party place) place
+        party.allocator.scene.geometry.bucket.size old
+        (MayShrink party.allocator.scene.geometry.bucket place old new) result }
+    ensures not_a_layout { (party : Party) → IsPoolSeat handle.old.value party
+        → ¬ (IsLayout old_size old_align × IsLayout new_size new_align)
+        → result ≡ refused not_a_layout }
+    ensures not_made { IsNoPoolSeat handle.old.value → result ≡ refused not_made }
+    ensures kept { handle.new.value ≡ handle.old.value }
+{
+    let layouts = layouts_of(old_size, old_align, new_size, new_align);
+    let Some(made) = handle.take(alloc) else {
+        return Answer::refusal(code::NOT_MADE);
+    };
+    let answer = match &*made {
+        Made::PoolSeat(seat) => seat.shrink(place, layouts),
+        _ => Answer::refusal(code::NOT_MADE),
+    };
+    handle.put(made);
+    answer
+}
+
+/// How many bytes are reserved for the chunk at this place, if the seat holds its bucket.
+fn reserved(seat: &PoolSeat, place: usize) -> Figure
+    ensures value { HoldsPlace seat.now place
+        → result ≡ figure_of seat.now.allocator.scene.geometry.bucket.size }
+    ensures not_held { ¬ HoldsPlace seat.now place → result ≡ no_figure not_held }
+{
+    if !seat.holds(place) {
+        return Figure::refusal(code::NOT_HELD);
+    }
+    Figure::of(seat.pool().bucket_size())
+}
+
+/// How many bytes are reserved for the chunk at this place, whose bucket this seat has to hold: the bucket's size.
+///
+/// C guarantees of the handle what the crate's page says.
+#[unsafe(no_mangle)]
+pub extern "C" fn bb_shared_pool_reserved(
+    alloc: Global,
+    handle: &mut Handle,
+    place: usize,
+) -> Figure
+    ensures value { (party : Party) → IsPoolSeat handle.old.value party → HoldsPlace party place
+        → result ≡ figure_of party.allocator.scene.geometry.bucket.size }
+    ensures not_held { (party : Party) → IsPoolSeat handle.old.value party
+        → ¬ HoldsPlace party place → result ≡ no_figure not_held }
+    ensures not_made { IsNoPoolSeat handle.old.value → result ≡ no_figure not_made }
+    ensures kept { handle.new.value ≡ handle.old.value }
+{
+    let Some(made) = handle.take(alloc) else {
+        return Figure::refusal(code::NOT_MADE);
+    };
+    let figure = match &*made {
+        Made::PoolSeat(seat) => reserved(seat, place),
         _ => Figure::refusal(code::NOT_MADE),
     };
     handle.put(made);
