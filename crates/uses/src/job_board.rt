@@ -1,5 +1,6 @@
 //! Slots for jobs that threads share: a slot has one holder at a time.
 ghost use Rattle.std.specs.Prelude.{◌≡◌, ◌≢◌, ◌≤◌, ◌↔◌, ℕ, All, IfOk, IfErr, IsErr, vec_len};
+ghost use Rattle.bb_memory_base.specs.PoolGeometry.{IsCut};
 ghost use Rattle.bb_memory_base.specs.PoolLogs.{IsHeldAfter};
 ghost use Rattle.bb_memory_base.specs.Region.{region_at};
 ghost use Rattle.bb_memory.specs.Pool.{MayBeCut};
@@ -32,7 +33,8 @@ impl Model for JobBoard {
 }
 
 impl JobBoard {
-    /// A board over the region of `size` bytes at `start`, with slots for jobs of this layout, and its workers.
+    /// A board over the region of `size` bytes at `start`, with slots for jobs of this layout, and its workers. It is refused, with
+    /// `OutOfMemory`, only where memory was.
     pub fn new(
         alloc: Global,
         job: Layout,
@@ -42,9 +44,12 @@ impl JobBoard {
     ) -> Result<(JobBoard, Vec<PoolParty>), AllocationError>
         requires cut { MayBeCut (region_at start size) job }
         requires workers { 1 ≤ workers }
+        ensures slots { IfOk result (λ made. IsCut (region_at start size) job made.0.scene.geometry) }
+        ensures workers { IfOk result (λ made. made.0.scene.parties ≡ workers) }
         ensures as_many { IfOk result (λ made. vec_len made.1 ≡ workers) }
         ensures theirs { IfOk result
             (λ made. All (λ worker. worker.allocator ≡ made.0) made.1.items) }
+        ensures refused { IfErr result (λ error. error ≡ AllocationError.OutOfMemory) }
     {
         let (slots, parties) = SharedPoolAllocator::new(alloc, job, start, size, workers)?;
         Ok((JobBoard { slots, job }, parties))
@@ -100,6 +105,12 @@ impl JobBoard {
             (λ slot. IfOk result.1 (λ other. slot.number ≢ other.number)) }
         ensures has { IfOk result.0 (λ slot. IsHeldAfter here.new.log slot.number) }
         ensures its_has { IfOk result.1 (λ slot. IsHeldAfter there.new.log slot.number) }
+        ensures refused { IfErr result.0 (λ error. (error ≡ AllocationError.OutOfMemory) × (here.new
+            ≡ with_entries here.old
+            (refused_pass self.now.scene.geometry.buckets here.old.number))) }
+        ensures its_refused { IfErr result.1 (λ error. (error ≡ AllocationError.OutOfMemory) × (there.new
+            ≡ with_entries there.old
+            (refused_pass self.now.scene.geometry.buckets there.old.number))) }
     {
         let answers = thread::join_mut(rt, &mut || self.take(here), &mut || self.take(there));
         self.slots.meet(here, there);
