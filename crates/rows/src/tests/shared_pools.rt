@@ -198,7 +198,10 @@ fn shared_pool_bucket_by_number(rt: HostRuntime) -> Result<(), Fail> {
     let taken = pool.allocate(&mut party, asked)?;
     let (number, len) = (taken.number(), taken.chunk().len());
     let again = pool.bucket(&party, number, len);
-    assert_eq!(rt; (again.number(), again.chunk()), (0, Chunk::new(4104, 48).unwrap()));
+    assert_eq!(rt;
+        (again.number(), again.chunk()),
+        (0, Chunk::new(4104, 48).unwrap())
+    );
     pool.deallocate_bucket(&mut party, again);
     assert_eq!(rt; pool.allocate(&mut party, asked)?.number(), 0);
     Ok(())
@@ -211,7 +214,10 @@ fn shared_fixed_bucket_by_number(rt: HostRuntime) -> Result<(), Fail> {
     let bucket = Layout::from_size_align(128, 8)?;
     let (pool, mut parties) = shared_fixed_over(rt.alloc(), bucket, 4096, 511, 1)?;
     let mut party = parties.pop().unwrap();
-    assert_eq!(rt; (pool.number_at(4352), pool.number_at(4480)), (Some(2), None));
+    assert_eq!(rt;
+        (pool.number_at(4352), pool.number_at(4480)),
+        (Some(2), None)
+    );
     let taken = pool.allocate(&mut party, asked)?;
     let (number, len) = (taken.number(), taken.chunk().len());
     let again = pool.bucket(&party, number, len);
