@@ -157,9 +157,12 @@ pub Takes-still_held : (pool : Pool) (layout : Layout) (answer : Result Chunk Al
     Takes pool layout answer new → (place : ℕ) → HoldsPlace pool place → HoldsPlace new place
 Takes-still_held pool layout (Ok chunk) new (i, within, lacks, given, after) place (j, has, placed) =
     subst (λ (p : Pool). HoldsPlace p place) (sym after) (j, Has-set_true pool.held i j lacks has, placed)
-Takes-still_held pool layout (Err SizeTooLarge) new takes place holds = subst (λ (p : Pool). HoldsPlace p place) (sym takes.1) holds
-Takes-still_held pool layout (Err AlignmentFailure) new takes place holds = subst (λ (p : Pool). HoldsPlace p place) (sym takes.2) holds
-Takes-still_held pool layout (Err OutOfMemory) new takes place holds = subst (λ (p : Pool). HoldsPlace p place) (sym takes.2) holds
+Takes-still_held pool layout (Err SizeTooLarge) new takes place holds =
+    subst (λ (p : Pool). HoldsPlace p place) (sym takes.1) holds
+Takes-still_held pool layout (Err AlignmentFailure) new takes place holds =
+    subst (λ (p : Pool). HoldsPlace p place) (sym takes.2) holds
+Takes-still_held pool layout (Err OutOfMemory) new takes place holds =
+    subst (λ (p : Pool). HoldsPlace p place) (sym takes.2) holds
 Takes-still_held pool layout (Err SizeIsZero) new takes place holds = absurd takes
 
 -- a refusal leaves all

@@ -24,7 +24,8 @@ times_in_views-push : {S E : Type 0} (number : ℕ) (views : List (Seat S E)) (v
 times_in_views-push number [] view = omega arith
 times_in_views-push number (first ∷ views) view = let rest = times_in_views-push number views view in omega arith
 
-times_in-append : {E : Type 0} (number : ℕ) (xs ys : List (Numbered E)) → times_in number (xs ++ ys) ≡ times_in number xs + times_in number ys
+times_in-append : {E : Type 0} (number : ℕ) (xs ys : List (Numbered E)) →
+    times_in number (xs ++ ys) ≡ times_in number xs + times_in number ys
 times_in-append number [] ys = omega arith
 times_in-append number (x ∷ xs) ys = let rest = times_in-append number xs ys in omega arith
 
@@ -88,7 +89,8 @@ others_keep made logs log number (party ∷ parties) none_of have =
           )
     ]
 
-have-append : {E : Type 0} (made : ℕ) (logs : List (List E)) (xs ys : List (Numbered E)) → HaveLogs made logs xs → HaveLogs made logs ys →
+have-append : {E : Type 0} (made : ℕ) (logs : List (List E)) (xs ys : List (Numbered E)) →
+    HaveLogs made logs xs → HaveLogs made logs ys →
     HaveLogs made logs (xs ++ ys)
 have-append made logs [] ys first second = second
 have-append made logs (x ∷ xs) ys first second = (first.0, first.1, have-append made logs xs ys first.2 second)
@@ -240,9 +242,11 @@ pub fresh_more : {E : Type 0} (number count : ℕ) → number < count →
 fresh_more number count below = let is : count - number ≡ suc (count - (number + 1)) = omega arith in ap (fresh_from number) is
 
 -- what was dealt stands in its place, with one more
-pub given_more : {A : Type 0} (f : ℕ → A) (xs : List A) (x : A) → ((k : ℕ) → k < length xs → slice_get xs k ≡ Some (f k)) → x ≡ f (length xs) →
+pub given_more : {A : Type 0} (f : ℕ → A) (xs : List A) (x : A) →
+    ((k : ℕ) → k < length xs → slice_get xs k ≡ Some (f k)) → x ≡ f (length xs) →
     (k : ℕ) → k < length xs + 1 → slice_get (xs ++ x ∷ []) k ≡ Some (f k)
 given_more f [] x old is zero below = ap Some is
 given_more f [] x old is (suc k) below = absurd (omega arith)
 given_more f (y ∷ ys) x old is zero below = old zero (omega arith)
-given_more f (y ∷ ys) x old is (suc k) below = given_more (λ j. f (suc j)) ys x (λ j less. old (suc j) (omega arith)) is k (omega arith)
+given_more f (y ∷ ys) x old is (suc k) below =
+    given_more (λ j. f (suc j)) ys x (λ j less. old (suc j) (omega arith)) is k (omega arith)

@@ -30,5 +30,6 @@ closes scene seat party log view words homes position is last at =
     let state = last.0 in
     let rule = last.1.0 in
     let there = last.1.1 ∙ ap some is in
-    let found : rule.position ≡ position = some-injective _ _ (ap (λ (l : List ℕ). get_elem? l 0) (sym rule.words ∙ last.2) ∙ at) in
+    let found : rule.position ≡ position =
+    some-injective _ _ (ap (λ (l : List ℕ). get_elem? l 0) (sym rule.words ∙ last.2) ∙ at) in
     subst (TellsLast scene party log) found (last_known scene state rule seat party log there)

@@ -112,7 +112,8 @@ greater_of-found seen found above = omega arith
 
 -- LOADS
 
-pub loads_as : (scene : BumpScene) (slots seat party : ℕ) (log : BumpLog) (me : Me ℕ SeatView) → me ≡ (alone scene party log, []) →
+pub loads_as : (scene : BumpScene) (slots seat party : ℕ) (log : BumpLog) (me : Me ℕ SeatView) →
+    me ≡ (alone scene party log, []) →
     call_in log ≡ None →
     Allows (WordsAndLogsAgree scene) slots seat me 0 (λ found. found) (loads (step slots 0 0 0 none) me)
 loads_as scene slots seat party log me is idle =

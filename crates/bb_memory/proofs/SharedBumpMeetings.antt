@@ -49,7 +49,8 @@ meets_at scene slots seat a b state rule _ at _ =
       ),
     )
 
-pub meets_as : (scene : BumpScene) (slots seat : ℕ) (a b : NumberedLog) (me : Me ℕ SeatView) → me ≡ (standing_for scene (a ∷ b ∷ []), []) →
+pub meets_as : (scene : BumpScene) (slots seat : ℕ) (a b : NumberedLog) (me : Me ℕ SeatView) →
+    me ≡ (standing_for scene (a ∷ b ∷ []), []) →
     Allows (WordsAndLogsAgree scene) slots seat me 0 (λ found. found) (meets (step slots 0 0 0 none) me)
 meets_as scene slots seat a b me is =
     subst (λ (m : Me ℕ SeatView). Allows (WordsAndLogsAgree scene) slots seat m 0 (λ found. found) (meets (step slots 0 0 0 none) m)) (sym is)

@@ -32,7 +32,8 @@ read_answers region found layout fitting is =
     by_test true = refl
     by_test false = refl
 
-loss_answers : (region : Region) (found : ℕ) (call : OngoingCall) (fitting : Bool) → found ≢ call.seen → fits region found call.layout ≡ fitting →
+loss_answers : (region : Region) (found : ℕ) (call : OngoingCall) (fitting : Bool) →
+    found ≢ call.seen → fits region found call.layout ≡ fitting →
     (exchange_move region found call).outcome ≡ (if fitting then Loses found else RefusedAtLoss found)
 loss_answers region found call fitting apart is =
     let chunk = chunk_at region found call.layout in
@@ -60,7 +61,8 @@ module _ (scene : BumpScene) (party : ℕ) (log : BumpLog) (layout : Layout) (fo
       Tells scene party log (Read party layout) outcome found new
   read_told outcome is = subst (λ (o : BumpOutcome). Tells scene party log (Read party layout) o found new) is told
 
-  read_counted : (outcome : BumpOutcome) → HasPositionFrom (seen_in scene log) scene.region (entry_of (Read party layout) outcome) →
+  read_counted : (outcome : BumpOutcome) →
+      HasPositionFrom (seen_in scene log) scene.region (entry_of (Read party layout) outcome) →
       HasPositionUpTo scene.region.size scene.region (entry_of (Read party layout) outcome) → is_loss outcome ≡ false →
       IsCounted scene log (entry_of (Read party layout) outcome ∷ [])
   read_counted outcome from up_to no_loss =
@@ -140,7 +142,8 @@ module _ (scene : BumpScene) (party : ℕ) (log : BumpLog) (layout : Layout) (la
   pub goes_on : found ≢ last → fits scene.region found layout ≡ true → IsTrying scene party log layout found new
   goes_on apart fit =
       let above = above_least in
-      let tells = exchange_told (Loses found) (loss_answers scene.region found (record { layout = layout; seen = last }) true apart fit) in
+      let tells =
+      exchange_told (Loses found) (loss_answers scene.region found (record { layout = layout; seen = last }) true apart fit) in
       let risen = raises.0 in
       let less : last < found = grind (arith, risen, apart) in
       let lost = entry_of (Exchange party) (Loses found) in
@@ -179,13 +182,15 @@ module _ (scene : BumpScene) (party : ℕ) (log : BumpLog) (layout : Layout) (la
       }
 
   -- a win: the chunk is the one at what was seen last, and ends inside the region
-  pub wins : (chunk : Chunk) → found ≡ last → chunk ≡ chunk_at scene.region last layout → chunk_end chunk ≤ region_end scene.region →
+  pub wins : (chunk : Chunk) → found ≡ last → chunk ≡ chunk_at scene.region last layout →
+      chunk_end chunk ≤ region_end scene.region →
       HasWon scene party log layout new chunk
   wins chunk same placed inside =
       let region = scene.region in
       let decides = entry_of (Exchange party) (Wins chunk) in
       let it : chunk_at region found layout ≡ chunk = ap (λ (position : ℕ). chunk_at region position layout) same ∙ sym placed in
-      let tells = exchange_told (Wins chunk) (win_answers region found (record { layout = layout; seen = last }) same ∙ ap Wins it) in
+      let tells =
+      exchange_told (Wins chunk) (win_answers region found (record { layout = layout; seen = last }) same ∙ ap Wins it) in
       let above = above_least in
       let place = chunk_at-above region last layout in
       let end = ap (λ (c : Chunk). chunk_end c) placed in

@@ -11,7 +11,8 @@ use Rattle.bb_memory.specs.Seats.{both_of, first_of, others_of}
 use Rattle.bb_memory.specs.SharedBumpRule.{SeatView, WordsAndLogsAgree, all_parties, nobody}
 use Rattle.bb_memory.proofs.Seatings.{seated_both, seated_first, seated_opening, seated_others}
 
-pub gives_first : (scene : BumpScene) (seat : ℕ) (view : SeatView) → Splits (WordsAndLogsAgree scene) seat view (others_of view) (first_of view)
+pub gives_first : (scene : BumpScene) (seat : ℕ) (view : SeatView) →
+    Splits (WordsAndLogsAgree scene) seat view (others_of view) (first_of view)
 gives_first scene seat view state rule at = record {
   position = rule.position;
   logs = rule.logs;
@@ -22,7 +23,8 @@ gives_first scene seat view state rule at = record {
   seated = seated_others scene.parties rule.logs state.views seat view rule.seated at;
 }
 
-pub keeps_first : (scene : BumpScene) (seat : ℕ) (view : SeatView) → Splits (WordsAndLogsAgree scene) seat view (first_of view) (others_of view)
+pub keeps_first : (scene : BumpScene) (seat : ℕ) (view : SeatView) →
+    Splits (WordsAndLogsAgree scene) seat view (first_of view) (others_of view)
 keeps_first scene seat view state rule at = record {
   position = rule.position;
   logs = rule.logs;
@@ -33,7 +35,8 @@ keeps_first scene seat view state rule at = record {
   seated = seated_first scene.parties rule.logs state.views seat view rule.seated at;
 }
 
-pub gathers : (scene : BumpScene) (seat other : ℕ) (view guest : SeatView) → Joins (WordsAndLogsAgree scene) seat view other guest (both_of view guest) nobody
+pub gathers : (scene : BumpScene) (seat other : ℕ) (view guest : SeatView) →
+    Joins (WordsAndLogsAgree scene) seat view other guest (both_of view guest) nobody
 gathers scene seat other view guest state rule at apart there = record {
   position = rule.position;
   logs = rule.logs;
@@ -48,7 +51,8 @@ all_empty : (count : ℕ) → AllByRecursion (λ (log : BumpLog). log ≡ []) (r
 all_empty zero = tt
 all_empty (suc count) = (refl, all_empty count)
 
-pub opens : (scene : BumpScene) → scene.opening ≤ scene.region.size → WordsAndLogsAgree scene (opening (scene.opening ∷ []) [] (all_parties scene))
+pub opens : (scene : BumpScene) → scene.opening ≤ scene.region.size →
+    WordsAndLogsAgree scene (opening (scene.opening ∷ []) [] (all_parties scene))
 opens scene within = record {
   position = scene.opening;
   logs = replicate scene.parties [];

@@ -26,6 +26,7 @@ counted_more scene log tried entry counted from up_to few = record {
   losses = let more = losses_more tried entry in omega (arith, more, few);
 }
 
-pub won_then : (tried : BumpLog) (entry : BumpEntry) → chunks_won tried ≡ [] → chunks_won (tried ++ entry ∷ []) ≡ chunks_won (entry ∷ [])
+pub won_then : (tried : BumpLog) (entry : BumpEntry) → chunks_won tried ≡ [] →
+    chunks_won (tried ++ entry ∷ []) ≡ chunks_won (entry ∷ [])
 won_then tried entry none =
     won_grows tried (entry ∷ []) ∙ ap (λ (won : List Chunk). won ++ chunks_won (entry ∷ [])) none

@@ -64,7 +64,8 @@ history_held party is layouts live bucket run held =
 
 pub history_sound : (party : PoolParty) (is : IsParty party) (layouts : List Layout) (live : List Chunk) →
     IsHistoryRun party is layouts live → IsSound party.allocator.scene.geometry.region live
-history_sound party is layouts live run = run_is_sound party.allocator.scene is.interleaved.steps layouts live is.scene.geometry run
+history_sound party is layouts live run =
+    run_is_sound party.allocator.scene is.interleaved.steps layouts live is.scene.geometry run
 
 -- REFUSED PASSES
 

@@ -17,7 +17,8 @@ pub record IsMeasured (geometry : PoolGeometry) (first step : ℕ) : Type 0 wher
 
 -- the place is that of a bucket
 abbrev pub IsPlaceOfBucket : PoolGeometry → ℕ → Type 0
-IsPlaceOfBucket geometry place = (i : ℕ) × (i < geometry.buckets) × (place ≡ bucket_place geometry i)
+IsPlaceOfBucket geometry place =
+    (i : ℕ) × (i < geometry.buckets) × (place ≡ bucket_place geometry i)
 
 -- the set has a flag for each bucket, and the shift is that of the stride
 pub record IsHeldSet (geometry : PoolGeometry) (held : List Bool) (shift : Option ℕ) : Type 0 where

@@ -28,7 +28,8 @@ pub record HasRoom (region : Region) (layout : Layout) : Type 0 where
 -- the layout's place is at or behind the region's end, or its size ends behind it
 abbrev pub LacksRoom : Region → Layout → Type 0
 LacksRoom region layout =
-    (region_end region ≤ first_place region layout) ⊎ (region_end region < first_place region layout + layout.size)
+    (region_end region ≤ first_place region layout)
+    ⊎ (region_end region < first_place region layout + layout.size)
 
 -- What the one-chunk object may answer to a request, and when.
 abbrev pub MayAllocate : Region → List Chunk → Layout → Result Chunk AllocationError → Type 0
@@ -46,20 +47,24 @@ MayGrow region place old new (Ok grown) =
     (old.size < new.size) × (new.align ≤ old.align) × (new.size ≤ reserved_at region place)
     × (grown ≡ rest_from region place)
 MayGrow region place old new (Err grow.GrowWouldShrink) = new.size ≤ old.size
-MayGrow region place old new (Err grow.AlignmentFailure) = (old.size < new.size) × (old.align < new.align)
+MayGrow region place old new (Err grow.AlignmentFailure) =
+    (old.size < new.size) × (old.align < new.align)
 MayGrow region place old new (Err grow.OutOfMemory) =
     (old.size < new.size) × (new.align ≤ old.align) × (reserved_at region place < new.size)
 
 -- What it may answer where that chunk is to shrink, and when: it then has exactly the new size.
 abbrev pub MayShrink : ℕ → Layout → Layout → Result Chunk AllocationShrinkError → Type 0
 MayShrink place old new (Ok shrunk) =
-    (new.size < old.size) × (new.align ≤ old.align) × (shrunk ≡ record { place = place; len = new.size })
+    (new.size < old.size) × (new.align ≤ old.align)
+    × (shrunk ≡ record { place = place; len = new.size })
 MayShrink place old new (Err shrink.ShrinkWouldGrow) = old.size ≤ new.size
-MayShrink place old new (Err shrink.AlignmentFailure) = (new.size < old.size) × (old.align < new.align)
+MayShrink place old new (Err shrink.AlignmentFailure) =
+    (new.size < old.size) × (old.align < new.align)
 -- it never refuses so
 MayShrink place old new (Err shrink.SizeIsZero) = ⊥
 
 -- the list decides nothing for a resize
 abbrev pub one_chunk_object : Region → ResizableObject
 one_chunk_object region =
-    resizable_object_of (MayAllocate region) (reserved_at region) (λ live. MayGrow region) (λ live. MayShrink)
+    resizable_object_of (MayAllocate region) (reserved_at region)
+    (λ live. MayGrow region) (λ live. MayShrink)

@@ -82,8 +82,10 @@ Takes pool layout (Ok chunk) new =
     × (chunk ≡ chunk_in pool.geometry i layout) × (new ≡ with_flag pool i true)
 Takes pool layout (Err SizeTooLarge) new = (pool.geometry.bucket.size < layout.size) × (new ≡ pool)
 Takes pool layout (Err AlignmentFailure) new =
-    (layout.size ≤ pool.geometry.bucket.size) × (pool.geometry.bucket.align < layout.align) × (new ≡ pool)
-Takes pool layout (Err OutOfMemory) new = IsWithin pool.geometry.bucket layout × IsFull pool.held × (new ≡ pool)
+    (layout.size ≤ pool.geometry.bucket.size) × (pool.geometry.bucket.align < layout.align)
+    × (new ≡ pool)
+Takes pool layout (Err OutOfMemory) new =
+    IsWithin pool.geometry.bucket layout × IsFull pool.held × (new ≡ pool)
 -- it never refuses so
 Takes pool layout (Err SizeIsZero) new = ⊥
 

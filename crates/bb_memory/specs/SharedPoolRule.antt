@@ -91,7 +91,11 @@ unfolding lib.Count.ones
 no_bytes = record {
   size = 0;
   align = 1;
-  valid = record { power_of_two = refl; positive = zero-lt-suc 0; fits = zero-lt-suc 9223372036854775807 };
+  valid = record {
+    power_of_two = refl;
+    positive = zero-lt-suc 0;
+    fits = zero-lt-suc 9223372036854775807;
+  };
 }
 
 -- a view of no party

@@ -135,14 +135,16 @@ impl BumpAllocator {
         requires parties { 1 ≤ parties }
 
         // The machine begins at this region and position, with these parties.
-        ensures scene { IfOk result (λ shared. shared.0.scene ≡ scene_at self.region self.used parties) }
+        ensures scene { IfOk result (λ shared.
+            shared.0.scene ≡ scene_at self.region self.used parties) }
 
         // There are as many parties as asked, all of this shared bump, numbered from 0, with empty logs.
         ensures parties { IfOk result (λ shared. shared.0.scene.parties ≡ parties) }
         ensures as_many { IfOk result (λ shared. length shared.1.items ≡ parties) }
         ensures fresh { IfOk result (λ shared. (number : ℕ) → number < parties
             → slice_get shared.1.items number ≡ Some (fresh_party shared.0 number)) }
-        ensures theirs { IfOk result (λ shared. All (λ party. party.allocator ≡ shared.0) shared.1.items) }
+        ensures theirs { IfOk result (λ shared.
+            All (λ party. party.allocator ≡ shared.0) shared.1.items) }
 
         ensures kept { IfErr result (λ refused. refused.0 ≡ self) }
         ensures refused { IfErr result (λ refused. refused.1 ≡ OutOfMemory) }
@@ -205,7 +207,8 @@ impl BaseAllocator for BumpAllocator {
         ensures appended { IfOk result (λ chunk. (live : List Chunk)
             → StandsFor self.old.region self.old.used live
             → StandsFor self.new.region self.new.used (live ++ chunk ∷ [])) }
-        ensures kept { OnErr result ((live : List Chunk) → StandsFor self.old.region self.old.used live
+        ensures kept { OnErr result ((live : List Chunk)
+            → StandsFor self.old.region self.old.used live
             → StandsFor self.new.region self.new.used live) }
         ensures inside { IfOk result (IsInside self.old.region) }
         ensures aligned { IfOk result (λ chunk. chunk.place % layout.align ≡ 0) }
@@ -220,10 +223,12 @@ impl BaseAllocator for BumpAllocator {
         ensures begins { IfOk result (λ chunk. chunk.place
             ≡ least_place (self.old.region.start + self.old.used) layout.align) }
         ensures exact_size { IfOk result (λ chunk. chunk.len ≡ layout.size) }
-        ensures behind { IfOk result (λ chunk. self.old.region.start + self.old.used ≤ chunk.place) }
+        ensures behind { IfOk result (λ chunk.
+            self.old.region.start + self.old.used ≤ chunk.place) }
 
         // What is used then ends with the chunk, and a refusal leaves everything.
-        ensures used { IfOk result (λ chunk. self.new.region.start + self.new.used ≡ chunk_end chunk) }
+        ensures used { IfOk result (λ chunk.
+            self.new.region.start + self.new.used ≡ chunk_end chunk) }
         ensures still { OnErr result (self.new ≡ self.old) }
     {
         if layout.size() == 0 {
@@ -259,7 +264,8 @@ impl BaseAllocator for BumpAllocator {
         ensures appended { IfOk result (λ chunk. (live : List Chunk)
             → StandsFor self.old.region self.old.used live
             → StandsFor self.new.region self.new.used (live ++ chunk ∷ [])) }
-        ensures kept { OnErr result ((live : List Chunk) → StandsFor self.old.region self.old.used live
+        ensures kept { OnErr result ((live : List Chunk)
+            → StandsFor self.old.region self.old.used live
             → StandsFor self.new.region self.new.used live) }
         ensures inside { IfOk result (IsInside self.old.region) }
         ensures aligned { IfOk result (λ chunk. chunk.place % layout.align ≡ 0) }
@@ -274,10 +280,12 @@ impl BaseAllocator for BumpAllocator {
         ensures begins { IfOk result (λ chunk. chunk.place
             ≡ least_place (self.old.region.start + self.old.used) layout.align) }
         ensures exact_size { IfOk result (λ chunk. chunk.len ≡ layout.size) }
-        ensures behind { IfOk result (λ chunk. self.old.region.start + self.old.used ≤ chunk.place) }
+        ensures behind { IfOk result (λ chunk.
+            self.old.region.start + self.old.used ≤ chunk.place) }
 
         // What is used then ends with the chunk, and a refusal leaves everything.
-        ensures used { IfOk result (λ chunk. self.new.region.start + self.new.used ≡ chunk_end chunk) }
+        ensures used { IfOk result (λ chunk.
+            self.new.region.start + self.new.used ≡ chunk_end chunk) }
         ensures still { OnErr result (self.new ≡ self.old) }
 
         ensures zeroed { IfOk result (λ chunk. ZeroesOnly region.old region.new chunk) }
@@ -311,10 +319,12 @@ pub fn run_bump(
     requires { StandsFor allocator.old.region allocator.old.used live.old.items }
     ensures run { IfOk result (λ replies. IsRun (Step (bump_object allocator.old.region))
         live.old.items commands.now replies.items live.new.items) }
-    ensures stands { OnOk result (StandsFor allocator.new.region allocator.new.used live.new.items) }
+    ensures stands { OnOk result
+        (StandsFor allocator.new.region allocator.new.used live.new.items) }
     ensures sound { OnOk result (IsSound allocator.old.region live.new.items) }
     ensures geometry { allocator.new.region ≡ allocator.old.region }
-    ensures kept { OnErr result ((allocator.new ≡ allocator.old) × (live.new.items ≡ live.old.items)) }
+    ensures kept { OnErr result
+        ((allocator.new ≡ allocator.old) × (live.new.items ≡ live.old.items)) }
 {
     run_base(allocator, live, commands)
 }

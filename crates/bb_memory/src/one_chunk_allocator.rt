@@ -394,7 +394,8 @@ impl Allocator for OneChunkAllocator {
 
     ghost covered = { covered };
 
-    ghost only_live = { λ one live place stands out. kept_is_live one.kept live place stands.keeps out };
+    ghost only_live = { λ one live place stands out.
+        kept_is_live one.kept live place stands.keeps out };
 }
 
 /// Applies the commands in order, as [`run_full`] does: the replies and the live list are a run of the one-chunk object over
@@ -405,12 +406,14 @@ pub fn run_one_chunk(
     commands: &[Command],
 ) -> Result<Vec<Reply>, AllocError>
     requires { StandsFor allocator.old live.old.items }
-    ensures run { IfOk result (λ replies. IsRun (ResizableStep (one_chunk_object allocator.old.region))
+    ensures run { IfOk result (λ replies.
+        IsRun (ResizableStep (one_chunk_object allocator.old.region))
         live.old.items commands.now replies.items live.new.items) }
     ensures stands { OnOk result (StandsFor allocator.new live.new.items) }
     ensures sound { OnOk result (IsSound allocator.old.region live.new.items) }
     ensures geometry { allocator.new.region ≡ allocator.old.region }
-    ensures kept { OnErr result ((allocator.new ≡ allocator.old) × (live.new.items ≡ live.old.items)) }
+    ensures kept { OnErr result
+        ((allocator.new ≡ allocator.old) × (live.new.items ≡ live.old.items)) }
 {
     run_full(allocator, live, commands)
 }

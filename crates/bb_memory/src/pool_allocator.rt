@@ -288,7 +288,8 @@ impl<A: LanguageAllocator> BaseAllocator for PoolAllocator<A> {
         ensures was_free { IfOk result (λ chunk. ¬ HoldsPlace self.old.pool chunk.place) }
         ensures apart { IfOk result (λ chunk. (place : ℕ) → HoldsPlace self.old.pool place
             → AreAStrideApart self.old.pool.geometry.bucket place chunk.place) }
-        ensures still_held { (place : ℕ) → HoldsPlace self.old.pool place → HoldsPlace self.new.pool place }
+        ensures still_held { (place : ℕ)
+            → HoldsPlace self.old.pool place → HoldsPlace self.new.pool place }
         ensures bucket_aligned { IfOk result
             (λ chunk. chunk.place % self.old.pool.geometry.bucket.align ≡ 0) }
         ensures reads { Reads self.old.pool.geometry.bucket layout
@@ -348,7 +349,8 @@ impl<A: LanguageAllocator> BaseAllocator for PoolAllocator<A> {
         ensures was_free { IfOk result (λ chunk. ¬ HoldsPlace self.old.pool chunk.place) }
         ensures apart { IfOk result (λ chunk. (place : ℕ) → HoldsPlace self.old.pool place
             → AreAStrideApart self.old.pool.geometry.bucket place chunk.place) }
-        ensures still_held { (place : ℕ) → HoldsPlace self.old.pool place → HoldsPlace self.new.pool place }
+        ensures still_held { (place : ℕ)
+            → HoldsPlace self.old.pool place → HoldsPlace self.new.pool place }
         ensures bucket_aligned { IfOk result
             (λ chunk. chunk.place % self.old.pool.geometry.bucket.align ≡ 0) }
         ensures reads { Reads self.old.pool.geometry.bucket layout
@@ -505,12 +507,14 @@ pub fn run_pool(
     commands: &[Command],
 ) -> Result<Vec<Reply>, AllocError>
     requires { StandsFor allocator.old.pool live.old.items }
-    ensures run { IfOk result (λ replies. IsRun (ResizableStep (pool_object allocator.old.pool.geometry))
+    ensures run { IfOk result (λ replies.
+        IsRun (ResizableStep (pool_object allocator.old.pool.geometry))
         live.old.items commands.now replies.items live.new.items) }
     ensures stands { OnOk result (StandsFor allocator.new.pool live.new.items) }
     ensures sound { OnOk result (IsSound allocator.old.pool.geometry.region live.new.items) }
     ensures geometry { allocator.new.pool.geometry ≡ allocator.old.pool.geometry }
-    ensures kept { OnErr result ((allocator.new ≡ allocator.old) × (live.new.items ≡ live.old.items)) }
+    ensures kept { OnErr result
+        ((allocator.new ≡ allocator.old) × (live.new.items ≡ live.old.items)) }
 {
     run_full(allocator, live, commands)
 }
@@ -523,12 +527,14 @@ pub fn run_base_pool(
     commands: &[Command],
 ) -> Result<Vec<Reply>, AllocError>
     requires { StandsFor allocator.old.pool live.old.items }
-    ensures run { IfOk result (λ replies. IsRun (Step (pool_object allocator.old.pool.geometry).base)
+    ensures run { IfOk result (λ replies.
+        IsRun (Step (pool_object allocator.old.pool.geometry).base)
         live.old.items commands.now replies.items live.new.items) }
     ensures stands { OnOk result (StandsFor allocator.new.pool live.new.items) }
     ensures sound { OnOk result (IsSound allocator.old.pool.geometry.region live.new.items) }
     ensures geometry { allocator.new.pool.geometry ≡ allocator.old.pool.geometry }
-    ensures kept { OnErr result ((allocator.new ≡ allocator.old) × (live.new.items ≡ live.old.items)) }
+    ensures kept { OnErr result
+        ((allocator.new ≡ allocator.old) × (live.new.items ≡ live.old.items)) }
 {
     run_base(allocator, live, commands)
 }

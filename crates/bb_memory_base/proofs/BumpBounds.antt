@@ -18,7 +18,8 @@ position_in_size scene steps within =
     let healthy = healthy_after scene steps within in
     StandsFor-within scene.region (left_by scene steps).position healthy.live healthy.stands
 
-pub seen_in_size : (scene : BumpScene) (steps : List BumpStep) (party : ℕ) (call : OngoingCall) → scene.opening ≤ scene.region.size →
+pub seen_in_size : (scene : BumpScene) (steps : List BumpStep) (party : ℕ) (call : OngoingCall) →
+    scene.opening ≤ scene.region.size →
     IsInCall (left_by scene steps) party call → call.seen ≤ scene.region.size
 seen_in_size scene steps party call within is =
     let healthy = healthy_after scene steps within in
@@ -27,11 +28,13 @@ seen_in_size scene steps party call within is =
     let ends = leb-true (chunk_end chunk) (region_end scene.region) fit.fitting in
     omega (arith, ends, chunk_at-above scene.region call.seen call.layout)
 
-pub call_grows : (call : Option OngoingCall) (log more : BumpLog) → call_through call (log ++ more) ≡ call_through (call_through call log) more
+pub call_grows : (call : Option OngoingCall) (log more : BumpLog) →
+    call_through call (log ++ more) ≡ call_through (call_through call log) more
 call_grows call [] more = refl
 call_grows call (entry ∷ log) more = call_grows (call_after call entry) log more
 
-pub seen_grows : (region : Region) (seen : ℕ) (log more : BumpLog) → greatest_in region seen (log ++ more) ≡ greatest_in region (greatest_in region seen log) more
+pub seen_grows : (region : Region) (seen : ℕ) (log more : BumpLog) →
+    greatest_in region seen (log ++ more) ≡ greatest_in region (greatest_in region seen log) more
 seen_grows region seen [] more = refl
 seen_grows region seen (entry ∷ log) more = seen_grows region (greater_of seen (position_in region entry.outcome)) log more
 

@@ -26,13 +26,15 @@ own_call : (region : Region) (state : BumpState) (step : BumpStep) (move : BumpM
     slice_get move.state.calls party ≡ Some (call_after now (entry_of step move.outcome))
 own_call region state step move party now (sees other layout idle asks fit) by at =
     written state other party None (Some (record { layout = layout; seen = state.position })) by idle
-own_call region state step move party now (refuses_read other layout idle asks fit) by at = written state other party None None by idle
+own_call region state step move party now (refuses_read other layout idle asks fit) by at =
+    written state other party None None by idle
 own_call region state step move party now (wins other call is same) by at = written state other party (Some call) None by is
 own_call region state step move party now (loses other call is apart fit) by at =
     let was = same_Some (Some call) now (sym is ∙ ap (slice_get state.calls) (same_from_test other party by) ∙ at) in
     written state other party (Some call) (Some (record { layout = call.layout; seen = state.position })) by is
     ∙ ap (λ (ongoing : Option OngoingCall). Some (option_map (seen_at state.position) ongoing)) was
-own_call region state step move party now (refuses_loss other call is apart fit) by at = written state other party (Some call) None by is
+own_call region state step move party now (refuses_loss other call is apart fit) by at =
+    written state other party (Some call) None by is
 own_call region state step move party now (loads other idle) by at = at
 own_call region state step move party now clears by at = absurd (cc)
 own_call region state step move party now (passes other) by at = at
@@ -108,7 +110,8 @@ agree_step scene position logs party log step agree at own others allowed =
     let state = opening_state scene in
     let history = history_of scene agree.steps in
     let entry : BumpEntry = entry_at scene.region (left_by scene agree.steps) step in
-    let longer : history_of scene (agree.steps ++ step ∷ []) ≡ history ++ entry ∷ [] = history-push scene.region state agree.steps step in
+    let longer : history_of scene (agree.steps ++ step ∷ []) ≡ history ++ entry ∷ [] =
+    history-push scene.region state agree.steps step in
     record {
       steps = agree.steps ++ step ∷ [];
       allowed = subst AllAllowed (sym longer) (All-push (λ (e : BumpEntry). IsAllowed e.outcome) history entry agree.allowed allowed);
@@ -200,7 +203,8 @@ exchange_agrees scene position logs party log call agree at within is =
     let allowed = subst (λ (move : BumpMove). IsAllowed move.outcome) (sym moves)
     (exchange_allowed state.position (position_behind region chunk) chunk call.layout (state.position == call.seen)
     (fits region state.position call.layout)) in
-    let step = agree_step scene position logs party log (Exchange party) agree at (test_same party party refl) (not_others party) allowed in
+    let step =
+    agree_step scene position logs party log (Exchange party) agree at (test_same party party refl) (not_others party) allowed in
     let made = subst (λ (move : BumpMove). LogsAgree scene move.state.position
     (with_entry logs party log (entry_of (Exchange party) move.outcome))) moves step in
     subst (λ (found : ℕ). LogsAgree scene (exchange_move region found call).position
@@ -215,7 +219,8 @@ load_agrees scene position logs party log agree at within is =
     let moves : bump_step scene.region state (Load party) ≡ record { outcome = Loaded state.position; state = state } =
     ap (load state) idle in
     let allowed = subst (λ (move : BumpMove). IsAllowed move.outcome) (sym moves) tt in
-    let step = agree_step scene position logs party log (Load party) agree at (test_same party party refl) (not_others party) allowed in
+    let step =
+    agree_step scene position logs party log (Load party) agree at (test_same party party refl) (not_others party) allowed in
     let made = subst (λ (move : BumpMove). LogsAgree scene move.state.position
     (with_entry logs party log (entry_of (Load party) move.outcome))) moves step in
     subst (λ (found : ℕ). LogsAgree scene found (with_entry logs party log (entry_of (Load party) (Loaded found)))) agree.leaves made

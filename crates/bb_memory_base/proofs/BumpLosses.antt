@@ -22,7 +22,8 @@ SeesNoMore state party = (call : OngoingCall) → IsInCall state party call → 
 less_when_apart : (position old seen : ℕ) → position ≢ old → old ≡ seen → seen ≤ position → seen < position
 less_when_apart position old seen apart same below = grind (arith, apart)
 
-own_sees : (region : Region) (state : BumpState) (step : BumpStep) (move : BumpMove) (party : ℕ) → StepView region state step move →
+own_sees : (region : Region) (state : BumpState) (step : BumpStep) (move : BumpMove) (party : ℕ) →
+    StepView region state step move →
     ¬ IsClear step → is_by party step ≡ true → SeesNoMore state party → SeesNoMore move.state party
 own_sees region state step move party (sees other layout idle asks fit) not by below = λ call is.
     let same = same_Some _ call (call_written state other party None
@@ -42,7 +43,8 @@ own_sees region state step move party (loads other idle) not by below = below
 own_sees region state step move party clears not by below = absurd (not tt)
 own_sees region state step move party (passes other) not by below = below
 
-step_sees : (region : Region) (state : BumpState) (step : BumpStep) (party : ℕ) (own : Bool) → is_by party step ≡ own → ¬ IsClear step →
+step_sees : (region : Region) (state : BumpState) (step : BumpStep) (party : ℕ) (own : Bool) →
+    is_by party step ≡ own → ¬ IsClear step →
     SeesNoMore state party → SeesNoMore (bump_step region state step).state party
 step_sees region state step party true by not below =
     own_sees region state step (bump_step region state step) party (step_view region state step) not by below
@@ -52,7 +54,8 @@ step_sees region state step party false by not below = λ call is.
     let before = below call (sym (others_stay region state step move party view by) ∙ is) in
     omega (arith, before, position_rises region state step move view not)
 
-pub stretch_sees : (region : Region) (state : BumpState) (steps : List BumpStep) (party : ℕ) → HasNoClear steps → SeesNoMore state party →
+pub stretch_sees : (region : Region) (state : BumpState) (steps : List BumpStep) (party : ℕ) →
+    HasNoClear steps → SeesNoMore state party →
     SeesNoMore (bump_after region state steps) party
 stretch_sees region state [] party none below = below
 stretch_sees region state (step ∷ steps) party none below =
@@ -121,7 +124,8 @@ own_idle_turn region state step move party (sees other layout idle asks fit) not
     begins call (written state other party None (Some call) by idle) refl refl
 own_idle_turn region state step move party (refuses_read other layout idle asks fit) not by now =
     stays (written state other party None None by idle) refl
-own_idle_turn region state step move party (wins other call at same) not by now = absurd (in_call_or_idle state other party call by at now)
+own_idle_turn region state step move party (wins other call at same) not by now =
+    absurd (in_call_or_idle state other party call by at now)
 own_idle_turn region state step move party (loses other call at apart fit) not by now =
     absurd (in_call_or_idle state other party call by at now)
 own_idle_turn region state step move party (refuses_loss other call at apart fit) not by now =
@@ -175,7 +179,8 @@ unfolding losses_from
 losses_from-nil region state party = refl
 
 -- an idle party that begins no call loses nothing
-idle_loses_nothing : (region : Region) (state : BumpState) (steps : List BumpStep) (party : ℕ) → HasNoClear steps → IsIdle state party →
+idle_loses_nothing : (region : Region) (state : BumpState) (steps : List BumpStep) (party : ℕ) →
+    HasNoClear steps → IsIdle state party →
     begun_from region state steps party ≡ 0 → losses_from region state steps party ≡ 0
 idle_loses_nothing region state [] party none now few = losses_from-nil region state party
 idle_loses_nothing region state (step ∷ steps) party none now few =
@@ -213,7 +218,8 @@ call_loses_little region state (step ∷ steps) party call none below is few =
           omega (arith, count, more, rest, stretch_rises region next steps parts.1)
     ]
 
-one_call_loses_little : (region : Region) (state : BumpState) (steps : List BumpStep) (party : ℕ) → HasNoClear steps → IsIdle state party →
+one_call_loses_little : (region : Region) (state : BumpState) (steps : List BumpStep) (party : ℕ) →
+    HasNoClear steps → IsIdle state party →
     begun_from region state steps party ≤ 1 → losses_from region state steps party ≤ (bump_after region state steps).position
 one_call_loses_little region state [] party none now few = omega (arith, losses_from-nil region state party)
 one_call_loses_little region state (step ∷ steps) party none now few =
@@ -264,7 +270,8 @@ pub losses_raise : (scene : BumpScene) (before stretch : List BumpStep) (party p
     IsLossAt position (outcome_after scene (before ++ stretch) (Exchange party)) → call.seen < position
 losses_raise scene before stretch party position call within idle none is lost =
     let state = left_by scene (before ++ stretch) in
-    let later = stretch_sees scene.region (left_by scene before) stretch party none (idle_sees (left_by scene before) party idle) in
+    let later =
+    stretch_sees scene.region (left_by scene before) stretch party none (idle_sees (left_by scene before) party idle) in
     let below = subst (λ (state : BumpState). SeesNoMore state party)
     (sym (bump_after-append scene.region (opening_state scene) before stretch)) later in
     loss_raises scene.region state (bump_step scene.region state (Exchange party)) party position call

@@ -31,7 +31,8 @@ all_append : (P : Chunk → Type 0) (xs ys : List Chunk) → AllByRecursion P xs
 all_append P [] ys first more = more
 all_append P (x ∷ xs) ys (here, rest) more = (here, all_append P xs ys rest more)
 
-all_both : (P Q : Chunk → Type 0) (xs : List Chunk) → AllByRecursion P xs → AllByRecursion Q xs → AllByRecursion (λ x. P x × Q x) xs
+all_both : (P Q : Chunk → Type 0) (xs : List Chunk) → AllByRecursion P xs → AllByRecursion Q xs →
+    AllByRecursion (λ x. P x × Q x) xs
 all_both P Q [] ps qs = tt
 all_both P Q (x ∷ xs) (p, ps) (q, qs) = ((p, q), all_both P Q xs ps qs)
 
@@ -61,7 +62,8 @@ abbrev pub AllApart : List Chunk → List Chunk → Type 0
 AllApart xs ys = AllByRecursion (λ x. AllByRecursion (AreApart x) ys) xs
 
 -- a list that follows another is apart from it
-pub apart_behind : (v : ℕ) (xs ys : List Chunk) → AllByRecursion (λ x. chunk_end x ≤ v) xs → AllByRecursion (λ y. v ≤ y.place) ys →
+pub apart_behind : (v : ℕ) (xs ys : List Chunk) → AllByRecursion (λ x. chunk_end x ≤ v) xs →
+    AllByRecursion (λ y. v ≤ y.place) ys →
     AllApart xs ys
 apart_behind v [] ys below above = tt
 apart_behind v (x ∷ xs) ys (here, below) above = (

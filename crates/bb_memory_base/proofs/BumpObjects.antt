@@ -38,8 +38,10 @@ one_answer region live layout (Err SizeIsZero) (Err SizeIsZero) first second = r
 one_answer region live layout (Err OutOfMemory) (Err OutOfMemory) first second = refl
 one_answer region live layout (Ok c) (Err SizeIsZero) first second = absurd (omega arith)
 one_answer region live layout (Err SizeIsZero) (Ok c) first second = absurd (omega arith)
-one_answer region live layout (Ok c) (Err OutOfMemory) first second = absurd (omega (arith, ap (λ (k : Chunk). chunk_end k) first.2))
-one_answer region live layout (Err OutOfMemory) (Ok c) first second = absurd (omega (arith, ap (λ (k : Chunk). chunk_end k) second.2))
+one_answer region live layout (Ok c) (Err OutOfMemory) first second =
+    absurd (omega (arith, ap (λ (k : Chunk). chunk_end k) first.2))
+one_answer region live layout (Err OutOfMemory) (Ok c) first second =
+    absurd (omega (arith, ap (λ (k : Chunk). chunk_end k) second.2))
 one_answer region live layout (Err OutOfMemory) (Err SizeIsZero) first second = absurd (omega arith)
 one_answer region live layout (Err SizeIsZero) (Err OutOfMemory) first second = absurd (omega arith)
 one_answer region live layout (Err SizeTooLarge) other first second = absurd first

@@ -29,7 +29,8 @@ step_leaves : (region : Region) (state : BumpState) (step : BumpStep) (move : Bu
     greater_of state.position (position_in region move.outcome) ≡ move.state.position
 step_leaves region state step move (sees party layout idle asks fit) allowed = omega arith
 step_leaves region state step move (refuses_read party layout idle asks fit) allowed = omega arith
-step_leaves region state step move (wins party call is same) allowed = omega (arith, chunk_at-above region state.position call.layout)
+step_leaves region state step move (wins party call is same) allowed =
+    omega (arith, chunk_at-above region state.position call.layout)
 step_leaves region state step move (loses party call is apart fit) allowed = omega arith
 step_leaves region state step move (refuses_loss party call is apart fit) allowed = omega arith
 step_leaves region state step move (loads party idle) allowed = omega arith
@@ -130,7 +131,8 @@ call_fits scene position logs party log call agree at inside is =
 
 -- WHAT A PARTY HAS SEEN
 
-greatest_in-below : (region : Region) (seen bound : ℕ) (log : BumpLog) → seen ≤ bound → AllByRecursion (HasPositionUpTo bound region) log →
+greatest_in-below : (region : Region) (seen bound : ℕ) (log : BumpLog) → seen ≤ bound →
+    AllByRecursion (HasPositionUpTo bound region) log →
     greatest_in region seen log ≤ bound
 greatest_in-below region seen bound [] below all = below
 greatest_in-below region seen bound (entry ∷ log) below (here, rest) =
@@ -160,7 +162,8 @@ own_alone region state step move (loses party call is apart fit) allowed one =
     test_same party 0 (slice_get-single state.calls party (Some call) one is)
 own_alone region state step move (refuses_loss party call is apart fit) allowed one =
     test_same party 0 (slice_get-single state.calls party (Some call) one is)
-own_alone region state step move (loads party idle) allowed one = test_same party 0 (slice_get-single state.calls party None one idle)
+own_alone region state step move (loads party idle) allowed one =
+    test_same party 0 (slice_get-single state.calls party None one idle)
 own_alone region state step move clears allowed one = absurd allowed
 own_alone region state step move (passes other) allowed one = absurd allowed
 
@@ -184,7 +187,8 @@ pub alone_exact : (scene : BumpScene) (position : ℕ) (logs : List BumpLog) (lo
     LogsAgree scene position logs → HasLog logs 0 log →
     position ≡ seen_in scene log
 alone_exact scene position logs log one agree at =
-    let exact = greatest_alone scene.region (opening_state scene) agree.steps (length-replicate scene.parties None ∙ one) agree.allowed in
+    let exact =
+    greatest_alone scene.region (opening_state scene) agree.steps (length-replicate scene.parties None ∙ one) agree.allowed in
     sym agree.leaves ∙ sym exact ∙ ap (seen_in scene) (agree.each 0 log at)
 
 -- INTERLEAVINGS

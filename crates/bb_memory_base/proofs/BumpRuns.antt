@@ -58,7 +58,8 @@ chunk_at-next region position live layout stands =
     ap (λ v. chunk_at_or_after v layout) (StandsFor-end region position live stands)
 
 -- the chunk at a position begins at or after it
-pub chunk_at-above : (region : Region) (position : ℕ) (layout : Layout) → region.start + position ≤ (chunk_at region position layout).place
+pub chunk_at-above : (region : Region) (position : ℕ) (layout : Layout) →
+    region.start + position ≤ (chunk_at region position layout).place
 chunk_at-above region position layout = (least_place-is (region.start + position) layout.align layout.valid.positive).above
 
 -- one more chunk is won
@@ -71,7 +72,8 @@ StandsFor-won region position live layout stands fit =
     (omega (arith, StandsFor-end region position live stands, chunk_at-above region position layout))
     (leb-true (chunk_end chunk) (region_end region) fit)
 
-call_none : (region : Region) (live : List Chunk) (position : ℕ) → StandsFor region position live → MakesCalls region live [] position
+call_none : (region : Region) (live : List Chunk) (position : ℕ) → StandsFor region position live →
+    MakesCalls region live [] position
 call_none region live position stands = record { run = refl; stands = stands }
 
 call_refused : (region : Region) (live : List Chunk) (position : ℕ) (layout : Layout) → StandsFor region position live →
@@ -107,7 +109,8 @@ step_makes : (region : Region) (state : BumpState) (live : List Chunk) (step : B
     StepView region state step move →
     StandsFor region state.position live → AllFitting region state →
     MakesCalls region live (decided move.outcome (asked_by state step)) move.state.position
-step_makes region state live step move (sees party layout idle asks fit) stands fitting = call_none region live state.position stands
+step_makes region state live step move (sees party layout idle asks fit) stands fitting =
+    call_none region live state.position stands
 step_makes region state live step move (refuses_read party layout idle asks fit) stands fitting =
     call_refused region live state.position layout stands asks fit
 step_makes region state live step move (wins party call is same) stands fitting =
@@ -117,7 +120,8 @@ step_makes region state live step move (wins party call is same) stands fitting 
     let made = call_won region live state.position call.layout stands own.asks now in
     let asked = sym (ap layout_in is) in
     subst (λ (layout : Option Layout). MakesCalls region live (decided (Wins chunk) layout) (position_behind region chunk)) asked made
-step_makes region state live step move (loses party call is apart fit) stands fitting = call_none region live state.position stands
+step_makes region state live step move (loses party call is apart fit) stands fitting =
+    call_none region live state.position stands
 step_makes region state live step move (refuses_loss party call is apart fit) stands fitting =
     let made = call_refused region live state.position call.layout stands (fitting party call is).asks fit in
     let asked = sym (ap layout_in is) in
@@ -128,7 +132,8 @@ step_makes region state live step move (passes other) stands fitting = call_none
 
 -- ANY LIST OF STEPS
 
-steps_make : (region : Region) (state : BumpState) (live : List Chunk) (steps : List BumpStep) → StandsFor region state.position live →
+steps_make : (region : Region) (state : BumpState) (live : List Chunk) (steps : List BumpStep) →
+    StandsFor region state.position live →
     AllFitting region state → MakesCalls region live (bump_calls region state steps) (bump_after region state steps).position
 steps_make region state live [] stands fitting = call_none region live state.position stands
 steps_make region state live (step ∷ steps) stands fitting =

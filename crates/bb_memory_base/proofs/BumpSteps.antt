@@ -35,7 +35,8 @@ positive_from_test n test = grind (arith, nat_tests)
 pub data StepView (region : Region) (state : BumpState) : BumpStep → BumpMove → Type 0 where
   sees : (party : ℕ) (layout : Layout) → IsIdle state party → 0 < layout.size → fits region state.position layout ≡ true →
       StepView region state (Read party layout) (moved state party (seeing (Sees state.position) state.position layout))
-  refuses_read : (party : ℕ) (layout : Layout) → IsIdle state party → 0 < layout.size → fits region state.position layout ≡ false →
+  refuses_read : (party : ℕ) (layout : Layout) → IsIdle state party → 0 < layout.size →
+      fits region state.position layout ≡ false →
       StepView region state (Read party layout) (moved state party (ending (RefusedAtRead state.position) state.position))
   wins : (party : ℕ) (call : OngoingCall) → IsInCall state party call → state.position ≡ call.seen →
       StepView region state (Exchange party)
@@ -58,7 +59,8 @@ idle_view : (region : Region) (state : BumpState) (party : ℕ) (layout : Layout
     else ending (RefusedAtRead state.position) state.position))
 idle_view region state party layout true fitting idle size fit = passes (Read party layout)
 idle_view region state party layout false true idle size fit = sees party layout idle (positive_from_test layout.size size) fit
-idle_view region state party layout false false idle size fit = refuses_read party layout idle (positive_from_test layout.size size) fit
+idle_view region state party layout false false idle size fit =
+    refuses_read party layout idle (positive_from_test layout.size size) fit
 
 read_view : (region : Region) (state : BumpState) (party : ℕ) (layout : Layout) (now : Option (Option OngoingCall)) →
     slice_get state.calls party ≡ now → StepView region state (Read party layout) (read region state party layout now)
@@ -76,7 +78,8 @@ call_view : (region : Region) (state : BumpState) (party : ℕ) (call : OngoingC
     else ending (RefusedAtLoss state.position) state.position)))
 call_view region state party call true fitting is same fit = wins party call is (same_from_test state.position call.seen same)
 call_view region state party call false true is same fit = loses party call is (apart_from_test state.position call.seen same) fit
-call_view region state party call false false is same fit = refuses_loss party call is (apart_from_test state.position call.seen same) fit
+call_view region state party call false false is same fit =
+    refuses_loss party call is (apart_from_test state.position call.seen same) fit
 
 exchange_view : (region : Region) (state : BumpState) (party : ℕ) (now : Option (Option OngoingCall)) →
     slice_get state.calls party ≡ now → StepView region state (Exchange party) (exchange region state party now)
@@ -141,7 +144,8 @@ idle_or_in_call state other party call by idle is =
 pub one_call : (state : BumpState) (other party : ℕ) (call own : OngoingCall) → (other == party) ≡ true →
     IsInCall state other call → IsInCall state party own → call ≡ own
 one_call state other party call own by is in_call =
-    let both : Some (Some call) ≡ Some (Some own) = sym is ∙ ap (slice_get state.calls) (same_from_test other party by) ∙ in_call in
+    let both : Some (Some call) ≡ Some (Some own) =
+    sym is ∙ ap (slice_get state.calls) (same_from_test other party by) ∙ in_call in
     same_Some call own (same_Some (Some call) (Some own) both)
 
 pub in_call_or_idle : (state : BumpState) (other party : ℕ) (call : OngoingCall) → (other == party) ≡ true →
@@ -169,7 +173,8 @@ all_fitting-set region state position party (Some written) old new = λ other ca
     ]
 
 -- each call fits after a step
-pub all_fitting-step : (region : Region) (state : BumpState) (step : BumpStep) (move : BumpMove) → StepView region state step move →
+pub all_fitting-step : (region : Region) (state : BumpState) (step : BumpStep) (move : BumpMove) →
+    StepView region state step move →
     AllFitting region state → AllFitting region move.state
 all_fitting-step region state step move (sees party layout idle asks fit) old =
     all_fitting-set region state state.position party (Some (record { layout = layout; seen = state.position })) old

@@ -84,7 +84,8 @@ pub position_rises : (region : Region) (state : BumpState) (step : BumpStep) (mo
     ¬ IsClear step → state.position ≤ move.state.position
 position_rises region state step move (sees party layout idle asks fit) not = omega arith
 position_rises region state step move (refuses_read party layout idle asks fit) not = omega arith
-position_rises region state step move (wins party call is same) not = omega (arith, chunk_at-above region state.position call.layout)
+position_rises region state step move (wins party call is same) not =
+    omega (arith, chunk_at-above region state.position call.layout)
 position_rises region state step move (loses party call is apart fit) not = omega arith
 position_rises region state step move (refuses_loss party call is apart fit) not = omega arith
 position_rises region state step move (loads party idle) not = omega arith
@@ -156,4 +157,5 @@ sound_from region state steps healthy none =
 
 pub won_sound : (scene : BumpScene) (before stretch : List BumpStep) → scene.opening ≤ scene.region.size → HasNoClear stretch →
     IsSound scene.region (chunks_won (stretch_after scene before stretch))
-won_sound scene before stretch within none = sound_from scene.region (left_by scene before) stretch (healthy_after scene before within) none
+won_sound scene before stretch within none =
+    sound_from scene.region (left_by scene before) stretch (healthy_after scene before within) none

@@ -85,7 +85,8 @@ least_place-masked v align power small fits =
     (omega (arith, rounds), power_of_two-clears (v + (align - 1)) align power small fits ∙ sym rounds)
 
 -- where the sum doesn't fit the machine, the least place doesn't either
-pub least_place-too_far : (v align : ℕ) → IsPowerOfTwo align → align < 2 ^ 64 → 2 ^ 64 ≤ v + (align - 1) → 2 ^ 64 ≤ least_place v align
+pub least_place-too_far : (v align : ℕ) → IsPowerOfTwo align → align < 2 ^ 64 →
+    2 ^ 64 ≤ v + (align - 1) → 2 ^ 64 ≤ least_place v align
 least_place-too_far v align power small far =
     let parts = power_of_two-divides align power small in
     omega (arith, parts.1, least_place-beyond v align parts.0 (power_of_two-positive align power) (omega (arith, parts.1)))

@@ -66,7 +66,8 @@ contents_set old new live i chunk bytes sound at changes =
     (λ k other differ there. others_kept old new live i k chunk other bytes sound at changes differ there)
 
 -- a chunk that was given last is apart from each one before it
-pub given_apart : (region : Region) (live : List Chunk) (chunk : Chunk) → IsSound region (live ++ chunk ∷ []) → All (AreApart chunk) live
+pub given_apart : (region : Region) (live : List Chunk) (chunk : Chunk) →
+    IsSound region (live ++ chunk ∷ []) → All (AreApart chunk) live
 given_apart region live chunk sound = λ k d within. λ shared.
     let left = get_or_append_left live (chunk ∷ []) d k within in
     let last = get_or_push live chunk d (length live) refl in

@@ -37,16 +37,19 @@ all_above v w (chunk ∷ live) le (here, rest) =
     (omega (arith, here), all_above v (chunk_end chunk) live (omega (arith, here)) rest)
 
 -- where the last one ends at or below w, each does
-all_ended : (v w : ℕ) (live : List Chunk) → IsInOrder v live → end_of_last v live ≤ w → AllByRecursion (λ chunk. chunk_end chunk ≤ w) live
+all_ended : (v w : ℕ) (live : List Chunk) → IsInOrder v live → end_of_last v live ≤ w →
+    AllByRecursion (λ chunk. chunk_end chunk ≤ w) live
 all_ended v w [] ordered end = tt
 all_ended v w (chunk ∷ live) (here, rest) end =
     (omega (arith, end, end_of_last-above (chunk_end chunk) live rest), all_ended (chunk_end chunk) w live rest end)
 
 -- the same, of every element
-pub all_end_by : (v w : ℕ) (live : List Chunk) → IsInOrder v live → end_of_last v live ≤ w → All (λ chunk. chunk_end chunk ≤ w) live
+pub all_end_by : (v w : ℕ) (live : List Chunk) → IsInOrder v live → end_of_last v live ≤ w →
+    All (λ chunk. chunk_end chunk ≤ w) live
 all_end_by v w live ordered end = All-from_recursion (λ chunk. chunk_end chunk ≤ w) live (all_ended v w live ordered end)
 
-all_apart : (one : Chunk) (live : List Chunk) → AllByRecursion (λ chunk. chunk_end one ≤ chunk.place) live → AllByRecursion (AreApart one) live
+all_apart : (one : Chunk) (live : List Chunk) →
+    AllByRecursion (λ chunk. chunk_end one ≤ chunk.place) live → AllByRecursion (AreApart one) live
 all_apart one [] above = tt
 all_apart one (chunk ∷ live) (here, rest) =
     ((λ shared. omega (arith, shared.1.1, shared.2.0, here)), all_apart one live rest)
@@ -82,13 +85,15 @@ StandsFor-end region position live stands =
     omega (arith, stands.used, end_of_last-above region.start live stands.in_order)
 
 -- chunks inside a region end inside it
-end_of_last-within : (region : Region) (v : ℕ) (live : List Chunk) → v ≤ region_end region → AllByRecursion (IsInside region) live →
+end_of_last-within : (region : Region) (v : ℕ) (live : List Chunk) → v ≤ region_end region →
+    AllByRecursion (IsInside region) live →
     end_of_last v live ≤ region_end region
 end_of_last-within region v [] within inside = within
 end_of_last-within region v (chunk ∷ live) within (here, rest) = end_of_last-within region (chunk_end chunk) live here.below rest
 
 -- no more is used than there is
-pub StandsFor-within : (region : Region) (position : ℕ) (live : List Chunk) → StandsFor region position live → position ≤ region.size
+pub StandsFor-within : (region : Region) (position : ℕ) (live : List Chunk) →
+    StandsFor region position live → position ≤ region.size
 StandsFor-within region position live stands =
     let inside = recursion_from_All (IsInside region) live stands.sound.inside in
     omega (arith, StandsFor-end region position live stands, end_of_last-within region region.start live (omega arith) inside)
@@ -115,7 +120,8 @@ StandsFor-empty region = record {
 }
 
 -- a position inside the region stands for the list of nothing, or of one chunk that is all of what is used
-pub stands_for_some : (region : Region) (position : ℕ) → position ≤ region.size → (live : List Chunk) × StandsFor region position live
+pub stands_for_some : (region : Region) (position : ℕ) → position ≤ region.size →
+    (live : List Chunk) × StandsFor region position live
 stands_for_some region position within =
     let whole : Chunk = record { place = region.start; len = position } in (
       whole ∷ [],

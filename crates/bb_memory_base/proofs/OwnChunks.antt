@@ -28,7 +28,8 @@ own_entry : (v : ℕ) (own : Bool) (entry : BumpEntry) (log : BumpLog) → v ≤
 own_entry v true entry log le front rest = in_order-append v (won_at entry.outcome) (chunks_won log) front rest
 own_entry v false entry log le front rest = in_order_lower v (end_of_last v (won_at entry.outcome)) (chunks_won log) le rest
 
-in_order_own : (v party : ℕ) (history : List BumpEntry) → IsInOrder v (chunks_won history) → IsInOrder v (chunks_won (entries_by party history))
+in_order_own : (v party : ℕ) (history : List BumpEntry) → IsInOrder v (chunks_won history) →
+    IsInOrder v (chunks_won (entries_by party history))
 in_order_own v party [] ordered = tt
 in_order_own v party (entry ∷ history) ordered =
     let won = won_at entry.outcome in
@@ -65,7 +66,8 @@ interleaved_own scene position party log within own =
     let ordered = in_order-rest scene.region.start some.0 (chunks_won history) stands.in_order in
     let mine = in_order_own v party history ordered in
     let every = recursion_from_All (IsInside scene.region) (some.0 ++ chunks_won history) stands.sound.inside in
-    let inside = all_in_log (IsInside scene.region) party history (all_rest (IsInside scene.region) some.0 (chunks_won history) every) in
+    let inside =
+    all_in_log (IsInside scene.region) party history (all_rest (IsInside scene.region) some.0 (chunks_won history) every) in
     subst (λ (l : BumpLog). IsSound scene.region (chunks_won l)) own.logged record {
       inside = All-from_recursion (IsInside scene.region) (chunks_won (entries_by party history)) inside;
       apart = apart_from_order v (chunks_won (entries_by party history)) mine;

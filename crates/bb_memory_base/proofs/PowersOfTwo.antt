@@ -46,7 +46,9 @@ power_of_two-divides n power small =
     ]
 
 -- to clear the bits below a power of two takes the rest away
-pub power_of_two-clears : (n align : ℕ) → IsPowerOfTwo align → align < 2 ^ 64 → n < 2 ^ 64 → bit_and n (2 ^ 64 - 1 - (align - 1)) ≡ n - n % align
+pub power_of_two-clears : (n align : ℕ) → IsPowerOfTwo align → align < 2 ^ 64 → n < 2 ^ 64 →
+    bit_and n (2 ^ 64 - 1 - (align - 1)) ≡ n - n % align
 power_of_two-clears n align power small fits =
-    let rest : bit_and n (align - 1) ≡ n % align = subst (λ (m : ℕ). bit_and n (m - 1) ≡ n % m) (sym power.1) (and_mask n power.0) in
+    let rest : bit_and n (align - 1) ≡ n % align =
+    subst (λ (m : ℕ). bit_and n (m - 1) ≡ n % m) (sym power.1) (and_mask n power.0) in
     omega (arith, rest, and-not 64 (align - 1) n (omega arith) fits, and_comm (align - 1) n, and_comm n (2 ^ 64 - 1 - (align - 1)))

@@ -4,7 +4,8 @@ use Rattle.std.specs.Prelude.{slice_get, slice_set}
 use Rattle.bb_memory_base.proofs.SliceGets as gets
 
 -- what is read at one index is read at the same
-pub slice_get-same : {X : Type 0} (xs : List X) (i j : ℕ) (found : Option X) → i ≡ j → slice_get xs i ≡ found → slice_get xs j ≡ found
+pub slice_get-same : {X : Type 0} (xs : List X) (i j : ℕ) (found : Option X) → i ≡ j →
+    slice_get xs i ≡ found → slice_get xs j ≡ found
 slice_get-same xs i j found same there = ap (slice_get xs) (sym same) ∙ there
 
 pub slice_get-set_other : {X : Type 0} (xs : List X) (i j : ℕ) (v : X) → i ≢ j → slice_get (slice_set xs i v) j ≡ slice_get xs j

@@ -32,14 +32,16 @@ part-over xs i ws fits =
     ap (λ l. take (length ws) l) (ap (λ n. drop n (over xs i ws)) (sym front) ∙ drop-append_seam (take i xs) rest)
     ∙ take-append_seam ws (drop (i + length ws) xs)
 
-drop-over : (xs : List ℕ) (i : ℕ) (ws : List ℕ) → i + length ws ≤ length xs → drop (i + length ws) (over xs i ws) ≡ drop (i + length ws) xs
+drop-over : (xs : List ℕ) (i : ℕ) (ws : List ℕ) → i + length ws ≤ length xs →
+    drop (i + length ws) (over xs i ws) ≡ drop (i + length ws) xs
 drop-over xs i ws fits =
     let front : length (take i xs) ≡ i = length-take-le i xs (omega arith) in
     let rest : List ℕ = ws ++ drop (i + length ws) xs in
     ap (λ n. drop (n + length ws) (over xs i ws)) (sym front) ∙ (drop-append-add (take i xs) rest (length ws) ∙ drop-append_seam ws (drop (i + length ws) xs))
 
 -- a chunk inside that is written over whole is all that changes
-pub written-changes : (held : HeldBytes) (chunk : Chunk) (bytes : List ℕ) → IsInside (held_region held) chunk → length bytes ≡ chunk.len →
+pub written-changes : (held : HeldBytes) (chunk : Chunk) (bytes : List ℕ) →
+    IsInside (held_region held) chunk → length bytes ≡ chunk.len →
     ChangesOnly held (written held chunk bytes) chunk bytes
 written-changes held chunk bytes inside len =
     let xs = held.bytes in

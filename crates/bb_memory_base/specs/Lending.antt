@@ -10,7 +10,8 @@ use Rattle.bb_memory_base.specs.contracts.region.Region.{the_row}
 abbrev pub written : HeldBytes → Chunk → List ℕ → HeldBytes
 written held chunk bytes = record {
   start = held.start;
-  bytes = take (length held.bytes) (bytes_before held chunk ++ (bytes ++ drop (chunk.place - held.start + length bytes) held.bytes));
+  bytes = take (length held.bytes) (bytes_before held chunk
+      ++ (bytes ++ drop (chunk.place - held.start + length bytes) held.bytes));
 }
 
 -- the region ends with what the borrower left in the chunk

@@ -164,14 +164,14 @@ pub trait BaseAllocator {
     /// Does nothing. It is the proof that whatever may be answered to a request as a chunk is inside the region, at a multiple
     /// of the asked alignment, and at least as long as asked.
     fn answers_fit(&self)
-        ensures inside { (live : List Chunk) (layout : Layout) (chunk : Chunk) → stands_for self.now live
-            → may_allocate (geometry self.now) live layout (Ok chunk)
+        ensures inside { (live : List Chunk) (layout : Layout) (chunk : Chunk)
+            → stands_for self.now live → may_allocate (geometry self.now) live layout (Ok chunk)
             → IsInside (region_of (geometry self.now)) chunk }
-        ensures aligned { (live : List Chunk) (layout : Layout) (chunk : Chunk) → stands_for self.now live
-            → may_allocate (geometry self.now) live layout (Ok chunk)
+        ensures aligned { (live : List Chunk) (layout : Layout) (chunk : Chunk)
+            → stands_for self.now live → may_allocate (geometry self.now) live layout (Ok chunk)
             → chunk.place % layout.align ≡ 0 }
-        ensures long_enough { (live : List Chunk) (layout : Layout) (chunk : Chunk) → stands_for self.now live
-            → may_allocate (geometry self.now) live layout (Ok chunk)
+        ensures long_enough { (live : List Chunk) (layout : Layout) (chunk : Chunk)
+            → stands_for self.now live → may_allocate (geometry self.now) live layout (Ok chunk)
             → layout.size ≤ chunk.len };
 
     /// What stands at a position of such a list may be given back.
@@ -206,9 +206,11 @@ pub trait Allocator: BaseAllocator {
 
     /// What an allocator of these figures may answer on a live list to a resize of the chunk at a place, from an old
     /// layout to a new one.
-    ghost may_grow: { Figures → List Chunk → ℕ → Layout → Layout → Result Chunk AllocationGrowError → Type 0 };
+    ghost may_grow: { Figures → List Chunk → ℕ → Layout → Layout
+        → Result Chunk AllocationGrowError → Type 0 };
 
-    ghost may_shrink: { Figures → List Chunk → ℕ → Layout → Layout → Result Chunk AllocationShrinkError → Type 0 };
+    ghost may_shrink: { Figures → List Chunk → ℕ → Layout → Layout
+        → Result Chunk AllocationShrinkError → Type 0 };
 
     /// How many bytes are reserved for the live chunk at this place.
     fn reserved(&self, place: usize) -> usize
@@ -292,13 +294,15 @@ pub trait Allocator: BaseAllocator {
     }
 
     /// Allocators of one geometry have the same figures.
-    ghost fixed: { (one other : Self) → Self.geometry one ≡ Self.geometry other → figures one ≡ figures other };
+    ghost fixed: { (one other : Self) → Self.geometry one ≡ Self.geometry other
+        → figures one ≡ figures other };
 
     /// A release takes out the chunk at its place alone.
     ghost closes_up: { Self.RELEASE_EMPTIES ≡ false };
 
     /// No two chunks of a list that it stands for have the same place.
-    ghost distinct: { (allocator : Self) (live : List Chunk) → Self.stands_for allocator live → PlacesDiffer live };
+    ghost distinct: { (allocator : Self) (live : List Chunk) → Self.stands_for allocator live
+        → PlacesDiffer live };
 
     /// No chunk of such a list is longer than what is reserved for it.
     ghost covered: { (allocator : Self) (live : List Chunk) (position : ℕ) (chunk : Chunk)
@@ -308,5 +312,6 @@ pub trait Allocator: BaseAllocator {
     /// What may be given back stands in each such list.
     ghost only_live: { (allocator : Self) (live : List Chunk) (place : ℕ)
         → Self.stands_for allocator live → Self.may_release allocator place
-        → (position : ℕ) × (chunk : Chunk) × (slice_get live position ≡ Some chunk) × (chunk.place ≡ place) };
+        → (position : ℕ) × (chunk : Chunk)
+        × (slice_get live position ≡ Some chunk) × (chunk.place ≡ place) };
 }

@@ -26,19 +26,24 @@ pub fn equality_law()
         → IsTrue (⟦<Layout as PartialEq>⟧.eq one other) ↔ (one ≡ other) }
     ensures layout_error { (one other : LayoutError)
         → IsTrue (⟦<LayoutError as PartialEq>⟧.eq one other) ↔ (one ≡ other) }
-    ensures chunk { (one other : Chunk) → IsTrue (⟦<Chunk as PartialEq>⟧.eq one other) ↔ (one ≡ other) }
+    ensures chunk { (one other : Chunk)
+        → IsTrue (⟦<Chunk as PartialEq>⟧.eq one other) ↔ (one ≡ other) }
     ensures allocation_error { (one other : AllocationError)
         → IsTrue (⟦<AllocationError as PartialEq>⟧.eq one other) ↔ (one ≡ other) }
     ensures grow_error { (one other : AllocationGrowError)
         → IsTrue (⟦<AllocationGrowError as PartialEq>⟧.eq one other) ↔ (one ≡ other) }
     ensures shrink_error { (one other : AllocationShrinkError)
         → IsTrue (⟦<AllocationShrinkError as PartialEq>⟧.eq one other) ↔ (one ≡ other) }
-    ensures command { (one other : Command) → IsTrue (⟦<Command as PartialEq>⟧.eq one other) ↔ (one ≡ other) }
-    ensures reply { (one other : Reply) → IsTrue (⟦<Reply as PartialEq>⟧.eq one other) ↔ (one ≡ other) }
-    ensures bump_step { (one other : BumpStep) → IsTrue (⟦<BumpStep as PartialEq>⟧.eq one other) ↔ (one ≡ other) }
+    ensures command { (one other : Command)
+        → IsTrue (⟦<Command as PartialEq>⟧.eq one other) ↔ (one ≡ other) }
+    ensures reply { (one other : Reply)
+        → IsTrue (⟦<Reply as PartialEq>⟧.eq one other) ↔ (one ≡ other) }
+    ensures bump_step { (one other : BumpStep)
+        → IsTrue (⟦<BumpStep as PartialEq>⟧.eq one other) ↔ (one ≡ other) }
     ensures bump_outcome { (one other : BumpOutcome)
         → IsTrue (⟦<BumpOutcome as PartialEq>⟧.eq one other) ↔ (one ≡ other) }
-    ensures pool_step { (one other : PoolStep) → IsTrue (⟦<PoolStep as PartialEq>⟧.eq one other) ↔ (one ≡ other) }
+    ensures pool_step { (one other : PoolStep)
+        → IsTrue (⟦<PoolStep as PartialEq>⟧.eq one other) ↔ (one ≡ other) }
     ensures pool_outcome { (one other : PoolOutcome)
         → IsTrue (⟦<PoolOutcome as PartialEq>⟧.eq one other) ↔ (one ≡ other) }
 {}

@@ -118,14 +118,16 @@ impl Region {
         ensures apart { (other : Chunk) → IsInside (held_region self.old) other → AreApart c other
             → bytes_in self.new other ≡ bytes_in self.old other }
         ensures region { held_region self.new ≡ held_region self.old }
-        ensures others { (live : List Chunk) (i k : ℕ) (other : Chunk) → IsSound (held_region self.old) live
-            → slice_get live i ≡ Some c → i ≢ k → slice_get live k ≡ Some other
+        ensures others { (live : List Chunk) (i k : ℕ) (other : Chunk)
+            → IsSound (held_region self.old) live → slice_get live i ≡ Some c
+            → i ≢ k → slice_get live k ≡ Some other
             → bytes_in self.new other ≡ bytes_in self.old other }
         ensures contents { (live : List Chunk) (i : ℕ) → IsSound (held_region self.old) live
             → slice_get live i ≡ Some c
             → map (bytes_in self.new) live ≡ slice_set (map (bytes_in self.old) live) i bytes.now }
         ensures given { (live : List Chunk) → IsSound (held_region self.old) (live ++ c ∷ [])
-            → map (bytes_in self.new) (live ++ c ∷ []) ≡ map (bytes_in self.old) live ++ bytes.now ∷ [] }
+            → map (bytes_in self.new) (live ++ c ∷ [])
+            ≡ map (bytes_in self.old) live ++ bytes.now ∷ [] }
         ensures extended { (place n : ℕ) → self.old.start ≤ place → place + n ≡ c.place
             → bytes_in self.new (record { place = place; len = n + c.len })
             ≡ bytes_in self.old (record { place = place; len = n }) ++ bytes.now }
@@ -166,11 +168,15 @@ pub fn live_bytes_law()
         → IsSound (held_region held) live → slice_get live i ≡ Some one
         → slice_get live j ≡ Some other → i ≢ j
         → AreApart one other }
-    ensures others { (old new : HeldBytes) (live : List Chunk) (i k : ℕ) (chunk other : Chunk) (bytes : List ℕ)
-        → IsSound (held_region old) live → slice_get live i ≡ Some chunk → ChangesOnly old new chunk bytes
-        → i ≢ k → slice_get live k ≡ Some other → bytes_in new other ≡ bytes_in old other }
-    ensures contents { (old new : HeldBytes) (live : List Chunk) (i : ℕ) (chunk : Chunk) (bytes : List ℕ)
-        → IsSound (held_region old) live → slice_get live i ≡ Some chunk → ChangesOnly old new chunk bytes
+    ensures others { (old new : HeldBytes) (live : List Chunk) (i k : ℕ)
+        (chunk other : Chunk) (bytes : List ℕ)
+        → IsSound (held_region old) live → slice_get live i ≡ Some chunk
+        → ChangesOnly old new chunk bytes → i ≢ k → slice_get live k ≡ Some other
+        → bytes_in new other ≡ bytes_in old other }
+    ensures contents { (old new : HeldBytes) (live : List Chunk) (i : ℕ)
+        (chunk : Chunk) (bytes : List ℕ)
+        → IsSound (held_region old) live → slice_get live i ≡ Some chunk
+        → ChangesOnly old new chunk bytes
         → map (bytes_in new) live ≡ slice_set (map (bytes_in old) live) i bytes }
 {}
 

@@ -88,14 +88,15 @@ flags-set flags number flag log after below exact left = λ bucket. elim (cases_
 -- of a fresh party no bucket is held
 pub fresh-seat : (pool : SharedPool) (party : PoolParty) (number : ℕ) → party ≡ fresh_party pool number →
     IsSeatAt pool party (replicate pool.scene.geometry.buckets false)
-fresh-seat pool party number is = subst (λ (p : PoolParty). IsSeatAt pool p (replicate pool.scene.geometry.buckets false)) (sym is) record {
-  theirs = refl;
-  as_many = length-replicate pool.scene.geometry.buckets false;
-  exact = λ bucket. (
-    λ has. absurd (false≢true (slice_get-replicated pool.scene.geometry.buckets bucket false true has)),
-    λ held. absurd (false≢true held),
-  );
-}
+fresh-seat pool party number is =
+    subst (λ (p : PoolParty). IsSeatAt pool p (replicate pool.scene.geometry.buckets false)) (sym is) record {
+      theirs = refl;
+      as_many = length-replicate pool.scene.geometry.buckets false;
+      exact = λ bucket. (
+        λ has. absurd (false≢true (slice_get-replicated pool.scene.geometry.buckets bucket false true has)),
+        λ held. absurd (false≢true held),
+      );
+    }
 
 -- a request that took no bucket leaves the flags
 pub refused-seat : (pool : SharedPool) (party new : PoolParty) (flags : List Bool) (layout : Layout) (error : AllocationError) →

@@ -63,8 +63,8 @@ pub record FitsOld (place reserved : ℕ) (old : Layout) : Type 0 where
 
 -- What C is told where the chunk at a place is to grow: what may be answered, where a chunk is held there and its place is a
 -- multiple of the old alignment.
-pub record TellsGrow (held : Type 0) (place : ℕ) (old : Layout) (may : Result Chunk AllocationGrowError → Type 0)
-    (told : Answer) : Type 0 where
+pub record TellsGrow (held : Type 0) (place : ℕ) (old : Layout)
+    (may : Result Chunk AllocationGrowError → Type 0) (told : Answer) : Type 0 where
   pub answered : held → place % old.align ≡ 0
       → (answer : Result Chunk AllocationGrowError) × (told ≡ grow_answer answer) × may answer
   pub misfit : held → place % old.align ≢ 0 → told ≡ refused not_the_old

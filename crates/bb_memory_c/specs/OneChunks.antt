@@ -22,7 +22,8 @@ abbrev pub IsNoOneChunk : Option Made → Type 0
 IsNoOneChunk value = (one : OneChunk) → value ≢ Some (AOneChunk one)
 
 -- What the allocator answers to a request, and what it is then.
-pub record Allocates (one : OneChunk) (layout : Layout) (answer : Result Chunk AllocationError) (after : OneChunk) : Type 0 where
+pub record Allocates (one : OneChunk) (layout : Layout)
+    (answer : Result Chunk AllocationError) (after : OneChunk) : Type 0 where
   -- it is refused where a chunk is out, and where the region has no room
   pub accepted : IsOk answer ↔ ((one.kept ≡ None) × HasRoom one.region layout)
   pub refused : (answer ≡ Err OutOfMemory) ↔ (IsSome one.kept ⊎ LacksRoom one.region layout)

@@ -45,14 +45,18 @@ pub record Tells (pool : Pool) (layout : Layout) (told : Answer) (after : Pool) 
 
 -- the same, and the handle stands for what the pool is then
 abbrev pub Gives : CountedPool → Layout → Answer → Option Made → Type 0
-Gives pool layout told new = (after : CountedPool) × IsPool new after × Tells pool.pool layout told after.pool
+Gives pool layout told new =
+    (after : CountedPool) × IsPool new after × Tells pool.pool layout told after.pool
 
 abbrev pub GivesFixed : Pool → Layout → Answer → Option Made → Type 0
-GivesFixed pool layout told new = (after : Pool) × IsFixedPool new after × Tells pool layout told after
+GivesFixed pool layout told new =
+    (after : Pool) × IsFixedPool new after × Tells pool layout told after
 
 -- the held bucket at the place is freed, and no other
 abbrev pub GivesBack : CountedPool → ℕ → Option Made → Type 0
-GivesBack pool place new = (after : CountedPool) × IsPool new after × Frees pool.pool place after.pool
+GivesBack pool place new =
+    (after : CountedPool) × IsPool new after × Frees pool.pool place after.pool
 
 abbrev pub GivesBackFixed : Pool → ℕ → Option Made → Type 0
-GivesBackFixed pool place new = (after : Pool) × IsFixedPool new after × Frees pool place after
+GivesBackFixed pool place new =
+    (after : Pool) × IsFixedPool new after × Frees pool place after

@@ -36,17 +36,20 @@ IsNoBumpSeat value = (party : BumpParty) → value ≢ Some (ABumpSeat party)
 -- a fresh bump over the region, of so many parties, which have no seat yet
 abbrev pub MakesSharedBump : Region → ℕ → Option Made → Type 0
 MakesSharedBump region parties new =
-    (bump : SharedBump) × IsSharedBumpOver region parties bump × IsSharedBump new (bump_seats bump parties)
+    (bump : SharedBump) × IsSharedBumpOver region parties bump
+    × IsSharedBump new (bump_seats bump parties)
 
 -- C is told what the party's request is answered, by which the party becomes another
-pub record Tells (party : BumpParty) (layout : Layout) (told : Answer) (after : BumpParty) : Type 0 where
+pub record Tells (party : BumpParty) (layout : Layout) (told : Answer) (after : BumpParty)
+    : Type 0 where
   pub answer : Result Chunk AllocationError
   pub says : told ≡ answer_of answer
   pub given : MayTake party layout answer after
 
 -- the same, and the handle stands for what the party is then
 abbrev pub AnswersSeat : BumpParty → Layout → Answer → Option Made → Type 0
-AnswersSeat party layout told new = (after : BumpParty) × IsBumpSeat new after × Tells party layout told after
+AnswersSeat party layout told new =
+    (after : BumpParty) × IsBumpSeat new after × Tells party layout told after
 
 -- the party has made one load, which found this many bytes used: at least what it has seen, and at most the region's size
 pub record Loads (party : BumpParty) (used : ℕ) (after : BumpParty) : Type 0 where
@@ -57,7 +60,8 @@ pub record Loads (party : BumpParty) (used : ℕ) (after : BumpParty) : Type 0 w
 -- C is told how much one load found to be used, and the handle stands for what the party is then
 abbrev pub TellsUsed : BumpParty → Figure → Option Made → Type 0
 TellsUsed party told new =
-    (used : ℕ) × (after : BumpParty) × (told ≡ figure_of used) × Loads party used after × IsBumpSeat new after
+    (used : ℕ) × (after : BumpParty) × (told ≡ figure_of used)
+    × Loads party used after × IsBumpSeat new after
 
 -- the same of what is free
 abbrev pub TellsFree : BumpParty → Figure → Option Made → Type 0

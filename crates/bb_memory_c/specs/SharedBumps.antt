@@ -14,7 +14,8 @@ bump_seats bump left = record { bump = bump; left = left }
 -- the parties are numbered from 0, and none has made a step
 abbrev pub AreUnseated : SharedBump → List BumpParty → Type 0
 AreUnseated bump parties =
-    (number : ℕ) → number < length parties → slice_get parties number ≡ Some (fresh_party bump number)
+    (number : ℕ) → number < length parties →
+    slice_get parties number ≡ Some (fresh_party bump number)
 
 -- a bump over the region, of which nothing is used, of so many parties
 abbrev pub IsSharedBumpOver : Region → ℕ → SharedBump → Type 0

@@ -30,21 +30,25 @@ IsNoPoolSeat value = (party : PoolParty) → value ≢ Some (APoolSeat party)
 -- a fresh pool over the region, cut into buckets of the layout, of so many parties, which have no seat yet
 abbrev pub MakesSharedPool : Region → Layout → ℕ → Option Made → Type 0
 MakesSharedPool region bucket parties new =
-    (pool : SharedPool) × IsSharedPoolOver region bucket parties pool × IsSharedPool new (pool_seats pool parties)
+    (pool : SharedPool) × IsSharedPoolOver region bucket parties pool
+    × IsSharedPool new (pool_seats pool parties)
 
 -- C is told what the party's request is answered, by which the party becomes another
-pub record Tells (party : PoolParty) (layout : Layout) (told : Answer) (after : PoolParty) : Type 0 where
+pub record Tells (party : PoolParty) (layout : Layout) (told : Answer) (after : PoolParty)
+    : Type 0 where
   pub answer : Result Chunk AllocationError
   pub says : told ≡ answer_of answer
   pub given : Gives party layout answer after
 
 -- the same, and the handle stands for what the party is then
 abbrev pub AnswersSeat : PoolParty → Layout → Answer → Option Made → Type 0
-AnswersSeat party layout told new = (after : PoolParty) × IsPoolSeat new after × Tells party layout told after
+AnswersSeat party layout told new =
+    (after : PoolParty) × IsPoolSeat new after × Tells party layout told after
 
 -- the bucket at the place was given back, and the handle stands for what the party is then
 abbrev pub GivesBackSeat : PoolParty → ℕ → Option Made → Type 0
-GivesBackSeat party place new = (after : PoolParty) × IsPoolSeat new after × GivesBack party place after
+GivesBackSeat party place new =
+    (after : PoolParty) × IsPoolSeat new after × GivesBack party place after
 
 -- the last party without a seat has one, behind this other handle
 abbrev pub SeatsOne : PoolSeats → Option Made → Option Made → Type 0

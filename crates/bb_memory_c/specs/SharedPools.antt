@@ -21,7 +21,8 @@ pool_seats pool left = record { pool = pool; left = left }
 -- the parties are numbered from 0, and none has made a step
 abbrev pub AreUnseated : SharedPool → List PoolParty → Type 0
 AreUnseated pool parties =
-    (number : ℕ) → number < length parties → slice_get parties number ≡ Some (fresh_party pool number)
+    (number : ℕ) → number < length parties →
+    slice_get parties number ≡ Some (fresh_party pool number)
 
 -- the flags are set of just the buckets that are held after this log
 abbrev pub AreHeldFlags : List Bool → PoolLog → Type 0
@@ -34,7 +35,8 @@ pub record IsSeatAt (pool : SharedPool) (party : PoolParty) (flags : List Bool) 
   pub exact : AreHeldFlags flags party.log
 
 -- a pool over the region, cut into buckets of the layout, of so many parties
-pub record IsSharedPoolOver (region : Region) (bucket : Layout) (many : ℕ) (pool : SharedPool) : Type 0 where
+pub record IsSharedPoolOver (region : Region) (bucket : Layout) (many : ℕ) (pool : SharedPool)
+    : Type 0 where
   pub cut : IsCut region bucket pool.scene.geometry
   pub parties : pool.scene.parties ≡ many
 
@@ -55,7 +57,8 @@ chunk_in (Err error) = Err error
 -- a request is answered the chunk in the bucket that the party took, or why it took none
 abbrev pub Gives : PoolParty → Layout → Result Chunk AllocationError → PoolParty → Type 0
 Gives party layout answer after =
-    (taken : Result TakenBucket AllocationError) × (answer ≡ chunk_in taken) × MayTake party layout taken after
+    (taken : Result TakenBucket AllocationError) × (answer ≡ chunk_in taken)
+    × MayTake party layout taken after
 
 -- the bucket at the place was given back, by one step
 abbrev pub GivesBack : PoolParty → ℕ → PoolParty → Type 0

@@ -19,8 +19,8 @@ use bb_memory::layout::Layout;
 use bb_memory::one_chunk_allocator::{Allocator, BaseAllocator, OneChunkAllocator};
 use std::alloc::Global;
 
-/// Makes a one-chunk allocator over the region of `size` bytes at `start`, behind a handle that has to be empty. The start has
-/// to be greater than 0, and start plus size at most `SIZE_MAX`.
+/// Makes a one-chunk allocator over the region of `size` bytes at `start`, behind a handle that has to be empty. The start
+/// has to be greater than 0, and start plus size at most `SIZE_MAX`.
 ///
 /// C guarantees of the handle what the crate's page says.
 #[unsafe(no_mangle)]

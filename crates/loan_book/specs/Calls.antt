@@ -16,7 +16,8 @@ Answers = List Chunk → Layout → Result Chunk AllocationError → Type 0
 -- the allocator may answer so to a request for (size, align 1) while these samples are out
 abbrev pub MayAnswer : Answers → Book → ℕ → Result Chunk AllocationError → Type 0
 MayAnswer may_allocate book size answer =
-    (layout : Layout) × (layout.size ≡ size) × (layout.align ≡ 1) × may_allocate (chunks_out book) layout answer
+    (layout : Layout) × (layout.size ≡ size) × (layout.align ≡ 1)
+    × may_allocate (chunks_out book) layout answer
 
 -- the book with one sample more, which wasn't published yet
 abbrev pub with_sample : Book → Chunk → Book
@@ -40,7 +41,8 @@ Loans may_allocate old size (Ok (id, chunk)) new =
     (old.loaned < 2 ^ 64) × MayAnswer may_allocate old size (Ok chunk)
     × (id ≡ old.loaned) × (new ≡ with_sample old chunk)
 Loans may_allocate old size (Err Size) new = (2 ^ 63 ≤ size) × (new ≡ old)
-Loans may_allocate old size (Err IdsExhausted) new = (size < 2 ^ 63) × (2 ^ 64 ≤ old.loaned) × (new ≡ old)
+Loans may_allocate old size (Err IdsExhausted) new =
+    (size < 2 ^ 63) × (2 ^ 64 ≤ old.loaned) × (new ≡ old)
 -- the memory for the sample's record was refused, which nothing here foretells
 Loans may_allocate old size (Err Memory) new = (size < 2 ^ 63) × (old.loaned < 2 ^ 64) × (new ≡ old)
 Loans may_allocate old size (Err (Allocation error)) new =

@@ -73,12 +73,14 @@ impl<A: Allocator + Drop> BaseAllocator for ByteBudget<A> {
 
     ghost Geometry = { LimitedBytes A.Geometry A.Figures };
 
-    ghost geometry = { λ b. record { inner = A.geometry b.inner; figures = A.figures b.inner; budget = b.budget } };
+    ghost geometry = { λ b.
+        record { inner = A.geometry b.inner; figures = A.figures b.inner; budget = b.budget } };
 
     ghost region_of = { λ g. A.region_of g.inner };
 
     ghost may_allocate = { λ g live layout answer.
-        MayAnswerBytes (A.may_allocate g.inner live layout) (A.reserved_at g.figures) g.budget live answer };
+        MayAnswerBytes (A.may_allocate g.inner live layout) (A.reserved_at g.figures)
+        g.budget live answer };
 
     ghost stands_for = { λ b live. A.stands_for b.inner live
         × (reserved_bytes (A.reserved_at (A.figures b.inner)) live ≡ b.out) };
@@ -113,7 +115,8 @@ impl<A: Allocator + Drop> BaseAllocator for ByteBudget<A> {
         self.inner.answers_fit();
     }
 
-    ghost releases = { λ b live position chunk stands at. A.releases b.inner live position chunk stands.0 at };
+    ghost releases = { λ b live position chunk stands at.
+        A.releases b.inner live position chunk stands.0 at };
 
     ghost sound = { λ b live stands. A.sound b.inner live stands.0 };
 }
@@ -164,7 +167,8 @@ impl<A: Allocator + Drop> Allocator for ByteBudget<A> {
 
     ghost distinct = { λ b live stands. A.distinct b.inner live stands.0 };
 
-    ghost covered = { λ b live position chunk stands at. A.covered b.inner live position chunk stands.0 at };
+    ghost covered = { λ b live position chunk stands at.
+        A.covered b.inner live position chunk stands.0 at };
 
     ghost only_live = { λ b live place stands held. A.only_live b.inner live place stands.0 held };
 }

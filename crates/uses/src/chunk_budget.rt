@@ -162,10 +162,12 @@ impl<A: Allocator + Drop> Allocator for ChunkBudget<A> {
 
     ghost distinct = { λ b live stands. A.distinct b.inner live stands.0 };
 
-    ghost covered = { λ b live position chunk stands at. A.covered b.inner live position chunk stands.0 at };
+    ghost covered = { λ b live position chunk stands at.
+        A.covered b.inner live position chunk stands.0 at };
 
     ghost only_live = { λ b live place stands held. A.only_live b.inner live place stands.0
-        (subst (A.may_release b.inner) held.6 (A.releases b.inner held.0 held.1 held.2 held.3 held.5)) };
+        (subst (A.may_release b.inner) held.6
+        (A.releases b.inner held.0 held.1 held.2 held.3 held.5)) };
 }
 
 /// One fewer stands in a list once one is taken out. It does nothing: its contract is the law.

@@ -132,7 +132,8 @@ impl<S: IndexSet> Buckets<S> {
     fn number_at(&self, place: usize) -> Option<usize>
         ensures below { IfSome result (λ i. i < self.now.geometry.buckets) }
         ensures there { IfSome result (λ i. place ≡ bucket_place self.now.geometry i) }
-        ensures one { IfSome result (λ i. (j : ℕ) → place ≡ bucket_place self.now.geometry j → j ≡ i) }
+        ensures one { IfSome result (λ i. (j : ℕ)
+            → place ≡ bucket_place self.now.geometry j → j ≡ i) }
         ensures none { IfNone result (¬ IsPlaceOfBucket self.now.geometry place) }
     {
         let distance = place.checked_sub(self.geometry.first())?;

@@ -127,7 +127,8 @@ impl<const MAX_NUMBER_OF_BUCKETS: usize> FixedSizePoolAllocator<MAX_NUMBER_OF_BU
     pub fn holds(&self, place: usize) -> bool
         ensures value { IsTrue result ↔ HoldsPlace self.now place }
         ensures may_release { IsTrue result
-            ↔ ⟦<FixedSizePoolAllocator<MAX_NUMBER_OF_BUCKETS> as BaseAllocator>⟧.may_release self.now place }
+            ↔ ⟦<FixedSizePoolAllocator<MAX_NUMBER_OF_BUCKETS> as BaseAllocator>⟧.may_release
+            self.now place }
     {
         self.buckets.holds(place)
     }
@@ -394,7 +395,8 @@ pub fn run_fixed_pool<const MAX_NUMBER_OF_BUCKETS: usize>(
     ensures stands { OnOk result (StandsFor allocator.new live.new.items) }
     ensures sound { OnOk result (IsSound allocator.old.geometry.region live.new.items) }
     ensures geometry { allocator.new.geometry ≡ allocator.old.geometry }
-    ensures kept { OnErr result ((allocator.new ≡ allocator.old) × (live.new.items ≡ live.old.items)) }
+    ensures kept { OnErr result
+        ((allocator.new ≡ allocator.old) × (live.new.items ≡ live.old.items)) }
 {
     run_full(allocator, live, commands)
 }
@@ -412,7 +414,8 @@ pub fn run_base_fixed_pool<const MAX_NUMBER_OF_BUCKETS: usize>(
     ensures stands { OnOk result (StandsFor allocator.new live.new.items) }
     ensures sound { OnOk result (IsSound allocator.old.geometry.region live.new.items) }
     ensures geometry { allocator.new.geometry ≡ allocator.old.geometry }
-    ensures kept { OnErr result ((allocator.new ≡ allocator.old) × (live.new.items ≡ live.old.items)) }
+    ensures kept { OnErr result
+        ((allocator.new ≡ allocator.old) × (live.new.items ≡ live.old.items)) }
 {
     run_base(allocator, live, commands)
 }

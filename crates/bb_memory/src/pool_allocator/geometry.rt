@@ -67,7 +67,8 @@ impl Model for Geometry {
     ghost view = { λ a. pool_geometry (region_at a.region_start a.region_size) a.bucket a.buckets };
 
     ghost invariant = { λ a. IsMeasured
-        (pool_geometry (region_at a.region_start a.region_size) a.bucket a.buckets) a.first a.stride };
+        (pool_geometry (region_at a.region_start a.region_size) a.bucket a.buckets)
+        a.first a.stride };
 }
 
 impl Geometry {
@@ -148,7 +149,8 @@ impl Geometry {
     pub fn chunk(&self, bucket: usize, len: usize) -> Chunk
         requires below { bucket < self.now.buckets }
         requires short { len ≤ self.now.bucket.size }
-        ensures value { let chunk : Chunk = record { place = bucket_place self.now bucket; len = len } in
+        ensures value { let chunk : Chunk =
+            record { place = bucket_place self.now bucket; len = len } in
             result ≡ chunk }
         ensures place { IsPlaceOfBucket self.now result.place }
         ensures inside { IsInside self.now.region result }

@@ -54,22 +54,28 @@ pub fn pool_object_law()
         → one ≡ other }
     ensures given_or_refused { (geometry : PoolGeometry) (live : List Chunk) (layout : Layout)
         (chunk : Chunk) (error : AllocationError)
-        → MayAllocate geometry live layout (Ok chunk) → ¬ MayAllocate geometry live layout (Err error) }
+        → MayAllocate geometry live layout (Ok chunk)
+        → ¬ MayAllocate geometry live layout (Err error) }
 
     // A chunk that is given.
-    ensures aligned { (geometry : PoolGeometry) (live : List Chunk) (layout : Layout) (chunk : Chunk)
+    ensures aligned { (geometry : PoolGeometry) (live : List Chunk) (layout : Layout)
+        (chunk : Chunk)
         → MayAllocate geometry live layout (Ok chunk)
         → chunk.place % layout.align ≡ 0 }
-    ensures bucket_aligned { (geometry : PoolGeometry) (live : List Chunk) (layout : Layout) (chunk : Chunk)
+    ensures bucket_aligned { (geometry : PoolGeometry) (live : List Chunk) (layout : Layout)
+        (chunk : Chunk)
         → MayAllocate geometry live layout (Ok chunk)
         → chunk.place % geometry.bucket.align ≡ 0 }
-    ensures exact_size { (geometry : PoolGeometry) (live : List Chunk) (layout : Layout) (chunk : Chunk)
+    ensures exact_size { (geometry : PoolGeometry) (live : List Chunk) (layout : Layout)
+        (chunk : Chunk)
         → MayAllocate geometry live layout (Ok chunk)
         → chunk.len ≡ layout.size }
-    ensures new_place { (geometry : PoolGeometry) (live : List Chunk) (layout : Layout) (chunk : Chunk)
+    ensures new_place { (geometry : PoolGeometry) (live : List Chunk) (layout : Layout)
+        (chunk : Chunk)
         → MayAllocate geometry live layout (Ok chunk)
         → All (λ other. other.place ≢ chunk.place) live }
-    ensures inside { (geometry : PoolGeometry) (live : List Chunk) (layout : Layout) (chunk : Chunk)
+    ensures inside { (geometry : PoolGeometry) (live : List Chunk) (layout : Layout)
+        (chunk : Chunk)
         → IsPoolGeometry geometry → MayAllocate geometry live layout (Ok chunk)
         → IsInside geometry.region chunk }
 

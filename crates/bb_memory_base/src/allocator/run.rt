@@ -111,13 +111,15 @@ pub fn run_base<A: BaseAllocator>(
     ensures stands { OnOk result (A.stands_for allocator.new live.new.items) }
     ensures sound { OnOk result (IsSound (A.region_of (A.geometry allocator.old)) live.new.items) }
     ensures inside { IfOk result (λ replies.
-        EachGiven (λ layout. IsInside (A.region_of (A.geometry allocator.old))) commands.now replies.items) }
+        EachGiven (λ layout. IsInside (A.region_of (A.geometry allocator.old)))
+        commands.now replies.items) }
     ensures aligned { IfOk result (λ replies.
         EachGiven (λ layout chunk. chunk.place % layout.align ≡ 0) commands.now replies.items) }
     ensures long_enough { IfOk result (λ replies.
         EachGiven (λ layout chunk. layout.size ≤ chunk.len) commands.now replies.items) }
     ensures geometry { A.geometry allocator.new ≡ A.geometry allocator.old }
-    ensures kept { OnErr result ((allocator.new ≡ allocator.old) × (live.new.items ≡ live.old.items)) }
+    ensures kept { OnErr result
+        ((allocator.new ≡ allocator.old) × (live.new.items ≡ live.old.items)) }
 {
     let mut replies = Vec::with_capacity(*live.allocator(), commands.len())?;
     live.reserve(commands.len())?;
@@ -244,13 +246,15 @@ pub fn run_full<A: Allocator>(
     ensures stands { OnOk result (A.stands_for allocator.new live.new.items) }
     ensures sound { OnOk result (IsSound (A.region_of (A.geometry allocator.old)) live.new.items) }
     ensures inside { IfOk result (λ replies.
-        EachGiven (λ layout. IsInside (A.region_of (A.geometry allocator.old))) commands.now replies.items) }
+        EachGiven (λ layout. IsInside (A.region_of (A.geometry allocator.old)))
+        commands.now replies.items) }
     ensures aligned { IfOk result (λ replies.
         EachGiven (λ layout chunk. chunk.place % layout.align ≡ 0) commands.now replies.items) }
     ensures long_enough { IfOk result (λ replies.
         EachGiven (λ layout chunk. layout.size ≤ chunk.len) commands.now replies.items) }
     ensures geometry { A.geometry allocator.new ≡ A.geometry allocator.old }
-    ensures kept { OnErr result ((allocator.new ≡ allocator.old) × (live.new.items ≡ live.old.items)) }
+    ensures kept { OnErr result
+        ((allocator.new ≡ allocator.old) × (live.new.items ≡ live.old.items)) }
 {
     let mut replies = Vec::with_capacity(*live.allocator(), commands.len())?;
     live.reserve(commands.len())?;

@@ -49,7 +49,8 @@ impl Chunk {
     #[inline(always)]
     pub fn at_or_after(v: usize, layout: Layout, end: usize) -> Option<Chunk>
         requires { 0 < v }
-        ensures value { SomeIff result (chunk_end (chunk_at_or_after v layout) ≤ end) (chunk_at_or_after v layout) }
+        ensures value { SomeIff result
+            (chunk_end (chunk_at_or_after v layout) ≤ end) (chunk_at_or_after v layout) }
         ensures above { IfSome result (λ chunk. v ≤ chunk.place) }
         ensures aligned { IfSome result (λ chunk. chunk.place % layout.align ≡ 0) }
     {

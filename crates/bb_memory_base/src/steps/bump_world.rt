@@ -212,7 +212,8 @@ impl BumpWorld {
         ensures outcome { let now = slice_get self.old.state.calls party in
             result ≡ (read self.old.region self.old.state party layout now).outcome }
         ensures state { let now = slice_get self.old.state.calls party in
-            self.new ≡ in_state self.old (read self.old.region self.old.state party layout now).state }
+            self.new
+            ≡ in_state self.old (read self.old.region self.old.state party layout now).state }
     {
         match self.call_of(party) {
             Some(None) => {

@@ -38,7 +38,8 @@ pub record Kind : Type 1 where
   pub rules : Rules State Opening Command Reply
 
 abbrev pub kind : {S O C R : Type 0} → Rules S O C R → Kind
-kind {S} {O} {C} {R} rules = record { State = S; Opening = O; Command = C; Reply = R; rules = rules }
+kind {S} {O} {C} {R} rules =
+    record { State = S; Opening = O; Command = C; Reply = R; rules = rules }
 
 -- it holds of some kind of the table
 abbrev pub SomeOf : List Kind → (Kind → Type 0) → Type 0

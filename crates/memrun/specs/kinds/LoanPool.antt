@@ -92,7 +92,8 @@ loan_reply_line (reply.Refused error) = loan_refusal_line error
 -- the pool stands for exactly the chunks of the samples that are out
 pub record LoansRun (old : LoanBook CountedPool) (calls : List LoanCall)
     (replies : List LoanReply) (new : LoanBook CountedPool) : Type 0 where
-  pub run : IsRun (BookStep (MayAllocate old.allocator.pool.geometry)) old.book calls replies new.book
+  pub run : IsRun (BookStep (MayAllocate old.allocator.pool.geometry))
+      old.book calls replies new.book
   pub remembered : ¬ Contains replies (reply.Refused refused.Memory)
   pub geometry : new.allocator.pool.geometry ≡ old.allocator.pool.geometry
   pub stands : StandsFor new.allocator.pool (chunks_out new.book)

@@ -36,14 +36,17 @@ pub record CountedPoolRuns (old : CountedPool) (live : List Chunk) (commands : L
 -- the figures that `show` writes of either pool with so many chunks live, and then the rest of the line
 abbrev pub pool_figures : PoolGeometry → ℕ → List ℕ → List ℕ
 pool_figures geometry live rest =
-    codes " size " ++ (decimal geometry.region.size ++ (codes " bucket " ++ (decimal geometry.bucket.size
-    ++ (codes " align " ++ (decimal geometry.bucket.align ++ (codes " buckets " ++ (decimal geometry.buckets
+    codes " size " ++ (decimal geometry.region.size
+    ++ (codes " bucket " ++ (decimal geometry.bucket.size
+    ++ (codes " align " ++ (decimal geometry.bucket.align
+    ++ (codes " buckets " ++ (decimal geometry.buckets
     ++ (codes " live " ++ (decimal live ++ rest)))))))))
 
 -- what `show` writes
 abbrev pub pool_state : CountedPool → ℕ → List ℕ
 pool_state pool live =
-    codes "pool start " ++ (decimal (first_place pool.pool.geometry.region pool.pool.geometry.bucket)
+    codes "pool start "
+    ++ (decimal (first_place pool.pool.geometry.region pool.pool.geometry.bucket)
     ++ pool_figures pool.pool.geometry live (codes " reads " ++ (decimal pool.reads ++ codes "\n")))
 
 -- a pool that a script drives: it begins with no bucket held

@@ -9,4 +9,5 @@ returns-in-Err-clause-cannot_make c = (
 )
 
 pub returns-clause-made : goal.returns-clause-made
-returns-clause-made c = λ _. (c.in-Ok.bucket, c.in-Ok.ensures.cut, (c.new-pool.ensures.value.0, c.new-pool.ensures.value.1, search rules))
+returns-clause-made c =
+    λ _. (c.in-Ok.bucket, c.in-Ok.ensures.cut, (c.new-pool.ensures.value.0, c.new-pool.ensures.value.1, search rules))

@@ -35,7 +35,8 @@ loop-number-preserved c =
     let count = c.args.parties in
     let before = c.loop-number.invariant in
     let dealt = c.deal-seat.ensures in
-    let is = before.rest ∙ ap (λ (parties : List NumberedLog). (standing_for scene parties, [])) (fresh_more number count (omega arith)) in
+    let is =
+    before.rest ∙ ap (λ (parties : List NumberedLog). (standing_for scene parties, [])) (fresh_more number count (omega arith)) in
     let seated = dealt.first ∙ ap (λ (m : Me ℕ SeatView). (first_of m.0, [])) is in
     let value : BumpParty = party_in c.deal-seat.result.table_id number c.deal-seat.result.me.0 in
     let value_is : value ≡ fresh_party bump number = λ j. record {

@@ -51,7 +51,8 @@ pub returns-clause-run : goal.returns-clause-run
 returns-clause-run c = flags_run
 
 pub returns-clause-interleaved_run : goal.returns-clause-interleaved_run
-returns-clause-interleaved_run c = λ scene party log layouts is interleaving asked. pool_run scene interleaving.steps layouts is asked
+returns-clause-interleaved_run c =
+    λ scene party log layouts is interleaving asked. pool_run scene interleaving.steps layouts is asked
 
 pub returns-clause-interleaved_apart : goal.returns-clause-interleaved_apart
 returns-clause-interleaved_apart c = λ scene party log other other_log bucket both held other_held.

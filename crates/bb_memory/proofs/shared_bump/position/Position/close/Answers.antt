@@ -6,7 +6,8 @@ use Rattle.bb_memory.proofs.SharedBumpClosings.{closes}
 use Rattle.bb_memory.proofs.shared_bump.position.Position.close.Goals as goal
 
 pub free-requires : goal.free-requires
-free-requires c k less = let counts = c.close_with-closed.ensures.counts.1 in absurd (omega (arith, counts, c.self.invariant.slots, less))
+free-requires c k less =
+    let counts = c.close_with-closed.ensures.counts.1 in absurd (omega (arith, counts, c.self.invariant.slots, less))
 
 pub returns : goal.returns
 returns c =
