@@ -25,7 +25,8 @@ AreFull words from to = (at : ℕ) → from ≤ at → at < to → slice_index w
 -- there are just the words that the bound needs, and their bits from the bound on are set
 pub record AreIndexWords (bound : ℕ) (words : List ℕ) : Type 0 where
   pub count : length words ≡ index_words bound
-  pub past : (number : ℕ) → bound ≤ number → number < 64 * length words → has_bit words number ≡ true
+  pub past : (number : ℕ) → bound ≤ number → number < 64 * length words
+      → has_bit words number ≡ true
 
 -- words, and behind them a list of some of their numbers
 pub record Slots : Type 0 where
@@ -49,12 +50,15 @@ pub record IsListing (words : List ℕ) (listed : List ℕ) (hand : ℕ) (top : 
   pub fits : top ≤ length words
   pub below : (k : ℕ) → k < top → open_word listed hand top k < length words
   pub each : (k : ℕ) → k < top → slice_index words (open_word listed hand top k) ≢ 2 ^ 64 - 1
-  pub once : (i : ℕ) (k : ℕ) → i < k → k < top → open_word listed hand top i ≢ open_word listed hand top k
+  pub once : (i : ℕ) (k : ℕ) → i < k → k < top
+      → open_word listed hand top i ≢ open_word listed hand top k
   pub all : (at : ℕ) → at < length words → slice_index words at ≢ 2 ^ 64 - 1
       → (k : ℕ) × (k < top) × (open_word listed hand top k ≡ at)
 
 -- the words hold a set, one of them is in hand, and those that aren't full are listed or in hand
-pub record IsWordSet (bound : ℕ) (words : List ℕ) (listed : List ℕ) (hand : ℕ) (top : ℕ) : Type 0 where
+pub record IsWordSet
+    (bound : ℕ) (words : List ℕ) (listed : List ℕ) (hand : ℕ) (top : ℕ)
+    : Type 0 where
   pub are : AreIndexWords bound words
   pub room : length listed ≡ length words - 1
   pub in_hand : 0 < length words → hand < length words
