@@ -212,8 +212,8 @@ impl SharedBumpAllocator {
         self.position.meet(&mut a.seat, &mut b.seat);
     }
 
-    /// The bump again, for one owner: of the same region, at the position that the parties' steps left. It is at least what
-    /// this party has seen, and exactly that where it was the only party ever.
+    /// The bump again, for one owner: of the same region, at the position that the parties' steps left (with several parties that
+    /// is tested, and no clause). It is at least what this party has seen, and exactly that where it was the only party ever.
     pub fn into_owner(self, party: BumpParty) -> BumpAllocator
         requires party { party.allocator ≡ self }
         ensures region { result.region ≡ self.scene.region }
@@ -254,9 +254,10 @@ impl SharedBumpAllocator {
 /// What a user of a shared bump has of each party, and of two that met, whatever the threads did. It does nothing: its
 /// contract is the law.
 ///
-/// A party's history is the interleaving of its log that `IsParty` tells: a list of allowed steps from the opening, in
-/// which the party's steps are exactly its log. Two parties that met have such a list together, which `AreInterleaved`
-/// tells. A list that the opening stands for is one that was live before the bump was shared.
+/// A possible history of a party is an interleaving of its log, as `IsParty` has one: a list of allowed steps from the opening,
+/// in which the party's steps are exactly its log. The others' steps in it are some that explain the log, and needn't be those
+/// that were made. Two parties that met have such a list together, which `AreInterleaved` tells. A list that the opening stands
+/// for is one that was live before the bump was shared.
 pub fn shared_bump_law()
     // The calls of a party's history are a run of the bump object from that list.
     ensures run { (party : BumpParty) (live : List Chunk) (is : IsParty party)

@@ -35,7 +35,7 @@ use std::marker::Model;
 /// takes or gives back buckets has one of them. No call waits for another, and none takes memory once the pool is made.
 ///
 /// What a call promises is told by the party's log: the list of the atomic steps that the party made, each with what it found.
-/// Some interleaving of each party's log with logs of the others is always one that the pool machine allows.
+/// Some interleaving of each party's log with some logs of the others is always one that the pool machine allows.
 ///
 /// ```
 /// pool_count_law();
@@ -144,7 +144,7 @@ impl SharedPoolAllocator {
         self.buckets.free(party, bucket);
     }
 
-    /// Tells that two parties hold different buckets. It changes nothing: it loads a word, and adds nothing to a log. The
+    /// Tells that two parties hold different buckets. It changes nothing: it loads a word four times, and adds nothing to a log. The
     /// parties have to be this pool's.
     pub fn meet(&self, a: &mut PoolParty, b: &mut PoolParty)
         requires a { a.old.allocator ≡ self.now }
@@ -164,6 +164,7 @@ impl SharedPoolAllocator {
     /// `GrowWouldShrink` where the new size isn't greater than the old one, with `AlignmentFailure` where the new alignment is
     /// greater than the bucket's, and with `OutOfMemory` where the new size is greater than the bucket's. A refusal changes
     /// nothing. The bucket has to be this pool's, and its place a multiple of the old alignment.
+    /// The old size is the one that is handed in: the token's own length isn't compared with it.
     pub fn grow(
         &self,
         bucket: &mut Bucket<'_>,
@@ -185,7 +186,8 @@ impl SharedPoolAllocator {
     /// Gives the bucket's chunk exactly the new size, without a step. It is refused in this order: with `ShrinkWouldGrow` where
     /// the new size isn't smaller than the old one, and with `AlignmentFailure` where the new alignment is greater than the
     /// bucket's. A refusal changes nothing. The bucket has to be this pool's, its place a multiple of the old alignment, and the
-    /// old size at most the bucket's.
+    /// old size at most the bucket's. The old size is the one that is handed in: the token's own length isn't compared
+    /// with it.
     pub fn shrink(
         &self,
         bucket: &mut Bucket<'_>,
@@ -247,9 +249,9 @@ impl SharedPoolAllocator {
 /// What a user of a shared pool has of each party, and of two that met, whatever the threads did. It does nothing: its
 /// contract is the law.
 ///
-/// A party's history is the interleaving of its log that `IsParty` tells: a list of allowed steps from the opening, in
-/// which the party's steps are exactly its log. Two parties that met have such a list together, which `AreInterleaved`
-/// tells.
+/// A possible history of a party is an interleaving of its log, as `IsParty` has one: a list of allowed steps from the opening,
+/// in which the party's steps are exactly its log. The others' steps in it are some that explain the log, and needn't be those
+/// that were made. Two parties that met have such a list together, which `AreInterleaved` tells.
 pub fn shared_pool_law()
     // The takings and returns of a party's history are a run of the pool object from the empty list,
     // whichever layouts within the bucket's size and alignment were asked for.

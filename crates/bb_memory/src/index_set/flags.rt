@@ -8,7 +8,7 @@ use std::marker::Model;
 /// A flag for each number, and the numbers below the bound that aren't in the set, in the first entries of an array. The rest of
 /// the entries are never read.
 ///
-/// A taking answers the number that was given back last, and sets its flag. Nothing is searched.
+/// A taking answers the number that was given back last, which no clause promises, and sets its flag. Nothing is searched.
 #[derive(Drop)]
 #[derive_where(Debug)]
 pub struct Flags<const N: usize> {

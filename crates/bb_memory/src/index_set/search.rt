@@ -1,6 +1,7 @@
 //! The search for a number that isn't in a set of index words.
 //!
-//! It is a function of any [`Searched`], and so can do nothing but what that trait lists: each word that it reads is counted.
+//! It is a function of any [`Searched`], and so can do nothing with the words but what that trait lists: each word that it reads
+//! is counted, by the counter that the read is handed.
 ghost use Rattle.std.specs.Prelude.{◌≡◌, ◌≢◌, ◌+◌, ◌-◌, ◌*◌, ◌/◌, ◌<◌, ◌^◌, false, true, length, min, slice_index, IfSome, IfNone, IsTrue, IsFalse};
 ghost use Rattle.bb_memory.specs.Words.{PutsAt, SetsBit, has_bit};
 

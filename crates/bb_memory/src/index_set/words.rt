@@ -11,9 +11,9 @@ use std::marker::Model;
 /// A bit for each number below the bound. The bits from the bound on are set for good, so that a word with a clear bit has a
 /// number to give.
 ///
-/// The words that aren't full are named, each once: one of them is in hand, and the others are listed. A taking reads the word in
-/// hand, and no other: so it reads one word, however many are full. That word is full only where every word is, and then the
-/// taking is refused.
+/// Where some word isn't full, one such is in hand, and the others are listed, each once; where all are full, a full one is in
+/// hand. A taking reads the word in hand, and no other: so it reads one word, however many are full. That word is full only where
+/// every word is, and then the taking is refused.
 #[derive(Drop)]
 pub struct Words<A: Allocator> {
     words: IndexWords<A>,

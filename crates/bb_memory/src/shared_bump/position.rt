@@ -1,7 +1,8 @@
 //! The position that threads share: its word, and the only calls that touch it.
 //!
-//! Each call but `meet` makes one atomic step, by the seat of the party whose step it is, and tells that the party's log then
-//! ends with that step and what it found. `meet` steps for two parties, changes no word, and is in no log.
+//! `read`, `exchange` and `load` make one atomic step each, by the seat of the party whose step it is, and tell that its log then
+//! ends with that step and what it found. `deal` and `meet` only load the word, and are in no log; `open` and `close` are before
+//! and after all sharing.
 ghost use Rattle.std.specs.Prelude.{◌≡◌, ◌<◌, ◌≤◌, [], IfOk, None, Some};
 ghost use Rattle.bb_memory_base.specs.BumpMachine.{chunk_at, position_behind};
 ghost use Rattle.bb_memory_base.specs.BumpLogs.{call_in};

@@ -7,8 +7,9 @@ use super::buckets::SharedBuckets;
 use crate::layout::Chunk;
 use std::marker::Model;
 
-/// A bucket that a party took of a shared pool, which it borrows. It is spent where it is given back; a dropped one stays
-/// held for good.
+/// A token for a bucket that a party took of a shared pool, which it borrows. A return spends it. While the party's log holds the
+/// bucket, the pool's `bucket` gives another token for it, so a party may have several; after a return by one of them the others
+/// are stale. The bucket of a dropped token stays held until it is returned by another.
 #[derive(Drop)]
 pub struct Bucket<'a> {
     pub(super) buckets: &'a SharedBuckets,
@@ -37,7 +38,8 @@ impl<'a> Bucket<'a> {
         self.number
     }
 
-    /// The chunk in the bucket: it begins at the bucket's place, and has the length that was asked for last.
+    /// The chunk in the bucket: it begins at the bucket's place, and has the
+    /// token's length, which `allocate`, `bucket` or a resize gave it.
     pub fn chunk(&self) -> Chunk
         ensures value { result ≡ chunk_of self.now }
         ensures short { result.len ≤ self.now.allocator.scene.geometry.bucket.size }

@@ -165,7 +165,7 @@ impl SharedBuckets {
         self.flags.give_back(&mut party.seat, bucket.number);
     }
 
-    /// Compares the logs of two parties, which it changes no more than any word.
+    /// Two parties meet: they are two, and no bucket is held after both logs. No word and no log changes.
     pub fn meet(&self, a: &mut PoolParty, b: &mut PoolParty)
         requires a { a.old.allocator ≡ self.now }
         requires b { b.old.allocator ≡ self.now }

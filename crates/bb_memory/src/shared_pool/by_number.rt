@@ -77,7 +77,8 @@ impl SharedPoolAllocator {
 
     /// The bucket of this number again, with a chunk of `len` bytes, without a step. It is for a user that kept the number in
     /// place of the bucket. The party has to be this pool's, and its log has to hold the bucket: this party took it, and it
-    /// wasn't given back since. The length has to be at most the bucket's size.
+    /// wasn't given back since. The length has to be at most the bucket's size. Tokens that there are already stay, and a return
+    /// by one leaves the others stale.
     ///
     /// ```
     /// let taken = pool.allocate(&mut party, Layout::from_size_align(48, 4).unwrap())?;
@@ -110,7 +111,8 @@ impl<const MAX_NUMBER_OF_BUCKETS: usize> SharedFixedSizePoolAllocator<MAX_NUMBER
 
     /// The bucket of this number again, with a chunk of `len` bytes, without a step. It is for a user that kept the number in
     /// place of the bucket. The party has to be this pool's, and its log has to hold the bucket: this party took it, and it
-    /// wasn't given back since. The length has to be at most the bucket's size.
+    /// wasn't given back since. The length has to be at most the bucket's size. Tokens that there are already stay, and a return
+    /// by one leaves the others stale.
     pub fn bucket(&self, party: &PoolParty, number: u32, len: usize) -> Bucket<'_>
         requires party { party.now.allocator ≡ self.now }
         requires held { IsHeldAfter party.now.log number }

@@ -133,7 +133,7 @@ impl<const MAX_NUMBER_OF_BUCKETS: usize> SharedFixedSizePoolAllocator<MAX_NUMBER
         self.buckets.free(party, bucket);
     }
 
-    /// Tells that two parties hold different buckets. It changes nothing: it loads a word, and adds nothing to a log. The
+    /// Tells that two parties hold different buckets. It changes nothing: it loads a word four times, and adds nothing to a log. The
     /// parties have to be this pool's.
     pub fn meet(&self, a: &mut PoolParty, b: &mut PoolParty)
         requires a { a.old.allocator ≡ self.now }
@@ -153,6 +153,7 @@ impl<const MAX_NUMBER_OF_BUCKETS: usize> SharedFixedSizePoolAllocator<MAX_NUMBER
     /// `GrowWouldShrink` where the new size isn't greater than the old one, with `AlignmentFailure` where the new alignment is
     /// greater than the bucket's, and with `OutOfMemory` where the new size is greater than the bucket's. A refusal changes
     /// nothing. The bucket has to be this pool's, and its place a multiple of the old alignment.
+    /// The old size is the one that is handed in: the token's own length isn't compared with it.
     pub fn grow(
         &self,
         bucket: &mut Bucket<'_>,
@@ -174,7 +175,8 @@ impl<const MAX_NUMBER_OF_BUCKETS: usize> SharedFixedSizePoolAllocator<MAX_NUMBER
     /// Gives the bucket's chunk exactly the new size, without a step. It is refused in this order: with `ShrinkWouldGrow` where
     /// the new size isn't smaller than the old one, and with `AlignmentFailure` where the new alignment is greater than the
     /// bucket's. A refusal changes nothing. The bucket has to be this pool's, its place a multiple of the old alignment, and the
-    /// old size at most the bucket's.
+    /// old size at most the bucket's. The old size is the one that is handed in: the token's own length isn't compared
+    /// with it.
     pub fn shrink(
         &self,
         bucket: &mut Bucket<'_>,

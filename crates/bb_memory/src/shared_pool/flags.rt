@@ -1,7 +1,8 @@
 //! The flags that threads share, one a bucket: their words, and the only calls that touch them.
 //!
-//! Each call but `meet` makes one atomic step, by the seat of the party whose step it is, and tells that the party's log then
-//! ends with that step and what it found. `meet` steps for two parties, changes no word, and is in no log.
+//! `try_flag` and `give_back` make one atomic step each, by the seat of the party whose step it is, and tell that its log then
+//! ends with that step and what it found. `deal` and `meet` only load words, and are in no log; `open` is before all sharing, and
+//! `geometry` touches no word.
 ghost use Rattle.std.specs.Prelude.{◌≡◌, ◌<◌, [], IfOk, MatchBool, max};
 ghost use Rattle.bb_memory_base.specs.Region.{IsRegion};
 ghost use Rattle.bb_memory_base.specs.PoolGeometry.{IsPoolGeometry};

@@ -72,6 +72,17 @@ fn no_marks() -> Marks {
     ]
 }
 
+/// Watches a marked bucket for a while. It answers how often its word was found as somebody else stores it before a return.
+fn came_between(mark: &AtomicU64) -> u64 {
+    let mut cleared: u64 = 0;
+    for _ in 0..100u32 {
+        if mark.swap(1, Ordering::SeqCst) == 0 {
+            cleared = cleared.saturating_add(1);
+        }
+    }
+    cleared
+}
+
 /// Takes a bucket and gives it back, so many times, and goes on where it is refused. It answers how often a bucket that it had
 /// taken was marked by somebody else, or was none of the eight.
 fn take_and_return(
@@ -90,8 +101,9 @@ fn take_and_return(
             let found = match marks.get(bucket.number() as usize) {
                 Some(mark) => {
                     let found = mark.swap(1, Ordering::SeqCst);
+                    let came_between = came_between(mark);
                     mark.store(0, Ordering::SeqCst);
-                    found
+                    found.saturating_add(came_between)
                 }
                 None => 1,
             };
