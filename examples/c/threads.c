@@ -1,16 +1,18 @@
 // Four threads over one shared pool and one shared bump. Each thread has a seat at both, fills each chunk with a pattern of its
 // own, checks that nobody else wrote there, and gives the bucket back. What one thread holds, another can't return.
+//
+// A return of a bucket comes before its next taking, by steps in the library. ThreadSanitizer doesn't see these, since the
+// library isn't built for it, so they are told to it.
 #include <pthread.h>
 #include <sched.h>
 #include <stdatomic.h>
 #include <stdint.h>
 #include <stdio.h>
 #include <stdlib.h>
-#include <string.h>
 
 #include "bb_memory.h"
 
-enum { THREADS = 4, ROUNDS = 2000, HELD = 2, BUCKETS = 8, BUCKET_SIZE = 64, SHARE = 40, CHUNKS = 100, CHUNK = 24 };
+enum { THREADS = 4, ROUNDS = 20000, HELD = 2, BUCKETS = 8, BUCKET_SIZE = 64, SHARE = 40, CHUNKS = 20000, CHUNK = 8 };
 
 static _Alignas(64) unsigned char pool_bytes[BUCKETS * BUCKET_SIZE];
 static _Alignas(64) unsigned char bump_bytes[THREADS * CHUNKS * CHUNK];
@@ -25,6 +27,27 @@ typedef struct {
 
 static worker workers[THREADS];
 
+#if defined(__SANITIZE_THREAD__)
+#define HAS_THREAD_SANITIZER
+#elif defined(__has_feature)
+#if __has_feature(thread_sanitizer)
+#define HAS_THREAD_SANITIZER
+#endif
+#endif
+
+#ifdef HAS_THREAD_SANITIZER
+void __tsan_acquire(void *at);
+void __tsan_release(void *at);
+
+static void tell_taking(size_t place) { __tsan_acquire((void *)place); }
+
+static void tell_return(size_t place) { __tsan_release((void *)place); }
+#else
+static void tell_taking(size_t place) { (void)place; }
+
+static void tell_return(size_t place) { (void)place; }
+#endif
+
 static void expect(int holds, const char *what) {
     if (!holds) {
         fprintf(stderr, "threads: not so: %s\n", what);
@@ -33,7 +56,9 @@ static void expect(int holds, const char *what) {
 }
 
 static void fill(size_t place, size_t len, size_t pattern) {
-    memset((unsigned char *)place, (int)(pattern & 255), len);
+    unsigned char *bytes = (unsigned char *)place;
+    for (size_t at = 0; at < len; at++)
+        bytes[at] = (unsigned char)(pattern & 255);
 }
 
 static void expect_filled(size_t place, size_t len, size_t pattern) {
@@ -51,6 +76,7 @@ static void use_pool(worker *self) {
         if (given.code == BB_DONE) {
             expect(given.len == SHARE && given.place % 8 == 0, "a chunk is as it was asked for");
             expect(bb_shared_pool_holds(&self->pool, given.place).number == 1, "a seat holds what it took");
+            tell_taking(given.place);
             places[held] = given.place;
             patterns[held] = self->number * 64 + self->taken % 64 + 1;
             fill(places[held], SHARE, patterns[held]);
@@ -63,6 +89,7 @@ static void use_pool(worker *self) {
             held--;
             expect_filled(places[held], SHARE, patterns[held]);
             expect(bb_shared_pool_deallocate(&self->pool, places[held] + 1) == BB_NOT_HELD, "a wild return is refused");
+            tell_return(places[held]);
             expect(bb_shared_pool_deallocate(&self->pool, places[held]) == BB_DONE, "a bucket is given back");
             expect(bb_shared_pool_deallocate(&self->pool, places[held]) == BB_NOT_HELD, "a second return is refused");
         }
@@ -70,6 +97,7 @@ static void use_pool(worker *self) {
     while (held > 0) {
         held--;
         expect_filled(places[held], SHARE, patterns[held]);
+        tell_return(places[held]);
         expect(bb_shared_pool_deallocate(&self->pool, places[held]) == BB_DONE, "a bucket is given back");
     }
 }
@@ -89,13 +117,19 @@ static void use_bump(worker *self) {
 
 static atomic_size_t started;
 
-// All begin together.
+// Waits until so many have come here, of all threads together.
+static void together(size_t all) {
+    atomic_fetch_add(&started, 1);
+    while (atomic_load(&started) < all)
+        sched_yield();
+}
+
+// All begin each part together.
 static void *work(void *argument) {
     worker *self = argument;
-    atomic_fetch_add(&started, 1);
-    while (atomic_load(&started) < THREADS)
-        sched_yield();
+    together(THREADS);
     use_pool(self);
+    together(2 * THREADS);
     use_bump(self);
     return NULL;
 }
