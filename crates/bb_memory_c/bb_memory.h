@@ -18,8 +18,8 @@
 // size of its buffer gets places in it. No function reads or writes a byte there, so the host zeroes what it wants zero.
 // Chunks that are out lie inside the region, at multiples of the asked alignment, and never overlap. Sizes and alignments
 // are in bytes. The numbers are tested, so none breaks an allocator: a place at which nothing is held is answered by a
-// code, which is a wild place, and that of a second return as long as the place was not given anew. A return after that
-// takes the chunk from its new holder, so the host returns each chunk once.
+// code, that is a wild place, and a second return as long as the place was not given anew. A return after that takes the
+// chunk from its new holder, so the host returns each chunk once.
 //
 // A Rust program declares these functions in an `unsafe extern "C"` block, with `#[repr(C)]` structs of the same fields;
 // examples/c/from_rust.rs does so.
@@ -125,8 +125,8 @@ bb_figure bb_one_chunk_size(bb_one_chunk *);
 // A pool cuts its region into buckets of one layout, and gives a bucket for each request.
 
 // BB_CANNOT_MAKE where the start is 0, start plus size or the start rounded up to the alignment exceeds SIZE_MAX, the
-// bucket's size is 0, or there is room for UINT32_MAX buckets or more. With room for none it is made, with 0 buckets. No call but
-// the maker takes memory.
+// bucket's size is 0, or there is room for UINT32_MAX buckets or more. With room for no bucket it is made, with 0 buckets.
+// No call but the maker takes memory.
 uint32_t bb_pool_make(bb_pool *, size_t bucket_size, size_t bucket_align, size_t start, size_t size);
 // A chunk of `size` bytes in a bucket that isn't held. Refused by size, then by alignment, then where every bucket is
 // held.

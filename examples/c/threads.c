@@ -14,8 +14,8 @@
 
 enum { THREADS = 4, ROUNDS = 20000, HELD = 2, BUCKETS = 8, BUCKET_SIZE = 64, SHARE = 40, CHUNKS = 20000, CHUNK = 8 };
 
-static _Alignas(64) unsigned char pool_bytes[BUCKETS * BUCKET_SIZE];
-static _Alignas(64) unsigned char bump_bytes[THREADS * CHUNKS * CHUNK];
+static _Alignas(64) uint64_t pool_words[BUCKETS * BUCKET_SIZE / 8];
+static _Alignas(64) uint64_t bump_words[THREADS * CHUNKS * CHUNK / 8];
 
 typedef struct {
     size_t number;
@@ -55,21 +55,26 @@ static void expect(int holds, const char *what) {
     }
 }
 
-static void fill(size_t place, size_t len, size_t pattern) {
-    unsigned char *bytes = (unsigned char *)place;
-    for (size_t at = 0; at < len; at++)
-        bytes[at] = (unsigned char)(pattern & 255);
+// No two chunks of all threads have the same pattern.
+static uint64_t pattern_of(const worker *self, size_t chunk) { return chunk * THREADS + self->number + 1; }
+
+// A chunk's length is a multiple of a word's. The checker of threads keeps few accesses of each word, so it is written whole.
+static void fill(size_t place, size_t len, uint64_t pattern) {
+    uint64_t *words = (uint64_t *)place;
+    for (size_t at = 0; at < len / sizeof *words; at++)
+        words[at] = pattern;
 }
 
-static void expect_filled(size_t place, size_t len, size_t pattern) {
-    const unsigned char *bytes = (const unsigned char *)place;
-    for (size_t at = 0; at < len; at++)
-        expect(bytes[at] == (unsigned char)(pattern & 255), "a chunk has what its own thread wrote");
+static void expect_filled(size_t place, size_t len, uint64_t pattern) {
+    const uint64_t *words = (const uint64_t *)place;
+    for (size_t at = 0; at < len / sizeof *words; at++)
+        expect(words[at] == pattern, "a chunk has what its own thread wrote");
 }
 
 // Takes so many buckets, and holds up to two at a time. Where it finds none free, it lets others run and looks again.
 static void use_pool(worker *self) {
-    size_t places[HELD], patterns[HELD], held = 0;
+    size_t places[HELD], held = 0;
+    uint64_t patterns[HELD];
     while (self->taken < ROUNDS) {
         bb_answer given = bb_shared_pool_allocate(&self->pool, SHARE, 8);
         expect(given.code == BB_DONE || given.code == BB_OUT_OF_MEMORY, "a bucket is given, or none is free");
@@ -78,7 +83,7 @@ static void use_pool(worker *self) {
             expect(bb_shared_pool_holds(&self->pool, given.place).number == 1, "a seat holds what it took");
             tell_taking(given.place);
             places[held] = given.place;
-            patterns[held] = self->number * 64 + self->taken % 64 + 1;
+            patterns[held] = pattern_of(self, self->taken);
             fill(places[held], SHARE, patterns[held]);
             held++;
             self->taken++;
@@ -108,9 +113,9 @@ static void use_bump(worker *self) {
         bb_answer given = bb_shared_bump_allocate(&self->bump, CHUNK, 8);
         expect(given.code == BB_DONE && given.len == CHUNK && given.place % 8 == 0, "the bump has room for all");
         self->places[chunk] = given.place;
-        fill(given.place, CHUNK, self->number * 61 + chunk + 1);
+        fill(given.place, CHUNK, pattern_of(self, chunk));
         bb_figure used = bb_shared_bump_used_space(&self->bump);
-        expect(used.code == BB_DONE && used.number >= seen + CHUNK && used.number <= sizeof bump_bytes, "what is used grows");
+        expect(used.code == BB_DONE && used.number >= seen + CHUNK && used.number <= sizeof bump_words, "what is used grows");
         seen = used.number;
     }
 }
@@ -135,14 +140,14 @@ static void *work(void *argument) {
 }
 
 static void make(bb_shared_pool *pool, bb_shared_bump *bump) {
-    size_t pool_start = (size_t)(uintptr_t)pool_bytes, bump_start = (size_t)(uintptr_t)bump_bytes;
-    expect(bb_shared_pool_make(pool, BUCKET_SIZE, 8, pool_start, sizeof pool_bytes, 0) == BB_CANNOT_MAKE, "a party is there");
+    size_t pool_start = (size_t)(uintptr_t)pool_words, bump_start = (size_t)(uintptr_t)bump_words;
+    expect(bb_shared_pool_make(pool, BUCKET_SIZE, 8, pool_start, sizeof pool_words, 0) == BB_CANNOT_MAKE, "a party is there");
     expect(bb_shared_pool_make(pool, BUCKET_SIZE, 3, pool_start, 64, 1) == BB_NOT_A_LAYOUT, "3 is no power of two");
     expect(bb_shared_pool_make(pool, 0, 8, pool_start, 64, 1) == BB_CANNOT_MAKE, "a bucket has a byte");
-    expect(bb_shared_pool_make(pool, BUCKET_SIZE, 8, pool_start, sizeof pool_bytes, THREADS) == BB_DONE, "a pool is made");
+    expect(bb_shared_pool_make(pool, BUCKET_SIZE, 8, pool_start, sizeof pool_words, THREADS) == BB_DONE, "a pool is made");
     expect(bb_shared_pool_make(pool, BUCKET_SIZE, 8, pool_start, 64, 1) == BB_ALREADY_MADE, "a handle holds one");
     expect(bb_shared_bump_make(bump, 0, 64, 1) == BB_CANNOT_MAKE, "a region doesn't start at 0");
-    expect(bb_shared_bump_make(bump, bump_start, sizeof bump_bytes, THREADS) == BB_DONE, "a bump is made");
+    expect(bb_shared_bump_make(bump, bump_start, sizeof bump_words, THREADS) == BB_DONE, "a bump is made");
 
     unsigned seats = 0;
     for (size_t number = 0; number < THREADS; number++) {
@@ -166,8 +171,8 @@ static void one_by_one(void) {
     expect(bb_shared_pool_number_of_buckets(mine).number == BUCKETS, "eight buckets");
     expect(bb_shared_pool_bucket_size(mine).number == BUCKET_SIZE, "of 64 bytes");
     expect(bb_shared_pool_max_alignment(mine).number == 8, "at multiples of 8");
-    expect(bb_shared_pool_size(mine).number == sizeof pool_bytes, "over the region");
-    expect(bb_shared_pool_start_address(mine).number == (size_t)(uintptr_t)pool_bytes, "from its start");
+    expect(bb_shared_pool_size(mine).number == sizeof pool_words, "over the region");
+    expect(bb_shared_pool_start_address(mine).number == (size_t)(uintptr_t)pool_words, "from its start");
     expect(bb_shared_pool_allocate(mine, BUCKET_SIZE + 1, 16).code == BB_SIZE_TOO_LARGE, "65 bytes are too many");
     expect(bb_shared_pool_allocate(mine, 1, 16).code == BB_ALIGNMENT_FAILURE, "16 is too wide");
     expect(bb_shared_pool_allocate(mine, 1, 3).code == BB_NOT_A_LAYOUT, "3 is no power of two");
@@ -187,11 +192,11 @@ static void one_by_one(void) {
     bb_bump_seat *bump = &workers[0].bump;
     expect(bb_shared_bump_allocate(bump, 0, 1).code == BB_SIZE_IS_ZERO, "no chunk has no byte");
     expect(bb_shared_bump_used_space(bump).number == 0, "nothing is used");
-    expect(bb_shared_bump_free_space(bump).number == sizeof bump_bytes, "all is free");
-    expect(bb_shared_bump_total_space(bump).number == sizeof bump_bytes, "all of the region");
-    expect(bb_shared_bump_start_address(bump).number == (size_t)(uintptr_t)bump_bytes, "from its start");
+    expect(bb_shared_bump_free_space(bump).number == sizeof bump_words, "all is free");
+    expect(bb_shared_bump_total_space(bump).number == sizeof bump_words, "all of the region");
+    expect(bb_shared_bump_start_address(bump).number == (size_t)(uintptr_t)bump_words, "from its start");
     expect(bb_shared_bump_party(bump).number < THREADS, "a party has a number");
-    expect(bb_shared_bump_allocate(bump, sizeof bump_bytes + 1, 1).code == BB_OUT_OF_MEMORY, "it has no room for more");
+    expect(bb_shared_bump_allocate(bump, sizeof bump_words + 1, 1).code == BB_OUT_OF_MEMORY, "it has no room for more");
 }
 
 int main(void) {
@@ -211,7 +216,7 @@ int main(void) {
     for (size_t number = 0; number < THREADS; number++) {
         expect(workers[number].taken == ROUNDS, "each thread had its buckets");
         for (size_t chunk = 0; chunk < CHUNKS; chunk++)
-            expect_filled(workers[number].places[chunk], CHUNK, number * 61 + chunk + 1);
+            expect_filled(workers[number].places[chunk], CHUNK, pattern_of(&workers[number], chunk));
     }
     expect(bb_shared_bump_free_space(&workers[0].bump).number == 0, "all of the bump is used");
     expect(bb_shared_bump_allocate(&workers[0].bump, 1, 1).code == BB_OUT_OF_MEMORY, "the bump is full");
