@@ -1,20 +1,25 @@
 // Allocators over a region of the host's own, for C. The contract of each function is proved, for every caller that
 // guarantees the following, which nothing checks:
 //
-// - A handle is a variable of the host's, all bytes zero before its first use: `bb_pool pool = BB_EMPTY;`. It is passed
-//   by its address, which isn't null. Nothing but these functions writes it, and a copy of it is not used.
+// - A handle is a variable of the host's, both fields zero before its first use: `bb_pool pool = BB_EMPTY;`. It is passed
+//   by its address, which isn't null. Nothing but these functions writes it. It may be moved, and then the old one isn't
+//   used.
 // - One call at a time has a handle, and a call that takes two handles is passed two. A handle may go to another thread
-//   between two calls, if the threads order that by a lock or by a thread's start or join. Threads share a bump or a pool
-//   by the shared forms alone, each thread through a seat of its own.
-// - No function is called from a signal handler, or in a child that a process of several threads forked.
-// - `malloc` and `free` come from one allocator, and `malloc` aligns as C says. Where it refuses, the answer is
+//   between two calls, if the threads order that by a lock or by a thread's start or join. Threads that call at once share
+//   by the shared forms alone, each through a seat of its own; any other handle they share under one lock.
+// - No function is called from a signal handler, or in a child that a process of several threads forked. In a forked child
+//   handles are copies, so it uses none whose region both processes share.
+// - A region is the host's as long as chunks in it are used. No two allocators have a byte in common, and none is made
+//   over a region in which chunks of an earlier one are still used.
+// - `malloc`, `realloc` and `free` come from one allocator, which aligns as C says. Where it refuses, the answer is
 //   BB_OUT_OF_MEMORY.
 //
 // A place is a number, such as the address of a byte in a buffer of the host's; a host that hands in the address and the
 // size of its buffer gets places in it. No function reads or writes a byte there, so the host zeroes what it wants zero.
 // Chunks that are out lie inside the region, at multiples of the asked alignment, and never overlap. Sizes and alignments
-// are in bytes. The numbers are tested, so none breaks an allocator: a wild place is answered by a code, and so is a
-// second return.
+// are in bytes. The numbers are tested, so none breaks an allocator: a place at which nothing is held is answered by a
+// code, that is a wild place, and a second return as long as the place was not given anew. A return after that takes the
+// chunk from its new holder, so the host returns each chunk once.
 //
 // A Rust program declares these functions in an `unsafe extern "C"` block, with `#[repr(C)]` structs of the same fields;
 // examples/c/from_rust.rs does so.
@@ -30,9 +35,11 @@ extern "C" {
 #endif
 
 // What is answered. With any code but BB_DONE nothing was done, and a struct that is answered has 0 beside the code.
+// Of several causes the first is answered. Of a maker: BB_ALREADY_MADE, BB_NOT_A_LAYOUT, BB_CANNOT_MAKE, BB_OUT_OF_MEMORY.
+// Of a request: BB_NOT_MADE, BB_NOT_A_LAYOUT, then the allocator's own causes.
 enum {
     BB_DONE = 0,
-    BB_SIZE_IS_ZERO = 1,
+    BB_SIZE_IS_ZERO = 1,       // of a bump alone: a pool gives a bucket, with length 0, and one chunk gives what is left
     BB_SIZE_TOO_LARGE = 2,     // greater than a bucket's size
     BB_ALIGNMENT_FAILURE = 3,  // greater than a bucket's alignment; of one chunk that is resized, than the old alignment
     BB_OUT_OF_MEMORY = 4,      // no room left in the region, or `malloc` refused
@@ -43,7 +50,7 @@ enum {
     BB_NOT_HELD = 9,           // no chunk that is out begins at the place; of a seat, no bucket that this seat holds
     BB_ALREADY_MADE = 10,      // the handle isn't empty
     BB_CANNOT_MAKE = 11,       // the region, the buckets or the parties can't be; each maker says when
-    BB_NO_SEAT = 12,           // each party has a seat already
+    BB_NO_SEAT = 12,           // each party has had its seat: a freed seat's party gets no other
     BB_NOT_THE_OLD = 13,       // the place isn't a multiple of the old alignment, or more bytes are to be shrunk than reserved
 };
 
@@ -81,11 +88,13 @@ uint32_t bb_bump_deallocate(bb_bump *);
 bb_figure bb_bump_used_space(bb_bump *);
 bb_figure bb_bump_free_space(bb_bump *);
 bb_figure bb_bump_total_space(bb_bump *);
+// The region's start.
 bb_figure bb_bump_start_address(bb_bump *);
 
 // A resize names a chunk that is out by its place, its old layout and its new one. It is tested in this order: BB_NOT_MADE;
 // BB_NOT_A_LAYOUT, of either; BB_NOT_HELD; BB_NOT_THE_OLD; then the causes that its function tells. The chunk keeps its place,
-// and the allocator stays as it was.
+// and the allocator stays as it was. The old size is the host's word: it is compared with the new one, and of a shrink with
+// what is reserved. A shrink to 0 is done.
 
 // One chunk gives all of its region, from the first multiple of the asked alignment on, to one request at a time.
 
@@ -109,13 +118,15 @@ bb_figure bb_one_chunk_reserved(bb_one_chunk *, size_t place);
 bb_figure bb_one_chunk_holds(bb_one_chunk *, size_t place);
 // 1 where no chunk is out, else 0.
 bb_figure bb_one_chunk_has_chunk_available(bb_one_chunk *);
+// The region's start, and its size.
 bb_figure bb_one_chunk_start_address(bb_one_chunk *);
 bb_figure bb_one_chunk_size(bb_one_chunk *);
 
 // A pool cuts its region into buckets of one layout, and gives a bucket for each request.
 
 // BB_CANNOT_MAKE where the start is 0, start plus size or the start rounded up to the alignment exceeds SIZE_MAX, the
-// bucket's size is 0, or there is room for UINT32_MAX buckets or more. No call but the maker takes memory.
+// bucket's size is 0, or there is room for UINT32_MAX buckets or more. With room for no bucket it is made, with 0 buckets.
+// No call but the maker takes memory.
 uint32_t bb_pool_make(bb_pool *, size_t bucket_size, size_t bucket_align, size_t start, size_t size);
 // A chunk of `size` bytes in a bucket that isn't held. Refused by size, then by alignment, then where every bucket is
 // held.
@@ -136,7 +147,10 @@ bb_figure bb_pool_reserved(bb_pool *, size_t place);
 bb_figure bb_pool_number_of_buckets(bb_pool *);
 bb_figure bb_pool_bucket_size(bb_pool *);
 bb_figure bb_pool_max_alignment(bb_pool *);
+// The region's size as handed in, padding in front included.
 bb_figure bb_pool_size(bb_pool *);
+// Where bucket 0 is: the region's start rounded up to the bucket's alignment. This plus the size may lie behind the region's
+// end.
 bb_figure bb_pool_start_address(bb_pool *);
 
 // The same of at most 512 buckets, which keeps what it knows of them in one block of fixed size.
@@ -165,7 +179,7 @@ uint32_t bb_shared_bump_make(bb_shared_bump *, size_t start, size_t size, uint32
 uint32_t bb_shared_bump_seat(bb_shared_bump *, bb_bump_seat *);
 // A chunk of exactly `size` bytes at the least multiple of `align` behind what is used.
 bb_answer bb_shared_bump_allocate(bb_bump_seat *, size_t size, size_t align);
-// What one look found.
+// What one look found; the start is the region's.
 bb_figure bb_shared_bump_used_space(bb_bump_seat *);
 bb_figure bb_shared_bump_free_space(bb_bump_seat *);
 bb_figure bb_shared_bump_total_space(bb_bump_seat *);
@@ -173,7 +187,10 @@ bb_figure bb_shared_bump_start_address(bb_bump_seat *);
 // The party's number, from 0.
 bb_figure bb_shared_bump_party(bb_bump_seat *);
 
-// A pool that threads share, in the same way. A bucket is given back through the seat that took it.
+// A pool that threads share, in the same way. A bucket is given back through the seat that took it. A return comes before the
+// next taking of that bucket (the steps are sequentially consistent), so its bytes need no further lock. ThreadSanitizer can't
+// see that in the built library: tell it by `__tsan_release` before a return and `__tsan_acquire` after a taking, as
+// examples/c/threads.c does.
 
 // BB_CANNOT_MAKE as of `bb_pool_make`, and where there is no party. No call but the maker and `bb_shared_pool_seat` takes
 // memory.
@@ -194,6 +211,7 @@ bb_answer bb_shared_pool_grow(bb_pool_seat *, size_t place, size_t old_size, siz
 bb_answer bb_shared_pool_shrink(bb_pool_seat *, size_t place, size_t old_size, size_t old_align, size_t new_size,
                                 size_t new_align);
 bb_figure bb_shared_pool_reserved(bb_pool_seat *, size_t place);
+// The figures as of a pool with one owner.
 bb_figure bb_shared_pool_number_of_buckets(bb_pool_seat *);
 bb_figure bb_shared_pool_bucket_size(bb_pool_seat *);
 bb_figure bb_shared_pool_max_alignment(bb_pool_seat *);

@@ -40,12 +40,14 @@ static void run_bump(void) {
     EXPECT(bb_bump_make(&bump, 0, 8) == BB_CANNOT_MAKE && bb_bump_make(&bump, SIZE_MAX, 1) == BB_CANNOT_MAKE);
     EXPECT(refused(bb_bump_allocate(&bump, 8, 8), BB_NOT_MADE) && bb_bump_deallocate(&bump) == BB_NOT_MADE);
     EXPECT(bb_bump_make(&bump, 4096, 1024) == BB_DONE && bb_bump_make(&bump, 4096, 1024) == BB_ALREADY_MADE);
+    requests = 0;
     EXPECT(given(bb_bump_allocate(&bump, 48, 4), 4096, 48) && given(bb_bump_allocate(&bump, 10, 32), 4160, 10));
     EXPECT(is(bb_bump_used_space(&bump), 74) && is(bb_bump_free_space(&bump), 950));
     EXPECT(given(bb_bump_allocate(&bump, 950, 1), 4170, 950) && refused(bb_bump_allocate(&bump, 1, 1), BB_OUT_OF_MEMORY));
     EXPECT(refused(bb_bump_allocate(&bump, 0, 1), BB_SIZE_IS_ZERO) && refused(bb_bump_allocate(&bump, 1, 3), BB_NOT_A_LAYOUT));
     EXPECT(bb_bump_deallocate(&bump) == BB_DONE && is(bb_bump_used_space(&bump), 0));
     EXPECT(is(bb_bump_total_space(&bump), 1024) && is(bb_bump_start_address(&bump), 4096));
+    EXPECT(requests == 0);
     EXPECT(bb_free(&bump) == BB_DONE && has_none(bb_bump_used_space(&bump), BB_NOT_MADE));
 }
 
@@ -53,6 +55,7 @@ static void run_one_chunk(void) {
     bb_one_chunk one = BB_EMPTY;
     EXPECT(bb_one_chunk_make(&one, 0, 8) == BB_CANNOT_MAKE);
     EXPECT(bb_one_chunk_make(&one, 4097, 1024) == BB_DONE && bb_one_chunk_make(&one, 4097, 1024) == BB_ALREADY_MADE);
+    requests = 0;
     EXPECT(is(bb_one_chunk_has_chunk_available(&one), 1));
     EXPECT(is(bb_one_chunk_start_address(&one), 4097) && is(bb_one_chunk_size(&one), 1024));
     EXPECT(refused(bb_one_chunk_allocate(&one, 1022, 4), BB_OUT_OF_MEMORY));
@@ -75,6 +78,7 @@ static void run_one_chunk(void) {
     EXPECT(refused(bb_one_chunk_shrink(&one, 4100, 1022, 4, 16, 4), BB_NOT_THE_OLD));
     EXPECT(bb_one_chunk_deallocate(&one, 4101) == BB_NOT_HELD && bb_one_chunk_deallocate(&one, 4100) == BB_DONE);
     EXPECT(bb_one_chunk_deallocate(&one, 4100) == BB_NOT_HELD && is(bb_one_chunk_has_chunk_available(&one), 1));
+    EXPECT(requests == 0);
     EXPECT(bb_free(&one) == BB_DONE && refused(bb_one_chunk_grow(&one, 4100, 48, 4, 64, 4), BB_NOT_MADE));
 }
 
@@ -86,6 +90,7 @@ static void run_one_chunk(void) {
         EXPECT(POOL##_make(&pool, 128, 8, 0, 1024) == BB_CANNOT_MAKE && POOL##_make(&pool, 0, 8, 4096, 1) == BB_CANNOT_MAKE); \
         EXPECT(POOL##_make(&pool, 128, 8, 4097, 1024) == BB_DONE);                                                            \
         EXPECT(POOL##_make(&pool, 128, 8, 4097, 1024) == BB_ALREADY_MADE);                                                    \
+        requests = 0;                                                                                                         \
         EXPECT(is(POOL##_number_of_buckets(&pool), 7) && is(POOL##_size(&pool), 1024));                                       \
         EXPECT(is(POOL##_bucket_size(&pool), 128) && is(POOL##_max_alignment(&pool), 8));                                     \
         EXPECT(refused(POOL##_allocate(&pool, 129, 16), BB_SIZE_TOO_LARGE));                                                  \
@@ -115,11 +120,88 @@ static void run_one_chunk(void) {
         EXPECT(POOL##_deallocate(&pool, place + 1) == BB_NOT_HELD && POOL##_deallocate(&pool, place) == BB_DONE);             \
         EXPECT(POOL##_deallocate(&pool, place) == BB_NOT_HELD);                                                               \
         EXPECT(given(POOL##_allocate(&pool, 48, 4), place, 48));                                                              \
+        EXPECT(requests == 0);                                                                                                \
         EXPECT(bb_free(&pool) == BB_DONE && POOL##_deallocate(&pool, place) == BB_NOT_MADE);                                  \
     }
 
 RUN_POOL(bb_pool)
 RUN_POOL(bb_fixed_pool)
+
+// Bucket 0 is at the region's start rounded up, and the size is the region's as it was handed in.
+static void run_starts(void) {
+    bb_pool unaligned = BB_EMPTY, empty = BB_EMPTY;
+    EXPECT(bb_pool_make(&unaligned, 128, 64, 4097, 1024) == BB_DONE && is(bb_pool_number_of_buckets(&unaligned), 7));
+    EXPECT(is(bb_pool_start_address(&unaligned), 4160) && is(bb_pool_size(&unaligned), 1024));
+    EXPECT(bb_pool_make(&empty, 128, 64, 4097, 64) == BB_DONE && is(bb_pool_number_of_buckets(&empty), 0));
+    EXPECT(refused(bb_pool_allocate(&empty, 1, 1), BB_OUT_OF_MEMORY));
+    bb_shared_pool shared = BB_EMPTY;
+    bb_pool_seat seat = BB_EMPTY;
+    EXPECT(bb_shared_pool_make(&shared, 128, 64, 4097, 1024, 1) == BB_DONE && bb_shared_pool_seat(&shared, &seat) == BB_DONE);
+    EXPECT(is(bb_shared_pool_start_address(&seat), 4160) && is(bb_shared_pool_size(&seat), 1024));
+    EXPECT(bb_free(&unaligned) == BB_DONE && bb_free(&empty) == BB_DONE);
+    EXPECT(bb_free(&shared) == BB_DONE && bb_free(&seat) == BB_DONE);
+}
+
+// The buckets of a freed seat stay held, and its party gets no other seat.
+static void run_freed_pool_seat(void) {
+    bb_shared_pool pool = BB_EMPTY;
+    bb_pool_seat freed = BB_EMPTY, other = BB_EMPTY;
+    EXPECT(bb_shared_pool_make(&pool, 64, 8, 4096, 128, 2) == BB_DONE);
+    EXPECT(bb_shared_pool_seat(&pool, &freed) == BB_DONE && bb_shared_pool_seat(&pool, &other) == BB_DONE);
+    bb_answer kept = bb_shared_pool_allocate(&freed, 64, 8);
+    EXPECT(kept.code == BB_DONE && kept.len == 64 && (kept.place == 4096 || kept.place == 4160));
+    EXPECT(bb_free(&freed) == BB_DONE && bb_shared_pool_seat(&pool, &freed) == BB_NO_SEAT);
+    size_t place = kept.place == 4096 ? 4160 : 4096;
+    EXPECT(given(bb_shared_pool_allocate(&other, 64, 8), place, 64));
+    EXPECT(refused(bb_shared_pool_allocate(&other, 64, 8), BB_OUT_OF_MEMORY));
+    EXPECT(bb_shared_pool_deallocate(&other, kept.place) == BB_NOT_HELD);
+    EXPECT(bb_free(&pool) == BB_DONE && bb_shared_pool_deallocate(&other, place) == BB_DONE);
+    EXPECT(given(bb_shared_pool_allocate(&other, 48, 8), place, 48));
+    EXPECT(bb_free(&other) == BB_DONE && bb_free(&freed) == BB_NOT_MADE);
+}
+
+// The chunks of a freed seat stay used, and its party gets no other seat.
+static void run_freed_bump_seat(void) {
+    bb_shared_bump bump = BB_EMPTY;
+    bb_bump_seat freed = BB_EMPTY, other = BB_EMPTY;
+    EXPECT(bb_shared_bump_make(&bump, 4096, 64, 2) == BB_DONE);
+    EXPECT(bb_shared_bump_seat(&bump, &freed) == BB_DONE && bb_shared_bump_seat(&bump, &other) == BB_DONE);
+    EXPECT(given(bb_shared_bump_allocate(&freed, 40, 8), 4096, 40));
+    EXPECT(bb_free(&freed) == BB_DONE && bb_shared_bump_seat(&bump, &freed) == BB_NO_SEAT);
+    EXPECT(bb_free(&bump) == BB_DONE && is(bb_shared_bump_used_space(&other), 40));
+    EXPECT(given(bb_shared_bump_allocate(&other, 24, 8), 4136, 24));
+    EXPECT(refused(bb_shared_bump_allocate(&other, 1, 1), BB_OUT_OF_MEMORY));
+    EXPECT(bb_free(&other) == BB_DONE && bb_free(&freed) == BB_NOT_MADE);
+}
+
+// Makers of large numbers are done.
+static void run_large(void) {
+    bb_bump bump = BB_EMPTY;
+    bb_one_chunk one = BB_EMPTY;
+    bb_pool pool = BB_EMPTY;
+    bb_fixed_pool fixed = BB_EMPTY;
+    size_t gibibyte = (size_t)1 << 30;
+    EXPECT(bb_bump_make(&bump, 4096, gibibyte) == BB_DONE && given(bb_bump_allocate(&bump, gibibyte, 1), 4096, gibibyte));
+    EXPECT(bb_one_chunk_make(&one, 4096, gibibyte) == BB_DONE && given(bb_one_chunk_allocate(&one, 0, 1), 4096, gibibyte));
+    EXPECT(bb_pool_make(&pool, 64, 8, 4096, gibibyte / 16) == BB_DONE && is(bb_pool_number_of_buckets(&pool), 1048576));
+    EXPECT(bb_fixed_pool_make(&fixed, 1, 1, 4096, 100000) == BB_DONE && is(bb_fixed_pool_number_of_buckets(&fixed), 512));
+    EXPECT(bb_free(&bump) == BB_DONE && bb_free(&one) == BB_DONE && bb_free(&pool) == BB_DONE && bb_free(&fixed) == BB_DONE);
+}
+
+static void run_many_seats(void) {
+    static bb_pool_seat seats[100];
+    bb_shared_pool pool = BB_EMPTY;
+    bb_pool_seat none = BB_EMPTY;
+    EXPECT(bb_shared_pool_make(&pool, 64, 8, 4096, 4096 * 64, 100) == BB_DONE);
+    for (size_t at = 0; at < 100; at++) {
+        EXPECT(bb_shared_pool_seat(&pool, &seats[at]) == BB_DONE && is(bb_shared_pool_party(&seats[at]), 99 - at));
+        EXPECT(is(bb_shared_pool_number_of_buckets(&seats[at]), 4096));
+        EXPECT(bb_shared_pool_allocate(&seats[at], 64, 8).code == BB_DONE);
+    }
+    EXPECT(bb_shared_pool_seat(&pool, &none) == BB_NO_SEAT && bb_free(&pool) == BB_DONE);
+    for (size_t at = 0; at < 100; at++)
+        EXPECT(bb_free(&seats[at]) == BB_DONE);
+}
 
 // A maker answers BB_OUT_OF_MEMORY with each of its requests refused, and leaves its handle empty. With none refused it makes.
 #define WITH_EACH_REFUSED(HANDLE, MAKE)                                                   \
@@ -190,6 +272,11 @@ int main(void) {
     run_one_chunk();
     run_bb_pool();
     run_bb_fixed_pool();
+    run_starts();
+    run_freed_pool_seat();
+    run_freed_bump_seat();
+    run_large();
+    run_many_seats();
     run_makers();
     puts("calls: each is answered as it has to be");
     return 0;

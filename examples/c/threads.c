@@ -1,19 +1,21 @@
 // Four threads over one shared pool and one shared bump. Each thread has a seat at both, fills each chunk with a pattern of its
 // own, checks that nobody else wrote there, and gives the bucket back. What one thread holds, another can't return.
+//
+// A return of a bucket comes before its next taking, by steps in the library. ThreadSanitizer doesn't see these, since the
+// library isn't built for it, so they are told to it.
 #include <pthread.h>
 #include <sched.h>
 #include <stdatomic.h>
 #include <stdint.h>
 #include <stdio.h>
 #include <stdlib.h>
-#include <string.h>
 
 #include "bb_memory.h"
 
-enum { THREADS = 4, ROUNDS = 2000, HELD = 2, BUCKETS = 8, BUCKET_SIZE = 64, SHARE = 40, CHUNKS = 100, CHUNK = 24 };
+enum { THREADS = 4, ROUNDS = 20000, HELD = 2, BUCKETS = 8, BUCKET_SIZE = 64, SHARE = 40, CHUNKS = 20000, CHUNK = 8 };
 
-static _Alignas(64) unsigned char pool_bytes[BUCKETS * BUCKET_SIZE];
-static _Alignas(64) unsigned char bump_bytes[THREADS * CHUNKS * CHUNK];
+static _Alignas(64) uint64_t pool_words[BUCKETS * BUCKET_SIZE / 8];
+static _Alignas(64) uint64_t bump_words[THREADS * CHUNKS * CHUNK / 8];
 
 typedef struct {
     size_t number;
@@ -25,6 +27,27 @@ typedef struct {
 
 static worker workers[THREADS];
 
+#if defined(__SANITIZE_THREAD__)
+#define HAS_THREAD_SANITIZER
+#elif defined(__has_feature)
+#if __has_feature(thread_sanitizer)
+#define HAS_THREAD_SANITIZER
+#endif
+#endif
+
+#ifdef HAS_THREAD_SANITIZER
+void __tsan_acquire(void *at);
+void __tsan_release(void *at);
+
+static void tell_taking(size_t place) { __tsan_acquire((void *)place); }
+
+static void tell_return(size_t place) { __tsan_release((void *)place); }
+#else
+static void tell_taking(size_t place) { (void)place; }
+
+static void tell_return(size_t place) { (void)place; }
+#endif
+
 static void expect(int holds, const char *what) {
     if (!holds) {
         fprintf(stderr, "threads: not so: %s\n", what);
@@ -32,27 +55,35 @@ static void expect(int holds, const char *what) {
     }
 }
 
-static void fill(size_t place, size_t len, size_t pattern) {
-    memset((unsigned char *)place, (int)(pattern & 255), len);
+// No two chunks of all threads have the same pattern.
+static uint64_t pattern_of(const worker *self, size_t chunk) { return chunk * THREADS + self->number + 1; }
+
+// A chunk's length is a multiple of a word's. The checker of threads keeps few accesses of each word, so it is written whole.
+static void fill(size_t place, size_t len, uint64_t pattern) {
+    uint64_t *words = (uint64_t *)place;
+    for (size_t at = 0; at < len / sizeof *words; at++)
+        words[at] = pattern;
 }
 
-static void expect_filled(size_t place, size_t len, size_t pattern) {
-    const unsigned char *bytes = (const unsigned char *)place;
-    for (size_t at = 0; at < len; at++)
-        expect(bytes[at] == (unsigned char)(pattern & 255), "a chunk has what its own thread wrote");
+static void expect_filled(size_t place, size_t len, uint64_t pattern) {
+    const uint64_t *words = (const uint64_t *)place;
+    for (size_t at = 0; at < len / sizeof *words; at++)
+        expect(words[at] == pattern, "a chunk has what its own thread wrote");
 }
 
 // Takes so many buckets, and holds up to two at a time. Where it finds none free, it lets others run and looks again.
 static void use_pool(worker *self) {
-    size_t places[HELD], patterns[HELD], held = 0;
+    size_t places[HELD], held = 0;
+    uint64_t patterns[HELD];
     while (self->taken < ROUNDS) {
         bb_answer given = bb_shared_pool_allocate(&self->pool, SHARE, 8);
         expect(given.code == BB_DONE || given.code == BB_OUT_OF_MEMORY, "a bucket is given, or none is free");
         if (given.code == BB_DONE) {
             expect(given.len == SHARE && given.place % 8 == 0, "a chunk is as it was asked for");
             expect(bb_shared_pool_holds(&self->pool, given.place).number == 1, "a seat holds what it took");
+            tell_taking(given.place);
             places[held] = given.place;
-            patterns[held] = self->number * 64 + self->taken % 64 + 1;
+            patterns[held] = pattern_of(self, self->taken);
             fill(places[held], SHARE, patterns[held]);
             held++;
             self->taken++;
@@ -63,6 +94,7 @@ static void use_pool(worker *self) {
             held--;
             expect_filled(places[held], SHARE, patterns[held]);
             expect(bb_shared_pool_deallocate(&self->pool, places[held] + 1) == BB_NOT_HELD, "a wild return is refused");
+            tell_return(places[held]);
             expect(bb_shared_pool_deallocate(&self->pool, places[held]) == BB_DONE, "a bucket is given back");
             expect(bb_shared_pool_deallocate(&self->pool, places[held]) == BB_NOT_HELD, "a second return is refused");
         }
@@ -70,6 +102,7 @@ static void use_pool(worker *self) {
     while (held > 0) {
         held--;
         expect_filled(places[held], SHARE, patterns[held]);
+        tell_return(places[held]);
         expect(bb_shared_pool_deallocate(&self->pool, places[held]) == BB_DONE, "a bucket is given back");
     }
 }
@@ -80,35 +113,41 @@ static void use_bump(worker *self) {
         bb_answer given = bb_shared_bump_allocate(&self->bump, CHUNK, 8);
         expect(given.code == BB_DONE && given.len == CHUNK && given.place % 8 == 0, "the bump has room for all");
         self->places[chunk] = given.place;
-        fill(given.place, CHUNK, self->number * 61 + chunk + 1);
+        fill(given.place, CHUNK, pattern_of(self, chunk));
         bb_figure used = bb_shared_bump_used_space(&self->bump);
-        expect(used.code == BB_DONE && used.number >= seen + CHUNK && used.number <= sizeof bump_bytes, "what is used grows");
+        expect(used.code == BB_DONE && used.number >= seen + CHUNK && used.number <= sizeof bump_words, "what is used grows");
         seen = used.number;
     }
 }
 
 static atomic_size_t started;
 
-// All begin together.
+// Waits until so many have come here, of all threads together.
+static void together(size_t all) {
+    atomic_fetch_add(&started, 1);
+    while (atomic_load(&started) < all)
+        sched_yield();
+}
+
+// All begin each part together.
 static void *work(void *argument) {
     worker *self = argument;
-    atomic_fetch_add(&started, 1);
-    while (atomic_load(&started) < THREADS)
-        sched_yield();
+    together(THREADS);
     use_pool(self);
+    together(2 * THREADS);
     use_bump(self);
     return NULL;
 }
 
 static void make(bb_shared_pool *pool, bb_shared_bump *bump) {
-    size_t pool_start = (size_t)(uintptr_t)pool_bytes, bump_start = (size_t)(uintptr_t)bump_bytes;
-    expect(bb_shared_pool_make(pool, BUCKET_SIZE, 8, pool_start, sizeof pool_bytes, 0) == BB_CANNOT_MAKE, "a party is there");
+    size_t pool_start = (size_t)(uintptr_t)pool_words, bump_start = (size_t)(uintptr_t)bump_words;
+    expect(bb_shared_pool_make(pool, BUCKET_SIZE, 8, pool_start, sizeof pool_words, 0) == BB_CANNOT_MAKE, "a party is there");
     expect(bb_shared_pool_make(pool, BUCKET_SIZE, 3, pool_start, 64, 1) == BB_NOT_A_LAYOUT, "3 is no power of two");
     expect(bb_shared_pool_make(pool, 0, 8, pool_start, 64, 1) == BB_CANNOT_MAKE, "a bucket has a byte");
-    expect(bb_shared_pool_make(pool, BUCKET_SIZE, 8, pool_start, sizeof pool_bytes, THREADS) == BB_DONE, "a pool is made");
+    expect(bb_shared_pool_make(pool, BUCKET_SIZE, 8, pool_start, sizeof pool_words, THREADS) == BB_DONE, "a pool is made");
     expect(bb_shared_pool_make(pool, BUCKET_SIZE, 8, pool_start, 64, 1) == BB_ALREADY_MADE, "a handle holds one");
     expect(bb_shared_bump_make(bump, 0, 64, 1) == BB_CANNOT_MAKE, "a region doesn't start at 0");
-    expect(bb_shared_bump_make(bump, bump_start, sizeof bump_bytes, THREADS) == BB_DONE, "a bump is made");
+    expect(bb_shared_bump_make(bump, bump_start, sizeof bump_words, THREADS) == BB_DONE, "a bump is made");
 
     unsigned seats = 0;
     for (size_t number = 0; number < THREADS; number++) {
@@ -132,8 +171,8 @@ static void one_by_one(void) {
     expect(bb_shared_pool_number_of_buckets(mine).number == BUCKETS, "eight buckets");
     expect(bb_shared_pool_bucket_size(mine).number == BUCKET_SIZE, "of 64 bytes");
     expect(bb_shared_pool_max_alignment(mine).number == 8, "at multiples of 8");
-    expect(bb_shared_pool_size(mine).number == sizeof pool_bytes, "over the region");
-    expect(bb_shared_pool_start_address(mine).number == (size_t)(uintptr_t)pool_bytes, "from its start");
+    expect(bb_shared_pool_size(mine).number == sizeof pool_words, "over the region");
+    expect(bb_shared_pool_start_address(mine).number == (size_t)(uintptr_t)pool_words, "from its start");
     expect(bb_shared_pool_allocate(mine, BUCKET_SIZE + 1, 16).code == BB_SIZE_TOO_LARGE, "65 bytes are too many");
     expect(bb_shared_pool_allocate(mine, 1, 16).code == BB_ALIGNMENT_FAILURE, "16 is too wide");
     expect(bb_shared_pool_allocate(mine, 1, 3).code == BB_NOT_A_LAYOUT, "3 is no power of two");
@@ -153,11 +192,11 @@ static void one_by_one(void) {
     bb_bump_seat *bump = &workers[0].bump;
     expect(bb_shared_bump_allocate(bump, 0, 1).code == BB_SIZE_IS_ZERO, "no chunk has no byte");
     expect(bb_shared_bump_used_space(bump).number == 0, "nothing is used");
-    expect(bb_shared_bump_free_space(bump).number == sizeof bump_bytes, "all is free");
-    expect(bb_shared_bump_total_space(bump).number == sizeof bump_bytes, "all of the region");
-    expect(bb_shared_bump_start_address(bump).number == (size_t)(uintptr_t)bump_bytes, "from its start");
+    expect(bb_shared_bump_free_space(bump).number == sizeof bump_words, "all is free");
+    expect(bb_shared_bump_total_space(bump).number == sizeof bump_words, "all of the region");
+    expect(bb_shared_bump_start_address(bump).number == (size_t)(uintptr_t)bump_words, "from its start");
     expect(bb_shared_bump_party(bump).number < THREADS, "a party has a number");
-    expect(bb_shared_bump_allocate(bump, sizeof bump_bytes + 1, 1).code == BB_OUT_OF_MEMORY, "it has no room for more");
+    expect(bb_shared_bump_allocate(bump, sizeof bump_words + 1, 1).code == BB_OUT_OF_MEMORY, "it has no room for more");
 }
 
 int main(void) {
@@ -177,7 +216,7 @@ int main(void) {
     for (size_t number = 0; number < THREADS; number++) {
         expect(workers[number].taken == ROUNDS, "each thread had its buckets");
         for (size_t chunk = 0; chunk < CHUNKS; chunk++)
-            expect_filled(workers[number].places[chunk], CHUNK, number * 61 + chunk + 1);
+            expect_filled(workers[number].places[chunk], CHUNK, pattern_of(&workers[number], chunk));
     }
     expect(bb_shared_bump_free_space(&workers[0].bump).number == 0, "all of the bump is used");
     expect(bb_shared_bump_allocate(&workers[0].bump, 1, 1).code == BB_OUT_OF_MEMORY, "the bump is full");

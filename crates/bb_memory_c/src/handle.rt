@@ -11,8 +11,8 @@ use std::alloc::Global;
 use std::marker::Model;
 use std::{mem, ptr};
 
-/// Empty, or the owner of what was made. The host holds it in a variable of its own, and passes that by its address. All bytes
-/// zero is an empty one. It is never copied to be used twice.
+/// Empty, or the owner of what was made. The host holds it in a variable of its own, and passes that by its address. An empty
+/// one has both fields zero. It may be moved, and then the old one isn't used.
 #[repr(C)]
 #[derive(Drop)]
 pub struct Handle {

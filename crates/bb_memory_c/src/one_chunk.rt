@@ -114,8 +114,9 @@ fn give_back(one: &mut OneChunkAllocator, place: usize) -> u32
     code::DONE
 }
 
-/// Gives back the chunk at this place. A place that isn't that of the chunk that is out is refused, so that a wild or a second
-/// return changes nothing.
+/// Gives back the chunk at this place. A place that isn't that of the chunk that is out is refused and changes nothing: a
+/// wild place, and a second return as long as the place was not given anew. A return after that takes the chunk from its new
+/// holder.
 ///
 /// C guarantees of the handle what the crate's page says.
 #[unsafe(no_mangle)]

@@ -127,8 +127,8 @@ fn give_back(pool: &mut PoolAllocator<Global>, place: usize) -> u32
     code::DONE
 }
 
-/// Gives back the bucket at this place. A place that isn't a held bucket's is refused, so that a wild or a second return changes
-/// nothing.
+/// Gives back the bucket at this place. A place that isn't a held bucket's is refused and changes nothing: a wild place, and a
+/// second return as long as the bucket was not given anew. A return after that takes it from its new holder.
 ///
 /// C guarantees of the handle what the crate's page says.
 #[unsafe(no_mangle)]

@@ -202,8 +202,9 @@ pub extern "C" fn bb_shared_pool_allocate(
     answer
 }
 
-/// Gives back the bucket at this place. A place that isn't that of a bucket which this seat holds is refused, so that a wild or
-/// a second return changes nothing, nor does a return of another seat's bucket.
+/// Gives back the bucket at this place. A place that isn't that of a bucket which this seat holds is refused and changes
+/// nothing: a wild place, another seat's bucket, and a second return as long as this seat was not given the bucket anew. A return
+/// after that takes it from its new holder.
 ///
 /// C guarantees of the handle what the crate's page says.
 #[unsafe(no_mangle)]
