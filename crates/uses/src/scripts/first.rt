@@ -5,7 +5,7 @@ use bb_memory::bump_allocator::{AllocationError, BaseAllocator, BumpAllocator};
 use bb_memory::layout::Layout;
 
 /// The second chunk begins behind the first.
-pub fn second_chunk() -> Result<(), AllocationError> {
+pub fn first_two() -> Result<(), AllocationError> {
     let layout = Layout::from_size_align(48, 4).unwrap();
     let mut bump = BumpAllocator::new(4096, 1024);
     let first = bump.allocate(layout)?;

@@ -1,7 +1,10 @@
 //! The pools with one owner.
 #![tactic(auto, unfolding(bb_memory_base::specs::LeastPlace::least_place))]
 
-use bb_memory::layout::Layout;
+ghost use Rattle.std.specs.Prelude.{◌≢◌, IfOk};
+ghost use Rattle.bb_memory.specs.Pool.{HoldsPlace};
+
+use bb_memory::layout::{Chunk, Layout};
 use bb_memory::pool_allocator::{
     AllocationError, Allocator, BaseAllocator, FixedSizePoolAllocator, PoolAllocator,
     pool_count_law,
@@ -64,6 +67,41 @@ pub fn two_chunks(
     Ok(())
 }
 
+/// Takes one more bucket. The place `out` is still held then, and the new chunk has another one.
+fn one_more(
+    pool: &mut FixedSizePoolAllocator<16>,
+    layout: Layout,
+    out: usize,
+) -> Result<Chunk, AllocationError>
+    requires { HoldsPlace pool.old out }
+    ensures out { HoldsPlace pool.new out }
+    ensures given { IfOk result (λ chunk. HoldsPlace pool.new chunk.place) }
+    ensures differ { IfOk result (λ chunk. chunk.place ≢ out) }
+{
+    pool.allocate(layout)
+}
+
+/// Gives two places back, one after the other.
+fn give_two(pool: &mut FixedSizePoolAllocator<16>, one: usize, other: usize)
+    requires one { HoldsPlace pool.old one }
+    requires other { HoldsPlace pool.old other }
+    requires differ { one ≢ other }
+{
+    pool.deallocate(one, Layout::empty());
+    pool.deallocate(other, Layout::empty());
+}
+
+/// Two chunks are out at once, and both go back.
+pub fn two_out(
+    pool: &mut FixedSizePoolAllocator<16>,
+    layout: Layout,
+) -> Result<(), AllocationError> {
+    let first = pool.allocate(layout)?;
+    let second = one_more(pool, layout, first.place())?;
+    give_two(pool, first.place(), second.place());
+    Ok(())
+}
+
 /// What a request got is given back by its place alone.
 pub fn given_back(pool: &mut PoolAllocator<Global>, layout: Layout) -> Result<(), AllocationError> {
     let chunk = pool.allocate(layout)?;
@@ -72,7 +110,7 @@ pub fn given_back(pool: &mut PoolAllocator<Global>, layout: Layout) -> Result<()
 }
 
 /// A chunk is grown in its bucket.
-pub fn grown(
+pub fn grown_in_its_bucket(
     pool: &mut PoolAllocator<Global>,
     old: Layout,
     new: Layout,
