@@ -33,8 +33,8 @@ impl Model for JobBoard {
 }
 
 impl JobBoard {
-    /// A board over the region of `size` bytes at `start`, with slots for jobs of this layout, and its workers. It is refused, with
-    /// `OutOfMemory`, only where memory was.
+    /// A board over the region of `size` bytes at `start`, with slots for jobs of this layout, and its workers. It is refused,
+    /// with `OutOfMemory`, only where memory was.
     pub fn new(
         alloc: Global,
         job: Layout,
