@@ -10,6 +10,3 @@ mod one_chunks;
 mod pools;
 mod refused_in_turn;
 mod regions;
-mod shared_bumps;
-mod shared_pools;
-mod threads;

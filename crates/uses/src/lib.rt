@@ -10,6 +10,4 @@ pub mod mailbox;
 pub mod ring;
 pub mod scripts;
 pub mod slab;
-#[cfg(test)]
-mod tests;
 pub mod workers;

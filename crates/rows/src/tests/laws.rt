@@ -1,4 +1,4 @@
-//! The laws and theorems, which are called once.
+//! The laws and theorems, each of which is called once.
 use bb_memory::bump_allocator::bump_object_law;
 use bb_memory::heap_allocator::heap_law;
 use bb_memory::layout::{given_law, layout_law, least_place_law};
@@ -7,7 +7,10 @@ use bb_memory::pool_allocator::{
     pool_count_law, pool_geometry_law, pool_held_law, pool_object_law,
 };
 use bb_memory::region::{live_bytes_law, region_law, split_bytes_law};
+use bb_memory::shared_bump::shared_bump_law;
+use bb_memory::shared_pool::shared_pool_law;
 use bb_memory::steps::{bump_log_theorem, bump_theorem, pool_log_theorem, pool_theorem};
+use loan_book::one_answer_law;
 
 #[test]
 fn laws_do_nothing(_rt: HostRuntime) {
@@ -28,4 +31,9 @@ fn laws_do_nothing(_rt: HostRuntime) {
     bump_log_theorem();
     pool_theorem();
     pool_log_theorem();
+    shared_bump_law();
+    shared_pool_law();
+    one_answer_law();
+    bb_memory_base::equality::equality_law();
+    loan_book::equality_law();
 }

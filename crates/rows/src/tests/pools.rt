@@ -49,6 +49,7 @@ fn pool_rounded_stride(rt: HostRuntime) -> Result<(), Fail> {
     let bucket = Layout::from_size_align(12, 8)?;
     let mut pool = pool_over(rt.alloc(), bucket, 4096, 64)?;
     assert_eq!(rt; (pool.number_of_buckets(), pool.bucket_size()), (4, 12));
+    assert_eq!(rt; PoolAllocator::memory_size(bucket, 64), 40);
     let mut places = [0; 4];
     for place in &mut places {
         *place = pool.allocate(bucket)?.place();
@@ -58,7 +59,7 @@ fn pool_rounded_stride(rt: HostRuntime) -> Result<(), Fail> {
     Ok(())
 }
 
-/// Rows `memory-size-eight-buckets`, `memory-size-unrounded` and `memory-size-below-one-bucket`.
+/// Rows `memory-size-eight-buckets`, `memory-size-unrounded` and `memory-size-below-one-bucket`: the last has no bucket.
 #[test]
 fn memory_sizes(rt: HostRuntime) -> Result<(), Fail> {
     let wide = Layout::from_size_align(128, 8)?;

@@ -6,5 +6,4 @@ mod blocks;
 mod books;
 mod makers;
 mod runs;
-mod sharing;
 mod worlds;

@@ -1,41 +1,6 @@
 //! Calls that take no memory, each on values that were made before. The sweep runs these tests with each request refused, too,
 //! that comes after the making, and every call has to answer as it does with memory, without a request.
-//!
-//! A test tells the sweep by two marks where the making ends and where the calls do: requests of sizes that no other request
-//! has. The first one, and each request behind it, is refused; the second one is refused exactly where another came between
-//! the two. A third mark between them is refused exactly where nothing was given back since the first. In a run of another
-//! kind all marks are granted.
 mod books;
 mod bumps;
 mod others;
 mod pools;
-mod shared;
-
-use std::alloc::Global;
-
-const FIRST_MARK: usize = 100_003;
-
-const SECOND_MARK: usize = 100_019;
-
-const FREED_MARK: usize = 100_043;
-
-/// Whether a request of so many bytes is granted, here or at a second trial: a sweep that refuses one request alone refuses
-/// no mark.
-fn is_granted(alloc: Global, bytes: usize) -> bool {
-    Vec::<u8>::with_capacity(alloc, bytes).is_ok() || Vec::<u8>::with_capacity(alloc, bytes).is_ok()
-}
-
-/// The making has ended. It answers whether memory is refused from here on.
-fn refuse_memory(alloc: Global) -> bool {
-    !is_granted(alloc, FIRST_MARK)
-}
-
-/// The calls have ended, and memory is there again. It answers whether none of them asked for any.
-fn none_was_asked(alloc: Global) -> bool {
-    is_granted(alloc, SECOND_MARK)
-}
-
-/// Whether memory was given back since the making.
-fn some_was_freed(alloc: Global) -> bool {
-    is_granted(alloc, FREED_MARK)
-}

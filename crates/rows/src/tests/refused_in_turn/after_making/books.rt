@@ -1,5 +1,5 @@
 //! Loan books: `loan` alone takes memory, and it asks for its record's before it asks its allocator.
-use super::{none_was_asked, refuse_memory};
+use crate::marks::{none_was_asked, refuse_memory};
 use crate::tests::pools::pool_over;
 use bb_memory::allocator::AllocationError;
 use bb_memory::layout::Layout;
@@ -20,6 +20,8 @@ fn a_loan_book(rt: HostRuntime) -> Result<(), Fail> {
     assert!(rt; book.is_out(0));
     assert_eq!(rt; book.give_back(0), Ok(true));
     assert!(rt; !book.is_out(0));
+    let another = LoanBook::new(rt.alloc(), OneChunkAllocator::new(4096, 64));
+    assert!(rt; !another.is_out(0));
     assert!(rt; none_was_asked(rt.alloc()));
     Ok(())
 }

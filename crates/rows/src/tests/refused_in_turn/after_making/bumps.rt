@@ -1,5 +1,5 @@
 //! The bump and the one chunk of one owner.
-use super::{none_was_asked, refuse_memory};
+use crate::marks::{none_was_asked, refuse_memory};
 use bb_memory::allocator::Allocator;
 use bb_memory::bump_allocator::{BaseAllocator, BumpAllocator};
 use bb_memory::layout::Layout;
@@ -48,6 +48,7 @@ fn a_one_chunk(rt: HostRuntime) -> Result<(), Fail> {
         64
     );
     assert_eq!(rt; one.reserved(place), 64);
+    assert!(rt; one.holds(place) && !one.holds(1));
     one.stands_for_some_list();
     one.deallocate(place, of_32);
     assert!(rt; one.has_chunk_available());

@@ -1,5 +1,5 @@
 //! Layouts, regions, heap blocks and worlds.
-use super::{none_was_asked, refuse_memory, some_was_freed};
+use crate::marks::{none_was_asked, refuse_memory, some_was_freed};
 use bb_memory::heap_allocator::HeapAllocator;
 use bb_memory::layout::{Chunk, Layout, round_up};
 use bb_memory::region::Region;

@@ -1,5 +1,5 @@
 //! The pools of one owner.
-use super::{none_was_asked, refuse_memory};
+use crate::marks::{none_was_asked, refuse_memory};
 use crate::tests::fixed_pools::fixed_over;
 use crate::tests::pools::pool_over;
 use bb_memory::layout::Layout;
@@ -28,6 +28,7 @@ fn calls_of_a_pool(rt: HostRuntime) -> Result<(), Fail> {
         pool.grow_zeroed(place, of_16, of_32, &mut region)?.len(),
         32
     );
+    assert!(rt; pool.holds(place) && !pool.holds(1));
     pool.deallocate(place, of_32);
     let place = pool.allocate_zeroed(of_32, &mut region)?.place();
     pool.deallocate_bucket(place);
@@ -76,6 +77,7 @@ fn calls_of_a_fixed_pool(rt: HostRuntime) -> Result<(), Fail> {
         pool.grow_zeroed(place, of_16, of_32, &mut region)?.len(),
         32
     );
+    assert!(rt; pool.holds(place) && !pool.holds(1));
     pool.deallocate(place, of_32);
     assert_eq!(rt; pool.allocate_zeroed(of_32, &mut region)?.len(), 32);
     assert!(rt; none_was_asked(rt.alloc()));

@@ -1,9 +1,9 @@
 //! Errors through `?`, and blocks of the heap.
-use crate::errors::{GiveError, by_enum, open};
-use crate::scripts::heap::grown;
 use bb_memory::layout::Layout;
 use bb_memory::pool_allocator::AllocationError;
 use std::test::Fail;
+use uses::errors::{GiveError, by_enum, open};
+use uses::scripts::heap::grown;
 
 #[test]
 fn errors_go_through(rt: HostRuntime) -> Result<(), Fail> {

@@ -3,7 +3,6 @@ ghost use Rattle.std.specs.Prelude.{◌≡◌, ◌+◌, ◌≤◌, IfOk, length}
 ghost use Rattle.bb_memory_base.specs.HeldBytes.{held_region};
 
 use super::{eight_buckets, its_region};
-use crate::byte_vector::{ByteVec, PushError};
 use bb_memory::layout::{Chunk, Layout};
 use bb_memory::pool_allocator::{
     AllocationGrowError, BaseAllocator, FixedSizePoolAllocator, pool_count_law,
@@ -11,6 +10,7 @@ use bb_memory::pool_allocator::{
 use bb_memory::region::Region;
 use std::alloc::Global;
 use std::test::Fail;
+use uses::byte_vector::{ByteVec, PushError};
 
 /// Another region, of 64 bytes.
 fn another_region(alloc: Global) -> Result<Region, Fail>

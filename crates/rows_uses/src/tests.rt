@@ -8,10 +8,6 @@ mod budgets;
 mod byte_vectors;
 mod results;
 
-use crate::mailbox::Mailbox;
-use crate::ring::MessageRing;
-use crate::slab::Slab;
-use crate::workers::two_workers;
 use bb_memory::bump_allocator::BumpAllocator;
 use bb_memory::layout::Layout;
 use bb_memory::pool_allocator::{FixedSizePoolAllocator, pool_count_law, pool_object_law};
@@ -19,6 +15,10 @@ use bb_memory::region::Region;
 use std::alloc::Global;
 use std::sync::Arc;
 use std::test::Fail;
+use uses::mailbox::Mailbox;
+use uses::ring::MessageRing;
+use uses::slab::Slab;
+use uses::workers::two_workers;
 
 /// A pool of 8 buckets of 128 bytes, of which none is out.
 #[tactic(auto, unfolding(bb_memory_base::specs::LeastPlace::least_place))]

@@ -1,12 +1,12 @@
 //! A job board, whose slots threads take.
 ghost use Rattle.std.specs.Prelude.{◌≡◌, All, IfOk};
 
-use crate::job_board::JobBoard;
 use bb_memory::layout::Layout;
 use bb_memory::pool_allocator::{AllocationError, pool_count_law};
 use bb_memory::shared_pool::PoolParty;
 use std::alloc::Global;
 use std::test::Fail;
+use uses::job_board::JobBoard;
 
 /// A board of four slots of 64 bytes, for two workers.
 #[tactic(auto, unfolding(bb_memory_base::specs::LeastPlace::least_place))]

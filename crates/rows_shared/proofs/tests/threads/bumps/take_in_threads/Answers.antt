@@ -1,5 +1,5 @@
 use Rattle.std.proofs.Common.{rules, arith, ◌+◌}
-use Rattle.rows.proofs.tests.threads.bumps.take_in_threads.Goals as goal
+use Rattle.rows_shared.proofs.tests.threads.bumps.take_in_threads.Goals as goal
 
 -- what is taken stood first among the rest
 pub loop-party-preserved : goal.loop-party-preserved

@@ -1,9 +1,10 @@
-//! What threads share.
-use super::{none_was_asked, refuse_memory};
+//! Calls of what threads share that take no memory, each on values that were made before. The sweep runs these tests with each
+//! request refused, too, that comes after the making, and every call has to answer as it does with memory, without a request.
 use crate::tests::shared_bumps::two_parties;
 use crate::tests::shared_pools::{dropped_bucket, four_buckets, shared_fixed_over, shared_over};
 use bb_memory::bump_allocator::BumpAllocator;
 use bb_memory::layout::Layout;
+use rows::marks::{none_was_asked, refuse_memory};
 use std::test::Fail;
 
 #[test]
@@ -55,8 +56,18 @@ fn a_shared_fixed_pool(rt: HostRuntime) -> Result<(), Fail> {
     assert_eq!(rt; (pool.number_of_buckets(), pool.bucket_size()), (4, 128));
     assert_eq!(rt; (pool.size(), pool.max_alignment()), (1024, 8));
     pool.meet(&mut first, &mut second);
-    let taken = pool.allocate(&mut second, bucket)?;
-    pool.deallocate_bucket(&mut second, taken);
+    let mut taken = pool.allocate(&mut second, bucket)?;
+    assert!(rt; taken.chunk().place() % bucket.align() == 0);
+    assert!(rt; bucket.size() <= pool.bucket_size());
+    let small = Layout::from_size_align(48, 4)?;
+    assert_eq!(rt; pool.shrink(&mut taken, bucket, small)?.len(), 48);
+    assert_eq!(rt;
+        (pool.number_at(4096), pool.number_at(4097)),
+        (Some(0), None)
+    );
+    let number = taken.number();
+    let again = pool.bucket(&second, number, 16);
+    pool.deallocate_bucket(&mut second, again);
     four_buckets(&rt, &pool, first)?;
     assert!(rt; none_was_asked(rt.alloc()));
     Ok(())
@@ -79,6 +90,13 @@ fn a_bucket(rt: HostRuntime) -> Result<(), Fail> {
     let shrunk = pool.shrink(&mut taken, bucket, small)?;
     assert_eq!(rt; (shrunk.place(), shrunk.len()), (4096, 48));
     assert_eq!(rt; (taken.number(), taken.chunk()), (0, shrunk));
+    assert_eq!(rt;
+        (pool.number_at(4096), pool.number_at(4097)),
+        (Some(0), None)
+    );
+    let number = taken.number();
+    let again = pool.bucket(&only, number, 16);
+    assert_eq!(rt; (again.number(), again.chunk().len()), (0, 16));
     assert!(rt; none_was_asked(rt.alloc()));
     Ok(())
 }

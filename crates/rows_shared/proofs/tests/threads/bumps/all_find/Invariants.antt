@@ -1,7 +1,7 @@
 use Rattle.std.proofs.Common.{◌≡◌, All, IfSome}
 use Rattle.std.specs.Vec.Iter.{into_iter_items}
 use Rattle.bb_memory.specs.SharedBump.{BumpParty}
-use Rattle.rows.proofs.tests.threads.bumps.all_find.Given as goal
+use Rattle.rows_shared.proofs.tests.threads.bumps.all_find.Given as goal
 
 -- each that is left, and the last one, is the allocator's
 abbrev pub invariant-loop-taken : goal.invariant-loop-taken

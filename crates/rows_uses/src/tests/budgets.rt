@@ -1,10 +1,10 @@
 //! Budgets: what is spent, given back and resized.
 use super::eight_buckets;
-use crate::byte_budget::ByteBudget;
-use crate::chunk_budget::ChunkBudget;
 use bb_memory::layout::Layout;
 use bb_memory::pool_allocator::{AllocationError, Allocator, BaseAllocator};
 use std::test::Fail;
+use uses::byte_budget::ByteBudget;
+use uses::chunk_budget::ChunkBudget;
 
 #[test]
 fn budget_of_two_chunks(rt: HostRuntime) -> Result<(), Fail> {

@@ -1,0 +1,5 @@
+//! Tests of what the forms that threads share answer, with threads and with memory refused: worked rows, each by its name.
+#![tactic(auto)]
+
+#[cfg(test)]
+mod tests;

@@ -1,0 +1,5 @@
+//! Rows of the forms that threads share.
+mod refused_in_turn;
+mod shared_bumps;
+mod shared_pools;
+mod threads;
