@@ -1,5 +1,5 @@
 -- What a step of a book keeps, and what it does to one sample.
-use Rattle.std.proofs.Common.{◌≡◌, ◌≢◌, ℕ, ◌<◌, refl, ap, sym, ◌∙◌, subst, arith, Some, None, Option, inl, inr}
+use Rattle.std.proofs.Common.{◌≡◌, ◌≢◌, ℕ, ◌<◌, length, refl, ap, sym, ◌∙◌, subst, arith, Some, None, Option, inl, inr}
 use Rattle.std.specs.Prelude.{slice_get}
 use Rattle.std.proofs.lemmas.Bool.{cases_lt}
 use Rattle.std.proofs.lemmas.Option.{slice_get_within, get_or_from_slice_get}
@@ -8,7 +8,7 @@ use Rattle.bb_memory_base.proofs.SliceGets.{slice_get-set, slice_get-set_other, 
 use Rattle.loan_book.specs.Sample.{Sample}
 use Rattle.loan_book.specs.Book.{Book, IsBook, IsAt, IsOut, HasReturns, IsPublished, IsUnpublished}
 use Rattle.loan_book.specs.Calls.{with_sample, with_returns, without}
-use Rattle.loan_book.proofs.Positions.{slice_get-push, slice_get-pushed, slice_get-remove, slice_get-removed}
+use Rattle.loan_book.proofs.Positions.{slice_get-last, slice_get-push, slice_get-pushed, slice_get-remove, slice_get-removed}
 
 -- a sample of one id is before no other sample of that id
 not_before : (book : Book) (id i j : ℕ) (one other : Sample) → IsBook book → IsAt book id i one → IsAt book id j other → ¬ (i < j)
@@ -77,6 +77,12 @@ push-keeps book chunk id None (gone, used) = (
 push-keeps book chunk id (Some left) (i, sample, here, waits) =
     let fresh : Sample = record { id = book.loaned; chunk = chunk; returns = None } in
     (i, sample, record { at = slice_get-push book.out i sample fresh here.at; has_id = here.has_id }, waits)
+
+-- the sample itself, which wasn't published yet
+pub own-push : (book : Book) (id : ℕ) (chunk : Chunk) → id ≡ book.loaned → IsUnpublished (with_sample book chunk) id
+own-push book id chunk its_id =
+    let fresh : Sample = record { id = book.loaned; chunk = chunk; returns = None } in
+    (length book.out, fresh, record { at = slice_get-last book.out fresh; has_id = sym its_id }, refl)
 
 -- a sample that is out after a change of one was out before it
 was_out_before_set : (book : Book) (id other position : ℕ) (sample : Sample) (returns : ℕ) → IsAt book other position sample →

@@ -1,5 +1,5 @@
 -- Where elements of a list stand once one is appended or taken out.
-use Rattle.std.proofs.Common.{◌≡◌, ◌≢◌, ℕ, zero, suc, List, [], ◌∷◌, ◌++◌, refl, ap, Some, ◌⊎◌, inl, inr, arith}
+use Rattle.std.proofs.Common.{◌≡◌, ◌≢◌, ℕ, zero, suc, List, [], ◌∷◌, ◌++◌, length, refl, ap, Some, ◌⊎◌, inl, inr, arith}
 use Rattle.std.specs.Prelude.{slice_get}
 use Rattle.std.specs.List.{remove}
 
@@ -16,6 +16,11 @@ slice_get-pushed [] zero x y at = inr (cc)
 slice_get-pushed [] (suc i) x y at = absurd (cc)
 slice_get-pushed (z ∷ xs) zero x y at = inl at
 slice_get-pushed (z ∷ xs) (suc i) x y at = slice_get-pushed xs i x y at
+
+-- the new one stands behind the others
+pub slice_get-last : {X : Type 0} (xs : List X) (y : X) → slice_get (xs ++ y ∷ []) (length xs) ≡ Some y
+slice_get-last [] y = refl
+slice_get-last (z ∷ xs) y = slice_get-last xs y
 
 -- another element stays, if one place lower
 pub slice_get-remove : {X : Type 0} (xs : List X) (i j : ℕ) (x : X) → slice_get xs j ≡ Some x → j ≢ i →

@@ -1,10 +1,13 @@
 //! Calls of a loan book one after the other.
-ghost use Rattle.std.specs.Prelude.{◌≡◌, ◌+◌, ◌<◌, ◌↔◌, ℕ, length, IfOk, OnOk, OnErr};
+ghost use Rattle.std.specs.Prelude.{◌≡◌, ◌+◌, ◌<◌, ◌↔◌, ℕ, Some, drop, length, slice_get, IfOk, OnOk, OnErr};
 ghost use Rattle.std.specs.List.{range_with_len};
 ghost use Rattle.bb_memory_base.specs.Run.{IsRun};
 ghost use Rattle.bb_memory_base.specs.LiveList.{IsSound};
+ghost use Rattle.bb_memory_base.specs.Chunk.{Chunk as GivenChunk};
 ghost use Rattle.loan_book.specs.Book.{chunks_out, IsBook, IsOut, HasReturns, IsUnpublished};
 ghost use Rattle.loan_book.specs.Runs.{BookStep, ids_in, returns_in, publishes_in};
+ghost use Rattle.loan_book.specs.declared.run.LoanCall.TheVariants.{Publish};
+ghost use Rattle.loan_book.specs.declared.run.LoanReply.TheVariants.{Loaned, Published};
 
 use crate::book::LoanBook;
 use crate::error::LoanError;
@@ -66,8 +69,9 @@ fn apply<A: Allocator>(book: &mut LoanBook<A>, call: LoanCall) -> LoanReply
 
 /// Makes the calls in order, and answers one reply a call. Afterwards the allocator stands for exactly the chunks of the
 /// samples that are out. The ids that are given count up from the number of samples that were loaned before. A published
-/// sample that waited for so many returns is still out exactly where fewer of the calls return it, so one that was published
-/// for r readers goes back at the r-th return and not before. One that isn't published goes back at its first return.
+/// sample that waited for so many returns is still out exactly where fewer of the calls return it. So one that a call publishes
+/// for r readers goes back at the r-th return behind that call, and not before; one that a call loans, and none publishes, at
+/// its first return.
 ///
 /// Memory for the replies is reserved first, from `alloc`. Where it is refused, no call is made, and everything is as before.
 pub fn run_loans<A: Allocator>(
@@ -88,6 +92,14 @@ pub fn run_loans<A: Allocator>(
     ensures unpublished { OnOk result ((id : ℕ)
         → IsUnpublished book.old.book id → publishes_in id calls.now ≡ 0
         → (IsOut book.new.book id ↔ (returns_in id calls.now ≡ 0))) }
+    ensures published { IfOk result (λ replies. (i id readers : ℕ)
+        → slice_get calls.now i ≡ Some (Publish id readers)
+        → slice_get replies.items i ≡ Some Published
+        → (IsOut book.new.book id ↔ (returns_in id (drop (i + 1) calls.now) < readers))) }
+    ensures loaned { IfOk result (λ replies. (i id : ℕ) (chunk : GivenChunk)
+        → slice_get replies.items i ≡ Some (Loaned id chunk)
+        → publishes_in id (drop (i + 1) calls.now) ≡ 0
+        → (IsOut book.new.book id ↔ (returns_in id (drop (i + 1) calls.now) ≡ 0))) }
     ensures book { OnOk result (IsBook book.new.book) }
     ensures stands { OnOk result (A.stands_for book.new.allocator (chunks_out book.new.book)) }
     ensures sound { OnOk result (IsSound (A.region_of (A.geometry book.old.allocator))

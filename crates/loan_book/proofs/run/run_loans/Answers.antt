@@ -5,6 +5,7 @@ use Rattle.loan_book.specs.declared.run.LoanCall.TheVariants.{Loan}
 use Rattle.loan_book.specs.Runs.{BookStep}
 use Rattle.loan_book.proofs.BookRuns.{run-returns, run-unpublished}
 use Rattle.loan_book.proofs.LoanedIds.{run-counted, run-ids}
+use Rattle.loan_book.proofs.PublishedRuns.{run-published, run-loaned}
 use Rattle.loan_book.proofs.run.run_loans.Goals as goal
 
 pub loop-call-preserved : goal.loop-call-preserved
@@ -64,3 +65,21 @@ returns-clause-unpublished g c id unpublished none =
     let run = rw all at c.loop-call.invariant.run in
     run-unpublished (A.may_allocate (A.geometry c.args.book.now.allocator))
     c.args.book.now.book c.loop-call.book.book calls c.loop-call.replies.items id c.law.ensures.book unpublished none run
+
+pub returns-clause-published : goal.returns-clause-published
+returns-clause-published g c i id readers called replied =
+    let A = g.A.BaseAllocator in
+    let calls = c.args.calls.now in
+    let all : take c.loop-call.call-index calls ≡ calls = take_all c.loop-call.call-index calls (omega arith) in
+    let run = rw all at c.loop-call.invariant.run in
+    run-published (A.may_allocate (A.geometry c.args.book.now.allocator))
+    c.args.book.now.book c.loop-call.book.book calls c.loop-call.replies.items i id readers c.law.ensures.book run called replied
+
+pub returns-clause-loaned : goal.returns-clause-loaned
+returns-clause-loaned g c i id chunk replied none =
+    let A = g.A.BaseAllocator in
+    let calls = c.args.calls.now in
+    let all : take c.loop-call.call-index calls ≡ calls = take_all c.loop-call.call-index calls (omega arith) in
+    let run = rw all at c.loop-call.invariant.run in
+    run-loaned (A.may_allocate (A.geometry c.args.book.now.allocator))
+    c.args.book.now.book c.loop-call.book.book calls c.loop-call.replies.items i id chunk c.law.ensures.book run replied none
