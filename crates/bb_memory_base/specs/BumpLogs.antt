@@ -77,7 +77,7 @@ IsAllowed Passed = ⊥
 IsAllowed Cleared = ⊥
 IsAllowed _ = Unit {0}
 
-abbrev pub AllAllowed : List BumpEntry → Type 0
+abbrev pub AllAllowed : BumpLog → Type 0
 AllAllowed history = All (λ entry. IsAllowed entry.outcome) history
 
 -- the party's log stands in the list of logs, at the party's number

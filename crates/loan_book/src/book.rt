@@ -84,6 +84,7 @@ impl<A: Allocator> LoanBook<A> {
         ensures kept { OnErr result ((live : List Chunk) → A.stands_for self.old.allocator live
             → A.stands_for self.new.allocator live) }
     {
+        // What the type promises is known from here on.
         let _ = &self.next;
         let Ok(layout) = Layout::from_size_align(size, 1) else {
             return Err(LoanError::Size);
@@ -168,6 +169,7 @@ impl<A: Allocator> LoanBook<A> {
         ensures answer { IsTrue result ↔ IsOut self.now.book id }
         ensures stands { A.stands_for self.now.allocator (chunks_out self.now.book) }
     {
+        // What the type promises is known from here on.
         let _ = &self.next;
         self.position(id).is_some()
     }
@@ -186,6 +188,7 @@ impl<A: Allocator> LoanBook<A> {
             → Loans (A.may_allocate (A.geometry self.now.allocator)) self.now.book size answer next
             → new ≡ next }
     {
+        // What the type promises is known from here on.
         let _ = &self.next;
     }
 

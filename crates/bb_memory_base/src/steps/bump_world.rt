@@ -136,8 +136,7 @@ impl Model for BumpWorld {
 
 impl BumpWorld {
     /// The machine over the region of `size` bytes at `start`, at position 0, with that many parties, all idle. The start
-    /// has to be greater than 0, start plus size at most `usize::MAX`, and there has to be a party. It is refused only where
-    /// memory was.
+    /// has to be greater than 0, and start plus size at most `usize::MAX`. It is refused only where memory was.
     pub fn new(
         alloc: Global,
         start: usize,
@@ -145,7 +144,6 @@ impl BumpWorld {
         parties: u32,
     ) -> Result<BumpWorld, AllocError>
         requires region { IsRegion (record { start = start; size = size }) }
-        requires parties { 1 ≤ parties }
         ensures opened { let region : Region = record { start = start; size = size } in
             IfOk result (λ world. world ≡ opened region parties) }
     {
