@@ -42,9 +42,9 @@ pub enum BumpOutcome {
     /// An exchange that found another position, at which the layout doesn't fit. The call is refused, and the party is
     /// idle again.
     RefusedAtLoss(usize),
-    /// A load.
+    /// A load, which found how much is used.
     Loaded(usize),
-    /// A clear.
+    /// A clear. The position is now 0.
     Cleared,
     /// The step isn't allowed, or there is no such party. Nothing changed.
     Passed,
