@@ -1,5 +1,6 @@
 //! Loan books.
-ghost use Rattle.std.specs.Prelude.{◌≡◌, ◌↔◌, ◌<◌, ◌≤◌, ◌^◌, ℕ, false, [], List, Result, length, IfOk, OnOk, OnErr, IfSome, IfNone, IsTrue};
+ghost use Rattle.std.specs.Prelude.{◌≡◌, ◌↔◌, ◌<◌, ◌≤◌, ◌^◌, ℕ, false, [], List, Result};
+ghost use Rattle.std.specs.Prelude.{length, IfOk, OnOk, OnErr, IfSome, IfNone, IsTrue};
 ghost use Rattle.bb_memory_base.specs.Chunk.{Chunk};
 ghost use Rattle.bb_memory_base.specs.LiveList.{IsSound};
 ghost use Rattle.loan_book.specs.Sample.{Sample};

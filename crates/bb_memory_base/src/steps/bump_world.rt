@@ -1,7 +1,8 @@
 //! A bump machine that can be run: a region, a position, and of each party the call that it is in.
 ghost use Rattle.std.specs.Prelude.{◌≡◌, ◌+◌, ◌<◌, ◌≤◌, IfOk, IfSome, IsSome, OnErr, OnOk, Some, None, slice_get, length};
 ghost use Rattle.bb_memory_base.specs.Region.{Region, IsRegion};
-ghost use Rattle.bb_memory_base.specs.BumpMachine.{OngoingCall, IsFitting, PartyMove, ending, seeing, read_move, exchange_move, read, exchange, load};
+ghost use Rattle.bb_memory_base.specs.BumpMachine.{OngoingCall, IsFitting, PartyMove, ending, seeing};
+ghost use Rattle.bb_memory_base.specs.BumpMachine.{read_move, exchange_move, read, exchange, load};
 ghost use Rattle.bb_memory_base.specs.BumpWorld.{BumpWorld, opened, in_state, outcome_of, outcomes_of, after_step, after_steps};
 
 use super::{BumpOutcome, BumpStep};
