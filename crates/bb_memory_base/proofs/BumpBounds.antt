@@ -40,4 +40,5 @@ seen_grows region seen (entry ∷ log) more = seen_grows region (greater_of seen
 
 pub won_grows : (log more : BumpLog) → chunks_won (log ++ more) ≡ chunks_won log ++ chunks_won more
 won_grows [] more = refl
-won_grows (entry ∷ log) more = ap (λ (l : List Chunk). won_at entry.outcome ++ l) (won_grows log more) ∙ sym (append_assoc (won_at entry.outcome) (chunks_won log) (chunks_won more))
+won_grows (entry ∷ log) more = ap (λ (l : List Chunk). won_at entry.outcome ++ l) (won_grows log more)
+    ∙ sym (append_assoc (won_at entry.outcome) (chunks_won log) (chunks_won more))

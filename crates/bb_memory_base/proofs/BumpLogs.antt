@@ -1,21 +1,28 @@
 -- A party's log says what the party is in, and a step adds to it alone.
-use Rattle.std.proofs.Common.{◌≡◌, ◌≢◌, ℕ, zero, suc, ◌<◌, List, [], ◌∷◌, ◌++◌, append-nil, refl, sym, ap, ◌∙◌, subst, arith, ⊎_elim, ◌⊎◌, Bool, true, false, Option, Some, None}
+use Rattle.std.proofs.Common.{◌≡◌, ◌≢◌, ℕ, zero, suc, ◌<◌, List, [], ◌∷◌, ◌++◌, append-nil, refl, sym}
+use Rattle.std.proofs.Common.{ap, ◌∙◌, subst, arith, ⊎_elim, ◌⊎◌, Bool, true, false, Option, Some, None}
 use Rattle.std.specs.Prelude.{slice_get, slice_set, ◌==◌, if◌then◌else◌, option_map}
 use Rattle.std.specs.List.{All, AllByRecursion}
 use Rattle.std.proofs.lemmas.List.Elements.{All-push, recursion_from_All}
 use Rattle.std.proofs.lemmas.Option.{same_Some}
 use Rattle.bb_memory_base.specs.Region.{Region}
 use Rattle.bb_memory_base.specs.Chunk.{Chunk}
-use Rattle.bb_memory_base.specs.BumpMachine.{OngoingCall, BumpState, BumpMove, BumpScene, opening_state, chunk_at, fits, position_behind, read_move, exchange_move, ending, seeing, passed, moved, read, exchange, load, bump_step, bump_after, left_by}
-use Rattle.bb_memory_base.specs.BumpHistory.{BumpEntry, BumpLog, entry_of, entry_at, bump_history, history_of, is_by, entries_by, log_of}
-use Rattle.bb_memory_base.specs.BumpLogs.{seen_at, call_after, call_through, call_in, IsAllowed, AllAllowed, HasLog, LogsAgree, with_entry}
+use Rattle.bb_memory_base.specs.BumpMachine.{OngoingCall, BumpState, BumpMove, BumpScene, opening_state, chunk_at}
+use Rattle.bb_memory_base.specs.BumpMachine.{fits, position_behind, read_move, exchange_move, ending, seeing}
+use Rattle.bb_memory_base.specs.BumpMachine.{passed, moved, read, exchange, load, bump_step, bump_after, left_by}
+use Rattle.bb_memory_base.specs.BumpHistory.{BumpEntry, BumpLog, entry_of, entry_at}
+use Rattle.bb_memory_base.specs.BumpHistory.{bump_history, history_of, is_by, entries_by, log_of}
+use Rattle.bb_memory_base.specs.BumpLogs.{seen_at, call_after, call_through, call_in}
+use Rattle.bb_memory_base.specs.BumpLogs.{IsAllowed, AllAllowed, HasLog, LogsAgree, with_entry}
 use Rattle.bb_memory_base.specs.declared.layout.Layout.{Layout}
 use Rattle.bb_memory_base.specs.declared.steps.bump.BumpStep.{BumpStep}
 use Rattle.bb_memory_base.specs.declared.steps.bump.BumpStep.TheVariants.{Read, Exchange, Load}
-use Rattle.bb_memory_base.specs.declared.steps.bump.BumpOutcome.TheVariants.{Sees, RefusedAtRead, Wins, Loses, RefusedAtLoss, Loaded}
+use Rattle.bb_memory_base.specs.declared.steps.bump.BumpOutcome.TheVariants.{Sees, RefusedAtRead, Wins}
+use Rattle.bb_memory_base.specs.declared.steps.bump.BumpOutcome.TheVariants.{Loses, RefusedAtLoss, Loaded}
 use Rattle.bb_memory_base.proofs.SliceGets.{slice_get-set_other, slice_get-set_same, slice_get-replicate}
 use Rattle.bb_memory_base.proofs.BumpAllowed.{none_allowed}
-use Rattle.bb_memory_base.proofs.BumpSteps.{same_from_test, test_same, test_apart, StepView, step_view, sees, refuses_read, wins, loses, refuses_loss, loads, clears, passes, others_stay, written}
+use Rattle.bb_memory_base.proofs.BumpSteps.{same_from_test, test_same, test_apart, StepView, step_view, sees, refuses_read}
+use Rattle.bb_memory_base.proofs.BumpSteps.{wins, loses, refuses_loss, loads, clears, passes, others_stay, written}
 
 -- THE CALL OF A PARTY
 
@@ -42,7 +49,8 @@ own_call region state step move party now (passes other) by at = at
 step_call : (region : Region) (state : BumpState) (step : BumpStep) (party : ℕ) (now : Option OngoingCall) (own : Bool) →
     is_by party step ≡ own →
     slice_get state.calls party ≡ Some now →
-    slice_get (bump_step region state step).state.calls party ≡ Some (if own then call_after now (entry_at region state step) else now)
+    slice_get (bump_step region state step).state.calls party
+    ≡ Some (if own then call_after now (entry_at region state step) else now)
 step_call region state step party now true by at =
     own_call region state step (bump_step region state step) party now (step_view region state step) by at
 step_call region state step party now false by at =
@@ -55,7 +63,8 @@ call_through-own false now entry log = refl
 
 call_of_log : (region : Region) (state : BumpState) (steps : List BumpStep) (party : ℕ) (now : Option OngoingCall) →
     slice_get state.calls party ≡ Some now →
-    slice_get (bump_after region state steps).calls party ≡ Some (call_through now (entries_by party (bump_history region state steps)))
+    slice_get (bump_after region state steps).calls party
+    ≡ Some (call_through now (entries_by party (bump_history region state steps)))
 call_of_log region state [] party now at = at
 call_of_log region state (step ∷ steps) party now at =
     let own = is_by party step in
@@ -77,7 +86,7 @@ history-push : (region : Region) (state : BumpState) (steps : List BumpStep) (st
     bump_history region state steps ++ entry_at region (bump_after region state steps) step ∷ []
 history-push region state [] step = refl
 history-push region state (first ∷ steps) step =
-    ap (λ (history : List BumpEntry). entry_at region state first ∷ history)
+    ap (λ (history : BumpLog). entry_at region state first ∷ history)
     (history-push region (bump_step region state first).state steps step)
 
 after-push : (region : Region) (state : BumpState) (steps : List BumpStep) (step : BumpStep) →
@@ -85,12 +94,12 @@ after-push : (region : Region) (state : BumpState) (steps : List BumpStep) (step
 after-push region state [] step = refl
 after-push region state (first ∷ steps) step = after-push region (bump_step region state first).state steps step
 
-own-append : (own : Bool) (entry : BumpEntry) (xs ys : List BumpEntry) →
+own-append : (own : Bool) (entry : BumpEntry) (xs ys : BumpLog) →
     (if own then entry ∷ (xs ++ ys) else xs ++ ys) ≡ (if own then entry ∷ xs else xs) ++ ys
 own-append true entry xs ys = refl
 own-append false entry xs ys = refl
 
-log-push : (party : ℕ) (history : List BumpEntry) (entry : BumpEntry) →
+log-push : (party : ℕ) (history : BumpLog) (entry : BumpEntry) →
     entries_by party (history ++ entry ∷ []) ≡ entries_by party history ++ (if is_by party entry.step then entry ∷ [] else [])
 log-push party [] entry = refl
 log-push party (first ∷ history) entry =
@@ -114,7 +123,8 @@ agree_step scene position logs party log step agree at own others allowed =
     history-push scene.region state agree.steps step in
     record {
       steps = agree.steps ++ step ∷ [];
-      allowed = subst AllAllowed (sym longer) (All-push (λ (e : BumpEntry). IsAllowed e.outcome) history entry agree.allowed allowed);
+      allowed = subst AllAllowed (sym longer)
+          (All-push (λ (e : BumpEntry). IsAllowed e.outcome) history entry agree.allowed allowed);
       leaves = ap (λ (left : BumpState). left.position) (after-push scene.region state agree.steps step);
       each = λ other there is.
           let added : log_of scene (agree.steps ++ step ∷ []) other ≡
@@ -123,10 +133,12 @@ agree_step scene position logs party log step agree at own others allowed =
           ⊎_elim
           (λ (same : other ≡ party).
           let now : slice_get (slice_set logs party (log ++ entry ∷ [])) other ≡ Some (log ++ entry ∷ []) =
-          ap (slice_get (slice_set logs party (log ++ entry ∷ []))) same ∙ slice_get-set_same logs party (log ++ entry ∷ []) log at in
+          ap (slice_get (slice_set logs party (log ++ entry ∷ []))) same
+          ∙ slice_get-set_same logs party (log ++ entry ∷ []) log at in
           added
-          ∙ ap (λ (mine : Bool). entries_by other history ++ (if mine then entry ∷ [] else [])) (ap (λ (p : ℕ). is_by p step) same ∙ own)
-          ∙ ap (λ (before : List BumpEntry). before ++ entry ∷ []) (agree.each other log (ap (slice_get logs) same ∙ at))
+          ∙ ap (λ (mine : Bool). entries_by other history ++ (if mine then entry ∷ [] else []))
+          (ap (λ (p : ℕ). is_by p step) same ∙ own)
+          ∙ ap (λ (before : BumpLog). before ++ entry ∷ []) (agree.each other log (ap (slice_get logs) same ∙ at))
           ∙ same_Some _ _ (sym now ∙ is))
           (λ (apart : other ≢ party).
           added
@@ -158,9 +170,11 @@ exchange_allowed position behind chunk layout false false = tt
 -- what a party is in, in the steps of an agreement
 pub agreed_call : (scene : BumpScene) (position : ℕ) (logs : List BumpLog) (party : ℕ) (log : BumpLog)
     (call : Option OngoingCall) (agree : LogsAgree scene position logs) →
-    HasLog logs party log → party < scene.parties → call_in log ≡ call → slice_get (left_by scene agree.steps).calls party ≡ Some call
+    HasLog logs party log → party < scene.parties → call_in log ≡ call →
+    slice_get (left_by scene agree.steps).calls party ≡ Some call
 agreed_call scene position logs party log call agree at within is =
-    party_call scene agree.steps party within ∙ ap (λ (own : List BumpEntry). Some (call_in own)) (agree.each party log at) ∙ ap Some is
+    party_call scene agree.steps party within
+    ∙ ap (λ (own : BumpLog). Some (call_in own)) (agree.each party log at) ∙ ap Some is
 
 -- the step is the party's, and no other's
 not_others : (party other : ℕ) → other ≢ party → (party == other) ≡ false
@@ -168,7 +182,8 @@ not_others party other apart = test_apart party other (λ same. apart (sym same)
 
 pub read_agrees : (scene : BumpScene) (position : ℕ) (logs : List BumpLog) (party : ℕ) (log : BumpLog) (layout : Layout) →
     LogsAgree scene position logs → HasLog logs party log → party < scene.parties → call_in log ≡ None → 0 < layout.size →
-    LogsAgree scene position (with_entry logs party log (entry_of (Read party layout) (read_move scene.region position layout).outcome))
+    LogsAgree scene position
+    (with_entry logs party log (entry_of (Read party layout) (read_move scene.region position layout).outcome))
 read_agrees scene position logs party log layout agree at within is asks =
     let region = scene.region in
     let state = left_by scene agree.steps in
@@ -176,7 +191,8 @@ read_agrees scene position logs party log layout agree at within is asks =
     let some_size : (layout.size == 0) ≡ false = test_apart layout.size 0 (λ none. omega arith) in
     let moves : bump_step region state (Read party layout) ≡ moved state party (read_move region state.position layout) =
     ap (read region state party layout) idle
-    ∙ ap (λ (empty : Bool). if empty then passed state else moved state party (read_move region state.position layout)) some_size in
+    ∙ ap (λ (empty : Bool). if empty then passed state else moved state party (read_move region state.position layout))
+    some_size in
     let fitting = fits region state.position layout in
     let allowed = subst (λ (move : BumpMove). IsAllowed move.outcome) (sym moves) (read_allowed state.position layout fitting) in
     let step = agree_step scene position logs party log (Read party layout) agree at (test_same party party refl)
@@ -223,7 +239,8 @@ load_agrees scene position logs party log agree at within is =
     agree_step scene position logs party log (Load party) agree at (test_same party party refl) (not_others party) allowed in
     let made = subst (λ (move : BumpMove). LogsAgree scene move.state.position
     (with_entry logs party log (entry_of (Load party) move.outcome))) moves step in
-    subst (λ (found : ℕ). LogsAgree scene found (with_entry logs party log (entry_of (Load party) (Loaded found)))) agree.leaves made
+    subst (λ (found : ℕ). LogsAgree scene found (with_entry logs party log (entry_of (Load party) (Loaded found))))
+    agree.leaves made
 
 -- AT THE OPENING
 

@@ -1,15 +1,20 @@
 -- How often a party loses while no clear comes.
-use Rattle.std.proofs.Common.{◌≡◌, ◌≢◌, ℕ, ◌+◌, ◌<◌, ◌≤◌, List, [], ◌∷◌, ◌++◌, refl, sym, ap, ◌∙◌, subst, arith, Bool, true, false, Some, None}
+use Rattle.std.proofs.Common.{◌≡◌, ◌≢◌, ℕ, ◌+◌, ◌<◌, ◌≤◌, List, [], ◌∷◌, ◌++◌, refl}
+use Rattle.std.proofs.Common.{sym, ap, ◌∙◌, subst, arith, Bool, true, false, Some, None}
 use Rattle.std.specs.Prelude.{if◌then◌else◌, count_by}
 use Rattle.std.proofs.lemmas.List.Sums.{sum_by-cons}
 use Rattle.std.proofs.lemmas.Option.{same_Some}
 use Rattle.bb_memory_base.specs.Region.{Region}
-use Rattle.bb_memory_base.specs.BumpMachine.{OngoingCall, BumpState, BumpMove, BumpScene, IsIdle, IsInCall, opening_state, bump_step, bump_after, left_by}
-use Rattle.bb_memory_base.specs.BumpHistory.{BumpEntry, BumpLog, entry_at, bump_history, stretch_after, outcome_after, entries_by, is_by, HasNoClear, is_loss, is_beginning, IsLossAt, losses_in, calls_begun_in}
+use Rattle.bb_memory_base.specs.BumpMachine.{OngoingCall, BumpState, BumpMove, BumpScene, IsIdle}
+use Rattle.bb_memory_base.specs.BumpMachine.{IsInCall, opening_state, bump_step, bump_after, left_by}
+use Rattle.bb_memory_base.specs.BumpHistory.{BumpEntry, BumpLog, entry_at, bump_history, stretch_after, outcome_after, entries_by}
+use Rattle.bb_memory_base.specs.BumpHistory.{is_by, HasNoClear, is_loss, is_beginning, IsLossAt, losses_in, calls_begun_in}
 use Rattle.bb_memory_base.specs.declared.steps.bump.BumpStep.{BumpStep}
 use Rattle.bb_memory_base.specs.declared.steps.bump.BumpStep.TheVariants.{Exchange}
 use Rattle.bb_memory_base.proofs.LiveLists.{StandsFor-within}
-use Rattle.bb_memory_base.proofs.BumpSteps.{test_same, StepView, step_view, sees, refuses_read, wins, loses, refuses_loss, loads, clears, passes, others_stay, written, call_written, idle_or_in_call, in_call_or_idle, one_call}
+use Rattle.bb_memory_base.proofs.BumpSteps.{test_same, StepView, step_view, sees, refuses_read, wins}
+use Rattle.bb_memory_base.proofs.BumpSteps.{loses, refuses_loss, loads, clears, passes, others_stay, written}
+use Rattle.bb_memory_base.proofs.BumpSteps.{call_written, idle_or_in_call, in_call_or_idle, one_call}
 use Rattle.bb_memory_base.proofs.BumpRuns.{bump_after-append, chunk_at-above}
 use Rattle.bb_memory_base.proofs.BumpStretches.{IsClear, not_clear, healthy_after, position_rises, stretch_rises}
 
@@ -108,16 +113,17 @@ own_call_turn region state step move party call (loads other idle) not by is bel
 own_call_turn region state step move party call clears not by is below = absurd (not tt)
 own_call_turn region state step move party call (passes other) not by is below = goes_on call is (omega arith)
 
-call_turn : (region : Region) (state : BumpState) (step : BumpStep) (party : ℕ) (call : OngoingCall) (own : Bool) → is_by party step ≡ own →
-    ¬ IsClear step → IsInCall state party call → call.seen ≤ state.position →
+call_turn : (region : Region) (state : BumpState) (step : BumpStep) (party : ℕ) (call : OngoingCall) (own : Bool) →
+    is_by party step ≡ own → ¬ IsClear step → IsInCall state party call → call.seen ≤ state.position →
     CallTurn (bump_step region state step).state party call (weight own (is_loss (bump_step region state step).outcome))
 call_turn region state step party call true by not is below =
     own_call_turn region state step (bump_step region state step) party call (step_view region state step) not by is below
 call_turn region state step party call false by not is below =
-    goes_on call (others_stay region state step (bump_step region state step) party (step_view region state step) by ∙ is) (omega arith)
+    goes_on call (others_stay region state step (bump_step region state step) party (step_view region state step) by ∙ is)
+    (omega arith)
 
-own_idle_turn : (region : Region) (state : BumpState) (step : BumpStep) (move : BumpMove) (party : ℕ) → StepView region state step move →
-    ¬ IsClear step → is_by party step ≡ true → IsIdle state party →
+own_idle_turn : (region : Region) (state : BumpState) (step : BumpStep) (move : BumpMove) (party : ℕ) →
+    StepView region state step move → ¬ IsClear step → is_by party step ≡ true → IsIdle state party →
     IdleTurn move.state party (weight true (is_loss move.outcome)) (weight true (is_beginning move.outcome))
 own_idle_turn region state step move party (sees other layout idle asks fit) not by now =
     let call : OngoingCall = record { layout = layout; seen = state.position } in
@@ -197,8 +203,8 @@ idle_loses_nothing region state (step ∷ steps) party none now few =
     ]
 
 -- a call that goes on loses at most what is above the position that it has seen
-call_loses_little : (region : Region) (state : BumpState) (steps : List BumpStep) (party : ℕ) (call : OngoingCall) → HasNoClear steps →
-    SeesNoMore state party → IsInCall state party call → begun_from region state steps party ≡ 0 →
+call_loses_little : (region : Region) (state : BumpState) (steps : List BumpStep) (party : ℕ) (call : OngoingCall) →
+    HasNoClear steps → SeesNoMore state party → IsInCall state party call → begun_from region state steps party ≡ 0 →
     losses_from region state steps party + call.seen ≤ (bump_after region state steps).position
 call_loses_little region state [] party call none below is few = omega (arith, losses_from-nil region state party, below call is)
 call_loses_little region state (step ∷ steps) party call none below is few =
@@ -250,11 +256,12 @@ losses_few scene before stretch party within idle none few =
     let little = one_call_loses_little scene.region state stretch party none idle few in
     let healthy = healthy_after scene (before ++ stretch) within in
     let same = ap (λ (state : BumpState). state.position) (bump_after-append scene.region (opening_state scene) before stretch) in
-    omega (arith, little, same, StandsFor-within scene.region (left_by scene (before ++ stretch)).position healthy.live healthy.stands)
+    let within = StandsFor-within scene.region (left_by scene (before ++ stretch)).position healthy.live healthy.stands in
+    omega (arith, little, same, within)
 
 loss_raises : (region : Region) (state : BumpState) (move : BumpMove) (party position : ℕ) (call : OngoingCall) →
-    StepView region state (Exchange party) move → IsInCall state party call → call.seen ≤ state.position → IsLossAt position move.outcome →
-    call.seen < position
+    StepView region state (Exchange party) move → IsInCall state party call → call.seen ≤ state.position →
+    IsLossAt position move.outcome → call.seen < position
 loss_raises region state move party position call (wins other old at same) is below lost = absurd lost
 loss_raises region state move party position call (loses other old at apart fit) is below lost =
     let own = ap (λ (c : OngoingCall). c.seen) (one_call state other other old call (test_same other other refl) at is) in

@@ -46,7 +46,7 @@ all_own : (P : Chunk → Type 0) (own : Bool) (entry : BumpEntry) (log : BumpLog
 all_own P true entry log here rest = all_append P (won_at entry.outcome) (chunks_won log) here rest
 all_own P false entry log here rest = rest
 
-pub all_in_log : (P : Chunk → Type 0) (party : ℕ) (history : List BumpEntry) → AllByRecursion P (chunks_won history) →
+pub all_in_log : (P : Chunk → Type 0) (party : ℕ) (history : BumpLog) → AllByRecursion P (chunks_won history) →
     AllByRecursion P (chunks_won (entries_by party history))
 all_in_log P party [] all = tt
 all_in_log P party (entry ∷ history) all =
@@ -107,7 +107,8 @@ apart_entry false false entry log other_log one from_other from_own rest = rest
 apart_entry false true entry log other_log one from_other from_own rest =
     let won = won_at entry.outcome in
     apart_turned (won ++ chunks_won other_log) (chunks_won log)
-    (apart_append won (chunks_won other_log) (chunks_won log) from_own (apart_turned (chunks_won log) (chunks_won other_log) rest))
+    (apart_append won (chunks_won other_log) (chunks_won log) from_own
+    (apart_turned (chunks_won log) (chunks_won other_log) rest))
 
 -- a step is one party's alone
 one_party : (party other : ℕ) (step : BumpStep) → party ≢ other → is_by party step ≡ true → is_by other step ≡ true → ⊥
@@ -116,7 +117,7 @@ one_party party other (Exchange p) apart own others = apart (sym (same_from_test
 one_party party other (Load p) apart own others = apart (sym (same_from_test p party own) ∙ same_from_test p other others)
 one_party party other Clear apart own others = cc
 
-logs_apart : (v party other : ℕ) (history : List BumpEntry) → party ≢ other → IsInOrder v (chunks_won history) →
+logs_apart : (v party other : ℕ) (history : BumpLog) → party ≢ other → IsInOrder v (chunks_won history) →
     AllApart (chunks_won (entries_by party history)) (chunks_won (entries_by other history))
 logs_apart v party other [] apart ordered = tt
 logs_apart v party other (entry ∷ history) apart ordered =
@@ -150,8 +151,8 @@ common_apart scene position party log other other_log within common apart =
     (λ chunk. All-from_recursion (AreApart chunk) won) second)
 
 pub chunks_apart : (scene : BumpScene) (position : ℕ) (logs : List BumpLog) (party : ℕ) (log : BumpLog) (other : ℕ)
-    (other_log : BumpLog) → scene.opening ≤ scene.region.size → LogsAgree scene position logs → HasLog logs party log → HasLog logs other other_log →
-    party ≢ other →
+    (other_log : BumpLog) → scene.opening ≤ scene.region.size → LogsAgree scene position logs → HasLog logs party log →
+    HasLog logs other other_log → party ≢ other →
     All (λ chunk. All (AreApart chunk) (chunks_won other_log)) (chunks_won log)
 chunks_apart scene position logs party log other other_log within agree own others apart =
     common_apart scene position party log other other_log within

@@ -1,5 +1,6 @@
 -- What the bump object answers, and which lists it goes on to.
-use Rattle.std.proofs.Common.{◌≡◌, ℕ, ◌-◌, ◌≤◌, ◌%◌, List, [], ◌∷◌, ◌++◌, Result, Ok, Err, sym, ◌∙◌, ap, subst, refl, inl, inr, arith}
+use Rattle.std.proofs.Common.{◌≡◌, ℕ, ◌-◌, ◌≤◌, ◌%◌, List, [], ◌∷◌, ◌++◌, Result}
+use Rattle.std.proofs.Common.{Ok, Err, sym, ◌∙◌, ap, subst, refl, inl, inr, arith}
 use Rattle.std.specs.List.{All}
 use Rattle.std.proofs.lemmas.Bool.{cases_lt}
 use Rattle.bb_memory_base.specs.Region.{Region, region_end}
@@ -8,7 +9,8 @@ use Rattle.bb_memory_base.specs.Run.{Step, IsRun}
 use Rattle.bb_memory_base.specs.BumpObject.{end_of_last, next_chunk, MayAllocate, bump_object, IsInOrder, StandsFor}
 use Rattle.bb_memory_base.specs.declared.layout.Layout.{Layout}
 use Rattle.bb_memory_base.specs.declared.allocator.AllocationError.{AllocationError}
-use Rattle.bb_memory_base.specs.declared.allocator.AllocationError.TheVariants.{SizeIsZero, SizeTooLarge, AlignmentFailure, OutOfMemory}
+use Rattle.bb_memory_base.specs.declared.allocator.AllocationError.TheVariants.{SizeIsZero, SizeTooLarge}
+use Rattle.bb_memory_base.specs.declared.allocator.AllocationError.TheVariants.{AlignmentFailure, OutOfMemory}
 use Rattle.bb_memory_base.specs.declared.allocator.Command.{Command}
 use Rattle.bb_memory_base.specs.declared.allocator.Command.TheVariants.{Allocate, Release, Grow, Shrink}
 use Rattle.bb_memory_base.specs.declared.allocator.Reply.{Reply}
@@ -111,4 +113,5 @@ pub run-keeps : (region : Region) (position : ℕ) (live new : List Chunk) (comm
     StandsFor region position live → IsRun (Step (bump_object region)) live commands replies new →
     (left : ℕ) × StandsFor region left new
 run-keeps region position live new commands replies stands run =
-    IsRun-keeps (Step (bump_object region)) (IsBumpList region) (step-keeps region) live new commands replies (position, stands) run
+    IsRun-keeps (Step (bump_object region)) (IsBumpList region) (step-keeps region) live new commands replies
+    (position, stands) run

@@ -1,5 +1,6 @@
 -- What a log says of the position.
-use Rattle.std.proofs.Common.{◌≡◌, ℕ, ◌<◌, ◌≤◌, List, [], ◌∷◌, length, refl, sym, ap, ◌∙◌, subst, arith, Bool, true, false, Option, Some, None}
+use Rattle.std.proofs.Common.{◌≡◌, ℕ, ◌<◌, ◌≤◌, List, [], ◌∷◌, length, refl, sym, ap}
+use Rattle.std.proofs.Common.{◌∙◌, subst, arith, Bool, true, false, Option, Some, None}
 use Rattle.std.specs.Prelude.{if◌then◌else◌, IfSome}
 use Rattle.std.specs.List.{All, AllByRecursion}
 use Rattle.std.proofs.lemmas.List.{length-replicate}
@@ -7,14 +8,17 @@ use Rattle.std.proofs.lemmas.List.Elements.{All-from_recursion}
 use Rattle.bb_memory_base.specs.Region.{Region}
 use Rattle.bb_memory_base.specs.Chunk.{Chunk}
 use Rattle.bb_memory_base.specs.BumpObject.{StandsFor}
-use Rattle.bb_memory_base.specs.BumpMachine.{OngoingCall, BumpState, BumpMove, BumpScene, IsInCall, IsFitting, opening_state, bump_step, bump_after, left_by}
+use Rattle.bb_memory_base.specs.BumpMachine.{OngoingCall, BumpState, BumpMove, BumpScene, IsInCall}
+use Rattle.bb_memory_base.specs.BumpMachine.{IsFitting, opening_state, bump_step, bump_after, left_by}
 use Rattle.bb_memory_base.specs.BumpHistory.{BumpEntry, BumpLog, entry_at, bump_history, history_of, is_by, entries_by}
 use Rattle.bb_memory_base.specs.BumpCalls.{OpensWith, live_after}
-use Rattle.bb_memory_base.specs.BumpLogs.{IsAllowed, AllAllowed, HasLog, LogsAgree, Interleaving, CommonInterleaving, HasPositionUpTo, position_in, greater_of, greatest_in, seen_in, call_in}
+use Rattle.bb_memory_base.specs.BumpLogs.{IsAllowed, AllAllowed, HasLog, LogsAgree, Interleaving, CommonInterleaving}
+use Rattle.bb_memory_base.specs.BumpLogs.{HasPositionUpTo, position_in, greater_of, greatest_in, seen_in, call_in}
 use Rattle.bb_memory_base.specs.declared.steps.bump.BumpStep.{BumpStep}
 use Rattle.bb_memory_base.proofs.LiveLists.{StandsFor-within}
 use Rattle.bb_memory_base.proofs.SliceGets.{slice_get-replicated, slice_get-single}
-use Rattle.bb_memory_base.proofs.BumpSteps.{test_same, StepView, step_view, sees, refuses_read, wins, loses, refuses_loss, loads, clears, passes}
+use Rattle.bb_memory_base.proofs.BumpSteps.{test_same, StepView, step_view, sees, refuses_read}
+use Rattle.bb_memory_base.proofs.BumpSteps.{wins, loses, refuses_loss, loads, clears, passes}
 use Rattle.bb_memory_base.proofs.BumpRuns.{chunk_at-above, calls_stand, fitting_after, fitting_at_opening}
 use Rattle.bb_memory_base.proofs.BumpStretches.{healthy_after, stretch_rises}
 use Rattle.bb_memory_base.proofs.BumpLosses.{SeesNoMore, stretch_sees}
@@ -67,7 +71,7 @@ all_own : (P : BumpEntry → Type 0) (own : Bool) (entry : BumpEntry) (log : Bum
 all_own P true entry log here rest = (here, rest)
 all_own P false entry log here rest = rest
 
-all_in_log : (P : BumpEntry → Type 0) (party : ℕ) (history : List BumpEntry) → AllByRecursion P history →
+all_in_log : (P : BumpEntry → Type 0) (party : ℕ) (history : BumpLog) → AllByRecursion P history →
     AllByRecursion P (entries_by party history)
 all_in_log P party [] all = tt
 all_in_log P party (entry ∷ history) (here, rest) =

@@ -1,14 +1,17 @@
 -- The calls that a list of steps decides are a run of the bump object.
-use Rattle.std.proofs.Common.{◌≡◌, ℕ, ◌+◌, ◌<◌, ◌≤◌, List, [], ◌∷◌, ◌++◌, append_assoc, refl, sym, ap, ◌∙◌, subst, arith, true, false, Option, Some, None, Ok, Err}
+use Rattle.std.proofs.Common.{◌≡◌, ℕ, ◌+◌, ◌<◌, ◌≤◌, List, [], ◌∷◌, ◌++◌, append_assoc, refl, sym}
+use Rattle.std.proofs.Common.{ap, ◌∙◌, subst, arith, true, false, Option, Some, None, Ok, Err}
 use Rattle.std.proofs.lemmas.Bool.{leb-true, leb-false}
 use Rattle.bb_memory_base.specs.Region.{Region, region_end}
 use Rattle.bb_memory_base.specs.Chunk.{Chunk, chunk_end}
 use Rattle.bb_memory_base.specs.LiveList.{IsSound}
 use Rattle.bb_memory_base.specs.Object.{appended}
 use Rattle.bb_memory_base.specs.BumpObject.{StandsFor, chunk_at_or_after, next_chunk, used_space}
-use Rattle.bb_memory_base.specs.BumpMachine.{OngoingCall, BumpState, BumpMove, BumpScene, IsIdle, AllFitting, chunk_at, fits, position_behind, load, opening_state, bump_step, bump_after, left_by}
+use Rattle.bb_memory_base.specs.BumpMachine.{OngoingCall, BumpState, BumpMove, BumpScene, IsIdle, AllFitting, chunk_at}
+use Rattle.bb_memory_base.specs.BumpMachine.{fits, position_behind, load, opening_state, bump_step, bump_after, left_by}
 use Rattle.bb_memory_base.specs.BumpHistory.{outcome_after}
-use Rattle.bb_memory_base.specs.BumpCalls.{BumpCall, Allocate, ClearAll, IsCallRun, left_by_calls, layout_in, asked_by, decided, bump_calls, calls_of, calls_after, OpensWith, live_after}
+use Rattle.bb_memory_base.specs.BumpCalls.{BumpCall, Allocate, ClearAll, IsCallRun, left_by_calls, layout_in, asked_by}
+use Rattle.bb_memory_base.specs.BumpCalls.{decided, bump_calls, calls_of, calls_after, OpensWith, live_after}
 use Rattle.bb_memory_base.specs.declared.layout.Layout.{Layout}
 use Rattle.bb_memory_base.specs.declared.allocator.AllocationError.TheVariants.{OutOfMemory}
 use Rattle.bb_memory_base.specs.declared.steps.bump.BumpStep.{BumpStep}
@@ -17,7 +20,8 @@ use Rattle.bb_memory_base.specs.declared.steps.bump.BumpOutcome.TheVariants.{Win
 use Rattle.bb_memory_base.proofs.LeastPlaces.{least_place-is}
 use Rattle.bb_memory_base.proofs.LiveLists.{StandsFor-end, StandsFor-push, StandsFor-empty}
 use Rattle.bb_memory_base.proofs.SliceGets.{slice_get-replicated}
-use Rattle.bb_memory_base.proofs.BumpSteps.{StepView, step_view, sees, refuses_read, wins, loses, refuses_loss, loads, clears, passes, all_fitting-step}
+use Rattle.bb_memory_base.proofs.BumpSteps.{StepView, step_view, sees, refuses_read, wins, loses}
+use Rattle.bb_memory_base.proofs.BumpSteps.{refuses_loss, loads, clears, passes, all_fitting-step}
 
 -- CALLS ONE AFTER ANOTHER
 
@@ -45,7 +49,8 @@ calls-append region live first then between position one more =
     let left = sym (left_by_calls-append live first then) in
     record {
       run = subst (IsCallRun region live (first ++ then)) left
-          (run-append region live (left_by_calls live first) (left_by_calls (left_by_calls live first) then) first then one.run more.run);
+          (run-append region live (left_by_calls live first) (left_by_calls (left_by_calls live first) then)
+          first then one.run more.run);
       stands = subst (StandsFor region position) left more.stands;
     }
 
@@ -77,7 +82,8 @@ call_none : (region : Region) (live : List Chunk) (position : ℕ) → StandsFor
 call_none region live position stands = record { run = refl; stands = stands }
 
 call_refused : (region : Region) (live : List Chunk) (position : ℕ) (layout : Layout) → StandsFor region position live →
-    0 < layout.size → fits region position layout ≡ false → MakesCalls region live (Allocate layout (Err OutOfMemory) ∷ []) position
+    0 < layout.size → fits region position layout ≡ false →
+    MakesCalls region live (Allocate layout (Err OutOfMemory) ∷ []) position
 call_refused region live position layout stands asks fit =
     let chunk = chunk_at region position layout in
     let past = subst (λ (next : Chunk). region_end region < chunk_end next) (chunk_at-next region position live layout stands)
@@ -119,13 +125,15 @@ step_makes region state live step move (wins party call is same) stands fitting 
     let now : fits region state.position call.layout ≡ true = fits_when_seen region state call same own.fitting in
     let made = call_won region live state.position call.layout stands own.asks now in
     let asked = sym (ap layout_in is) in
-    subst (λ (layout : Option Layout). MakesCalls region live (decided (Wins chunk) layout) (position_behind region chunk)) asked made
+    subst (λ (layout : Option Layout). MakesCalls region live (decided (Wins chunk) layout) (position_behind region chunk))
+    asked made
 step_makes region state live step move (loses party call is apart fit) stands fitting =
     call_none region live state.position stands
 step_makes region state live step move (refuses_loss party call is apart fit) stands fitting =
     let made = call_refused region live state.position call.layout stands (fitting party call is).asks fit in
     let asked = sym (ap layout_in is) in
-    subst (λ (layout : Option Layout). MakesCalls region live (decided (RefusedAtLoss state.position) layout) state.position) asked made
+    subst (λ (layout : Option Layout). MakesCalls region live (decided (RefusedAtLoss state.position) layout) state.position)
+    asked made
 step_makes region state live step move (loads party idle) stands fitting = call_none region live state.position stands
 step_makes region state live step move clears stands fitting = record { run = ([], refl, refl); stands = StandsFor-empty region }
 step_makes region state live step move (passes other) stands fitting = call_none region live state.position stands
@@ -152,7 +160,8 @@ bump_after-append region state [] more = refl
 bump_after-append region state (step ∷ first) more = bump_after-append region (bump_step region state step).state first more
 
 bump_calls-append : (region : Region) (state : BumpState) (first more : List BumpStep) →
-    bump_calls region state (first ++ more) ≡ bump_calls region state first ++ bump_calls region (bump_after region state first) more
+    bump_calls region state (first ++ more)
+    ≡ bump_calls region state first ++ bump_calls region (bump_after region state first) more
 bump_calls-append region state [] more = refl
 bump_calls-append region state (step ∷ first) more =
     let move = bump_step region state step in
@@ -188,7 +197,8 @@ calls_beginning scene before stretch = bump_calls-append scene.region (opening_s
 
 -- the calls behind a beginning are a run from the list that the beginning leaves
 pub run_at_step : (scene : BumpScene) (live : List Chunk) (before stretch : List BumpStep) → OpensWith scene live →
-    IsCallRun scene.region (live_after scene live before) (calls_after scene before stretch) (live_after scene live (before ++ stretch))
+    IsCallRun scene.region (live_after scene live before) (calls_after scene before stretch)
+    (live_after scene live (before ++ stretch))
 run_at_step scene live before stretch opens =
     let there = live_after scene live before in
     let made = steps_make scene.region (left_by scene before) there stretch (scene_makes scene live before opens).stands

@@ -4,12 +4,15 @@ use Rattle.std.specs.Prelude.{slice_get, slice_set, ◌==◌, if◌then◌else�
 use Rattle.std.proofs.lemmas.Bool.Decides.{nat_tests}
 use Rattle.std.proofs.lemmas.Option.{same_Some}
 use Rattle.bb_memory_base.specs.Region.{Region}
-use Rattle.bb_memory_base.specs.BumpMachine.{OngoingCall, BumpState, BumpMove, IsIdle, IsInCall, IsFitting, AllFitting, chunk_at, fits, position_behind, ending, seeing, passed, moved, read, exchange, load, bump_step}
+use Rattle.bb_memory_base.specs.BumpMachine.{OngoingCall, BumpState, BumpMove, IsIdle, IsInCall}
+use Rattle.bb_memory_base.specs.BumpMachine.{IsFitting, AllFitting, chunk_at, fits, position_behind, ending}
+use Rattle.bb_memory_base.specs.BumpMachine.{seeing, passed, moved, read, exchange, load, bump_step}
 use Rattle.bb_memory_base.specs.BumpHistory.{is_by}
 use Rattle.bb_memory_base.specs.declared.layout.Layout.{Layout}
 use Rattle.bb_memory_base.specs.declared.steps.bump.BumpStep.{BumpStep}
 use Rattle.bb_memory_base.specs.declared.steps.bump.BumpStep.TheVariants.{Read, Exchange, Load, Clear}
-use Rattle.bb_memory_base.specs.declared.steps.bump.BumpOutcome.TheVariants.{Sees, RefusedAtRead, Wins, Loses, RefusedAtLoss, Loaded, Cleared}
+use Rattle.bb_memory_base.specs.declared.steps.bump.BumpOutcome.TheVariants.{Sees, RefusedAtRead, Wins, Loses}
+use Rattle.bb_memory_base.specs.declared.steps.bump.BumpOutcome.TheVariants.{RefusedAtLoss, Loaded, Cleared}
 use Rattle.bb_memory_base.proofs.SliceGets.{slice_get-set, slice_get-set_other, slice_get-set_same}
 
 -- TESTS OF NUMBERS
@@ -48,7 +51,8 @@ pub data StepView (region : Region) (state : BumpState) : BumpStep → BumpMove 
   refuses_loss : (party : ℕ) (call : OngoingCall) → IsInCall state party call → state.position ≢ call.seen →
       fits region state.position call.layout ≡ false →
       StepView region state (Exchange party) (moved state party (ending (RefusedAtLoss state.position) state.position))
-  loads : (party : ℕ) → IsIdle state party → StepView region state (Load party) (record { outcome = Loaded state.position; state = state })
+  loads : (party : ℕ) → IsIdle state party →
+      StepView region state (Load party) (record { outcome = Loaded state.position; state = state })
   clears : StepView region state Clear (record { outcome = Cleared; state = record { position = 0; calls = state.calls } })
   passes : (step : BumpStep) → StepView region state step (passed state)
 
@@ -69,10 +73,11 @@ read_view region state party layout (Some (Some call)) is = passes (Read party l
 read_view region state party layout (Some None) is =
     idle_view region state party layout (layout.size == 0) (fits region state.position layout) is refl refl
 
-call_view : (region : Region) (state : BumpState) (party : ℕ) (call : OngoingCall) (same fitting : Bool) → IsInCall state party call →
-    (state.position == call.seen) ≡ same → fits region state.position call.layout ≡ fitting →
+call_view : (region : Region) (state : BumpState) (party : ℕ) (call : OngoingCall) (same fitting : Bool) →
+    IsInCall state party call → (state.position == call.seen) ≡ same → fits region state.position call.layout ≡ fitting →
     StepView region state (Exchange party) (moved state party (if same
-    then ending (Wins (chunk_at region state.position call.layout)) (position_behind region (chunk_at region state.position call.layout))
+    then ending (Wins (chunk_at region state.position call.layout))
+    (position_behind region (chunk_at region state.position call.layout))
     else (if fitting
     then seeing (Loses state.position) state.position call.layout
     else ending (RefusedAtLoss state.position) state.position)))
@@ -103,8 +108,8 @@ step_view region state Clear = clears
 -- PARTIES
 
 -- a step of another party leaves a party as it is
-pub others_stay : (region : Region) (state : BumpState) (step : BumpStep) (move : BumpMove) (party : ℕ) → StepView region state step move →
-    is_by party step ≡ false → slice_get move.state.calls party ≡ slice_get state.calls party
+pub others_stay : (region : Region) (state : BumpState) (step : BumpStep) (move : BumpMove) (party : ℕ) →
+    StepView region state step move → is_by party step ≡ false → slice_get move.state.calls party ≡ slice_get state.calls party
 others_stay region state step move party (sees other layout idle asks fit) by =
     slice_get-set_other state.calls other party _ (λ same. apart_from_test other party by (sym same))
 others_stay region state step move party (refuses_read other layout idle asks fit) by =
@@ -127,8 +132,9 @@ written state other party was now by is =
     ∙ slice_get-set_same state.calls other now was is
 
 -- the call of a party whose place was written
-pub call_written : (state : BumpState) (other party : ℕ) (was now : Option OngoingCall) (call : OngoingCall) → (other == party) ≡ true →
-    slice_get state.calls other ≡ Some was → slice_get (slice_set state.calls other now) party ≡ Some (Some call) → now ≡ Some call
+pub call_written : (state : BumpState) (other party : ℕ) (was now : Option OngoingCall) (call : OngoingCall) →
+    (other == party) ≡ true → slice_get state.calls other ≡ Some was →
+    slice_get (slice_set state.calls other now) party ≡ Some (Some call) → now ≡ Some call
 call_written state other party was now call by is in_call =
     same_Some now (Some call) (sym (written state other party was now by is) ∙ in_call)
 
@@ -158,8 +164,8 @@ in_call_or_idle state other party call by is idle =
 -- CALLS THAT FIT
 
 -- what is written fits, and so each call fits afterwards
-pub all_fitting-set : (region : Region) (state : BumpState) (position party : ℕ) (now : Option OngoingCall) → AllFitting region state →
-    IfSome now (IsFitting region) →
+pub all_fitting-set : (region : Region) (state : BumpState) (position party : ℕ) (now : Option OngoingCall) →
+    AllFitting region state → IfSome now (IsFitting region) →
     AllFitting region (record { position = position; calls = slice_set state.calls party now })
 all_fitting-set region state position party None old new = λ other call is.
     elim (slice_get-set state.calls party other None (Some call) is) [

@@ -4,15 +4,19 @@ use Rattle.bb_memory_base.specs.Region.{Region}
 use Rattle.bb_memory_base.specs.Chunk.{Chunk}
 use Rattle.bb_memory_base.specs.LiveList.{IsSound}
 use Rattle.bb_memory_base.specs.BumpObject.{end_of_last, StandsFor}
-use Rattle.bb_memory_base.specs.BumpMachine.{BumpState, BumpMove, BumpScene, AllFitting, chunk_at, opening_state, bump_step, bump_after, left_by}
+use Rattle.bb_memory_base.specs.BumpMachine.{BumpState, BumpMove, BumpScene, AllFitting, chunk_at}
+use Rattle.bb_memory_base.specs.BumpMachine.{opening_state, bump_step, bump_after, left_by}
 use Rattle.bb_memory_base.specs.BumpHistory.{bump_history, history_of, stretch_after, HasNoClear, won_at, chunks_won}
 use Rattle.bb_memory_base.specs.BumpCalls.{asked_by, bump_calls, decided, layout_in, left_by_calls, live_after}
 use Rattle.bb_memory_base.specs.declared.steps.bump.BumpStep.{BumpStep}
 use Rattle.bb_memory_base.specs.declared.steps.bump.BumpStep.TheVariants.{Read, Exchange, Load, Clear}
 use Rattle.bb_memory_base.specs.declared.steps.bump.BumpOutcome.TheVariants.{Wins, RefusedAtLoss}
-use Rattle.bb_memory_base.proofs.LiveLists.{end_of_last-above, end_of_last-append, in_order-rest, sound_from_order, stands_for_some, StandsFor-end, StandsFor-within}
-use Rattle.bb_memory_base.proofs.BumpSteps.{StepView, step_view, sees, refuses_read, wins, loses, refuses_loss, loads, clears, passes, all_fitting-step}
-use Rattle.bb_memory_base.proofs.BumpRuns.{StandsFor-won, chunk_at-above, fits_when_seen, calls_stand, fitting_after, fitting_at_opening, left_by_calls-append}
+use Rattle.bb_memory_base.proofs.LiveLists.{end_of_last-above, end_of_last-append, in_order-rest}
+use Rattle.bb_memory_base.proofs.LiveLists.{sound_from_order, stands_for_some, StandsFor-end, StandsFor-within}
+use Rattle.bb_memory_base.proofs.BumpSteps.{StepView, step_view, sees, refuses_read, wins, loses}
+use Rattle.bb_memory_base.proofs.BumpSteps.{refuses_loss, loads, clears, passes, all_fitting-step}
+use Rattle.bb_memory_base.proofs.BumpRuns.{StandsFor-won, chunk_at-above, fits_when_seen, calls_stand}
+use Rattle.bb_memory_base.proofs.BumpRuns.{fitting_after, fitting_at_opening, left_by_calls-append}
 
 abbrev pub IsClear : BumpStep → Type 0
 IsClear Clear = Unit {0}
@@ -53,7 +57,8 @@ step_stands region state live step move (sees party layout idle asks fit) not st
 step_stands region state live step move (refuses_read party layout idle asks fit) not stands fitting =
     subst (StandsFor region state.position) (sym (append-nil live)) stands
 step_stands region state live step move (wins party call is same) not stands fitting =
-    StandsFor-won region state.position live call.layout stands (fits_when_seen region state call same (fitting party call is).fitting)
+    StandsFor-won region state.position live call.layout stands
+    (fits_when_seen region state call same (fitting party call is).fitting)
 step_stands region state live step move (loses party call is apart fit) not stands fitting =
     subst (StandsFor region state.position) (sym (append-nil live)) stands
 step_stands region state live step move (refuses_loss party call is apart fit) not stands fitting =
@@ -116,7 +121,8 @@ stretch_stands region state live (step ∷ steps) none stands fitting =
     let view = step_view region state step in
     let won = won_at move.outcome in
     let rest = stretch_stands region move.state (live ++ won) steps parts.1
-    (step_stands region state live step move view parts.0 stands fitting) (all_fitting-step region state step move view fitting) in
+    (step_stands region state live step move view parts.0 stands fitting)
+    (all_fitting-step region state step move view fitting) in
     subst (StandsFor region (bump_after region move.state steps).position)
     (append_assoc live won (chunks_won (bump_history region move.state steps))) rest
 

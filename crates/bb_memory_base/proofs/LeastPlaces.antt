@@ -1,5 +1,6 @@
 -- The least place is what its name says, and a mask computes it.
-use Rattle.std.proofs.Common.{◌≡◌, ℕ, ◌+◌, ◌-◌, ◌*◌, ◌/◌, ◌%◌, ◌^◌, ◌<◌, ◌≤◌, bit_and, arith, ap, sym, ◌∙◌, inl, inr, mul-le-mul_right, div-add-mod'}
+use Rattle.std.proofs.Common.{◌≡◌, ℕ, ◌+◌, ◌-◌, ◌*◌, ◌/◌, ◌%◌, ◌^◌, ◌<◌, ◌≤◌, bit_and}
+use Rattle.std.proofs.Common.{arith, ap, sym, ◌∙◌, inl, inr, mul-le-mul_right, div-add-mod'}
 use Rattle.std.proofs.Math.Nat.{mod-eq_of_lt, mod_self}
 use Rattle.std.proofs.lemmas.Bool.{cases_lt}
 use Rattle.std.proofs.lemmas.Nat.{mod-mul-add, le-div}
@@ -31,8 +32,10 @@ pub least_place-rounds : (v align : ℕ) → 0 < align → least_place v align �
 least_place-rounds v align positive =
     let whole = div-add-mod' v align in
     elim (cases_lt 0 (v % align)) [
-      | inl some ↦ omega (arith, least_place-raises v align positive some, rest_of (v + (align - 1)) (v / align + 1) align (v % align - 1) (omega arith) (omega arith))
-      | inr none ↦ omega (arith, least_place-stays v align positive (omega arith), rest_of (v + (align - 1)) (v / align) align (align - 1) (omega arith) (omega arith))
+      | inl some ↦ let rest = rest_of (v + (align - 1)) (v / align + 1) align (v % align - 1) (omega arith) (omega arith) in
+          omega (arith, least_place-raises v align positive some, rest)
+      | inr none ↦ let rest = rest_of (v + (align - 1)) (v / align) align (align - 1) (omega arith) (omega arith) in
+          omega (arith, least_place-stays v align positive (omega arith), rest)
     ]
 
 -- the least place by its quotient
@@ -45,7 +48,8 @@ least_place-below v align k positive above =
     let quotient = least_place-quotient v align positive in
     let whole = div-add-mod' (v + (align - 1)) align in
     elim (cases_lt k ((v + (align - 1)) / align)) [
-      | inl less ↦ let more = mul-le-mul_right {m = k + 1} {n = (v + (align - 1)) / align} align (omega arith) in absurd (omega (arith, more))
+      | inl less ↦ let more = mul-le-mul_right {m = k + 1} {n = (v + (align - 1)) / align} align (omega arith) in
+          absurd (omega (arith, more))
       | inr most ↦ omega (arith, quotient, mul-le-mul_right align most)
     ]
 

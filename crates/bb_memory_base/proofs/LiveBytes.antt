@@ -1,5 +1,6 @@
 -- The bytes of the chunks of a sound list, while one of them is written over.
-use Rattle.std.proofs.Common.{arith, ◌≡◌, ◌≢◌, ℕ, ◌+◌, zero, suc, ◌<◌, Some, List, [], ◌∷◌, ◌++◌, length, get_or, ap, ◌∙◌, subst, refl, ⊎_elim}
+use Rattle.std.proofs.Common.{arith, ◌≡◌, ◌≢◌, ℕ, ◌+◌, zero, suc, ◌<◌, Some, List, []}
+use Rattle.std.proofs.Common.{◌∷◌, ◌++◌, length, get_or, ap, ◌∙◌, subst, refl, ⊎_elim}
 use Rattle.std.specs.Prelude.{All, map, slice_get, slice_set}
 use Rattle.std.proofs.lemmas.Bool.{cases_lt}
 use Rattle.std.proofs.lemmas.List.{map-append, get_or_append_left, get_or_push, length_push}
@@ -13,7 +14,8 @@ use Rattle.bb_memory_base.proofs.ApartBytes.{apart-kept}
 pub inside_at : (region : Region) (live : List Chunk) (i : ℕ) (chunk : Chunk) → IsSound region live →
     slice_get live i ≡ Some chunk → IsInside region chunk
 inside_at region live i chunk sound at =
-    subst (IsInside region) (get_or_from_slice_get live i chunk chunk at) (sound.inside i chunk (slice_get_within live i chunk at))
+    subst (IsInside region) (get_or_from_slice_get live i chunk chunk at)
+    (sound.inside i chunk (slice_get_within live i chunk at))
 
 before_apart : (region : Region) (live : List Chunk) (i j : ℕ) (one other : Chunk) → IsSound region live →
     slice_get live i ≡ Some one → slice_get live j ≡ Some other → i < j → AreApart one other
@@ -43,10 +45,12 @@ set_here : (f g : Chunk → List ℕ) (live : List Chunk) (i : ℕ) (chunk : Chu
 set_here f g [] i chunk bytes at is others = absurd (cc)
 set_here f g (c ∷ cs) zero chunk bytes at is others =
     let first : c ≡ chunk = cc in
-    ap (λ x. x ∷ map f cs) (ap f first ∙ is) ∙ ap (λ l. bytes ∷ l) (map_same f g cs (λ k d there. others (suc k) d (λ no. omega (arith, no)) there))
+    ap (λ x. x ∷ map f cs) (ap f first ∙ is)
+    ∙ ap (λ l. bytes ∷ l) (map_same f g cs (λ k d there. others (suc k) d (λ no. omega (arith, no)) there))
 set_here f g (c ∷ cs) (suc i) chunk bytes at is others =
     ap (λ x. x ∷ map f cs) (others zero c (λ no. omega (arith, no)) refl)
-    ∙ ap (λ l. g c ∷ l) (set_here f g cs i chunk bytes at is (λ k d differ there. others (suc k) d (λ same. differ (omega (arith, same))) there))
+    ∙ ap (λ l. g c ∷ l)
+    (set_here f g cs i chunk bytes at is (λ k d differ there. others (suc k) d (λ same. differ (omega (arith, same))) there))
 
 -- each other chunk of the list keeps its bytes
 pub others_kept : (old new : HeldBytes) (live : List Chunk) (i k : ℕ) (chunk other : Chunk) (bytes : List ℕ) →
@@ -54,7 +58,8 @@ pub others_kept : (old new : HeldBytes) (live : List Chunk) (i k : ℕ) (chunk o
     i ≢ k → slice_get live k ≡ Some other → bytes_in new other ≡ bytes_in old other
 others_kept old new live i k chunk other bytes sound at changes differ there =
     let region = held_region old in
-    apart-kept old new chunk other bytes changes (inside_at region live i chunk sound at) (inside_at region live k other sound there)
+    apart-kept old new chunk other bytes changes (inside_at region live i chunk sound at)
+    (inside_at region live k other sound there)
     (apart_at region live i k chunk other sound at there differ)
 
 -- so of the list's contents one is set
@@ -74,7 +79,8 @@ given_apart region live chunk sound = λ k d within. λ shared.
     let apart : AreApart (get_or (live ++ chunk ∷ []) k d) (get_or (live ++ chunk ∷ []) (length live) d) =
     sound.apart k (length live) d within (omega (arith, length_push live chunk)) in
     let flipped : AreApart (get_or live k d) chunk =
-    subst (λ (c : Chunk). AreApart c chunk) left (subst (λ (c : Chunk). AreApart (get_or (live ++ chunk ∷ []) k d) c) last apart) in
+    subst (λ (c : Chunk). AreApart c chunk) left
+    (subst (λ (c : Chunk). AreApart (get_or (live ++ chunk ∷ []) k d) c) last apart) in
     flipped (shared.0, shared.2, shared.1)
 
 -- the last two are apart
@@ -96,7 +102,8 @@ contents_given old new live chunk bytes sound changes =
     let all : List Chunk = live ++ chunk ∷ [] in
     let long : length all ≡ length live + 1 = length_push live chunk in
     let itself : IsInside region chunk =
-    subst (IsInside region) (get_or_push live chunk chunk (length live) refl) (sound.inside (length live) chunk (omega (arith, long))) in
+    subst (IsInside region) (get_or_push live chunk chunk (length live) refl)
+    (sound.inside (length live) chunk (omega (arith, long))) in
     let same : map (bytes_in new) live ≡ map (bytes_in old) live =
     map_same (bytes_in new) (bytes_in old) live (λ k c at.
     let within = slice_get_within live k c at in

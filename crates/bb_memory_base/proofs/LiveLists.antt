@@ -58,7 +58,8 @@ pub apart_from_order : (v : ℕ) (live : List Chunk) → IsInOrder v live → Al
 apart_from_order v [] ordered = λ i j d before within. absurd (omega arith)
 apart_from_order v (chunk ∷ live) (here, rest) =
     AllPairs-cons AreApart chunk live
-    (All-from_recursion (AreApart chunk) live (all_apart chunk live (all_above (chunk_end chunk) (chunk_end chunk) live (omega arith) rest)))
+    (All-from_recursion (AreApart chunk) live
+    (all_apart chunk live (all_above (chunk_end chunk) (chunk_end chunk) live (omega arith) rest)))
     (apart_from_order (chunk_end chunk) live rest)
 
 inside_from_order : (region : Region) (v : ℕ) (live : List Chunk) → region.start ≤ v → IsInOrder v live →

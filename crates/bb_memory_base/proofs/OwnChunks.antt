@@ -11,7 +11,8 @@ use Rattle.bb_memory_base.specs.BumpCalls.{OpensWith, live_after}
 use Rattle.bb_memory_base.specs.BumpHistory.{BumpEntry, BumpLog, history_of, is_by, entries_by, won_at, chunks_won}
 use Rattle.bb_memory_base.specs.BumpLogs.{AllAllowed, HasLog, Interleaving, LogsAgree}
 use Rattle.bb_memory_base.specs.declared.steps.bump.BumpStep.{BumpStep}
-use Rattle.bb_memory_base.proofs.LiveLists.{all_above, apart_from_order, end_of_last-above, in_order-append, in_order-front, in_order-rest, stands_for_some}
+use Rattle.bb_memory_base.proofs.LiveLists.{all_above, apart_from_order, end_of_last-above, in_order-append}
+use Rattle.bb_memory_base.proofs.LiveLists.{in_order-front, in_order-rest, stands_for_some}
 use Rattle.bb_memory_base.proofs.BumpMeetings.{all_in_log, all_map, all_rest, apart_behind, in_order-below}
 use Rattle.bb_memory_base.proofs.BumpRuns.{fitting_at_opening}
 use Rattle.bb_memory_base.proofs.BumpStretches.{stretch_grows, stretch_stands}
@@ -28,7 +29,7 @@ own_entry : (v : ℕ) (own : Bool) (entry : BumpEntry) (log : BumpLog) → v ≤
 own_entry v true entry log le front rest = in_order-append v (won_at entry.outcome) (chunks_won log) front rest
 own_entry v false entry log le front rest = in_order_lower v (end_of_last v (won_at entry.outcome)) (chunks_won log) le rest
 
-in_order_own : (v party : ℕ) (history : List BumpEntry) → IsInOrder v (chunks_won history) →
+in_order_own : (v party : ℕ) (history : BumpLog) → IsInOrder v (chunks_won history) →
     IsInOrder v (chunks_won (entries_by party history))
 in_order_own v party [] ordered = tt
 in_order_own v party (entry ∷ history) ordered =
@@ -111,7 +112,8 @@ older_apart scene position logs party log live opens agree own =
     interleaved_older scene position party log live opens (interleaved scene position logs party log agree own)
 
 pub agreed_since : (scene : BumpScene) (position : ℕ) (logs : List BumpLog) (live : List Chunk)
-    (agree : LogsAgree scene position logs) → live_after scene live agree.steps ≡ live ++ chunks_won (history_of scene agree.steps)
+    (agree : LogsAgree scene position logs) →
+    live_after scene live agree.steps ≡ live ++ chunks_won (history_of scene agree.steps)
 agreed_since scene position logs live agree = allowed_grow scene live agree.steps agree.allowed
 
 pub agreed_stands : (scene : BumpScene) (position : ℕ) (logs : List BumpLog) (live : List Chunk) → OpensWith scene live →

@@ -1,22 +1,25 @@
 -- Who holds a bucket stands in the logs.
-use Rattle.std.proofs.Common.{◌≡◌, ℕ, zero, suc, List, [], ◌∷◌, ◌↔◌, replicate, refl, sym, ap, ◌∙◌, Bool, true, false, Option, Some, None, inl, inr}
+use Rattle.std.proofs.Common.{◌≡◌, ℕ, zero, suc, List, [], ◌∷◌, ◌↔◌, replicate, refl, sym}
+use Rattle.std.proofs.Common.{ap, ◌∙◌, Bool, true, false, Option, Some, None, inl, inr}
 use Rattle.std.specs.Prelude.{slice_get, ◌==◌, if◌then◌else◌, fold}
 use Rattle.std.proofs.lemmas.Bool.{cases_eq}
 use Rattle.std.proofs.lemmas.Option.{same_Some}
-use Rattle.bb_memory_base.specs.PoolMachine.{PoolScene, PoolState, PoolMove, IsHolder, pool_step, pool_after, opening_state, left_by}
+use Rattle.bb_memory_base.specs.PoolMachine.{PoolScene, PoolState, PoolMove, IsHolder}
+use Rattle.bb_memory_base.specs.PoolMachine.{pool_step, pool_after, opening_state, left_by}
 use Rattle.bb_memory_base.specs.PoolHistory.{entry_of, PoolLog, PoolEntry, pool_history, is_by, entries_by, log_of}
 use Rattle.bb_memory_base.specs.PoolLogs.{held_after, IsHeldAfter}
 use Rattle.bb_memory_base.specs.declared.steps.pool.PoolOutcome.{PoolOutcome}
 use Rattle.bb_memory_base.specs.declared.steps.pool.PoolStep.{PoolStep}
 use Rattle.bb_memory_base.proofs.SliceSets.{slice_get-same, slice_get-set_other, slice_get-set_same}
-use Rattle.bb_memory_base.proofs.PoolSteps.{StepKind, takes, loses, is_refused, gives, passes, kind_of, same_from_test, test_same, test_apart}
+use Rattle.bb_memory_base.proofs.PoolSteps.{StepKind, takes, loses, is_refused, gives, passes}
+use Rattle.bb_memory_base.proofs.PoolSteps.{kind_of, same_from_test, test_same, test_apart}
 
 abbrev is_holder : ℕ → Option (Option ℕ) → Bool
 is_holder party (Some (Some holder)) = holder == party
 is_holder party _ = false
 
 -- whether a party holds a bucket after entries of its log, where it held it before them or not
-abbrev held_through : ℕ → Bool → List PoolEntry → Bool
+abbrev held_through : ℕ → Bool → PoolLog → Bool
 held_through bucket held log = fold (λ held entry. held_after bucket held entry.outcome) held log
 
 either_way : (mine held : Bool) → (if mine then held else held) ≡ held

@@ -1,18 +1,22 @@
 -- A party's log says where its pass is, and a step of the party adds to it alone.
-use Rattle.std.proofs.Common.{◌≡◌, ◌≢◌, ℕ, zero, suc, ◌+◌, ◌<◌, List, [], ◌∷◌, ◌++◌, length, map, replicate, append-nil, refl, sym, ap, ◌∙◌, subst, arith, Bool, true, false, Option, Some, None, inl, inr}
+use Rattle.std.proofs.Common.{◌≡◌, ◌≢◌, ℕ, zero, suc, ◌+◌, ◌<◌, List, [], ◌∷◌, ◌++◌, length, map, replicate, append-nil}
+use Rattle.std.proofs.Common.{refl, sym, ap, ◌∙◌, subst, arith, Bool, true, false, Option, Some, None, inl, inr}
 use Rattle.std.specs.Prelude.{slice_get, slice_set, ◌==◌, nat_lt, if◌then◌else◌, is_some, fold, All}
 use Rattle.std.proofs.lemmas.Bool.{cases_eq}
 use Rattle.std.proofs.lemmas.Option.{same_Some, slice_get_within, get_or_from_slice_get}
 use Rattle.std.proofs.lemmas.List.Elements.{All-push, All-nil}
-use Rattle.bb_memory_base.specs.PoolMachine.{move_of, PoolScene, PoolState, PoolMove, IsHolder, with_pass, taking, return_of, passed, try_flag, try_next, give_flag, pool_step, pool_after, opening_state, left_by}
+use Rattle.bb_memory_base.specs.PoolMachine.{move_of, PoolScene, PoolState, PoolMove, IsHolder, with_pass, taking, return_of}
+use Rattle.bb_memory_base.specs.PoolMachine.{passed, try_flag, try_next, give_flag, pool_step, pool_after, opening_state, left_by}
 use Rattle.bb_memory_base.specs.PoolHistory.{entry_of, PoolLog, PoolEntry, pool_history, is_by, entries_by, history_of, log_of}
-use Rattle.bb_memory_base.specs.PoolLogs.{HasLog, pass_after, pass_in, next_bucket, loss_at, flags_of, IsAllowed, IsHeldAfter, LogsAgree, with_entry}
+use Rattle.bb_memory_base.specs.PoolLogs.{HasLog, pass_after, pass_in, next_bucket, loss_at}
+use Rattle.bb_memory_base.specs.PoolLogs.{flags_of, IsAllowed, IsHeldAfter, LogsAgree, with_entry}
 use Rattle.bb_memory_base.specs.declared.steps.pool.PoolStep.{PoolStep}
 use Rattle.bb_memory_base.specs.declared.steps.pool.PoolStep.TheVariants.{Try, GiveBack}
 use Rattle.bb_memory_base.specs.declared.steps.pool.PoolOutcome.{PoolOutcome}
 use Rattle.bb_memory_base.specs.declared.steps.pool.PoolOutcome.TheVariants.{Takes, Loses, RefusedAtLoss, Gives}
 use Rattle.bb_memory_base.proofs.SliceSets.{slice_get-same, slice_get-set_other, slice_get-set_same}
-use Rattle.bb_memory_base.proofs.PoolSteps.{IsNext, StepKind, takes, loses, is_refused, gives, passes, kind_of, length-left_by, test_same, test_apart}
+use Rattle.bb_memory_base.proofs.PoolSteps.{IsNext, StepKind, takes, loses, is_refused, gives}
+use Rattle.bb_memory_base.proofs.PoolSteps.{passes, kind_of, length-left_by, test_same, test_apart}
 use Rattle.bb_memory_base.proofs.PoolHolders.{holder_in_log}
 use Rattle.bb_memory_base.proofs.PoolFlags.{free_from_flag, taken_from_flag, flags_of-set}
 
@@ -93,7 +97,7 @@ history-push : (state : PoolState) (steps : List PoolStep) (step : PoolStep) →
 history-push state [] step = refl
 history-push state (first ∷ steps) step =
     let move : PoolMove = pool_step state first in
-    ap (λ (history : List PoolEntry). entry_of first move.outcome ∷ history) (history-push move.state steps step)
+    ap (λ (history : PoolLog). entry_of first move.outcome ∷ history) (history-push move.state steps step)
 
 after-push : (state : PoolState) (steps : List PoolStep) (step : PoolStep) →
     pool_after state (steps ++ step ∷ []) ≡ (pool_step (pool_after state steps) step).state
@@ -109,7 +113,7 @@ cons_if : (mine : Bool) (entry : PoolEntry) (xs ys : PoolLog) →
 cons_if true entry xs ys = refl
 cons_if false entry xs ys = refl
 
-log-push : (party : ℕ) (history : List PoolEntry) (entry : PoolEntry) →
+log-push : (party : ℕ) (history : PoolLog) (entry : PoolEntry) →
     entries_by party (history ++ entry ∷ []) ≡ entries_by party history ++ only_if (is_by party entry.step) entry
 log-push party [] entry = refl
 log-push party (first ∷ history) entry =
@@ -129,7 +133,7 @@ give_is_of : (party bucket : ℕ) → IsStepOf party (GiveBack party bucket)
 give_is_of party bucket = record { mine = test_same party party refl; others = test_apart party }
 
 -- after the step of a party each log has grown by what was that party's
-logs-push : (logs : List PoolLog) (party : ℕ) (log : PoolLog) (step : PoolStep) (history : List PoolEntry) (entry : PoolEntry) →
+logs-push : (logs : List PoolLog) (party : ℕ) (log : PoolLog) (step : PoolStep) (history : PoolLog) (entry : PoolEntry) →
     HasLog logs party log → IsStepOf party step → entry.step ≡ step →
     ((other : ℕ) (found : PoolLog) → HasLog logs other found → entries_by other history ≡ found) →
     (other : ℕ) (found : PoolLog) → slice_get (with_entry logs party log entry) other ≡ Some found →
@@ -156,7 +160,7 @@ agree_on : (scene : PoolScene) (flags : List Bool) (logs : List PoolLog) (party 
     (new : List Bool) → flags_of move.state ≡ new → LogsAgree scene new (with_entry logs party log (entry_of step move.outcome))
 agree_on scene flags logs party log step agree at of move is allowed new leaves =
     let opening : PoolState = opening_state scene in
-    let history : List PoolEntry = history_of scene agree.steps in
+    let history : PoolLog = history_of scene agree.steps in
     let entry : PoolEntry = entry_of step move.outcome in
     let longer : history_of scene (agree.steps ++ step ∷ []) ≡ history ++ entry ∷ [] =
     history-push opening agree.steps step ∙ ap (λ (m : PoolMove). history ++ entry_of step m.outcome ∷ []) is in

@@ -1,11 +1,13 @@
 -- What a refused pass has met.
-use Rattle.std.proofs.Common.{◌≡◌, ℕ, zero, suc, ◌+◌, ◌<◌, ◌≤◌, ◌⊎◌, List, [], ◌∷◌, length, replicate, refl, sym, ap, ◌∙◌, subst, arith, Option, Some, None, inl, inr}
+use Rattle.std.proofs.Common.{◌≡◌, ℕ, zero, suc, ◌+◌, ◌<◌, ◌≤◌, ◌⊎◌, List, [], ◌∷◌, length, replicate}
+use Rattle.std.proofs.Common.{refl, sym, ap, ◌∙◌, subst, arith, Option, Some, None, inl, inr}
 use Rattle.std.specs.Prelude.{slice_get, slice_set, take, unwrap_or}
 use Rattle.std.proofs.lemmas.Bool.{cases_eq}
 use Rattle.std.proofs.lemmas.Option.{same_Some}
 use Rattle.std.proofs.lemmas.List.{length-replicate}
 use Rattle.bb_memory_base.specs.PoolGeometry.{IsPoolGeometry}
-use Rattle.bb_memory_base.specs.PoolMachine.{PoolScene, PoolState, PoolMove, IsTaken, IsInCall, pool_step, pool_after, opening_state}
+use Rattle.bb_memory_base.specs.PoolMachine.{PoolScene, PoolState, PoolMove, IsTaken}
+use Rattle.bb_memory_base.specs.PoolMachine.{IsInCall, pool_step, pool_after, opening_state}
 use Rattle.bb_memory_base.specs.PoolHistory.{entry_of, PoolEntry, pool_history, history_of}
 use Rattle.bb_memory_base.specs.PoolCalls.{IsLossAt, LosesAt, IsRefusedAt, FoundHeld}
 use Rattle.bb_memory_base.specs.declared.steps.pool.PoolStep.{PoolStep}

@@ -1,5 +1,6 @@
 -- The takings and returns of a pool machine are a run of the pool object.
-use Rattle.std.proofs.Common.{◌≡◌, ℕ, zero, suc, ◌<◌, ◌↔◌, List, [], ◌∷◌, ◌++◌, length, replicate, refl, sym, ap, ◌∙◌, subst, arith, Option, Some, None, inl, inr}
+use Rattle.std.proofs.Common.{◌≡◌, ℕ, zero, suc, ◌<◌, ◌↔◌, List, [], ◌∷◌, ◌++◌, length, replicate}
+use Rattle.std.proofs.Common.{refl, sym, ap, ◌∙◌, subst, arith, Option, Some, None, inl, inr}
 use Rattle.std.specs.Prelude.{take, drop, slice_get, slice_set, remove}
 use Rattle.std.specs.List.{AllByRecursion}
 use Rattle.std.proofs.lemmas.Bool.{cases_eq}
@@ -11,15 +12,18 @@ use Rattle.bb_memory_base.specs.LiveList.{IsSound}
 use Rattle.bb_memory_base.specs.Run.{IsRun}
 use Rattle.bb_memory_base.specs.PoolGeometry.{PoolGeometry, bucket_place, IsPoolGeometry}
 use Rattle.bb_memory_base.specs.PoolObject.{IsAt, IsHeld, IsWithin, MayGive, chunk_in}
-use Rattle.bb_memory_base.specs.PoolMachine.{PoolScene, PoolState, PoolMove, IsHolder, IsTaken, pool_step, pool_after, opening_state, left_by}
-use Rattle.bb_memory_base.specs.PoolHistory.{PoolEntry, history_of, pool_history, outcomes_of}
+use Rattle.bb_memory_base.specs.PoolMachine.{PoolScene, PoolState, PoolMove, IsHolder, IsTaken}
+use Rattle.bb_memory_base.specs.PoolMachine.{pool_step, pool_after, opening_state, left_by}
+use Rattle.bb_memory_base.specs.PoolHistory.{PoolLog, history_of, pool_history, outcomes_of}
 use Rattle.bb_memory_base.specs.PoolCalls.{IsCallRun, PoolCall, AreAsked, IsPoolRun}
 use Rattle.bb_memory_base.specs.declared.layout.Layout.{Layout}
 use Rattle.bb_memory_base.specs.declared.steps.pool.PoolStep.{PoolStep}
 use Rattle.bb_memory_base.specs.declared.steps.pool.PoolOutcome.{PoolOutcome}
 use Rattle.bb_memory_base.proofs.SliceSets.{slice_get-same, slice_get-set_other, slice_get-set_same}
 use Rattle.bb_memory_base.proofs.PoolGeometries.{bucket_place-apart}
-use Rattle.bb_memory_base.proofs.PoolLists.{AreInBuckets, AreInBuckets-empty, AreInBuckets-push, AreInBuckets-remove, sound_from_buckets, count_at, count_at-push_same, count_at-push_other, count_at-remove_same, count_at-remove_other, at_from_count, count_from_at}
+use Rattle.bb_memory_base.proofs.PoolLists.{AreInBuckets, AreInBuckets-empty, AreInBuckets-push, AreInBuckets-remove}
+use Rattle.bb_memory_base.proofs.PoolLists.{sound_from_buckets, count_at, count_at-push_same, count_at-push_other}
+use Rattle.bb_memory_base.proofs.PoolLists.{count_at-remove_same, count_at-remove_other, at_from_count, count_from_at}
 use Rattle.bb_memory_base.proofs.PoolSteps.{StepKind, takes, loses, is_refused, gives, passes, kind_of}
 
 -- STATES AND LISTS
@@ -255,7 +259,7 @@ outcomes-take old (step ∷ steps) (suc k) =
     ap (λ (outcomes : List PoolOutcome). (pool_step old step).outcome ∷ outcomes)
     (outcomes-take (pool_step old step).state steps k)
 
-outcomes-drop : (history : List PoolEntry) (k : ℕ) → drop k (outcomes_of history) ≡ outcomes_of (drop k history)
+outcomes-drop : (history : PoolLog) (k : ℕ) → drop k (outcomes_of history) ≡ outcomes_of (drop k history)
 outcomes-drop history zero = refl
 outcomes-drop [] (suc k) = refl
 outcomes-drop (entry ∷ history) (suc k) = outcomes-drop history k
@@ -266,7 +270,7 @@ pub run_at_step : (scene : PoolScene) (steps : List PoolStep) (layouts : List La
     × IsCallRun scene.geometry there (drop k layouts) (drop k (history_of scene steps)) live
 run_at_step scene steps layouts live k run =
     let opening : PoolState = opening_state scene in
-    let history : List PoolEntry = pool_history opening steps in
+    let history : PoolLog = pool_history opening steps in
     let split = run-split (PoolCall scene.geometry) [] live layouts (outcomes_of history) k run in
     let Before : List PoolOutcome → Type 0 = λ outcomes. IsRun (PoolCall scene.geometry) [] (take k layouts) outcomes split.0 in
     let After : List PoolOutcome → Type 0 = λ outcomes. IsRun (PoolCall scene.geometry) split.0 (drop k layouts) outcomes live in

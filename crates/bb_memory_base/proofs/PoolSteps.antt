@@ -1,9 +1,11 @@
 -- What a step of the pool machine does, by its kinds.
-use Rattle.std.proofs.Common.{◌≡◌, ◌≢◌, ℕ, ◌+◌, ◌<◌, ◌≤◌, List, [], ◌∷◌, length, refl, ap, ◌∙◌, arith, Bool, true, false, Option, Some, None}
+use Rattle.std.proofs.Common.{◌≡◌, ◌≢◌, ℕ, ◌+◌, ◌<◌, ◌≤◌, List, [], ◌∷◌, length, refl}
+use Rattle.std.proofs.Common.{ap, ◌∙◌, arith, Bool, true, false, Option, Some, None}
 use Rattle.std.specs.Prelude.{slice_get, ◌==◌, nat_lt, if◌then◌else◌, unwrap_or}
 use Rattle.std.proofs.lemmas.Bool.Decides.{nat_tests}
 use Rattle.std.proofs.lemmas.List.{length-set, length-replicate}
-use Rattle.bb_memory_base.specs.PoolMachine.{PoolScene, opening_state, left_by, move_of, PoolState, PoolMove, IsHolder, with_pass, taking, return_of, passed, try_flag, try_next, give_flag, pool_step, pool_after}
+use Rattle.bb_memory_base.specs.PoolMachine.{PoolScene, opening_state, left_by, move_of, PoolState, PoolMove, IsHolder, with_pass}
+use Rattle.bb_memory_base.specs.PoolMachine.{taking, return_of, passed, try_flag, try_next, give_flag, pool_step, pool_after}
 use Rattle.bb_memory_base.specs.declared.steps.pool.PoolStep.{PoolStep}
 use Rattle.bb_memory_base.specs.declared.steps.pool.PoolStep.TheVariants.{Try, GiveBack}
 use Rattle.bb_memory_base.specs.declared.steps.pool.PoolOutcome.TheVariants.{Loses, RefusedAtLoss}

@@ -1,5 +1,6 @@
 -- Powers of two, and the masks that they make.
-use Rattle.std.proofs.Common.{◌≡◌, ℕ, zero, suc, ◌+◌, ◌-◌, ◌*◌, ◌/◌, ◌%◌, ◌^◌, ◌<◌, ◌≤◌, IsTrue, count_ones, bit_and, arith, ap, subst, sym, ◌∙◌, inl, inr, pow_pos, pow_mono, pow-add, pow-suc, eq-eqb, eqb-true}
+use Rattle.std.proofs.Common.{◌≡◌, ℕ, zero, suc, ◌+◌, ◌-◌, ◌*◌, ◌/◌, ◌%◌, ◌^◌, ◌<◌, ◌≤◌, IsTrue, count_ones, bit_and}
+use Rattle.std.proofs.Common.{arith, ap, subst, sym, ◌∙◌, inl, inr, pow_pos, pow_mono, pow-add, pow-suc, eq-eqb, eqb-true}
 use Rattle.std.proofs.lemmas.Bool.{cases_lt}
 use Rattle.std.proofs.lemmas.Nat.{zero_from_ones, ones-le, and_mask, and-not, and_comm}
 use Rattle.std.specs.Int.{is_power_of_two, IsPowerOfTwo}
@@ -12,7 +13,8 @@ one_bit (suc limit) n small one =
     let step = ones_step n in
     elim (cases_lt 0 (n % 2)) [
       | inl odd ↦ let none : n / 2 ≡ 0 = zero_from_ones (n / 2) (omega arith) in (0, omega arith)
-      | inr even ↦ let half = one_bit limit (n / 2) (omega arith) (omega arith) in (suc half.0, omega (arith, pow-suc 2 half.0, half.1))
+      | inr even ↦ let half = one_bit limit (n / 2) (omega arith) (omega arith) in
+          (suc half.0, omega (arith, pow-suc 2 half.0, half.1))
     ]
 
 -- what passes the test is a power of two
@@ -41,7 +43,8 @@ power_of_two-divides n power small =
     elim (cases_lt power.0 64) [
       | inl low ↦
           let parts : 64 ≡ (64 - power.0) + power.0 = omega arith in
-          (2 ^ (64 - power.0), ap (λ j. 2 ^ j) parts ∙ pow-add 2 (64 - power.0) power.0 ∙ ap (λ m. 2 ^ (64 - power.0) * m) (sym power.1))
+          let back = ap (λ (m : ℕ). 2 ^ (64 - power.0) * m) (sym power.1) in
+          (2 ^ (64 - power.0), ap (λ j. 2 ^ j) parts ∙ pow-add 2 (64 - power.0) power.0 ∙ back)
       | inr high ↦ absurd (omega (arith, power.1, pow_mono high))
     ]
 
@@ -51,4 +54,5 @@ pub power_of_two-clears : (n align : ℕ) → IsPowerOfTwo align → align < 2 ^
 power_of_two-clears n align power small fits =
     let rest : bit_and n (align - 1) ≡ n % align =
     subst (λ (m : ℕ). bit_and n (m - 1) ≡ n % m) (sym power.1) (and_mask n power.0) in
-    omega (arith, rest, and-not 64 (align - 1) n (omega arith) fits, and_comm (align - 1) n, and_comm n (2 ^ 64 - 1 - (align - 1)))
+    let swapped = and_comm n (2 ^ 64 - 1 - (align - 1)) in
+    omega (arith, rest, and-not 64 (align - 1) n (omega arith) fits, and_comm (align - 1) n, swapped)

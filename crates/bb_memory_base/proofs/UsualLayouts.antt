@@ -19,5 +19,11 @@ usual-accepted size align usual =
     (⊎_elim (λ e. usual-at size align 2 small (omega (arith, e)) (omega (arith, e)) e)
     (⊎_elim (λ e. usual-at size align 3 small (omega (arith, e)) (omega (arith, e)) e)
     (⊎_elim (λ e. usual-at size align 4 small (omega (arith, e)) (omega (arith, e)) e)
+    (⊎_elim (λ e. usual-at size align 5 small (omega (arith, e)) (omega (arith, e)) e)
     (⊎_elim (λ e. usual-at size align 6 small (omega (arith, e)) (omega (arith, e)) e)
-    (λ e. usual-at size align 12 small (omega (arith, e)) (omega (arith, e)) e)))))) usual.power
+    (⊎_elim (λ e. usual-at size align 7 small (omega (arith, e)) (omega (arith, e)) e)
+    (⊎_elim (λ e. usual-at size align 8 small (omega (arith, e)) (omega (arith, e)) e)
+    (⊎_elim (λ e. usual-at size align 9 small (omega (arith, e)) (omega (arith, e)) e)
+    (⊎_elim (λ e. usual-at size align 10 small (omega (arith, e)) (omega (arith, e)) e)
+    (⊎_elim (λ e. usual-at size align 11 small (omega (arith, e)) (omega (arith, e)) e)
+    (λ e. usual-at size align 12 small (omega (arith, e)) (omega (arith, e)) e)))))))))))) usual.power

@@ -37,7 +37,8 @@ drop-over : (xs : List ℕ) (i : ℕ) (ws : List ℕ) → i + length ws ≤ leng
 drop-over xs i ws fits =
     let front : length (take i xs) ≡ i = length-take-le i xs (omega arith) in
     let rest : List ℕ = ws ++ drop (i + length ws) xs in
-    ap (λ n. drop (n + length ws) (over xs i ws)) (sym front) ∙ (drop-append-add (take i xs) rest (length ws) ∙ drop-append_seam ws (drop (i + length ws) xs))
+    ap (λ n. drop (n + length ws) (over xs i ws)) (sym front)
+    ∙ (drop-append-add (take i xs) rest (length ws) ∙ drop-append_seam ws (drop (i + length ws) xs))
 
 -- a chunk inside that is written over whole is all that changes
 pub written-changes : (held : HeldBytes) (chunk : Chunk) (bytes : List ℕ) →
@@ -54,7 +55,8 @@ written-changes held chunk bytes inside len =
       size = ap length whole ∙ length-over xs i bytes fits;
       inside =
           let span : (i + chunk.len) - i ≡ length bytes = omega (arith, len) in
-          ap (λ l. take ((i + chunk.len) - i) (drop i l)) whole ∙ (ap (λ n. take n (drop i (over xs i bytes))) span ∙ part-over xs i bytes fits);
+          ap (λ l. take ((i + chunk.len) - i) (drop i l)) whole
+          ∙ (ap (λ n. take n (drop i (over xs i bytes))) span ∙ part-over xs i bytes fits);
       before = ap (λ l. take i l) whole ∙ take-over xs i bytes fits;
       behind =
           ap (λ l. drop (i + chunk.len) l) whole

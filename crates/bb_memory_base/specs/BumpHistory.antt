@@ -1,5 +1,5 @@
 -- Histories of the bump machine: what happened, step by step.
-use Rattle.std.specs.Prelude.{ℕ, ◌≡◌, ◌==◌, Bool, true, false, List, [], ◌∷◌, ◌++◌, filter, count_by}
+use Rattle.std.specs.Prelude.{ℕ, ◌≡◌, ◌==◌, Bool, true, false, List, [], ◌∷◌, ◌++◌, filter, map, count_by}
 use Rattle.bb_memory_base.specs.Region.{Region}
 use Rattle.bb_memory_base.specs.Chunk.{Chunk}
 use Rattle.bb_memory_base.specs.BumpMachine.{BumpScene, BumpState, opening_state, left_by, bump_step}
@@ -16,23 +16,30 @@ pub record BumpEntry : Type 0 where
 abbrev pub entry_of : BumpStep → BumpOutcome → BumpEntry
 entry_of step outcome = record { step = step; outcome = outcome }
 
+-- a log: entries in order
+abbrev pub BumpLog : Type 0
+BumpLog = List BumpEntry
+
 -- what a step in this state is entered as
 abbrev pub entry_at : Region → BumpState → BumpStep → BumpEntry
 entry_at region state step = entry_of step (bump_step region state step).outcome
 
 -- the entries of a list of steps, in order
-abbrev pub bump_history : Region → BumpState → List BumpStep → List BumpEntry
+abbrev pub bump_history : Region → BumpState → List BumpStep → BumpLog
 bump_history region state [] = []
 bump_history region state (step ∷ steps) =
     entry_at region state step ∷ bump_history region (bump_step region state step).state steps
 
 -- the history of a list of steps from the opening
-abbrev pub history_of : BumpScene → List BumpStep → List BumpEntry
+abbrev pub history_of : BumpScene → List BumpStep → BumpLog
 history_of scene steps = bump_history scene.region (opening_state scene) steps
 
 -- the history of a stretch of steps that comes after a beginning
-abbrev pub stretch_after : BumpScene → List BumpStep → List BumpStep → List BumpEntry
+abbrev pub stretch_after : BumpScene → List BumpStep → List BumpStep → BumpLog
 stretch_after scene before stretch = bump_history scene.region (left_by scene before) stretch
+
+abbrev pub outcomes_of : BumpLog → List BumpOutcome
+outcomes_of history = map (λ entry. entry.outcome) history
 
 -- what a step answers that comes after these
 abbrev pub outcome_after : BumpScene → List BumpStep → BumpStep → BumpOutcome
@@ -47,12 +54,8 @@ is_by party (Exchange other) = other == party
 is_by party (Load other) = other == party
 is_by party Clear = false
 
--- a party's log: its own steps, in order, each with what it found
-abbrev pub BumpLog : Type 0
-BumpLog = List BumpEntry
-
--- a party's own entries of a history
-abbrev pub entries_by : ℕ → List BumpEntry → BumpLog
+-- a party's own entries of a history, in order
+abbrev pub entries_by : ℕ → BumpLog → BumpLog
 entries_by party history = filter (λ entry. is_by party entry.step) history
 
 -- a party's log in a list of steps from the opening
@@ -71,7 +74,7 @@ won_at (Wins chunk) = chunk ∷ []
 won_at _ = []
 
 -- the chunks that were won, in order
-abbrev pub chunks_won : List BumpEntry → List Chunk
+abbrev pub chunks_won : BumpLog → List Chunk
 chunks_won [] = []
 chunks_won (entry ∷ history) = won_at entry.outcome ++ chunks_won history
 

@@ -1,12 +1,14 @@
 -- Parties' logs: what a log says of its party, and when a bump's position and its parties' logs agree.
-use Rattle.std.specs.Prelude.{ℕ, ◌≡◌, List, [], ◌∷◌, ◌++◌, Option, Some, None, All, IfSome, ◌≤◌, fold, option_map, slice_get, slice_set, max}
+use Rattle.std.specs.Prelude.{ℕ, ◌≡◌, List, [], ◌∷◌, ◌++◌, Option, Some, None, All}
+use Rattle.std.specs.Prelude.{IfSome, ◌≤◌, fold, option_map, slice_get, slice_set, max}
 use Rattle.bb_memory_base.specs.Region.{Region}
 use Rattle.bb_memory_base.specs.BumpMachine.{OngoingCall, BumpScene, position_behind, left_by}
 use Rattle.bb_memory_base.specs.BumpHistory.{BumpEntry, BumpLog, history_of, log_of}
 use Rattle.bb_memory_base.specs.declared.steps.bump.BumpStep.{BumpStep}
 use Rattle.bb_memory_base.specs.declared.steps.bump.BumpStep.TheVariants.{Read}
 use Rattle.bb_memory_base.specs.declared.steps.bump.BumpOutcome.{BumpOutcome}
-use Rattle.bb_memory_base.specs.declared.steps.bump.BumpOutcome.TheVariants.{Sees, RefusedAtRead, Wins, Loses, RefusedAtLoss, Loaded, Cleared, Passed}
+use Rattle.bb_memory_base.specs.declared.steps.bump.BumpOutcome.TheVariants.{Sees, RefusedAtRead, Wins, Loses}
+use Rattle.bb_memory_base.specs.declared.steps.bump.BumpOutcome.TheVariants.{RefusedAtLoss, Loaded, Cleared, Passed}
 
 -- THE CALL OF A PARTY
 
@@ -77,7 +79,7 @@ IsAllowed Passed = ⊥
 IsAllowed Cleared = ⊥
 IsAllowed _ = Unit {0}
 
-abbrev pub AllAllowed : List BumpEntry → Type 0
+abbrev pub AllAllowed : BumpLog → Type 0
 AllAllowed history = All (λ entry. IsAllowed entry.outcome) history
 
 -- the party's log stands in the list of logs, at the party's number

@@ -1,6 +1,7 @@
 -- The bump machine: what any number of parties do to one position, one atomic step at a time. A party goes by its number,
 -- from 0.
-use Rattle.std.specs.Prelude.{ℕ, ◌≡◌, ◌+◌, ◌-◌, ◌<◌, ◌==◌, nat_le, Bool, true, List, [], ◌∷◌, Option, Some, None, if◌then◌else◌, slice_get, slice_set, replicate}
+use Rattle.std.specs.Prelude.{ℕ, ◌≡◌, ◌+◌, ◌-◌, ◌<◌, ◌==◌, nat_le, Bool, true, List, [], ◌∷◌}
+use Rattle.std.specs.Prelude.{Option, Some, None, if◌then◌else◌, slice_get, slice_set, replicate}
 use Rattle.bb_memory_base.specs.Region.{Region, region_end}
 use Rattle.bb_memory_base.specs.Chunk.{Chunk, chunk_end}
 use Rattle.bb_memory_base.specs.BumpObject.{chunk_at_or_after}
@@ -8,7 +9,8 @@ use Rattle.bb_memory_base.specs.declared.layout.Layout.{Layout}
 use Rattle.bb_memory_base.specs.declared.steps.bump.BumpStep.{BumpStep}
 use Rattle.bb_memory_base.specs.declared.steps.bump.BumpStep.TheVariants.{Read, Exchange, Load, Clear}
 use Rattle.bb_memory_base.specs.declared.steps.bump.BumpOutcome.{BumpOutcome}
-use Rattle.bb_memory_base.specs.declared.steps.bump.BumpOutcome.TheVariants.{Sees, RefusedAtRead, Wins, Loses, RefusedAtLoss, Loaded, Cleared, Passed}
+use Rattle.bb_memory_base.specs.declared.steps.bump.BumpOutcome.TheVariants.{Sees, RefusedAtRead, Wins, Loses}
+use Rattle.bb_memory_base.specs.declared.steps.bump.BumpOutcome.TheVariants.{RefusedAtLoss, Loaded, Cleared, Passed}
 
 -- STATES
 

@@ -1,8 +1,8 @@
 -- A bump world: the bump machine over a region.
-use Rattle.std.specs.Prelude.{ℕ, ◌≤◌, List, Option, map}
+use Rattle.std.specs.Prelude.{ℕ, ◌≤◌, List, Option}
 use Rattle.bb_memory_base.specs.Region.{Region, IsRegion}
 use Rattle.bb_memory_base.specs.BumpMachine.{OngoingCall, BumpState, BumpScene, AllFitting, opening_state, bump_step, bump_after}
-use Rattle.bb_memory_base.specs.BumpHistory.{bump_history}
+use Rattle.bb_memory_base.specs.BumpHistory as histories
 use Rattle.bb_memory_base.specs.declared.steps.bump.BumpStep.{BumpStep}
 use Rattle.bb_memory_base.specs.declared.steps.bump.BumpOutcome.{BumpOutcome}
 
@@ -42,7 +42,8 @@ after_step world step = in_state world (bump_step world.region world.state step)
 
 -- the same of a list of steps
 abbrev pub outcomes_of : BumpWorld → List BumpStep → List BumpOutcome
-outcomes_of world steps = map (λ entry. entry.outcome) (bump_history world.region world.state steps)
+outcomes_of world steps =
+    histories.outcomes_of (histories.bump_history world.region world.state steps)
 
 abbrev pub after_steps : BumpWorld → List BumpStep → BumpWorld
 after_steps world steps = in_state world (bump_after world.region world.state steps)

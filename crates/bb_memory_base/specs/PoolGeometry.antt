@@ -23,12 +23,12 @@ abbrev pub bucket_place : PoolGeometry → ℕ → ℕ
 bucket_place geometry i = first_place geometry.region geometry.bucket + i * stride geometry.bucket
 
 -- bucket i with its whole stride ends inside the region
-abbrev pub HasRoom : Region → Layout → ℕ → Type 0
-HasRoom region bucket i = first_place region bucket + (i + 1) * stride bucket ≤ region_end region
+abbrev pub HasBucket : Region → Layout → ℕ → Type 0
+HasBucket region bucket i = first_place region bucket + (i + 1) * stride bucket ≤ region_end region
 
 -- its buckets are just those that the region has room for
 abbrev pub FillsRegion : PoolGeometry → Type 0
-FillsRegion geometry = (i : ℕ) → (i < geometry.buckets) ↔ HasRoom geometry.region geometry.bucket i
+FillsRegion geometry = (i : ℕ) → (i < geometry.buckets) ↔ HasBucket geometry.region geometry.bucket i
 
 -- the region is cut into as many of these buckets as it has room for
 pub record IsCut (whole : Region) (layout : Layout) (geometry : PoolGeometry) : Type 0 where
@@ -44,4 +44,4 @@ at_most constant geometry =
 -- a bucket has a byte, and the region has room for each of its buckets
 pub record IsPoolGeometry (geometry : PoolGeometry) : Type 0 where
   pub filled : 0 < geometry.bucket.size
-  pub room : (i : ℕ) → i < geometry.buckets → HasRoom geometry.region geometry.bucket i
+  pub room : (i : ℕ) → i < geometry.buckets → HasBucket geometry.region geometry.bucket i

@@ -1,5 +1,6 @@
 -- What a party's log says, and when a pool's flags and its parties' logs agree.
-use Rattle.std.specs.Prelude.{ℕ, ◌+◌, ◌≡◌, ◌==◌, Bool, true, false, is_some, nat_lt, if◌then◌else◌, List, [], ◌∷◌, ◌++◌, Option, Some, None, All, fold, map, slice_get, slice_set, unwrap_or}
+use Rattle.std.specs.Prelude.{ℕ, ◌+◌, ◌≡◌, ◌==◌, Bool, true, false, is_some, nat_lt, if◌then◌else◌}
+use Rattle.std.specs.Prelude.{List, [], ◌∷◌, ◌++◌, Option, Some, None, All, fold, map, slice_get, slice_set, unwrap_or}
 use Rattle.bb_memory_base.specs.PoolMachine.{PoolScene, PoolState, left_by}
 use Rattle.bb_memory_base.specs.PoolHistory.{PoolEntry, PoolLog, history_of, log_of}
 use Rattle.bb_memory_base.specs.declared.steps.pool.PoolStep.{PoolStep}

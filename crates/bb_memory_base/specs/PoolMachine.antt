@@ -1,6 +1,7 @@
 -- The pool machine: what any number of parties do to one flag a bucket, one atomic step at a time. Parties and buckets go by
 -- their numbers, from 0.
-use Rattle.std.specs.Prelude.{ℕ, ◌+◌, ◌≡◌, ◌==◌, nat_lt, List, [], ◌∷◌, length, Option, Some, None, if◌then◌else◌, slice_get, slice_set, replicate, unwrap_or}
+use Rattle.std.specs.Prelude.{ℕ, ◌+◌, ◌≡◌, ◌==◌, nat_lt, List, [], ◌∷◌, length, Option, Some}
+use Rattle.std.specs.Prelude.{None, if◌then◌else◌, slice_get, slice_set, replicate, unwrap_or}
 use Rattle.bb_memory_base.specs.PoolGeometry.{PoolGeometry}
 use Rattle.bb_memory_base.specs.declared.steps.pool.PoolStep.{PoolStep}
 use Rattle.bb_memory_base.specs.declared.steps.pool.PoolStep.TheVariants.{Try, GiveBack}

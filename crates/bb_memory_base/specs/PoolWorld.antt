@@ -1,7 +1,7 @@
 -- A pool world: the pool machine over some buckets.
-use Rattle.std.specs.Prelude.{ℕ, ◌<◌, ◌^◌, List, Option, length, map}
+use Rattle.std.specs.Prelude.{ℕ, ◌<◌, ◌^◌, List, Option, length}
 use Rattle.bb_memory_base.specs.PoolMachine.{PoolState, all_free, pool_step, pool_after}
-use Rattle.bb_memory_base.specs.PoolHistory.{pool_history}
+use Rattle.bb_memory_base.specs.PoolHistory as histories
 use Rattle.bb_memory_base.specs.declared.steps.pool.PoolStep.{PoolStep}
 use Rattle.bb_memory_base.specs.declared.steps.pool.PoolOutcome.{PoolOutcome}
 
@@ -29,7 +29,7 @@ after_step world step = (pool_step world step).state
 
 -- the same of a list of steps
 abbrev pub outcomes_of : PoolWorld → List PoolStep → List PoolOutcome
-outcomes_of world steps = map (λ entry. entry.outcome) (pool_history world steps)
+outcomes_of world steps = histories.outcomes_of (histories.pool_history world steps)
 
 abbrev pub after_steps : PoolWorld → List PoolStep → PoolWorld
 after_steps world steps = pool_after world steps

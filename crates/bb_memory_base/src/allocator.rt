@@ -9,12 +9,18 @@ use thiserror::Error;
 /// Why a request was refused.
 #[derive(Debug, Clone, Copy, PartialEq, Eq, Error)]
 pub enum AllocationError {
+    /// The size is 0: of a bump or the heap alone.
     #[error("the requested size is zero")]
     SizeIsZero,
+    /// The size is greater than the bucket's: of a pool alone.
     #[error("the requested size is greater than the bucket size")]
     SizeTooLarge,
+    /// The alignment is greater than the bucket's: of a pool alone.
     #[error("the requested alignment is not supported")]
     AlignmentFailure,
+    /// Of a bump: the chunk would end behind the region. Of the one chunk: a chunk is out, or too little is left behind its
+    /// place. Of a pool: every bucket is held; of a shared one: each was found held at some step of the pass. Of the heap and
+    /// of makers: memory was refused.
     #[error("there is not enough memory available")]
     OutOfMemory,
 }
@@ -22,10 +28,13 @@ pub enum AllocationError {
 /// Why a chunk wasn't grown.
 #[derive(Debug, Clone, Copy, PartialEq, Eq, Error)]
 pub enum AllocationGrowError {
+    /// The new size isn't greater than the old one.
     #[error("the new size is not greater than the old size")]
     GrowWouldShrink,
+    /// The new alignment is greater than the bucket's, of a pool, or than the old one, of the one chunk.
     #[error("the requested alignment is not supported")]
     AlignmentFailure,
+    /// The new size is greater than what is reserved for the chunk. Of the heap: memory was refused.
     #[error("there is not enough memory available")]
     OutOfMemory,
 }
@@ -33,10 +42,13 @@ pub enum AllocationGrowError {
 /// Why a chunk wasn't shrunk.
 #[derive(Debug, Clone, Copy, PartialEq, Eq, Error)]
 pub enum AllocationShrinkError {
+    /// The new size isn't smaller than the old one.
     #[error("the new size is not smaller than the old size")]
     ShrinkWouldGrow,
+    /// The new alignment is greater than the bucket's, of a pool, or than the old one, of the one chunk.
     #[error("the requested alignment is not supported")]
     AlignmentFailure,
+    /// The new size is 0: of the heap alone.
     #[error("the requested size is zero")]
     SizeIsZero,
 }
@@ -59,11 +71,15 @@ pub enum Command {
 pub enum Reply {
     /// The chunk that was given, or the resized one.
     Chunk(Chunk),
+    /// The chunk at the position was given back, or all chunks where a release gives back all at once.
     Released,
     /// The command was passed over: the live list has no such position, or the run makes no such resize.
     Passed,
+    /// The request was refused: no chunk was given.
     Refused(AllocationError),
+    /// The chunk at the position wasn't grown.
     GrowRefused(AllocationGrowError),
+    /// The chunk at the position wasn't shrunk.
     ShrinkRefused(AllocationShrinkError),
 }
 
@@ -121,7 +137,8 @@ pub trait BaseAllocator {
         ensures long_enough { IfOk result (λ chunk. layout.size ≤ chunk.len) }
         ensures geometry { geometry self.new ≡ geometry self.old };
 
-    /// Gives back the chunk at this place, or all chunks where `RELEASE_EMPTIES` is true. The layout decides nothing.
+    /// Gives back the chunk at this place, or all chunks where `RELEASE_EMPTIES` is true. A chunk that is out has to begin at
+    /// the place (a bump asks for nothing). The layout decides nothing.
     fn deallocate(&mut self, place: usize, layout: Layout)
         requires { may_release self.old place }
         ensures released { (live : List Chunk) (position : ℕ) (chunk : Chunk)

@@ -1,5 +1,6 @@
 //! The bytes of a region, lent chunk by chunk.
-ghost use Rattle.std.specs.Prelude.{◌≡◌, ◌≢◌, ◌+◌, ◌∷◌, ◌++◌, [], ◌<◌, ◌≤◌, ◌↔◌, ℕ, List, Some, IsTrue, length, map, slice_get, slice_set, vec_len};
+ghost use Rattle.std.specs.Prelude.{◌≡◌, ◌≢◌, ◌+◌, ◌∷◌, ◌++◌, [], ◌<◌, ◌≤◌, ◌↔◌, ℕ, List};
+ghost use Rattle.std.specs.Prelude.{Some, IsTrue, length, map, slice_get, slice_set, vec_len};
 ghost use Rattle.std.specs.Borrow.{sem};
 ghost use Rattle.bb_memory_base.specs.Region.{IsRegion, region_at};
 ghost use Rattle.bb_memory_base.specs.LiveList.{IsSound};

@@ -2,7 +2,8 @@
 use Rattle.std.proofs.Common.{◌≡◌, ℕ, ◌-◌, ◌<◌, Bool, true, false, sym, subst, arith, None, Result, Ok, Err}
 use Rattle.bb_memory_base.specs.Chunk.{Chunk}
 use Rattle.loan_book.specs.declared.error.LoanError.{LoanError}
-use Rattle.loan_book.specs.declared.error.LoanError.TheVariants.{Size, IdsExhausted, Memory, Allocation, UnknownSample, AlreadyPublished, NoReaders}
+use Rattle.loan_book.specs.declared.error.LoanError.TheVariants.{Size, IdsExhausted, Memory, Allocation}
+use Rattle.loan_book.specs.declared.error.LoanError.TheVariants.{UnknownSample, AlreadyPublished, NoReaders}
 use Rattle.loan_book.specs.declared.run.LoanCall.{LoanCall}
 use Rattle.loan_book.specs.declared.run.LoanCall.TheVariants as call
 use Rattle.loan_book.specs.declared.run.LoanReply.{LoanReply}

@@ -1,5 +1,6 @@
 -- What a run of calls does to one sample, and which ids it gives.
-use Rattle.std.proofs.Common.{◌≡◌, ◌≢◌, ℕ, zero, suc, ◌-◌, ◌<◌, Bool, true, false, cond, List, [], ◌∷◌, refl, ap, sym, ◌∙◌, subst, arith, Option, None, Some, Result, Ok, Err}
+use Rattle.std.proofs.Common.{◌≡◌, ◌≢◌, ℕ, zero, suc, ◌-◌, ◌<◌, Bool, true, false, cond, List, [], ◌∷◌}
+use Rattle.std.proofs.Common.{refl, ap, sym, ◌∙◌, subst, arith, Option, None, Some, Result, Ok, Err}
 use Rattle.std.specs.Prelude.{◌==◌, ◌↔◌}
 use Rattle.std.proofs.lemmas.Bool.Decides.{nat_tests}
 use Rattle.std.proofs.lemmas.List.Sums.{sum_by-cons}
@@ -16,7 +17,8 @@ use Rattle.loan_book.specs.Calls.{Answers, with_returns, without, Loans, Publish
 use Rattle.loan_book.specs.Runs.{BookStep, is_return_of, returns_in, is_publish_of, publishes_in}
 use Rattle.loan_book.proofs.Books.{sample-waits}
 use Rattle.loan_book.proofs.BookLeads.{loan-leads, publish-leads, give-leads, step-sound}
-use Rattle.loan_book.proofs.BookSteps.{HasOrIsGone, push-keeps, set-keeps, own-set, own-remove, remove-keeps, gone-nowhere, one_returns}
+use Rattle.loan_book.proofs.BookSteps.{HasOrIsGone, push-keeps, set-keeps, own-set}
+use Rattle.loan_book.proofs.BookSteps.{own-remove, remove-keeps, gone-nowhere, one_returns}
 
 -- how often a call counts
 abbrev once : Bool → ℕ

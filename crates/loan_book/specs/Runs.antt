@@ -1,5 +1,6 @@
 -- Calls of a loan book one after the other, with one reply each.
-use Rattle.std.specs.Prelude.{◌≡◌, ℕ, Bool, true, false, List, Option, Some, None, IsTrue, ◌↔◌, Ok, Err, ◌==◌, count_by, filter_map}
+use Rattle.std.specs.Prelude.{◌≡◌, ℕ, Bool, true, false, List, Option, Some, None}
+use Rattle.std.specs.Prelude.{IsTrue, ◌↔◌, Ok, Err, ◌==◌, count_by, filter_map}
 use Rattle.loan_book.specs.declared.run.LoanCall.{LoanCall}
 use Rattle.loan_book.specs.declared.run.LoanCall.TheVariants.{Loan, Publish, GiveBack, IsOut}
 use Rattle.loan_book.specs.declared.run.LoanReply.{LoanReply}

@@ -1,5 +1,6 @@
 //! Loan books.
-ghost use Rattle.std.specs.Prelude.{◌≡◌, ◌↔◌, ◌<◌, ◌≤◌, ◌^◌, ℕ, false, [], List, Result, length, IfOk, OnOk, OnErr, IfSome, IfNone, IsTrue};
+ghost use Rattle.std.specs.Prelude.{◌≡◌, ◌↔◌, ◌<◌, ◌≤◌, ◌^◌, ℕ, false, [], List, Result};
+ghost use Rattle.std.specs.Prelude.{length, IfOk, OnOk, OnErr, IfSome, IfNone, IsTrue};
 ghost use Rattle.bb_memory_base.specs.Chunk.{Chunk};
 ghost use Rattle.bb_memory_base.specs.LiveList.{IsSound};
 ghost use Rattle.loan_book.specs.Sample.{Sample};
@@ -84,6 +85,7 @@ impl<A: Allocator> LoanBook<A> {
         ensures kept { OnErr result ((live : List Chunk) → A.stands_for self.old.allocator live
             → A.stands_for self.new.allocator live) }
     {
+        // What the type promises is known from here on.
         let _ = &self.next;
         let Ok(layout) = Layout::from_size_align(size, 1) else {
             return Err(LoanError::Size);
@@ -168,6 +170,7 @@ impl<A: Allocator> LoanBook<A> {
         ensures answer { IsTrue result ↔ IsOut self.now.book id }
         ensures stands { A.stands_for self.now.allocator (chunks_out self.now.book) }
     {
+        // What the type promises is known from here on.
         let _ = &self.next;
         self.position(id).is_some()
     }
@@ -186,6 +189,7 @@ impl<A: Allocator> LoanBook<A> {
             → Loans (A.may_allocate (A.geometry self.now.allocator)) self.now.book size answer next
             → new ≡ next }
     {
+        // What the type promises is known from here on.
         let _ = &self.next;
     }
 

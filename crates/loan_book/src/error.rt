@@ -5,18 +5,25 @@ use thiserror::Error;
 /// Why a call of a loan book was refused.
 #[derive(Debug, Clone, Copy, PartialEq, Eq, Error)]
 pub enum LoanError {
+    /// The size is greater than `isize::MAX`.
     #[error("the sample size is too large")]
     Size,
+    /// The greatest id was loaned before.
     #[error("there are no more sample numbers")]
     IdsExhausted,
+    /// Memory for the sample's record was refused.
     #[error("the record of the sample found no memory")]
     Memory,
+    /// The allocator refused, with this error.
     #[error(transparent)]
     Allocation(AllocationError),
+    /// No sample of this id is out.
     #[error("the sample is not out")]
     UnknownSample,
+    /// The sample was published before.
     #[error("the sample was already published")]
     AlreadyPublished,
+    /// The sample is to be published for 0 readers.
     #[error("the number of readers is zero")]
     NoReaders,
 }

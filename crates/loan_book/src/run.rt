@@ -33,6 +33,7 @@ pub enum LoanCall {
 pub enum LoanReply {
     /// The sample's id and its chunk.
     Loaned(u64, Chunk),
+    /// The sample was published.
     Published,
     /// The return was the last one, and the sample's chunk went back.
     Returned,
@@ -40,6 +41,7 @@ pub enum LoanReply {
     Kept,
     /// Whether the sample is out.
     Out(bool),
+    /// The call was refused, and the book is as it was.
     Refused(LoanError),
 }
 

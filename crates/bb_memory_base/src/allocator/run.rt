@@ -88,8 +88,9 @@ fn apply_base<A: BaseAllocator>(allocator: &mut A, live: &mut Vec<Chunk>, comman
 /// appended to it, and a release takes its chunk out and closes up, or empties it where `RELEASE_EMPTIES` is true. A
 /// command that names no position of `live` is passed over, and so is every resize.
 ///
-/// Memory for the replies and for `live` is reserved first, from `live`'s allocator. Where it is refused, no command is
-/// applied, and the allocator and `live`'s contents are as before.
+/// The allocator has to stand for the live list. Memory for the replies and for `live` is reserved first, from `live`'s
+/// allocator. `AllocError` comes only where memory was refused, and then no command is applied, and the allocator and the list
+/// are as before.
 ///
 /// ```
 /// let (mut bump, mut live) = (BumpAllocator::new(4096, 1024), Vec::new(alloc));
@@ -223,6 +224,9 @@ fn apply_full<A: Allocator>(allocator: &mut A, live: &mut Vec<Chunk>, command: C
 /// Applies the commands in order, resizes too, and answers one reply a command, as [`run_base`] does. A resize replaces its
 /// chunk's length in `live`. It is passed over where `live` has no such position, where the chunk's place is no multiple
 /// of the old alignment, and, to shrink, where the old size exceeds what is reserved for the chunk.
+///
+/// The allocator has to stand for the live list. `AllocError` comes only where memory was refused, and then the allocator and
+/// the list are as before.
 ///
 /// ```
 /// let (mut one, mut live) = (OneChunkAllocator::new(4096, 1024), Vec::new(alloc));

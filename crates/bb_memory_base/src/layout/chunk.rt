@@ -84,7 +84,7 @@ impl Chunk {
     pub fn is_empty(&self) -> bool
         ensures { IsTrue result ↔ (self.now.len ≡ 0) }
     {
-        self.end() == self.place
+        self.len == 0
     }
 
     /// Place plus length.

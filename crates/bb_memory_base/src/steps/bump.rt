@@ -4,10 +4,13 @@ ghost use Rattle.bb_memory_base.specs.Region.{Region};
 ghost use Rattle.bb_memory_base.specs.Chunk.{Chunk, AreApart};
 ghost use Rattle.bb_memory_base.specs.LiveList.{IsSound};
 ghost use Rattle.bb_memory_base.specs.BumpObject.{StandsFor, used_space};
-ghost use Rattle.bb_memory_base.specs.BumpMachine.{BumpScene, OngoingCall, IsIdle, IsFitting, IsInCall, exchange_move, left_by, read_move};
-ghost use Rattle.bb_memory_base.specs.BumpHistory.{BumpLog, HasNoClear, IsLossAt, chunks_won, calls_begun_in, entries_by, entry_of, history_of, log_of, losses_in, outcome_after, stretch_after};
+ghost use Rattle.bb_memory_base.specs.BumpMachine.{BumpScene, OngoingCall, IsIdle, IsFitting};
+ghost use Rattle.bb_memory_base.specs.BumpMachine.{IsInCall, exchange_move, left_by, read_move};
+ghost use Rattle.bb_memory_base.specs.BumpHistory.{BumpLog, HasNoClear, IsLossAt, chunks_won, calls_begun_in, entries_by};
+ghost use Rattle.bb_memory_base.specs.BumpHistory.{entry_of, history_of, log_of, losses_in, outcome_after, stretch_after};
 ghost use Rattle.bb_memory_base.specs.BumpCalls.{IsCallRun, OpensWith, calls_after, calls_of, live_after};
-ghost use Rattle.bb_memory_base.specs.BumpLogs.{AllAllowed, CommonInterleaving, HasLog, Interleaving, LogsAgree, HasPositionUpTo, call_in, call_through, greatest_in, seen_in, with_entry};
+ghost use Rattle.bb_memory_base.specs.BumpLogs.{AllAllowed, CommonInterleaving, HasLog, Interleaving, LogsAgree};
+ghost use Rattle.bb_memory_base.specs.BumpLogs.{HasPositionUpTo, call_in, call_through, greatest_in, seen_in, with_entry};
 ghost use Rattle.bb_memory_base.specs.declared.layout.Layout.{Layout};
 ghost use Rattle.bb_memory_base.specs.declared.steps.bump.BumpStep.{BumpStep};
 ghost use Rattle.bb_memory_base.specs.declared.steps.bump.BumpStep.TheVariants.{Read, Exchange, Load};
@@ -42,9 +45,9 @@ pub enum BumpOutcome {
     /// An exchange that found another position, at which the layout doesn't fit. The call is refused, and the party is
     /// idle again.
     RefusedAtLoss(usize),
-    /// A load.
+    /// A load, which found how much is used.
     Loaded(usize),
-    /// A clear.
+    /// A clear. The position is now 0.
     Cleared,
     /// The step isn't allowed, or there is no such party. Nothing changed.
     Passed,

@@ -1,7 +1,8 @@
 //! A bump machine that can be run: a region, a position, and of each party the call that it is in.
 ghost use Rattle.std.specs.Prelude.{◌≡◌, ◌+◌, ◌<◌, ◌≤◌, IfOk, IfSome, IsSome, OnErr, OnOk, Some, None, slice_get, length};
 ghost use Rattle.bb_memory_base.specs.Region.{Region, IsRegion};
-ghost use Rattle.bb_memory_base.specs.BumpMachine.{OngoingCall, IsFitting, PartyMove, ending, seeing, read_move, exchange_move, read, exchange, load};
+ghost use Rattle.bb_memory_base.specs.BumpMachine.{OngoingCall, IsFitting, PartyMove, ending, seeing};
+ghost use Rattle.bb_memory_base.specs.BumpMachine.{read_move, exchange_move, read, exchange, load};
 ghost use Rattle.bb_memory_base.specs.BumpWorld.{BumpWorld, opened, in_state, outcome_of, outcomes_of, after_step, after_steps};
 
 use super::{BumpOutcome, BumpStep};
@@ -136,8 +137,7 @@ impl Model for BumpWorld {
 
 impl BumpWorld {
     /// The machine over the region of `size` bytes at `start`, at position 0, with that many parties, all idle. The start
-    /// has to be greater than 0, start plus size at most `usize::MAX`, and there has to be a party. It is refused only where
-    /// memory was.
+    /// has to be greater than 0, and start plus size at most `usize::MAX`. It is refused only where memory was.
     pub fn new(
         alloc: Global,
         start: usize,
@@ -145,7 +145,6 @@ impl BumpWorld {
         parties: u32,
     ) -> Result<BumpWorld, AllocError>
         requires region { IsRegion (record { start = start; size = size }) }
-        requires parties { 1 ≤ parties }
         ensures opened { let region : Region = record { start = start; size = size } in
             IfOk result (λ world. world ≡ opened region parties) }
     {

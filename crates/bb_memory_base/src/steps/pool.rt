@@ -1,5 +1,6 @@
 //! The pool machine's steps, and what holds of every list of them.
-ghost use Rattle.std.specs.Prelude.{◌≡◌, ◌<◌, ◌≤◌, ◌↔◌, ℕ, Bool, true, false, List, [], Some, All, drop, length, replicate, slice_get, slice_set, take};
+ghost use Rattle.std.specs.Prelude.{◌≡◌, ◌<◌, ◌≤◌, ◌↔◌, ℕ, Bool, true, false, List, [], Some, All, drop};
+ghost use Rattle.std.specs.Prelude.{length, replicate, slice_get, slice_set, take};
 ghost use Rattle.bb_memory_base.specs.Region.{Region};
 ghost use Rattle.bb_memory_base.specs.Chunk.{Chunk};
 ghost use Rattle.bb_memory_base.specs.LiveList.{IsSound};
@@ -8,7 +9,8 @@ ghost use Rattle.bb_memory_base.specs.PoolObject.{IsHeld};
 ghost use Rattle.bb_memory_base.specs.PoolMachine.{PoolScene, IsHolder, IsTaken, left_by};
 ghost use Rattle.bb_memory_base.specs.PoolHistory.{PoolLog, entry_of, history_of, log_of};
 ghost use Rattle.bb_memory_base.specs.PoolCalls.{AreAsked, IsCallRun, IsPoolRun, IsRefusedAt, LosesAt, FoundHeld};
-ghost use Rattle.bb_memory_base.specs.PoolLogs.{AllAllowed, CommonInterleaving, HasLog, Interleaving, IsHeldAfter, LogsAgree, loss_at, next_bucket, pass_in, with_entry};
+ghost use Rattle.bb_memory_base.specs.PoolLogs.{AllAllowed, CommonInterleaving, HasLog, Interleaving, IsHeldAfter};
+ghost use Rattle.bb_memory_base.specs.PoolLogs.{LogsAgree, loss_at, next_bucket, pass_in, with_entry};
 ghost use Rattle.bb_memory_base.specs.declared.layout.Layout.{Layout};
 ghost use Rattle.bb_memory_base.specs.declared.steps.pool.PoolStep.{PoolStep};
 ghost use Rattle.bb_memory_base.specs.declared.steps.pool.PoolStep.TheVariants.{Try, GiveBack};

@@ -22,7 +22,10 @@ loop-command-preserved g c =
     c.loop-command.invariant.geometry c.apply_base-reply.ensures.step in
     let Here : Layout → Chunk → Type 0 = Fits (A.region_of (A.geometry c.args.allocator.now)) in
     record {
-      run = rw (done, c.push_reserved.ensures.items) (IsRun-push (step_at (A.geometry c.args.allocator.now)) c.args.live.now.items live c.apply_base-reply.new.live.items (take i commands) c.loop-command.replies.items command c.apply_base-reply.result c.loop-command.invariant.run step);
+      run = rw (done, c.push_reserved.ensures.items)
+          (IsRun-push (step_at (A.geometry c.args.allocator.now)) c.args.live.now.items live
+          c.apply_base-reply.new.live.items (take i commands) c.loop-command.replies.items command
+          c.apply_base-reply.result c.loop-command.invariant.run step);
       fits = rw (done, c.push_reserved.ensures.items) (EachGiven-push Here (take i commands) c.loop-command.replies.items command
           c.apply_base-reply.result (omega (arith, length-take-le i commands (omega arith))) c.loop-command.invariant.fits
           (λ layout chunk asked given. subst (λ (geometry : A.Geometry). Fits (A.region_of geometry) layout chunk)

@@ -15,7 +15,8 @@ pub loop-command-preserved : goal.loop-command-preserved
 loop-command-preserved g c =
     let A = g.A.BaseAllocator in
     let B = g.A.Allocator in
-    let step_at = λ (x : A.Geometry × B.Figures). ResizableStep (resizable_object_of (A.may_allocate x.0) (B.reserved_at x.1) (B.may_grow x.1) (B.may_shrink x.1)) in
+    let step_at = λ (x : A.Geometry × B.Figures). ResizableStep
+    (resizable_object_of (A.may_allocate x.0) (B.reserved_at x.1) (B.may_grow x.1) (B.may_shrink x.1)) in
     let same = c.loop-command.invariant.geometry in
     let figures = g.met.A.Allocator.fixed c.loop-command.allocator c.args.allocator.now same in
     let commands = c.args.commands.now in
@@ -26,10 +27,14 @@ loop-command-preserved g c =
     let live = c.loop-command.live.items in
     let reply = c.apply_full-reply.result in
     let left = c.apply_full-reply.new.live.items in
-    let step = subst (λ (x : A.Geometry × B.Figures). step_at x live command reply left) (pair same figures) c.apply_full-reply.ensures.step in
+    let step = subst (λ (x : A.Geometry × B.Figures). step_at x live command reply left)
+    (pair same figures) c.apply_full-reply.ensures.step in
     let Here : Layout → Chunk → Type 0 = Fits (A.region_of (A.geometry c.args.allocator.now)) in
     record {
-      run = rw (done, c.push_reserved.ensures.items) (IsRun-push (step_at (A.geometry c.args.allocator.now, B.figures c.args.allocator.now)) c.args.live.now.items live left (take i commands) c.loop-command.replies.items command reply c.loop-command.invariant.run step);
+      run = rw (done, c.push_reserved.ensures.items)
+          (IsRun-push (step_at (A.geometry c.args.allocator.now, B.figures c.args.allocator.now))
+          c.args.live.now.items live left (take i commands) c.loop-command.replies.items command reply
+          c.loop-command.invariant.run step);
       fits = rw (done, c.push_reserved.ensures.items) (EachGiven-push Here (take i commands) c.loop-command.replies.items command
           c.apply_full-reply.result (omega (arith, length-take-le i commands (omega arith))) c.loop-command.invariant.fits
           (λ layout chunk asked given. subst (λ (geometry : A.Geometry). Fits (A.region_of geometry) layout chunk)

@@ -11,7 +11,8 @@ invariant-loop-command g l =
     let B = g.A.Allocator in
     let figures = B.figures l.fn.allocator in
     record {
-      run : IsRun (ResizableStep (resizable_object_of (A.may_allocate (A.geometry l.fn.allocator)) (B.reserved_at figures) (B.may_grow figures) (B.may_shrink figures)))
+      run : IsRun (ResizableStep (resizable_object_of
+          (A.may_allocate (A.geometry l.fn.allocator)) (B.reserved_at figures) (B.may_grow figures) (B.may_shrink figures)))
           l.fn.live.items (take l.command-index l.commands) l.replies.items l.live.items;
       fits : EachGiven (Fits (A.region_of (A.geometry l.fn.allocator))) (take l.command-index l.commands) l.replies.items;
       stands : A.stands_for l.allocator l.live.items;

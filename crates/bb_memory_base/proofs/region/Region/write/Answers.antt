@@ -15,15 +15,15 @@ pub returns-clause-apart : goal.returns-clause-apart
 returns-clause-apart c = λ other within apart.
     let copied : c.copy_from_slice.new.self ≡ c.args.bytes.now = search rules in
     let changes = written-changes c.args.self.now c.args.c c.args.bytes.now c.requires.inside c.requires.len in
-    rw copied (apart-kept c.args.self.now (written c.args.self.now c.args.c c.args.bytes.now) c.args.c other c.args.bytes.now changes
-    c.requires.inside within apart)
+    rw copied (apart-kept c.args.self.now (written c.args.self.now c.args.c c.args.bytes.now) c.args.c other
+    c.args.bytes.now changes c.requires.inside within apart)
 
 pub returns-clause-others : goal.returns-clause-others
 returns-clause-others c = λ live i k other sound at differ there.
     let copied : c.copy_from_slice.new.self ≡ c.args.bytes.now = search rules in
     let changes = written-changes c.args.self.now c.args.c c.args.bytes.now c.requires.inside c.requires.len in
-    rw copied (others_kept c.args.self.now (written c.args.self.now c.args.c c.args.bytes.now) live i k c.args.c other c.args.bytes.now
-    sound at changes differ there)
+    rw copied (others_kept c.args.self.now (written c.args.self.now c.args.c c.args.bytes.now) live i k c.args.c other
+    c.args.bytes.now sound at changes differ there)
 
 pub returns-clause-contents : goal.returns-clause-contents
 returns-clause-contents c = λ live i sound at.
@@ -43,5 +43,5 @@ pub returns-clause-extended : goal.returns-clause-extended
 returns-clause-extended c = λ place n above behind.
     let copied : c.copy_from_slice.new.self ≡ c.args.bytes.now = search rules in
     let changes = written-changes c.args.self.now c.args.c c.args.bytes.now c.requires.inside c.requires.len in
-    rw copied (extended-bytes c.args.self.now (written c.args.self.now c.args.c c.args.bytes.now) place n c.args.c c.args.bytes.now
-    c.requires.inside changes above behind)
+    rw copied (extended-bytes c.args.self.now (written c.args.self.now c.args.c c.args.bytes.now) place n c.args.c
+    c.args.bytes.now c.requires.inside changes above behind)

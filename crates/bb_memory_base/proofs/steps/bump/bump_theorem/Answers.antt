@@ -1,5 +1,6 @@
 use Rattle.bb_memory_base.proofs.LiveLists.{stands_for_some}
-use Rattle.bb_memory_base.proofs.BumpRuns.{calls_run, calls_beginning, run_at_step, calls_stand, position_used, live_sound, load_finds}
+use Rattle.bb_memory_base.proofs.BumpRuns.{calls_run, calls_beginning, run_at_step}
+use Rattle.bb_memory_base.proofs.BumpRuns.{calls_stand, position_used, live_sound, load_finds}
 use Rattle.bb_memory_base.proofs.BumpStretches.{live_grows, won_sound}
 use Rattle.bb_memory_base.proofs.BumpLosses.{losses_raise, losses_few}
 use Rattle.bb_memory_base.proofs.BumpBounds.{position_in_size, seen_in_size}

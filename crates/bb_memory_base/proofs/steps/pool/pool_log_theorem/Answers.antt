@@ -1,7 +1,8 @@
 use Rattle.std.proofs.Common.{sym, subst}
 use Rattle.bb_memory_base.specs.PoolHistory.{PoolLog}
 use Rattle.bb_memory_base.specs.PoolLogs.{IsHeldAfter}
-use Rattle.bb_memory_base.proofs.PoolLogFacts.{logs_apart, free_not_held, held_is_taken, taken_is_held_alone, length-flags, nobody_else, interleaved_log, interleaved_logs}
+use Rattle.bb_memory_base.proofs.PoolLogFacts.{logs_apart, free_not_held, held_is_taken, taken_is_held_alone}
+use Rattle.bb_memory_base.proofs.PoolLogFacts.{length-flags, nobody_else, interleaved_log, interleaved_logs}
 use Rattle.bb_memory_base.proofs.PoolLogSteps.{opening_agrees, take_agrees, lose_agrees, give_agrees, log_pass}
 use Rattle.bb_memory_base.proofs.PoolHolders.{one_holder}
 use Rattle.bb_memory_base.proofs.PoolLogRuns.{flags_run}

@@ -16,6 +16,7 @@ invariant_of-self c =
     record {
       region = c.self.invariant.region;
       within = subst (λ (turn : PartyMove). turn.position ≤ old.region.size) left c.of_exchange-turn.ensures.within;
-      fitting = all_fitting-set old.region old.state c.turn.inside.position c.args.party c.turn.inside.call c.self.invariant.fitting
+      fitting = all_fitting-set old.region old.state c.turn.inside.position c.args.party c.turn.inside.call
+          c.self.invariant.fitting
           (subst (λ (turn : PartyMove). IfSome turn.call (IsFitting old.region)) left c.of_exchange-turn.ensures.fitting);
     }

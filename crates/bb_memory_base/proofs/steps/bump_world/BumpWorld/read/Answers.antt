@@ -10,6 +10,8 @@ invariant_of-self c =
     record {
       region = c.self.invariant.region;
       within = c.self.invariant.within;
-      fitting = all_fitting-set old.region old.state c.self.inside.position c.args.party c.turn.inside.call c.self.invariant.fitting
-          (subst (λ (turn : PartyMove). IfSome turn.call (IsFitting old.region)) (sym c.turn.view_is) c.of_read-turn.ensures.fitting);
+      fitting = all_fitting-set old.region old.state c.self.inside.position c.args.party c.turn.inside.call
+          c.self.invariant.fitting
+          (subst (λ (turn : PartyMove). IfSome turn.call (IsFitting old.region))
+          (sym c.turn.view_is) c.of_read-turn.ensures.fitting);
     }
