@@ -272,12 +272,12 @@ pub fn shared_pool_law()
         (live : List Chunk) → IsHistoryRun party is layouts live
         → IsSound party.allocator.scene.geometry.region live }
 
-    // Where the log ends with a pass that was refused, that pass has found each bucket held in the
-    // run, each at a step of its own.
-    ensures refused { (party : PoolParty) (is : IsParty party) (before : PoolLog)
+    // Wherever the log has a pass that was refused, that pass has found each bucket held in the run,
+    // each at a step of its own.
+    ensures refused { (party : PoolParty) (is : IsParty party) (before after : PoolLog)
         → let buckets = party.allocator.scene.geometry.buckets in
-        0 < buckets → party.log ≡ before ++ refused_pass buckets party.number
-        → HasFoundAllHeld party is }
+        let beginning = before ++ refused_pass buckets party.number in
+        0 < buckets → party.log ≡ beginning ++ after → HasFoundAllHeld party is beginning }
 
     // Two parties that met have one history together, whose takings and returns are a run too: one
     // run has those of both.
