@@ -21,10 +21,6 @@ pub trait IndexSet: Drop {
     /// How many words a set of this bound has that are read through a counter.
     ghost words: { ℕ → ℕ };
 
-    /// Every number that the set may have is below the bound.
-    fn bound(&self) -> u32
-        ensures { result ≡ length (numbers self.now) };
-
     /// Puts a number that isn't in the set into it, and answers that number. There is none exactly where every number is
     /// in the set. The counter has to stand at 0, and ends at how many words were read: one, or none where there is none.
     fn take(&mut self, counter: &mut Counter) -> Option<usize>
