@@ -5,11 +5,11 @@ use Rattle.std.proofs.lemmas.List.FromFn.{length-map-range_with_len, get_or-map-
 use Rattle.std.proofs.lemmas.Bool.{cases_eq, cases_lt, false≢true}
 use Rattle.std.proofs.lemmas.Nat.Bits.{bit_at_clear_same, bit_at_clear_other, bit_at-zero, bit_at_ones, bit_at_mask_inside, bit_at_mask_below, ones_shl}
 use Rattle.std.proofs.lemmas.Option.{slice_get-get_or, slice_get_within}
-use Rattle.std.specs.Prelude.{bit_and, Some, slice_get, IsTrue, ◌↔◌}
+use Rattle.std.specs.Prelude.{bit_and, Some, slice_get, slice_index, IsTrue, ◌↔◌}
 use Rattle.std.specs.Int.{bit_at, bit_not}
 use Rattle.bb_memory.specs.IndexWords.{index_words}
 use Rattle.bb_memory.specs.NumberSet.{Has, Lacks, IsFull}
-use Rattle.bb_memory.specs.Words.{has_bit, numbers_of, AreFull, AreIndexWords, SetsBit}
+use Rattle.bb_memory.specs.Words.{has_bit, numbers_of, AreIndexWords, SetsBit}
 
 -- a set has a flag for each number below its bound
 pub length-numbers_of : (bound : ℕ) (words : List ℕ) → length (numbers_of bound words) ≡ bound
@@ -87,6 +87,10 @@ module _ (bound : ℕ) (words new : List ℕ) (number : ℕ) (flag : Bool) (belo
     count = sets.len ∙ are.count;
     past = λ n past h. sets.others n (omega arith) ∙ are.past n past (omega (arith, sets.len));
   }
+
+-- every word from one up to another is all ones
+abbrev pub AreFull : List ℕ → ℕ → ℕ → Type 0
+AreFull words from to = (at : ℕ) → from ≤ at → at < to → slice_index words at ≡ 2 ^ 64 - 1
 
 -- with every word full, every number is in the set
 pub full_words : (bound : ℕ) (words : List ℕ) → AreIndexWords bound words → AreFull words 0 (length words) →

@@ -3,8 +3,9 @@ use Rattle.std.proofs.Common.{◌≡◌, ◌≢◌, ℕ, ◌+◌, ◌-◌, ◌^�
 use Rattle.std.specs.List.{range_with_len}
 use Rattle.std.proofs.lemmas.Bool.{cases_eq, cases_lt, ne_eqb}
 use Rattle.std.proofs.lemmas.List.FromFn.{length-map-range_with_len, get_or-map-range_with_len}
-use Rattle.bb_memory.specs.Words.{IsListing, IsWordSet, PutsAt, AreFull, AreIndexWords, open_word}
+use Rattle.bb_memory.specs.Words.{IsListing, IsWordSet, PutsAt, AreIndexWords, open_word}
 use Rattle.bb_memory.specs.IndexWords.{index_words}
+use Rattle.bb_memory.proofs.NumberWords.{AreFull}
 use Rattle.bb_memory.proofs.Listings.{IsStack, filled, still_open, opened, still, room_in}
 
 -- THE WORD IN HAND ON TOP OF THE LIST

@@ -1,12 +1,12 @@
 -- How a request goes on: from its read to the step that decides it.
-use Rattle.std.proofs.Common.{◌≡◌, ◌≢◌, ℕ, ◌<◌, ◌≤◌, [], ◌∷◌, ◌++◌, Bool, true, false, refl, sym, ap, ◌∙◌, subst, arith, append_assoc, Some, eq-eqb, ne_eqb}
+use Rattle.std.proofs.Common.{◌≡◌, ◌≢◌, ℕ, ◌+◌, ◌<◌, ◌≤◌, [], ◌∷◌, ◌++◌, Bool, true, false, refl, sym, ap, ◌∙◌, subst, arith, append_assoc, Some, eq-eqb, ne_eqb}
 use Rattle.std.specs.Prelude.{if◌then◌else◌}
 use Rattle.std.proofs.lemmas.List.Elements.{All-from_recursion}
 use Rattle.atomic_table.specs.Table.{Me}
 use Rattle.bb_memory_base.specs.Region.{Region, region_end}
 use Rattle.bb_memory_base.specs.Chunk.{Chunk, chunk_end}
 use Rattle.bb_memory_base.specs.BumpMachine.{BumpScene, OngoingCall, chunk_at, ending, exchange_move, fits, loss_move, position_behind, read_move, seeing}
-use Rattle.bb_memory_base.specs.BumpHistory.{BumpLog, entry_of, is_loss}
+use Rattle.bb_memory_base.specs.BumpHistory.{BumpLog, chunks_won, entry_of, is_loss, losses_in}
 use Rattle.bb_memory_base.specs.BumpLogs.{HasPositionFrom, HasPositionUpTo, call_after, call_in, seen_in}
 use Rattle.bb_memory_base.specs.declared.layout.Layout.{Layout}
 use Rattle.bb_memory_base.specs.declared.steps.bump.BumpStep.TheVariants.{Read, Exchange}
@@ -15,10 +15,24 @@ use Rattle.bb_memory_base.specs.declared.steps.bump.BumpOutcome.TheVariants.{See
 use Rattle.bb_memory_base.proofs.BumpRuns.{chunk_at-above}
 use Rattle.bb_memory.specs.Seats.{number_of, view_log}
 use Rattle.bb_memory.specs.SharedBumpRule.{IsSeatOf, SeatView}
-use Rattle.bb_memory.specs.SharedBump.{at_loss, at_read, by_loss, by_read}
-use Rattle.bb_memory.specs.SharedBumpSteps.{HasRefused, HasWon, IsCounted, IsTrying, Tells, TellsExchange, TellsRead}
+use Rattle.bb_memory.specs.SharedBump.{Tries, at_loss, at_read, by_loss, by_read}
+use Rattle.bb_memory.specs.SharedBumpSteps.{HasRefused, HasWon, IsCounted, Tells, TellsExchange, TellsRead}
 use Rattle.bb_memory.proofs.SharedBumpTries.{counted_more, losses_more, won_then}
 use Rattle.bb_memory.proofs.SharedLogs.{call_next, losses_in-cons, seen_next}
+
+-- A request under way: the party has tried so, and has seen `last`, which is no more than what its log says. Each loss has
+-- raised that by one at least, and none of these steps has won a chunk.
+pub record IsTrying (scene : BumpScene) (number : ℕ) (log : BumpLog) (layout : Layout) (last : ℕ)
+    (me : Me ℕ SeatView) : Type 0 where
+  pub tried : BumpLog
+  pub seat : IsSeatOf scene number (log ++ tried) me
+  pub tries : Tries scene.region number layout tried last
+  pub counted : IsCounted scene log tried
+  pub few : losses_in tried + seen_in scene log ≤ last
+  pub chunks : chunks_won tried ≡ []
+  pub within : last ≤ scene.region.size
+  pub call : call_in (log ++ tried) ≡ Some (record { layout = layout; seen = last })
+  pub seen : last ≤ seen_in scene (log ++ tried)
 
 -- WHAT THE MACHINE ANSWERS, BY ITS TESTS
 

@@ -18,10 +18,6 @@ pub record SetsBit (words : List ℕ) (number : ℕ) (flag : Bool) (new : List �
 unfoldable pub numbers_of : ℕ → List ℕ → List Bool
 numbers_of bound words = map (has_bit words) (range_with_len 0 bound)
 
--- every word from one up to another is all ones
-abbrev pub AreFull : List ℕ → ℕ → ℕ → Type 0
-AreFull words from to = (at : ℕ) → from ≤ at → at < to → slice_index words at ≡ 2 ^ 64 - 1
-
 -- there are just the words that the bound needs, and their bits from the bound on are set
 pub record AreIndexWords (bound : ℕ) (words : List ℕ) : Type 0 where
   pub count : length words ≡ index_words bound
