@@ -248,10 +248,12 @@ impl BaseAllocator for OneChunkAllocator {
     }
 
     fn stands_for_some_list(&self) {
+        // What the type promises is known from here on.
         let _ = &self.start;
     }
 
     fn answers_fit(&self) {
+        // What the type promises is known from here on.
         let _ = &self.start;
     }
 
@@ -277,7 +279,7 @@ impl Allocator for OneChunkAllocator {
 
     ghost may_shrink = { λ region live. MayShrink };
 
-    /// How many bytes there are from the chunk's place to the region's end.
+    /// How many bytes there are from the chunk's place to the region's end. The place has to be that of the chunk that is out.
     #[inline]
     fn reserved(&self, place: usize) -> usize
         requires { self.now.kept ≡ Some place }
@@ -290,7 +292,8 @@ impl Allocator for OneChunkAllocator {
 
     /// Gives the chunk all that is reserved for it. It is refused in this order: with `GrowWouldShrink` where the new size
     /// isn't greater than the old one, with `AlignmentFailure` where the new alignment is greater than the old one, and
-    /// with `OutOfMemory` where less than the new size is reserved. The allocator stays as it was.
+    /// with `OutOfMemory` where less than the new size is reserved. The allocator stays as it was. The place has to be that of
+    /// the chunk that is out and a multiple of the old alignment.
     #[inline]
     fn grow(&mut self, place: usize, old: Layout, new: Layout) -> Result<Chunk, AllocationGrowError>
         requires live { self.old.kept ≡ Some place }
@@ -321,7 +324,8 @@ impl Allocator for OneChunkAllocator {
 
     /// Gives the chunk exactly the new size. It is refused in this order: with `ShrinkWouldGrow` where the new size isn't
     /// smaller than the old one, and with `AlignmentFailure` where the new alignment is greater than the old one. The
-    /// allocator stays as it was.
+    /// allocator stays as it was. The place has to be that of the chunk that is out and a multiple of the old alignment, and the
+    /// old size at most what is reserved.
     #[inline]
     fn shrink(
         &mut self,
@@ -343,6 +347,7 @@ impl Allocator for OneChunkAllocator {
         ensures inside { IfOk result (IsInside self.old.region) }
         ensures still { self.new ≡ self.old }
     {
+        // What the type promises is known from here on.
         let _ = &self.start;
         if old.size() <= new.size() {
             return Err(AllocationShrinkError::ShrinkWouldGrow);
@@ -354,7 +359,8 @@ impl Allocator for OneChunkAllocator {
     }
 
     /// Grows the chunk as `grow` does, and makes the bytes behind its old size zero, up to the region's end. Every other byte of
-    /// the region stays, and after a refusal all do. The region's start and size have to be those of the allocator's maker.
+    /// the region stays, and after a refusal all do. The place has to be that of the chunk that is out and a multiple of the old
+    /// alignment, and the region's start and size have to be those of the allocator's maker.
     #[inline]
     fn grow_zeroed(
         &mut self,
@@ -399,7 +405,8 @@ impl Allocator for OneChunkAllocator {
 }
 
 /// Applies the commands in order, as [`run_full`] does: the replies and the live list are a run of the one-chunk object over
-/// the allocator's region, and the list is sound afterwards.
+/// the allocator's region, and the list is sound afterwards. The allocator has to stand for the live list. `AllocError` comes
+/// only where memory was refused, and then the allocator and the list are as before.
 pub fn run_one_chunk(
     allocator: &mut OneChunkAllocator,
     live: &mut Vec<Chunk>,

@@ -367,10 +367,12 @@ impl<A: LanguageAllocator> BaseAllocator for PoolAllocator<A> {
     }
 
     fn stands_for_some_list(&self) {
+        // What the type promises is known from here on.
         let _ = &self.last_search;
     }
 
     fn answers_fit(&self) {
+        // What the type promises is known from here on.
         let _ = &self.last_search;
     }
 
@@ -455,7 +457,8 @@ impl<A: LanguageAllocator> Allocator for PoolAllocator<A> {
     }
 
     /// Grows the chunk as `grow` does, and makes the bytes behind its old size zero, up to the new one. Every other byte of the
-    /// region stays, and after a refusal all do. The region's start and size have to be those of the pool's maker.
+    /// region stays, and after a refusal all do. The place has to be a held bucket's and a multiple of the old alignment, and the
+    /// region's start and size have to be those of the pool's maker.
     #[inline]
     fn grow_zeroed(
         &mut self,

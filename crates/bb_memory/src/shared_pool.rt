@@ -21,7 +21,7 @@ mod flags;
 mod party;
 mod rule;
 
-use crate::allocator::{AllocationError, AllocationGrowError, AllocationShrinkError};
+pub use crate::allocator::{AllocationError, AllocationGrowError, AllocationShrinkError};
 use crate::layout::{Chunk, Layout};
 use crate::pool_allocator::geometry::Geometry;
 pub use bucket::Bucket;
@@ -64,7 +64,8 @@ impl SharedPoolAllocator {
     /// A pool over the region of `size` bytes at `start`, cut into buckets of this layout, with no bucket held, and its
     /// parties, numbered from 0. The start has to be greater than 0; start plus size, and the start rounded up to the bucket's
     /// alignment, at most `usize::MAX`; the bucket's size greater than 0; the buckets fewer than `u32::MAX`, and the parties at
-    /// least 1. Its only refusal is `OutOfMemory`, where a request for memory was refused.
+    /// least 1. [`PoolAllocator::can_make`](crate::pool_allocator::PoolAllocator::can_make) tests all but the parties. Its only
+    /// refusal is `OutOfMemory`, where a request for memory was refused.
     pub fn new(
         alloc: Global,
         bucket_layout: Layout,
@@ -144,7 +145,7 @@ impl SharedPoolAllocator {
         self.buckets.free(party, bucket);
     }
 
-    /// Tells that two parties hold different buckets. It changes nothing: it loads a word four times, and adds nothing to a log. The
+    /// Two parties meet: no bucket is held by both. It loads a word four times, which is in no log, and changes nothing. The
     /// parties have to be this pool's.
     pub fn meet(&self, a: &mut PoolParty, b: &mut PoolParty)
         requires a { a.old.allocator ≡ self.now }
