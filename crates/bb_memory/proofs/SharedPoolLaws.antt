@@ -1,5 +1,6 @@
 -- What a party's history says.
-use Rattle.std.proofs.Common.{◌≡◌, ◌≢◌, ℕ, zero, suc, ◌+◌, ◌<◌, ◌≤◌, Bool, true, false, List, [], ◌∷◌, ◌++◌, Some, take, sym, ◌∙◌, ap, subst, add-one, append_assoc, arith, inl, inr, ◌⊎◌}
+use Rattle.std.proofs.Common.{◌≡◌, ◌≢◌, ℕ, zero, suc, ◌+◌, ◌<◌, ◌≤◌, Bool, true, false, List, [], ◌∷◌, ◌++◌}
+use Rattle.std.proofs.Common.{Some, take, sym, ◌∙◌, ap, subst, add-one, append_assoc, arith, inl, inr, ◌⊎◌}
 use Rattle.std.specs.Prelude.{filter, if◌then◌else◌, slice_get}
 use Rattle.std.proofs.lemmas.Bool.{cases_Bool, cases_lt, le-ltb}
 use Rattle.std.proofs.lemmas.Option.{slice_get_within}
@@ -22,7 +23,8 @@ use Rattle.bb_memory_base.proofs.PoolPasses.{refused_found_held}
 use Rattle.bb_memory_base.proofs.PoolRuns.{pool_run, run_is_sound, taken_is_held}
 use Rattle.bb_memory_base.proofs.PoolSteps.{length-left_by}
 use Rattle.bb_memory.specs.Pool.{AreAStrideApart}
-use Rattle.bb_memory.specs.SharedPool.{AreInterleaved, HasFoundAllHeld, IsHistoryRun, IsParty, PoolParty, SharedPool, TakenBucket, chunk_of, losses, refused_pass}
+use Rattle.bb_memory.specs.SharedPool.{AreInterleaved, HasFoundAllHeld, IsHistoryRun, IsParty, PoolParty}
+use Rattle.bb_memory.specs.SharedPool.{SharedPool, TakenBucket, chunk_of, losses, refused_pass}
 
 pub history_run : (party : PoolParty) (is : IsParty party) (layouts : List Layout) →
     AreAsked party.allocator.scene.geometry is.interleaved.steps layouts →
@@ -203,7 +205,8 @@ both_held a b met layouts live bucket is run held =
     let scene = a.allocator.scene in
     elim held [
       | inl own ↦ (held_in_list scene met.steps a.number bucket a.log layouts live is.scene.geometry met.logged run own).1
-      | inr others ↦ (held_in_list scene met.steps b.number bucket b.log layouts live is.scene.geometry met.other_logged run others).1
+      | inr others ↦
+          (held_in_list scene met.steps b.number bucket b.log layouts live is.scene.geometry met.other_logged run others).1
     ]
 
 -- no bucket is held after both their logs

@@ -12,7 +12,8 @@ pub use crate::index_set::index_words::Counter;
 
 /// A set of numbers below a bound. It is empty when it is made.
 pub trait IndexSet: Drop {
-    ghost use Rattle.std.specs.Prelude.{◌≡◌, ◌<◌, ◌↔◌, ℕ, Bool, true, false, List, length, min, slice_set, IsTrue, IfSome, IfNone};
+    ghost use Rattle.std.specs.Prelude.{◌≡◌, ◌<◌, ◌↔◌, ℕ, Bool, true, false, List};
+    ghost use Rattle.std.specs.Prelude.{length, min, slice_set, IsTrue, IfSome, IfNone};
     ghost use Rattle.bb_memory.specs.NumberSet.{Has, Lacks, IsFull};
 
     /// A flag for each number below the bound: whether it is in the set.

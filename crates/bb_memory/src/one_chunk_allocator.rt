@@ -1,5 +1,6 @@
 //! An allocator that gives one chunk at a time, which is all of its region from the chunk's place on.
-ghost use Rattle.std.specs.Prelude.{◌≡◌, ◌∷◌, ◌++◌, [], List, ◌+◌, ◌-◌, ◌<◌, ◌≤◌, ◌%◌, ◌↔◌, ◌⊎◌, ℕ, IsOk, IfOk, OnOk, OnErr, IsTrue, IsSome, Some, Result, slice_get, slice_set, remove};
+ghost use Rattle.std.specs.Prelude.{◌≡◌, ◌∷◌, ◌++◌, [], List, ◌+◌, ◌-◌, ◌<◌, ◌≤◌, ◌%◌, ◌↔◌, ◌⊎◌, ℕ, IsOk, IfOk};
+ghost use Rattle.std.specs.Prelude.{OnOk, OnErr, IsTrue, IsSome, Some, Result, slice_get, slice_set, remove};
 ghost use Rattle.bb_memory_base.specs.Region.{Region, IsRegion, region_at, region_end};
 ghost use Rattle.bb_memory_base.specs.Chunk.{Chunk, IsInside, chunk_end};
 ghost use Rattle.bb_memory_base.specs.FirstPlace.{first_place};
@@ -14,7 +15,8 @@ ghost use Rattle.bb_memory_base.specs.declared.allocator.AllocationShrinkError.{
 ghost use Rattle.bb_memory_base.specs.declared.allocator.Command.{Command};
 ghost use Rattle.bb_memory_base.specs.declared.allocator.Reply.{Reply};
 ghost use Rattle.bb_memory.specs.OneChunk.{OneChunk, IsOneChunk, one_chunk_of, StandsFor};
-ghost use Rattle.bb_memory.specs.OneChunkObject.{MayAllocate, MayGrow, MayShrink, HasRoom, LacksRoom, reserved_at, one_chunk_object};
+ghost use Rattle.bb_memory.specs.OneChunkObject.{MayAllocate, MayGrow, MayShrink, HasRoom};
+ghost use Rattle.bb_memory.specs.OneChunkObject.{LacksRoom, reserved_at, one_chunk_object};
 
 pub use crate::allocator::{
     AllocationError, AllocationGrowError, AllocationShrinkError, Allocator, BaseAllocator,

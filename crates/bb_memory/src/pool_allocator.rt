@@ -1,5 +1,6 @@
 //! Allocators that cut a region into buckets of one layout, and give a bucket for each request.
-ghost use Rattle.std.specs.Prelude.{◌≡◌, ◌≢◌, ◌∷◌, ◌++◌, [], List, ℕ, ◌*◌, ◌/◌, ◌<◌, ◌≤◌, ◌%◌, ◌^◌, ◌↔◌, IsOk, IfOk, IfErr, OnOk, OnErr, IsTrue, Some, false, replicate, slice_get, slice_set, remove};
+ghost use Rattle.std.specs.Prelude.{◌≡◌, ◌≢◌, ◌∷◌, ◌++◌, [], List, ℕ, ◌*◌, ◌/◌, ◌<◌, ◌≤◌, ◌%◌, ◌^◌, ◌↔◌, IsOk, IfOk};
+ghost use Rattle.std.specs.Prelude.{IfErr, OnOk, OnErr, IsTrue, Some, false, replicate, slice_get, slice_set, remove};
 ghost use Rattle.bb_memory_base.specs.Region.{region_at};
 ghost use Rattle.bb_memory_base.specs.Chunk.{Chunk, IsInside};
 ghost use Rattle.bb_memory_base.specs.LiveList.{IsSound};
@@ -12,7 +13,8 @@ ghost use Rattle.bb_memory_base.specs.PoolObject.{MayAllocate, MayGrow, MayShrin
 ghost use Rattle.bb_memory_base.specs.declared.allocator.AllocationError.{AllocationError};
 ghost use Rattle.bb_memory.specs.IndexWords.{index_words};
 ghost use Rattle.bb_memory.specs.NumberSet.{Lacks};
-ghost use Rattle.bb_memory.specs.Pool.{AreAStrideApart, Frees, HoldsPlace, MayBeCut, Reads, StandsFor, Takes, counted, fresh_pool};
+ghost use Rattle.bb_memory.specs.Pool.{AreAStrideApart, Frees, HoldsPlace, MayBeCut};
+ghost use Rattle.bb_memory.specs.Pool.{Reads, StandsFor, Takes, counted, fresh_pool};
 
 mod buckets;
 mod fixed_size;

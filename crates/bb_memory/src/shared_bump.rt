@@ -1,5 +1,6 @@
 //! The bump that threads share: its word is the position, and each thread steps with a party of its own.
-ghost use Rattle.std.specs.Prelude.{◌≡◌, ◌≢◌, ◌-◌, ◌<◌, ◌≤◌, ◌%◌, ◌∷◌, ◌++◌, [], ℕ, List, All, IfOk, OnErr, Some, length, slice_get, vec_len, vec_capacity, Contains};
+ghost use Rattle.std.specs.Prelude.{◌≡◌, ◌≢◌, ◌-◌, ◌<◌, ◌≤◌, ◌%◌, ◌∷◌, ◌++◌, [], ℕ, List, All, IfOk};
+ghost use Rattle.std.specs.Prelude.{OnErr, Some, length, slice_get, vec_len, vec_capacity, Contains};
 ghost use Rattle.bb_memory_base.specs.Region.{IsRegion, region_at};
 ghost use Rattle.bb_memory_base.specs.Chunk.{AreApart, Chunk, IsInside};
 ghost use Rattle.bb_memory_base.specs.LiveList.{IsSound};
@@ -7,7 +8,8 @@ ghost use Rattle.bb_memory_base.specs.BumpObject.{StandsFor};
 ghost use Rattle.bb_memory_base.specs.BumpHistory.{BumpLog, chunks_won, history_of, losses_in};
 ghost use Rattle.bb_memory_base.specs.BumpCalls.{IsCallRun, OpensWith, calls_of, live_after};
 ghost use Rattle.bb_memory_base.specs.BumpLogs.{Interleaving};
-ghost use Rattle.bb_memory.specs.SharedBump.{AreInterleaved, BumpParty, HaveChunksApart, IsFoundBy, IsInterleaved, IsParty, IsSharedScene, MayTake, fresh_party, load_entry, scene_at, seen_by, with_entries};
+ghost use Rattle.bb_memory.specs.SharedBump.{AreInterleaved, BumpParty, HaveChunksApart, IsFoundBy, IsInterleaved, IsParty};
+ghost use Rattle.bb_memory.specs.SharedBump.{IsSharedScene, MayTake, fresh_party, load_entry, scene_at, seen_by, with_entries};
 ghost use Rattle.bb_memory.specs.SharedBumpRule.{all_parties};
 
 mod party;
