@@ -1,5 +1,6 @@
 -- Regions that are cut into buckets: how many there are, and where each one is.
-use Rattle.std.proofs.Common.{◌≡◌, ℕ, ◌+◌, ◌-◌, ◌*◌, ◌/◌, ◌<◌, ◌≤◌, ◌^◌, IsTrue, w64, pow_pos, Option, Some, None, IsSome, refl, arith, ap, sym, subst, ◌∙◌, inl, inr}
+use Rattle.std.proofs.Common.{◌≡◌, ℕ, ◌+◌, ◌-◌, ◌*◌, ◌/◌, ◌<◌, ◌≤◌, ◌^◌, IsTrue, w64, pow_pos}
+use Rattle.std.proofs.Common.{Option, Some, None, IsSome, refl, arith, ap, sym, subst, ◌∙◌, inl, inr}
 use Rattle.std.specs.Int.{is_power_of_two, trailing_zeros}
 use Rattle.std.specs.Option.{SomeIff}
 use Rattle.std.proofs.Math.Nat.{mul-div_cancel, mul-le-mul_left}

@@ -1,5 +1,6 @@
 -- A list of the words that aren't full, after one is full or open again.
-use Rattle.std.proofs.Common.{◌≡◌, ◌≢◌, ℕ, ◌+◌, ◌-◌, ◌^◌, ◌<◌, ◌≤◌, eqb, List, [], ◌∷◌, ◌++◌, length, get_or, set, take, sym, ◌∙◌, ap, refl, inl, inr, arith, length-set, get_or-set_same, get_or-set_other}
+use Rattle.std.proofs.Common.{◌≡◌, ◌≢◌, ℕ, ◌+◌, ◌-◌, ◌^◌, ◌<◌, ◌≤◌, eqb, List, [], ◌∷◌, ◌++◌, length, get_or, set}
+use Rattle.std.proofs.Common.{take, sym, ◌∙◌, ap, refl, inl, inr, arith, length-set, get_or-set_same, get_or-set_other}
 use Rattle.std.proofs.lemmas.Bool.{cases_eq, ne_eqb}
 use Rattle.std.proofs.lemmas.List.{length-take-le, get_or-take, get_or_default, get_or_append_left, get_or_push, length_push}
 use Rattle.std.proofs.lemmas.Map.Keys.{IsDistinct-from_apart}
@@ -86,17 +87,20 @@ room_in words listed top at is room within full =
     ])
     (λ i k before h. elim (cases_eq k top) [
       | inl e ↦ rw (e, last, low i (omega arith)) (apart i (omega arith))
-      | inr other ↦ rw (low i (omega (arith, h, len2)), low k (omega (arith, h, len2))) (is.once i k before (omega (arith, h, len2)))
+      | inr other ↦
+          rw (low i (omega (arith, h, len2)), low k (omega (arith, h, len2))) (is.once i k before (omega (arith, h, len2)))
     ]) in
     omega (arith, count, len2)
 
 -- a word that was full is open, and is listed behind the others
 pub opened : (words new listed : List ℕ) (top at : ℕ) → IsStack words listed top → PutsAt words at new → at < length words →
-    top < length listed → get_or words at 0 ≡ 2 ^ 64 - 1 → get_or new at 0 ≢ 2 ^ 64 - 1 → IsStack new (set listed top at) (top + 1)
+    top < length listed → get_or words at 0 ≡ 2 ^ 64 - 1 → get_or new at 0 ≢ 2 ^ 64 - 1 →
+    IsStack new (set listed top at) (top + 1)
 opened words new listed top at is puts within room full not_full =
     let more = set listed top at in
     let last : get_or more top 0 ≡ at = get_or-set_same listed top at 0 room in
-    let same : (k : ℕ) → k < top → get_or more k 0 ≡ get_or listed k 0 = λ k h. get_or-set_other listed top k at 0 (omega arith) in
+    let same : (k : ℕ) → k < top → get_or more k 0 ≡ get_or listed k 0 =
+    λ k h. get_or-set_other listed top k at 0 (omega arith) in
     let apart : (k : ℕ) → k < top → get_or listed k 0 ≢ at = λ k h e. is.each k h (ap (λ x. get_or words x 0) e ∙ full) in
     let below : (k : ℕ) → k < top + 1 → get_or more k 0 < length words = λ k h. elim (cases_eq k top) [
       | inl e ↦ rw (e, last) within

@@ -1,9 +1,12 @@
 -- The numbers that aren't in a set, as the first entries of an array.
-use Rattle.std.proofs.Common.{◌≡◌, ◌≢◌, ℕ, ◌+◌, ◌-◌, ◌≤◌, ◌<◌, Bool, true, false, eqb, List, [], ◌∷◌, ◌++◌, length, get_or, set, take, replicate, refl, ap, sym, ◌∙◌, arith, inl, inr, ext_get_or, length-set, get_or-set_same, get_or-set_other, eq-eqb}
+use Rattle.std.proofs.Common.{◌≡◌, ◌≢◌, ℕ, ◌+◌, ◌-◌, ◌≤◌, ◌<◌, Bool, true, false, eqb, List, [], ◌∷◌, ◌++◌, length, get_or, set}
+use Rattle.std.proofs.Common.{take, replicate, refl, ap, sym, ◌∙◌, arith, inl, inr, ext_get_or, length-set, get_or-set_same}
+use Rattle.std.proofs.Common.{get_or-set_other, eq-eqb}
 use Rattle.std.specs.Prelude.{Some, slice_get, not, ◌||◌, IsTrue, ◌↔◌}
 use Rattle.std.specs.List.{list_any}
 use Rattle.std.proofs.lemmas.Bool.{cases_eq, ne_eqb, false≢true}
-use Rattle.std.proofs.lemmas.List.{length-take-le, length-replicate, get_or-take, get_or-replicate, get_or_default, take-set, take-replicate, get_or_append_left, get_or_push, length_push}
+use Rattle.std.proofs.lemmas.List.{length-take-le, length-replicate, get_or-take, get_or-replicate, get_or_default}
+use Rattle.std.proofs.lemmas.List.{take-set, take-replicate, get_or_append_left, get_or_push, length_push}
 use Rattle.std.proofs.lemmas.List.FromFn.{length-map-range_with_len, get_or-map-range_with_len}
 use Rattle.std.proofs.lemmas.List.Folds.{list_any_at, list_any_more, list_any_none}
 use Rattle.std.proofs.lemmas.Option.{slice_get_within, slice_get-get_or, get_or_from_slice_get}
@@ -20,7 +23,8 @@ get_or-held_numbers : (bound : ℕ) (free : List ℕ) (n : ℕ) → n < bound �
 unfolding held_numbers
 get_or-held_numbers bound free n below = get_or-map-range_with_len (is_held free) 0 bound n n false below (omega arith)
 
-slice_get-held_numbers : (bound : ℕ) (free : List ℕ) (n : ℕ) → n < bound → slice_get (held_numbers bound free) n ≡ Some (is_held free n)
+slice_get-held_numbers : (bound : ℕ) (free : List ℕ) (n : ℕ) → n < bound →
+    slice_get (held_numbers bound free) n ≡ Some (is_held free n)
 slice_get-held_numbers bound free n below =
     slice_get-get_or (held_numbers bound free) n false (omega (arith, length-held_numbers bound free))
     ∙ ap Some (get_or-held_numbers bound free n below)
@@ -32,7 +36,8 @@ changed : (bound : ℕ) (free new : List ℕ) (number : ℕ) (flag : Bool) → n
 changed bound free new number flag below same others =
     let inside : number < length (held_numbers bound free) = omega (arith, length-held_numbers bound free) in
     ext_get_or false _ _
-    (length-held_numbers bound new ∙ sym (length-held_numbers bound free) ∙ sym (length-set (held_numbers bound free) number flag))
+    (length-held_numbers bound new ∙ sym (length-held_numbers bound free)
+    ∙ sym (length-set (held_numbers bound free) number flag))
     (λ n h.
     let n_in : n < bound = omega (arith, h, length-held_numbers bound new) in
     get_or-held_numbers bound new n n_in
@@ -59,7 +64,8 @@ lacked bound free left number some fits is below =
     let len : length some_left ≡ left = length-take-le left free fits in
     let read : get_or some_left (left - 1) 0 ≡ number = get_or-take left free (left - 1) 0 (omega arith) ∙ sym is in
     let there : list_any (eqb number) some_left ≡ true =
-    list_any_at (eqb number) some_left (left - 1) 0 (omega (arith, len)) (eq-eqb number (get_or some_left (left - 1) 0) (sym read)) in
+    list_any_at (eqb number) some_left (left - 1) 0 (omega (arith, len))
+    (eq-eqb number (get_or some_left (left - 1) 0) (sym read)) in
     slice_get-held_numbers bound some_left number below ∙ ap (λ (b : Bool). Some (not b)) there
 
 -- it is taken off
@@ -83,10 +89,12 @@ taken_off room bound free left number is some last below =
     (λ n other.
     let more : list_any (eqb n) (take (i + 1) free) ≡ list_any (eqb n) (take i free) =
     list_any_more (eqb n) free i 0 within
-    ∙ or_false (list_any (eqb n) (take i free)) (eqb n (get_or free i 0)) (ne_eqb n (get_or free i 0) (λ e. other (e ∙ sym last))) in
+    ∙ or_false (list_any (eqb n) (take i free)) (eqb n (get_or free i 0))
+    (ne_eqb n (get_or free i 0) (λ e. other (e ∙ sym last))) in
     ap not (sym more ∙ ap (λ (l : List ℕ). list_any (eqb n) l) (sym whole)))
 
-pub less : (room bound : ℕ) (free : List ℕ) (left : ℕ) → IsFreeList room bound free left → 0 < left → IsFreeList room bound free (left - 1)
+pub less : (room bound : ℕ) (free : List ℕ) (left : ℕ) → IsFreeList room bound free left → 0 < left →
+    IsFreeList room bound free (left - 1)
 less room bound free left is some = record {
   len = is.len;
   fits = is.fits;
@@ -96,11 +104,13 @@ less room bound free left is some = record {
 }
 
 -- a number of the set isn't among the entries
-not_listed : (bound : ℕ) (free : List ℕ) (left number : ℕ) → left ≤ length free → Has (held_numbers bound (take left free)) number →
+not_listed : (bound : ℕ) (free : List ℕ) (left number : ℕ) → left ≤ length free →
+    Has (held_numbers bound (take left free)) number →
     (number < bound) × (list_any (eqb number) (take left free) ≡ false) × ((k : ℕ) → k < left → get_or free k 0 ≢ number)
 not_listed bound free left number fits has =
     let some = take left free in
-    let within : number < bound = omega (arith, slice_get_within (held_numbers bound some) number true has, length-held_numbers bound some) in
+    let within : number < bound =
+    omega (arith, slice_get_within (held_numbers bound some) number true has, length-held_numbers bound some) in
     let held : is_held some number ≡ true =
     sym (get_or-held_numbers bound some number within) ∙ get_or_from_slice_get (held_numbers bound some) number true false has in
     let none : list_any (eqb number) some ≡ false = not_true (list_any (eqb number) some) held in
@@ -109,7 +119,8 @@ not_listed bound free left number fits has =
       none,
       λ k h same.
           let read : get_or some k 0 ≡ number = get_or-take left free k 0 h ∙ same in
-          false≢true (sym none ∙ list_any_at (eqb number) some k 0 (omega (arith, len)) (eq-eqb number (get_or some k 0) (sym read))),
+          false≢true (sym none ∙ list_any_at (eqb number) some k 0 (omega (arith, len))
+          (eq-eqb number (get_or some k 0) (sym read))),
     )
 
 -- a number of the set is put behind the entries
@@ -133,18 +144,21 @@ more room bound free left number is has =
     ])
     (λ i k before h. elim (cases_eq k left) [
       | inl e ↦ rw (e, last, low i (omega arith)) (out.2 i (omega arith))
-      | inr other ↦ rw (low i (omega (arith, h, len2)), low k (omega (arith, h, len2))) (is.once i k before (omega (arith, h, len2)))
+      | inr other ↦
+          rw (low i (omega (arith, h, len2)), low k (omega (arith, h, len2))) (is.once i k before (omega (arith, h, len2)))
     ]) in
     let room : left < length free = omega (arith, count, len2, is.fits, is.len) in
     let new = set free left number in
     let end : get_or new left 0 ≡ number = get_or-set_same free left number 0 room in
-    let kept : (k : ℕ) → k < left → get_or new k 0 ≡ get_or free k 0 = λ k h. get_or-set_other free left k number 0 (omega arith) in
+    let kept : (k : ℕ) → k < left → get_or new k 0 ≡ get_or free k 0 =
+    λ k h. get_or-set_other free left k number 0 (omega arith) in
     let room2 : left < length new = omega (arith, room, length-set free left number) in
     let front : take left new ≡ some = take-set free left number in
     let len3 : length (take (left + 1) new) ≡ left + 1 = length-take-le (left + 1) new (omega arith) in
     let read : get_or (take (left + 1) new) left 0 ≡ number = get_or-take (left + 1) new left 0 (omega arith) ∙ end in
     let there : list_any (eqb number) (take (left + 1) new) ≡ true =
-    list_any_at (eqb number) (take (left + 1) new) left 0 (omega (arith, len3)) (eq-eqb number (get_or (take (left + 1) new) left 0) (sym read)) in (
+    list_any_at (eqb number) (take (left + 1) new) left 0 (omega (arith, len3))
+    (eq-eqb number (get_or (take (left + 1) new) left 0) (sym read)) in (
       out.0,
       room,
       record {
@@ -164,7 +178,8 @@ more room bound free left number is has =
           (λ n other.
           let more : list_any (eqb n) (take (left + 1) new) ≡ list_any (eqb n) (take left new) =
           list_any_more (eqb n) new left 0 room2
-          ∙ or_false (list_any (eqb n) (take left new)) (eqb n (get_or new left 0)) (ne_eqb n (get_or new left 0) (λ e. other (e ∙ end))) in
+          ∙ or_false (list_any (eqb n) (take left new)) (eqb n (get_or new left 0))
+          (ne_eqb n (get_or new left 0) (λ e. other (e ∙ end))) in
           ap not (more ∙ ap (λ (l : List ℕ). list_any (eqb n) l) front)),
     )
 
@@ -194,7 +209,8 @@ none_held room bound free fits len named = (
       let read : get_or (take bound free) (bound - 1 - n) 0 ≡ n =
       get_or-take bound free (bound - 1 - n) 0 at ∙ named (bound - 1 - n) at ∙ omega arith in
       let there : list_any (eqb n) (take bound free) ≡ true =
-      list_any_at (eqb n) (take bound free) (bound - 1 - n) 0 (omega (arith, short)) (eq-eqb n (get_or (take bound free) (bound - 1 - n) 0) (sym read)) in
+      list_any_at (eqb n) (take bound free) (bound - 1 - n) 0 (omega (arith, short))
+      (eq-eqb n (get_or (take bound free) (bound - 1 - n) 0) (sym read)) in
       get_or-held_numbers bound (take bound free) n n_in ∙ ap not there ∙ sym (get_or-replicate bound n false false n_in)),
 )
 

@@ -1,15 +1,18 @@
 -- Words of 64 bits as a set of numbers.
-use Rattle.std.proofs.Common.{◌≡◌, ◌≢◌, ℕ, ◌+◌, ◌-◌, ◌*◌, ◌/◌, ◌%◌, ◌^◌, ◌<◌, ◌≤◌, Bool, true, false, eqb, List, length, replicate, get_or, set, sym, ◌∙◌, ap, inl, inr, arith, ext_get_or, length-set, get_or-set_same, get_or-set_other, eq-eqb, w64}
+use Rattle.std.proofs.Common.{◌≡◌, ◌≢◌, ℕ, ◌+◌, ◌-◌, ◌*◌, ◌/◌, ◌%◌, ◌^◌, ◌<◌, ◌≤◌, Bool, true, false, eqb, List, length}
+use Rattle.std.proofs.Common.{replicate, get_or, set, sym, ◌∙◌, ap, inl, inr, arith, ext_get_or, length-set, get_or-set_same}
+use Rattle.std.proofs.Common.{get_or-set_other, eq-eqb, w64}
 use Rattle.std.proofs.lemmas.List.{length-replicate, get_or-replicate}
 use Rattle.std.proofs.lemmas.List.FromFn.{length-map-range_with_len, get_or-map-range_with_len}
 use Rattle.std.proofs.lemmas.Bool.{cases_eq, cases_lt, false≢true}
-use Rattle.std.proofs.lemmas.Nat.Bits.{bit_at_clear_same, bit_at_clear_other, bit_at-zero, bit_at_ones, bit_at_mask_inside, bit_at_mask_below, ones_shl}
+use Rattle.std.proofs.lemmas.Nat.Bits.{bit_at_clear_same, bit_at_clear_other, bit_at-zero}
+use Rattle.std.proofs.lemmas.Nat.Bits.{bit_at_ones, bit_at_mask_inside, bit_at_mask_below, ones_shl}
 use Rattle.std.proofs.lemmas.Option.{slice_get-get_or, slice_get_within}
-use Rattle.std.specs.Prelude.{bit_and, Some, slice_get, IsTrue, ◌↔◌}
+use Rattle.std.specs.Prelude.{bit_and, Some, slice_get, slice_index, IsTrue, ◌↔◌}
 use Rattle.std.specs.Int.{bit_at, bit_not}
 use Rattle.bb_memory.specs.IndexWords.{index_words}
 use Rattle.bb_memory.specs.NumberSet.{Has, Lacks, IsFull}
-use Rattle.bb_memory.specs.Words.{has_bit, numbers_of, AreFull, AreIndexWords, SetsBit}
+use Rattle.bb_memory.specs.Words.{has_bit, numbers_of, AreIndexWords, SetsBit}
 
 -- a set has a flag for each number below its bound
 pub length-numbers_of : (bound : ℕ) (words : List ℕ) → length (numbers_of bound words) ≡ bound
@@ -28,7 +31,8 @@ slice_get-numbers_of bound words n below =
     ∙ ap Some (get_or-numbers_of bound words n below)
 
 -- there are as many words as numbers need
-pub word_count : (bound : ℕ) (words : List ℕ) (numbers : List Bool) → AreIndexWords bound words → numbers_of bound words ≡ numbers →
+pub word_count : (bound : ℕ) (words : List ℕ) (numbers : List Bool) → AreIndexWords bound words →
+    numbers_of bound words ≡ numbers →
     length words ≡ index_words (length numbers)
 word_count bound words numbers are is = omega (arith, are.count, length-numbers_of bound words, ap length is)
 
@@ -88,6 +92,10 @@ module _ (bound : ℕ) (words new : List ℕ) (number : ℕ) (flag : Bool) (belo
     past = λ n past h. sets.others n (omega arith) ∙ are.past n past (omega (arith, sets.len));
   }
 
+-- every word from one up to another is all ones
+abbrev pub AreFull : List ℕ → ℕ → ℕ → Type 0
+AreFull words from to = (at : ℕ) → from ≤ at → at < to → slice_index words at ≡ 2 ^ 64 - 1
+
 -- with every word full, every number is in the set
 pub full_words : (bound : ℕ) (words : List ℕ) → AreIndexWords bound words → AreFull words 0 (length words) →
     IsFull (numbers_of bound words)
@@ -133,7 +141,8 @@ released bound words new number are has sets =
 -- A taking: a number whose bit was clear wasn't in the set. With its bit set it is the set with the number.
 pub taken : (bound : ℕ) (words new : List ℕ) (number : ℕ) → AreIndexWords bound words → number / 64 < length words →
     has_bit words number ≡ false → SetsBit words number true new →
-    Lacks (numbers_of bound words) number × AreIndexWords bound new × (numbers_of bound new ≡ set (numbers_of bound words) number true)
+    Lacks (numbers_of bound words) number × AreIndexWords bound new
+    × (numbers_of bound new ≡ set (numbers_of bound words) number true)
 taken bound words new number are within clear sets =
     let below : number < bound = elim (cases_lt number bound) [
       | inl is ↦ is

@@ -1,10 +1,12 @@
 -- The words that aren't full, the one in hand and the listed ones: after a taking and after a release.
-use Rattle.std.proofs.Common.{◌≡◌, ◌≢◌, ℕ, ◌+◌, ◌-◌, ◌^◌, ◌<◌, ◌≤◌, List, length, map, get_or, set, sym, ◌∙◌, ap, if◌then◌else◌, inl, inr, arith, eq-eqb, get_or-set_same, get_or-set_other}
+use Rattle.std.proofs.Common.{◌≡◌, ◌≢◌, ℕ, ◌+◌, ◌-◌, ◌^◌, ◌<◌, ◌≤◌, List, length, map, get_or, set, sym, ◌∙◌}
+use Rattle.std.proofs.Common.{ap, if◌then◌else◌, inl, inr, arith, eq-eqb, get_or-set_same, get_or-set_other}
 use Rattle.std.specs.List.{range_with_len}
 use Rattle.std.proofs.lemmas.Bool.{cases_eq, cases_lt, ne_eqb}
 use Rattle.std.proofs.lemmas.List.FromFn.{length-map-range_with_len, get_or-map-range_with_len}
-use Rattle.bb_memory.specs.Words.{IsListing, IsWordSet, PutsAt, AreFull, AreIndexWords, open_word}
+use Rattle.bb_memory.specs.Words.{IsListing, IsWordSet, PutsAt, AreIndexWords, open_word}
 use Rattle.bb_memory.specs.IndexWords.{index_words}
+use Rattle.bb_memory.proofs.NumberWords.{AreFull}
 use Rattle.bb_memory.proofs.Listings.{IsStack, filled, still_open, opened, still, room_in}
 
 -- THE WORD IN HAND ON TOP OF THE LIST
@@ -222,8 +224,11 @@ fresh_set bound count words zero listed same is are none room named =
         below = λ k h. omega (arith, at k h, len, h);
         each = λ k h. none (open_word listed 0 count k) (omega (arith, at k h, len, h));
         once = λ i k before h e. absurd (omega (arith, at i (omega (arith, before, h)), at k h, e, before, h));
-        all = λ a within not.
-            (count - 1 - a, omega (arith, len, within), at (count - 1 - a) (omega (arith, len, within)) ∙ omega (arith, len, within));
+        all = λ a within not. (
+          count - 1 - a,
+          omega (arith, len, within),
+          at (count - 1 - a) (omega (arith, len, within)) ∙ omega (arith, len, within),
+        );
       };
     })
 

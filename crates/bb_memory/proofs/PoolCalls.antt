@@ -1,5 +1,7 @@
 -- What a pool's requests and releases make of each live list that it stands for.
-use Rattle.std.proofs.Common.{◌≡◌, ◌≢◌, ℕ, suc, ◌+◌, ◌-◌, ◌*◌, ◌/◌, ◌%◌, ◌^◌, ◌<◌, ◌≤◌, ◌↔◌, true, false, List, [], ◌∷◌, ◌++◌, Result, Ok, Err, refl, sym, ap, subst, ◌∙◌, arith, Some, inl, inr, div-add-mod', pow_pos, pow_mono, pow-add, pow-suc}
+use Rattle.std.proofs.Common.{◌≡◌, ◌≢◌, ℕ, suc, ◌+◌, ◌-◌, ◌*◌, ◌/◌, ◌%◌, ◌^◌, ◌<◌, ◌≤◌, ◌↔◌, true, false, List, [], ◌∷◌, ◌++◌}
+use Rattle.std.proofs.Common.{Result, Ok, Err, refl, sym, ap, subst, ◌∙◌, arith, Some, inl, inr, div-add-mod', pow_pos, pow_mono}
+use Rattle.std.proofs.Common.{pow-add, pow-suc}
 use Rattle.std.specs.Prelude.{slice_get, slice_set, remove, IsOk, IfOk, OnErr}
 use Rattle.std.specs.Int.{IsPowerOfTwo}
 use Rattle.std.proofs.Math.Nat.{mul_assoc}
@@ -10,7 +12,8 @@ use Rattle.bb_memory_base.specs.PoolGeometry.{PoolGeometry, bucket_place}
 use Rattle.bb_memory_base.specs.PoolObject.{IsWithin, chunk_in, MayAllocate, MayGrow, MayShrink}
 use Rattle.bb_memory_base.specs.declared.layout.Layout.{Layout}
 use Rattle.bb_memory_base.specs.declared.allocator.AllocationError.{AllocationError}
-use Rattle.bb_memory_base.specs.declared.allocator.AllocationError.TheVariants.{SizeIsZero, SizeTooLarge, AlignmentFailure, OutOfMemory}
+use Rattle.bb_memory_base.specs.declared.allocator.AllocationError.TheVariants.{SizeIsZero, SizeTooLarge}
+use Rattle.bb_memory_base.specs.declared.allocator.AllocationError.TheVariants.{AlignmentFailure, OutOfMemory}
 use Rattle.bb_memory_base.specs.declared.allocator.AllocationGrowError.{AllocationGrowError}
 use Rattle.bb_memory_base.specs.declared.allocator.AllocationShrinkError.{AllocationShrinkError}
 use Rattle.bb_memory_base.proofs.Layouts.{layout-plain}
@@ -18,7 +21,8 @@ use Rattle.bb_memory_base.proofs.PoolGeometries.{bucket_place-aligned, bucket_pl
 use Rattle.bb_memory_base.proofs.SliceGets.{slice_get-set_other, slice_get-set_same}
 use Rattle.bb_memory.specs.NumberSet.{Has, Lacks}
 use Rattle.bb_memory.specs.Pool.{Pool, IsPool, StandsFor, HoldsPlace, AreAStrideApart, Takes, Frees, with_flag}
-use Rattle.bb_memory.proofs.Pools.{Has-set_true, IsPool-with_flag, bucket-below, filled-at, held-inside, lacked-free, one_bucket, stands-given, stands-freed, stands-resized}
+use Rattle.bb_memory.proofs.Pools.{Has-set_true, IsPool-with_flag, bucket-below, filled-at, held-inside}
+use Rattle.bb_memory.proofs.Pools.{lacked-free, one_bucket, stands-given, stands-freed, stands-resized}
 
 -- POWERS OF TWO
 

@@ -1,5 +1,6 @@
 -- The live lists that a pool stands for: where their chunks are, and what releases and runs of the pool object lead to.
-use Rattle.std.proofs.Common.{◌≡◌, ◌≢◌, ℕ, zero, suc, ◌%◌, ◌<◌, ◌≤◌, Bool, true, false, List, [], ◌∷◌, ◌++◌, Result, Ok, Err, Some, length, get_or, refl, sym, ◌∙◌, ap, subst, ◌⊎◌, inl, inr, arith}
+use Rattle.std.proofs.Common.{◌≡◌, ◌≢◌, ℕ, zero, suc, ◌%◌, ◌<◌, ◌≤◌, Bool, true, false, List, [], ◌∷◌, ◌++◌, Result}
+use Rattle.std.proofs.Common.{Ok, Err, Some, length, get_or, refl, sym, ◌∙◌, ap, subst, ◌⊎◌, inl, inr, arith}
 use Rattle.std.specs.Prelude.{slice_get, slice_set, remove, All, AllPairs, IsOk}
 use Rattle.std.proofs.lemmas.Bool.{cases_lt}
 use Rattle.std.proofs.lemmas.Option.{slice_get-get_or}
@@ -10,7 +11,8 @@ use Rattle.bb_memory_base.specs.PoolGeometry.{PoolGeometry, bucket_place}
 use Rattle.bb_memory_base.specs.PoolObject.{IsWithin, MayGive, MayAllocate, chunk_in, pool_object}
 use Rattle.bb_memory_base.specs.declared.layout.Layout.{Layout}
 use Rattle.bb_memory_base.specs.declared.allocator.AllocationError.{AllocationError}
-use Rattle.bb_memory_base.specs.declared.allocator.AllocationError.TheVariants.{SizeIsZero, SizeTooLarge, AlignmentFailure, OutOfMemory}
+use Rattle.bb_memory_base.specs.declared.allocator.AllocationError.TheVariants.{SizeIsZero, SizeTooLarge}
+use Rattle.bb_memory_base.specs.declared.allocator.AllocationError.TheVariants.{AlignmentFailure, OutOfMemory}
 use Rattle.bb_memory_base.specs.declared.allocator.Command.{Command}
 use Rattle.bb_memory_base.specs.declared.allocator.Command.TheVariants.{Allocate, Release, Grow, Shrink}
 use Rattle.bb_memory_base.specs.declared.allocator.Reply.{Reply}
@@ -20,7 +22,8 @@ use Rattle.bb_memory_base.proofs.Runs.{IsRun-keeps}
 use Rattle.bb_memory_base.proofs.SliceGets.{slice_get-set_same}
 use Rattle.bb_memory.specs.NumberSet.{Has, Lacks}
 use Rattle.bb_memory.specs.Pool.{Pool, IsPool, StandsFor, AreAStrideApart, pool_of, with_flag}
-use Rattle.bb_memory.proofs.Pools.{IsPool-with_flag, bucket-below, filled-at, lacked-free, stands-given, stands-freed, stands-resized}
+use Rattle.bb_memory.proofs.Pools.{IsPool-with_flag, bucket-below, filled-at, lacked-free}
+use Rattle.bb_memory.proofs.Pools.{stands-given, stands-freed, stands-resized}
 use Rattle.bb_memory.proofs.Positions.{All-from_positions, AllPairs-at, AllPairs-from_positions}
 
 -- PLACES
@@ -52,7 +55,8 @@ buckets-apart geometry i j one other at_i at_j differ =
 pub places-a_stride_apart : (pool : Pool) (live : List Chunk) → StandsFor pool live →
     AllPairs (λ one other. AreAStrideApart pool.geometry.bucket one.place other.place) live
 places-a_stride_apart pool live stands =
-    AllPairs-from_positions (λ (one other : Chunk). AreAStrideApart pool.geometry.bucket one.place other.place) live (λ i j one other before at_i at_j.
+    AllPairs-from_positions (λ (one other : Chunk). AreAStrideApart pool.geometry.bucket one.place other.place) live
+    (λ i j one other before at_i at_j.
     let first = filled-at pool live stands i one at_i in
     let second = filled-at pool live stands j other at_j in
     let differ = AllPairs-at (λ (c d : Chunk). c.place ≢ d.place) live stands.differ i j one other before at_i at_j in

@@ -1,5 +1,6 @@
 -- The live lists that a pool stands for: of no chunk, of one more, of one less, and with one resized.
-use Rattle.std.proofs.Common.{◌≡◌, ◌≢◌, ℕ, zero, suc, ◌+◌, ◌<◌, ◌≤◌, Bool, true, false, List, [], ◌∷◌, ◌++◌, length, refl, sym, ap, subst, ◌∙◌, arith, Some, inl, inr}
+use Rattle.std.proofs.Common.{◌≡◌, ◌≢◌, ℕ, zero, suc, ◌+◌, ◌<◌, ◌≤◌, Bool, true, false, List, []}
+use Rattle.std.proofs.Common.{◌∷◌, ◌++◌, length, refl, sym, ap, subst, ◌∙◌, arith, Some, inl, inr}
 use Rattle.std.specs.Prelude.{slice_get, slice_set, remove, All}
 use Rattle.std.proofs.lemmas.Bool.{cases_eq, cases_lt}
 use Rattle.std.proofs.lemmas.Option.{slice_get_within, slice_get-get_or, same_Some}
@@ -13,10 +14,12 @@ use Rattle.bb_memory_base.specs.PoolObject.{IsAt, IsHeld, IsWithin, chunk_in}
 use Rattle.bb_memory_base.specs.declared.layout.Layout.{Layout}
 use Rattle.bb_memory_base.proofs.PoolGeometries.{bucket_place-apart}
 use Rattle.bb_memory_base.proofs.PoolLists.{IsInBucket, AreInBuckets-from_places, inside_from_bucket, sound_from_buckets}
-use Rattle.bb_memory_base.proofs.SliceGets.{slice_get-set, slice_get-set_other, slice_get-set_same, slice_get-replicated, length-set_at}
+use Rattle.bb_memory_base.proofs.SliceGets.{slice_get-set, slice_get-set_other, slice_get-set_same}
+use Rattle.bb_memory_base.proofs.SliceGets.{slice_get-replicated, length-set_at}
 use Rattle.bb_memory.specs.NumberSet.{Has, Lacks}
 use Rattle.bb_memory.specs.Pool.{Pool, IsPool, Fills, StandsFor, HoldsPlace, fresh_pool, with_flag}
-use Rattle.bb_memory.proofs.Positions.{All-at, All-from_positions, AllPairs-at, AllPairs-from_positions, slice_get-push_old, slice_get-push_new, slice_get-removed, slice_get-unremoved}
+use Rattle.bb_memory.proofs.Positions.{All-at, All-from_positions, AllPairs-at, AllPairs-from_positions}
+use Rattle.bb_memory.proofs.Positions.{slice_get-push_old, slice_get-push_new, slice_get-removed, slice_get-unremoved}
 
 -- BUCKETS
 
@@ -120,18 +123,31 @@ stands-given pool live layout i is stands within lacks =
     let InNew : Chunk → Type 0 = λ c. (j : ℕ) × Fills new c j in
     let here : Has new.held i = slice_get-set_same pool.held i true false lacks in
     let old : All InNew live = λ k d below.
-    let fills = stands.filled k d below in
-    (fills.0, record { held = Has-set_true pool.held i fills.0 lacks fills.1.held; placed = fills.1.placed; short = fills.1.short }) in
+    let fills = stands.filled k d below in (
+      fills.0,
+      record {
+        held = Has-set_true pool.held i fills.0 lacks fills.1.held;
+        placed = fills.1.placed;
+        short = fills.1.short;
+      },
+    ) in
     let filled : All InNew (live ++ chunk ∷ []) =
     All-push InNew live chunk old (i, record { held = here; placed = refl; short = within.size }) in
     let differ : PlacesDiffer (live ++ chunk ∷ []) =
     all_pairs_push (λ (one other : Chunk). one.place ≢ other.place) live chunk stands.differ
-    (λ k d below same. lacked-free pool live is stands i lacks (k, record { chunk = _; there = slice_get-get_or live k d below; placed = same })) in
+    (λ k d below same. lacked-free pool live is stands i lacks
+    (k, record { chunk = _; there = slice_get-get_or live k d below; placed = same })) in
     stands_from new (IsPool-with_flag pool is i true) (live ++ chunk ∷ []) filled differ (λ j has.
     elim (slice_get-set pool.held i j true true has) [
       | inl was ↦
-          let at = stands.held j was in
-          (at.0, record { chunk = at.1.chunk; there = slice_get-push_old live at.0 at.1.chunk chunk at.1.there; placed = at.1.placed })
+          let at = stands.held j was in (
+            at.0,
+            record {
+              chunk = at.1.chunk;
+              there = slice_get-push_old live at.0 at.1.chunk chunk at.1.there;
+              placed = at.1.placed;
+            },
+          )
       | inr now ↦ (
         length live,
         record { chunk = chunk; there = slice_get-push_new live chunk; placed = ap (bucket_place pool.geometry) (sym now.0) },
@@ -151,10 +167,17 @@ stands-freed pool live position i chunk is stands at fills =
     let was = slice_get-removed live position k other there in
     let b = filled-at pool live stands was.0 other was.2 in
     let apart : b.0 ≢ i = λ same. places-apart live stands.differ was.0 position other chunk was.1 was.2 at
-    (b.1.placed ∙ ap (bucket_place pool.geometry) same ∙ sym fills.placed) in
-    (b.0, record { held = slice_get-set_other pool.held i b.0 false apart ∙ b.1.held; placed = b.1.placed; short = b.1.short })) in
+    (b.1.placed ∙ ap (bucket_place pool.geometry) same ∙ sym fills.placed) in (
+      b.0,
+      record {
+        held = slice_get-set_other pool.held i b.0 false apart ∙ b.1.held;
+        placed = b.1.placed;
+        short = b.1.short;
+      },
+    )) in
     let differ : PlacesDiffer (remove live position) =
-    all_pairs_remove (λ (one other : Chunk). one.place ≢ other.place) live position (slice_get_within live position chunk at) stands.differ in
+    all_pairs_remove (λ (one other : Chunk). one.place ≢ other.place) live position
+    (slice_get_within live position chunk at) stands.differ in
     stands_from new (IsPool-with_flag pool is i false) (remove live position) filled differ (λ j has.
     elim (cases_eq j i) [
       | inl same ↦ absurd (let e : Some true ≡ Some false = sym has ∙ (ap (slice_get new.held) same ∙ here) in cc)

@@ -1,18 +1,21 @@
 -- How parties stand in the views of seats: each in one, while seats are dealt, joined and split, and while one party steps.
-use Rattle.std.proofs.Common.{◌≡◌, ◌≢◌, ℕ, zero, suc, ◌+◌, ◌-◌, ◌<◌, ◌≤◌, List, [], ◌∷◌, ◌++◌, length, set, replicate, Some, eqb, ne_eqb, eq-eqb, refl, sym, ap, ◌∙◌, subst, arith, inl, inr}
+use Rattle.std.proofs.Common.{◌≡◌, ◌≢◌, ℕ, zero, suc, ◌+◌, ◌-◌, ◌<◌, ◌≤◌, List, [], ◌∷◌, ◌++◌, length, set}
+use Rattle.std.proofs.Common.{replicate, Some, eqb, ne_eqb, eq-eqb, refl, sym, ap, ◌∙◌, subst, arith, inl, inr}
 use Rattle.std.specs.Prelude.{slice_get, slice_set}
 use Rattle.std.proofs.lemmas.Bool.{cases_eq}
 use mathlib.Core.Option.{some, some-injective, some-ne-none}
 use lib.ListN.{get_elem?}
 use Rattle.atomic_table.proofs.Lists.{at_set, at_snoc}
 use Rattle.bb_memory_base.proofs.SliceGets.{slice_get-set_other, slice_get-set_same, slice_get-replicate}
-use Rattle.bb_memory.specs.Seats.{AreSeated, HaveLogs, Numbered, Seat, alone, both_of, first_of, fresh_from, head_of, numbered, one_if, others_of, standing_for, tail_of, times_in, times_in_views}
+use Rattle.bb_memory.specs.Seats.{AreSeated, HaveLogs, Numbered, Seat, alone, both_of, first_of, fresh_from, head_of}
+use Rattle.bb_memory.specs.Seats.{numbered, one_if, others_of, standing_for, tail_of, times_in, times_in_views}
 
 -- HOW OFTEN A PARTY STANDS IN VIEWS
 
 times_in_views-set : {S E : Type 0} (number : ℕ) (views : List (Seat S E)) (seat : ℕ) (old new : Seat S E) →
     get_elem? views seat ≡ some old →
-    times_in_views number (set views seat new) + times_in number old.parties ≡ times_in_views number views + times_in number new.parties
+    times_in_views number (set views seat new) + times_in number old.parties ≡
+    times_in_views number views + times_in number new.parties
 times_in_views-set number [] seat old new at = absurd (some-ne-none old (sym at))
 times_in_views-set {S = S} {E = E} number (view ∷ views) zero old new at =
     let same = ap (λ (v : Seat S E). times_in number v.parties) (some-injective view old at) in omega arith
@@ -30,7 +33,8 @@ times_in-append number [] ys = omega arith
 times_in-append number (x ∷ xs) ys = let rest = times_in-append number xs ys in omega arith
 
 -- a view has no more of them than all views
-pub times_in-at : {S E : Type 0} (number : ℕ) (views : List (Seat S E)) (seat : ℕ) (view : Seat S E) → get_elem? views seat ≡ some view →
+pub times_in-at : {S E : Type 0} (number : ℕ) (views : List (Seat S E)) (seat : ℕ) (view : Seat S E) →
+    get_elem? views seat ≡ some view →
     times_in number view.parties ≤ times_in_views number views
 times_in-at number [] seat view at = absurd (some-ne-none view (sym at))
 times_in-at {S = S} {E = E} number (first ∷ views) zero view at =
@@ -63,7 +67,8 @@ times_in-own : {E : Type 0} (number : ℕ) (log : List E) → times_in number (n
 times_in-own number log = let one = one_same number number refl in omega arith
 
 -- two parties of one seat are two
-pub two_parties : {S E : Type 0} (made : ℕ) (logs : List (List E)) (views : List (Seat S E)) (seat : ℕ) (scene : S) (one other : Numbered E) →
+pub two_parties : {S E : Type 0} (made : ℕ) (logs : List (List E)) (views : List (Seat S E)) (seat : ℕ) (scene : S)
+    (one other : Numbered E) →
     AreSeated made logs views → get_elem? views seat ≡ some (standing_for scene (one ∷ other ∷ [])) → one.number ≢ other.number
 two_parties made logs views seat scene one other seated at same =
     let view = standing_for scene (one ∷ other ∷ []) in
@@ -108,7 +113,8 @@ times_in-parts number (party ∷ parties) = omega arith
 -- ONE STEP
 
 -- the log of a party that stands alone in its seat becomes another
-pub seated_step : {S E : Type 0} (made : ℕ) (logs : List (List E)) (views : List (Seat S E)) (seat : ℕ) (scene : S) (number : ℕ) (log new : List E) →
+pub seated_step : {S E : Type 0} (made : ℕ) (logs : List (List E)) (views : List (Seat S E)) (seat : ℕ) (scene : S)
+    (number : ℕ) (log new : List E) →
     AreSeated made logs views → get_elem? views seat ≡ some (alone scene number log) →
     AreSeated made (slice_set logs number new) (set views seat (alone scene number new))
 seated_step {S = S} {E = E} made logs views seat scene number log new seated at =
@@ -131,7 +137,8 @@ seated_step {S = S} {E = E} made logs views seat scene number log new seated at 
 -- SPLITS AND JOINS
 
 -- a view is split in two where each party goes to one of the two
-seated_split : {S E : Type 0} (made : ℕ) (logs : List (List E)) (views : List (Seat S E)) (seat : ℕ) (view left right : Seat S E) →
+seated_split : {S E : Type 0} (made : ℕ) (logs : List (List E)) (views : List (Seat S E)) (seat : ℕ)
+    (view left right : Seat S E) →
     ((number : ℕ) → times_in number left.parties + times_in number right.parties ≡ times_in number view.parties) →
     (HaveLogs made logs view.parties → HaveLogs made logs left.parties × HaveLogs made logs right.parties) →
     AreSeated made logs views → get_elem? views seat ≡ some view →
@@ -155,18 +162,21 @@ seated_split {S = S} {E = E} made logs views seat view left right count parts se
     }
 
 pub seated_others : {S E : Type 0} (made : ℕ) (logs : List (List E)) (views : List (Seat S E)) (seat : ℕ) (view : Seat S E) →
-    AreSeated made logs views → get_elem? views seat ≡ some view → AreSeated made logs (set views seat (others_of view) ++ first_of view ∷ [])
+    AreSeated made logs views → get_elem? views seat ≡ some view →
+    AreSeated made logs (set views seat (others_of view) ++ first_of view ∷ [])
 seated_others made logs views seat view = seated_split made logs views seat view (others_of view) (first_of view)
     (λ number. let parts = times_in-parts number view.parties in omega arith)
     (λ have. let parts = have-parts made logs view.parties have in (parts.1, parts.0))
 
 pub seated_first : {S E : Type 0} (made : ℕ) (logs : List (List E)) (views : List (Seat S E)) (seat : ℕ) (view : Seat S E) →
-    AreSeated made logs views → get_elem? views seat ≡ some view → AreSeated made logs (set views seat (first_of view) ++ others_of view ∷ [])
+    AreSeated made logs views → get_elem? views seat ≡ some view →
+    AreSeated made logs (set views seat (first_of view) ++ others_of view ∷ [])
 seated_first made logs views seat view = seated_split made logs views seat view (first_of view) (others_of view)
     (λ number. times_in-parts number view.parties) (λ have. have-parts made logs view.parties have)
 
 -- two views are joined: one has the parties of both, and the other none
-pub seated_both : {S E : Type 0} (made : ℕ) (logs : List (List E)) (views : List (Seat S E)) (seat : ℕ) (view : Seat S E) (other : ℕ) (guest : Seat S E)
+pub seated_both : {S E : Type 0} (made : ℕ) (logs : List (List E)) (views : List (Seat S E)) (seat : ℕ) (view : Seat S E)
+    (other : ℕ) (guest : Seat S E)
     (none : S) → AreSeated made logs views → get_elem? views seat ≡ some view → other ≢ seat →
     get_elem? (set views seat (both_of view guest)) other ≡ some guest →
     AreSeated made logs (set (set views seat (both_of view guest)) other (standing_for none []))
@@ -208,7 +218,8 @@ fresh_below E number from (suc count) below =
     let none_here = one_apart from number (λ same. omega arith) in
     let rest = fresh_below E number (from + 1) count (omega arith) in omega arith
 
-fresh_once : (E : Type 0) (number from count : ℕ) → from ≤ number → number < from + count → times_in {E = E} number (fresh_from from count) ≡ 1
+fresh_once : (E : Type 0) (number from count : ℕ) → from ≤ number → number < from + count →
+    times_in {E = E} number (fresh_from from count) ≡ 1
 fresh_once E number from zero low high = absurd (omega arith)
 fresh_once E number from (suc count) low high =
     elim (cases_eq from number) [

@@ -1,5 +1,6 @@
 -- What a request that has ended says of its answer and of its party.
-use Rattle.std.proofs.Common.{◌≡◌, ℕ, ◌<◌, ◌≤◌, List, [], ◌++◌, length, sym, ap, ◌∙◌, subst, append-nil, arith, Option, Some, None, Ok, Err}
+use Rattle.std.proofs.Common.{◌≡◌, ℕ, ◌<◌, ◌≤◌, List, [], ◌++◌, length, sym, ap, ◌∙◌}
+use Rattle.std.proofs.Common.{subst, append-nil, arith, Option, Some, None, Ok, Err}
 use Rattle.std.specs.Prelude.{MatchOption, drop}
 use Rattle.std.proofs.Math.Seq.{drop-append_seam}
 use Rattle.std.proofs.lemmas.List.Elements.{All-nil}
@@ -115,6 +116,7 @@ module _ (scene : BumpScene) (table was : TableId) (number : ℕ) (old new : Me 
     answers_refused refused = (
       asks,
       refused.added,
-      subst (λ (x : BumpScene × ℕ). IsRefused x.0.region x.1 layout refused.added) (λ i. (sym scene_is i, told_to i)) refused.refused,
+      subst (λ (x : BumpScene × ℕ). IsRefused x.0.region x.1 layout refused.added)
+          (λ i. (sym scene_is i, told_to i)) refused.refused,
       then refused.added refused.ended,
     )

@@ -12,7 +12,8 @@ use Rattle.bb_memory.specs.SharedBumpRule.{SeatView, WordsAndLogsAgree}
 use Rattle.bb_memory.specs.SharedBumpSteps.{TellsLast}
 use Rattle.bb_memory.proofs.SharedBumpKeeps.{known}
 
-last_known : (scene : BumpScene) (state : State ℕ SeatView) (rule : WordsAndLogsAgree scene state) (seat party : ℕ) (log : BumpLog) →
+last_known : (scene : BumpScene) (state : State ℕ SeatView) (rule : WordsAndLogsAgree scene state)
+    (seat party : ℕ) (log : BumpLog) →
     get_elem? state.views seat ≡ some (alone scene party log) → TellsLast scene party log rule.position
 last_known scene state rule seat party log at =
     let know = known scene state rule seat party log at in record {
@@ -24,7 +25,8 @@ last_known scene state rule seat party log at =
     }
 
 pub closes : (scene : BumpScene) (seat party : ℕ) (log : BumpLog) (view : SeatView) (words homes : List ℕ) (position : ℕ) →
-    view ≡ alone scene party log → Final (Seen (WordsAndLogsAgree scene) seat view) words homes → get_elem? words 0 ≡ some position →
+    view ≡ alone scene party log → Final (Seen (WordsAndLogsAgree scene) seat view) words homes →
+    get_elem? words 0 ≡ some position →
     TellsLast scene party log position
 closes scene seat party log view words homes position is last at =
     let state = last.0 in

@@ -1,5 +1,6 @@
 -- Each atomic step keeps word and logs in agreement.
-use Rattle.std.proofs.Common.{◌≡◌, ◌≢◌, ℕ, ◌<◌, ◌≤◌, List, [], ◌∷◌, ◌++◌, Bool, true, false, set, get_or, eqb, refl, sym, ap, ◌∙◌, subst, arith, eq-eqb, ne_eqb, Option, Some, None}
+use Rattle.std.proofs.Common.{◌≡◌, ◌≢◌, ℕ, ◌<◌, ◌≤◌, List, [], ◌∷◌, ◌++◌, Bool, true, false, set, get_or}
+use Rattle.std.proofs.Common.{eqb, refl, sym, ap, ◌∙◌, subst, arith, eq-eqb, ne_eqb, Option, Some, None}
 use Rattle.std.specs.Prelude.{◌==◌, if◌then◌else◌}
 use mathlib.Core.Option.{none, some}
 use prog.Atomic.{either}
@@ -7,14 +8,16 @@ use lib.ListN.{get_elem?}
 use Rattle.atomic_table.specs.Table.{State, Me, keeps, Allows, step, carried_after}
 use Rattle.atomic_table.proofs.Lists.{exchanged}
 use Rattle.std.proofs.lemmas.Option.{same_Some}
-use Rattle.bb_memory_base.specs.BumpMachine.{BumpScene, OngoingCall, chunk_at, ending, exchange_move, fits, position_behind, read_move, seeing}
+use Rattle.bb_memory_base.specs.BumpMachine.{BumpScene, OngoingCall, chunk_at, ending}
+use Rattle.bb_memory_base.specs.BumpMachine.{exchange_move, fits, position_behind, read_move, seeing}
 use Rattle.bb_memory_base.specs.BumpHistory.{BumpLog, entry_of}
 use Rattle.bb_memory_base.specs.BumpLogs.{HasLog, Interleaving, LogsAgree, call_in, greater_of, position_in, seen_in, with_entry}
 use Rattle.bb_memory_base.specs.declared.layout.Layout.{Layout}
 use Rattle.bb_memory_base.specs.declared.steps.bump.BumpStep.{BumpStep}
 use Rattle.bb_memory_base.specs.declared.steps.bump.BumpStep.TheVariants.{Read, Exchange, Load}
 use Rattle.bb_memory_base.specs.declared.steps.bump.BumpOutcome.{BumpOutcome}
-use Rattle.bb_memory_base.specs.declared.steps.bump.BumpOutcome.TheVariants.{Sees, RefusedAtRead, Wins, Loses, RefusedAtLoss, Loaded}
+use Rattle.bb_memory_base.specs.declared.steps.bump.BumpOutcome.TheVariants.{Sees, RefusedAtRead, Wins}
+use Rattle.bb_memory_base.specs.declared.steps.bump.BumpOutcome.TheVariants.{Loses, RefusedAtLoss, Loaded}
 use Rattle.bb_memory_base.proofs.SliceGets.{length-set_at, slice_get-set_same}
 use Rattle.bb_memory_base.proofs.BumpLogs.{read_agrees, exchange_agrees, load_agrees}
 use Rattle.bb_memory_base.proofs.BumpPositions.{interleaved, position_within, seen_below}
@@ -46,7 +49,8 @@ known_as scene state rule party log there own = record {
   within = position_within scene rule.position rule.logs rule.opened rule.agree;
 }
 
-pub known : (scene : BumpScene) (state : State ℕ SeatView) (rule : WordsAndLogsAgree scene state) (seat party : ℕ) (log : BumpLog) →
+pub known : (scene : BumpScene) (state : State ℕ SeatView) (rule : WordsAndLogsAgree scene state)
+    (seat party : ℕ) (log : BumpLog) →
     get_elem? state.views seat ≡ some (alone scene party log) → IsKnown scene state rule party log
 known scene state rule seat party log at =
     let have = rule.seated.known seat (alone scene party log) at in known_as scene state rule party log have.0 have.1
@@ -69,7 +73,8 @@ step_keeps scene state rule seat party log kind outcome left at agree =
       words = ap (λ (words : List ℕ). set words 0 left) rule.words;
       opened = rule.opened;
       one_a_party = length-set_at rule.logs party (log ++ entry_of kind outcome ∷ []) ∙ rule.one_a_party;
-      seated = seated_step scene.parties rule.logs state.views seat scene party log (log ++ entry_of kind outcome ∷ []) rule.seated at;
+      seated =
+          seated_step scene.parties rule.logs state.views seat scene party log (log ++ entry_of kind outcome ∷ []) rule.seated at;
     }
 
 -- A step of the machine, as the table asks for it: `left` is what it does to the word, of which the party has then seen the
@@ -78,8 +83,10 @@ step_tells : (scene : BumpScene) (slots seat party : ℕ) (log : BumpLog) (left 
     (outcome : ℕ → BumpOutcome) →
     ((logs : List BumpLog) (found : ℕ) → party < scene.parties → HasLog logs party log → LogsAgree scene found logs →
     LogsAgree scene (left found) (with_entry logs party log (entry_of kind (outcome found)))) →
-    ((found : ℕ) → seen_in scene log ≤ found → greater_of (seen_in scene log) (position_in scene.region (outcome found)) ≡ left found) →
-    Allows (WordsAndLogsAgree scene) slots seat (alone scene party log, []) 0 left (λ found me. Tells scene party log kind (outcome found) found me)
+    ((found : ℕ) → seen_in scene log ≤ found →
+    greater_of (seen_in scene log) (position_in scene.region (outcome found)) ≡ left found) →
+    Allows (WordsAndLogsAgree scene) slots seat (alone scene party log, []) 0 left
+    (λ found me. Tells scene party log kind (outcome found) found me)
 step_tells scene slots seat party log left kind outcome fit sees state rule _ at _ =
     let know = known scene state rule seat party log at in
     let word = know.word in
@@ -99,7 +106,8 @@ step_tells scene slots seat party log left kind outcome fit sees state rule _ at
       record {
         seat = record {
           is = refl;
-          interleaved = subst (Interleaving scene party new) (sym (sees found above) ∙ sym (seen_next scene log kind (outcome found)))
+          interleaved =
+              subst (Interleaving scene party new) (sym (sees found above) ∙ sym (seen_next scene log kind (outcome found)))
               (interleaved scene (left found) logs party new agree own);
         };
         seen = above;
@@ -117,7 +125,8 @@ pub loads_as : (scene : BumpScene) (slots seat party : ℕ) (log : BumpLog) (me 
     call_in log ≡ None →
     Allows (WordsAndLogsAgree scene) slots seat me 0 (λ found. found) (loads (step slots 0 0 0 none) me)
 loads_as scene slots seat party log me is idle =
-    subst (λ (m : Me ℕ SeatView). Allows (WordsAndLogsAgree scene) slots seat m 0 (λ found. found) (loads (step slots 0 0 0 none) m)) (sym is)
+    subst (λ (m : Me ℕ SeatView). Allows (WordsAndLogsAgree scene) slots seat m 0 (λ found. found)
+    (loads (step slots 0 0 0 none) m)) (sym is)
     (step_tells scene slots seat party log (λ found. found) (Load party) Loaded
     (λ logs found there own agree. load_agrees scene found logs party log agree own there idle)
     (λ found. greater_of-found (seen_in scene log) found))
@@ -130,13 +139,16 @@ read_sees : (scene : BumpScene) (seen found : ℕ) (layout : Layout) (fitting : 
 read_sees scene seen found layout true above = omega arith
 read_sees scene seen found layout false above = omega arith
 
-pub reads_as : (scene : BumpScene) (slots seat party : ℕ) (layout : Layout) (asked : Option Layout) (log : BumpLog) (me : Me ℕ SeatView) →
+pub reads_as : (scene : BumpScene) (slots seat party : ℕ) (layout : Layout) (asked : Option Layout)
+    (log : BumpLog) (me : Me ℕ SeatView) →
     me ≡ (alone scene party log, []) → call_in log ≡ None → 0 < layout.size → asked ≡ Some layout →
     Allows (WordsAndLogsAgree scene) slots seat me 0 (λ found. found) (reads asked (step slots 0 0 0 none) me)
 reads_as scene slots seat party layout asked log me is idle asks for_it =
-    subst (λ (m : Me ℕ SeatView × Option Layout). Allows (WordsAndLogsAgree scene) slots seat m.0 0 (λ found. found) (reads m.1 (step slots 0 0 0 none) m.0))
+    subst (λ (m : Me ℕ SeatView × Option Layout). Allows (WordsAndLogsAgree scene) slots seat m.0 0 (λ found. found)
+    (reads m.1 (step slots 0 0 0 none) m.0))
     (λ i. (sym is i, sym for_it i))
-    (step_tells scene slots seat party log (λ found. found) (Read party layout) (λ found. (read_move scene.region found layout).outcome)
+    (step_tells scene slots seat party log (λ found. found) (Read party layout)
+    (λ found. (read_move scene.region found layout).outcome)
     (λ logs found there own agree. read_agrees scene found logs party log layout agree own there idle asks)
     (λ found. read_sees scene (seen_in scene log) found layout (fits scene.region found layout)))
 
@@ -175,7 +187,8 @@ exchange_sees scene seen found call true fitting above = omega (arith, chunk_at-
 exchange_sees scene seen found call false true above = omega arith
 exchange_sees scene seen found call false false above = omega arith
 
-exchanges_at : (scene : BumpScene) (slots seat party : ℕ) (call : OngoingCall) (behind : ℕ) (log : BumpLog) → call_in log ≡ Some call →
+exchanges_at : (scene : BumpScene) (slots seat party : ℕ) (call : OngoingCall) (behind : ℕ) (log : BumpLog) →
+    call_in log ≡ Some call →
     behind ≡ position_behind scene.region (chunk_at scene.region call.seen call.layout) →
     Allows (WordsAndLogsAgree scene) slots seat (alone scene party log, []) 0 (λ found. either (eqb found call.seen) behind found)
     (λ found me. Tells scene party log (Exchange party) (exchange_move scene.region found call).outcome found me)
@@ -183,19 +196,24 @@ exchanges_at scene slots seat party call behind log in_call is =
     let left : ℕ → ℕ = λ found. either (eqb found call.seen) behind found in
     let outcome : ℕ → BumpOutcome = λ found. (exchange_move scene.region found call).outcome in
     step_tells scene slots seat party log left (Exchange party) outcome
-    (λ logs found there own agree. subst (λ (n : ℕ). LogsAgree scene n (with_entry logs party log (entry_of (Exchange party) (outcome found))))
+    (λ logs found there own agree.
+    subst (λ (n : ℕ). LogsAgree scene n (with_entry logs party log (entry_of (Exchange party) (outcome found))))
     (sym (exchange_word scene found behind call is))
     (exchange_agrees scene found logs party log call agree own there in_call))
-    (λ found above. exchange_sees scene (seen_in scene log) found call (found == call.seen) (fits scene.region found call.layout) above
+    (λ found above. exchange_sees scene (seen_in scene log) found call (found == call.seen)
+    (fits scene.region found call.layout) above
     ∙ sym (exchange_word scene found behind call is))
 
-pub exchanges_as : (scene : BumpScene) (slots seat party : ℕ) (layout : Layout) (seen behind : ℕ) (log : BumpLog) (me : Me ℕ SeatView) →
+pub exchanges_as : (scene : BumpScene) (slots seat party : ℕ) (layout : Layout) (seen behind : ℕ)
+    (log : BumpLog) (me : Me ℕ SeatView) →
     me ≡ (alone scene party log, []) → call_in log ≡ Some (record { layout = layout; seen = seen }) →
     behind ≡ position_behind scene.region (chunk_at scene.region seen layout) →
-    Allows (WordsAndLogsAgree scene) slots seat me 0 (λ found. either (eqb found seen) behind found) (exchanges (step slots 0 seen behind none) me)
+    Allows (WordsAndLogsAgree scene) slots seat me 0 (λ found. either (eqb found seen) behind found)
+    (exchanges (step slots 0 seen behind none) me)
 exchanges_as scene slots seat party layout seen behind log me is in_call behind_is =
     let call : OngoingCall = record { layout = layout; seen = seen } in
-    subst (λ (m : Me ℕ SeatView). Allows (WordsAndLogsAgree scene) slots seat m 0 (λ found. either (eqb found seen) behind found) (exchanges (step slots 0 seen behind none) m)) (sym is)
+    subst (λ (m : Me ℕ SeatView). Allows (WordsAndLogsAgree scene) slots seat m 0 (λ found. either (eqb found seen) behind found)
+    (exchanges (step slots 0 seen behind none) m)) (sym is)
     (λ state rule long at small.
     let x = exchanges_at scene slots seat party call behind log in_call behind_is state rule long at small in
     let found : ℕ = get_or state.words 0 0 in (
@@ -204,6 +222,7 @@ exchanges_as scene slots seat party layout seen behind log me is in_call behind_
       x.2,
       x.3,
       λ other now. subst (λ (c : OngoingCall).
-          Tells scene party log (Exchange party) (exchange_move scene.region found c).outcome found (x.0, carried_after {S = ℕ} [] x.1))
+          Tells scene party log (Exchange party) (exchange_move scene.region found c).outcome found
+          (x.0, carried_after {S = ℕ} [] x.1))
           (same_Some _ _ (sym in_call ∙ now)) x.4,
     ))

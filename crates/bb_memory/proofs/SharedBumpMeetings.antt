@@ -15,7 +15,8 @@ use Rattle.bb_memory.proofs.Seatings.{two_parties}
 -- a load that changes nothing
 unmoved : (scene : BumpScene) (state : State ℕ SeatView) (rule : WordsAndLogsAgree scene state) (seat : ℕ) (view : SeatView) →
     get_elem? state.views seat ≡ some view →
-    WordsAndLogsAgree scene record { words = set state.words 0 (get_or state.words 0 0); homes = state.homes; views = set state.views seat view }
+    WordsAndLogsAgree scene
+    record { words = set state.words 0 (get_or state.words 0 0); homes = state.homes; views = set state.views seat view }
 unmoved scene state rule seat view at =
     let same_words : set state.words 0 (get_or state.words 0 0) ≡ state.words = set_first state.words rule.position rule.words in
     let same_views = set_again state.views seat view at in
@@ -40,7 +41,8 @@ meets_at scene slots seat a b state rule _ at _ =
         refl,
         record {
           differ = two;
-          apart = chunks_apart scene rule.position rule.logs a.number a.log b.number b.log rule.opened rule.agree have.1 have.2.1 two;
+          apart =
+              chunks_apart scene rule.position rule.logs a.number a.log b.number b.log rule.opened rule.agree have.1 have.2.1 two;
           interleaved = (
             rule.position,
             both_interleaved scene rule.position rule.logs a.number a.log b.number b.log rule.agree have.1 have.2.1,
@@ -53,7 +55,8 @@ pub meets_as : (scene : BumpScene) (slots seat : ℕ) (a b : NumberedLog) (me : 
     me ≡ (standing_for scene (a ∷ b ∷ []), []) →
     Allows (WordsAndLogsAgree scene) slots seat me 0 (λ found. found) (meets (step slots 0 0 0 none) me)
 meets_as scene slots seat a b me is =
-    subst (λ (m : Me ℕ SeatView). Allows (WordsAndLogsAgree scene) slots seat m 0 (λ found. found) (meets (step slots 0 0 0 none) m)) (sym is)
+    subst (λ (m : Me ℕ SeatView). Allows (WordsAndLogsAgree scene) slots seat m 0 (λ found. found)
+    (meets (step slots 0 0 0 none) m)) (sym is)
     (meets_at scene slots seat a b)
 
 -- what such a load has told

@@ -80,7 +80,8 @@ told_load scene number log found me new of told =
     subst (λ (m : Me ℕ SeatView). TellsLoad m.0.scene (number_of m.0) (view_log m.0) found new) of.is told
 
 pub told_read : (scene : BumpScene) (number : ℕ) (log : BumpLog) (layout : Layout) (found : ℕ) (asked : Option Layout)
-    (play : Step ℕ) (me new : Me ℕ SeatView) → IsSeatOf scene number log me → asked ≡ Some layout → reads asked play me found new →
+    (play : Step ℕ) (me new : Me ℕ SeatView) → IsSeatOf scene number log me → asked ≡ Some layout →
+    reads asked play me found new →
     TellsRead scene number log layout found new
 told_read scene number log layout found asked play me new of for_it told =
     subst (λ (m : Me ℕ SeatView). TellsRead m.0.scene (number_of m.0) (view_log m.0) layout found new) of.is

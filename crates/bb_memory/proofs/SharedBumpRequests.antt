@@ -1,12 +1,14 @@
 -- How a request goes on: from its read to the step that decides it.
-use Rattle.std.proofs.Common.{◌≡◌, ◌≢◌, ℕ, ◌<◌, ◌≤◌, [], ◌∷◌, ◌++◌, Bool, true, false, refl, sym, ap, ◌∙◌, subst, arith, append_assoc, Some, eq-eqb, ne_eqb}
+use Rattle.std.proofs.Common.{◌≡◌, ◌≢◌, ℕ, ◌+◌, ◌<◌, ◌≤◌, [], ◌∷◌, ◌++◌, Bool, true, false, refl}
+use Rattle.std.proofs.Common.{sym, ap, ◌∙◌, subst, arith, append_assoc, Some, eq-eqb, ne_eqb}
 use Rattle.std.specs.Prelude.{if◌then◌else◌}
 use Rattle.std.proofs.lemmas.List.Elements.{All-from_recursion}
 use Rattle.atomic_table.specs.Table.{Me}
 use Rattle.bb_memory_base.specs.Region.{Region, region_end}
 use Rattle.bb_memory_base.specs.Chunk.{Chunk, chunk_end}
-use Rattle.bb_memory_base.specs.BumpMachine.{BumpScene, OngoingCall, chunk_at, ending, exchange_move, fits, loss_move, position_behind, read_move, seeing}
-use Rattle.bb_memory_base.specs.BumpHistory.{BumpLog, entry_of, is_loss}
+use Rattle.bb_memory_base.specs.BumpMachine.{BumpScene, OngoingCall, chunk_at, ending, exchange_move}
+use Rattle.bb_memory_base.specs.BumpMachine.{fits, loss_move, position_behind, read_move, seeing}
+use Rattle.bb_memory_base.specs.BumpHistory.{BumpLog, chunks_won, entry_of, is_loss, losses_in}
 use Rattle.bb_memory_base.specs.BumpLogs.{HasPositionFrom, HasPositionUpTo, call_after, call_in, seen_in}
 use Rattle.bb_memory_base.specs.declared.layout.Layout.{Layout}
 use Rattle.bb_memory_base.specs.declared.steps.bump.BumpStep.TheVariants.{Read, Exchange}
@@ -15,17 +17,32 @@ use Rattle.bb_memory_base.specs.declared.steps.bump.BumpOutcome.TheVariants.{See
 use Rattle.bb_memory_base.proofs.BumpRuns.{chunk_at-above}
 use Rattle.bb_memory.specs.Seats.{number_of, view_log}
 use Rattle.bb_memory.specs.SharedBumpRule.{IsSeatOf, SeatView}
-use Rattle.bb_memory.specs.SharedBump.{at_loss, at_read, by_loss, by_read}
-use Rattle.bb_memory.specs.SharedBumpSteps.{HasRefused, HasWon, IsCounted, IsTrying, Tells, TellsExchange, TellsRead}
+use Rattle.bb_memory.specs.SharedBump.{Tries, at_loss, at_read, by_loss, by_read}
+use Rattle.bb_memory.specs.SharedBumpSteps.{HasRefused, HasWon, IsCounted, Tells, TellsExchange, TellsRead}
 use Rattle.bb_memory.proofs.SharedBumpTries.{counted_more, losses_more, won_then}
 use Rattle.bb_memory.proofs.SharedLogs.{call_next, losses_in-cons, seen_next}
+
+-- A request under way: the party has tried so, and has seen `last`, which is no more than what its log says. Each loss has
+-- raised that by one at least, and none of these steps has won a chunk.
+pub record IsTrying (scene : BumpScene) (number : ℕ) (log : BumpLog) (layout : Layout) (last : ℕ)
+    (me : Me ℕ SeatView) : Type 0 where
+  pub tried : BumpLog
+  pub seat : IsSeatOf scene number (log ++ tried) me
+  pub tries : Tries scene.region number layout tried last
+  pub counted : IsCounted scene log tried
+  pub few : losses_in tried + seen_in scene log ≤ last
+  pub chunks : chunks_won tried ≡ []
+  pub within : last ≤ scene.region.size
+  pub call : call_in (log ++ tried) ≡ Some (record { layout = layout; seen = last })
+  pub seen : last ≤ seen_in scene (log ++ tried)
 
 -- WHAT THE MACHINE ANSWERS, BY ITS TESTS
 
 read_answers : (region : Region) (found : ℕ) (layout : Layout) (fitting : Bool) → fits region found layout ≡ fitting →
     (read_move region found layout).outcome ≡ (if fitting then Sees found else RefusedAtRead found)
 read_answers region found layout fitting is =
-    ap (λ (b : Bool). (if b then seeing (Sees found) found layout else ending (RefusedAtRead found) found).outcome) is ∙ by_test fitting
+    ap (λ (b : Bool). (if b then seeing (Sees found) found layout else ending (RefusedAtRead found) found).outcome) is
+    ∙ by_test fitting
   where
     by_test : (b : Bool) → (if b then seeing (Sees found) found layout else ending (RefusedAtRead found) found).outcome ≡
         (if b then Sees found else RefusedAtRead found)
@@ -37,9 +54,11 @@ loss_answers : (region : Region) (found : ℕ) (call : OngoingCall) (fitting : B
     (exchange_move region found call).outcome ≡ (if fitting then Loses found else RefusedAtLoss found)
 loss_answers region found call fitting apart is =
     let chunk = chunk_at region found call.layout in
-    ap (λ (b : Bool). (if b then ending (Wins chunk) (position_behind region chunk) else loss_move region found call.layout).outcome)
+    ap (λ (b : Bool). (if b then ending (Wins chunk) (position_behind region chunk)
+    else loss_move region found call.layout).outcome)
     (ne_eqb found call.seen apart)
-    ∙ ap (λ (b : Bool). (if b then seeing (Loses found) found call.layout else ending (RefusedAtLoss found) found).outcome) is ∙ by_test fitting
+    ∙ ap (λ (b : Bool). (if b then seeing (Loses found) found call.layout else ending (RefusedAtLoss found) found).outcome) is
+    ∙ by_test fitting
   where
     by_test : (b : Bool) → (if b then seeing (Loses found) found call.layout else ending (RefusedAtLoss found) found).outcome ≡
         (if b then Loses found else RefusedAtLoss found)
@@ -50,7 +69,8 @@ win_answers : (region : Region) (found : ℕ) (call : OngoingCall) → found ≡
     (exchange_move region found call).outcome ≡ Wins (chunk_at region found call.layout)
 win_answers region found call same =
     let chunk = chunk_at region found call.layout in
-    ap (λ (b : Bool). (if b then ending (Wins chunk) (position_behind region chunk) else loss_move region found call.layout).outcome)
+    ap (λ (b : Bool). (if b then ending (Wins chunk) (position_behind region chunk)
+    else loss_move region found call.layout).outcome)
     (eq-eqb found call.seen same)
 
 -- A READ
@@ -103,14 +123,16 @@ module _ (scene : BumpScene) (party : ℕ) (log : BumpLog) (layout : Layout) (fo
 -- AN EXCHANGE
 
 module _ (scene : BumpScene) (party : ℕ) (log : BumpLog) (layout : Layout) (last found : ℕ) (me new : Me ℕ SeatView)
-    (trying : IsTrying scene party log layout last me) (told : TellsExchange scene (number_of me.0) (view_log me.0) found new) where
+    (trying : IsTrying scene party log layout last me)
+    (told : TellsExchange scene (number_of me.0) (view_log me.0) found new) where
   tells_so : Tells scene party (log ++ trying.tried) (Exchange party)
       (exchange_move scene.region found (record { layout = layout; seen = last })).outcome found new
   tells_so =
       subst (λ (m : Me ℕ SeatView). TellsExchange scene (number_of m.0) (view_log m.0) found new) trying.seat.is told
       (record { layout = layout; seen = last }) trying.call
 
-  exchange_told : (outcome : BumpOutcome) → (exchange_move scene.region found (record { layout = layout; seen = last })).outcome ≡ outcome →
+  exchange_told : (outcome : BumpOutcome) →
+      (exchange_move scene.region found (record { layout = layout; seen = last })).outcome ≡ outcome →
       Tells scene party (log ++ trying.tried) (Exchange party) outcome found new
   exchange_told outcome is =
       subst (λ (o : BumpOutcome). Tells scene party (log ++ trying.tried) (Exchange party) o found new) is tells_so
@@ -165,7 +187,8 @@ module _ (scene : BumpScene) (party : ℕ) (log : BumpLog) (layout : Layout) (la
   pub refused_later : found ≢ last → fits scene.region found layout ≡ false → HasRefused scene party log layout new
   refused_later apart unfit =
       let decides = entry_of (Exchange party) (RefusedAtLoss found) in
-      let tells = exchange_told (RefusedAtLoss found) (loss_answers scene.region found (record { layout = layout; seen = last }) false apart unfit) in
+      let tells = exchange_told (RefusedAtLoss found)
+      (loss_answers scene.region found (record { layout = layout; seen = last }) false apart unfit) in
       let risen = raises.0 in
       let above = above_least in
       let less : last < found = grind (arith, risen, apart) in
@@ -200,7 +223,8 @@ module _ (scene : BumpScene) (party : ℕ) (log : BumpLog) (layout : Layout) (la
         added = trying.tried ++ decides ∷ [];
         ended = record {
           seat = record { seat = then_seat (Wins chunk) tells; idle = then_call (Wins chunk) };
-          counted = counted_more scene log trying.tried decides trying.counted from up_to (omega (arith, trying.few, trying.within));
+          counted =
+              counted_more scene log trying.tried decides trying.counted from up_to (omega (arith, trying.few, trying.within));
         };
         won = record { seen = last; tried = trying.tried; tries = trying.tries; is = refl; placed = placed };
         chunks = won_then trying.tried decides trying.chunks;

@@ -56,7 +56,8 @@ pub opens : (scene : BumpScene) → scene.opening ≤ scene.region.size →
 opens scene within = record {
   position = scene.opening;
   logs = replicate scene.parties [];
-  agree = opening_agrees scene (replicate scene.parties []) (All-from_recursion (λ (log : BumpLog). log ≡ []) (replicate scene.parties []) (all_empty scene.parties));
+  agree = opening_agrees scene (replicate scene.parties [])
+      (All-from_recursion (λ (log : BumpLog). log ≡ []) (replicate scene.parties []) (all_empty scene.parties));
   words = refl;
   opened = within;
   one_a_party = length-replicate scene.parties [];

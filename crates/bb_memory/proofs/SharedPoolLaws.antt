@@ -1,5 +1,6 @@
 -- What a party's history says.
-use Rattle.std.proofs.Common.{◌≡◌, ◌≢◌, ℕ, zero, suc, ◌+◌, ◌<◌, ◌≤◌, Bool, true, false, List, [], ◌∷◌, ◌++◌, Some, take, sym, ◌∙◌, ap, subst, add-one, append_assoc, arith, inl, inr, ◌⊎◌}
+use Rattle.std.proofs.Common.{◌≡◌, ◌≢◌, ℕ, zero, suc, ◌+◌, ◌<◌, ◌≤◌, Bool, true, false, List, [], ◌∷◌, ◌++◌}
+use Rattle.std.proofs.Common.{Some, take, sym, ◌∙◌, ap, subst, add-one, append_assoc, arith, inl, inr, ◌⊎◌}
 use Rattle.std.specs.Prelude.{filter, if◌then◌else◌, slice_get}
 use Rattle.std.proofs.lemmas.Bool.{cases_Bool, cases_lt, le-ltb}
 use Rattle.std.proofs.lemmas.Option.{slice_get_within}
@@ -22,7 +23,8 @@ use Rattle.bb_memory_base.proofs.PoolPasses.{refused_found_held}
 use Rattle.bb_memory_base.proofs.PoolRuns.{pool_run, run_is_sound, taken_is_held}
 use Rattle.bb_memory_base.proofs.PoolSteps.{length-left_by}
 use Rattle.bb_memory.specs.Pool.{AreAStrideApart}
-use Rattle.bb_memory.specs.SharedPool.{AreInterleaved, HasFoundAllHeld, IsHistoryRun, IsParty, PoolParty, SharedPool, TakenBucket, chunk_of, losses, refused_pass}
+use Rattle.bb_memory.specs.SharedPool.{AreInterleaved, HasFoundAllHeld, IsHistoryRun, IsParty, PoolParty}
+use Rattle.bb_memory.specs.SharedPool.{SharedPool, TakenBucket, chunk_of, losses, refused_pass}
 
 pub history_run : (party : PoolParty) (is : IsParty party) (layouts : List Layout) →
     AreAsked party.allocator.scene.geometry is.interleaved.steps layouts →
@@ -69,57 +71,60 @@ history_sound party is layouts live run =
 
 -- REFUSED PASSES
 
--- what a list keeps last stands in it at some place, up to which the list keeps just this
-pub record IsKeptLast {X : Type 0} (test : X → Bool) (list kept : List X) (last : X) : Type 0 where
+-- what a list keeps behind others stands in it at some place, up to which the list keeps just these
+pub record IsKeptAfter {X : Type 0} (test : X → Bool) (list kept : List X) (last : X) : Type 0 where
   pub place : ℕ
   pub there : slice_get list place ≡ Some last
   pub up_to : filter test (take (suc place) list) ≡ kept ++ last ∷ []
 
-kept_behind : {X : Type 0} (test : X → Bool) (first : X) (list kept : List X) (last : X) → IsKeptLast test list kept last →
-    test first ≡ false → IsKeptLast test (first ∷ list) kept last
+-- what is kept of a list whose first is tested, and of what follows it
+abbrev kept_with : {X : Type 0} → X → List X → Bool → List X
+kept_with first rest passes = if passes then first ∷ rest else rest
+
+kept_behind : {X : Type 0} (test : X → Bool) (first : X) (list kept : List X) (last : X) →
+    IsKeptAfter test list kept last → test first ≡ false → IsKeptAfter test (first ∷ list) kept last
 kept_behind test first list kept last rest is = record {
   place = suc rest.place;
   there = rest.there;
-  up_to = ap (λ (b : Bool). if b then first ∷ filter test (take (suc rest.place) list) else filter test (take (suc rest.place) list)) is ∙ rest.up_to;
+  up_to = ap (kept_with first (filter test (take (suc rest.place) list))) is ∙ rest.up_to;
 }
 
-kept_first : {X : Type 0} (test : X → Bool) (first : X) (list kept : List X) (last : X) → test first ≡ true →
-    first ∷ filter test list ≡ kept ++ last ∷ [] →
-    ((rest : List X) → filter test list ≡ rest ++ last ∷ [] → IsKeptLast test list rest last) →
-    IsKeptLast test (first ∷ list) kept last
-kept_first {X = X} test first list [] last passes is later =
+kept_first : {X : Type 0} (test : X → Bool) (first : X) (list kept : List X) (last : X) (after : List X) →
+    test first ≡ true → first ∷ filter test list ≡ kept ++ last ∷ after →
+    ((rest : List X) → filter test list ≡ rest ++ last ∷ after → IsKeptAfter test list rest last) →
+    IsKeptAfter test (first ∷ list) kept last
+kept_first {X = X} test first list [] last after passes is later =
     let same : first ≡ last = cc in record {
       place = 0;
       there = ap (λ (x : X). Some x) same;
-      up_to = ap (λ (b : Bool). if b then first ∷ [] else []) passes ∙ ap (λ (x : X). x ∷ []) same;
+      up_to = ap (kept_with first []) passes ∙ ap (λ (x : X). x ∷ []) same;
     }
-kept_first {X = X} test first list (head ∷ kept) last passes is later =
+kept_first {X = X} test first list (head ∷ kept) last after passes is later =
     let same : first ≡ head = cc in
-    let tail : filter test list ≡ kept ++ last ∷ [] = cc in
+    let tail : filter test list ≡ kept ++ last ∷ after = cc in
     let rest = later kept tail in record {
       place = suc rest.place;
       there = rest.there;
-      up_to = ap (λ (b : Bool). if b then first ∷ filter test (take (suc rest.place) list) else filter test (take (suc rest.place) list)) passes
+      up_to = ap (kept_with first (filter test (take (suc rest.place) list))) passes
           ∙ ap (λ (xs : List X). first ∷ xs) rest.up_to
           ∙ ap (λ (x : X). x ∷ (kept ++ last ∷ [])) same;
     }
 
-nothing_kept : {X : Type 0} (kept : List X) (last : X) → [] ≡ kept ++ last ∷ [] → ⊥
-nothing_kept [] last is = cc
-nothing_kept (head ∷ kept) last is = cc
+nothing_kept : {X : Type 0} (kept : List X) (last : X) (after : List X) → [] ≡ kept ++ last ∷ after → ⊥
+nothing_kept [] last after is = cc
+nothing_kept (head ∷ kept) last after is = cc
 
-kept_last : {X : Type 0} (test : X → Bool) (list kept : List X) (last : X) → filter test list ≡ kept ++ last ∷ [] →
-    IsKeptLast test list kept last
-kept_last test [] kept last is = absurd (nothing_kept kept last is)
-kept_last test (first ∷ list) kept last is = elim (cases_Bool (test first)) [
+kept_after : {X : Type 0} (test : X → Bool) (list kept : List X) (last : X) (after : List X) →
+    filter test list ≡ kept ++ last ∷ after → IsKeptAfter test list kept last
+kept_after test [] kept last after is = absurd (nothing_kept kept last after is)
+kept_after test (first ∷ list) kept last after is = elim (cases_Bool (test first)) [
   | inl passes ↦
-      kept_first test first list kept last passes
-      (sym (ap (λ (b : Bool). if b then first ∷ filter test list else filter test list) passes) ∙ is)
-      (λ rest rest_is. kept_last test list rest last rest_is)
+      kept_first test first list kept last after passes
+      (sym (ap (kept_with first (filter test list)) passes) ∙ is)
+      (λ rest rest_is. kept_after test list rest last after rest_is)
   | inr fails ↦
       kept_behind test first list kept last
-      (kept_last test list kept last
-      (sym (ap (λ (b : Bool). if b then first ∷ filter test list else filter test list) fails) ∙ is)) fails
+      (kept_after test list kept last after (sym (ap (kept_with first (filter test list)) fails) ∙ is)) fails
 ]
 
 -- the last entry of a refused pass over at least one bucket is the loss at which it is refused
@@ -136,23 +141,26 @@ refused_ends (suc bucket) party some = (
   ap (λ (outcome : PoolOutcome). losses (suc bucket) party bucket ++ entry_of (Try party) outcome ∷ []) (last_loss bucket),
 )
 
-pub history_refused : (party : PoolParty) (is : IsParty party) (before : PoolLog) →
-    0 < party.allocator.scene.geometry.buckets →
-    party.log ≡ before ++ refused_pass party.allocator.scene.geometry.buckets party.number → HasFoundAllHeld party is
-history_refused party is before some passed =
+pub history_refused : (party : PoolParty) (is : IsParty party) (before after : PoolLog) →
+    let beginning = before ++ refused_pass party.allocator.scene.geometry.buckets party.number in
+    0 < party.allocator.scene.geometry.buckets → party.log ≡ beginning ++ after → HasFoundAllHeld party is beginning
+history_refused party is before after some has =
     let scene = party.allocator.scene in
     let steps = is.interleaved.steps in
     let history = history_of scene steps in
     let number = party.number in
     let end = refused_ends scene.geometry.buckets number some in
     let entry = entry_of (Try number) (RefusedAtLoss end.0) in
-    let log_is : party.log ≡ (before ++ end.1) ++ entry ∷ [] =
-    passed ∙ ap (λ (log : PoolLog). before ++ log) end.2 ∙ sym (append_assoc before end.1 (entry ∷ [])) in
-    let last = kept_last (λ (other : PoolEntry). is_by number other.step) history (before ++ end.1) entry
+    let beginning : PoolLog = before ++ refused_pass scene.geometry.buckets number in
+    let beginning_is : beginning ≡ (before ++ end.1) ++ entry ∷ [] =
+    ap (λ (log : PoolLog). before ++ log) end.2 ∙ sym (append_assoc before end.1 (entry ∷ [])) in
+    let log_is : party.log ≡ (before ++ end.1) ++ entry ∷ after =
+    has ∙ ap (λ (log : PoolLog). log ++ after) beginning_is ∙ append_assoc (before ++ end.1) (entry ∷ []) after in
+    let last = kept_after (λ (other : PoolEntry). is_by number other.step) history (before ++ end.1) entry after
     (is.interleaved.logged ∙ log_is) in
     let refused : IsRefusedAt history number last.place = record { bucket = end.0; there = last.there } in record {
       last = last.place;
-      its_last = ap (λ (k : ℕ). entries_by number (take k history)) (add-one last.place) ∙ last.up_to ∙ sym log_is;
+      its_last = ap (λ (k : ℕ). entries_by number (take k history)) (add-one last.place) ∙ last.up_to ∙ sym beginning_is;
       refused = refused;
       found = λ bucket below. refused_found_held scene steps number last.place bucket is.scene.geometry refused below;
     }
@@ -197,7 +205,8 @@ both_held a b met layouts live bucket is run held =
     let scene = a.allocator.scene in
     elim held [
       | inl own ↦ (held_in_list scene met.steps a.number bucket a.log layouts live is.scene.geometry met.logged run own).1
-      | inr others ↦ (held_in_list scene met.steps b.number bucket b.log layouts live is.scene.geometry met.other_logged run others).1
+      | inr others ↦
+          (held_in_list scene met.steps b.number bucket b.log layouts live is.scene.geometry met.other_logged run others).1
     ]
 
 -- no bucket is held after both their logs

@@ -1,5 +1,6 @@
 -- How a pass goes on: from its first exchange to the step that ends it.
-use Rattle.std.proofs.Common.{◌≡◌, ℕ, ◌+◌, ◌<◌, [], ◌∷◌, ◌++◌, append_assoc, append-nil, add-one, refl, sym, ap, ◌∙◌, subst, arith, Option, Some, None}
+use Rattle.std.proofs.Common.{◌≡◌, ℕ, ◌+◌, ◌<◌, [], ◌∷◌, ◌++◌, append_assoc, append-nil}
+use Rattle.std.proofs.Common.{add-one, refl, sym, ap, ◌∙◌, subst, arith, Option, Some, None}
 use Rattle.std.specs.Prelude.{MatchOption}
 use borrow.Author.Count.{below_more}
 use Rattle.atomic_table.specs.Table.{Me}
@@ -12,7 +13,8 @@ use Rattle.bb_memory.specs.Seats.{number_of, view_log}
 use Rattle.bb_memory.specs.SharedPool.{AreAllHeldAfter, losses, refused_pass, taking_pass}
 use Rattle.bb_memory.specs.SharedPoolRule.{IsSeatOf, SeatView}
 use Rattle.bb_memory.specs.SharedPoolSteps.{HasEnded, HasRefused, HasTaken, TellsLoss, TellsTaking}
-use Rattle.bb_memory.proofs.SharedPoolTries.{held_after_refusal, held_after_taking, idle_after_refusal, idle_after_taking, next_after_losses, same_held}
+use Rattle.bb_memory.proofs.SharedPoolTries.{held_after_refusal, held_after_taking, idle_after_refusal}
+use Rattle.bb_memory.proofs.SharedPoolTries.{idle_after_taking, next_after_losses, same_held}
 
 -- a pass under way: since it began, the seat's party has lost at the buckets below this one
 pub record IsPassing (scene : PoolScene) (number : ℕ) (log : PoolLog) (bucket : ℕ) (me : Me ℕ SeatView) : Type 0 where

@@ -1,5 +1,5 @@
 -- What the buckets of a region store.
-use Rattle.std.specs.Prelude.{◌≡◌, ℕ, ◌<◌, ◌^◌, Bool, List, Option, IfSome, length}
+use Rattle.std.specs.Prelude.{◌≡◌, ℕ, ◌<◌, ◌^◌, Option, IfSome}
 use Rattle.bb_memory_base.specs.Region.{IsRegion}
 use Rattle.bb_memory_base.specs.FirstPlace.{first_place}
 use Rattle.bb_memory_base.specs.PoolGeometry.{PoolGeometry, IsPoolGeometry, bucket_place, stride}
@@ -8,19 +8,16 @@ use Rattle.bb_memory_base.specs.PoolGeometry.{PoolGeometry, IsPoolGeometry, buck
 abbrev pub Shifts : ℕ → Option ℕ → Type 0
 Shifts divisor shift = IfSome shift (λ k. (k < 64) × (divisor ≡ 2 ^ k))
 
--- this is the first bucket's place and this the stride, and the buckets lie in a region
-pub record IsMeasured (geometry : PoolGeometry) (first step : ℕ) : Type 0 where
+-- this is the first bucket's place, this the stride and this its shift, and the buckets lie in a region
+pub record IsMeasured (geometry : PoolGeometry) (first step : ℕ) (shift : Option ℕ)
+    : Type 0 where
   pub is_region : IsRegion geometry.region
   pub is_geometry : IsPoolGeometry geometry
   pub begins : first ≡ first_place geometry.region geometry.bucket
   pub strides : step ≡ stride geometry.bucket
+  pub shifts : Shifts step shift
 
 -- the place is that of a bucket
 abbrev pub IsPlaceOfBucket : PoolGeometry → ℕ → Type 0
 IsPlaceOfBucket geometry place =
     (i : ℕ) × (i < geometry.buckets) × (place ≡ bucket_place geometry i)
-
--- the set has a flag for each bucket, and the shift is that of the stride
-pub record IsHeldSet (geometry : PoolGeometry) (held : List Bool) (shift : Option ℕ) : Type 0 where
-  pub flags : length held ≡ geometry.buckets
-  pub shifts : Shifts (stride geometry.bucket) shift

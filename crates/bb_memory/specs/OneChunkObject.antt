@@ -6,7 +6,8 @@ use Rattle.bb_memory_base.specs.Chunk.{Chunk}
 use Rattle.bb_memory_base.specs.ResizableObject.{ResizableObject, resizable_object_of}
 use Rattle.bb_memory_base.specs.declared.layout.Layout.{Layout}
 use Rattle.bb_memory_base.specs.declared.allocator.AllocationError.{AllocationError}
-use Rattle.bb_memory_base.specs.declared.allocator.AllocationError.TheVariants.{SizeIsZero, SizeTooLarge, AlignmentFailure, OutOfMemory}
+use Rattle.bb_memory_base.specs.declared.allocator.AllocationError.TheVariants.{SizeIsZero, SizeTooLarge}
+use Rattle.bb_memory_base.specs.declared.allocator.AllocationError.TheVariants.{AlignmentFailure, OutOfMemory}
 use Rattle.bb_memory_base.specs.declared.allocator.AllocationGrowError.{AllocationGrowError}
 use Rattle.bb_memory_base.specs.declared.allocator.AllocationGrowError.TheVariants as grow
 use Rattle.bb_memory_base.specs.declared.allocator.AllocationShrinkError.{AllocationShrinkError}

@@ -8,9 +8,11 @@ use Rattle.bb_memory_base.specs.BumpHistory.{BumpLog, chunks_won, entry_of}
 use Rattle.bb_memory_base.specs.BumpLogs.{CommonInterleaving, Interleaving, HasPositionFrom, HasPositionUpTo, call_in, seen_in}
 use Rattle.bb_memory_base.specs.declared.layout.Layout.{Layout}
 use Rattle.bb_memory_base.specs.declared.allocator.AllocationError.{AllocationError}
-use Rattle.bb_memory_base.specs.declared.allocator.AllocationError.TheVariants.{SizeIsZero, SizeTooLarge, AlignmentFailure, OutOfMemory}
+use Rattle.bb_memory_base.specs.declared.allocator.AllocationError.TheVariants.{SizeIsZero, SizeTooLarge}
+use Rattle.bb_memory_base.specs.declared.allocator.AllocationError.TheVariants.{AlignmentFailure, OutOfMemory}
 use Rattle.bb_memory_base.specs.declared.steps.bump.BumpStep.TheVariants.{Read, Exchange, Load}
-use Rattle.bb_memory_base.specs.declared.steps.bump.BumpOutcome.TheVariants.{Sees, RefusedAtRead, Wins, Loses, RefusedAtLoss, Loaded}
+use Rattle.bb_memory_base.specs.declared.steps.bump.BumpOutcome.TheVariants.{Sees, RefusedAtRead, Wins}
+use Rattle.bb_memory_base.specs.declared.steps.bump.BumpOutcome.TheVariants.{Loses, RefusedAtLoss, Loaded}
 
 -- a shared bump: which one it is, and where its machine began: its region, the position at `share`, and how many parties it has
 pub record SharedBump : Type 0 where

@@ -1,5 +1,5 @@
 -- What each step on a shared bump's word tells the party that makes it, and a request as it stands at its party's seat.
-use Rattle.std.specs.Prelude.{◌≡◌, ◌≢◌, ℕ, ◌+◌, ◌≤◌, List, [], ◌∷◌, ◌++◌, Option, Some, None, All}
+use Rattle.std.specs.Prelude.{◌≡◌, ◌≢◌, ℕ, ◌≤◌, List, [], ◌∷◌, ◌++◌, Option, Some, None, All}
 use Rattle.atomic_table.specs.Table.{Me, Step}
 use Rattle.bb_memory_base.specs.Chunk.{Chunk}
 use Rattle.bb_memory_base.specs.BumpMachine.{BumpScene, OngoingCall, read_move, exchange_move}
@@ -11,7 +11,7 @@ use Rattle.bb_memory_base.specs.declared.steps.bump.BumpStep.TheVariants.{Read, 
 use Rattle.bb_memory_base.specs.declared.steps.bump.BumpOutcome.{BumpOutcome}
 use Rattle.bb_memory_base.specs.declared.steps.bump.BumpOutcome.TheVariants.{Loaded}
 use Rattle.bb_memory.specs.Seats.{number_of, view_log}
-use Rattle.bb_memory.specs.SharedBump.{HaveChunksApart, IsRefused, IsWon, Tries}
+use Rattle.bb_memory.specs.SharedBump.{HaveChunksApart, IsRefused, IsWon}
 use Rattle.bb_memory.specs.SharedBumpRule.{IsSeatOf, IsSeatOfIdle, NumberedLog, SeatView}
 
 -- WHAT A STEP TELLS
@@ -84,20 +84,6 @@ pub record IsCounted (scene : BumpScene) (log added : BumpLog) : Type 0 where
   pub seen : All (HasPositionFrom (seen_in scene log) scene.region) added
   pub within : All (HasPositionUpTo scene.region.size scene.region) added
   pub losses : losses_in added ≤ scene.region.size
-
--- A request under way: the party has tried so, and has seen `last`, which is no more than what its log says. Each loss has
--- raised that by one at least, and none of these steps has won a chunk.
-pub record IsTrying (scene : BumpScene) (number : ℕ) (log : BumpLog) (layout : Layout) (last : ℕ)
-    (me : Me ℕ SeatView) : Type 0 where
-  pub tried : BumpLog
-  pub seat : IsSeatOf scene number (log ++ tried) me
-  pub tries : Tries scene.region number layout tried last
-  pub counted : IsCounted scene log tried
-  pub few : losses_in tried + seen_in scene log ≤ last
-  pub chunks : chunks_won tried ≡ []
-  pub within : last ≤ scene.region.size
-  pub call : call_in (log ++ tried) ≡ Some (record { layout = layout; seen = last })
-  pub seen : last ≤ seen_in scene (log ++ tried)
 
 -- A request that has ended: the party is idle, and has added this.
 pub record HasEnded (scene : BumpScene) (number : ℕ) (log added : BumpLog) (new : Me ℕ SeatView)

@@ -11,7 +11,8 @@ use Rattle.bb_memory_base.specs.PoolCalls.{FoundHeld, IsPoolRun, IsRefusedAt}
 use Rattle.bb_memory_base.specs.PoolLogs.{CommonInterleaving, Interleaving, IsHeldAfter, loss_at, pass_in}
 use Rattle.bb_memory_base.specs.declared.layout.Layout.{Layout}
 use Rattle.bb_memory_base.specs.declared.allocator.AllocationError.{AllocationError}
-use Rattle.bb_memory_base.specs.declared.allocator.AllocationError.TheVariants.{SizeIsZero, SizeTooLarge, AlignmentFailure, OutOfMemory}
+use Rattle.bb_memory_base.specs.declared.allocator.AllocationError.TheVariants.{SizeIsZero, SizeTooLarge}
+use Rattle.bb_memory_base.specs.declared.allocator.AllocationError.TheVariants.{AlignmentFailure, OutOfMemory}
 use Rattle.bb_memory_base.specs.declared.steps.pool.PoolStep.TheVariants.{Try, GiveBack}
 use Rattle.bb_memory_base.specs.declared.steps.pool.PoolOutcome.TheVariants.{Takes, Gives}
 
@@ -133,11 +134,13 @@ pub record IsParty (party : PoolParty) : Type 0 where
   pub idle : pass_in party.log ≡ None
   pub interleaved : IsInterleaved party
 
--- the party's last step refused its pass, which has found each bucket held in the run, each at a step of its own
-pub record HasFoundAllHeld (party : PoolParty) (is : IsParty party) : Type 0 where
+-- The pass with which this beginning of the party's log ends was refused, and has found each bucket held in the run, each at a
+-- step of its own. Its last step is the one after which the party's entries are that beginning.
+pub record HasFoundAllHeld (party : PoolParty) (is : IsParty party) (beginning : PoolLog)
+    : Type 0 where
   pub last : ℕ
   pub its_last : let history = history_of party.allocator.scene is.interleaved.steps in
-      entries_by party.number (take (last + 1) history) ≡ party.log
+      entries_by party.number (take (last + 1) history) ≡ beginning
   pub refused : let history = history_of party.allocator.scene is.interleaved.steps in
       IsRefusedAt history party.number last
   pub found : (bucket : ℕ) → bucket < party.allocator.scene.geometry.buckets →

@@ -1,5 +1,6 @@
 -- A set of numbers below a bound, as the bits of words.
-use Rattle.std.specs.Prelude.{◌≡◌, ◌≢◌, ℕ, ◌+◌, ◌-◌, ◌*◌, ◌/◌, ◌%◌, ◌^◌, ◌<◌, ◌≤◌, ◌==◌, if◌then◌else◌, Bool, true, List, length, map, take, drop, slice_index}
+use Rattle.std.specs.Prelude.{◌≡◌, ◌≢◌, ℕ, ◌+◌, ◌-◌, ◌*◌, ◌/◌, ◌%◌, ◌^◌, ◌<◌, ◌≤◌, ◌==◌}
+use Rattle.std.specs.Prelude.{if◌then◌else◌, Bool, true, List, length, map, take, drop, slice_index}
 use Rattle.std.specs.List.{range_with_len}
 use Rattle.std.specs.Int.{bit_at}
 use Rattle.bb_memory.specs.IndexWords.{index_words}
@@ -17,10 +18,6 @@ pub record SetsBit (words : List ℕ) (number : ℕ) (flag : Bool) (new : List �
 -- the set: for each number below the bound, whether its bit is set
 unfoldable pub numbers_of : ℕ → List ℕ → List Bool
 numbers_of bound words = map (has_bit words) (range_with_len 0 bound)
-
--- every word from one up to another is all ones
-abbrev pub AreFull : List ℕ → ℕ → ℕ → Type 0
-AreFull words from to = (at : ℕ) → from ≤ at → at < to → slice_index words at ≡ 2 ^ 64 - 1
 
 -- there are just the words that the bound needs, and their bits from the bound on are set
 pub record AreIndexWords (bound : ℕ) (words : List ℕ) : Type 0 where

@@ -1,5 +1,6 @@
 //! An allocator that gives one chunk after another, and takes all of them back at once.
-ghost use Rattle.std.specs.Prelude.{◌≡◌, ◌∷◌, ◌++◌, [], List, All, ◌+◌, ◌-◌, ◌<◌, ◌≤◌, ◌^◌, ◌%◌, ◌↔◌, ℕ, IsOk, IfOk, OnOk, OnErr, IfErr, IsTrue, Some, Result, length, slice_get};
+ghost use Rattle.std.specs.Prelude.{◌≡◌, ◌∷◌, ◌++◌, [], List, All, ◌+◌, ◌-◌, ◌<◌, ◌≤◌, ◌^◌, ◌%◌, ◌↔◌, ℕ};
+ghost use Rattle.std.specs.Prelude.{IsOk, IfOk, OnOk, OnErr, IfErr, IsTrue, Some, Result, length, slice_get};
 ghost use Rattle.bb_memory_base.specs.Region.{Region, IsRegion, region_at, region_end};
 ghost use Rattle.bb_memory_base.specs.Chunk.{Chunk, IsInside, chunk_end};
 ghost use Rattle.bb_memory_base.specs.HeldBytes.{held_region, ZeroesOnly};
@@ -245,7 +246,9 @@ impl BaseAllocator for BumpAllocator {
     /// Gives back all chunks, whichever place and layout are named.
     #[inline(always)]
     fn deallocate(&mut self, _place: usize, _layout: Layout)
-        ensures { self.new ≡ bump_of self.old.region.start self.old.region.size 0 }
+        ensures value { self.new ≡ bump_of self.old.region.start self.old.region.size 0 }
+        ensures released { (live : List Chunk) → StandsFor self.old.region self.old.used live
+            → StandsFor self.new.region self.new.used [] }
     {
         self.current_position = 0;
     }
@@ -297,10 +300,12 @@ impl BaseAllocator for BumpAllocator {
     }
 
     fn stands_for_some_list(&self) {
+        // What the type promises is known from here on.
         let _ = &self.start;
     }
 
     fn answers_fit(&self) {
+        // What the type promises is known from here on.
         let _ = &self.start;
     }
 
@@ -310,7 +315,8 @@ impl BaseAllocator for BumpAllocator {
 }
 
 /// Applies the commands in order, as [`run_base`] does: the replies and the live list are a run of the bump object over
-/// the allocator's region, and the list is sound afterwards.
+/// the allocator's region, and the list is sound afterwards. The allocator has to stand for the live list. `AllocError` comes
+/// only where memory was refused, and then the allocator and the list are as before.
 pub fn run_bump(
     allocator: &mut BumpAllocator,
     live: &mut Vec<Chunk>,

@@ -4,8 +4,9 @@ ghost use Rattle.std.specs.Borrow.{sem};
 ghost use Rattle.bb_memory.specs.Heap.{MayAllocate, MayGrow, MayShrink};
 ghost use Rattle.bb_memory.specs.HeapLending.{LendsBlock, written};
 
-use crate::allocator::{AllocationGrowError, AllocationShrinkError};
-pub use crate::allocator::{AllocationError, Allocator, BaseAllocator};
+pub use crate::allocator::{
+    AllocationError, AllocationGrowError, AllocationShrinkError, Allocator, BaseAllocator,
+};
 use crate::layout::Layout;
 use std::alloc::Global;
 use std::marker::Model;

@@ -12,7 +12,8 @@ pub use crate::index_set::index_words::Counter;
 
 /// A set of numbers below a bound. It is empty when it is made.
 pub trait IndexSet: Drop {
-    ghost use Rattle.std.specs.Prelude.{◌≡◌, ◌<◌, ◌↔◌, ℕ, Bool, true, false, List, length, min, slice_set, IsTrue, IfSome, IfNone};
+    ghost use Rattle.std.specs.Prelude.{◌≡◌, ◌<◌, ◌↔◌, ℕ, Bool, true, false, List};
+    ghost use Rattle.std.specs.Prelude.{length, min, slice_set, IsTrue, IfSome, IfNone};
     ghost use Rattle.bb_memory.specs.NumberSet.{Has, Lacks, IsFull};
 
     /// A flag for each number below the bound: whether it is in the set.
@@ -20,10 +21,6 @@ pub trait IndexSet: Drop {
 
     /// How many words a set of this bound has that are read through a counter.
     ghost words: { ℕ → ℕ };
-
-    /// Every number that the set may have is below the bound.
-    fn bound(&self) -> u32
-        ensures { result ≡ length (numbers self.now) };
 
     /// Puts a number that isn't in the set into it, and answers that number. There is none exactly where every number is
     /// in the set. The counter has to stand at 0, and ends at how many words were read: one, or none where there is none.

@@ -4,7 +4,7 @@
 //! lines have the imports, and the attribute that computes least places.
 #![tactic(auto)]
 
-pub use bb_memory_base::{allocator, layout, region, steps};
+pub use bb_memory_base::{allocator, equality, layout, region, steps};
 
 pub mod bump_allocator;
 pub mod heap_allocator;

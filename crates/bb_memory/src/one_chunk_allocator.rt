@@ -1,5 +1,6 @@
 //! An allocator that gives one chunk at a time, which is all of its region from the chunk's place on.
-ghost use Rattle.std.specs.Prelude.{◌≡◌, ◌∷◌, ◌++◌, [], List, ◌+◌, ◌-◌, ◌<◌, ◌≤◌, ◌%◌, ◌↔◌, ◌⊎◌, ℕ, IsOk, IfOk, OnOk, OnErr, IsTrue, IsSome, Some, Result, slice_get, slice_set, remove};
+ghost use Rattle.std.specs.Prelude.{◌≡◌, ◌∷◌, ◌++◌, [], List, ◌+◌, ◌-◌, ◌<◌, ◌≤◌, ◌%◌, ◌↔◌, ◌⊎◌, ℕ, IsOk, IfOk};
+ghost use Rattle.std.specs.Prelude.{OnOk, OnErr, IsTrue, IsSome, Some, Result, slice_get, slice_set, remove};
 ghost use Rattle.bb_memory_base.specs.Region.{Region, IsRegion, region_at, region_end};
 ghost use Rattle.bb_memory_base.specs.Chunk.{Chunk, IsInside, chunk_end};
 ghost use Rattle.bb_memory_base.specs.FirstPlace.{first_place};
@@ -14,7 +15,8 @@ ghost use Rattle.bb_memory_base.specs.declared.allocator.AllocationShrinkError.{
 ghost use Rattle.bb_memory_base.specs.declared.allocator.Command.{Command};
 ghost use Rattle.bb_memory_base.specs.declared.allocator.Reply.{Reply};
 ghost use Rattle.bb_memory.specs.OneChunk.{OneChunk, IsOneChunk, one_chunk_of, StandsFor};
-ghost use Rattle.bb_memory.specs.OneChunkObject.{MayAllocate, MayGrow, MayShrink, HasRoom, LacksRoom, reserved_at, one_chunk_object};
+ghost use Rattle.bb_memory.specs.OneChunkObject.{MayAllocate, MayGrow, MayShrink, HasRoom};
+ghost use Rattle.bb_memory.specs.OneChunkObject.{LacksRoom, reserved_at, one_chunk_object};
 
 pub use crate::allocator::{
     AllocationError, AllocationGrowError, AllocationShrinkError, Allocator, BaseAllocator,
@@ -248,10 +250,12 @@ impl BaseAllocator for OneChunkAllocator {
     }
 
     fn stands_for_some_list(&self) {
+        // What the type promises is known from here on.
         let _ = &self.start;
     }
 
     fn answers_fit(&self) {
+        // What the type promises is known from here on.
         let _ = &self.start;
     }
 
@@ -277,7 +281,7 @@ impl Allocator for OneChunkAllocator {
 
     ghost may_shrink = { λ region live. MayShrink };
 
-    /// How many bytes there are from the chunk's place to the region's end.
+    /// How many bytes there are from the chunk's place to the region's end. The place has to be that of the chunk that is out.
     #[inline]
     fn reserved(&self, place: usize) -> usize
         requires { self.now.kept ≡ Some place }
@@ -290,7 +294,8 @@ impl Allocator for OneChunkAllocator {
 
     /// Gives the chunk all that is reserved for it. It is refused in this order: with `GrowWouldShrink` where the new size
     /// isn't greater than the old one, with `AlignmentFailure` where the new alignment is greater than the old one, and
-    /// with `OutOfMemory` where less than the new size is reserved. The allocator stays as it was.
+    /// with `OutOfMemory` where less than the new size is reserved. The allocator stays as it was. The place has to be that of
+    /// the chunk that is out and a multiple of the old alignment.
     #[inline]
     fn grow(&mut self, place: usize, old: Layout, new: Layout) -> Result<Chunk, AllocationGrowError>
         requires live { self.old.kept ≡ Some place }
@@ -321,7 +326,8 @@ impl Allocator for OneChunkAllocator {
 
     /// Gives the chunk exactly the new size. It is refused in this order: with `ShrinkWouldGrow` where the new size isn't
     /// smaller than the old one, and with `AlignmentFailure` where the new alignment is greater than the old one. The
-    /// allocator stays as it was.
+    /// allocator stays as it was. The place has to be that of the chunk that is out and a multiple of the old alignment, and the
+    /// old size at most what is reserved.
     #[inline]
     fn shrink(
         &mut self,
@@ -343,6 +349,7 @@ impl Allocator for OneChunkAllocator {
         ensures inside { IfOk result (IsInside self.old.region) }
         ensures still { self.new ≡ self.old }
     {
+        // What the type promises is known from here on.
         let _ = &self.start;
         if old.size() <= new.size() {
             return Err(AllocationShrinkError::ShrinkWouldGrow);
@@ -354,7 +361,8 @@ impl Allocator for OneChunkAllocator {
     }
 
     /// Grows the chunk as `grow` does, and makes the bytes behind its old size zero, up to the region's end. Every other byte of
-    /// the region stays, and after a refusal all do. The region's start and size have to be those of the allocator's maker.
+    /// the region stays, and after a refusal all do. The place has to be that of the chunk that is out and a multiple of the old
+    /// alignment, and the region's start and size have to be those of the allocator's maker.
     #[inline]
     fn grow_zeroed(
         &mut self,
@@ -399,7 +407,8 @@ impl Allocator for OneChunkAllocator {
 }
 
 /// Applies the commands in order, as [`run_full`] does: the replies and the live list are a run of the one-chunk object over
-/// the allocator's region, and the list is sound afterwards.
+/// the allocator's region, and the list is sound afterwards. The allocator has to stand for the live list. `AllocError` comes
+/// only where memory was refused, and then the allocator and the list are as before.
 pub fn run_one_chunk(
     allocator: &mut OneChunkAllocator,
     live: &mut Vec<Chunk>,

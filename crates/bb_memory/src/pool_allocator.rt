@@ -1,5 +1,6 @@
 //! Allocators that cut a region into buckets of one layout, and give a bucket for each request.
-ghost use Rattle.std.specs.Prelude.{◌≡◌, ◌≢◌, ◌∷◌, ◌++◌, [], List, ℕ, ◌*◌, ◌/◌, ◌<◌, ◌≤◌, ◌%◌, ◌^◌, ◌↔◌, IsOk, IfOk, IfErr, OnOk, OnErr, IsTrue, Some, false, replicate, slice_get, slice_set, remove};
+ghost use Rattle.std.specs.Prelude.{◌≡◌, ◌≢◌, ◌∷◌, ◌++◌, [], List, ℕ, ◌*◌, ◌/◌, ◌<◌, ◌≤◌, ◌%◌, ◌^◌, ◌↔◌, IsOk, IfOk};
+ghost use Rattle.std.specs.Prelude.{IfErr, OnOk, OnErr, IsTrue, Some, false, replicate, slice_get, slice_set, remove};
 ghost use Rattle.bb_memory_base.specs.Region.{region_at};
 ghost use Rattle.bb_memory_base.specs.Chunk.{Chunk, IsInside};
 ghost use Rattle.bb_memory_base.specs.LiveList.{IsSound};
@@ -12,7 +13,8 @@ ghost use Rattle.bb_memory_base.specs.PoolObject.{MayAllocate, MayGrow, MayShrin
 ghost use Rattle.bb_memory_base.specs.declared.allocator.AllocationError.{AllocationError};
 ghost use Rattle.bb_memory.specs.IndexWords.{index_words};
 ghost use Rattle.bb_memory.specs.NumberSet.{Lacks};
-ghost use Rattle.bb_memory.specs.Pool.{AreAStrideApart, Frees, HoldsPlace, MayBeCut, Reads, StandsFor, Takes, counted, fresh_pool};
+ghost use Rattle.bb_memory.specs.Pool.{AreAStrideApart, Frees, HoldsPlace, MayBeCut};
+ghost use Rattle.bb_memory.specs.Pool.{Reads, StandsFor, Takes, counted, fresh_pool};
 
 mod buckets;
 mod fixed_size;
@@ -367,10 +369,12 @@ impl<A: LanguageAllocator> BaseAllocator for PoolAllocator<A> {
     }
 
     fn stands_for_some_list(&self) {
+        // What the type promises is known from here on.
         let _ = &self.last_search;
     }
 
     fn answers_fit(&self) {
+        // What the type promises is known from here on.
         let _ = &self.last_search;
     }
 
@@ -455,7 +459,8 @@ impl<A: LanguageAllocator> Allocator for PoolAllocator<A> {
     }
 
     /// Grows the chunk as `grow` does, and makes the bytes behind its old size zero, up to the new one. Every other byte of the
-    /// region stays, and after a refusal all do. The region's start and size have to be those of the pool's maker.
+    /// region stays, and after a refusal all do. The place has to be a held bucket's and a multiple of the old alignment, and the
+    /// region's start and size have to be those of the pool's maker.
     #[inline]
     fn grow_zeroed(
         &mut self,

@@ -1,5 +1,6 @@
 //! The bump that threads share: its word is the position, and each thread steps with a party of its own.
-ghost use Rattle.std.specs.Prelude.{◌≡◌, ◌≢◌, ◌-◌, ◌<◌, ◌≤◌, ◌%◌, ◌∷◌, ◌++◌, [], ℕ, List, All, IfOk, OnErr, Some, length, slice_get, vec_len, vec_capacity, Contains};
+ghost use Rattle.std.specs.Prelude.{◌≡◌, ◌≢◌, ◌-◌, ◌<◌, ◌≤◌, ◌%◌, ◌∷◌, ◌++◌, [], ℕ, List, All, IfOk};
+ghost use Rattle.std.specs.Prelude.{OnErr, Some, length, slice_get, vec_len, vec_capacity, Contains};
 ghost use Rattle.bb_memory_base.specs.Region.{IsRegion, region_at};
 ghost use Rattle.bb_memory_base.specs.Chunk.{AreApart, Chunk, IsInside};
 ghost use Rattle.bb_memory_base.specs.LiveList.{IsSound};
@@ -7,7 +8,8 @@ ghost use Rattle.bb_memory_base.specs.BumpObject.{StandsFor};
 ghost use Rattle.bb_memory_base.specs.BumpHistory.{BumpLog, chunks_won, history_of, losses_in};
 ghost use Rattle.bb_memory_base.specs.BumpCalls.{IsCallRun, OpensWith, calls_of, live_after};
 ghost use Rattle.bb_memory_base.specs.BumpLogs.{Interleaving};
-ghost use Rattle.bb_memory.specs.SharedBump.{AreInterleaved, BumpParty, HaveChunksApart, IsFoundBy, IsInterleaved, IsParty, IsSharedScene, MayTake, fresh_party, load_entry, scene_at, seen_by, with_entries};
+ghost use Rattle.bb_memory.specs.SharedBump.{AreInterleaved, BumpParty, HaveChunksApart, IsFoundBy, IsInterleaved, IsParty};
+ghost use Rattle.bb_memory.specs.SharedBump.{IsSharedScene, MayTake, fresh_party, load_entry, scene_at, seen_by, with_entries};
 ghost use Rattle.bb_memory.specs.SharedBumpRule.{all_parties};
 
 mod party;
@@ -15,7 +17,7 @@ mod position;
 mod request;
 mod rule;
 
-use crate::allocator::AllocationError;
+pub use crate::allocator::AllocationError;
 use crate::bump_allocator::BumpAllocator;
 use crate::layout::{Chunk, Layout};
 use atomic_table::Seat;
@@ -109,7 +111,7 @@ impl SharedBumpAllocator {
     /// doesn't fit there, the answer is `OutOfMemory`. Else it puts the end of its chunk in the position's place, where
     /// that is still what it has seen. Where it isn't, the party goes on from the position that it found: it rounds anew,
     /// or answers `OutOfMemory` where the layout doesn't fit there. There is no other refusal. Each loss raises what the
-    /// party has seen, so a request loses at most as many exchanges as the region has bytes.
+    /// party has seen, so a request loses at most as many exchanges as the region has bytes. The party has to be this bump's.
     pub fn allocate(&self, party: &mut BumpParty, layout: Layout) -> Result<Chunk, AllocationError>
         requires party { party.old.allocator ≡ self.now }
 
@@ -151,8 +153,30 @@ impl SharedBumpAllocator {
         }
     }
 
+    /// Two parties meet: no chunk of the one overlaps one of the other. It loads a word four times, which is in no log, and
+    /// changes nothing. The parties have to be this bump's.
+    pub fn meet(&self, a: &mut BumpParty, b: &mut BumpParty)
+        requires a { a.old.allocator ≡ self.now }
+        requires b { b.old.allocator ≡ self.now }
+        ensures kept { (a.new ≡ a.old) × (b.new ≡ b.old) }
+        ensures a { a.new.allocator ≡ self.now }
+        ensures b { b.new.allocator ≡ self.now }
+        ensures differ { a.old.number ≢ b.old.number }
+        ensures apart { HaveChunksApart a.old.log b.old.log }
+        ensures interleaved { AreInterleaved a.old b.old }
+    {
+        self.position.meet(&mut a.seat, &mut b.seat);
+    }
+
+    /// Where the region starts.
+    pub fn start_address(&self) -> usize
+        ensures value { result ≡ self.now.scene.region.start }
+    {
+        self.start
+    }
+
     /// How many bytes are used: those from the region's start to the end of the last chunk, padding included. It is what
-    /// one load found.
+    /// one load found. The party has to be this bump's.
     pub fn used_space(&self, party: &mut BumpParty) -> usize
         requires party { party.old.allocator ≡ self.now }
         ensures logged { party.new ≡ with_entries party.old (load_entry party.old.number result) }
@@ -166,7 +190,7 @@ impl SharedBumpAllocator {
         self.position.load(&mut party.seat)
     }
 
-    /// How many bytes are behind the last chunk: the total less what one load found to be used.
+    /// How many bytes are behind the last chunk: the total less what one load found to be used. The party has to be this bump's.
     pub fn free_space(&self, party: &mut BumpParty) -> usize
         requires party { party.old.allocator ≡ self.now }
         ensures logged { let used = self.now.scene.region.size - result in
@@ -181,13 +205,6 @@ impl SharedBumpAllocator {
         self.size - self.used_space(party)
     }
 
-    /// Where the region starts.
-    pub fn start_address(&self) -> usize
-        ensures value { result ≡ self.now.scene.region.start }
-    {
-        self.start
-    }
-
     /// How many bytes the region has. The position at the opening is at most that, and there is a party.
     pub fn total_space(&self) -> usize
         ensures value { result ≡ self.now.scene.region.size }
@@ -197,23 +214,9 @@ impl SharedBumpAllocator {
         self.size
     }
 
-    /// Two parties meet: no chunk of the one overlaps one of the other. It answers nothing and changes nothing; it loads the
-    /// position, which is in no log.
-    pub fn meet(&self, a: &mut BumpParty, b: &mut BumpParty)
-        requires a { a.old.allocator ≡ self.now }
-        requires b { b.old.allocator ≡ self.now }
-        ensures kept { (a.new ≡ a.old) × (b.new ≡ b.old) }
-        ensures a { a.new.allocator ≡ self.now }
-        ensures b { b.new.allocator ≡ self.now }
-        ensures differ { a.old.number ≢ b.old.number }
-        ensures apart { HaveChunksApart a.old.log b.old.log }
-        ensures interleaved { AreInterleaved a.old b.old }
-    {
-        self.position.meet(&mut a.seat, &mut b.seat);
-    }
-
     /// The bump again, for one owner: of the same region, at the position that the parties' steps left (with several parties that
-    /// is tested, and no clause). It is at least what this party has seen, and exactly that where it was the only party ever.
+    /// is tested, and no clause). It is at least what this party has seen, and exactly that where it was the only party ever. The
+    /// party has to be this bump's.
     pub fn into_owner(self, party: BumpParty) -> BumpAllocator
         requires party { party.allocator ≡ self }
         ensures region { result.region ≡ self.scene.region }

@@ -1,5 +1,6 @@
 //! Pools that threads share: each call takes its pool by `&`, and steps on one atomic flag for each bucket.
-ghost use Rattle.std.specs.Prelude.{◌≡◌, ◌≢◌, ◌<◌, ◌≤◌, ◌↔◌, ◌%◌, ℕ, All, List, Some, IsErr, IfOk, IfErr, OnErr, length, slice_get, ◌++◌, ◌⊎◌};
+ghost use Rattle.std.specs.Prelude.{◌≡◌, ◌≢◌, ◌<◌, ◌≤◌, ◌↔◌, ◌%◌, ℕ, All, List, Some};
+ghost use Rattle.std.specs.Prelude.{IsErr, IfOk, IfErr, OnErr, length, slice_get, ◌++◌, ◌⊎◌};
 ghost use Rattle.bb_memory_base.specs.Region.{IsRegion, region_at};
 ghost use Rattle.bb_memory_base.specs.Chunk.{AreApart, Chunk, IsInside};
 ghost use Rattle.bb_memory_base.specs.LiveList.{IsSound};
@@ -11,7 +12,9 @@ ghost use Rattle.bb_memory_base.specs.PoolHistory.{PoolLog};
 ghost use Rattle.bb_memory_base.specs.PoolLogs.{IsHeldAfter};
 ghost use Rattle.bb_memory_base.specs.declared.layout.Layout.{Layout};
 ghost use Rattle.bb_memory.specs.Pool.{AreAStrideApart, MayBeCut};
-ghost use Rattle.bb_memory.specs.SharedPool.{AreAllHeldAfter, AreInterleaved, HasFoundAllHeld, IsHistoryRun, IsInterleaved, IsParty, IsSharedScene, MayTake, PoolParty, TakenBucket, chunk_of, fresh_party, refused_pass, resized, return_entry, with_entries};
+ghost use Rattle.bb_memory.specs.SharedPool.{AreAllHeldAfter, AreInterleaved, HasFoundAllHeld, IsHistoryRun, IsInterleaved};
+ghost use Rattle.bb_memory.specs.SharedPool.{IsParty, IsSharedScene, MayTake, PoolParty, TakenBucket, chunk_of, fresh_party};
+ghost use Rattle.bb_memory.specs.SharedPool.{refused_pass, resized, return_entry, with_entries};
 
 mod bucket;
 mod buckets;
@@ -21,7 +24,7 @@ mod flags;
 mod party;
 mod rule;
 
-use crate::allocator::{AllocationError, AllocationGrowError, AllocationShrinkError};
+pub use crate::allocator::{AllocationError, AllocationGrowError, AllocationShrinkError};
 use crate::layout::{Chunk, Layout};
 use crate::pool_allocator::geometry::Geometry;
 pub use bucket::Bucket;
@@ -64,7 +67,8 @@ impl SharedPoolAllocator {
     /// A pool over the region of `size` bytes at `start`, cut into buckets of this layout, with no bucket held, and its
     /// parties, numbered from 0. The start has to be greater than 0; start plus size, and the start rounded up to the bucket's
     /// alignment, at most `usize::MAX`; the bucket's size greater than 0; the buckets fewer than `u32::MAX`, and the parties at
-    /// least 1. Its only refusal is `OutOfMemory`, where a request for memory was refused.
+    /// least 1. [`PoolAllocator::can_make`](crate::pool_allocator::PoolAllocator::can_make) tests all but the parties. Its only
+    /// refusal is `OutOfMemory`, where a request for memory was refused.
     pub fn new(
         alloc: Global,
         bucket_layout: Layout,
@@ -144,7 +148,7 @@ impl SharedPoolAllocator {
         self.buckets.free(party, bucket);
     }
 
-    /// Tells that two parties hold different buckets. It changes nothing: it loads a word four times, and adds nothing to a log. The
+    /// Two parties meet: no bucket is held by both. It loads a word four times, which is in no log, and changes nothing. The
     /// parties have to be this pool's.
     pub fn meet(&self, a: &mut PoolParty, b: &mut PoolParty)
         requires a { a.old.allocator ≡ self.now }
@@ -272,12 +276,12 @@ pub fn shared_pool_law()
         (live : List Chunk) → IsHistoryRun party is layouts live
         → IsSound party.allocator.scene.geometry.region live }
 
-    // Where the log ends with a pass that was refused, that pass has found each bucket held in the
-    // run, each at a step of its own.
-    ensures refused { (party : PoolParty) (is : IsParty party) (before : PoolLog)
+    // Wherever the log has a pass that was refused, that pass has found each bucket held in the run,
+    // each at a step of its own.
+    ensures refused { (party : PoolParty) (is : IsParty party) (before after : PoolLog)
         → let buckets = party.allocator.scene.geometry.buckets in
-        0 < buckets → party.log ≡ before ++ refused_pass buckets party.number
-        → HasFoundAllHeld party is }
+        let beginning = before ++ refused_pass buckets party.number in
+        0 < buckets → party.log ≡ beginning ++ after → HasFoundAllHeld party is beginning }
 
     // Two parties that met have one history together, whose takings and returns are a run too: one
     // run has those of both.

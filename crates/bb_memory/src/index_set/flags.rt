@@ -1,6 +1,5 @@
 //! A set of numbers as an array of flags, with an array of the numbers that aren't in it, which takes no memory.
 ghost use Rattle.std.specs.Prelude.{◌≡◌, ◌≤◌, ◌<◌, ◌-◌, ℕ, false, length, replicate, slice_index};
-ghost use Rattle.bb_memory.specs.Flags.{};
 
 use crate::index_set::{Counter, IndexSet};
 use std::marker::Model;
@@ -52,11 +51,6 @@ impl<const N: usize> IndexSet for Flags<N> {
     ghost numbers = { λ set. set };
 
     ghost words = { λ bound. 0 };
-
-    #[inline(always)]
-    fn bound(&self) -> u32 {
-        self.bound
-    }
 
     #[inline(always)]
     fn take(&mut self, _counter: &mut Counter) -> Option<usize> {

@@ -2,7 +2,8 @@
 //!
 //! What hands out a word and what counts a read stand in one module: no other code can raise a counter, though any code may
 //! make a new one.
-ghost use Rattle.std.specs.Prelude.{◌≡◌, ◌≢◌, ℕ, ◌+◌, ◌-◌, ◌/◌, ◌^◌, ◌<◌, ◌≤◌, false, IsTrue, IsFalse, length, replicate, slice_index, slice_set, IfOk};
+ghost use Rattle.std.specs.Prelude.{◌≡◌, ◌≢◌, ℕ, ◌+◌, ◌-◌, ◌/◌, ◌^◌, ◌<◌, ◌≤◌, false, IsTrue};
+ghost use Rattle.std.specs.Prelude.{IsFalse, length, replicate, slice_index, slice_set, IfOk};
 ghost use Rattle.bb_memory.specs.Words.{SetsBit, PutsAt, has_bit};
 
 use std::alloc::{AllocError, Allocator};

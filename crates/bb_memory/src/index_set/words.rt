@@ -1,6 +1,5 @@
 //! A set of numbers as words of 64 bits.
 ghost use Rattle.std.specs.Prelude.{◌≡◌, ◌+◌, ◌-◌, ◌^◌, ◌<◌, ◌≤◌, ◌≢◌, ℕ, false, length, replicate, slice_index, IfOk};
-ghost use Rattle.bb_memory.specs.Words.{};
 
 use crate::index_set::index_words::{IndexWords, Searched};
 use crate::index_set::search::search;
@@ -63,11 +62,6 @@ impl<A: Allocator> IndexSet for Words<A> {
     ghost numbers = { λ set. set };
 
     ghost words = { index_words };
-
-    #[inline(always)]
-    fn bound(&self) -> u32 {
-        self.bound
-    }
 
     /// Where that fills the word in hand, the one that is listed last is in hand from then on.
     #[inline(always)]

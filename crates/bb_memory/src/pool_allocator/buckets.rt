@@ -1,10 +1,9 @@
 //! What both pools are: the buckets of a region, and a set of those that are held.
-ghost use Rattle.std.specs.Prelude.{◌≡◌, ℕ, ◌<◌, ◌≤◌, ◌/◌, ◌↔◌, length, IsTrue, IfSome, IfNone};
+ghost use Rattle.std.specs.Prelude.{◌≡◌, ℕ, ◌≤◌, ◌↔◌, length, IsTrue};
 ghost use Rattle.bb_memory_base.specs.FirstPlace.{first_place};
-ghost use Rattle.bb_memory_base.specs.PoolGeometry.{bucket_place, stride};
+ghost use Rattle.bb_memory_base.specs.PoolGeometry.{bucket_place};
 ghost use Rattle.bb_memory_base.specs.PoolObject.{MayGrow, MayShrink};
 ghost use Rattle.bb_memory.specs.Pool.{Frees, HoldsPlace, Reads, Takes, pool_of};
-ghost use Rattle.bb_memory.specs.Buckets.{IsPlaceOfBucket, Shifts};
 
 use super::geometry::Geometry;
 use crate::allocator::{AllocationError, AllocationGrowError, AllocationShrinkError};
@@ -12,33 +11,22 @@ use crate::index_set::{Counter, IndexSet};
 use crate::layout::{Chunk, Layout};
 use std::marker::Model;
 
-/// By how many bits to shift to the right to divide by this number, where it is a power of two.
-fn shift_of(divisor: usize) -> Option<u32>
-    ensures { Shifts divisor result }
-{
-    if !divisor.is_power_of_two() {
-        return None;
-    }
-    Some(divisor.trailing_zeros())
-}
-
-/// Buckets, with the set of the held ones. There is a shift where the stride is a power of two.
+/// Buckets, with the set of the held ones.
 #[derive(Debug, Drop)]
 pub struct Buckets<S: IndexSet> {
     geometry: Geometry,
-    shift: Option<u32>,
     held: S,
 }
 
 impl<S: IndexSet> Model for Buckets<S> {
+    ghost use Rattle.std.specs.Prelude.{◌≡◌, length};
     ghost use Rattle.bb_memory.specs.Pool.{Pool, pool_of};
-    ghost use Rattle.bb_memory.specs.Buckets.{IsHeldSet};
 
     ghost Value = { Pool };
 
     ghost view = { λ a. pool_of a.geometry (S.numbers a.held) };
 
-    ghost invariant = { λ a. IsHeldSet a.geometry (S.numbers a.held) a.shift };
+    ghost invariant = { λ a. length (S.numbers a.held) ≡ a.geometry.buckets };
 }
 
 impl<S: IndexSet> Buckets<S> {
@@ -49,12 +37,7 @@ impl<S: IndexSet> Buckets<S> {
         requires { length (S.numbers held) ≡ geometry.buckets }
         ensures { result ≡ pool_of geometry (S.numbers held) }
     {
-        let shift = shift_of(geometry.stride());
-        Buckets {
-            geometry,
-            shift,
-            held,
-        }
+        Buckets { geometry, held }
     }
 
     #[inline(always)]
@@ -106,46 +89,13 @@ impl<S: IndexSet> Buckets<S> {
         Ok(self.geometry.chunk(i, layout.size()))
     }
 
-    /// How many whole strides there are in a distance.
-    #[inline(always)]
-    fn strides(&self, distance: usize) -> usize
-        ensures value { result ≡ distance / stride self.now.geometry.bucket }
-        ensures some { 0 < stride self.now.geometry.bucket }
-    {
-        match self.shift {
-            Some(shift) => distance >> shift,
-            None => distance / self.geometry.stride(),
-        }
-    }
-
     /// The number of the held bucket at this place.
     #[inline(always)]
     fn number(&self, place: usize) -> usize
         requires { HoldsPlace self.now place }
         ensures { (i : ℕ) → place ≡ bucket_place self.now.geometry i → result ≡ i }
     {
-        self.strides(place - self.geometry.first())
-    }
-
-    /// The number of the bucket at this place, or `None` where no bucket is there.
-    #[inline(always)]
-    fn number_at(&self, place: usize) -> Option<usize>
-        ensures below { IfSome result (λ i. i < self.now.geometry.buckets) }
-        ensures there { IfSome result (λ i. place ≡ bucket_place self.now.geometry i) }
-        ensures one { IfSome result (λ i. (j : ℕ)
-            → place ≡ bucket_place self.now.geometry j → j ≡ i) }
-        ensures none { IfNone result (¬ IsPlaceOfBucket self.now.geometry place) }
-    {
-        let distance = place.checked_sub(self.geometry.first())?;
-        let number = self.strides(distance);
-        if number >= self.count() as usize {
-            return None;
-        }
-        let chunk = self.geometry.chunk(number, 0);
-        if chunk.place() != place {
-            return None;
-        }
-        Some(number)
+        self.geometry.strides(place - self.geometry.first())
     }
 
     /// Whether this is the place of a held bucket.
@@ -153,8 +103,8 @@ impl<S: IndexSet> Buckets<S> {
     pub fn holds(&self, place: usize) -> bool
         ensures { IsTrue result ↔ HoldsPlace self.now place }
     {
-        match self.number_at(place) {
-            Some(number) => self.held.has(number),
+        match self.geometry.number_at(place) {
+            Some(number) => self.held.has(number as usize),
             None => false,
         }
     }

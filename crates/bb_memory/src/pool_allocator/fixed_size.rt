@@ -1,5 +1,6 @@
 //! A pool that keeps which of its buckets are held in an array of its own.
-ghost use Rattle.std.specs.Prelude.{◌≡◌, ◌≢◌, ◌∷◌, ◌++◌, [], List, ℕ, ◌-◌, ◌<◌, ◌≤◌, ◌%◌, ◌^◌, ◌↔◌, IsOk, IfOk, OnOk, OnErr, IsTrue, Some, slice_get, slice_set, remove};
+ghost use Rattle.std.specs.Prelude.{◌≡◌, ◌≢◌, ◌∷◌, ◌++◌, [], List, ℕ, ◌-◌, ◌<◌, ◌≤◌, ◌%◌, ◌^◌, ◌↔◌};
+ghost use Rattle.std.specs.Prelude.{IsOk, IfOk, OnOk, OnErr, IsTrue, Some, slice_get, slice_set, remove};
 ghost use Rattle.bb_memory_base.specs.Region.{region_at};
 ghost use Rattle.bb_memory_base.specs.Chunk.{Chunk, IsInside};
 ghost use Rattle.bb_memory_base.specs.LiveList.{IsSound};
@@ -249,10 +250,12 @@ impl<const MAX_NUMBER_OF_BUCKETS: usize> BaseAllocator
     }
 
     fn stands_for_some_list(&self) {
+        // What the type promises is known from here on.
         let _ = &self.buckets;
     }
 
     fn answers_fit(&self) {
+        // What the type promises is known from here on.
         let _ = &self.buckets;
     }
 
@@ -338,7 +341,8 @@ impl<const MAX_NUMBER_OF_BUCKETS: usize> Allocator
     }
 
     /// Grows the chunk as `grow` does, and makes the bytes behind its old size zero, up to the new one. Every other byte of the
-    /// region stays, and after a refusal all do. The region's start and size have to be those of the pool's maker.
+    /// region stays, and after a refusal all do. The place has to be a held bucket's and a multiple of the old alignment, and the
+    /// region's start and size have to be those of the pool's maker.
     #[inline]
     fn grow_zeroed(
         &mut self,

@@ -1,11 +1,11 @@
 //! Where the buckets of a region are.
-ghost use Rattle.std.specs.Prelude.{◌≡◌, ◌<◌, ◌≤◌, ◌^◌, ◌↔◌, IfOk, IsTrue};
+ghost use Rattle.std.specs.Prelude.{◌≡◌, ℕ, ◌<◌, ◌≤◌, ◌/◌, ◌^◌, ◌↔◌, IfOk, IfSome, IfNone, IsTrue};
 ghost use Rattle.bb_memory_base.specs.Region.{IsRegion, region_at};
 ghost use Rattle.bb_memory_base.specs.Chunk.{Chunk, IsInside};
 ghost use Rattle.bb_memory_base.specs.FirstPlace.{first_place};
 ghost use Rattle.bb_memory_base.specs.PoolGeometry.{IsCut, IsPoolGeometry, at_most, bucket_place, pool_geometry, stride};
 ghost use Rattle.bb_memory_base.specs.PoolObject.{MayGrow, MayShrink};
-ghost use Rattle.bb_memory.specs.Buckets.{IsPlaceOfBucket};
+ghost use Rattle.bb_memory.specs.Buckets.{IsPlaceOfBucket, Shifts};
 ghost use Rattle.bb_memory.specs.Pool.{MayBeCut};
 
 use crate::allocator::{AllocationGrowError, AllocationShrinkError};
@@ -46,7 +46,18 @@ fn stride(bucket_layout: Layout) -> usize
     round_up(bucket_layout.size(), bucket_layout.align()).unwrap()
 }
 
-/// A region cut into buckets of one layout: all that it has room for, or the first of them.
+/// By how many bits to shift to the right to divide by this number, where it is a power of two.
+fn shift_of(divisor: usize) -> Option<u32>
+    ensures { Shifts divisor result }
+{
+    if !divisor.is_power_of_two() {
+        return None;
+    }
+    Some(divisor.trailing_zeros())
+}
+
+/// A region cut into buckets of one layout: all that it has room for, or the first of them. There is a shift where the stride
+/// is a power of two.
 #[derive(Debug, Drop)]
 pub struct Geometry {
     region_start: usize,
@@ -54,6 +65,7 @@ pub struct Geometry {
     bucket: Layout,
     first: usize,
     stride: usize,
+    shift: Option<u32>,
     buckets: u32,
 }
 
@@ -68,7 +80,7 @@ impl Model for Geometry {
 
     ghost invariant = { λ a. IsMeasured
         (pool_geometry (region_at a.region_start a.region_size) a.bucket a.buckets)
-        a.first a.stride };
+        a.first a.stride a.shift };
 }
 
 impl Geometry {
@@ -77,12 +89,14 @@ impl Geometry {
         requires { MayBeCut (region_at start size) bucket_layout }
         ensures { IsCut (region_at start size) bucket_layout result }
     {
+        let stride = stride(bucket_layout);
         Geometry {
             region_start: start,
             region_size: size,
             bucket: bucket_layout,
             first: round_up(start, bucket_layout.align()).unwrap(),
-            stride: stride(bucket_layout),
+            stride,
+            shift: shift_of(stride),
             buckets: count_buckets(bucket_layout, start, size),
         }
     }
@@ -97,6 +111,7 @@ impl Geometry {
             bucket: self.bucket,
             first: self.first,
             stride: self.stride,
+            shift: self.shift,
             buckets: self.buckets.min(constant),
         }
     }
@@ -135,13 +150,37 @@ impl Geometry {
         self.first
     }
 
-    /// How far each bucket is from the next.
+    /// How many whole strides there are in a distance.
     #[inline(always)]
-    pub fn stride(&self) -> usize
-        ensures value { result ≡ stride self.now.bucket }
-        ensures some { 0 < result }
+    pub fn strides(&self, distance: usize) -> usize
+        ensures value { result ≡ distance / stride self.now.bucket }
+        ensures some { 0 < stride self.now.bucket }
     {
-        self.stride
+        match self.shift {
+            Some(shift) => distance >> shift,
+            None => distance / self.stride,
+        }
+    }
+
+    /// The number of the bucket at this place, or `None` where no bucket begins there.
+    #[inline(always)]
+    pub fn number_at(&self, place: usize) -> Option<u32>
+        ensures below { IfSome result (λ number. number < self.now.buckets) }
+        ensures there { IfSome result (λ number. place ≡ bucket_place self.now number) }
+        ensures one { IfSome result (λ number. (other : ℕ)
+            → place ≡ bucket_place self.now other → other ≡ number) }
+        ensures none { IfNone result (¬ IsPlaceOfBucket self.now place) }
+    {
+        let distance = place.checked_sub(self.first())?;
+        let number = self.strides(distance);
+        if number >= self.count() as usize {
+            return None;
+        }
+        let chunk = self.chunk(number, 0);
+        if chunk.place() != place {
+            return None;
+        }
+        Some(number as u32)
     }
 
     /// The first `len` bytes of a bucket.

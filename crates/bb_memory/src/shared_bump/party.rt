@@ -26,11 +26,11 @@ impl Model for BumpParty {
 }
 
 impl BumpParty {
-    /// The party's number in its bump, from 0.
+    /// The party's number, from 0 and below how many parties there are.
     pub fn number(&self) -> u32
         ensures value { result ≡ self.now.number }
 
-        // It is below the number of parties. The party is in no call, and some interleaving has its log.
+        // The party is in no call, and some interleaving has its log.
         ensures party { IsParty self.now }
     {
         self.number

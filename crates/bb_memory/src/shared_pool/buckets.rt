@@ -1,13 +1,16 @@
 //! What both shared pools are: buckets with a flag each, on which any number of threads step.
-ghost use Rattle.std.specs.Prelude.{◌≡◌, ◌≢◌, ℕ, ◌<◌, ◌≤◌, ◌↔◌, ◌%◌, [], All, Some, None, IsErr, IfOk, MatchOption, OnErr, length, slice_get, vec_capacity, vec_len};
+ghost use Rattle.std.specs.Prelude.{◌≡◌, ◌≢◌, ℕ, ◌<◌, ◌≤◌, ◌↔◌, ◌%◌, [], All, Some, None, IsErr, IfOk, IfSome};
+ghost use Rattle.std.specs.Prelude.{IfNone, MatchOption, OnErr, length, slice_get, vec_capacity, vec_len};
 ghost use Rattle.bb_memory_base.specs.Region.{IsRegion};
 ghost use Rattle.bb_memory_base.specs.Chunk.{Chunk, IsInside};
 ghost use Rattle.bb_memory_base.specs.FirstPlace.{first_place};
 ghost use Rattle.bb_memory_base.specs.PoolGeometry.{bucket_place};
 ghost use Rattle.bb_memory_base.specs.PoolObject.{IsWithin, MayGrow, MayShrink};
 ghost use Rattle.bb_memory_base.specs.PoolLogs.{IsHeldAfter};
+ghost use Rattle.bb_memory.specs.Buckets.{IsPlaceOfBucket};
 ghost use Rattle.bb_memory.specs.Seats.{number_of, view_log};
-ghost use Rattle.bb_memory.specs.SharedPool.{AreAllHeldAfter, AreInterleaved, IsInterleaved, IsParty, IsSharedScene, MayTake, chunk_of, fresh_party, resized, return_entry, with_entries};
+ghost use Rattle.bb_memory.specs.SharedPool.{AreAllHeldAfter, AreInterleaved, IsInterleaved, IsParty, IsSharedScene};
+ghost use Rattle.bb_memory.specs.SharedPool.{MayTake, chunk_of, fresh_party, resized, return_entry, with_entries};
 ghost use Rattle.bb_memory.specs.SharedPoolRule.{IsSeatOfIdle, all_parties};
 ghost use Rattle.bb_memory.specs.SharedPoolSteps.{HasRefused, HasTaken};
 
@@ -254,6 +257,18 @@ impl SharedBuckets {
             ≡ first_place self.now.scene.geometry.region self.now.scene.geometry.bucket }
     {
         self.flags.geometry().first()
+    }
+
+    /// The number of the bucket at this place, or `None` where no bucket begins there.
+    pub fn number_at(&self, place: usize) -> Option<u32>
+        ensures below { IfSome result (λ number. number < self.now.scene.geometry.buckets) }
+        ensures there { IfSome result (λ number.
+            place ≡ bucket_place self.now.scene.geometry number) }
+        ensures one { IfSome result (λ number. (other : ℕ)
+            → place ≡ bucket_place self.now.scene.geometry other → other ≡ number) }
+        ensures none { IfNone result (¬ IsPlaceOfBucket self.now.scene.geometry place) }
+    {
+        self.flags.geometry().number_at(place)
     }
 
     /// The first `len` bytes of a bucket.

@@ -1,6 +1,6 @@
 //! Buckets by their numbers and places, for a user that keeps numbers where it can't keep a [`Bucket`], which borrows its pool.
-ghost use Rattle.std.specs.Prelude.{◌≡◌, ℕ, ◌<◌, ◌≤◌, ◌/◌, IfSome, IfNone};
-ghost use Rattle.bb_memory_base.specs.PoolGeometry.{bucket_place, stride};
+ghost use Rattle.std.specs.Prelude.{◌≡◌, ℕ, ◌<◌, ◌≤◌, IfSome, IfNone};
+ghost use Rattle.bb_memory_base.specs.PoolGeometry.{bucket_place};
 ghost use Rattle.bb_memory_base.specs.PoolLogs.{IsHeldAfter};
 ghost use Rattle.bb_memory.specs.Buckets.{IsPlaceOfBucket};
 ghost use Rattle.bb_memory.specs.SharedPool.{taken_bucket};
@@ -9,42 +9,8 @@ use super::bucket::Bucket;
 use super::buckets::SharedBuckets;
 use super::party::PoolParty;
 use super::{SharedFixedSizePoolAllocator, SharedPoolAllocator};
-use crate::layout::round_up;
 
 impl SharedBuckets {
-    /// How many whole strides there are in a distance.
-    fn strides(&self, distance: usize) -> usize
-        ensures value { result ≡ distance / stride self.now.scene.geometry.bucket }
-        ensures some { 0 < stride self.now.scene.geometry.bucket }
-    {
-        // That a bucket has a byte is known from here on.
-        let _ = self.count();
-        let bucket = self.bucket();
-        distance / round_up(bucket.size(), bucket.align()).unwrap()
-    }
-
-    /// The number of the bucket at this place, or `None` where no bucket begins there.
-    pub fn number_at(&self, place: usize) -> Option<u32>
-        ensures below { IfSome result (λ number. number < self.now.scene.geometry.buckets) }
-        ensures there { IfSome result (λ number.
-            place ≡ bucket_place self.now.scene.geometry number) }
-        ensures one { IfSome result (λ number. (other : ℕ)
-            → place ≡ bucket_place self.now.scene.geometry other → other ≡ number) }
-        ensures none { IfNone result (¬ IsPlaceOfBucket self.now.scene.geometry place) }
-    {
-        let distance = place.checked_sub(self.first())?;
-        let number = self.strides(distance);
-        if number >= self.count() as usize {
-            return None;
-        }
-        let number = number as u32;
-        let chunk = self.chunk(number, 0);
-        if chunk.place() != place {
-            return None;
-        }
-        Some(number)
-    }
-
     /// The bucket of this number, which is held after the party's log.
     pub fn bucket_of(&self, party: &PoolParty, number: u32, len: usize) -> Bucket<'_>
         requires party { party.now.allocator ≡ self.now }

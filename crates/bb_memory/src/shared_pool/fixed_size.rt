@@ -1,12 +1,14 @@
 //! A shared pool of at most a constant of buckets.
-ghost use Rattle.std.specs.Prelude.{◌≡◌, ◌≢◌, ◌-◌, ◌<◌, ◌≤◌, ◌↔◌, ◌%◌, ◌^◌, ℕ, All, Some, IsErr, IfOk, IfErr, OnErr, length, slice_get};
+ghost use Rattle.std.specs.Prelude.{◌≡◌, ◌≢◌, ◌-◌, ◌<◌, ◌≤◌, ◌↔◌, ◌%◌, ◌^◌, ℕ, All};
+ghost use Rattle.std.specs.Prelude.{Some, IsErr, IfOk, IfErr, OnErr, length, slice_get};
 ghost use Rattle.bb_memory_base.specs.Region.{IsRegion, region_at};
 ghost use Rattle.bb_memory_base.specs.Chunk.{IsInside};
 ghost use Rattle.bb_memory_base.specs.PoolGeometry.{PoolGeometry, IsCut, at_most};
 ghost use Rattle.bb_memory_base.specs.PoolObject.{IsWithin, MayGrow, MayShrink};
 ghost use Rattle.bb_memory_base.specs.PoolLogs.{IsHeldAfter};
 ghost use Rattle.bb_memory.specs.Pool.{MayBeCut};
-ghost use Rattle.bb_memory.specs.SharedPool.{AreAllHeldAfter, AreInterleaved, IsInterleaved, IsParty, IsSharedScene, MayTake, chunk_of, fresh_party, resized, return_entry, with_entries};
+ghost use Rattle.bb_memory.specs.SharedPool.{AreAllHeldAfter, AreInterleaved, IsInterleaved, IsParty, IsSharedScene};
+ghost use Rattle.bb_memory.specs.SharedPool.{MayTake, chunk_of, fresh_party, resized, return_entry, with_entries};
 
 use super::bucket::Bucket;
 use super::buckets::SharedBuckets;
@@ -48,8 +50,9 @@ impl<const MAX_NUMBER_OF_BUCKETS: usize> SharedFixedSizePoolAllocator<MAX_NUMBER
     /// A pool over the region of `size` bytes at `start`, cut into buckets of this layout, with no bucket held, and its
     /// parties, numbered from 0. The start has to be greater than 0; start plus size, and the start rounded up to the bucket's
     /// alignment, at most `usize::MAX`; the bucket's size greater than 0; the buckets that there is room for fewer than
-    /// `u32::MAX`, as the constant, and the parties at least 1. Its only refusal is `OutOfMemory`, where a request for memory
-    /// was refused.
+    /// `u32::MAX`, as the constant, and the parties at least 1.
+    /// [`FixedSizePoolAllocator::can_make`](crate::pool_allocator::FixedSizePoolAllocator::can_make) tests all but the parties.
+    /// Its only refusal is `OutOfMemory`, where a request for memory was refused.
     pub fn new(
         alloc: Global,
         bucket_layout: Layout,
@@ -133,7 +136,7 @@ impl<const MAX_NUMBER_OF_BUCKETS: usize> SharedFixedSizePoolAllocator<MAX_NUMBER
         self.buckets.free(party, bucket);
     }
 
-    /// Tells that two parties hold different buckets. It changes nothing: it loads a word four times, and adds nothing to a log. The
+    /// Two parties meet: no bucket is held by both. It loads a word four times, which is in no log, and changes nothing. The
     /// parties have to be this pool's.
     pub fn meet(&self, a: &mut PoolParty, b: &mut PoolParty)
         requires a { a.old.allocator ≡ self.now }

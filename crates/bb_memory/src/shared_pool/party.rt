@@ -26,9 +26,11 @@ impl Model for PoolParty {
 }
 
 impl PoolParty {
-    /// The party's number in its pool, from 0 and below how many parties there are.
+    /// The party's number, from 0 and below how many parties there are.
     pub fn number(&self) -> u32
         ensures value { result ≡ self.now.number }
+
+        // The party is in no pass, and some interleaving has its log.
         ensures party { IsParty self.now }
     {
         self.number

@@ -1,4 +1,5 @@
-use Rattle.bb_memory_base.proofs.BumpObjects.{some_answer, one_answer, answer-aligned, answer-inside, answer-after_all, answer-len, run-keeps}
+use Rattle.bb_memory_base.proofs.BumpObjects.{some_answer, one_answer, answer-aligned}
+use Rattle.bb_memory_base.proofs.BumpObjects.{answer-inside, answer-after_all, answer-len, run-keeps}
 use Rattle.bb_memory.proofs.bump_allocator.bump_object_law.Goals as goal
 
 pub returns-clause-some_answer : goal.returns-clause-some_answer

@@ -1,4 +1,5 @@
-use Rattle.bb_memory.proofs.OneChunks.{some_answer, one_answer, some_grow, one_grow, some_shrink, one_shrink, answer-aligned, answer-inside, answer-long, answer-whole, run-keeps}
+use Rattle.bb_memory.proofs.OneChunks.{some_answer, one_answer, some_grow, one_grow, some_shrink, one_shrink}
+use Rattle.bb_memory.proofs.OneChunks.{answer-aligned, answer-inside, answer-long, answer-whole, run-keeps}
 use Rattle.bb_memory.proofs.one_chunk_allocator.one_chunk_object_law.Goals as goal
 
 pub returns-clause-some_answer : goal.returns-clause-some_answer

@@ -1,4 +1,5 @@
-use Rattle.bb_memory.proofs.SharedPoolLaws.{history_run, history_held, history_refused, history_sound, both_run, both_held, both_apart, buckets_apart, no_overlap}
+use Rattle.bb_memory.proofs.SharedPoolLaws.{history_run, history_held, history_refused, history_sound}
+use Rattle.bb_memory.proofs.SharedPoolLaws.{both_run, both_held, both_apart, buckets_apart, no_overlap}
 use Rattle.bb_memory.proofs.shared_pool.shared_pool_law.Goals as goal
 
 pub returns-clause-run : goal.returns-clause-run

@@ -24,8 +24,12 @@ returns-clause-answer c = λ live stands.
     let here = subst (λ (b : Bump). StandsFor b.region b.used live) (sym c.self.view_is) stands in
     let end = StandsFor-end bump.region bump.used live here in
     let told = c.in-Some.ensures.value in
-    subst (λ (b : Bump). (0 < layout.size) × (chunk_end chunk ≤ region_end b.region) × (chunk ≡ next_chunk b.region live layout)) c.self.view_is
-    (omega arith, omega (arith, told.0, ap (λ (k : Chunk). chunk_end k) told.1), told.1 ∙ ap (λ v. chunk_at_or_after v layout) end)
+    subst (λ (b : Bump). (0 < layout.size) × (chunk_end chunk ≤ region_end b.region) × (chunk ≡ next_chunk b.region live layout))
+    c.self.view_is (
+      omega arith,
+      omega (arith, told.0, ap (λ (k : Chunk). chunk_end k) told.1),
+      told.1 ∙ ap (λ v. chunk_at_or_after v layout) end,
+    )
 
 pub returns-clause-appended : goal.returns-clause-appended
 returns-clause-appended c = λ live stands.
@@ -34,4 +38,5 @@ returns-clause-appended c = λ live stands.
     let here = subst (λ (b : Bump). StandsFor b.region b.used live) (sym c.self.view_is) stands in
     let end = StandsFor-end bump.region bump.used live here in
     let told = c.in-Some.ensures in
-    rw c.end.ensures (StandsFor-push bump.region bump.used live chunk here (omega (arith, told.above, end)) (omega (arith, told.value.0, ap (λ (k : Chunk). chunk_end k) told.value.1)))
+    rw c.end.ensures (StandsFor-push bump.region bump.used live chunk here (omega (arith, told.above, end))
+    (omega (arith, told.value.0, ap (λ (k : Chunk). chunk_end k) told.value.1)))

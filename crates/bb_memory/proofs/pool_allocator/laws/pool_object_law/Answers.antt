@@ -1,5 +1,6 @@
 use Rattle.bb_memory.proofs.Pools.{fresh-stands}
-use Rattle.bb_memory.proofs.PoolAnswers.{some_answer, one_cause, given_or_refused, answer-aligned, answer-bucket_aligned, answer-len, answer-new, answer-inside, some_grow, one_grow, some_shrink, one_shrink}
+use Rattle.bb_memory.proofs.PoolAnswers.{some_answer, one_cause, given_or_refused, answer-aligned, answer-bucket_aligned}
+use Rattle.bb_memory.proofs.PoolAnswers.{answer-len, answer-new, answer-inside, some_grow, one_grow, some_shrink, one_shrink}
 use Rattle.bb_memory.proofs.PoolRuns.{places-aligned, places-a_stride_apart, released-room, run-keeps, base_run-keeps}
 use Rattle.bb_memory.proofs.pool_allocator.laws.pool_object_law.Goals as goal
 

@@ -3,7 +3,8 @@ use Rattle.atomic_table.specs.Table.{Me}
 use Rattle.bb_memory_base.specs.BumpHistory.{chunks_won}
 use Rattle.bb_memory.specs.Seats.{number_of, view_log}
 use Rattle.bb_memory.specs.SharedBumpRule.{SeatView}
-use Rattle.bb_memory.proofs.SharedBumpAnswers.{answers_refused, answers_won, ended_by, found_by, lost_by, nothing_found, nothing_lost, won_by}
+use Rattle.bb_memory.proofs.SharedBumpAnswers.{answers_refused, answers_won, ended_by, found_by}
+use Rattle.bb_memory.proofs.SharedBumpAnswers.{lost_by, nothing_found, nothing_lost, won_by}
 use Rattle.bb_memory.proofs.shared_bump.SharedBumpAllocator.allocate.Goals.{in-Some, in-None}
 use Rattle.bb_memory.proofs.shared_bump.SharedBumpAllocator.allocate.Goals as goal
 
@@ -29,7 +30,8 @@ returns-clause-answer c =
           c.args.party.now same c.party.view_is is c.args.layout asks own w.in-Some.chunk w.in-Some.ensures.call)
       | in-None w ↦
           rw w.result-is
-          (answers_refused scene c.claim.new.seat.table_id c.party.inside.seat.table_id c.party.inside.number me c.claim.new.seat.me
+          (answers_refused scene c.claim.new.seat.table_id c.party.inside.seat.table_id
+          c.party.inside.number me c.claim.new.seat.me
           c.args.party.now same c.party.view_is is c.args.layout asks own w.in-None.ensures.call)
     ]
 

@@ -6,7 +6,8 @@ use Rattle.bb_memory.proofs.shared_bump.SharedBumpAllocator.claim.Goals as goal
 pub returns-in-None-clause-call : goal.returns-in-None-clause-call
 returns-in-None-clause-call g c =
     let me = c.args.seat.now.me in
-    refused_at_once c.args.self.now.scene (number_of me.0) (view_log me.0) c.args.layout c.read-seen.result c.read-seen.new.seat.me
+    refused_at_once c.args.self.now.scene (number_of me.0)
+    (view_log me.0) c.args.layout c.read-seen.result c.read-seen.new.seat.me
     (rw c.self.view_is at c.read-seen.ensures.step) c.in-None.ensures.fits
 
 pub loop-seen-init : goal.loop-seen-init
@@ -41,7 +42,8 @@ loop-seen-preserved g c =
     let me = c.args.seat.now.me in
     let before = c.loop-seen.invariant in record {
       table = c.exchange-found.ensures.table ∙ before.table;
-      trying = goes_on c.args.self.now.scene (number_of me.0) (view_log me.0) c.args.layout c.loop-seen.seen c.exchange-found.result
+      trying =
+          goes_on c.args.self.now.scene (number_of me.0) (view_log me.0) c.args.layout c.loop-seen.seen c.exchange-found.result
           c.loop-seen.seat.me c.exchange-found.new.seat.me before.trying (rw c.self.view_is at c.exchange-found.ensures.step)
           c.if-found-seen.false c.in-Some-place.ensures.fits.0;
       placed = c.in-Some-place.ensures.fits.1;
@@ -53,12 +55,14 @@ pub place-requires-in-loop-seen : goal.place-requires-in-loop-seen
 place-requires-in-loop-seen g c =
     let me = c.args.seat.now.me in
     (raises c.args.self.now.scene (number_of me.0) (view_log me.0) c.args.layout c.loop-seen.seen c.exchange-found.result
-    c.loop-seen.seat.me c.exchange-found.new.seat.me c.loop-seen.invariant.trying (rw c.self.view_is at c.exchange-found.ensures.step)).1
+    c.loop-seen.seat.me c.exchange-found.new.seat.me c.loop-seen.invariant.trying
+    (rw c.self.view_is at c.exchange-found.ensures.step)).1
 
 pub loop-seen-smaller : goal.loop-seen-smaller
 loop-seen-smaller g c =
     let me = c.args.seat.now.me in
     let up = raises c.args.self.now.scene (number_of me.0) (view_log me.0) c.args.layout c.loop-seen.seen c.exchange-found.result
-    c.loop-seen.seat.me c.exchange-found.new.seat.me c.loop-seen.invariant.trying (rw c.self.view_is at c.exchange-found.ensures.step) in
+    c.loop-seen.seat.me c.exchange-found.new.seat.me c.loop-seen.invariant.trying
+    (rw c.self.view_is at c.exchange-found.ensures.step) in
     let apart = c.if-found-seen.false in
     omega (arith, up, apart)

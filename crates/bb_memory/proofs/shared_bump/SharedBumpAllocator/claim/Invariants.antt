@@ -2,7 +2,7 @@ use Rattle.std.proofs.Common.{◌≡◌, ◌-◌, ◌%◌}
 use Rattle.bb_memory_base.specs.Chunk.{IsInside}
 use Rattle.bb_memory_base.specs.BumpMachine.{chunk_at}
 use Rattle.bb_memory.specs.Seats.{number_of, view_log}
-use Rattle.bb_memory.specs.SharedBumpSteps.{IsTrying}
+use Rattle.bb_memory.proofs.SharedBumpRequests.{IsTrying}
 use Rattle.bb_memory.proofs.shared_bump.SharedBumpAllocator.claim.Given as goal
 
 abbrev pub invariant-loop-seen : goal.invariant-loop-seen

@@ -17,7 +17,8 @@ pub invariant_of-push_reserved : goal.invariant_of-push_reserved
 invariant_of-push_reserved c =
     let scene = c.args.self.now.scene in
     let number = c.loop-number.number in
-    let is = c.loop-number.invariant.rest ∙ ap (λ (parties : List NumberedLog). (standing_for scene parties, [])) (fresh_more number c.args.parties (omega arith)) in
+    let is = c.loop-number.invariant.rest ∙ ap (λ (parties : List NumberedLog). (standing_for scene parties, []))
+    (fresh_more number c.args.parties (omega arith)) in
     let seated = c.deal-seat.ensures.first ∙ ap (λ (m : Me ℕ SeatView). (first_of m.0, [])) is in
     party_seat scene number [] c.deal-seat.result.me
     record {
@@ -45,7 +46,8 @@ loop-number-preserved c =
       log = ap (λ (m : Me ℕ SeatView). view_log m.0) seated j;
     } in
     let items = c.push_reserved.ensures.items in
-    let more = given_more (fresh_party bump) c.loop-number.all.items value (λ j below. before.fresh j (omega arith)) (value_is ∙ ap (fresh_party bump) (sym before.long)) in
+    let more = given_more (fresh_party bump) c.loop-number.all.items value (λ j below. before.fresh j (omega arith))
+    (value_is ∙ ap (fresh_party bump) (sym before.long)) in
     record {
       table = dealt.table ∙ before.table;
       rest = dealt.rest ∙ ap (λ (m : Me ℕ SeatView). (others_of m.0, m.1)) is;
@@ -53,6 +55,8 @@ loop-number-preserved c =
       long = ap length items ∙ length-append c.loop-number.all.items (value ∷ []) ∙ ap (λ (m : ℕ). m + 1) before.long;
       room = subst (λ (m : ℕ). count ≤ m) (sym c.push_reserved.ensures.capacity) before.room;
       theirs = subst (All (λ (p : BumpParty). p.allocator ≡ bump)) (sym items)
-          (All-push (λ (p : BumpParty). p.allocator ≡ bump) c.loop-number.all.items value before.theirs (ap (λ (p : BumpParty). p.allocator) value_is));
-      fresh = λ j below. subst (λ (xs : List BumpParty). slice_get xs j ≡ Some (fresh_party bump j)) (sym items) (more j (omega arith));
+          (All-push (λ (p : BumpParty). p.allocator ≡ bump) c.loop-number.all.items value before.theirs
+          (ap (λ (p : BumpParty). p.allocator) value_is));
+      fresh = λ j below. subst (λ (xs : List BumpParty). slice_get xs j ≡ Some (fresh_party bump j))
+          (sym items) (more j (omega arith));
     }

@@ -6,10 +6,22 @@ pub bounds-self-inside-number : goal.bounds-self-inside-number
 bounds-self-inside-number g c =
     let inside = c.self.inside in
     let listed = c.self.invariant.listed in
-    omega (arith, c.requires, ap (λ (l : List Bool). length l) c.self.view_is, length-held_numbers inside.bound (take inside.left inside.free), c.self.invariant.len, listed.fits)
+    omega (
+      arith,
+      c.requires,
+      ap (λ (l : List Bool). length l) c.self.view_is,
+      length-held_numbers inside.bound (take inside.left inside.free),
+      c.self.invariant.len,
+      listed.fits,
+    )
 
 pub returns : goal.returns
 returns g c =
     let inside = c.self.inside in
     rw (← c.self.view_is) (has_flag g.row.N inside.bound inside.held inside.free inside.left c.args.number c.self.invariant
-    (omega (arith, c.requires, ap (λ (l : List Bool). length l) c.self.view_is, length-held_numbers inside.bound (take inside.left inside.free))))
+    (omega (
+      arith,
+      c.requires,
+      ap (λ (l : List Bool). length l) c.self.view_is,
+      length-held_numbers inside.bound (take inside.left inside.free),
+    )))

@@ -20,11 +20,13 @@ returns-clause-taken g c =
     let inside = c.self.inside in
     let is = c.self.invariant.listed in
     let low : get_or inside.free (inside.left - 1) 0 < inside.bound = is.below (inside.left - 1) (omega arith) in
-    rw (← c.self.view_is) (taken_off g.row.N inside.bound inside.free inside.left (get_or inside.free (inside.left - 1) 0) is (omega arith) refl low)
+    rw (← c.self.view_is) (taken_off g.row.N inside.bound inside.free inside.left
+    (get_or inside.free (inside.left - 1) 0) is (omega arith) refl low)
 
 pub invariant_of-self : goal.invariant_of-self
 invariant_of-self g c =
     let inside = c.self.inside in
     let is = c.self.invariant.listed in
     let low : get_or inside.free (inside.left - 1) 0 < inside.bound = is.below (inside.left - 1) (omega arith) in
-    flags_taken g.row.N inside.bound inside.held inside.free inside.left (get_or inside.free (inside.left - 1) 0) c.self.invariant (omega arith) refl low
+    flags_taken g.row.N inside.bound inside.held inside.free inside.left
+    (get_or inside.free (inside.left - 1) 0) c.self.invariant (omega arith) refl low

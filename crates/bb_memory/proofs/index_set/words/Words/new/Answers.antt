@@ -29,15 +29,19 @@ invariant_of-result g c =
     elim c.if-used-ne0.branch [
       | then-used-ne0 w ↦
           let words : c.if-used-ne0.words.words ≡ set (zeros count) (count - 1) (last_word bound) =
-          ap (λ (s : Slots). s.words) w.words-is ∙ w.put.ensures.words ∙ ap (λ (ws : List ℕ). set ws (count - 1) (last_word bound)) inv.words in
-          let listed : c.if-used-ne0.words.listed ≡ c.loop-k.words.listed = ap (λ (s : Slots). s.listed) w.words-is ∙ w.put.ensures.listed in
+          ap (λ (s : Slots). s.words) w.words-is ∙ w.put.ensures.words
+          ∙ ap (λ (ws : List ℕ). set ws (count - 1) (last_word bound)) inv.words in
+          let listed : c.if-used-ne0.words.listed ≡ c.loop-k.words.listed =
+          ap (λ (s : Slots). s.listed) w.words-is ∙ w.put.ensures.listed in
           let made = fresh_part bound count is (omega arith) in
-          rw listed (fresh_set bound count c.if-used-ne0.words.words _ c.loop-k.words.listed words is made.0 made.1 inv.room (λ j h. inv.named j (omega (arith, h))))
+          rw listed (fresh_set bound count c.if-used-ne0.words.words _ c.loop-k.words.listed words is made.0 made.1 inv.room
+          (λ j h. inv.named j (omega (arith, h))))
       | else-used-ne0 w ↦
           let words : c.if-used-ne0.words.words ≡ zeros count = ap (λ (s : Slots). s.words) w.words-is ∙ inv.words in
           let listed : c.if-used-ne0.words.listed ≡ c.loop-k.words.listed = ap (λ (s : Slots). s.listed) w.words-is in
           let made = fresh_whole bound count is (omega arith) in
-          rw listed (fresh_set bound count c.if-used-ne0.words.words _ c.loop-k.words.listed words is made.0 made.1 inv.room (λ j h. inv.named j (omega (arith, h))))
+          rw listed (fresh_set bound count c.if-used-ne0.words.words _ c.loop-k.words.listed words is made.0 made.1 inv.room
+          (λ j h. inv.named j (omega (arith, h))))
     ]
 
 pub returns : goal.returns
@@ -49,7 +53,8 @@ returns g c =
     elim c.if-used-ne0.branch [
       | then-used-ne0 w ↦
           let words : c.if-used-ne0.words.words ≡ set (zeros count) (count - 1) (last_word bound) =
-          ap (λ (s : Slots). s.words) w.words-is ∙ w.put.ensures.words ∙ ap (λ (ws : List ℕ). set ws (count - 1) (last_word bound)) inv.words in
+          ap (λ (s : Slots). s.words) w.words-is ∙ w.put.ensures.words
+          ∙ ap (λ (ws : List ℕ). set ws (count - 1) (last_word bound)) inv.words in
           ap (numbers_of bound) words ∙ (fresh_part bound count is (omega arith)).2
       | else-used-ne0 w ↦
           let words : c.if-used-ne0.words.words ≡ zeros count = ap (λ (s : Slots). s.words) w.words-is ∙ inv.words in

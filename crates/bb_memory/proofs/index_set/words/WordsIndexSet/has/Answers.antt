@@ -9,5 +9,6 @@ has-requires g c =
 pub returns : goal.returns
 returns g c =
     let inside = c.self.inside in
-    let low = (has_bound inside.bound inside.words.words c.args.number c.args.self.now c.self.invariant.are c.self.view_is c.requires).0 in
+    let low = (has_bound inside.bound inside.words.words c.args.number c.args.self.now c.self.invariant.are
+    c.self.view_is c.requires).0 in
     rw (← c.self.view_is, c.has.ensures) (bit_tells inside.bound inside.words.words c.args.number low)

@@ -1,4 +1,5 @@
-use Rattle.std.proofs.Common.{◌≡◌, ◌+◌, ◌-◌, ◌/◌, ◌<◌, ◌≤◌, ℕ, List, ◌∙◌, ap, sym, set, get_or, arith, length, length-set, true, false}
+use Rattle.std.proofs.Common.{◌≡◌, ◌+◌, ◌-◌, ◌/◌, ◌<◌, ◌≤◌, ℕ, List, ◌∙◌, ap, sym}
+use Rattle.std.proofs.Common.{set, get_or, arith, length, length-set, true, false}
 use Rattle.std.specs.Prelude.{slice_set}
 use Rattle.bb_memory.specs.Words.{Slots, IsWordSet, numbers_of}
 use Rattle.bb_memory.proofs.NumberWords.{has_word, released}
@@ -42,7 +43,8 @@ invariant_of-self g c =
       | then-self-gt0 w ↦
           let named = w.list.ensures.listed ∙ ap (λ (l : List ℕ). set l (inside.top - 1) inside.hand) told.listed in
           rw (w.self-inside-is, w.list.ensures.words)
-          (set_opened inside.bound words listed c.clear-was_full.new.self.words w.list.new.self.listed inside.hand inside.top at is
+          (set_opened inside.bound words listed c.clear-was_full.new.self.words w.list.new.self.listed
+          inside.hand inside.top at is
           left.0 told.others within full told.not_full
           (ap length named ∙ length-set listed (inside.top - 1) inside.hand)
           (λ k h. ap (λ (l : List ℕ). get_or l k 0) named
@@ -63,7 +65,8 @@ invariant_of-self-else-was_full g c =
     let left = released inside.bound inside.words.words _ c.args.number is.are has told.bit in
     let within = (has_word inside.bound inside.words.words c.args.number is.are has).1 in
     set_still inside.bound inside.words.words inside.words.listed c.clear-was_full.new.self.words c.clear-was_full.new.self.listed
-    inside.hand inside.top (c.args.number / 64) is left.0 told.others within (told.was_open c.if-was_full.false) told.not_full told.listed
+    inside.hand inside.top (c.args.number / 64) is left.0 told.others within
+    (told.was_open c.if-was_full.false) told.not_full told.listed
 
 pub returns-after-self-gt0 : goal.returns-after-self-gt0
 returns-after-self-gt0 g c =

@@ -32,7 +32,8 @@ invariant_of-self-then-self-gt0 g c =
     let taking = taken inside.bound words c.search.new.words.words c.in_ok-found.found.number is.are within told.lacked
     told.set in
     set_filled inside.bound words inside.words.listed c.search.new.words.words c.search.new.words.listed inside.hand
-    inside.top _ is taking.1 c.search.ensures.others told.some told.was_open (told.is_full c.if-found.true) c.search.ensures.listed
+    inside.top _ is taking.1 c.search.ensures.others told.some told.was_open
+    (told.is_full c.if-found.true) c.search.ensures.listed
     (λ more. c.listed-self-inside.ensures ∙ ap (λ (l : List ℕ). get_or l (inside.top - 1 - 1) 0) c.search.ensures.listed)
     (λ none. absurd (omega (arith, none, c.if-self-gt0.true)))
 
@@ -47,7 +48,8 @@ invariant_of-self-else-self-gt0 g c =
     let taking = taken inside.bound words c.search.new.words.words c.in_ok-found.found.number is.are within told.lacked
     told.set in
     set_filled inside.bound words inside.words.listed c.search.new.words.words c.search.new.words.listed inside.hand
-    inside.top _ is taking.1 c.search.ensures.others told.some told.was_open (told.is_full c.if-found.true) c.search.ensures.listed
+    inside.top _ is taking.1 c.search.ensures.others told.some told.was_open
+    (told.is_full c.if-found.true) c.search.ensures.listed
     (λ more. absurd (omega (arith, more, c.if-self-gt0.false))) (λ none. refl)
 
 pub invariant_of-self-else-found : goal.invariant_of-self-else-found

@@ -4,19 +4,17 @@ use Rattle.bb_memory.specs.NumberSet.{Has}
 use Rattle.bb_memory.proofs.pool_allocator.buckets.Buckets.holds.Goals as goal
 
 pub returns-in-Some : goal.returns-in-Some
-returns-in-Some g c = (
-  λ yes. (c.in-Some.number, rw (← c.self.view_is) (c.has.ensures.0 yes), c.in-Some.ensures.there),
+returns-in-Some g c = rw (← c.self.view_is) (
+  λ yes. (c.in-Some.number, c.has.ensures.0 yes, c.in-Some.ensures.there),
   λ held.
-      let here = subst (λ i. Has c.args.self.now.held i) (c.in-Some.ensures.one held.0 held.2) held.1 in
-      let inner = rw (← c.self.view_is) at here in
-      c.has.ensures.1 inner,
+      let same = c.in-Some.ensures.one held.0 held.2 in
+      c.has.ensures.1 (subst (λ i. Has (g.S.IndexSet.numbers c.self.inside.held) i) same held.1),
 )
 
 pub returns-in-None : goal.returns-in-None
 returns-in-None g c = rw (← c.self.view_is) (
   λ no. absurd (cc),
   λ held.
-      let none = rw (← c.self.view_is) at c.in-None.ensures.none in
       let within = slice_get_within (g.S.IndexSet.numbers c.self.inside.held) held.0 true held.1 in
-      absurd (none (held.0, omega (arith, within, c.self.invariant.flags), held.2)),
+      absurd (c.in-None.ensures.none (held.0, omega (arith, within, c.self.invariant), held.2)),
 )

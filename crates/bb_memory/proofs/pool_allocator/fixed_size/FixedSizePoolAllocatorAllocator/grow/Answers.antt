@@ -7,11 +7,13 @@ use Rattle.bb_memory.proofs.pool_allocator.fixed_size.FixedSizePoolAllocatorAllo
 pub returns-clause-resized : goal.returns-clause-resized
 returns-clause-resized g c =
     let is = subst IsPool c.self.view_is c.self.invariant in
-    let may = subst (λ (p : Pool). MayGrow p.geometry.bucket c.args.place c.args.old c.args.new c.grow.result) c.self.view_is c.grow.ensures in
+    let may = subst (λ (p : Pool). MayGrow p.geometry.bucket c.args.place c.args.old c.args.new c.grow.result)
+    c.self.view_is c.grow.ensures in
     MayGrow-resized c.args.self.now c.args.place c.args.old c.args.new c.grow.result is may
 
 pub returns-clause-inside : goal.returns-clause-inside
 returns-clause-inside g c =
     let is = subst IsPool c.self.view_is c.self.invariant in
-    let may = subst (λ (p : Pool). MayGrow p.geometry.bucket c.args.place c.args.old c.args.new c.grow.result) c.self.view_is c.grow.ensures in
+    let may = subst (λ (p : Pool). MayGrow p.geometry.bucket c.args.place c.args.old c.args.new c.grow.result)
+    c.self.view_is c.grow.ensures in
     MayGrow-inside c.args.self.now c.args.place c.args.old c.args.new c.grow.result is c.requires.live may

@@ -1,6 +1,7 @@
 use Rattle.std.proofs.Common.{subst}
 use Rattle.bb_memory.specs.Pool.{Pool, IsPool, Takes}
-use Rattle.bb_memory.proofs.PoolCalls.{Takes-answer, Takes-appended, Takes-inside, Takes-aligned, Takes-accepted, Takes-bucket_aligned, Takes-given, Takes-was_free, Takes-apart, Takes-still_held}
+use Rattle.bb_memory.proofs.PoolCalls.{Takes-answer, Takes-appended, Takes-inside, Takes-aligned, Takes-accepted}
+use Rattle.bb_memory.proofs.PoolCalls.{Takes-bucket_aligned, Takes-given, Takes-was_free, Takes-apart, Takes-still_held}
 use Rattle.bb_memory.proofs.pool_allocator.fixed_size.FixedSizePoolAllocatorBaseAllocator.allocate.Goals as goal
 
 pub returns-clause-answer : goal.returns-clause-answer

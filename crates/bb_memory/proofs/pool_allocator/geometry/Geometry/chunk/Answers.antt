@@ -13,8 +13,9 @@ unwrap-requires c =
     pool_geometry (region_at inside.region_start inside.region_size) inside.bucket inside.buckets in
     let below = rw (← c.self.view_is) at c.requires.below in
     let short = rw (← c.self.view_is) at c.requires.short in
-    let chunk = measured-chunk geometry inside.first inside.stride c.args.bucket c.args.len c.self.invariant below short in
-    let place = measured-place geometry inside.first inside.stride c.args.bucket c.self.invariant in
+    let chunk =
+    measured-chunk geometry inside.first inside.stride inside.shift c.self.invariant c.args.bucket c.args.len below short in
+    let place = measured-place geometry inside.first inside.stride inside.shift c.self.invariant c.args.bucket in
     some-if c.new.result _ _ c.new.ensures (subst (λ p. IsChunk (record { place = p; len = c.args.len })) (sym place) chunk)
 
 pub returns-clause-inside : goal.returns-clause-inside
@@ -24,8 +25,10 @@ returns-clause-inside c =
     pool_geometry (region_at inside.region_start inside.region_size) inside.bucket inside.buckets in
     let below = rw (← c.self.view_is) at c.requires.below in
     let short = rw (← c.self.view_is) at c.requires.short in
-    let lies = measured-inside geometry inside.first inside.stride c.args.bucket c.args.len c.self.invariant below short in
-    let place = measured-place geometry inside.first inside.stride c.args.bucket c.self.invariant in
+    let lies =
+    measured-inside geometry inside.first inside.stride inside.shift c.self.invariant c.args.bucket c.args.len below short in
+    let place = measured-place geometry inside.first inside.stride inside.shift c.self.invariant c.args.bucket in
     let value = some-value c.new.result _ _ c.unwrap.result c.new.ensures c.unwrap.ensures in
     subst (λ (g : PoolGeometry). IsInside g.region c.unwrap.result) c.self.view_is
-    (subst (IsInside geometry.region) (sym value) (subst (λ p. IsInside geometry.region (record { place = p; len = c.args.len })) (sym place) lies))
+    (subst (IsInside geometry.region) (sym value)
+    (subst (λ p. IsInside geometry.region (record { place = p; len = c.args.len })) (sym place) lies))

@@ -13,7 +13,8 @@ unwrap-requires c =
     pool_geometry (region_at inside.region_start inside.region_size) inside.bucket inside.buckets in
     let at = rw (← c.self.view_is) at c.requires in
     let short : c.size-5.result ≤ inside.bucket.size = omega arith in
-    let chunk = placed-chunk geometry inside.first inside.stride c.args.place c.size-5.result c.self.invariant at short in
+    let chunk =
+    placed-chunk geometry inside.first inside.stride inside.shift c.self.invariant c.args.place c.size-5.result at short in
     some-if c.new.result _ _ c.new.ensures chunk
 
 pub returns-clause-inside : goal.returns-clause-inside
@@ -23,7 +24,8 @@ returns-clause-inside c =
     pool_geometry (region_at inside.region_start inside.region_size) inside.bucket inside.buckets in
     let at = rw (← c.self.view_is) at c.requires in
     let short : c.size-5.result ≤ inside.bucket.size = omega arith in
-    let lies = placed-inside geometry inside.first inside.stride c.args.place c.size-5.result c.self.invariant at short in
+    let lies =
+    placed-inside geometry inside.first inside.stride inside.shift c.self.invariant c.args.place c.size-5.result at short in
     let value = some-value c.new.result _ _ c.unwrap.result c.new.ensures c.unwrap.ensures in
     subst (λ (g : PoolGeometry). IsInside g.region c.unwrap.result) c.self.view_is
     (subst (IsInside geometry.region) (sym value) lies)

@@ -14,11 +14,13 @@ compare_exchange-found-requires c =
       omega (arith, fields.words),
       exchanges_as c.self.inside.table.shared.key _ _ (number_of me.0) c.args.layout c.args.seen c.args.behind (view_log me.0) me
           (c.requires.seat.is ∙ ap (λ s. (alone s (number_of me.0) (view_log me.0), [])) (sym scene)) c.requires.call
-          (c.requires.behind ∙ ap (λ (s : BumpScene). position_behind s.region (chunk_at s.region c.args.seen c.args.layout)) (sym scene)),
+          (c.requires.behind ∙ ap (λ (s : BumpScene). position_behind s.region (chunk_at s.region c.args.seen c.args.layout))
+          (sym scene)),
     )
 
 pub returns-clause-step : goal.returns-clause-step
 returns-clause-step c =
     let me = c.args.seat.now.me in
-    told_exchange c.args.self.now.scene (number_of me.0) (view_log me.0) c.compare_exchange-found.result me c.compare_exchange-found.new.seat.me
+    told_exchange c.args.self.now.scene (number_of me.0) (view_log me.0) c.compare_exchange-found.result me
+    c.compare_exchange-found.new.seat.me
     c.requires.seat c.compare_exchange-found.ensures.2

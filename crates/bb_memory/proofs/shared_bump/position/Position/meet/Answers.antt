@@ -26,7 +26,8 @@ join_seat-requires c =
       split.3 ∙ c.requires.tables.1 ∙ own,
       ap (λ m. m.1) split.4,
       some_word c.self.inside.table.shared.table_id c.self.invariant,
-      gathers c.self.inside.table.shared.key c.args.a.now.id c.split_seat-guest.result.id c.args.a.now.me.0 c.split_seat-guest.result.me.0,
+      gathers c.self.inside.table.shared.key c.args.a.now.id c.split_seat-guest.result.id c.args.a.now.me.0
+          c.split_seat-guest.result.me.0,
     )
 
 pub load-requires : goal.load-requires
@@ -39,7 +40,8 @@ load-requires c =
     let two = c.join_seat.ensures.2 ∙ λ i. (both_of (own i).0 (guest i).0, (own i).1) in (
       c.join_seat.ensures.0 ∙ c.requires.tables.0 ∙ sym (ap (λ s. s.table) c.self.view_is),
       some_word c.self.inside.table.shared.table_id c.self.invariant,
-      meets_as c.self.inside.table.shared.key _ _ (numbered (number_of a.0) (view_log a.0)) (numbered (number_of b.0) (view_log b.0))
+      meets_as c.self.inside.table.shared.key _ _ (numbered (number_of a.0) (view_log a.0))
+          (numbered (number_of b.0) (view_log b.0))
           c.join_seat.new.seat.me two,
     )
 

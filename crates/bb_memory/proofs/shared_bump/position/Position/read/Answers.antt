@@ -13,11 +13,13 @@ load-requires g c =
       c.requires.table ∙ sym (ap (λ b. b.table) c.self.view_is),
       omega (arith, fields.words),
       reads_as c.self.inside.table.shared.key _ _ (number_of me.0) c.args._layout g.L.Asked.layout (view_log me.0) me
-          (of.seat.is ∙ ap (λ s. (alone s (number_of me.0) (view_log me.0), [])) (sym scene)) of.idle c.requires.asks c.requires.asked,
+          (of.seat.is ∙ ap (λ s. (alone s (number_of me.0) (view_log me.0), [])) (sym scene)) of.idle
+          c.requires.asks c.requires.asked,
     )
 
 pub returns-clause-step : goal.returns-clause-step
 returns-clause-step g c =
     let me = c.args.seat.now.me in
-    told_read c.args.self.now.scene (number_of me.0) (view_log me.0) c.args._layout c.load.result g.L.Asked.layout _ me c.load.new.seat.me
+    told_read c.args.self.now.scene (number_of me.0)
+    (view_log me.0) c.args._layout c.load.result g.L.Asked.layout _ me c.load.new.seat.me
     c.requires.seat.seat c.requires.asked c.load.ensures.2

@@ -33,7 +33,8 @@ pub returns-then-try_flag-clause-pass : goal.returns-then-try_flag-clause-pass
 returns-then-try_flag-clause-pass c =
     let me = c.args.seat.now.me in
     takes c.args.self.now.scene (number_of me.0) (view_log me.0) c.loop-bucket.seat.me c.try_flag.new.seat.me
-    c.loop-bucket.bucket c.loop-bucket.invariant.passing (rw c.if-try_flag.true at (rw c.self.view_is at c.try_flag.ensures.step)) (omega arith)
+    c.loop-bucket.bucket c.loop-bucket.invariant.passing
+    (rw c.if-try_flag.true at (rw c.self.view_is at c.try_flag.ensures.step)) (omega arith)
 
 pub loop-bucket-preserved : goal.loop-bucket-preserved
 loop-bucket-preserved c =

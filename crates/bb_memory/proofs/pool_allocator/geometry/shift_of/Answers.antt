@@ -1,6 +1,6 @@
 use Rattle.std.proofs.Common.{sym, ◌∙◌}
 use Rattle.bb_memory.proofs.Cuts.{shifts-zeros}
-use Rattle.bb_memory.proofs.pool_allocator.buckets.shift_of.Goals as goal
+use Rattle.bb_memory.proofs.pool_allocator.geometry.shift_of.Goals as goal
 
 pub returns : goal.returns
 returns c =
