@@ -1,7 +1,6 @@
 //! Readers and writers that fail at each of their calls in turn, and scripts that are cut at every byte.
 use super::{FIRST_PATH, FIRST_PATH_LINES};
-use crate::program::run;
-use crate::status::Status;
+use script_runner::{Status, run};
 use std::io;
 use std::io::{ErrorKind, Read, Write};
 use std::test::Fail;

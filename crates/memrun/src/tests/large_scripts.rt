@@ -1,8 +1,7 @@
 //! Scripts of thousands of lines and many buckets, and with figures of 1 MiB, 4 GiB and 1 TiB.
 use super::buckets::{Named, between, line_and_rest};
 use super::rows::lines;
-use crate::program::run;
-use crate::status::Status;
+use script_runner::{Status, run};
 use std::alloc::{AllocError, Global};
 use std::io::Write;
 use std::test::Fail;

@@ -1,8 +1,7 @@
 //! Scripts that loan samples from a pool, each row by its name. Which free bucket is given is open: in what a script writes,
 //! `P` and `Q` stand for the places of its first two samples.
 use super::rows::lines;
-use crate::program::run;
-use crate::status::Status;
+use script_runner::{Status, run};
 use std::test::Fail;
 
 #[test]

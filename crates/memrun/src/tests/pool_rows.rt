@@ -1,8 +1,7 @@
 //! Scripts of pools, each row by its name. Which free bucket is given is open: in what a script writes, `P` stands for the
 //! place of its first chunk, which is one of those behind.
 use super::rows::lines;
-use crate::program::run;
-use crate::status::Status;
+use script_runner::{Status, run};
 use std::test::Fail;
 
 /// The lines that give 48 bytes of each bucket of 128 bytes, in a region of 1024 bytes at 4096.

@@ -3,8 +3,7 @@
 //! so on, until none is left to refuse. What a test makes for itself may be refused, too: then it ends.
 use super::buckets::{Named, between, line_and_rest};
 use super::{FIRST_PATH, FIRST_PATH_LINES};
-use crate::program::run;
-use crate::status::Status;
+use script_runner::{Status, run};
 use std::alloc::Global;
 use std::process::Abort;
 use std::test::Fail;

@@ -1,7 +1,5 @@
 //! Scripts with what they write, each row by its name. A semicolon stands for a line feed.
-use crate::engine::reading::lines_law;
-use crate::program::run;
-use crate::status::Status;
+use script_runner::{Status, equality_law, lines_law, run};
 use std::alloc::{AllocError, Global};
 use std::test::Fail;
 
@@ -334,8 +332,9 @@ fn statuses(rt: HostRuntime) {
     }
 }
 
-/// The law is called once.
+/// Each law is called once.
 #[test]
-fn the_law_of_lines_does_nothing(_rt: HostRuntime) {
+fn the_laws_do_nothing(_rt: HostRuntime) {
     lines_law();
+    equality_law();
 }

@@ -1,7 +1,6 @@
 //! Writers whose every call counts: one that only its flush fails, one that is interrupted once, and how many calls there are.
 use super::{FIRST_PATH, FIRST_PATH_LINES};
-use crate::program::run;
-use crate::status::Status;
+use script_runner::{Status, run};
 use std::io;
 use std::io::{ErrorKind, Write};
 use std::test::Fail;

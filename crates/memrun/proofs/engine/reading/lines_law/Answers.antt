@@ -1,5 +1,0 @@
-use Rattle.memrun.proofs.WholeLines.{lines_are, lines_only}
-use Rattle.memrun.proofs.engine.reading.lines_law.Goals as goal
-
-pub returns : goal.returns
-returns c = record { are = lines_are; only = lines_only }

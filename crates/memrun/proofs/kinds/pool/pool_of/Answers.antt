@@ -1,9 +1,0 @@
-use Rattle.bb_memory_base.specs.PoolGeometry.{IsCut}
-use Rattle.memrun.proofs.kinds.pool.pool_of.Goals as goal
-
-pub returns-in-Ok-clause-begins : goal.returns-in-Ok-clause-begins
-returns-in-Ok-clause-begins c =
-    let cut : IsCut c.args.plan.region c.args.plan.bucket c.new_uninit-uninit.result =
-    rw (c.start.ensures.value, c.size.ensures.value, c.bucket.ensures.value) at c.new_uninit-uninit.ensures
-    in
-    (c.new_uninit-uninit.result, cut, c.in-Ok.ensures.value)

@@ -1,0 +1,50 @@
+-- Layouts made of two numbers.
+use Rattle.std.proofs.Common.{◌≡◌, ℕ, zero, suc, ◌*◌, ◌<◌, ◌≤◌, ◌^◌, Result, Ok, Err, Some, IsOk, IfOk, ◌↔◌, ap, ◌∙◌}
+use Rattle.std.proofs.Common.{arith, mul-le-mul_right}
+use Rattle.std.proofs.Props.{props}
+use Rattle.std.proofs.lemmas.Bool.{false≢true}
+use Rattle.std.specs.Align.{IsLayout}
+use Rattle.std.specs.Result.{result_ok}
+use mathlib.Core.HLevel.{is_prop→PathP}
+use Rattle.bb_memory_base.specs.LeastPlace.{least_place}
+use Rattle.bb_memory_base.specs.declared.layout.Layout.{Layout}
+use Rattle.bb_memory_base.proofs.LeastPlaces.{least_place-is}
+use Rattle.script_runner.specs.Fields.{IsLayoutOfNumbers}
+
+-- layouts of the same numbers are the same
+same_layout : (a b : Layout) → a.size ≡ b.size → a.align ≡ b.align → a ≡ b
+same_layout a b size align = λ i. record {
+  size = size i;
+  align = align i;
+  valid = is_prop→PathP (λ j. IsLayout (size j) (align j)) (λ j. hlevel props) a.valid b.valid i;
+}
+
+-- what is made of the numbers of a layout is that layout
+pub result_ok-layout : {E : Type 0} (r : Result Layout E) (size align : ℕ) (layout : Layout)
+    → (IsOk r ↔ IsLayout size align) → IfOk r (λ l. (l.size ≡ size) × (l.align ≡ align))
+    → size ≡ layout.size → align ≡ layout.align → result_ok r ≡ Some layout
+result_ok-layout (Ok l) size align layout succeeds made same_size same_align =
+    ap Some (same_layout l layout (made.0 ∙ same_size) (made.1 ∙ same_align))
+result_ok-layout (Err e) size align layout succeeds made same_size same_align =
+    absurd (false≢true (succeeds.1 (rw (same_size, same_align) layout.valid)))
+
+-- a multiple that isn't 0 is no less than what it is a multiple of
+multiple-above : (n k align : ℕ) → n ≡ k * align → 0 < n → align ≤ n
+multiple-above n zero align is positive = omega (arith, is)
+multiple-above n (suc k) align is positive = omega (arith, is, mul-le-mul_right {m = 1} {n = suc k} align (omega arith))
+
+-- the rounded size may be written
+rounded-fits : (layout : Layout) → least_place layout.size layout.align < 2 ^ 63
+unfolding least_place
+rounded-fits layout = layout.valid.fits
+
+-- a layout with a byte is made of numbers that may be written
+pub layout-of_numbers : (layout : Layout) → 0 < layout.size → IsLayoutOfNumbers layout
+layout-of_numbers layout filled =
+    let least = least_place-is layout.size layout.align layout.valid.positive in
+    let fits : least_place layout.size layout.align < 2 ^ 63 = rounded-fits layout in
+    let size : layout.size ≤ least_place layout.size layout.align = least.above in
+    let align : layout.align ≤ least_place layout.size layout.align =
+    multiple-above (least_place layout.size layout.align) least.multiple.0 layout.align least.multiple.1 (omega arith)
+    in
+    (omega arith, omega arith)

@@ -1,0 +1,37 @@
+-- The lines of a script, as far as they are read.
+use Rattle.std.proofs.Common.{◌≡◌, ℕ, List, [], ◌∷◌, ◌++◌, length, take, map, Some, All, refl, sym, ap, ◌∙◌, subst}
+use Rattle.std.specs.Prelude.{slice_get}
+use Rattle.std.proofs.lemmas.List.{take_at, length-map, append_assoc, map-append}
+use Rattle.std.proofs.lemmas.List.Elements.{All-map, All-weaker}
+use Rattle.script_runner.specs.engine.Script.{IsTextOf, IsFirstUnreadable}
+
+-- what stands after a list
+slice_get_at : {X : Type 0} (xs : List X) (y : X) (ys : List X) → slice_get (xs ++ y ∷ ys) (length xs) ≡ Some y
+slice_get_at [] y ys = refl
+slice_get_at (x ∷ xs) y ys = slice_get_at xs y ys
+
+-- after lines that are read, one that isn't is the first
+pub first_unreadable : {A : Type 0} (IsAllowed : A → Type 0) (text_of : A → List ℕ) (lines after : List (List ℕ))
+    (before : List A) (line : List ℕ) (index : ℕ) →
+    lines ≡ map text_of before ++ line ∷ after → All IsAllowed before → index ≡ length before
+    → ¬ IsTextOf IsAllowed text_of line →
+    IsFirstUnreadable (IsTextOf IsAllowed text_of) lines index
+first_unreadable {A} IsAllowed text_of lines after before line index same all counted unreadable =
+    let Reads : List ℕ → Type 0 = IsTextOf IsAllowed text_of in
+    let front : List (List ℕ) = map text_of before in
+    let at : length front ≡ index = length-map before text_of ∙ sym counted in
+    let read : All Reads front =
+    All-map Reads text_of before (All-weaker IsAllowed (λ value. Reads (text_of value)) (λ value allowed. (value, allowed, refl)) before all) in
+    let taken : take index lines ≡ front = ap (take index) same ∙ take_at front (line ∷ after) index at in
+    let got : slice_get lines index ≡ Some line =
+    ap (slice_get lines) (sym at) ∙ (ap (λ ls. slice_get ls (length front)) same ∙ slice_get_at front line after) in
+    (subst (All Reads) (sym taken) read, line, got, unreadable)
+
+-- one line more is read
+pub lines_more : {A : Type 0} (text_of : A → List ℕ) (before grown : List A) (value : A) (lines rest : List (List ℕ))
+    (line : List ℕ) →
+    lines ≡ map text_of before ++ line ∷ rest → line ≡ text_of value → grown ≡ before ++ value ∷ [] → lines
+    ≡ map text_of grown ++ rest
+lines_more text_of before grown value lines rest line same text longer =
+    rw longer
+    (rw (map-append text_of before (value ∷ []), append_assoc (map text_of before) (text_of value ∷ []) rest, ← text) same)

@@ -1,0 +1,11 @@
+use Rattle.std.specs.Fmt.{decimal}
+use Rattle.script_runner.proofs.Layouts.{result_ok-layout}
+use Rattle.script_runner.proofs.fields.layout.Goals as goal
+
+pub returns-clause-each : goal.returns-clause-each
+returns-clause-each c layout numbers e =
+    let (same_size, rest) = c.in_ok-size.ensures.each layout.size (decimal layout.align) numbers.0 e in
+    let same_align = c.in_ok-number.ensures.each layout.align numbers.1 rest in
+    rw c.ok.ensures.value
+    (result_ok-layout c.from_size_align.result c.in_ok-size.size c.in_ok-number.field-0 layout
+    c.from_size_align.ensures.accepted c.from_size_align.ensures.value same_size cc)

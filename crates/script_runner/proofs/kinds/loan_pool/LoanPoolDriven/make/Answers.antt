@@ -1,0 +1,9 @@
+use Rattle.std.proofs.Common.{subst, sym}
+use Rattle.script_runner.specs.kinds.Pool.{BeginsPool}
+use Rattle.script_runner.proofs.kinds.loan_pool.LoanPoolDriven.make.Goals as goal
+
+pub returns : goal.returns
+returns c = record {
+  pool = subst (BeginsPool c.args.opening) (sym c.new-book.ensures.allocator) c.in_ok-pool.ensures.begins;
+  book = c.new-book.ensures.book;
+}

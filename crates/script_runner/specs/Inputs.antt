@@ -1,0 +1,73 @@
+-- What is written of an input.
+use Rattle.std.specs.Prelude.{ℕ, ◌≡◌, ◌-◌, ◌⊎◌, List, ◌∷◌, All, Option, IfSome, take}
+use Rattle.script_runner.specs.AllKinds.{kinds}
+use Rattle.script_runner.specs.engine.Lines.{lines_of}
+use Rattle.script_runner.specs.engine.Rules.{Kind, SomeOf, first_line}
+use Rattle.script_runner.specs.engine.Sending.{Begins}
+use Rattle.script_runner.specs.engine.Transcript.{IsTranscript, IsBegunTranscript, IsLineText, unreadable_text}
+
+-- OF LINES, BY A TABLE OF KINDS
+
+-- the lines are a first line of this kind, that says this of what is to be made, and the rest
+pub record HasFirstLine (kind : Kind) (lines : List (List ℕ))
+    (opening : kind.Opening) (rest : List (List ℕ)) : Type 0 where
+  pub allowed : kind.rules.may_open opening
+  pub cut : lines ≡ first_line kind.rules opening ∷ rest
+
+-- the first line is of this kind
+abbrev pub IsOpenedBy : List (List ℕ) → Kind → Type 0
+IsOpenedBy lines kind =
+    (opening : kind.Opening) × (rest : List (List ℕ)) × HasFirstLine kind lines opening rest
+
+-- so is each further line
+abbrev pub IsScriptOf : List (List ℕ) → Kind → Type 0
+IsScriptOf lines kind =
+    (opening : kind.Opening) × (rest : List (List ℕ)) × HasFirstLine kind lines opening rest
+    × All (IsLineText kind.rules) rest
+
+-- the lines are a script of this kind, and the text is what it is answered
+abbrev pub IsAnsweredBy : List (List ℕ) → List ℕ → Kind → Type 0
+IsAnsweredBy lines text kind =
+    (opening : kind.Opening) × (rest : List (List ℕ)) × HasFirstLine kind lines opening rest
+    × IsTranscript kind.rules opening rest text
+
+-- the lines are a script of this kind, and the bytes begin what it is answered
+abbrev pub IsBegunBy : List (List ℕ) → List ℕ → Kind → Type 0
+IsBegunBy lines sent kind =
+    (opening : kind.Opening) × (rest : List (List ℕ)) × HasFirstLine kind lines opening rest
+    × IsBegunTranscript kind.rules opening rest sent
+
+-- the lines are a script of some kind
+abbrev pub AreReadable : List Kind → List (List ℕ) → Type 0
+AreReadable table lines = SomeOf table (IsScriptOf lines)
+
+-- the first unreadable line has this number, counted from 1:
+-- the lines before it are readable, where there are any, and with it they aren't
+abbrev pub IsUnreadableAt : List Kind → List (List ℕ) → ℕ → Type 0
+IsUnreadableAt table lines number =
+    ((number ≡ 1) ⊎ AreReadable table (take (number - 1) lines))
+    × ¬ AreReadable table (take number lines)
+
+-- the bytes begin what is written of the lines, be they readable or not
+abbrev pub BeginsOutputOf : List Kind → List (List ℕ) → List ℕ → Type 0
+BeginsOutputOf table lines sent =
+    SomeOf table (IsBegunBy lines sent)
+    ⊎ ((number : ℕ) × IsUnreadableAt table lines number × Begins sent (unreadable_text number))
+
+-- OF AN INPUT
+
+-- the input is a script of some kind, and the text is what it is answered
+abbrev pub IsAnswered : List ℕ → List ℕ → Type 0
+IsAnswered input text = SomeOf kinds (IsAnsweredBy (lines_of input) text)
+
+-- the input's first unreadable line has this number, counted from 1
+abbrev pub IsUnreadable : List ℕ → ℕ → Type 0
+IsUnreadable input number = IsUnreadableAt kinds (lines_of input) number
+
+-- the bytes begin what is written of the input, be it readable or not
+abbrev pub BeginsOutput : List ℕ → List ℕ → Type 0
+BeginsOutput input sent = BeginsOutputOf kinds (lines_of input) sent
+
+-- the input is all that is left of a reader's bytes, where these are known
+abbrev pub IsLeft : List ℕ → Option (List ℕ) → Type 0
+IsLeft input left = IfSome left (λ bytes. input ≡ bytes)

@@ -1,0 +1,42 @@
+-- Scripts that drive a bump.
+use Rattle.std.specs.Prelude.{ℕ, ◌≡◌, ◌-◌, List, ◌++◌, codes}
+use Rattle.std.specs.Fmt.{decimal}
+use Rattle.bb_memory_base.specs.Region.{Region, IsRegion}
+use Rattle.bb_memory_base.specs.Chunk.{Chunk}
+use Rattle.bb_memory_base.specs.Run.{Step, IsRun}
+use Rattle.bb_memory_base.specs.BumpObject.{bump_object, StandsFor}
+use Rattle.bb_memory_base.specs.declared.allocator.Command.{Command}
+use Rattle.bb_memory_base.specs.declared.allocator.Reply.{Reply}
+use Rattle.bb_memory.specs.Bump.{Bump, bump_text}
+use Rattle.script_runner.specs.kinds.Bounds.{region_text}
+use Rattle.script_runner.specs.kinds.Allocators.{AllocatorRules}
+
+-- the replies are a run of the bump object over the bump's region, and the bump stands for the list that the run leaves
+pub record BumpRuns (old : Bump) (live : List Chunk) (commands : List Command)
+    (replies : List Reply) (new : Bump) (left : List Chunk) : Type 0 where
+  pub run : IsRun (Step (bump_object old.region)) live commands replies left
+  pub region : new.region ≡ old.region
+  pub stands : StandsFor new.region new.used left
+
+-- how much is used, free and there
+abbrev pub figures_line : ℕ → ℕ → ℕ → List ℕ
+figures_line used free total =
+    codes "used " ++ (decimal used ++ (codes " free " ++ (decimal free
+    ++ (codes " total " ++ (decimal total ++ codes "\n")))))
+
+-- what `show` writes
+abbrev pub bump_lines : Bump → List ℕ
+bump_lines bump =
+    (bump_text bump ++ codes "\n")
+    ++ figures_line bump.used (bump.region.size - bump.used) bump.region.size
+
+-- a bump that a script drives: it begins with nothing used
+abbrev pub bump_rules : AllocatorRules Bump Region
+bump_rules = record {
+  name = codes "bump";
+  may_open = IsRegion;
+  opening_text = region_text;
+  opens = λ region bump. bump ≡ record { region = region; used = 0 };
+  runs = BumpRuns;
+  state_text = λ bump _. bump_lines bump;
+}

@@ -1,0 +1,42 @@
+-- Scripts that drive a one chunk.
+use Rattle.std.specs.Prelude.{ℕ, ◌≡◌, List, ◌++◌, codes, Option, Some, None}
+use Rattle.std.specs.Fmt.{decimal}
+use Rattle.bb_memory_base.specs.Region.{Region, IsRegion}
+use Rattle.bb_memory_base.specs.Chunk.{Chunk}
+use Rattle.bb_memory_base.specs.Run.{IsRun}
+use Rattle.bb_memory_base.specs.ResizableObject.{ResizableStep}
+use Rattle.bb_memory_base.specs.declared.allocator.Command.{Command}
+use Rattle.bb_memory_base.specs.declared.allocator.Reply.{Reply}
+use Rattle.bb_memory.specs.OneChunk.{OneChunk, StandsFor}
+use Rattle.bb_memory.specs.OneChunkObject.{one_chunk_object}
+use Rattle.script_runner.specs.kinds.Bounds.{region_text}
+use Rattle.script_runner.specs.kinds.Allocators.{AllocatorRules}
+
+-- the replies are a run of the one-chunk object over its region, and it stands for the list that the run leaves
+pub record OneChunkRuns (old : OneChunk) (live : List Chunk) (commands : List Command)
+    (replies : List Reply) (new : OneChunk) (left : List Chunk) : Type 0 where
+  pub run : IsRun (ResizableStep (one_chunk_object old.region)) live commands replies left
+  pub region : new.region ≡ old.region
+  pub stands : StandsFor new left
+
+-- whether no place is kept
+abbrev pub available_text : Option ℕ → List ℕ
+available_text None = codes " available yes\n"
+available_text (Some place) = codes " available no\n"
+
+-- what `show` writes
+abbrev pub one_chunk_state : OneChunk → List ℕ
+one_chunk_state one =
+    codes "one start " ++ (decimal one.region.start
+    ++ (codes " size " ++ (decimal one.region.size ++ available_text one.kept)))
+
+-- a one chunk that a script drives: it begins with nothing kept
+abbrev pub one_chunk_rules : AllocatorRules OneChunk Region
+one_chunk_rules = record {
+  name = codes "one";
+  may_open = IsRegion;
+  opening_text = region_text;
+  opens = λ region one. one ≡ record { region = region; kept = None };
+  runs = OneChunkRuns;
+  state_text = λ one _. one_chunk_state one;
+}

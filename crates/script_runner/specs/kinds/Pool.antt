@@ -1,0 +1,61 @@
+-- Scripts that drive a pool.
+use Rattle.std.specs.Prelude.{ℕ, ◌≡◌, ◌≤◌, List, ◌++◌, codes}
+use Rattle.std.specs.Fmt.{decimal}
+use Rattle.bb_memory_base.specs.Chunk.{Chunk}
+use Rattle.bb_memory_base.specs.FirstPlace.{first_place}
+use Rattle.bb_memory_base.specs.PoolGeometry.{PoolGeometry, IsCut}
+use Rattle.bb_memory_base.specs.PoolObject.{pool_object}
+use Rattle.bb_memory_base.specs.ResizableObject.{ResizableStep}
+use Rattle.bb_memory_base.specs.Run.{IsRun}
+use Rattle.bb_memory_base.specs.declared.allocator.Command.{Command}
+use Rattle.bb_memory_base.specs.declared.allocator.Reply.{Reply}
+use Rattle.bb_memory.specs.IndexWords.{index_words}
+use Rattle.bb_memory.specs.Pool.{Pool, StandsFor, fresh_pool, CountedPool, counted}
+use Rattle.script_runner.specs.kinds.PoolPlan.{PoolPlan, IsPoolPlan, pool_plan_text}
+use Rattle.script_runner.specs.kinds.Allocators.{AllocatorRules}
+
+-- the pool's region is cut into all the buckets that it has room for; none is held, and no index word was read
+abbrev pub BeginsPool : PoolPlan → CountedPool → Type 0
+BeginsPool plan pool =
+    (geometry : PoolGeometry) × IsCut plan.region plan.bucket geometry
+    × (pool ≡ counted (fresh_pool geometry) 0)
+
+-- the replies are a run of the pool object over the pool's geometry, and the pool stands for the list that the run leaves
+pub record PoolRuns (old : Pool) (live : List Chunk) (commands : List Command)
+    (replies : List Reply) (new : Pool) (left : List Chunk) : Type 0 where
+  pub run : IsRun (ResizableStep (pool_object old.geometry)) live commands replies left
+  pub geometry : new.geometry ≡ old.geometry
+  pub stands : StandsFor new left
+
+-- the same, and the last request made at most as many reads as there are index words
+pub record CountedPoolRuns (old : CountedPool) (live : List Chunk) (commands : List Command)
+    (replies : List Reply) (new : CountedPool) (left : List Chunk) : Type 0 where
+  pub runs : PoolRuns old.pool live commands replies new.pool left
+  pub reads : new.reads ≤ index_words new.pool.geometry.buckets
+
+-- the figures that `show` writes of either pool with so many chunks live, and then the rest of the line
+abbrev pub pool_figures : PoolGeometry → ℕ → List ℕ → List ℕ
+pool_figures geometry live rest =
+    codes " size " ++ (decimal geometry.region.size
+    ++ (codes " bucket " ++ (decimal geometry.bucket.size
+    ++ (codes " align " ++ (decimal geometry.bucket.align
+    ++ (codes " buckets " ++ (decimal geometry.buckets
+    ++ (codes " live " ++ (decimal live ++ rest)))))))))
+
+-- what `show` writes
+abbrev pub pool_state : CountedPool → ℕ → List ℕ
+pool_state pool live =
+    codes "pool start "
+    ++ (decimal (first_place pool.pool.geometry.region pool.pool.geometry.bucket)
+    ++ pool_figures pool.pool.geometry live (codes " reads " ++ (decimal pool.reads ++ codes "\n")))
+
+-- a pool that a script drives: it begins with no bucket held
+abbrev pub pool_rules : AllocatorRules CountedPool PoolPlan
+pool_rules = record {
+  name = codes "pool";
+  may_open = IsPoolPlan;
+  opening_text = pool_plan_text;
+  opens = BeginsPool;
+  runs = CountedPoolRuns;
+  state_text = pool_state;
+}

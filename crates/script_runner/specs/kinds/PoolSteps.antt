@@ -1,0 +1,79 @@
+-- Scripts that take the steps of a pool machine.
+use Rattle.std.specs.Prelude.{ℕ, ◌≡◌, List, ◌++◌, codes, Option, Some, None, true}
+use Rattle.std.specs.Fmt.{decimal}
+use Rattle.std.specs.List.{flat_map}
+use Rattle.bb_memory_base.specs.PoolWorld.{PoolWorld, opened, outcomes_of, after_steps}
+use Rattle.bb_memory_base.specs.declared.steps.pool.PoolOutcome.{PoolOutcome}
+use Rattle.bb_memory_base.specs.declared.steps.pool.PoolOutcome.TheVariants as outcome
+use Rattle.bb_memory_base.specs.declared.steps.pool.PoolStep.{PoolStep}
+use Rattle.bb_memory_base.specs.declared.steps.pool.PoolStep.TheVariants.{Try, GiveBack}
+use Rattle.script_runner.specs.engine.Rules.{Rules}
+use Rattle.script_runner.specs.kinds.Buckets.{IsBucket, IsBucketCount}
+use Rattle.script_runner.specs.kinds.Parties.{parties, IsParty}
+
+-- LINES
+
+-- one of the parties, and a number that may name a bucket
+abbrev pub IsGiving : ℕ → ℕ → Type 0
+IsGiving party bucket = IsParty party × IsBucket bucket
+
+-- its party is one of the parties, and its bucket's number may name one
+abbrev pub IsStep : PoolStep → Type 0
+IsStep (Try party) = IsParty party
+IsStep (GiveBack party bucket) = IsGiving party bucket
+
+-- `PARTY BUCKET`
+abbrev pub giving_text : ℕ → ℕ → List ℕ
+giving_text party bucket = decimal party ++ (codes " " ++ decimal bucket)
+
+abbrev pub try_line : ℕ → List ℕ
+try_line party = codes "try " ++ decimal party
+
+abbrev pub give_line : ℕ → ℕ → List ℕ
+give_line party bucket = codes "give " ++ giving_text party bucket
+
+-- the line that writes a step
+abbrev pub step_line : PoolStep → List ℕ
+step_line (Try party) = try_line party
+step_line (GiveBack party bucket) = give_line party bucket
+
+-- REPLIES
+
+-- the number of a bucket's holder, or a dash where it is free
+abbrev pub holder_text : Option ℕ → List ℕ
+holder_text (Some party) = codes " " ++ decimal party
+holder_text None = codes " -"
+
+-- the holder of each bucket, as `show` writes it
+abbrev pub held_line : List (Option ℕ) → List ℕ
+held_line holders = codes "held" ++ (flat_map holder_text holders ++ codes "\n")
+
+-- the line of an outcome
+abbrev pub outcome_line : PoolOutcome → List ℕ
+outcome_line (outcome.Takes bucket) = codes "takes " ++ (decimal bucket ++ codes "\n")
+outcome_line (outcome.Loses bucket) = codes "loses " ++ (decimal bucket ++ codes "\n")
+outcome_line (outcome.RefusedAtLoss bucket) =
+    codes "loses " ++ (decimal bucket ++ codes " refused OutOfMemory\n")
+outcome_line (outcome.Gives bucket) = codes "gives " ++ (decimal bucket ++ codes "\n")
+outcome_line outcome.Passed = codes "passed\n"
+
+-- RUNS
+
+-- the outcomes are those of the steps, and the world is the one that they leave
+abbrev pub StepsRun : PoolWorld → List PoolStep → List PoolOutcome → PoolWorld → Type 0
+StepsRun old steps outcomes new = (outcomes ≡ outcomes_of old steps) × (new ≡ after_steps old steps)
+
+-- a pool world that a script drives by its steps
+abbrev pub pool_step_rules : Rules PoolWorld ℕ PoolStep PoolOutcome
+pool_step_rules = record {
+  name = codes "steps-pool";
+  may_open = IsBucketCount;
+  opening_text = decimal;
+  is_command = IsStep;
+  command_line = step_line;
+  can_show = true;
+  opens = λ buckets world. world ≡ opened buckets parties;
+  runs = StepsRun;
+  reply_text = outcome_line;
+  state_text = λ world. held_line world.holders;
+}

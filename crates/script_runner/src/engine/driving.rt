@@ -1,0 +1,182 @@
+//! From the lines of a script behind the first to the lines of its replies.
+ghost use Rattle.std.specs.Prelude.{◌≡◌, ◌≢◌, ◌⊎◌, ◌++◌, ◌+◌, ◌<◌, ◌^◌, ℕ, List, IfOk, IfErr, OnOk, OnErr};
+ghost use Rattle.std.specs.List.{flat_map};
+ghost use Rattle.std.specs.Io.KnownBytes.{Keeps, Appends};
+ghost use Rattle.script_runner.specs.Status.{IsCutShort};
+ghost use Rattle.script_runner.specs.engine.Lines.{lines_of};
+ghost use Rattle.script_runner.specs.engine.Sending.{Sends, AppendsPart};
+ghost use Rattle.script_runner.specs.engine.Transcript.{IsPlayed, IsBegun, IsTranscript};
+ghost use Rattle.script_runner.specs.engine.Transcript.{BeginsLaterOutput, IsLaterUnreadable, unreadable_text};
+
+use crate::engine::driven::Driven;
+use crate::engine::reading::read_script;
+use crate::engine::script::Script;
+use crate::status::{Failure, Status};
+use std::alloc::{AllocError, Global};
+use std::io::{ErrorKind, Write};
+
+/// Checks every line after the first, and then makes what the script drives and runs it.
+pub fn drive<K: Driven, W: Write>(
+    alloc: Global,
+    opening: K::Opening,
+    rest: &[u8],
+    writer: &mut W,
+) -> Status
+    ensures done { result ≡ Status.Done → (text : List ℕ)
+        × IsTranscript K.rules opening (lines_of rest.now) text
+        × Appends (W.contents writer.old) (W.contents writer.new) text }
+    ensures unreadable { result ≡ Status.Unreadable → (number : ℕ)
+        × IsLaterUnreadable K.rules (lines_of rest.now) number
+        × Appends (W.contents writer.old) (W.contents writer.new) (unreadable_text number) }
+    ensures cut_short { IsCutShort result → Keeps (W.contents writer.old) (W.contents writer.new)
+        ⊎ ((sent : List ℕ) × BeginsLaterOutput K.rules opening (lines_of rest.now) sent
+        × Appends (W.contents writer.old) (W.contents writer.new) sent) }
+    ensures input_read { result ≢ Status.InputFailed }
+{
+    match read_script::<K>(alloc, rest) {
+        Ok(Ok(script)) => answer::<K, W>(alloc, opening, &script, writer),
+        Ok(Err(index)) => tell_unreadable(alloc, index + 2, writer),
+        Err(_) => Status::OutOfMemory,
+    }
+}
+
+/// Tells that the line of this number is the first unreadable one.
+pub fn tell_unreadable<W: Write>(alloc: Global, number: usize, writer: &mut W) -> Status
+    ensures unreadable { result ≡ Status.Unreadable
+        → Appends (W.contents writer.old) (W.contents writer.new) (unreadable_text number) }
+    ensures cut_short { IsCutShort result
+        → AppendsPart (W.contents writer.old) (W.contents writer.new) (unreadable_text number) }
+    ensures status { (result ≡ Status.Unreadable) ⊎ IsCutShort result }
+{
+    match write_unreadable(alloc, number, writer) {
+        Ok(()) => Status::Unreadable,
+        Err(failure) => failure.status(),
+    }
+}
+
+fn write_unreadable<W: Write>(alloc: Global, number: usize, writer: &mut W) -> Result<(), Failure>
+    ensures { Sends (W.contents writer.old) (W.contents writer.new)
+        (unreadable_text number) result }
+{
+    let mut line = Vec::new(alloc);
+    unreadable_line(number, &mut line)?;
+    send(&line, writer)?;
+    writer.flush().map_err(|_| Failure::Output)
+}
+
+/// Renders what is told of the unreadable line of this number, behind what `line` has. Only memory can be refused.
+fn unreadable_line(number: usize, line: &mut Vec<u8>) -> Result<(), AllocError>
+    ensures { OnOk result (line.new.items ≡ line.old.items ++ unreadable_text number) }
+{
+    writeln!(line, "line {number}: refused").map_err(|_| AllocError)
+}
+
+/// Makes what the script drives, and runs the script on it.
+fn answer<K: Driven, W: Write>(
+    alloc: Global,
+    opening: K::Opening,
+    script: &Script<K::Command>,
+    writer: &mut W,
+) -> Status
+    ensures done { result ≡ Status.Done → (first : K) × (last : K) × (text : List ℕ)
+        × K.rules.opens opening first × IsPlayed K.rules first script.now text last
+        × Appends (W.contents writer.old) (W.contents writer.new) text }
+    ensures cut_short { IsCutShort result → Keeps (W.contents writer.old) (W.contents writer.new)
+        ⊎ ((first : K) × (sent : List ℕ)
+        × K.rules.opens opening first × IsBegun K.rules first script.now sent
+        × Appends (W.contents writer.old) (W.contents writer.new) sent) }
+    ensures status { (result ≡ Status.Done) ⊎ IsCutShort result }
+{
+    let Ok(mut driven) = K::make(alloc, opening) else {
+        return Status::OutOfMemory;
+    };
+    match play(alloc, &mut driven, script, writer) {
+        Ok(()) => Status::Done,
+        Err(failure) => failure.status(),
+    }
+}
+
+/// Runs a script and writes what it is answered.
+fn play<K: Driven, W: Write>(
+    alloc: Global,
+    driven: &mut K,
+    script: &Script<K::Command>,
+    writer: &mut W,
+) -> Result<(), Failure>
+    ensures ok { OnOk result ((text : List ℕ)
+        × IsPlayed K.rules driven.old script.now text driven.new
+        × Appends (W.contents writer.old) (W.contents writer.new) text) }
+    ensures err { OnErr result ((sent : List ℕ)
+        × IsBegun K.rules driven.old script.now sent
+        × Appends (W.contents writer.old) (W.contents writer.new) sent) }
+{
+    let mut line = Vec::new(alloc);
+    for index in 0..script.shows() {
+        let replies = driven.run(script.shown(index))?;
+        tell::<K, W>(&replies, &mut line, writer)?;
+        show(driven, &mut line, writer)?;
+    }
+    let replies = driven.run(script.last())?;
+    tell::<K, W>(&replies, &mut line, writer)?;
+    writer.flush().map_err(|_| Failure::Output)
+}
+
+/// Writes a line for each reply.
+fn tell<K: Driven, W: Write>(
+    replies: &[K::Reply],
+    line: &mut Vec<u8>,
+    writer: &mut W,
+) -> Result<(), Failure>
+    ensures { Sends (W.contents writer.old) (W.contents writer.new)
+        (flat_map K.rules.reply_text replies.now) result }
+{
+    for reply in replies {
+        reply_line::<K>(reply, line)?;
+        send(line, writer)?;
+    }
+    Ok(())
+}
+
+/// Writes the state.
+fn show<K: Driven, W: Write>(driven: &K, line: &mut Vec<u8>, writer: &mut W) -> Result<(), Failure>
+    ensures { Sends (W.contents writer.old) (W.contents writer.new)
+        (K.rules.state_text driven.now) result }
+{
+    state_line(driven, line)?;
+    send(line, writer)
+}
+
+/// Renders a reply as the line. Only memory can be refused.
+fn reply_line<K: Driven>(reply: &K::Reply, line: &mut Vec<u8>) -> Result<(), AllocError>
+    ensures { OnOk result (line.new.items ≡ K.rules.reply_text reply.now) }
+{
+    line.clear();
+    K::write_reply(reply, line).map_err(|_| AllocError)
+}
+
+/// Renders the state as the line. Only memory can be refused.
+fn state_line<K: Driven>(driven: &K, line: &mut Vec<u8>) -> Result<(), AllocError>
+    ensures { OnOk result (line.new.items ≡ K.rules.state_text driven.now) }
+{
+    line.clear();
+    driven.write_state(line).map_err(|_| AllocError)
+}
+
+/// Writes bytes, or where that fails a beginning of them.
+pub fn send<W: Write>(bytes: &[u8], writer: &mut W) -> Result<(), Failure>
+    ensures { Sends (W.contents writer.old) (W.contents writer.new) bytes.now result }
+{
+    let mut left = bytes;
+    for _ in 0..u64::MAX {
+        if left.is_empty() {
+            return Ok(());
+        }
+        match writer.write(left) {
+            Ok(0) => return Err(Failure::Output),
+            Ok(count) => left = &left[count..],
+            Err(e) if e.kind() == ErrorKind::Interrupted => {}
+            Err(_) => return Err(Failure::Output),
+        }
+    }
+    Err(Failure::Output)
+}

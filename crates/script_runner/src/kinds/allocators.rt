@@ -1,0 +1,211 @@
+//! Allocators that a script drives: what all of them share.
+ghost use Rattle.std.specs.Prelude.{◌≡◌, ℕ, IfSome, Some, OnOk};
+ghost use Rattle.std.specs.Io.KnownBytes.{Appends};
+ghost use Rattle.bb_memory_base.specs.declared.allocator.Command.{Command};
+ghost use Rattle.bb_memory_base.specs.declared.layout.Layout.{Layout};
+ghost use Rattle.script_runner.specs.kinds.Allocators.{IsResizeOfNumbers, IsCommandOfNumbers};
+ghost use Rattle.script_runner.specs.kinds.Allocators.{command_line, resize_text, chunk_line, reply_line};
+ghost use Rattle.script_runner.specs.kinds.Allocators.{refusal_line, grow_refusal_line, shrink_refusal_line};
+
+use crate::engine::driven::Driven;
+use crate::fields::{cut, layout, layout_and_rest, number, number_and_rest, write_number};
+use bb_memory::allocator::{
+    AllocationError, AllocationGrowError, AllocationShrinkError, BaseAllocator, Command, Reply,
+};
+use bb_memory::layout::{Chunk, Layout};
+use std::alloc::{AllocError, Global};
+use std::io;
+use std::io::Write;
+use std::marker::Model;
+
+/// What an allocator adds to be driven by a script: how it is made of what the first line says, run, and shown.
+pub trait Scripted: BaseAllocator + Drop {
+    ghost use Rattle.std.specs.Prelude.{◌≡◌, [], Some, OnOk, OnErr, IfOk, IfSome};
+    ghost use Rattle.std.specs.Io.KnownBytes.{Appends};
+    ghost use Rattle.script_runner.specs.kinds.Allocators.{AllocatorRules, live_rules};
+    ghost use Rattle.script_runner.specs.engine.Rules.{first_line};
+
+    /// What the first line of a script says of it.
+    type Opening: Drop;
+
+    /// What it adds to the rules of its scripts.
+    ghost rules: { AllocatorRules Self Self.Opening };
+
+    /// Reads the first line of a script.
+    fn read_first(line: &[u8]) -> Option<Self::Opening>
+        ensures written { IfSome result (λ opening. rules.may_open opening
+            × (line.now ≡ first_line (live_rules rules) opening)) }
+        ensures each { (opening : Self.Opening) → rules.may_open opening
+            → line.now ≡ first_line (live_rules rules) opening → result ≡ Some opening };
+
+    fn make(alloc: Global, opening: Self::Opening) -> Result<Self, AllocError>
+        ensures opens { IfOk result (λ allocator. rules.opens opening allocator) }
+        ensures empty { IfOk result (λ allocator. Self.stands_for allocator []) };
+
+    /// Applies the commands in order.
+    fn run(&mut self, live: &mut Vec<Chunk>, commands: &[Command]) -> Result<Vec<Reply>, AllocError>
+        requires { Self.stands_for self.old live.old.items }
+        ensures run { IfOk result (λ replies.
+            rules.runs self.old live.old.items commands.now replies.items self.new live.new.items) }
+        ensures stands { OnOk result (Self.stands_for self.new live.new.items) }
+        ensures kept { OnErr result ((self.new ≡ self.old) × (live.new.items ≡ live.old.items)) };
+
+    fn write_state<W: Write>(&self, live: usize, writer: &mut W) -> io::Result<()>
+        ensures { OnOk result (Appends (W.contents writer.old) (W.contents writer.new)
+            (rules.state_text self.now live)) };
+}
+
+/// An allocator, and the chunks that it has out.
+#[derive(Drop)]
+pub struct Live<A: Scripted> {
+    allocator: A,
+    live: Vec<Chunk>,
+}
+
+impl<A: Scripted> Model for Live<A> {
+    ghost use Rattle.script_runner.specs.kinds.Allocators.{LiveState};
+
+    ghost Value = { LiveState A };
+
+    ghost view = { λ a. record { allocator = a.allocator; live = a.live.items } };
+
+    ghost invariant = { λ a. A.stands_for a.allocator a.live.items };
+}
+
+impl<A: Scripted> Driven for Live<A> {
+    ghost use Rattle.script_runner.specs.kinds.Allocators.{live_rules};
+
+    type Opening = A::Opening;
+
+    type Command = Command;
+
+    type Reply = Reply;
+
+    ghost rules = { live_rules A.rules };
+
+    fn read_first(line: &[u8]) -> Option<A::Opening> {
+        A::read_first(line)
+    }
+
+    fn make(alloc: Global, opening: A::Opening) -> Result<Self, AllocError> {
+        let allocator = A::make(alloc, opening)?;
+        let live = Vec::new(alloc);
+        Ok(Live { allocator, live })
+    }
+
+    fn can_show() -> bool {
+        true
+    }
+
+    fn read(line: &[u8]) -> Option<Command> {
+        read_command(line)
+    }
+
+    fn run(&mut self, commands: &[Command]) -> Result<Vec<Reply>, AllocError> {
+        self.allocator.run(&mut self.live, commands)
+    }
+
+    fn write_reply<W: Write>(reply: &Reply, writer: &mut W) -> io::Result<()> {
+        write_reply(reply, writer)
+    }
+
+    fn write_state<W: Write>(&self, writer: &mut W) -> io::Result<()> {
+        self.allocator.write_state(self.live.len(), writer)
+    }
+}
+
+/// The command that this line writes.
+pub fn read_command(line: &[u8]) -> Option<Command>
+    ensures written { IfSome result (λ command. IsCommandOfNumbers command
+        × (line.now ≡ command_line command)) }
+    ensures each { (command : Command) → IsCommandOfNumbers command
+        → line.now ≡ command_line command → result ≡ Some command }
+{
+    let (name, rest) = cut(line, b' ')?;
+    match name {
+        b"alloc" => Some(Command::Allocate(layout(rest)?)),
+        b"free" => Some(Command::Release(number(rest)?)),
+        b"grow" => {
+            let (position, old, new) = resize(rest)?;
+            Some(Command::Grow(position, old, new))
+        }
+        b"shrink" => {
+            let (position, old, new) = resize(rest)?;
+            Some(Command::Shrink(position, old, new))
+        }
+        _ => None,
+    }
+}
+
+/// The position of a chunk, its layout, and the layout that it shall have.
+fn resize(text: &[u8]) -> Option<(usize, Layout, Layout)>
+    ensures written { IfSome result (λ (position, old, new). IsResizeOfNumbers position old new
+        × (text.now ≡ resize_text position old new)) }
+    ensures each { (position : ℕ) (old new : Layout) → IsResizeOfNumbers position old new
+        → text.now ≡ resize_text position old new → result ≡ Some (position, old, new) }
+{
+    let (position, rest) = number_and_rest(text)?;
+    let (old, rest) = layout_and_rest(rest)?;
+    Some((position, old, layout(rest)?))
+}
+
+/// Writes the line of a reply.
+pub fn write_reply<W: Write>(reply: &Reply, writer: &mut W) -> io::Result<()>
+    ensures { OnOk result
+        (Appends (W.contents writer.old) (W.contents writer.new) (reply_line reply.now)) }
+{
+    match reply {
+        Reply::Chunk(chunk) => write_chunk(chunk, writer),
+        Reply::Released => writer.write_all(b"released\n"),
+        Reply::Passed => writer.write_all(b"passed\n"),
+        Reply::Refused(error) => write_refusal(error, writer),
+        Reply::GrowRefused(error) => write_grow_refusal(error, writer),
+        Reply::ShrinkRefused(error) => write_shrink_refusal(error, writer),
+    }
+}
+
+fn write_chunk<W: Write>(chunk: &Chunk, writer: &mut W) -> io::Result<()>
+    ensures { OnOk result
+        (Appends (W.contents writer.old) (W.contents writer.new) (chunk_line chunk.now)) }
+{
+    writer.write_all(b"chunk ")?;
+    write_number(chunk.place(), writer)?;
+    writer.write_all(b" ")?;
+    write_number(chunk.len(), writer)?;
+    writer.write_all(b"\n")
+}
+
+/// Writes the line of a refused request.
+pub fn write_refusal<W: Write>(error: &AllocationError, writer: &mut W) -> io::Result<()>
+    ensures { OnOk result
+        (Appends (W.contents writer.old) (W.contents writer.new) (refusal_line error.now)) }
+{
+    match error {
+        AllocationError::SizeIsZero => writer.write_all(b"SizeIsZero\n"),
+        AllocationError::SizeTooLarge => writer.write_all(b"SizeTooLarge\n"),
+        AllocationError::AlignmentFailure => writer.write_all(b"AlignmentFailure\n"),
+        AllocationError::OutOfMemory => writer.write_all(b"OutOfMemory\n"),
+    }
+}
+
+fn write_grow_refusal<W: Write>(error: &AllocationGrowError, writer: &mut W) -> io::Result<()>
+    ensures { OnOk result
+        (Appends (W.contents writer.old) (W.contents writer.new) (grow_refusal_line error.now)) }
+{
+    match error {
+        AllocationGrowError::GrowWouldShrink => writer.write_all(b"GrowWouldShrink\n"),
+        AllocationGrowError::AlignmentFailure => writer.write_all(b"AlignmentFailure\n"),
+        AllocationGrowError::OutOfMemory => writer.write_all(b"OutOfMemory\n"),
+    }
+}
+
+fn write_shrink_refusal<W: Write>(error: &AllocationShrinkError, writer: &mut W) -> io::Result<()>
+    ensures { OnOk result
+        (Appends (W.contents writer.old) (W.contents writer.new) (shrink_refusal_line error.now)) }
+{
+    match error {
+        AllocationShrinkError::ShrinkWouldGrow => writer.write_all(b"ShrinkWouldGrow\n"),
+        AllocationShrinkError::AlignmentFailure => writer.write_all(b"AlignmentFailure\n"),
+        AllocationShrinkError::SizeIsZero => writer.write_all(b"SizeIsZero\n"),
+    }
+}

@@ -1,0 +1,143 @@
+//! A bump world that a script drives by its steps.
+ghost use Rattle.std.specs.Prelude.{◌≡◌, ℕ, IfSome, Some, OnOk};
+ghost use Rattle.std.specs.Io.KnownBytes.{Appends};
+ghost use Rattle.bb_memory_base.specs.declared.layout.Layout.{Layout};
+ghost use Rattle.bb_memory_base.specs.declared.steps.bump.BumpStep.{BumpStep};
+ghost use Rattle.script_runner.specs.kinds.BumpSteps.{IsReading, IsStep, exchange_line, load_line, read_line};
+ghost use Rattle.script_runner.specs.kinds.BumpSteps.{outcome_line, reading_text, step_line, wins_line};
+ghost use Rattle.script_runner.specs.kinds.Parties.{IsParty};
+
+use crate::engine::driven::Driven;
+use crate::fields::{layout, number_and_rest};
+use crate::kinds::bounds::Bounds;
+use crate::kinds::parties::{PARTIES, party_of, read_party};
+use bb_memory::layout::{Chunk, Layout};
+use bb_memory::steps::{BumpOutcome, BumpStep, BumpWorld};
+use std::alloc::{AllocError, Global};
+use std::io;
+use std::io::Write;
+
+impl Driven for BumpWorld {
+    ghost use Rattle.script_runner.specs.kinds.BumpSteps.{bump_step_rules};
+
+    type Opening = Bounds;
+
+    type Command = BumpStep;
+
+    type Reply = BumpOutcome;
+
+    ghost rules = { bump_step_rules };
+
+    fn read_first(line: &[u8]) -> Option<Bounds> {
+        Bounds::read(line.strip_prefix(b"steps-bump ")?)
+    }
+
+    fn make(alloc: Global, opening: Bounds) -> Result<Self, AllocError> {
+        BumpWorld::new(alloc, opening.start(), opening.size(), PARTIES)
+    }
+
+    fn can_show() -> bool {
+        true
+    }
+
+    fn read(line: &[u8]) -> Option<BumpStep> {
+        read_step(line)
+    }
+
+    fn run(&mut self, steps: &[BumpStep]) -> Result<Vec<BumpOutcome>, AllocError> {
+        self.replay(steps)
+    }
+
+    fn write_reply<W: Write>(outcome: &BumpOutcome, writer: &mut W) -> io::Result<()> {
+        write_outcome(outcome, writer)
+    }
+
+    fn write_state<W: Write>(&self, writer: &mut W) -> io::Result<()> {
+        let used = self.used_space();
+        writeln!(writer, "used {used}")
+    }
+}
+
+/// Writes the line of an outcome.
+fn write_outcome<W: Write>(outcome: &BumpOutcome, writer: &mut W) -> io::Result<()>
+    ensures { OnOk result
+        (Appends (W.contents writer.old) (W.contents writer.new) (outcome_line outcome.now)) }
+{
+    match outcome {
+        BumpOutcome::Sees(used) => writeln!(writer, "sees {used}"),
+        BumpOutcome::RefusedAtRead(used) => writeln!(writer, "sees {used} refused OutOfMemory"),
+        BumpOutcome::Wins(chunk) => write_win(chunk, writer),
+        BumpOutcome::Loses(used) => writeln!(writer, "loses {used}"),
+        BumpOutcome::RefusedAtLoss(used) => writeln!(writer, "loses {used} refused OutOfMemory"),
+        BumpOutcome::Loaded(used) => writeln!(writer, "used {used}"),
+        BumpOutcome::Cleared => writeln!(writer, "cleared"),
+        BumpOutcome::Passed => writeln!(writer, "passed"),
+    }
+}
+
+fn write_win<W: Write>(chunk: &Chunk, writer: &mut W) -> io::Result<()>
+    ensures { OnOk result
+        (Appends (W.contents writer.old) (W.contents writer.new) (wins_line chunk.now)) }
+{
+    let place = chunk.place();
+    let len = chunk.len();
+    writeln!(writer, "wins {place} {len}")
+}
+
+/// The step that this line writes.
+fn read_step(line: &[u8]) -> Option<BumpStep>
+    ensures written { IfSome result (λ step. IsStep step × (line.now ≡ step_line step)) }
+    ensures each { (step : BumpStep) → IsStep step → line.now ≡ step_line step
+        → result ≡ Some step }
+{
+    if line == b"clear".as_slice() {
+        return Some(BumpStep::Clear);
+    }
+    if let Some(party) = read_exchange(line) {
+        return Some(BumpStep::Exchange { party });
+    }
+    if let Some(party) = read_load(line) {
+        return Some(BumpStep::Load { party });
+    }
+    let (party, layout) = read_read(line)?;
+    Some(BumpStep::Read { party, layout })
+}
+
+/// The party that this line has exchange.
+fn read_exchange(line: &[u8]) -> Option<u32>
+    ensures written { IfSome result (λ party. IsParty party × (line.now ≡ exchange_line party)) }
+    ensures each { (party : ℕ) → IsParty party → line.now ≡ exchange_line party
+        → result ≡ Some party }
+{
+    read_party(line.strip_prefix(b"exchange ")?)
+}
+
+/// The party that this line has load.
+fn read_load(line: &[u8]) -> Option<u32>
+    ensures written { IfSome result (λ party. IsParty party × (line.now ≡ load_line party)) }
+    ensures each { (party : ℕ) → IsParty party → line.now ≡ load_line party
+        → result ≡ Some party }
+{
+    read_party(line.strip_prefix(b"load ")?)
+}
+
+/// The party that this line has read for a layout, and the layout.
+fn read_read(line: &[u8]) -> Option<(u32, Layout)>
+    ensures written { IfSome result (λ (party, layout). IsReading party layout
+        × (line.now ≡ read_line party layout)) }
+    ensures each { (party : ℕ) (layout : Layout) → IsReading party layout
+        → line.now ≡ read_line party layout → result ≡ Some (party, layout) }
+{
+    reading(line.strip_prefix(b"read ")?)
+}
+
+/// The party and the layout that `PARTY SIZE ALIGN` names.
+fn reading(text: &[u8]) -> Option<(u32, Layout)>
+    ensures written { IfSome result (λ (party, layout). IsReading party layout
+        × (text.now ≡ reading_text party layout)) }
+    ensures each { (party : ℕ) (layout : Layout) → IsReading party layout
+        → text.now ≡ reading_text party layout → result ≡ Some (party, layout) }
+{
+    let (party, rest) = number_and_rest(text)?;
+    Some((party_of(party)?, layout(rest)?))
+}

@@ -1,0 +1,25 @@
+//! Runs a script: reads it to its end, drives an allocator, a machine of steps or a loan book by it, and writes a line for each
+//! reply. What a script is, and how it is answered, is told in `docs/script-format.md`, and in `specs` for the clauses.
+//!
+//! The files, in the order in which to read them; `specs` has the same rooms:
+//!
+//! - `running`: from the bytes of a script to the bytes that it is answered. `status`: how a run ends. `laws`: what holds of
+//!   every input and every status.
+//! - `engine`, what all kinds of scripts share. `driven` says what a kind of script has to have; `driving` runs a script of a
+//!   kind; `reading` cuts the input into lines and reads them, and `script` keeps what they say.
+//! - `kinds`, the table of the kinds and a file for each: `bump`, `one_chunk`, `pool` and `fixed_pool` over what `allocators`
+//!   share; `bump_steps` and `pool_steps`, the twins; `loan_pool`. What first lines and steps name: `bounds`, `pool_plan`,
+//!   `buckets`, `parties`.
+//! - `fields`: the numbers and layouts that stand between the spaces of a line.
+#![tactic(auto)]
+
+mod engine;
+mod fields;
+mod kinds;
+mod laws;
+mod running;
+mod status;
+
+pub use laws::{equality_law, lines_law};
+pub use running::run;
+pub use status::Status;

@@ -1,0 +1,77 @@
+//! How a run ends.
+ghost use Rattle.std.specs.Prelude.{◌≡◌, ◌↔◌, MatchOption, None, Some};
+ghost use Rattle.script_runner.specs.Status.{code_of, message_of, IsCutShort};
+
+use std::alloc::AllocError;
+
+/// How a run ended, and what was written.
+#[derive(Debug, Clone, Copy, PartialEq, Eq)]
+pub enum Status {
+    /// The script was run to its end: a line for each reply, and what each `show` writes.
+    Done,
+    /// Some line is unreadable: the number of the first, and nothing else.
+    Unreadable,
+    /// Reading the input failed: nothing was written.
+    InputFailed,
+    /// Writing failed: nothing, or a beginning of what the input calls for.
+    OutputFailed,
+    /// Memory was refused: nothing, or a beginning of what the input calls for.
+    OutOfMemory,
+}
+
+impl Status {
+    /// The exit status of a program that ran the script.
+    pub fn code(self) -> u8
+        ensures { result ≡ code_of self }
+    {
+        match self {
+            Status::Done => 0,
+            Status::Unreadable => 2,
+            Status::InputFailed | Status::OutputFailed => 3,
+            Status::OutOfMemory => 4,
+        }
+    }
+
+    /// What a program tells of it on standard error, behind its own name.
+    pub fn message(self) -> Option<&'static str>
+        ensures { MatchOption result (message_of self ≡ None)
+            (λ text. message_of self ≡ Some text.now) }
+    {
+        match self {
+            Status::Done | Status::Unreadable => None,
+            Status::InputFailed => Some("input failed"),
+            Status::OutputFailed => Some("output failed"),
+            Status::OutOfMemory => Some("out of memory"),
+        }
+    }
+}
+
+/// What stops a script that is readable.
+#[derive(Debug, Clone, Copy, PartialEq, Eq)]
+pub enum Failure {
+    Output,
+    Memory,
+}
+
+impl Failure {
+    pub fn status(self) -> Status
+        ensures either { IsCutShort result }
+        ensures output { (result ≡ Status.OutputFailed) ↔ (self ≡ Failure.Output) }
+    {
+        match self {
+            Failure::Output => Status::OutputFailed,
+            Failure::Memory => Status::OutOfMemory,
+        }
+    }
+}
+
+impl From<AllocError> for Failure {
+    ghost use Rattle.std.specs.Prelude.{◌≡◌};
+    ghost use Rattle.script_runner.specs.declared.status.Failure.{Failure};
+
+    ghost from_gives = { λ _ failure. failure ≡ Failure.Memory };
+
+    fn from(_e: AllocError) -> Failure {
+        Failure::Memory
+    }
+}
