@@ -14,7 +14,7 @@ use Rattle.bb_memory_base.specs.declared.layout.Layout.{Layout}
 use Rattle.bb_memory_base.specs.LeastPlace.{least_place}
 use Rattle.bb_memory_base.proofs.PowersOfTwo.{power_of_two-from_test}
 use Rattle.bb_memory_base.proofs.PoolGeometries.{stride-above, first_place-above, room-quotient}
-use Rattle.bb_memory.specs.IndexWords.{index_words}
+use Rattle.bb_memory.specs.IndexWords.{words_with_list}
 use Rattle.bb_memory.specs.Pool.{MayBeCut}
 use Rattle.bb_memory.specs.Buckets.{Shifts}
 
@@ -93,9 +93,9 @@ cut-most region bucket geometry filled cut =
       | inr none ↦ omega arith
     ]
 
--- each number has no more index words than itself
-pub index_words-most : (numbers : ℕ) → index_words numbers ≤ numbers
-index_words-most numbers = omega arith
+-- each number has no more index words, with their list, than itself
+pub words_with_list-most : (numbers : ℕ) → words_with_list numbers ≤ numbers
+words_with_list-most numbers = omega arith
 
 -- SHIFTS
 

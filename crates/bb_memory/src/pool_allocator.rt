@@ -11,7 +11,7 @@ ghost use Rattle.bb_memory_base.specs.ResizableObject.{ResizableStep};
 ghost use Rattle.bb_memory_base.specs.PoolGeometry.{PoolGeometry, IsCut};
 ghost use Rattle.bb_memory_base.specs.PoolObject.{MayAllocate, MayGrow, MayShrink, IsWithin, pool_object};
 ghost use Rattle.bb_memory_base.specs.declared.allocator.AllocationError.{AllocationError};
-ghost use Rattle.bb_memory.specs.IndexWords.{index_words};
+ghost use Rattle.bb_memory.specs.IndexWords.{index_words, words_with_list};
 ghost use Rattle.bb_memory.specs.NumberSet.{Lacks};
 ghost use Rattle.bb_memory.specs.Pool.{AreAStrideApart, Frees, HoldsPlace, MayBeCut};
 ghost use Rattle.bb_memory.specs.Pool.{Reads, StandsFor, Takes, counted, fresh_pool};
@@ -138,8 +138,8 @@ impl PoolAllocator<Global> {
         may_be_cut(bucket_layout, start, size)
     }
 
-    /// How many bytes are enough for the index words of a pool over a region of `size` bytes, wherever it starts: eight for
-    /// each time that the bucket's size goes into the region's. The bucket's size has to be greater than 0, and that
+    /// How many bytes are enough for the index words of a pool over a region of `size` bytes, wherever it starts, and for their
+    /// list: eight for each time that the bucket's size goes into the region's. The bucket's size has to be greater than 0, and that
     /// quotient at most `u32::MAX`.
     pub fn memory_size(bucket_layout: Layout, size: usize) -> usize
         requires filled { 0 < bucket_layout.size }
@@ -147,7 +147,7 @@ impl PoolAllocator<Global> {
         ensures value { result ≡ 8 * (size / bucket_layout.size) }
         ensures enough { (start : ℕ) (geometry : PoolGeometry)
             → IsCut (region_at start size) bucket_layout geometry
-            → 8 * index_words geometry.buckets ≤ result }
+            → 8 * words_with_list geometry.buckets ≤ result }
     {
         8 * (size / bucket_layout.size())
     }
