@@ -1,5 +1,5 @@
 -- The lowest clear bit of a word, and the word with that bit set.
-use Rattle.std.proofs.Common.{◌≡◌, ℕ, zero, suc, ◌+◌, ◌*◌, ◌/◌, ◌%◌, ◌^◌, ◌<◌, Bool, true, false, eqb}
+use Rattle.std.proofs.Common.{◌≡◌, ℕ, zero, suc, ◌+◌, ◌*◌, ◌/◌, ◌%◌, ◌^◌, ◌<◌, true, false, eqb}
 use Rattle.std.proofs.Common.{List, length, get_or, set, sym, ◌∙◌, ap, inl, inr, arith, eq-eqb, w64}
 use Rattle.std.proofs.lemmas.Bool.{cases_lt}
 use Rattle.std.proofs.lemmas.Nat.Bits.{bit_at-trailing_ones, bit_at-suc, bit_at_lowest, bit_at_or, bit_at-lt}

@@ -1,5 +1,5 @@
 -- Words of 64 bits as a set of numbers.
-use Rattle.std.proofs.Common.{◌≡◌, ◌≢◌, ℕ, ◌+◌, ◌-◌, ◌*◌, ◌/◌, ◌%◌, ◌^◌, ◌<◌, ◌≤◌, Bool, true, false, eqb, List, length}
+use Rattle.std.proofs.Common.{◌≡◌, ◌≢◌, ℕ, ◌-◌, ◌*◌, ◌/◌, ◌%◌, ◌^◌, ◌<◌, ◌≤◌, Bool, true, false, eqb, List, length}
 use Rattle.std.proofs.Common.{replicate, get_or, set, sym, ◌∙◌, ap, inl, inr, arith, ext_get_or, length-set, get_or-set_same}
 use Rattle.std.proofs.Common.{get_or-set_other, eq-eqb, w64}
 use Rattle.std.proofs.lemmas.List.{length-replicate, get_or-replicate}

@@ -1,5 +1,5 @@
 //! An allocator that gives one chunk after another, and takes all of them back at once.
-ghost use Rattle.std.specs.Prelude.{◌≡◌, ◌∷◌, ◌++◌, [], List, All, ◌+◌, ◌-◌, ◌<◌, ◌≤◌, ◌^◌, ◌%◌, ◌↔◌, ℕ};
+ghost use Rattle.std.specs.Prelude.{◌≡◌, ◌∷◌, ◌++◌, [], List, All, ◌+◌, ◌<◌, ◌≤◌, ◌%◌, ◌↔◌, ℕ};
 ghost use Rattle.std.specs.Prelude.{IsOk, IfOk, OnOk, OnErr, IfErr, IsTrue, Some, Result, length, slice_get};
 ghost use Rattle.bb_memory_base.specs.Region.{Region, IsRegion, region_at, region_end};
 ghost use Rattle.bb_memory_base.specs.Chunk.{Chunk, IsInside, chunk_end};

@@ -1,5 +1,5 @@
 //! Blocks of bytes from the language's allocator. Lengths are in bytes, and alignments decide nothing.
-ghost use Rattle.std.specs.Prelude.{◌≡◌, List, ℕ, length, replicate};
+ghost use Rattle.std.specs.Prelude.{◌≡◌, List, ℕ, length};
 ghost use Rattle.std.specs.Borrow.{sem};
 ghost use Rattle.bb_memory.specs.Heap.{MayAllocate, MayGrow, MayShrink};
 ghost use Rattle.bb_memory.specs.HeapLending.{LendsBlock, written};

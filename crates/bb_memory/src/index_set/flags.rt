@@ -1,5 +1,5 @@
 //! A set of numbers as an array of flags, with an array of the numbers that aren't in it, which takes no memory.
-ghost use Rattle.std.specs.Prelude.{◌≡◌, ◌≤◌, ◌<◌, ◌-◌, ℕ, false, length, replicate, slice_index};
+ghost use Rattle.std.specs.Prelude.{◌≡◌, ◌≤◌, false, replicate};
 
 use crate::index_set::{Counter, IndexSet};
 use std::marker::Model;

@@ -2,7 +2,7 @@
 //!
 //! It is a function of any [`Searched`], and so can do nothing with the words but what that trait lists: each word that it reads
 //! is counted, by the counter that the read is handed.
-ghost use Rattle.std.specs.Prelude.{◌≡◌, ◌≢◌, ◌+◌, ◌-◌, ◌*◌, ◌/◌, ◌<◌, ◌^◌, false, true};
+ghost use Rattle.std.specs.Prelude.{◌≡◌, ◌≢◌, ◌-◌, ◌/◌, ◌<◌, ◌^◌, false, true};
 ghost use Rattle.std.specs.Prelude.{length, min, slice_index, IfSome, IfNone, IsTrue, IsFalse};
 ghost use Rattle.bb_memory.specs.Words.{PutsAt, SetsBit, has_bit};
 

@@ -1,5 +1,5 @@
 //! A set of numbers as words of 64 bits.
-ghost use Rattle.std.specs.Prelude.{◌≡◌, ◌+◌, ◌-◌, ◌^◌, ◌<◌, ◌≤◌, ◌≢◌, ℕ, false, length, replicate, slice_index, IfOk};
+ghost use Rattle.std.specs.Prelude.{◌≡◌, false, replicate, IfOk};
 
 use crate::index_set::index_words::{IndexWords, Searched};
 use crate::index_set::search::search;

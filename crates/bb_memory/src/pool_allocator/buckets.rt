@@ -30,7 +30,7 @@ impl<S: IndexSet> Model for Buckets<S> {
 }
 
 impl<S: IndexSet> Buckets<S> {
-    ghost use Rattle.std.specs.Prelude.{◌≡◌, ◌<◌, ℕ, length};
+    ghost use Rattle.std.specs.Prelude.{◌≡◌, ℕ, length};
 
     /// These buckets, held as the set says, whose bound is how many there are.
     pub fn new(geometry: Geometry, held: S) -> Self

@@ -3,7 +3,7 @@
 //! `read`, `exchange` and `load` make one atomic step each, by the seat of the party whose step it is, and tell that its log then
 //! ends with that step and what it found. `deal` and `meet` only load the word, and are in no log; `open` and `close` are before
 //! and after all sharing.
-ghost use Rattle.std.specs.Prelude.{◌≡◌, ◌<◌, ◌≤◌, [], IfOk, None, Some};
+ghost use Rattle.std.specs.Prelude.{◌≡◌, ◌<◌, ◌≤◌, [], IfOk, Some};
 ghost use Rattle.bb_memory_base.specs.BumpMachine.{chunk_at, position_behind};
 ghost use Rattle.bb_memory_base.specs.BumpLogs.{call_in};
 ghost use Rattle.bb_memory.specs.Seats.{first_of, number_of, numbered, others_of, view_log};

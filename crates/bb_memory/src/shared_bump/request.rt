@@ -1,7 +1,6 @@
 //! Requests: a read, and exchanges until one wins or the layout no longer fits.
-ghost use Rattle.std.specs.Prelude.{◌≡◌, ◌+◌, ◌<◌, ◌≤◌, ◌%◌, [], false, true, IfSome, None, Some, MatchOption};
-ghost use Rattle.bb_memory_base.specs.Region.{region_end};
-ghost use Rattle.bb_memory_base.specs.Chunk.{IsInside, chunk_end};
+ghost use Rattle.std.specs.Prelude.{◌≡◌, ◌+◌, ◌<◌, ◌≤◌, ◌%◌, false, true, IfSome, Some, MatchOption};
+ghost use Rattle.bb_memory_base.specs.Chunk.{IsInside};
 ghost use Rattle.bb_memory_base.specs.BumpMachine.{chunk_at, fits};
 ghost use Rattle.bb_memory.specs.Seats.{number_of, view_log};
 ghost use Rattle.bb_memory.specs.SharedBumpRule.{IsSeatOf, IsSeatOfIdle};

@@ -1,4 +1,4 @@
-use Rattle.std.proofs.Common.{◌≡◌, ◌*◌, ◌+◌, ◌^◌, ◌<◌, arith, length}
+use Rattle.std.proofs.Common.{◌+◌, ◌^◌, ◌<◌, arith, length}
 use Rattle.bb_memory.proofs.LowestBits.{lowest_set}
 use Rattle.bb_memory.proofs.index_set.search.search.Goals as goal
 

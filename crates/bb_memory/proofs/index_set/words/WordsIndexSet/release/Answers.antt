@@ -1,7 +1,4 @@
-use Rattle.std.proofs.Common.{◌≡◌, ◌+◌, ◌-◌, ◌/◌, ◌<◌, ◌≤◌, ℕ, List, ◌∙◌, ap, sym}
-use Rattle.std.proofs.Common.{set, get_or, arith, length, length-set, true, false}
-use Rattle.std.specs.Prelude.{slice_set}
-use Rattle.bb_memory.specs.Words.{Slots, IsWordSet, numbers_of}
+use Rattle.std.proofs.Common.{◌-◌, ◌/◌, ℕ, List, ◌∙◌, ap, set, get_or, arith, length, length-set}
 use Rattle.bb_memory.proofs.NumberWords.{has_word, released}
 use Rattle.bb_memory.proofs.OpenWords.{set_opened, set_still, room_left, named_hand}
 use Rattle.bb_memory.proofs.index_set.words.WordsIndexSet.release.Goals as goal

@@ -1,4 +1,4 @@
-use Rattle.std.proofs.Common.{◌≡◌, ◌+◌, ◌-◌, ◌/◌, ◌<◌, ◌∙◌, ap, refl, sym, get_or, arith, length, ℕ, List}
+use Rattle.std.proofs.Common.{◌≡◌, ◌-◌, ◌/◌, ◌<◌, ◌∙◌, ap, refl, get_or, arith, length, ℕ, List}
 use Rattle.bb_memory.specs.IndexWords.{index_words}
 use Rattle.bb_memory.proofs.NumberWords.{full_words, taken, word_count}
 use Rattle.bb_memory.proofs.OpenWords.{hand_full, set_left, set_filled}
