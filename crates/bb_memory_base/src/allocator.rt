@@ -18,9 +18,9 @@ pub enum AllocationError {
     /// The alignment is greater than the bucket's: of a pool alone.
     #[error("the requested alignment is not supported")]
     AlignmentFailure,
-    /// Of a bump: the chunk would end behind the region. Of the one chunk: a chunk is out, or too little is left behind its
-    /// place. Of a pool: every bucket is held; of a shared one: each was found held at some step of the pass. Of the heap and
-    /// of makers: memory was refused.
+    /// Of a bump: the chunk would end behind the region. Of the one chunk: a chunk is out, or the region has too little from
+    /// the least place of the alignment on. Of a pool: every bucket is held, or, of a shared one, each was found held at some
+    /// step of the pass. Of the heap and of makers: memory was refused.
     #[error("there is not enough memory available")]
     OutOfMemory,
 }
