@@ -1,5 +1,5 @@
 pub mod Unseated
 pub mod Values
-pub mod Handles
+pub mod Holds
 pub mod HeldFlags
 pub mod Layouts

@@ -8,17 +8,7 @@ use Rattle.bb_memory_base.specs.declared.allocator.AllocationError.{AllocationEr
 use Rattle.bb_memory_base.specs.declared.allocator.AllocationError.TheVariants.{SizeIsZero}
 use Rattle.bb_memory.specs.Bump.{Bump}
 use Rattle.bb_memory_c.specs.declared.answer.Answer.{Answer}
-use Rattle.bb_memory_c.specs.declared.made.Made.{Made}
-use Rattle.bb_memory_c.specs.declared.made.Made.TheVariants.{Bump as ABump}
 use Rattle.bb_memory_c.specs.Answers.{answer_of}
-
--- the handle stands for this bump
-abbrev pub IsBump : Option Made → Bump → Type 0
-IsBump value bump = value ≡ Some (ABump bump)
-
--- the handle stands for no bump
-abbrev pub IsNoBump : Option Made → Type 0
-IsNoBump value = (bump : Bump) → value ≢ Some (ABump bump)
 
 -- What the bump answers to a request, and what it is then.
 pub record Allocates (bump : Bump) (layout : Layout)
@@ -46,5 +36,5 @@ Tells bump layout told after = (answer : Result Chunk AllocationError)
     × (told ≡ answer_of answer) × Allocates bump layout answer after
 
 -- C is told what the bump answers, and the handle stands for what the bump is then
-abbrev pub Gives : Bump → Layout → Answer → Option Made → Type 0
-Gives bump layout told new = (after : Bump) × IsBump new after × Tells bump layout told after
+abbrev pub Gives : Bump → Layout → Answer → Option Bump → Type 0
+Gives bump layout told new = (after : Bump) × (new ≡ Some after) × Tells bump layout told after

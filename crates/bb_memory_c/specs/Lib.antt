@@ -5,6 +5,7 @@ pub mod Handles
 pub mod Layouts
 pub mod OneChunks
 pub mod Pools
+pub mod Rows
 pub mod SharedBumpHandles
 pub mod SharedBumps
 pub mod SharedPoolHandles

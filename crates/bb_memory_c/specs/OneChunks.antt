@@ -9,17 +9,7 @@ use Rattle.bb_memory_base.specs.declared.allocator.AllocationError.TheVariants.{
 use Rattle.bb_memory.specs.OneChunk.{OneChunk}
 use Rattle.bb_memory.specs.OneChunkObject.{HasRoom, LacksRoom}
 use Rattle.bb_memory_c.specs.declared.answer.Answer.{Answer}
-use Rattle.bb_memory_c.specs.declared.made.Made.{Made}
-use Rattle.bb_memory_c.specs.declared.made.Made.TheVariants.{OneChunk as AOneChunk}
 use Rattle.bb_memory_c.specs.Answers.{answer_of}
-
--- the handle stands for this allocator
-abbrev pub IsOneChunk : Option Made → OneChunk → Type 0
-IsOneChunk value one = value ≡ Some (AOneChunk one)
-
--- the handle stands for no such allocator
-abbrev pub IsNoOneChunk : Option Made → Type 0
-IsNoOneChunk value = (one : OneChunk) → value ≢ Some (AOneChunk one)
 
 -- What the allocator answers to a request, and what it is then.
 pub record Allocates (one : OneChunk) (layout : Layout)
@@ -40,5 +30,5 @@ Tells one layout told after = (answer : Result Chunk AllocationError)
     × (told ≡ answer_of answer) × Allocates one layout answer after
 
 -- C is told what the allocator answers, and the handle stands for what it is then
-abbrev pub Gives : OneChunk → Layout → Answer → Option Made → Type 0
-Gives one layout told new = (after : OneChunk) × IsOneChunk new after × Tells one layout told after
+abbrev pub Gives : OneChunk → Layout → Answer → Option OneChunk → Type 0
+Gives one layout told new = (after : OneChunk) × (new ≡ Some after) × Tells one layout told after

@@ -7,8 +7,6 @@ use Rattle.bb_memory_base.specs.declared.allocator.AllocationError.{AllocationEr
 use Rattle.bb_memory.specs.SharedBump.{BumpParty, MayTake, SharedBump, fresh_party, load_entry, seen_by, with_entries}
 use Rattle.bb_memory_c.specs.declared.answer.Answer.{Answer}
 use Rattle.bb_memory_c.specs.declared.answer.Figure.{Figure}
-use Rattle.bb_memory_c.specs.declared.made.Made.{Made}
-use Rattle.bb_memory_c.specs.declared.made.Made.TheVariants.{SharedBump as ASharedBump, BumpSeat as ABumpSeat}
 use Rattle.bb_memory_c.specs.Answers.{answer_of, figure_of}
 use Rattle.bb_memory_c.specs.SharedBumps.{BumpSeats, IsSharedBumpOver, bump_seats}
 
@@ -17,27 +15,11 @@ pub record IsShareable (region : Region) (parties : ℕ) : Type 0 where
   pub is_region : IsRegion region
   pub some : 1 ≤ parties
 
--- the handle stands for this shared bump, of whose parties so many have no seat yet
-abbrev pub IsSharedBump : Option Made → BumpSeats → Type 0
-IsSharedBump value seats = value ≡ Some (ASharedBump seats)
-
--- the handle stands for no shared bump
-abbrev pub IsNoSharedBump : Option Made → Type 0
-IsNoSharedBump value = (seats : BumpSeats) → value ≢ Some (ASharedBump seats)
-
--- the handle stands for the seat of this party
-abbrev pub IsBumpSeat : Option Made → BumpParty → Type 0
-IsBumpSeat value party = value ≡ Some (ABumpSeat party)
-
--- the handle stands for no seat at a shared bump
-abbrev pub IsNoBumpSeat : Option Made → Type 0
-IsNoBumpSeat value = (party : BumpParty) → value ≢ Some (ABumpSeat party)
-
 -- a fresh bump over the region, of so many parties, which have no seat yet
-abbrev pub MakesSharedBump : Region → ℕ → Option Made → Type 0
+abbrev pub MakesSharedBump : Region → ℕ → Option BumpSeats → Type 0
 MakesSharedBump region parties new =
     (bump : SharedBump) × IsSharedBumpOver region parties bump
-    × IsSharedBump new (bump_seats bump parties)
+    × (new ≡ Some (bump_seats bump parties))
 
 -- C is told what the party's request is answered, by which the party becomes another
 pub record Tells (party : BumpParty) (layout : Layout) (told : Answer) (after : BumpParty)
@@ -47,9 +29,9 @@ pub record Tells (party : BumpParty) (layout : Layout) (told : Answer) (after : 
   pub given : MayTake party layout answer after
 
 -- the same, and the handle stands for what the party is then
-abbrev pub AnswersSeat : BumpParty → Layout → Answer → Option Made → Type 0
+abbrev pub AnswersSeat : BumpParty → Layout → Answer → Option BumpParty → Type 0
 AnswersSeat party layout told new =
-    (after : BumpParty) × IsBumpSeat new after × Tells party layout told after
+    (after : BumpParty) × (new ≡ Some after) × Tells party layout told after
 
 -- the party has made one load, which found this many bytes used: at least what it has seen, and at most the region's size
 pub record Loads (party : BumpParty) (used : ℕ) (after : BumpParty) : Type 0 where
@@ -58,19 +40,19 @@ pub record Loads (party : BumpParty) (used : ℕ) (after : BumpParty) : Type 0 w
   pub within : used ≤ party.allocator.scene.region.size
 
 -- C is told how much one load found to be used, and the handle stands for what the party is then
-abbrev pub TellsUsed : BumpParty → Figure → Option Made → Type 0
+abbrev pub TellsUsed : BumpParty → Figure → Option BumpParty → Type 0
 TellsUsed party told new =
     (used : ℕ) × (after : BumpParty) × (told ≡ figure_of used)
-    × Loads party used after × IsBumpSeat new after
+    × Loads party used after × (new ≡ Some after)
 
 -- the same of what is free
-abbrev pub TellsFree : BumpParty → Figure → Option Made → Type 0
+abbrev pub TellsFree : BumpParty → Figure → Option BumpParty → Type 0
 TellsFree party told new =
     (used : ℕ) × (after : BumpParty) × (told ≡ figure_of (party.allocator.scene.region.size - used))
-    × Loads party used after × IsBumpSeat new after
+    × Loads party used after × (new ≡ Some after)
 
 -- the last party without a seat has one, behind this other handle
-abbrev pub SeatsOne : BumpSeats → Option Made → Option Made → Type 0
+abbrev pub SeatsOne : BumpSeats → Option BumpSeats → Option BumpParty → Type 0
 SeatsOne seats new seated =
-    (left : ℕ) × (seats.left ≡ left + 1) × IsSharedBump new (bump_seats seats.bump left)
-    × IsBumpSeat seated (fresh_party seats.bump left)
+    (left : ℕ) × (seats.left ≡ left + 1) × (new ≡ Some (bump_seats seats.bump left))
+    × (seated ≡ Some (fresh_party seats.bump left))

@@ -5,15 +5,14 @@ ghost use Rattle.bb_memory_base.specs.Region.{IsRegion, region_at};
 ghost use Rattle.bb_memory_base.specs.declared.layout.Layout.{Layout as Asked};
 ghost use Rattle.bb_memory.specs.Bump.{Bump, bump_of};
 ghost use Rattle.bb_memory_c.specs.Answers.{figure_of, no_figure, refused};
-ghost use Rattle.bb_memory_c.specs.Bumps.{Gives, IsBump, IsNoBump, Tells};
+ghost use Rattle.bb_memory_c.specs.Bumps.{Gives, Tells};
 ghost use Rattle.bb_memory_c.specs.Layouts.{IsOf};
 ghost use Rattle.bb_memory_c.specs.Codes.{already_made, cannot_make, done, not_a_layout, not_made, out_of_memory};
 
 use crate::answer::{Answer, Figure};
 use crate::code;
-use crate::handle::Handle;
+use crate::handle::{BumpHandle, free};
 use crate::layout::layout_of;
-use crate::made::Made;
 use bb_memory::bump_allocator::{BaseAllocator, BumpAllocator};
 use bb_memory::layout::Layout;
 use std::alloc::Global;
@@ -23,8 +22,13 @@ use std::alloc::Global;
 ///
 /// C guarantees of the handle what the crate's page says.
 #[unsafe(no_mangle)]
-pub extern "C" fn bb_bump_make(alloc: Global, handle: &mut Handle, start: usize, size: usize) -> u32
-    ensures made { result ≡ done → IsBump handle.new.value (bump_of start size 0) }
+pub extern "C" fn bb_bump_make(
+    alloc: Global,
+    handle: &mut BumpHandle,
+    start: usize,
+    size: usize,
+) -> u32
+    ensures made { result ≡ done → handle.new.value ≡ Some (bump_of start size 0) }
     ensures already_made { (result ≡ already_made) ↔ (handle.old.value ≢ None) }
     ensures cannot_make { (result ≡ cannot_make)
         ↔ ((handle.old.value ≡ None) × (¬ IsRegion (region_at start size))) }
@@ -39,11 +43,23 @@ pub extern "C" fn bb_bump_make(alloc: Global, handle: &mut Handle, start: usize,
     if !BumpAllocator::can_make(start, size) {
         return code::CANNOT_MAKE;
     }
-    let Ok(made) = Box::new(alloc, Made::Bump(BumpAllocator::new(start, size))) else {
+    let Ok(made) = Box::new(alloc, BumpAllocator::new(start, size)) else {
         return code::OUT_OF_MEMORY;
     };
     handle.put(made);
     code::DONE
+}
+
+/// Frees the bump, whose handle is empty then. The answer is 0, or `BB_NOT_MADE` where it was empty already.
+///
+/// C guarantees of the handle what the crate's page says.
+#[unsafe(no_mangle)]
+pub extern "C" fn bb_bump_free(alloc: Global, handle: &mut BumpHandle) -> u32
+    ensures freed { handle.old.value ≢ None → result ≡ done }
+    ensures not_made { handle.old.value ≡ None → result ≡ not_made }
+    ensures empty { handle.new.value ≡ None }
+{
+    free(handle.take(alloc))
 }
 
 /// What the bump answers to a request for this layout.
@@ -72,25 +88,22 @@ fn request(bump: &mut BumpAllocator, size: usize, align: usize) -> Answer
 #[unsafe(no_mangle)]
 pub extern "C" fn bb_bump_allocate(
     alloc: Global,
-    handle: &mut Handle,
+    handle: &mut BumpHandle,
     size: usize,
     align: usize,
 ) -> Answer
-    ensures answer { (bump : Bump) (layout : Asked) → IsBump handle.old.value bump
+    ensures answer { (bump : Bump) (layout : Asked) → handle.old.value ≡ Some bump
         → IsOf size align layout → Gives bump layout result handle.new.value }
-    ensures not_a_layout { (bump : Bump) → IsBump handle.old.value bump → ¬ IsLayout size align
+    ensures not_a_layout { (bump : Bump) → handle.old.value ≡ Some bump → ¬ IsLayout size align
         → (result ≡ refused not_a_layout) × (handle.new.value ≡ handle.old.value) }
-    ensures not_made { IsNoBump handle.old.value
+    ensures not_made { handle.old.value ≡ None
         → (result ≡ refused not_made) × (handle.new.value ≡ handle.old.value) }
 {
-    let Some(mut made) = handle.take(alloc) else {
+    let Some(mut bump) = handle.take(alloc) else {
         return Answer::refusal(code::NOT_MADE);
     };
-    let answer = match &mut *made {
-        Made::Bump(bump) => request(bump, size, align),
-        _ => Answer::refusal(code::NOT_MADE),
-    };
-    handle.put(made);
+    let answer = request(&mut bump, size, align);
+    handle.put(bump);
     answer
 }
 
@@ -98,43 +111,35 @@ pub extern "C" fn bb_bump_allocate(
 ///
 /// C guarantees of the handle what the crate's page says.
 #[unsafe(no_mangle)]
-pub extern "C" fn bb_bump_deallocate(alloc: Global, handle: &mut Handle) -> u32
-    ensures emptied { (bump : Bump) → IsBump handle.old.value bump
-        → (result ≡ done) × IsBump handle.new.value (bump_of bump.region.start bump.region.size 0) }
-    ensures not_made { IsNoBump handle.old.value
+pub extern "C" fn bb_bump_deallocate(alloc: Global, handle: &mut BumpHandle) -> u32
+    ensures emptied { (bump : Bump) → handle.old.value ≡ Some bump
+        → (result ≡ done)
+        × (handle.new.value ≡ Some (bump_of bump.region.start bump.region.size 0)) }
+    ensures not_made { handle.old.value ≡ None
         → (result ≡ not_made) × (handle.new.value ≡ handle.old.value) }
 {
-    let Some(mut made) = handle.take(alloc) else {
+    let Some(mut bump) = handle.take(alloc) else {
         return code::NOT_MADE;
     };
-    let code = match &mut *made {
-        Made::Bump(bump) => {
-            bump.deallocate(0, Layout::empty());
-            code::DONE
-        }
-        _ => code::NOT_MADE,
-    };
-    handle.put(made);
-    code
+    bump.deallocate(0, Layout::empty());
+    handle.put(bump);
+    code::DONE
 }
 
 /// How many bytes are used: those from the region's start to the end of the last chunk, padding included.
 ///
 /// C guarantees of the handle what the crate's page says.
 #[unsafe(no_mangle)]
-pub extern "C" fn bb_bump_used_space(alloc: Global, handle: &mut Handle) -> Figure
-    ensures value { (bump : Bump) → IsBump handle.old.value bump → result ≡ figure_of bump.used }
-    ensures not_made { IsNoBump handle.old.value → result ≡ no_figure not_made }
+pub extern "C" fn bb_bump_used_space(alloc: Global, handle: &mut BumpHandle) -> Figure
+    ensures value { (bump : Bump) → handle.old.value ≡ Some bump → result ≡ figure_of bump.used }
+    ensures not_made { handle.old.value ≡ None → result ≡ no_figure not_made }
     ensures kept { handle.new.value ≡ handle.old.value }
 {
-    let Some(made) = handle.take(alloc) else {
+    let Some(bump) = handle.take(alloc) else {
         return Figure::refusal(code::NOT_MADE);
     };
-    let figure = match &*made {
-        Made::Bump(bump) => Figure::of(bump.used_space()),
-        _ => Figure::refusal(code::NOT_MADE),
-    };
-    handle.put(made);
+    let figure = Figure::of(bump.used_space());
+    handle.put(bump);
     figure
 }
 
@@ -142,20 +147,17 @@ pub extern "C" fn bb_bump_used_space(alloc: Global, handle: &mut Handle) -> Figu
 ///
 /// C guarantees of the handle what the crate's page says.
 #[unsafe(no_mangle)]
-pub extern "C" fn bb_bump_free_space(alloc: Global, handle: &mut Handle) -> Figure
-    ensures value { (bump : Bump) → IsBump handle.old.value bump
+pub extern "C" fn bb_bump_free_space(alloc: Global, handle: &mut BumpHandle) -> Figure
+    ensures value { (bump : Bump) → handle.old.value ≡ Some bump
         → result ≡ figure_of (bump.region.size - bump.used) }
-    ensures not_made { IsNoBump handle.old.value → result ≡ no_figure not_made }
+    ensures not_made { handle.old.value ≡ None → result ≡ no_figure not_made }
     ensures kept { handle.new.value ≡ handle.old.value }
 {
-    let Some(made) = handle.take(alloc) else {
+    let Some(bump) = handle.take(alloc) else {
         return Figure::refusal(code::NOT_MADE);
     };
-    let figure = match &*made {
-        Made::Bump(bump) => Figure::of(bump.free_space()),
-        _ => Figure::refusal(code::NOT_MADE),
-    };
-    handle.put(made);
+    let figure = Figure::of(bump.free_space());
+    handle.put(bump);
     figure
 }
 
@@ -163,20 +165,17 @@ pub extern "C" fn bb_bump_free_space(alloc: Global, handle: &mut Handle) -> Figu
 ///
 /// C guarantees of the handle what the crate's page says.
 #[unsafe(no_mangle)]
-pub extern "C" fn bb_bump_total_space(alloc: Global, handle: &mut Handle) -> Figure
-    ensures value { (bump : Bump) → IsBump handle.old.value bump
+pub extern "C" fn bb_bump_total_space(alloc: Global, handle: &mut BumpHandle) -> Figure
+    ensures value { (bump : Bump) → handle.old.value ≡ Some bump
         → result ≡ figure_of bump.region.size }
-    ensures not_made { IsNoBump handle.old.value → result ≡ no_figure not_made }
+    ensures not_made { handle.old.value ≡ None → result ≡ no_figure not_made }
     ensures kept { handle.new.value ≡ handle.old.value }
 {
-    let Some(made) = handle.take(alloc) else {
+    let Some(bump) = handle.take(alloc) else {
         return Figure::refusal(code::NOT_MADE);
     };
-    let figure = match &*made {
-        Made::Bump(bump) => Figure::of(bump.total_space()),
-        _ => Figure::refusal(code::NOT_MADE),
-    };
-    handle.put(made);
+    let figure = Figure::of(bump.total_space());
+    handle.put(bump);
     figure
 }
 
@@ -184,19 +183,16 @@ pub extern "C" fn bb_bump_total_space(alloc: Global, handle: &mut Handle) -> Fig
 ///
 /// C guarantees of the handle what the crate's page says.
 #[unsafe(no_mangle)]
-pub extern "C" fn bb_bump_start_address(alloc: Global, handle: &mut Handle) -> Figure
-    ensures value { (bump : Bump) → IsBump handle.old.value bump
+pub extern "C" fn bb_bump_start_address(alloc: Global, handle: &mut BumpHandle) -> Figure
+    ensures value { (bump : Bump) → handle.old.value ≡ Some bump
         → result ≡ figure_of bump.region.start }
-    ensures not_made { IsNoBump handle.old.value → result ≡ no_figure not_made }
+    ensures not_made { handle.old.value ≡ None → result ≡ no_figure not_made }
     ensures kept { handle.new.value ≡ handle.old.value }
 {
-    let Some(made) = handle.take(alloc) else {
+    let Some(bump) = handle.take(alloc) else {
         return Figure::refusal(code::NOT_MADE);
     };
-    let figure = match &*made {
-        Made::Bump(bump) => Figure::of(bump.start_address()),
-        _ => Figure::refusal(code::NOT_MADE),
-    };
-    handle.put(made);
+    let figure = Figure::of(bump.start_address());
+    handle.put(bump);
     figure
 }

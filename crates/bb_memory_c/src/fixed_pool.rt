@@ -9,13 +9,12 @@ ghost use Rattle.bb_memory_c.specs.Answers.{TellsGrow, TellsShrink, figure_of, n
 ghost use Rattle.bb_memory_c.specs.Codes.{already_made, cannot_make, done, not_a_layout, not_held, not_made, out_of_memory};
 ghost use Rattle.bb_memory_c.specs.Layouts.{CannotCut, IsCuttable, IsOf};
 ghost use Rattle.bb_memory_c.specs.Pools.{GivesBackFixed, GivesFixed, Tells};
-ghost use Rattle.bb_memory_c.specs.Pools.{IsFixedPool, IsNoFixedPool, MakesFixedPool};
+ghost use Rattle.bb_memory_c.specs.Pools.{MakesFixedPool};
 
 use crate::answer::{Answer, Figure};
 use crate::code;
-use crate::handle::Handle;
+use crate::handle::{FixedPoolHandle, free};
 use crate::layout::{cut_into, layout_of, layouts_of};
-use crate::made::Made;
 use bb_memory::layout::Layout;
 use bb_memory::pool_allocator::{Allocator, BaseAllocator, FixedSizePoolAllocator};
 use std::alloc::Global;
@@ -27,7 +26,7 @@ use std::alloc::Global;
 #[unsafe(no_mangle)]
 pub extern "C" fn bb_fixed_pool_make(
     alloc: Global,
-    handle: &mut Handle,
+    handle: &mut FixedPoolHandle,
     bucket_size: usize,
     bucket_align: usize,
     start: usize,
@@ -54,11 +53,23 @@ pub extern "C" fn bb_fixed_pool_make(
         Err(code) => return code,
     };
     let pool = FixedSizePoolAllocator::<512>::new(bucket, start, size);
-    let Ok(made) = Box::new(alloc, Made::FixedPool(pool)) else {
+    let Ok(made) = Box::new(alloc, pool) else {
         return code::OUT_OF_MEMORY;
     };
     handle.put(made);
     code::DONE
+}
+
+/// Frees the pool, whose handle is empty then. The answer is 0, or `BB_NOT_MADE` where it was empty already.
+///
+/// C guarantees of the handle what the crate's page says.
+#[unsafe(no_mangle)]
+pub extern "C" fn bb_fixed_pool_free(alloc: Global, handle: &mut FixedPoolHandle) -> u32
+    ensures freed { handle.old.value ≢ None → result ≡ done }
+    ensures not_made { handle.old.value ≡ None → result ≡ not_made }
+    ensures empty { handle.new.value ≡ None }
+{
+    free(handle.take(alloc))
 }
 
 /// What the pool answers to a request for this layout.
@@ -87,25 +98,22 @@ fn request(pool: &mut FixedSizePoolAllocator<512>, size: usize, align: usize) ->
 #[unsafe(no_mangle)]
 pub extern "C" fn bb_fixed_pool_allocate(
     alloc: Global,
-    handle: &mut Handle,
+    handle: &mut FixedPoolHandle,
     size: usize,
     align: usize,
 ) -> Answer
-    ensures answer { (pool : Pool) (layout : Asked) → IsFixedPool handle.old.value pool
+    ensures answer { (pool : Pool) (layout : Asked) → handle.old.value ≡ Some pool
         → IsOf size align layout → GivesFixed pool layout result handle.new.value }
-    ensures not_a_layout { (pool : Pool) → IsFixedPool handle.old.value pool → ¬ IsLayout size align
+    ensures not_a_layout { (pool : Pool) → handle.old.value ≡ Some pool → ¬ IsLayout size align
         → (result ≡ refused not_a_layout) × (handle.new.value ≡ handle.old.value) }
-    ensures not_made { IsNoFixedPool handle.old.value
+    ensures not_made { handle.old.value ≡ None
         → (result ≡ refused not_made) × (handle.new.value ≡ handle.old.value) }
 {
-    let Some(mut made) = handle.take(alloc) else {
+    let Some(mut pool) = handle.take(alloc) else {
         return Answer::refusal(code::NOT_MADE);
     };
-    let answer = match &mut *made {
-        Made::FixedPool(pool) => request(pool, size, align),
-        _ => Answer::refusal(code::NOT_MADE),
-    };
-    handle.put(made);
+    let answer = request(&mut pool, size, align);
+    handle.put(pool);
     answer
 }
 
@@ -127,22 +135,23 @@ fn give_back(pool: &mut FixedSizePoolAllocator<512>, place: usize) -> u32
 ///
 /// C guarantees of the handle what the crate's page says.
 #[unsafe(no_mangle)]
-pub extern "C" fn bb_fixed_pool_deallocate(alloc: Global, handle: &mut Handle, place: usize) -> u32
-    ensures freed { (pool : Pool) → IsFixedPool handle.old.value pool → HoldsPlace pool place
+pub extern "C" fn bb_fixed_pool_deallocate(
+    alloc: Global,
+    handle: &mut FixedPoolHandle,
+    place: usize,
+) -> u32
+    ensures freed { (pool : Pool) → handle.old.value ≡ Some pool → HoldsPlace pool place
         → (result ≡ done) × GivesBackFixed pool place handle.new.value }
-    ensures not_held { (pool : Pool) → IsFixedPool handle.old.value pool → ¬ HoldsPlace pool place
+    ensures not_held { (pool : Pool) → handle.old.value ≡ Some pool → ¬ HoldsPlace pool place
         → (result ≡ not_held) × (handle.new.value ≡ handle.old.value) }
-    ensures not_made { IsNoFixedPool handle.old.value
+    ensures not_made { handle.old.value ≡ None
         → (result ≡ not_made) × (handle.new.value ≡ handle.old.value) }
 {
-    let Some(mut made) = handle.take(alloc) else {
+    let Some(mut pool) = handle.take(alloc) else {
         return code::NOT_MADE;
     };
-    let code = match &mut *made {
-        Made::FixedPool(pool) => give_back(pool, place),
-        _ => code::NOT_MADE,
-    };
-    handle.put(made);
+    let code = give_back(&mut pool, place);
+    handle.put(pool);
     code
 }
 
@@ -150,22 +159,23 @@ pub extern "C" fn bb_fixed_pool_deallocate(alloc: Global, handle: &mut Handle, p
 ///
 /// C guarantees of the handle what the crate's page says.
 #[unsafe(no_mangle)]
-pub extern "C" fn bb_fixed_pool_holds(alloc: Global, handle: &mut Handle, place: usize) -> Figure
-    ensures held { (pool : Pool) → IsFixedPool handle.old.value pool → HoldsPlace pool place
+pub extern "C" fn bb_fixed_pool_holds(
+    alloc: Global,
+    handle: &mut FixedPoolHandle,
+    place: usize,
+) -> Figure
+    ensures held { (pool : Pool) → handle.old.value ≡ Some pool → HoldsPlace pool place
         → result ≡ figure_of 1 }
-    ensures not_held { (pool : Pool) → IsFixedPool handle.old.value pool → ¬ HoldsPlace pool place
+    ensures not_held { (pool : Pool) → handle.old.value ≡ Some pool → ¬ HoldsPlace pool place
         → result ≡ figure_of 0 }
-    ensures not_made { IsNoFixedPool handle.old.value → result ≡ no_figure not_made }
+    ensures not_made { handle.old.value ≡ None → result ≡ no_figure not_made }
     ensures kept { handle.new.value ≡ handle.old.value }
 {
-    let Some(made) = handle.take(alloc) else {
+    let Some(pool) = handle.take(alloc) else {
         return Figure::refusal(code::NOT_MADE);
     };
-    let figure = match &*made {
-        Made::FixedPool(pool) => Figure::of(if pool.holds(place) { 1 } else { 0 }),
-        _ => Figure::refusal(code::NOT_MADE),
-    };
-    handle.put(made);
+    let figure = Figure::of(if pool.holds(place) { 1 } else { 0 });
+    handle.put(pool);
     figure
 }
 
@@ -173,20 +183,20 @@ pub extern "C" fn bb_fixed_pool_holds(alloc: Global, handle: &mut Handle, place:
 ///
 /// C guarantees of the handle what the crate's page says.
 #[unsafe(no_mangle)]
-pub extern "C" fn bb_fixed_pool_number_of_buckets(alloc: Global, handle: &mut Handle) -> Figure
-    ensures value { (pool : Pool) → IsFixedPool handle.old.value pool
+pub extern "C" fn bb_fixed_pool_number_of_buckets(
+    alloc: Global,
+    handle: &mut FixedPoolHandle,
+) -> Figure
+    ensures value { (pool : Pool) → handle.old.value ≡ Some pool
         → result ≡ figure_of pool.geometry.buckets }
-    ensures not_made { IsNoFixedPool handle.old.value → result ≡ no_figure not_made }
+    ensures not_made { handle.old.value ≡ None → result ≡ no_figure not_made }
     ensures kept { handle.new.value ≡ handle.old.value }
 {
-    let Some(made) = handle.take(alloc) else {
+    let Some(pool) = handle.take(alloc) else {
         return Figure::refusal(code::NOT_MADE);
     };
-    let figure = match &*made {
-        Made::FixedPool(pool) => Figure::of(pool.number_of_buckets() as usize),
-        _ => Figure::refusal(code::NOT_MADE),
-    };
-    handle.put(made);
+    let figure = Figure::of(pool.number_of_buckets() as usize);
+    handle.put(pool);
     figure
 }
 
@@ -194,20 +204,17 @@ pub extern "C" fn bb_fixed_pool_number_of_buckets(alloc: Global, handle: &mut Ha
 ///
 /// C guarantees of the handle what the crate's page says.
 #[unsafe(no_mangle)]
-pub extern "C" fn bb_fixed_pool_bucket_size(alloc: Global, handle: &mut Handle) -> Figure
-    ensures value { (pool : Pool) → IsFixedPool handle.old.value pool
+pub extern "C" fn bb_fixed_pool_bucket_size(alloc: Global, handle: &mut FixedPoolHandle) -> Figure
+    ensures value { (pool : Pool) → handle.old.value ≡ Some pool
         → result ≡ figure_of pool.geometry.bucket.size }
-    ensures not_made { IsNoFixedPool handle.old.value → result ≡ no_figure not_made }
+    ensures not_made { handle.old.value ≡ None → result ≡ no_figure not_made }
     ensures kept { handle.new.value ≡ handle.old.value }
 {
-    let Some(made) = handle.take(alloc) else {
+    let Some(pool) = handle.take(alloc) else {
         return Figure::refusal(code::NOT_MADE);
     };
-    let figure = match &*made {
-        Made::FixedPool(pool) => Figure::of(pool.bucket_size()),
-        _ => Figure::refusal(code::NOT_MADE),
-    };
-    handle.put(made);
+    let figure = Figure::of(pool.bucket_size());
+    handle.put(pool);
     figure
 }
 
@@ -215,20 +222,17 @@ pub extern "C" fn bb_fixed_pool_bucket_size(alloc: Global, handle: &mut Handle) 
 ///
 /// C guarantees of the handle what the crate's page says.
 #[unsafe(no_mangle)]
-pub extern "C" fn bb_fixed_pool_max_alignment(alloc: Global, handle: &mut Handle) -> Figure
-    ensures value { (pool : Pool) → IsFixedPool handle.old.value pool
+pub extern "C" fn bb_fixed_pool_max_alignment(alloc: Global, handle: &mut FixedPoolHandle) -> Figure
+    ensures value { (pool : Pool) → handle.old.value ≡ Some pool
         → result ≡ figure_of pool.geometry.bucket.align }
-    ensures not_made { IsNoFixedPool handle.old.value → result ≡ no_figure not_made }
+    ensures not_made { handle.old.value ≡ None → result ≡ no_figure not_made }
     ensures kept { handle.new.value ≡ handle.old.value }
 {
-    let Some(made) = handle.take(alloc) else {
+    let Some(pool) = handle.take(alloc) else {
         return Figure::refusal(code::NOT_MADE);
     };
-    let figure = match &*made {
-        Made::FixedPool(pool) => Figure::of(pool.max_alignment()),
-        _ => Figure::refusal(code::NOT_MADE),
-    };
-    handle.put(made);
+    let figure = Figure::of(pool.max_alignment());
+    handle.put(pool);
     figure
 }
 
@@ -236,20 +240,17 @@ pub extern "C" fn bb_fixed_pool_max_alignment(alloc: Global, handle: &mut Handle
 ///
 /// C guarantees of the handle what the crate's page says.
 #[unsafe(no_mangle)]
-pub extern "C" fn bb_fixed_pool_size(alloc: Global, handle: &mut Handle) -> Figure
-    ensures value { (pool : Pool) → IsFixedPool handle.old.value pool
+pub extern "C" fn bb_fixed_pool_size(alloc: Global, handle: &mut FixedPoolHandle) -> Figure
+    ensures value { (pool : Pool) → handle.old.value ≡ Some pool
         → result ≡ figure_of pool.geometry.region.size }
-    ensures not_made { IsNoFixedPool handle.old.value → result ≡ no_figure not_made }
+    ensures not_made { handle.old.value ≡ None → result ≡ no_figure not_made }
     ensures kept { handle.new.value ≡ handle.old.value }
 {
-    let Some(made) = handle.take(alloc) else {
+    let Some(pool) = handle.take(alloc) else {
         return Figure::refusal(code::NOT_MADE);
     };
-    let figure = match &*made {
-        Made::FixedPool(pool) => Figure::of(pool.size()),
-        _ => Figure::refusal(code::NOT_MADE),
-    };
-    handle.put(made);
+    let figure = Figure::of(pool.size());
+    handle.put(pool);
     figure
 }
 
@@ -283,32 +284,29 @@ fn grow(
 #[unsafe(no_mangle)]
 pub extern "C" fn bb_fixed_pool_grow(
     alloc: Global,
-    handle: &mut Handle,
+    handle: &mut FixedPoolHandle,
     place: usize,
     old_size: usize,
     old_align: usize,
     new_size: usize,
     new_align: usize,
 ) -> Answer
-    ensures answer { (pool : Pool) (old new : Asked) → IsFixedPool handle.old.value pool
+    ensures answer { (pool : Pool) (old new : Asked) → handle.old.value ≡ Some pool
         → IsOf old_size old_align old → IsOf new_size new_align new
         → TellsGrow (HoldsPlace pool place) place old (MayGrow pool.geometry.bucket place old new)
         result }
-    ensures not_a_layout { (pool : Pool) → IsFixedPool handle.old.value pool
+    ensures not_a_layout { (pool : Pool) → handle.old.value ≡ Some pool
         → ¬ (IsLayout old_size old_align × IsLayout new_size new_align)
         → result ≡ refused not_a_layout }
-    ensures not_made { IsNoFixedPool handle.old.value → result ≡ refused not_made }
+    ensures not_made { handle.old.value ≡ None → result ≡ refused not_made }
     ensures kept { handle.new.value ≡ handle.old.value }
 {
     let layouts = layouts_of(old_size, old_align, new_size, new_align);
-    let Some(mut made) = handle.take(alloc) else {
+    let Some(mut pool) = handle.take(alloc) else {
         return Answer::refusal(code::NOT_MADE);
     };
-    let answer = match &mut *made {
-        Made::FixedPool(pool) => grow(pool, place, layouts),
-        _ => Answer::refusal(code::NOT_MADE),
-    };
-    handle.put(made);
+    let answer = grow(&mut pool, place, layouts);
+    handle.put(pool);
     answer
 }
 
@@ -342,32 +340,29 @@ fn shrink(
 #[unsafe(no_mangle)]
 pub extern "C" fn bb_fixed_pool_shrink(
     alloc: Global,
-    handle: &mut Handle,
+    handle: &mut FixedPoolHandle,
     place: usize,
     old_size: usize,
     old_align: usize,
     new_size: usize,
     new_align: usize,
 ) -> Answer
-    ensures answer { (pool : Pool) (old new : Asked) → IsFixedPool handle.old.value pool
+    ensures answer { (pool : Pool) (old new : Asked) → handle.old.value ≡ Some pool
         → IsOf old_size old_align old → IsOf new_size new_align new
         → TellsShrink (HoldsPlace pool place) place (pool.geometry.bucket.size) old
         (MayShrink pool.geometry.bucket place old new) result }
-    ensures not_a_layout { (pool : Pool) → IsFixedPool handle.old.value pool
+    ensures not_a_layout { (pool : Pool) → handle.old.value ≡ Some pool
         → ¬ (IsLayout old_size old_align × IsLayout new_size new_align)
         → result ≡ refused not_a_layout }
-    ensures not_made { IsNoFixedPool handle.old.value → result ≡ refused not_made }
+    ensures not_made { handle.old.value ≡ None → result ≡ refused not_made }
     ensures kept { handle.new.value ≡ handle.old.value }
 {
     let layouts = layouts_of(old_size, old_align, new_size, new_align);
-    let Some(mut made) = handle.take(alloc) else {
+    let Some(mut pool) = handle.take(alloc) else {
         return Answer::refusal(code::NOT_MADE);
     };
-    let answer = match &mut *made {
-        Made::FixedPool(pool) => shrink(pool, place, layouts),
-        _ => Answer::refusal(code::NOT_MADE),
-    };
-    handle.put(made);
+    let answer = shrink(&mut pool, place, layouts);
+    handle.put(pool);
     answer
 }
 
@@ -386,21 +381,22 @@ fn reserved(pool: &FixedSizePoolAllocator<512>, place: usize) -> Figure
 ///
 /// C guarantees of the handle what the crate's page says.
 #[unsafe(no_mangle)]
-pub extern "C" fn bb_fixed_pool_reserved(alloc: Global, handle: &mut Handle, place: usize) -> Figure
-    ensures value { (pool : Pool) → IsFixedPool handle.old.value pool → HoldsPlace pool place
+pub extern "C" fn bb_fixed_pool_reserved(
+    alloc: Global,
+    handle: &mut FixedPoolHandle,
+    place: usize,
+) -> Figure
+    ensures value { (pool : Pool) → handle.old.value ≡ Some pool → HoldsPlace pool place
         → result ≡ figure_of (pool.geometry.bucket.size) }
-    ensures not_held { (pool : Pool) → IsFixedPool handle.old.value pool → ¬ (HoldsPlace pool place)
+    ensures not_held { (pool : Pool) → handle.old.value ≡ Some pool → ¬ (HoldsPlace pool place)
         → result ≡ no_figure not_held }
-    ensures not_made { IsNoFixedPool handle.old.value → result ≡ no_figure not_made }
+    ensures not_made { handle.old.value ≡ None → result ≡ no_figure not_made }
     ensures kept { handle.new.value ≡ handle.old.value }
 {
-    let Some(made) = handle.take(alloc) else {
+    let Some(pool) = handle.take(alloc) else {
         return Figure::refusal(code::NOT_MADE);
     };
-    let figure = match &*made {
-        Made::FixedPool(pool) => reserved(pool, place),
-        _ => Figure::refusal(code::NOT_MADE),
-    };
-    handle.put(made);
+    let figure = reserved(&pool, place);
+    handle.put(pool);
     figure
 }

@@ -8,13 +8,12 @@ ghost use Rattle.bb_memory.specs.OneChunkObject.{MayGrow, MayShrink, reserved_at
 ghost use Rattle.bb_memory_c.specs.Answers.{TellsGrow, TellsShrink, figure_of, no_figure, refused};
 ghost use Rattle.bb_memory_c.specs.Codes.{already_made, cannot_make, done, not_a_layout, not_held, not_made, out_of_memory};
 ghost use Rattle.bb_memory_c.specs.Layouts.{IsOf};
-ghost use Rattle.bb_memory_c.specs.OneChunks.{Gives, IsNoOneChunk, IsOneChunk, Tells};
+ghost use Rattle.bb_memory_c.specs.OneChunks.{Gives, Tells};
 
 use crate::answer::{Answer, Figure};
 use crate::code;
-use crate::handle::Handle;
+use crate::handle::{OneChunkHandle, free};
 use crate::layout::{layout_of, layouts_of};
-use crate::made::Made;
 use bb_memory::layout::Layout;
 use bb_memory::one_chunk_allocator::{Allocator, BaseAllocator, OneChunkAllocator};
 use std::alloc::Global;
@@ -26,11 +25,11 @@ use std::alloc::Global;
 #[unsafe(no_mangle)]
 pub extern "C" fn bb_one_chunk_make(
     alloc: Global,
-    handle: &mut Handle,
+    handle: &mut OneChunkHandle,
     start: usize,
     size: usize,
 ) -> u32
-    ensures made { result ≡ done → IsOneChunk handle.new.value (one_chunk_of start size None) }
+    ensures made { result ≡ done → handle.new.value ≡ Some (one_chunk_of start size None) }
     ensures already_made { (result ≡ already_made) ↔ (handle.old.value ≢ None) }
     ensures cannot_make { (result ≡ cannot_make)
         ↔ ((handle.old.value ≡ None) × (¬ IsRegion (region_at start size))) }
@@ -45,11 +44,23 @@ pub extern "C" fn bb_one_chunk_make(
     if !OneChunkAllocator::can_make(start, size) {
         return code::CANNOT_MAKE;
     }
-    let Ok(made) = Box::new(alloc, Made::OneChunk(OneChunkAllocator::new(start, size))) else {
+    let Ok(made) = Box::new(alloc, OneChunkAllocator::new(start, size)) else {
         return code::OUT_OF_MEMORY;
     };
     handle.put(made);
     code::DONE
+}
+
+/// Frees the allocator, whose handle is empty then. The answer is 0, or `BB_NOT_MADE` where it was empty already.
+///
+/// C guarantees of the handle what the crate's page says.
+#[unsafe(no_mangle)]
+pub extern "C" fn bb_one_chunk_free(alloc: Global, handle: &mut OneChunkHandle) -> u32
+    ensures freed { handle.old.value ≢ None → result ≡ done }
+    ensures not_made { handle.old.value ≡ None → result ≡ not_made }
+    ensures empty { handle.new.value ≡ None }
+{
+    free(handle.take(alloc))
 }
 
 /// What the allocator answers to a request for this layout.
@@ -78,26 +89,23 @@ fn request(one: &mut OneChunkAllocator, size: usize, align: usize) -> Answer
 #[unsafe(no_mangle)]
 pub extern "C" fn bb_one_chunk_allocate(
     alloc: Global,
-    handle: &mut Handle,
+    handle: &mut OneChunkHandle,
     size: usize,
     align: usize,
 ) -> Answer
-    ensures answer { (one : OneChunk) (layout : Asked) → IsOneChunk handle.old.value one
+    ensures answer { (one : OneChunk) (layout : Asked) → handle.old.value ≡ Some one
         → IsOf size align layout → Gives one layout result handle.new.value }
-    ensures not_a_layout { (one : OneChunk) → IsOneChunk handle.old.value one
+    ensures not_a_layout { (one : OneChunk) → handle.old.value ≡ Some one
         → ¬ IsLayout size align
         → (result ≡ refused not_a_layout) × (handle.new.value ≡ handle.old.value) }
-    ensures not_made { IsNoOneChunk handle.old.value
+    ensures not_made { handle.old.value ≡ None
         → (result ≡ refused not_made) × (handle.new.value ≡ handle.old.value) }
 {
-    let Some(mut made) = handle.take(alloc) else {
+    let Some(mut one) = handle.take(alloc) else {
         return Answer::refusal(code::NOT_MADE);
     };
-    let answer = match &mut *made {
-        Made::OneChunk(one) => request(one, size, align),
-        _ => Answer::refusal(code::NOT_MADE),
-    };
-    handle.put(made);
+    let answer = request(&mut one, size, align);
+    handle.put(one);
     answer
 }
 
@@ -120,23 +128,24 @@ fn give_back(one: &mut OneChunkAllocator, place: usize) -> u32
 ///
 /// C guarantees of the handle what the crate's page says.
 #[unsafe(no_mangle)]
-pub extern "C" fn bb_one_chunk_deallocate(alloc: Global, handle: &mut Handle, place: usize) -> u32
-    ensures freed { (one : OneChunk) → IsOneChunk handle.old.value one → one.kept ≡ Some place
-        → (result ≡ done) × IsOneChunk handle.new.value (record one { kept = None }) }
-    ensures not_held { (one : OneChunk) → IsOneChunk handle.old.value one
+pub extern "C" fn bb_one_chunk_deallocate(
+    alloc: Global,
+    handle: &mut OneChunkHandle,
+    place: usize,
+) -> u32
+    ensures freed { (one : OneChunk) → handle.old.value ≡ Some one → one.kept ≡ Some place
+        → (result ≡ done) × (handle.new.value ≡ Some (record one { kept = None })) }
+    ensures not_held { (one : OneChunk) → handle.old.value ≡ Some one
         → one.kept ≢ Some place
         → (result ≡ not_held) × (handle.new.value ≡ handle.old.value) }
-    ensures not_made { IsNoOneChunk handle.old.value
+    ensures not_made { handle.old.value ≡ None
         → (result ≡ not_made) × (handle.new.value ≡ handle.old.value) }
 {
-    let Some(mut made) = handle.take(alloc) else {
+    let Some(mut one) = handle.take(alloc) else {
         return code::NOT_MADE;
     };
-    let code = match &mut *made {
-        Made::OneChunk(one) => give_back(one, place),
-        _ => code::NOT_MADE,
-    };
-    handle.put(made);
+    let code = give_back(&mut one, place);
+    handle.put(one);
     code
 }
 
@@ -144,22 +153,23 @@ pub extern "C" fn bb_one_chunk_deallocate(alloc: Global, handle: &mut Handle, pl
 ///
 /// C guarantees of the handle what the crate's page says.
 #[unsafe(no_mangle)]
-pub extern "C" fn bb_one_chunk_holds(alloc: Global, handle: &mut Handle, place: usize) -> Figure
-    ensures held { (one : OneChunk) → IsOneChunk handle.old.value one → one.kept ≡ Some place
+pub extern "C" fn bb_one_chunk_holds(
+    alloc: Global,
+    handle: &mut OneChunkHandle,
+    place: usize,
+) -> Figure
+    ensures held { (one : OneChunk) → handle.old.value ≡ Some one → one.kept ≡ Some place
         → result ≡ figure_of 1 }
-    ensures not_held { (one : OneChunk) → IsOneChunk handle.old.value one
+    ensures not_held { (one : OneChunk) → handle.old.value ≡ Some one
         → one.kept ≢ Some place → result ≡ figure_of 0 }
-    ensures not_made { IsNoOneChunk handle.old.value → result ≡ no_figure not_made }
+    ensures not_made { handle.old.value ≡ None → result ≡ no_figure not_made }
     ensures kept { handle.new.value ≡ handle.old.value }
 {
-    let Some(made) = handle.take(alloc) else {
+    let Some(one) = handle.take(alloc) else {
         return Figure::refusal(code::NOT_MADE);
     };
-    let figure = match &*made {
-        Made::OneChunk(one) => Figure::of(if one.holds(place) { 1 } else { 0 }),
-        _ => Figure::refusal(code::NOT_MADE),
-    };
-    handle.put(made);
+    let figure = Figure::of(if one.holds(place) { 1 } else { 0 });
+    handle.put(one);
     figure
 }
 
@@ -167,22 +177,22 @@ pub extern "C" fn bb_one_chunk_holds(alloc: Global, handle: &mut Handle, place: 
 ///
 /// C guarantees of the handle what the crate's page says.
 #[unsafe(no_mangle)]
-pub extern "C" fn bb_one_chunk_has_chunk_available(alloc: Global, handle: &mut Handle) -> Figure
-    ensures available { (one : OneChunk) → IsOneChunk handle.old.value one → one.kept ≡ None
+pub extern "C" fn bb_one_chunk_has_chunk_available(
+    alloc: Global,
+    handle: &mut OneChunkHandle,
+) -> Figure
+    ensures available { (one : OneChunk) → handle.old.value ≡ Some one → one.kept ≡ None
         → result ≡ figure_of 1 }
-    ensures out { (one : OneChunk) → IsOneChunk handle.old.value one → one.kept ≢ None
+    ensures out { (one : OneChunk) → handle.old.value ≡ Some one → one.kept ≢ None
         → result ≡ figure_of 0 }
-    ensures not_made { IsNoOneChunk handle.old.value → result ≡ no_figure not_made }
+    ensures not_made { handle.old.value ≡ None → result ≡ no_figure not_made }
     ensures kept { handle.new.value ≡ handle.old.value }
 {
-    let Some(made) = handle.take(alloc) else {
+    let Some(one) = handle.take(alloc) else {
         return Figure::refusal(code::NOT_MADE);
     };
-    let figure = match &*made {
-        Made::OneChunk(one) => Figure::of(if one.has_chunk_available() { 1 } else { 0 }),
-        _ => Figure::refusal(code::NOT_MADE),
-    };
-    handle.put(made);
+    let figure = Figure::of(if one.has_chunk_available() { 1 } else { 0 });
+    handle.put(one);
     figure
 }
 
@@ -190,20 +200,17 @@ pub extern "C" fn bb_one_chunk_has_chunk_available(alloc: Global, handle: &mut H
 ///
 /// C guarantees of the handle what the crate's page says.
 #[unsafe(no_mangle)]
-pub extern "C" fn bb_one_chunk_start_address(alloc: Global, handle: &mut Handle) -> Figure
-    ensures value { (one : OneChunk) → IsOneChunk handle.old.value one
+pub extern "C" fn bb_one_chunk_start_address(alloc: Global, handle: &mut OneChunkHandle) -> Figure
+    ensures value { (one : OneChunk) → handle.old.value ≡ Some one
         → result ≡ figure_of one.region.start }
-    ensures not_made { IsNoOneChunk handle.old.value → result ≡ no_figure not_made }
+    ensures not_made { handle.old.value ≡ None → result ≡ no_figure not_made }
     ensures kept { handle.new.value ≡ handle.old.value }
 {
-    let Some(made) = handle.take(alloc) else {
+    let Some(one) = handle.take(alloc) else {
         return Figure::refusal(code::NOT_MADE);
     };
-    let figure = match &*made {
-        Made::OneChunk(one) => Figure::of(one.start_address()),
-        _ => Figure::refusal(code::NOT_MADE),
-    };
-    handle.put(made);
+    let figure = Figure::of(one.start_address());
+    handle.put(one);
     figure
 }
 
@@ -211,20 +218,17 @@ pub extern "C" fn bb_one_chunk_start_address(alloc: Global, handle: &mut Handle)
 ///
 /// C guarantees of the handle what the crate's page says.
 #[unsafe(no_mangle)]
-pub extern "C" fn bb_one_chunk_size(alloc: Global, handle: &mut Handle) -> Figure
-    ensures value { (one : OneChunk) → IsOneChunk handle.old.value one
+pub extern "C" fn bb_one_chunk_size(alloc: Global, handle: &mut OneChunkHandle) -> Figure
+    ensures value { (one : OneChunk) → handle.old.value ≡ Some one
         → result ≡ figure_of one.region.size }
-    ensures not_made { IsNoOneChunk handle.old.value → result ≡ no_figure not_made }
+    ensures not_made { handle.old.value ≡ None → result ≡ no_figure not_made }
     ensures kept { handle.new.value ≡ handle.old.value }
 {
-    let Some(made) = handle.take(alloc) else {
+    let Some(one) = handle.take(alloc) else {
         return Figure::refusal(code::NOT_MADE);
     };
-    let figure = match &*made {
-        Made::OneChunk(one) => Figure::of(one.size()),
-        _ => Figure::refusal(code::NOT_MADE),
-    };
-    handle.put(made);
+    let figure = Figure::of(one.size());
+    handle.put(one);
     figure
 }
 
@@ -254,32 +258,29 @@ fn grow(one: &mut OneChunkAllocator, place: usize, layouts: Option<(Layout, Layo
 #[unsafe(no_mangle)]
 pub extern "C" fn bb_one_chunk_grow(
     alloc: Global,
-    handle: &mut Handle,
+    handle: &mut OneChunkHandle,
     place: usize,
     old_size: usize,
     old_align: usize,
     new_size: usize,
     new_align: usize,
 ) -> Answer
-    ensures answer { (one : OneChunk) (old new : Asked) → IsOneChunk handle.old.value one
+    ensures answer { (one : OneChunk) (old new : Asked) → handle.old.value ≡ Some one
         → IsOf old_size old_align old → IsOf new_size new_align new
         → TellsGrow (one.kept ≡ Some place) place old (MayGrow one.region place old new)
         result }
-    ensures not_a_layout { (one : OneChunk) → IsOneChunk handle.old.value one
+    ensures not_a_layout { (one : OneChunk) → handle.old.value ≡ Some one
         → ¬ (IsLayout old_size old_align × IsLayout new_size new_align)
         → result ≡ refused not_a_layout }
-    ensures not_made { IsNoOneChunk handle.old.value → result ≡ refused not_made }
+    ensures not_made { handle.old.value ≡ None → result ≡ refused not_made }
     ensures kept { handle.new.value ≡ handle.old.value }
 {
     let layouts = layouts_of(old_size, old_align, new_size, new_align);
-    let Some(mut made) = handle.take(alloc) else {
+    let Some(mut one) = handle.take(alloc) else {
         return Answer::refusal(code::NOT_MADE);
     };
-    let answer = match &mut *made {
-        Made::OneChunk(one) => grow(one, place, layouts),
-        _ => Answer::refusal(code::NOT_MADE),
-    };
-    handle.put(made);
+    let answer = grow(&mut one, place, layouts);
+    handle.put(one);
     answer
 }
 
@@ -309,32 +310,29 @@ fn shrink(one: &mut OneChunkAllocator, place: usize, layouts: Option<(Layout, La
 #[unsafe(no_mangle)]
 pub extern "C" fn bb_one_chunk_shrink(
     alloc: Global,
-    handle: &mut Handle,
+    handle: &mut OneChunkHandle,
     place: usize,
     old_size: usize,
     old_align: usize,
     new_size: usize,
     new_align: usize,
 ) -> Answer
-    ensures answer { (one : OneChunk) (old new : Asked) → IsOneChunk handle.old.value one
+    ensures answer { (one : OneChunk) (old new : Asked) → handle.old.value ≡ Some one
         → IsOf old_size old_align old → IsOf new_size new_align new
         → TellsShrink (one.kept ≡ Some place) place (reserved_at one.region place) old
         (MayShrink place old new) result }
-    ensures not_a_layout { (one : OneChunk) → IsOneChunk handle.old.value one
+    ensures not_a_layout { (one : OneChunk) → handle.old.value ≡ Some one
         → ¬ (IsLayout old_size old_align × IsLayout new_size new_align)
         → result ≡ refused not_a_layout }
-    ensures not_made { IsNoOneChunk handle.old.value → result ≡ refused not_made }
+    ensures not_made { handle.old.value ≡ None → result ≡ refused not_made }
     ensures kept { handle.new.value ≡ handle.old.value }
 {
     let layouts = layouts_of(old_size, old_align, new_size, new_align);
-    let Some(mut made) = handle.take(alloc) else {
+    let Some(mut one) = handle.take(alloc) else {
         return Answer::refusal(code::NOT_MADE);
     };
-    let answer = match &mut *made {
-        Made::OneChunk(one) => shrink(one, place, layouts),
-        _ => Answer::refusal(code::NOT_MADE),
-    };
-    handle.put(made);
+    let answer = shrink(&mut one, place, layouts);
+    handle.put(one);
     answer
 }
 
@@ -354,22 +352,23 @@ fn reserved(one: &OneChunkAllocator, place: usize) -> Figure
 ///
 /// C guarantees of the handle what the crate's page says.
 #[unsafe(no_mangle)]
-pub extern "C" fn bb_one_chunk_reserved(alloc: Global, handle: &mut Handle, place: usize) -> Figure
-    ensures value { (one : OneChunk) → IsOneChunk handle.old.value one → one.kept ≡ Some place
+pub extern "C" fn bb_one_chunk_reserved(
+    alloc: Global,
+    handle: &mut OneChunkHandle,
+    place: usize,
+) -> Figure
+    ensures value { (one : OneChunk) → handle.old.value ≡ Some one → one.kept ≡ Some place
         → result ≡ figure_of (reserved_at one.region place) }
-    ensures not_held { (one : OneChunk) → IsOneChunk handle.old.value one
+    ensures not_held { (one : OneChunk) → handle.old.value ≡ Some one
         → ¬ (one.kept ≡ Some place)
         → result ≡ no_figure not_held }
-    ensures not_made { IsNoOneChunk handle.old.value → result ≡ no_figure not_made }
+    ensures not_made { handle.old.value ≡ None → result ≡ no_figure not_made }
     ensures kept { handle.new.value ≡ handle.old.value }
 {
-    let Some(made) = handle.take(alloc) else {
+    let Some(one) = handle.take(alloc) else {
         return Figure::refusal(code::NOT_MADE);
     };
-    let figure = match &*made {
-        Made::OneChunk(one) => reserved(one, place),
-        _ => Figure::refusal(code::NOT_MADE),
-    };
-    handle.put(made);
+    let figure = reserved(&one, place);
+    handle.put(one);
     figure
 }

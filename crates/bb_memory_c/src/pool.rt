@@ -10,13 +10,12 @@ ghost use Rattle.bb_memory_c.specs.Answers.{TellsGrow, TellsShrink, figure_of, n
 ghost use Rattle.bb_memory_c.specs.Codes.{already_made, cannot_make, done, not_a_layout, not_held, not_made, out_of_memory};
 ghost use Rattle.bb_memory_c.specs.Layouts.{CannotCut, IsCuttable, IsOf};
 ghost use Rattle.bb_memory_c.specs.Pools.{Gives, GivesBack, Tells};
-ghost use Rattle.bb_memory_c.specs.Pools.{IsNoPool, IsPool, MakesPool};
+ghost use Rattle.bb_memory_c.specs.Pools.{MakesPool};
 
 use crate::answer::{Answer, Figure};
 use crate::code;
-use crate::handle::Handle;
+use crate::handle::{PoolHandle, free};
 use crate::layout::{cut_into, layout_of, layouts_of};
-use crate::made::Made;
 use bb_memory::layout::Layout;
 use bb_memory::pool_allocator::{Allocator, BaseAllocator, PoolAllocator};
 use std::alloc::Global;
@@ -28,7 +27,7 @@ use std::alloc::Global;
 #[unsafe(no_mangle)]
 pub extern "C" fn bb_pool_make(
     alloc: Global,
-    handle: &mut Handle,
+    handle: &mut PoolHandle,
     bucket_size: usize,
     bucket_align: usize,
     start: usize,
@@ -57,11 +56,23 @@ pub extern "C" fn bb_pool_make(
     let Ok(pool) = PoolAllocator::new_uninit(bucket, start, size).init(alloc) else {
         return code::OUT_OF_MEMORY;
     };
-    let Ok(made) = Box::new(alloc, Made::Pool(pool)) else {
+    let Ok(made) = Box::new(alloc, pool) else {
         return code::OUT_OF_MEMORY;
     };
     handle.put(made);
     code::DONE
+}
+
+/// Frees the pool, whose handle is empty then. The answer is 0, or `BB_NOT_MADE` where it was empty already.
+///
+/// C guarantees of the handle what the crate's page says.
+#[unsafe(no_mangle)]
+pub extern "C" fn bb_pool_free(alloc: Global, handle: &mut PoolHandle) -> u32
+    ensures freed { handle.old.value ≢ None → result ≡ done }
+    ensures not_made { handle.old.value ≡ None → result ≡ not_made }
+    ensures empty { handle.new.value ≡ None }
+{
+    free(handle.take(alloc))
 }
 
 /// What the pool answers to a request for this layout.
@@ -90,26 +101,23 @@ fn request(pool: &mut PoolAllocator<Global>, size: usize, align: usize) -> Answe
 #[unsafe(no_mangle)]
 pub extern "C" fn bb_pool_allocate(
     alloc: Global,
-    handle: &mut Handle,
+    handle: &mut PoolHandle,
     size: usize,
     align: usize,
 ) -> Answer
-    ensures answer { (pool : CountedPool) (layout : Asked) → IsPool handle.old.value pool
+    ensures answer { (pool : CountedPool) (layout : Asked) → handle.old.value ≡ Some pool
         → IsOf size align layout → Gives pool layout result handle.new.value }
-    ensures not_a_layout { (pool : CountedPool) → IsPool handle.old.value pool
+    ensures not_a_layout { (pool : CountedPool) → handle.old.value ≡ Some pool
         → ¬ IsLayout size align
         → (result ≡ refused not_a_layout) × (handle.new.value ≡ handle.old.value) }
-    ensures not_made { IsNoPool handle.old.value
+    ensures not_made { handle.old.value ≡ None
         → (result ≡ refused not_made) × (handle.new.value ≡ handle.old.value) }
 {
-    let Some(mut made) = handle.take(alloc) else {
+    let Some(mut pool) = handle.take(alloc) else {
         return Answer::refusal(code::NOT_MADE);
     };
-    let answer = match &mut *made {
-        Made::Pool(pool) => request(pool, size, align),
-        _ => Answer::refusal(code::NOT_MADE),
-    };
-    handle.put(made);
+    let answer = request(&mut pool, size, align);
+    handle.put(pool);
     answer
 }
 
@@ -132,23 +140,20 @@ fn give_back(pool: &mut PoolAllocator<Global>, place: usize) -> u32
 ///
 /// C guarantees of the handle what the crate's page says.
 #[unsafe(no_mangle)]
-pub extern "C" fn bb_pool_deallocate(alloc: Global, handle: &mut Handle, place: usize) -> u32
-    ensures freed { (pool : CountedPool) → IsPool handle.old.value pool → HoldsPlace pool.pool place
+pub extern "C" fn bb_pool_deallocate(alloc: Global, handle: &mut PoolHandle, place: usize) -> u32
+    ensures freed { (pool : CountedPool) → handle.old.value ≡ Some pool → HoldsPlace pool.pool place
         → (result ≡ done) × GivesBack pool place handle.new.value }
-    ensures not_held { (pool : CountedPool) → IsPool handle.old.value pool
+    ensures not_held { (pool : CountedPool) → handle.old.value ≡ Some pool
         → ¬ HoldsPlace pool.pool place
         → (result ≡ not_held) × (handle.new.value ≡ handle.old.value) }
-    ensures not_made { IsNoPool handle.old.value
+    ensures not_made { handle.old.value ≡ None
         → (result ≡ not_made) × (handle.new.value ≡ handle.old.value) }
 {
-    let Some(mut made) = handle.take(alloc) else {
+    let Some(mut pool) = handle.take(alloc) else {
         return code::NOT_MADE;
     };
-    let code = match &mut *made {
-        Made::Pool(pool) => give_back(pool, place),
-        _ => code::NOT_MADE,
-    };
-    handle.put(made);
+    let code = give_back(&mut pool, place);
+    handle.put(pool);
     code
 }
 
@@ -156,23 +161,20 @@ pub extern "C" fn bb_pool_deallocate(alloc: Global, handle: &mut Handle, place: 
 ///
 /// C guarantees of the handle what the crate's page says.
 #[unsafe(no_mangle)]
-pub extern "C" fn bb_pool_holds(alloc: Global, handle: &mut Handle, place: usize) -> Figure
-    ensures held { (pool : CountedPool) → IsPool handle.old.value pool → HoldsPlace pool.pool place
+pub extern "C" fn bb_pool_holds(alloc: Global, handle: &mut PoolHandle, place: usize) -> Figure
+    ensures held { (pool : CountedPool) → handle.old.value ≡ Some pool → HoldsPlace pool.pool place
         → result ≡ figure_of 1 }
-    ensures not_held { (pool : CountedPool) → IsPool handle.old.value pool
+    ensures not_held { (pool : CountedPool) → handle.old.value ≡ Some pool
         → ¬ HoldsPlace pool.pool place
         → result ≡ figure_of 0 }
-    ensures not_made { IsNoPool handle.old.value → result ≡ no_figure not_made }
+    ensures not_made { handle.old.value ≡ None → result ≡ no_figure not_made }
     ensures kept { handle.new.value ≡ handle.old.value }
 {
-    let Some(made) = handle.take(alloc) else {
+    let Some(pool) = handle.take(alloc) else {
         return Figure::refusal(code::NOT_MADE);
     };
-    let figure = match &*made {
-        Made::Pool(pool) => Figure::of(if pool.holds(place) { 1 } else { 0 }),
-        _ => Figure::refusal(code::NOT_MADE),
-    };
-    handle.put(made);
+    let figure = Figure::of(if pool.holds(place) { 1 } else { 0 });
+    handle.put(pool);
     figure
 }
 
@@ -180,20 +182,17 @@ pub extern "C" fn bb_pool_holds(alloc: Global, handle: &mut Handle, place: usize
 ///
 /// C guarantees of the handle what the crate's page says.
 #[unsafe(no_mangle)]
-pub extern "C" fn bb_pool_number_of_buckets(alloc: Global, handle: &mut Handle) -> Figure
-    ensures value { (pool : CountedPool) → IsPool handle.old.value pool
+pub extern "C" fn bb_pool_number_of_buckets(alloc: Global, handle: &mut PoolHandle) -> Figure
+    ensures value { (pool : CountedPool) → handle.old.value ≡ Some pool
         → result ≡ figure_of pool.pool.geometry.buckets }
-    ensures not_made { IsNoPool handle.old.value → result ≡ no_figure not_made }
+    ensures not_made { handle.old.value ≡ None → result ≡ no_figure not_made }
     ensures kept { handle.new.value ≡ handle.old.value }
 {
-    let Some(made) = handle.take(alloc) else {
+    let Some(pool) = handle.take(alloc) else {
         return Figure::refusal(code::NOT_MADE);
     };
-    let figure = match &*made {
-        Made::Pool(pool) => Figure::of(pool.number_of_buckets() as usize),
-        _ => Figure::refusal(code::NOT_MADE),
-    };
-    handle.put(made);
+    let figure = Figure::of(pool.number_of_buckets() as usize);
+    handle.put(pool);
     figure
 }
 
@@ -201,20 +200,17 @@ pub extern "C" fn bb_pool_number_of_buckets(alloc: Global, handle: &mut Handle) 
 ///
 /// C guarantees of the handle what the crate's page says.
 #[unsafe(no_mangle)]
-pub extern "C" fn bb_pool_bucket_size(alloc: Global, handle: &mut Handle) -> Figure
-    ensures value { (pool : CountedPool) → IsPool handle.old.value pool
+pub extern "C" fn bb_pool_bucket_size(alloc: Global, handle: &mut PoolHandle) -> Figure
+    ensures value { (pool : CountedPool) → handle.old.value ≡ Some pool
         → result ≡ figure_of pool.pool.geometry.bucket.size }
-    ensures not_made { IsNoPool handle.old.value → result ≡ no_figure not_made }
+    ensures not_made { handle.old.value ≡ None → result ≡ no_figure not_made }
     ensures kept { handle.new.value ≡ handle.old.value }
 {
-    let Some(made) = handle.take(alloc) else {
+    let Some(pool) = handle.take(alloc) else {
         return Figure::refusal(code::NOT_MADE);
     };
-    let figure = match &*made {
-        Made::Pool(pool) => Figure::of(pool.bucket_size()),
-        _ => Figure::refusal(code::NOT_MADE),
-    };
-    handle.put(made);
+    let figure = Figure::of(pool.bucket_size());
+    handle.put(pool);
     figure
 }
 
@@ -222,20 +218,17 @@ pub extern "C" fn bb_pool_bucket_size(alloc: Global, handle: &mut Handle) -> Fig
 ///
 /// C guarantees of the handle what the crate's page says.
 #[unsafe(no_mangle)]
-pub extern "C" fn bb_pool_max_alignment(alloc: Global, handle: &mut Handle) -> Figure
-    ensures value { (pool : CountedPool) → IsPool handle.old.value pool
+pub extern "C" fn bb_pool_max_alignment(alloc: Global, handle: &mut PoolHandle) -> Figure
+    ensures value { (pool : CountedPool) → handle.old.value ≡ Some pool
         → result ≡ figure_of pool.pool.geometry.bucket.align }
-    ensures not_made { IsNoPool handle.old.value → result ≡ no_figure not_made }
+    ensures not_made { handle.old.value ≡ None → result ≡ no_figure not_made }
     ensures kept { handle.new.value ≡ handle.old.value }
 {
-    let Some(made) = handle.take(alloc) else {
+    let Some(pool) = handle.take(alloc) else {
         return Figure::refusal(code::NOT_MADE);
     };
-    let figure = match &*made {
-        Made::Pool(pool) => Figure::of(pool.max_alignment()),
-        _ => Figure::refusal(code::NOT_MADE),
-    };
-    handle.put(made);
+    let figure = Figure::of(pool.max_alignment());
+    handle.put(pool);
     figure
 }
 
@@ -243,20 +236,17 @@ pub extern "C" fn bb_pool_max_alignment(alloc: Global, handle: &mut Handle) -> F
 ///
 /// C guarantees of the handle what the crate's page says.
 #[unsafe(no_mangle)]
-pub extern "C" fn bb_pool_size(alloc: Global, handle: &mut Handle) -> Figure
-    ensures value { (pool : CountedPool) → IsPool handle.old.value pool
+pub extern "C" fn bb_pool_size(alloc: Global, handle: &mut PoolHandle) -> Figure
+    ensures value { (pool : CountedPool) → handle.old.value ≡ Some pool
         → result ≡ figure_of pool.pool.geometry.region.size }
-    ensures not_made { IsNoPool handle.old.value → result ≡ no_figure not_made }
+    ensures not_made { handle.old.value ≡ None → result ≡ no_figure not_made }
     ensures kept { handle.new.value ≡ handle.old.value }
 {
-    let Some(made) = handle.take(alloc) else {
+    let Some(pool) = handle.take(alloc) else {
         return Figure::refusal(code::NOT_MADE);
     };
-    let figure = match &*made {
-        Made::Pool(pool) => Figure::of(pool.size()),
-        _ => Figure::refusal(code::NOT_MADE),
-    };
-    handle.put(made);
+    let figure = Figure::of(pool.size());
+    handle.put(pool);
     figure
 }
 
@@ -264,20 +254,17 @@ pub extern "C" fn bb_pool_size(alloc: Global, handle: &mut Handle) -> Figure
 ///
 /// C guarantees of the handle what the crate's page says.
 #[unsafe(no_mangle)]
-pub extern "C" fn bb_pool_start_address(alloc: Global, handle: &mut Handle) -> Figure
-    ensures value { (pool : CountedPool) → IsPool handle.old.value pool
+pub extern "C" fn bb_pool_start_address(alloc: Global, handle: &mut PoolHandle) -> Figure
+    ensures value { (pool : CountedPool) → handle.old.value ≡ Some pool
         → result ≡ figure_of (first_place pool.pool.geometry.region pool.pool.geometry.bucket) }
-    ensures not_made { IsNoPool handle.old.value → result ≡ no_figure not_made }
+    ensures not_made { handle.old.value ≡ None → result ≡ no_figure not_made }
     ensures kept { handle.new.value ≡ handle.old.value }
 {
-    let Some(made) = handle.take(alloc) else {
+    let Some(pool) = handle.take(alloc) else {
         return Figure::refusal(code::NOT_MADE);
     };
-    let figure = match &*made {
-        Made::Pool(pool) => Figure::of(pool.start_address()),
-        _ => Figure::refusal(code::NOT_MADE),
-    };
-    handle.put(made);
+    let figure = Figure::of(pool.start_address());
+    handle.put(pool);
     figure
 }
 
@@ -307,33 +294,30 @@ fn grow(pool: &mut PoolAllocator<Global>, place: usize, layouts: Option<(Layout,
 #[unsafe(no_mangle)]
 pub extern "C" fn bb_pool_grow(
     alloc: Global,
-    handle: &mut Handle,
+    handle: &mut PoolHandle,
     place: usize,
     old_size: usize,
     old_align: usize,
     new_size: usize,
     new_align: usize,
 ) -> Answer
-    ensures answer { (pool : CountedPool) (old new : Asked) → IsPool handle.old.value pool
+    ensures answer { (pool : CountedPool) (old new : Asked) → handle.old.value ≡ Some pool
         → IsOf old_size old_align old → IsOf new_size new_align new
         → TellsGrow (HoldsPlace pool.pool place) place old
         (MayGrow pool.pool.geometry.bucket place old new)
         result }
-    ensures not_a_layout { (pool : CountedPool) → IsPool handle.old.value pool
+    ensures not_a_layout { (pool : CountedPool) → handle.old.value ≡ Some pool
         → ¬ (IsLayout old_size old_align × IsLayout new_size new_align)
         → result ≡ refused not_a_layout }
-    ensures not_made { IsNoPool handle.old.value → result ≡ refused not_made }
+    ensures not_made { handle.old.value ≡ None → result ≡ refused not_made }
     ensures kept { handle.new.value ≡ handle.old.value }
 {
     let layouts = layouts_of(old_size, old_align, new_size, new_align);
-    let Some(mut made) = handle.take(alloc) else {
+    let Some(mut pool) = handle.take(alloc) else {
         return Answer::refusal(code::NOT_MADE);
     };
-    let answer = match &mut *made {
-        Made::Pool(pool) => grow(pool, place, layouts),
-        _ => Answer::refusal(code::NOT_MADE),
-    };
-    handle.put(made);
+    let answer = grow(&mut pool, place, layouts);
+    handle.put(pool);
     answer
 }
 
@@ -368,32 +352,29 @@ fn shrink(
 #[unsafe(no_mangle)]
 pub extern "C" fn bb_pool_shrink(
     alloc: Global,
-    handle: &mut Handle,
+    handle: &mut PoolHandle,
     place: usize,
     old_size: usize,
     old_align: usize,
     new_size: usize,
     new_align: usize,
 ) -> Answer
-    ensures answer { (pool : CountedPool) (old new : Asked) → IsPool handle.old.value pool
+    ensures answer { (pool : CountedPool) (old new : Asked) → handle.old.value ≡ Some pool
         → IsOf old_size old_align old → IsOf new_size new_align new
         → TellsShrink (HoldsPlace pool.pool place) place (pool.pool.geometry.bucket.size) old
         (MayShrink pool.pool.geometry.bucket place old new) result }
-    ensures not_a_layout { (pool : CountedPool) → IsPool handle.old.value pool
+    ensures not_a_layout { (pool : CountedPool) → handle.old.value ≡ Some pool
         → ¬ (IsLayout old_size old_align × IsLayout new_size new_align)
         → result ≡ refused not_a_layout }
-    ensures not_made { IsNoPool handle.old.value → result ≡ refused not_made }
+    ensures not_made { handle.old.value ≡ None → result ≡ refused not_made }
     ensures kept { handle.new.value ≡ handle.old.value }
 {
     let layouts = layouts_of(old_size, old_align, new_size, new_align);
-    let Some(mut made) = handle.take(alloc) else {
+    let Some(mut pool) = handle.take(alloc) else {
         return Answer::refusal(code::NOT_MADE);
     };
-    let answer = match &mut *made {
-        Made::Pool(pool) => shrink(pool, place, layouts),
-        _ => Answer::refusal(code::NOT_MADE),
-    };
-    handle.put(made);
+    let answer = shrink(&mut pool, place, layouts);
+    handle.put(pool);
     answer
 }
 
@@ -413,22 +394,19 @@ fn reserved(pool: &PoolAllocator<Global>, place: usize) -> Figure
 ///
 /// C guarantees of the handle what the crate's page says.
 #[unsafe(no_mangle)]
-pub extern "C" fn bb_pool_reserved(alloc: Global, handle: &mut Handle, place: usize) -> Figure
-    ensures value { (pool : CountedPool) → IsPool handle.old.value pool → HoldsPlace pool.pool place
+pub extern "C" fn bb_pool_reserved(alloc: Global, handle: &mut PoolHandle, place: usize) -> Figure
+    ensures value { (pool : CountedPool) → handle.old.value ≡ Some pool → HoldsPlace pool.pool place
         → result ≡ figure_of (pool.pool.geometry.bucket.size) }
-    ensures not_held { (pool : CountedPool) → IsPool handle.old.value pool
+    ensures not_held { (pool : CountedPool) → handle.old.value ≡ Some pool
         → ¬ (HoldsPlace pool.pool place)
         → result ≡ no_figure not_held }
-    ensures not_made { IsNoPool handle.old.value → result ≡ no_figure not_made }
+    ensures not_made { handle.old.value ≡ None → result ≡ no_figure not_made }
     ensures kept { handle.new.value ≡ handle.old.value }
 {
-    let Some(made) = handle.take(alloc) else {
+    let Some(pool) = handle.take(alloc) else {
         return Figure::refusal(code::NOT_MADE);
     };
-    let figure = match &*made {
-        Made::Pool(pool) => reserved(pool, place),
-        _ => Figure::refusal(code::NOT_MADE),
-    };
-    handle.put(made);
+    let figure = reserved(&pool, place);
+    handle.put(pool);
     figure
 }

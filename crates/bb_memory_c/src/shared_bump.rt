@@ -8,37 +8,25 @@ ghost use Rattle.bb_memory_c.specs.Answers.{figure_of, no_figure, refused};
 ghost use Rattle.bb_memory_c.specs.Codes.{already_made, cannot_make, done, no_seat, not_a_layout, not_made, out_of_memory};
 ghost use Rattle.bb_memory_c.specs.Layouts.{IsOf};
 ghost use Rattle.bb_memory_c.specs.SharedBumps.{BumpSeats as Seats};
-ghost use Rattle.bb_memory_c.specs.SharedBumpHandles.{AnswersSeat, IsBumpSeat, IsNoBumpSeat, IsNoSharedBump, IsShareable};
-ghost use Rattle.bb_memory_c.specs.SharedBumpHandles.{IsSharedBump, MakesSharedBump, SeatsOne, Tells, TellsFree, TellsUsed};
+ghost use Rattle.bb_memory_c.specs.SharedBumpHandles.{AnswersSeat, IsShareable};
+ghost use Rattle.bb_memory_c.specs.SharedBumpHandles.{MakesSharedBump, SeatsOne, Tells, TellsFree, TellsUsed};
 
 use crate::answer::{Answer, Figure};
 use crate::bump_seat::{BumpSeat, BumpSeats};
 use crate::code;
-use crate::handle::Handle;
+use crate::handle::{BumpSeatHandle, SharedBumpHandle, free};
 use crate::layout::layout_of;
-use crate::made::Made;
 use bb_memory::bump_allocator::BumpAllocator;
 use bb_memory::layout::Layout;
-use bb_memory::shared_bump::BumpParty;
 use std::alloc::Global;
 use std::sync::Arc;
 
-/// The party of a seat.
-fn party_of(made: Made) -> Option<BumpParty>
-    ensures { (party : Party) → IsBumpSeat (Some made) party → result ≡ Some party }
-{
-    match made {
-        Made::BumpSeat(seat) => Some(seat.into_party()),
-        _other => None,
-    }
-}
-
 /// A seat for the last party that has none, in memory of its own.
-fn next_seat(seats: &mut BumpSeats, alloc: Global) -> Result<Box<Made>, u32>
+fn next_seat(seats: &mut BumpSeats, alloc: Global) -> Result<Box<BumpSeat>, u32>
     ensures seated { IfOk result (λ seat. seats.old.left ≡ seats.new.left + 1) }
     ensures bump { seats.new.bump ≡ seats.old.bump }
     ensures party { IfOk result (λ seat.
-        IsBumpSeat (Some seat.value) (fresh_party seats.old.bump seats.new.left)) }
+        seat.value ≡ fresh_party seats.old.bump seats.new.left) }
     ensures no_seat { (result ≡ Err no_seat) ↔ (seats.old.left ≡ 0) }
     ensures refused { IfErr result (λ code. code ≢ no_seat → code ≡ out_of_memory) }
     ensures kept { OnErr result (seats.new ≡ seats.old) }
@@ -52,12 +40,11 @@ fn next_seat(seats: &mut BumpSeats, alloc: Global) -> Result<Box<Made>, u32>
     let Some(party) = seats.parties.pop() else {
         return Err(code::NO_SEAT);
     };
-    match Box::new(alloc, Made::BumpSeat(BumpSeat { bump, party })) {
+    match Box::new(alloc, BumpSeat { bump, party }) {
         Ok(seat) => Ok(seat),
         Err(refused) => {
-            if let Some(party) = party_of(refused.value) {
-                seats.parties.push_reserved(party);
-            }
+            let party = refused.value.into_party();
+            seats.parties.push_reserved(party);
             Err(code::OUT_OF_MEMORY)
         }
     }
@@ -70,7 +57,7 @@ fn next_seat(seats: &mut BumpSeats, alloc: Global) -> Result<Box<Made>, u32>
 #[unsafe(no_mangle)]
 pub extern "C" fn bb_shared_bump_make(
     alloc: Global,
-    handle: &mut Handle,
+    handle: &mut SharedBumpHandle,
     start: usize,
     size: usize,
     parties: u32,
@@ -94,24 +81,41 @@ pub extern "C" fn bb_shared_bump_make(
     let Some(seats) = BumpSeats::new(alloc, start, size, parties) else {
         return code::OUT_OF_MEMORY;
     };
-    let Ok(made) = Box::new(alloc, Made::SharedBump(seats)) else {
+    let Ok(made) = Box::new(alloc, seats) else {
         return code::OUT_OF_MEMORY;
     };
     handle.put(made);
     code::DONE
 }
 
+/// Frees the handle of a shared bump, which is empty then. The bump stays as long as a seat at it does. The
+/// answer is 0, or `BB_NOT_MADE` where the handle was empty already.
+///
+/// C guarantees of the handle what the crate's page says.
+#[unsafe(no_mangle)]
+pub extern "C" fn bb_shared_bump_free(alloc: Global, handle: &mut SharedBumpHandle) -> u32
+    ensures freed { handle.old.value ≢ None → result ≡ done }
+    ensures not_made { handle.old.value ≡ None → result ≡ not_made }
+    ensures empty { handle.new.value ≡ None }
+{
+    free(handle.take(alloc))
+}
+
 /// Gives a seat to the last party that has none, behind a handle that has to be empty.
 ///
 /// C guarantees of both handles what the crate's page says, and that they are two.
 #[unsafe(no_mangle)]
-pub extern "C" fn bb_shared_bump_seat(alloc: Global, handle: &mut Handle, seat: &mut Handle) -> u32
-    ensures seated { (seats : Seats) → IsSharedBump handle.old.value seats → result ≡ done
+pub extern "C" fn bb_shared_bump_seat(
+    alloc: Global,
+    handle: &mut SharedBumpHandle,
+    seat: &mut BumpSeatHandle,
+) -> u32
+    ensures seated { (seats : Seats) → handle.old.value ≡ Some seats → result ≡ done
         → SeatsOne seats handle.new.value seat.new.value }
     ensures already_made { (result ≡ already_made) ↔ (seat.old.value ≢ None) }
     ensures not_made { (result ≡ not_made)
-        ↔ ((seat.old.value ≡ None) × IsNoSharedBump handle.old.value) }
-    ensures no_seat { (seats : Seats) → IsSharedBump handle.old.value seats
+        ↔ ((seat.old.value ≡ None) × (handle.old.value ≡ None)) }
+    ensures no_seat { (seats : Seats) → handle.old.value ≡ Some seats
         → ((result ≡ no_seat) ↔ ((seat.old.value ≡ None) × (seats.left ≡ 0))) }
     ensures else_memory { result ≢ done → result ≢ already_made → result ≢ not_made
         → result ≢ no_seat → result ≡ out_of_memory }
@@ -122,14 +126,11 @@ pub extern "C" fn bb_shared_bump_seat(alloc: Global, handle: &mut Handle, seat: 
         seat.put(made);
         return code::ALREADY_MADE;
     }
-    let Some(mut made) = handle.take(alloc) else {
+    let Some(mut seats) = handle.take(alloc) else {
         return code::NOT_MADE;
     };
-    let next = match &mut *made {
-        Made::SharedBump(seats) => next_seat(seats, alloc),
-        _ => Err(code::NOT_MADE),
-    };
-    handle.put(made);
+    let next = next_seat(&mut seats, alloc);
+    handle.put(seats);
     match next {
         Ok(next) => {
             seat.put(next);
@@ -137,6 +138,19 @@ pub extern "C" fn bb_shared_bump_seat(alloc: Global, handle: &mut Handle, seat: 
         }
         Err(code) => code,
     }
+}
+
+/// Frees the seat, whose handle is empty then. Its party gets no other. The answer is 0, or `BB_NOT_MADE` where it
+/// was empty already.
+///
+/// C guarantees of the handle what the crate's page says.
+#[unsafe(no_mangle)]
+pub extern "C" fn bb_bump_seat_free(alloc: Global, handle: &mut BumpSeatHandle) -> u32
+    ensures freed { handle.old.value ≢ None → result ≡ done }
+    ensures not_made { handle.old.value ≡ None → result ≡ not_made }
+    ensures empty { handle.new.value ≡ None }
+{
+    free(handle.take(alloc))
 }
 
 /// What the party of a seat is told of its request for so many bytes at a multiple of `align`.
@@ -165,26 +179,23 @@ fn give(seat: &mut BumpSeat, layout: Layout) -> Answer
 #[unsafe(no_mangle)]
 pub extern "C" fn bb_shared_bump_allocate(
     alloc: Global,
-    handle: &mut Handle,
+    handle: &mut BumpSeatHandle,
     size: usize,
     align: usize,
 ) -> Answer
-    ensures answer { (party : Party) (layout : Asked) → IsBumpSeat handle.old.value party
+    ensures answer { (party : Party) (layout : Asked) → handle.old.value ≡ Some party
         → IsOf size align layout → AnswersSeat party layout result handle.new.value }
-    ensures not_a_layout { (party : Party) → IsBumpSeat handle.old.value party
+    ensures not_a_layout { (party : Party) → handle.old.value ≡ Some party
         → ¬ IsLayout size align
         → (result ≡ refused not_a_layout) × (handle.new.value ≡ handle.old.value) }
-    ensures not_made { IsNoBumpSeat handle.old.value
+    ensures not_made { handle.old.value ≡ None
         → (result ≡ refused not_made) × (handle.new.value ≡ handle.old.value) }
 {
-    let Some(mut made) = handle.take(alloc) else {
+    let Some(mut seat) = handle.take(alloc) else {
         return Answer::refusal(code::NOT_MADE);
     };
-    let answer = match &mut *made {
-        Made::BumpSeat(seat) => request(seat, size, align),
-        _ => Answer::refusal(code::NOT_MADE),
-    };
-    handle.put(made);
+    let answer = request(&mut seat, size, align);
+    handle.put(seat);
     answer
 }
 
@@ -193,20 +204,18 @@ pub extern "C" fn bb_shared_bump_allocate(
 ///
 /// C guarantees of the handle what the crate's page says.
 #[unsafe(no_mangle)]
-pub extern "C" fn bb_shared_bump_used_space(alloc: Global, handle: &mut Handle) -> Figure
-    ensures value { (party : Party) → IsBumpSeat handle.old.value party
+pub extern "C" fn bb_shared_bump_used_space(alloc: Global, handle: &mut BumpSeatHandle) -> Figure
+    ensures value { (party : Party) → handle.old.value ≡ Some party
         → TellsUsed party result handle.new.value }
-    ensures not_made { IsNoBumpSeat handle.old.value
+    ensures not_made { handle.old.value ≡ None
         → (result ≡ no_figure not_made) × (handle.new.value ≡ handle.old.value) }
 {
-    let Some(mut made) = handle.take(alloc) else {
+    let Some(mut taken) = handle.take(alloc) else {
         return Figure::refusal(code::NOT_MADE);
     };
-    let figure = match &mut *made {
-        Made::BumpSeat(seat) => Figure::of(seat.bump.used_space(&mut seat.party)),
-        _ => Figure::refusal(code::NOT_MADE),
-    };
-    handle.put(made);
+    let seat = &mut *taken;
+    let figure = Figure::of(seat.bump.used_space(&mut seat.party));
+    handle.put(taken);
     figure
 }
 
@@ -214,20 +223,18 @@ pub extern "C" fn bb_shared_bump_used_space(alloc: Global, handle: &mut Handle) 
 ///
 /// C guarantees of the handle what the crate's page says.
 #[unsafe(no_mangle)]
-pub extern "C" fn bb_shared_bump_free_space(alloc: Global, handle: &mut Handle) -> Figure
-    ensures value { (party : Party) → IsBumpSeat handle.old.value party
+pub extern "C" fn bb_shared_bump_free_space(alloc: Global, handle: &mut BumpSeatHandle) -> Figure
+    ensures value { (party : Party) → handle.old.value ≡ Some party
         → TellsFree party result handle.new.value }
-    ensures not_made { IsNoBumpSeat handle.old.value
+    ensures not_made { handle.old.value ≡ None
         → (result ≡ no_figure not_made) × (handle.new.value ≡ handle.old.value) }
 {
-    let Some(mut made) = handle.take(alloc) else {
+    let Some(mut taken) = handle.take(alloc) else {
         return Figure::refusal(code::NOT_MADE);
     };
-    let figure = match &mut *made {
-        Made::BumpSeat(seat) => Figure::of(seat.bump.free_space(&mut seat.party)),
-        _ => Figure::refusal(code::NOT_MADE),
-    };
-    handle.put(made);
+    let seat = &mut *taken;
+    let figure = Figure::of(seat.bump.free_space(&mut seat.party));
+    handle.put(taken);
     figure
 }
 
@@ -235,20 +242,17 @@ pub extern "C" fn bb_shared_bump_free_space(alloc: Global, handle: &mut Handle) 
 ///
 /// C guarantees of the handle what the crate's page says.
 #[unsafe(no_mangle)]
-pub extern "C" fn bb_shared_bump_party(alloc: Global, handle: &mut Handle) -> Figure
-    ensures value { (party : Party) → IsBumpSeat handle.old.value party
+pub extern "C" fn bb_shared_bump_party(alloc: Global, handle: &mut BumpSeatHandle) -> Figure
+    ensures value { (party : Party) → handle.old.value ≡ Some party
         → result ≡ figure_of party.number }
-    ensures not_made { IsNoBumpSeat handle.old.value → result ≡ no_figure not_made }
+    ensures not_made { handle.old.value ≡ None → result ≡ no_figure not_made }
     ensures kept { handle.new.value ≡ handle.old.value }
 {
-    let Some(made) = handle.take(alloc) else {
+    let Some(seat) = handle.take(alloc) else {
         return Figure::refusal(code::NOT_MADE);
     };
-    let figure = match &*made {
-        Made::BumpSeat(seat) => Figure::of(seat.party.number() as usize),
-        _ => Figure::refusal(code::NOT_MADE),
-    };
-    handle.put(made);
+    let figure = Figure::of(seat.party.number() as usize);
+    handle.put(seat);
     figure
 }
 
@@ -256,20 +260,17 @@ pub extern "C" fn bb_shared_bump_party(alloc: Global, handle: &mut Handle) -> Fi
 ///
 /// C guarantees of the handle what the crate's page says.
 #[unsafe(no_mangle)]
-pub extern "C" fn bb_shared_bump_total_space(alloc: Global, handle: &mut Handle) -> Figure
-    ensures value { (party : Party) → IsBumpSeat handle.old.value party
+pub extern "C" fn bb_shared_bump_total_space(alloc: Global, handle: &mut BumpSeatHandle) -> Figure
+    ensures value { (party : Party) → handle.old.value ≡ Some party
         → result ≡ figure_of party.allocator.scene.region.size }
-    ensures not_made { IsNoBumpSeat handle.old.value → result ≡ no_figure not_made }
+    ensures not_made { handle.old.value ≡ None → result ≡ no_figure not_made }
     ensures kept { handle.new.value ≡ handle.old.value }
 {
-    let Some(made) = handle.take(alloc) else {
+    let Some(seat) = handle.take(alloc) else {
         return Figure::refusal(code::NOT_MADE);
     };
-    let figure = match &*made {
-        Made::BumpSeat(seat) => Figure::of(seat.bump().total_space()),
-        _ => Figure::refusal(code::NOT_MADE),
-    };
-    handle.put(made);
+    let figure = Figure::of(seat.bump().total_space());
+    handle.put(seat);
     figure
 }
 
@@ -277,19 +278,16 @@ pub extern "C" fn bb_shared_bump_total_space(alloc: Global, handle: &mut Handle)
 ///
 /// C guarantees of the handle what the crate's page says.
 #[unsafe(no_mangle)]
-pub extern "C" fn bb_shared_bump_start_address(alloc: Global, handle: &mut Handle) -> Figure
-    ensures value { (party : Party) → IsBumpSeat handle.old.value party
+pub extern "C" fn bb_shared_bump_start_address(alloc: Global, handle: &mut BumpSeatHandle) -> Figure
+    ensures value { (party : Party) → handle.old.value ≡ Some party
         → result ≡ figure_of party.allocator.scene.region.start }
-    ensures not_made { IsNoBumpSeat handle.old.value → result ≡ no_figure not_made }
+    ensures not_made { handle.old.value ≡ None → result ≡ no_figure not_made }
     ensures kept { handle.new.value ≡ handle.old.value }
 {
-    let Some(made) = handle.take(alloc) else {
+    let Some(seat) = handle.take(alloc) else {
         return Figure::refusal(code::NOT_MADE);
     };
-    let figure = match &*made {
-        Made::BumpSeat(seat) => Figure::of(seat.bump().start_address()),
-        _ => Figure::refusal(code::NOT_MADE),
-    };
-    handle.put(made);
+    let figure = Figure::of(seat.bump().start_address());
+    handle.put(seat);
     figure
 }

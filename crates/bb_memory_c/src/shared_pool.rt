@@ -11,36 +11,24 @@ ghost use Rattle.bb_memory_c.specs.Codes.{already_made, cannot_make, done, no_se
 ghost use Rattle.bb_memory_c.specs.Codes.{out_of_memory};
 ghost use Rattle.bb_memory_c.specs.Layouts.{CannotShare, IsCuttable, IsOf};
 ghost use Rattle.bb_memory_c.specs.SharedPools.{HoldsPlace, PoolSeats as Seats};
-ghost use Rattle.bb_memory_c.specs.SharedPoolHandles.{AnswersSeat, GivesBackSeat, IsNoPoolSeat, IsNoSharedPool, IsPoolSeat};
-ghost use Rattle.bb_memory_c.specs.SharedPoolHandles.{IsSharedPool, MakesSharedPool, SeatsOne, Tells};
+ghost use Rattle.bb_memory_c.specs.SharedPoolHandles.{AnswersSeat, GivesBackSeat};
+ghost use Rattle.bb_memory_c.specs.SharedPoolHandles.{MakesSharedPool, SeatsOne, Tells};
 
 use crate::answer::{Answer, Figure};
 use crate::code;
-use crate::handle::Handle;
+use crate::handle::{PoolSeatHandle, SharedPoolHandle, free};
 use crate::layout::{cut_into, layout_of, layouts_of};
-use crate::made::Made;
 use crate::pool_seat::{PoolSeat, PoolSeats};
 use bb_memory::layout::Layout;
-use bb_memory::shared_pool::PoolParty;
 use std::alloc::Global;
 use std::sync::Arc;
 
-/// The party of a seat.
-fn party_of(made: Made) -> Option<PoolParty>
-    ensures { (party : Party) → IsPoolSeat (Some made) party → result ≡ Some party }
-{
-    match made {
-        Made::PoolSeat(seat) => Some(seat.into_party()),
-        _other => None,
-    }
-}
-
 /// A seat for the last party that has none, in memory of its own.
-fn next_seat(seats: &mut PoolSeats, alloc: Global) -> Result<Box<Made>, u32>
+fn next_seat(seats: &mut PoolSeats, alloc: Global) -> Result<Box<PoolSeat>, u32>
     ensures seated { IfOk result (λ seat. seats.old.left ≡ seats.new.left + 1) }
     ensures pool { seats.new.pool ≡ seats.old.pool }
     ensures party { IfOk result (λ seat.
-        IsPoolSeat (Some seat.value) (fresh_party seats.old.pool seats.new.left)) }
+        seat.value ≡ fresh_party seats.old.pool seats.new.left) }
     ensures no_seat { (result ≡ Err no_seat) ↔ (seats.old.left ≡ 0) }
     ensures refused { IfErr result (λ code. code ≢ no_seat → code ≡ out_of_memory) }
     ensures kept { OnErr result (seats.new ≡ seats.old) }
@@ -57,12 +45,11 @@ fn next_seat(seats: &mut PoolSeats, alloc: Global) -> Result<Box<Made>, u32>
     let Some(party) = seats.parties.pop() else {
         return Err(code::NO_SEAT);
     };
-    match Box::new(alloc, Made::PoolSeat(PoolSeat { pool, party, held })) {
+    match Box::new(alloc, PoolSeat { pool, party, held }) {
         Ok(seat) => Ok(seat),
         Err(refused) => {
-            if let Some(party) = party_of(refused.value) {
-                seats.parties.push_reserved(party);
-            }
+            let party = refused.value.into_party();
+            seats.parties.push_reserved(party);
             Err(code::OUT_OF_MEMORY)
         }
     }
@@ -75,7 +62,7 @@ fn next_seat(seats: &mut PoolSeats, alloc: Global) -> Result<Box<Made>, u32>
 #[unsafe(no_mangle)]
 pub extern "C" fn bb_shared_pool_make(
     alloc: Global,
-    handle: &mut Handle,
+    handle: &mut SharedPoolHandle,
     bucket_size: usize,
     bucket_align: usize,
     start: usize,
@@ -108,24 +95,41 @@ pub extern "C" fn bb_shared_pool_make(
     let Some(seats) = PoolSeats::new(alloc, bucket, start, size, parties) else {
         return code::OUT_OF_MEMORY;
     };
-    let Ok(made) = Box::new(alloc, Made::SharedPool(seats)) else {
+    let Ok(made) = Box::new(alloc, seats) else {
         return code::OUT_OF_MEMORY;
     };
     handle.put(made);
     code::DONE
 }
 
+/// Frees the handle of a shared pool, which is empty then. The pool stays as long as a seat at it does. The
+/// answer is 0, or `BB_NOT_MADE` where the handle was empty already.
+///
+/// C guarantees of the handle what the crate's page says.
+#[unsafe(no_mangle)]
+pub extern "C" fn bb_shared_pool_free(alloc: Global, handle: &mut SharedPoolHandle) -> u32
+    ensures freed { handle.old.value ≢ None → result ≡ done }
+    ensures not_made { handle.old.value ≡ None → result ≡ not_made }
+    ensures empty { handle.new.value ≡ None }
+{
+    free(handle.take(alloc))
+}
+
 /// Gives a seat to the last party that has none, behind a handle that has to be empty.
 ///
 /// C guarantees of both handles what the crate's page says, and that they are two.
 #[unsafe(no_mangle)]
-pub extern "C" fn bb_shared_pool_seat(alloc: Global, handle: &mut Handle, seat: &mut Handle) -> u32
-    ensures seated { (seats : Seats) → IsSharedPool handle.old.value seats → result ≡ done
+pub extern "C" fn bb_shared_pool_seat(
+    alloc: Global,
+    handle: &mut SharedPoolHandle,
+    seat: &mut PoolSeatHandle,
+) -> u32
+    ensures seated { (seats : Seats) → handle.old.value ≡ Some seats → result ≡ done
         → SeatsOne seats handle.new.value seat.new.value }
     ensures already_made { (result ≡ already_made) ↔ (seat.old.value ≢ None) }
     ensures not_made { (result ≡ not_made)
-        ↔ ((seat.old.value ≡ None) × IsNoSharedPool handle.old.value) }
-    ensures no_seat { (seats : Seats) → IsSharedPool handle.old.value seats
+        ↔ ((seat.old.value ≡ None) × (handle.old.value ≡ None)) }
+    ensures no_seat { (seats : Seats) → handle.old.value ≡ Some seats
         → ((result ≡ no_seat) ↔ ((seat.old.value ≡ None) × (seats.left ≡ 0))) }
     ensures else_memory { result ≢ done → result ≢ already_made → result ≢ not_made
         → result ≢ no_seat → result ≡ out_of_memory }
@@ -136,14 +140,11 @@ pub extern "C" fn bb_shared_pool_seat(alloc: Global, handle: &mut Handle, seat: 
         seat.put(made);
         return code::ALREADY_MADE;
     }
-    let Some(mut made) = handle.take(alloc) else {
+    let Some(mut seats) = handle.take(alloc) else {
         return code::NOT_MADE;
     };
-    let next = match &mut *made {
-        Made::SharedPool(seats) => next_seat(seats, alloc),
-        _ => Err(code::NOT_MADE),
-    };
-    handle.put(made);
+    let next = next_seat(&mut seats, alloc);
+    handle.put(seats);
     match next {
         Ok(next) => {
             seat.put(next);
@@ -151,6 +152,19 @@ pub extern "C" fn bb_shared_pool_seat(alloc: Global, handle: &mut Handle, seat: 
         }
         Err(code) => code,
     }
+}
+
+/// Frees the seat, whose handle is empty then. Its party gets no other. The answer is 0, or `BB_NOT_MADE` where it
+/// was empty already.
+///
+/// C guarantees of the handle what the crate's page says.
+#[unsafe(no_mangle)]
+pub extern "C" fn bb_pool_seat_free(alloc: Global, handle: &mut PoolSeatHandle) -> u32
+    ensures freed { handle.old.value ≢ None → result ≡ done }
+    ensures not_made { handle.old.value ≡ None → result ≡ not_made }
+    ensures empty { handle.new.value ≡ None }
+{
+    free(handle.take(alloc))
 }
 
 /// What the party of a seat is told of its request for so many bytes at a multiple of `align`.
@@ -179,26 +193,23 @@ fn give(seat: &mut PoolSeat, layout: Layout) -> Answer
 #[unsafe(no_mangle)]
 pub extern "C" fn bb_shared_pool_allocate(
     alloc: Global,
-    handle: &mut Handle,
+    handle: &mut PoolSeatHandle,
     size: usize,
     align: usize,
 ) -> Answer
-    ensures answer { (party : Party) (layout : Asked) → IsPoolSeat handle.old.value party
+    ensures answer { (party : Party) (layout : Asked) → handle.old.value ≡ Some party
         → IsOf size align layout → AnswersSeat party layout result handle.new.value }
-    ensures not_a_layout { (party : Party) → IsPoolSeat handle.old.value party
+    ensures not_a_layout { (party : Party) → handle.old.value ≡ Some party
         → ¬ IsLayout size align
         → (result ≡ refused not_a_layout) × (handle.new.value ≡ handle.old.value) }
-    ensures not_made { IsNoPoolSeat handle.old.value
+    ensures not_made { handle.old.value ≡ None
         → (result ≡ refused not_made) × (handle.new.value ≡ handle.old.value) }
 {
-    let Some(mut made) = handle.take(alloc) else {
+    let Some(mut seat) = handle.take(alloc) else {
         return Answer::refusal(code::NOT_MADE);
     };
-    let answer = match &mut *made {
-        Made::PoolSeat(seat) => request(seat, size, align),
-        _ => Answer::refusal(code::NOT_MADE),
-    };
-    handle.put(made);
+    let answer = request(&mut seat, size, align);
+    handle.put(seat);
     answer
 }
 
@@ -208,23 +219,24 @@ pub extern "C" fn bb_shared_pool_allocate(
 ///
 /// C guarantees of the handle what the crate's page says.
 #[unsafe(no_mangle)]
-pub extern "C" fn bb_shared_pool_deallocate(alloc: Global, handle: &mut Handle, place: usize) -> u32
-    ensures freed { (party : Party) → IsPoolSeat handle.old.value party → HoldsPlace party place
+pub extern "C" fn bb_shared_pool_deallocate(
+    alloc: Global,
+    handle: &mut PoolSeatHandle,
+    place: usize,
+) -> u32
+    ensures freed { (party : Party) → handle.old.value ≡ Some party → HoldsPlace party place
         → (result ≡ done) × GivesBackSeat party place handle.new.value }
-    ensures not_held { (party : Party) → IsPoolSeat handle.old.value party
+    ensures not_held { (party : Party) → handle.old.value ≡ Some party
         → ¬ HoldsPlace party place
         → (result ≡ not_held) × (handle.new.value ≡ handle.old.value) }
-    ensures not_made { IsNoPoolSeat handle.old.value
+    ensures not_made { handle.old.value ≡ None
         → (result ≡ not_made) × (handle.new.value ≡ handle.old.value) }
 {
-    let Some(mut made) = handle.take(alloc) else {
+    let Some(mut seat) = handle.take(alloc) else {
         return code::NOT_MADE;
     };
-    let code = match &mut *made {
-        Made::PoolSeat(seat) => seat.give_back(place),
-        _ => code::NOT_MADE,
-    };
-    handle.put(made);
+    let code = seat.give_back(place);
+    handle.put(seat);
     code
 }
 
@@ -232,22 +244,23 @@ pub extern "C" fn bb_shared_pool_deallocate(alloc: Global, handle: &mut Handle, 
 ///
 /// C guarantees of the handle what the crate's page says.
 #[unsafe(no_mangle)]
-pub extern "C" fn bb_shared_pool_holds(alloc: Global, handle: &mut Handle, place: usize) -> Figure
-    ensures held { (party : Party) → IsPoolSeat handle.old.value party → HoldsPlace party place
+pub extern "C" fn bb_shared_pool_holds(
+    alloc: Global,
+    handle: &mut PoolSeatHandle,
+    place: usize,
+) -> Figure
+    ensures held { (party : Party) → handle.old.value ≡ Some party → HoldsPlace party place
         → result ≡ figure_of 1 }
-    ensures not_held { (party : Party) → IsPoolSeat handle.old.value party
+    ensures not_held { (party : Party) → handle.old.value ≡ Some party
         → ¬ HoldsPlace party place → result ≡ figure_of 0 }
-    ensures not_made { IsNoPoolSeat handle.old.value → result ≡ no_figure not_made }
+    ensures not_made { handle.old.value ≡ None → result ≡ no_figure not_made }
     ensures kept { handle.new.value ≡ handle.old.value }
 {
-    let Some(made) = handle.take(alloc) else {
+    let Some(seat) = handle.take(alloc) else {
         return Figure::refusal(code::NOT_MADE);
     };
-    let figure = match &*made {
-        Made::PoolSeat(seat) => Figure::of(if seat.holds(place) { 1 } else { 0 }),
-        _ => Figure::refusal(code::NOT_MADE),
-    };
-    handle.put(made);
+    let figure = Figure::of(if seat.holds(place) { 1 } else { 0 });
+    handle.put(seat);
     figure
 }
 
@@ -255,20 +268,17 @@ pub extern "C" fn bb_shared_pool_holds(alloc: Global, handle: &mut Handle, place
 ///
 /// C guarantees of the handle what the crate's page says.
 #[unsafe(no_mangle)]
-pub extern "C" fn bb_shared_pool_party(alloc: Global, handle: &mut Handle) -> Figure
-    ensures value { (party : Party) → IsPoolSeat handle.old.value party
+pub extern "C" fn bb_shared_pool_party(alloc: Global, handle: &mut PoolSeatHandle) -> Figure
+    ensures value { (party : Party) → handle.old.value ≡ Some party
         → result ≡ figure_of party.number }
-    ensures not_made { IsNoPoolSeat handle.old.value → result ≡ no_figure not_made }
+    ensures not_made { handle.old.value ≡ None → result ≡ no_figure not_made }
     ensures kept { handle.new.value ≡ handle.old.value }
 {
-    let Some(made) = handle.take(alloc) else {
+    let Some(seat) = handle.take(alloc) else {
         return Figure::refusal(code::NOT_MADE);
     };
-    let figure = match &*made {
-        Made::PoolSeat(seat) => Figure::of(seat.number() as usize),
-        _ => Figure::refusal(code::NOT_MADE),
-    };
-    handle.put(made);
+    let figure = Figure::of(seat.number() as usize);
+    handle.put(seat);
     figure
 }
 
@@ -276,20 +286,20 @@ pub extern "C" fn bb_shared_pool_party(alloc: Global, handle: &mut Handle) -> Fi
 ///
 /// C guarantees of the handle what the crate's page says.
 #[unsafe(no_mangle)]
-pub extern "C" fn bb_shared_pool_number_of_buckets(alloc: Global, handle: &mut Handle) -> Figure
-    ensures value { (party : Party) → IsPoolSeat handle.old.value party
+pub extern "C" fn bb_shared_pool_number_of_buckets(
+    alloc: Global,
+    handle: &mut PoolSeatHandle,
+) -> Figure
+    ensures value { (party : Party) → handle.old.value ≡ Some party
         → result ≡ figure_of party.allocator.scene.geometry.buckets }
-    ensures not_made { IsNoPoolSeat handle.old.value → result ≡ no_figure not_made }
+    ensures not_made { handle.old.value ≡ None → result ≡ no_figure not_made }
     ensures kept { handle.new.value ≡ handle.old.value }
 {
-    let Some(made) = handle.take(alloc) else {
+    let Some(seat) = handle.take(alloc) else {
         return Figure::refusal(code::NOT_MADE);
     };
-    let figure = match &*made {
-        Made::PoolSeat(seat) => Figure::of(seat.pool().number_of_buckets() as usize),
-        _ => Figure::refusal(code::NOT_MADE),
-    };
-    handle.put(made);
+    let figure = Figure::of(seat.pool().number_of_buckets() as usize);
+    handle.put(seat);
     figure
 }
 
@@ -297,20 +307,17 @@ pub extern "C" fn bb_shared_pool_number_of_buckets(alloc: Global, handle: &mut H
 ///
 /// C guarantees of the handle what the crate's page says.
 #[unsafe(no_mangle)]
-pub extern "C" fn bb_shared_pool_bucket_size(alloc: Global, handle: &mut Handle) -> Figure
-    ensures value { (party : Party) → IsPoolSeat handle.old.value party
+pub extern "C" fn bb_shared_pool_bucket_size(alloc: Global, handle: &mut PoolSeatHandle) -> Figure
+    ensures value { (party : Party) → handle.old.value ≡ Some party
         → result ≡ figure_of party.allocator.scene.geometry.bucket.size }
-    ensures not_made { IsNoPoolSeat handle.old.value → result ≡ no_figure not_made }
+    ensures not_made { handle.old.value ≡ None → result ≡ no_figure not_made }
     ensures kept { handle.new.value ≡ handle.old.value }
 {
-    let Some(made) = handle.take(alloc) else {
+    let Some(seat) = handle.take(alloc) else {
         return Figure::refusal(code::NOT_MADE);
     };
-    let figure = match &*made {
-        Made::PoolSeat(seat) => Figure::of(seat.pool().bucket_size()),
-        _ => Figure::refusal(code::NOT_MADE),
-    };
-    handle.put(made);
+    let figure = Figure::of(seat.pool().bucket_size());
+    handle.put(seat);
     figure
 }
 
@@ -318,20 +325,17 @@ pub extern "C" fn bb_shared_pool_bucket_size(alloc: Global, handle: &mut Handle)
 ///
 /// C guarantees of the handle what the crate's page says.
 #[unsafe(no_mangle)]
-pub extern "C" fn bb_shared_pool_max_alignment(alloc: Global, handle: &mut Handle) -> Figure
-    ensures value { (party : Party) → IsPoolSeat handle.old.value party
+pub extern "C" fn bb_shared_pool_max_alignment(alloc: Global, handle: &mut PoolSeatHandle) -> Figure
+    ensures value { (party : Party) → handle.old.value ≡ Some party
         → result ≡ figure_of party.allocator.scene.geometry.bucket.align }
-    ensures not_made { IsNoPoolSeat handle.old.value → result ≡ no_figure not_made }
+    ensures not_made { handle.old.value ≡ None → result ≡ no_figure not_made }
     ensures kept { handle.new.value ≡ handle.old.value }
 {
-    let Some(made) = handle.take(alloc) else {
+    let Some(seat) = handle.take(alloc) else {
         return Figure::refusal(code::NOT_MADE);
     };
-    let figure = match &*made {
-        Made::PoolSeat(seat) => Figure::of(seat.pool().max_alignment()),
-        _ => Figure::refusal(code::NOT_MADE),
-    };
-    handle.put(made);
+    let figure = Figure::of(seat.pool().max_alignment());
+    handle.put(seat);
     figure
 }
 
@@ -339,20 +343,17 @@ pub extern "C" fn bb_shared_pool_max_alignment(alloc: Global, handle: &mut Handl
 ///
 /// C guarantees of the handle what the crate's page says.
 #[unsafe(no_mangle)]
-pub extern "C" fn bb_shared_pool_size(alloc: Global, handle: &mut Handle) -> Figure
-    ensures value { (party : Party) → IsPoolSeat handle.old.value party
+pub extern "C" fn bb_shared_pool_size(alloc: Global, handle: &mut PoolSeatHandle) -> Figure
+    ensures value { (party : Party) → handle.old.value ≡ Some party
         → result ≡ figure_of party.allocator.scene.geometry.region.size }
-    ensures not_made { IsNoPoolSeat handle.old.value → result ≡ no_figure not_made }
+    ensures not_made { handle.old.value ≡ None → result ≡ no_figure not_made }
     ensures kept { handle.new.value ≡ handle.old.value }
 {
-    let Some(made) = handle.take(alloc) else {
+    let Some(seat) = handle.take(alloc) else {
         return Figure::refusal(code::NOT_MADE);
     };
-    let figure = match &*made {
-        Made::PoolSeat(seat) => Figure::of(seat.pool().size()),
-        _ => Figure::refusal(code::NOT_MADE),
-    };
-    handle.put(made);
+    let figure = Figure::of(seat.pool().size());
+    handle.put(seat);
     figure
 }
 
@@ -360,21 +361,18 @@ pub extern "C" fn bb_shared_pool_size(alloc: Global, handle: &mut Handle) -> Fig
 ///
 /// C guarantees of the handle what the crate's page says.
 #[unsafe(no_mangle)]
-pub extern "C" fn bb_shared_pool_start_address(alloc: Global, handle: &mut Handle) -> Figure
-    ensures value { (party : Party) → IsPoolSeat handle.old.value party
+pub extern "C" fn bb_shared_pool_start_address(alloc: Global, handle: &mut PoolSeatHandle) -> Figure
+    ensures value { (party : Party) → handle.old.value ≡ Some party
         → result ≡ figure_of (first_place party.allocator.scene.geometry.region
         party.allocator.scene.geometry.bucket) }
-    ensures not_made { IsNoPoolSeat handle.old.value → result ≡ no_figure not_made }
+    ensures not_made { handle.old.value ≡ None → result ≡ no_figure not_made }
     ensures kept { handle.new.value ≡ handle.old.value }
 {
-    let Some(made) = handle.take(alloc) else {
+    let Some(seat) = handle.take(alloc) else {
         return Figure::refusal(code::NOT_MADE);
     };
-    let figure = match &*made {
-        Made::PoolSeat(seat) => Figure::of(seat.pool().start_address()),
-        _ => Figure::refusal(code::NOT_MADE),
-    };
-    handle.put(made);
+    let figure = Figure::of(seat.pool().start_address());
+    handle.put(seat);
     figure
 }
 
@@ -384,32 +382,29 @@ pub extern "C" fn bb_shared_pool_start_address(alloc: Global, handle: &mut Handl
 #[unsafe(no_mangle)]
 pub extern "C" fn bb_shared_pool_grow(
     alloc: Global,
-    handle: &mut Handle,
+    handle: &mut PoolSeatHandle,
     place: usize,
     old_size: usize,
     old_align: usize,
     new_size: usize,
     new_align: usize,
 ) -> Answer
-    ensures answer { (party : Party) (old new : Asked) → IsPoolSeat handle.old.value party
+    ensures answer { (party : Party) (old new : Asked) → handle.old.value ≡ Some party
         → IsOf old_size old_align old → IsOf new_size new_align new
         → TellsGrow (HoldsPlace party place) place old
         (MayGrow party.allocator.scene.geometry.bucket place old new) result }
-    ensures not_a_layout { (party : Party) → IsPoolSeat handle.old.value party
+    ensures not_a_layout { (party : Party) → handle.old.value ≡ Some party
         → ¬ (IsLayout old_size old_align × IsLayout new_size new_align)
         → result ≡ refused not_a_layout }
-    ensures not_made { IsNoPoolSeat handle.old.value → result ≡ refused not_made }
+    ensures not_made { handle.old.value ≡ None → result ≡ refused not_made }
     ensures kept { handle.new.value ≡ handle.old.value }
 {
     let layouts = layouts_of(old_size, old_align, new_size, new_align);
-    let Some(made) = handle.take(alloc) else {
+    let Some(seat) = handle.take(alloc) else {
         return Answer::refusal(code::NOT_MADE);
     };
-    let answer = match &*made {
-        Made::PoolSeat(seat) => seat.grow(place, layouts),
-        _ => Answer::refusal(code::NOT_MADE),
-    };
-    handle.put(made);
+    let answer = seat.grow(place, layouts);
+    handle.put(seat);
     answer
 }
 
@@ -419,33 +414,30 @@ pub extern "C" fn bb_shared_pool_grow(
 #[unsafe(no_mangle)]
 pub extern "C" fn bb_shared_pool_shrink(
     alloc: Global,
-    handle: &mut Handle,
+    handle: &mut PoolSeatHandle,
     place: usize,
     old_size: usize,
     old_align: usize,
     new_size: usize,
     new_align: usize,
 ) -> Answer
-    ensures answer { (party : Party) (old new : Asked) → IsPoolSeat handle.old.value party
+    ensures answer { (party : Party) (old new : Asked) → handle.old.value ≡ Some party
         → IsOf old_size old_align old → IsOf new_size new_align new
         → TellsShrink (HoldsPlace party place) place
         party.allocator.scene.geometry.bucket.size old
         (MayShrink party.allocator.scene.geometry.bucket place old new) result }
-    ensures not_a_layout { (party : Party) → IsPoolSeat handle.old.value party
+    ensures not_a_layout { (party : Party) → handle.old.value ≡ Some party
         → ¬ (IsLayout old_size old_align × IsLayout new_size new_align)
         → result ≡ refused not_a_layout }
-    ensures not_made { IsNoPoolSeat handle.old.value → result ≡ refused not_made }
+    ensures not_made { handle.old.value ≡ None → result ≡ refused not_made }
     ensures kept { handle.new.value ≡ handle.old.value }
 {
     let layouts = layouts_of(old_size, old_align, new_size, new_align);
-    let Some(made) = handle.take(alloc) else {
+    let Some(seat) = handle.take(alloc) else {
         return Answer::refusal(code::NOT_MADE);
     };
-    let answer = match &*made {
-        Made::PoolSeat(seat) => seat.shrink(place, layouts),
-        _ => Answer::refusal(code::NOT_MADE),
-    };
-    handle.put(made);
+    let answer = seat.shrink(place, layouts);
+    handle.put(seat);
     answer
 }
 
@@ -467,23 +459,20 @@ fn reserved(seat: &PoolSeat, place: usize) -> Figure
 #[unsafe(no_mangle)]
 pub extern "C" fn bb_shared_pool_reserved(
     alloc: Global,
-    handle: &mut Handle,
+    handle: &mut PoolSeatHandle,
     place: usize,
 ) -> Figure
-    ensures value { (party : Party) → IsPoolSeat handle.old.value party → HoldsPlace party place
+    ensures value { (party : Party) → handle.old.value ≡ Some party → HoldsPlace party place
         → result ≡ figure_of party.allocator.scene.geometry.bucket.size }
-    ensures not_held { (party : Party) → IsPoolSeat handle.old.value party
+    ensures not_held { (party : Party) → handle.old.value ≡ Some party
         → ¬ HoldsPlace party place → result ≡ no_figure not_held }
-    ensures not_made { IsNoPoolSeat handle.old.value → result ≡ no_figure not_made }
+    ensures not_made { handle.old.value ≡ None → result ≡ no_figure not_made }
     ensures kept { handle.new.value ≡ handle.old.value }
 {
-    let Some(made) = handle.take(alloc) else {
+    let Some(seat) = handle.take(alloc) else {
         return Figure::refusal(code::NOT_MADE);
     };
-    let figure = match &*made {
-        Made::PoolSeat(seat) => reserved(seat, place),
-        _ => Figure::refusal(code::NOT_MADE),
-    };
-    handle.put(made);
+    let figure = reserved(&seat, place);
+    handle.put(seat);
     figure
 }

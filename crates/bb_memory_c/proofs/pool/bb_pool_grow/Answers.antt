@@ -2,14 +2,9 @@ use Rattle.std.proofs.Common.{rules, ◌≡◌, subst}
 use Rattle.bb_memory_base.specs.PoolObject.{MayGrow}
 use Rattle.bb_memory.specs.Pool.{HoldsPlace}
 use Rattle.bb_memory_c.specs.Answers.{TellsGrow}
-use Rattle.bb_memory_c.proofs.pool.bb_pool_grow.Goals.{in-Pool, in_default-deref_mut}
 use Rattle.bb_memory_c.proofs.pool.bb_pool_grow.Goals as goal
 
 pub returns-clause-answer : goal.returns-clause-answer
-returns-clause-answer c = λ pool old new is is_old is_new. elim c.match-deref_mut.branch [
-  | in-Pool w ↦ let same : w.in-Pool.pool ≡ pool = search rules in
-      let told = w.grow-answer.ensures.answer old new (c.layouts_of-layouts.ensures.each old new is_old is_new) in
-      subst (λ answer. TellsGrow (HoldsPlace pool.pool c.args.place) c.args.place old (MayGrow pool.pool.geometry.bucket c.args.place old new) answer) (search rules)
-      (subst (λ p. TellsGrow (HoldsPlace p.pool c.args.place) c.args.place old (MayGrow p.pool.geometry.bucket c.args.place old new) w.grow-answer.result) same told)
-  | in_default-deref_mut w ↦ search rules
-]
+returns-clause-answer c = λ pool old new is is_old is_new. let same : c.deref_mut.result.now ≡ pool = search rules in
+    subst (λ p. TellsGrow (HoldsPlace p.pool c.args.place) c.args.place old (MayGrow p.pool.geometry.bucket c.args.place old new) c.grow-answer.result)
+    same (c.grow-answer.ensures.answer old new (c.layouts_of-layouts.ensures.each old new is_old is_new))

@@ -1,6 +1,5 @@
 use Rattle.std.proofs.Common.{rules, refl, ◌∙◌, ap, arith, Err, Some}
 use Rattle.bb_memory_base.specs.Region.{region_at}
-use Rattle.bb_memory_c.specs.declared.made.Made.TheVariants.{SharedPool as ASharedPool}
 use Rattle.bb_memory_c.specs.SharedPools.{pool_seats}
 use Rattle.bb_memory_c.proofs.Layouts.{cut-share, share-layout, share-or-not}
 use Rattle.bb_memory_c.proofs.shared_pool.bb_shared_pool_make.Goals as goal
@@ -39,7 +38,7 @@ returns-clause-made c = λ _. (
     c.in-Some-new.seats.pool,
     c.in-Some-new.ensures.pool,
     c.put-2.ensures ∙ ap Some (c.in-Ok-new.ensures.ok
-        ∙ ap (λ n. ASharedPool (pool_seats c.in-Some-new.seats.pool n)) c.in-Some-new.ensures.left),
+        ∙ ap (pool_seats c.in-Some-new.seats.pool) c.in-Some-new.ensures.left),
   ),
 )
 

@@ -1,0 +1,72 @@
+//! The handle of a pool of at most 512 buckets.
+ghost use Rattle.std.specs.Prelude.{◌≡◌, Option, Some, None, MatchOption};
+ghost use Rattle.std.specs.declared.alloc.Global.{Global as Heap};
+ghost use Rattle.bb_memory.specs.Pool.{Pool};
+
+use crate::held::Held;
+use bb_memory::pool_allocator::FixedSizePoolAllocator;
+use std::alloc::Global;
+use std::marker::Model;
+use std::mem;
+
+/// Empty, or the owner of a pool of at most 512 buckets.
+#[repr(C)]
+#[derive(Drop)]
+pub struct FixedPoolHandle {
+    at: *mut u8,
+    made: bool,
+    pub ghost heap: { Heap },
+    pub ghost value: { Option Pool },
+}
+
+impl Model for FixedPoolHandle {
+    ghost use Rattle.bb_memory_c.specs.Handles.{owns_if};
+    ghost use Rattle.bb_memory_c.specs.Rows.{fixed_pool_row as the_row};
+
+    ghost also_owns = { λ h. owns_if the_row h.heap h.made h.at h.value };
+}
+
+impl FixedPoolHandle {
+    /// The handle of what is held.
+    fn of(held: Held<FixedSizePoolAllocator<512>>) -> FixedPoolHandle
+        ensures { result.value ≡ held.value }
+    {
+        let Held { at, made } = held;
+        FixedPoolHandle {
+            at: at as *mut u8,
+            made,
+        }
+    }
+
+    /// What it owns.
+    fn into_held(self) -> Held<FixedSizePoolAllocator<512>>
+        ensures { result.value ≡ self.value }
+    {
+        let FixedPoolHandle { at, made } = self;
+        Held {
+            at: at as *mut FixedSizePoolAllocator<512>,
+            made,
+        }
+    }
+
+    /// Owns this from now on. What it owned before is forgotten, so it has to be empty.
+    pub(crate) fn put(&mut self, made: Box<FixedSizePoolAllocator<512>>)
+        requires { self.old.value ≡ None }
+        ensures { self.new.value ≡ Some made.value }
+    {
+        *self = FixedPoolHandle::of(Held::of(made));
+    }
+
+    /// What it owned, if it wasn't empty. It is empty then.
+    pub(crate) fn take(&mut self, alloc: Global) -> Option<Box<FixedSizePoolAllocator<512>>>
+        ensures empty { self.new.value ≡ None }
+        ensures value { MatchOption result (self.old.value ≡ None)
+            (λ made. self.old.value ≡ Some made.value) }
+    {
+        mem::replace(self, FixedPoolHandle::of(Held::nothing(alloc)))
+            .into_held()
+            .into_box(alloc)
+    }
+}
+
+unsafe impl Send for FixedPoolHandle {}
