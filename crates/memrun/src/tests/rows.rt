@@ -56,12 +56,12 @@ fn bump_scripts(rt: HostRuntime) -> Result<(), Fail> {
             "OutOfMemory; SizeIsZero",
         ),
         (
-            "a bump of no bytes",
+            "bump-empty-region",
             "bump 4096 0; alloc 1 1; alloc 0 1",
             "OutOfMemory; SizeIsZero",
         ),
         (
-            "the greatest size of a layout",
+            "bump-largest-size",
             "bump 4096 8; alloc 9223372036854775807 1",
             "OutOfMemory",
         ),
@@ -118,11 +118,7 @@ fn one_chunk_scripts(rt: HostRuntime) -> Result<(), Fail> {
             "one 18446744073709551601 14; alloc 1 16; alloc 13 1",
             "OutOfMemory; chunk 18446744073709551601 14",
         ),
-        (
-            "a one chunk of no bytes",
-            "one 4096 0; alloc 0 1",
-            "OutOfMemory",
-        ),
+        ("one-empty-region", "one 4096 0; alloc 0 1", "OutOfMemory"),
     ] {
         let mut told = Vec::new(rt.alloc());
         let script = lines(rt.alloc(), script)?;
@@ -243,15 +239,19 @@ fn unreadable_scripts(rt: HostRuntime) -> Result<(), Fail> {
             b"pool 18446744073709551600 15 1 4611686018427387904\n".as_slice(),
             1,
         ),
-        ("a region at 0", b"bump 0 8\n".as_slice(), 1),
+        ("script-start-zero", b"bump 0 8\n".as_slice(), 1),
         ("a one chunk at 0", b"one 0 8\n".as_slice(), 1),
         (
-            "a layout too large by one",
+            "script-rounded-size-too-large",
             b"bump 4096 8\nalloc 9223372036854775807 2\n".as_slice(),
             2,
         ),
-        ("a line cut off", b"bump 4096 8\nalloc 4\n".as_slice(), 2),
-        ("a leading zero", b"bump 4096 8\nalloc 04 1\n".as_slice(), 2),
+        ("script-cut-off", b"bump 4096 8\nalloc 4\n".as_slice(), 2),
+        (
+            "script-leading-zero",
+            b"bump 4096 8\nalloc 04 1\n".as_slice(),
+            2,
+        ),
         (
             "script-layout-too-large",
             b"bump 4096 8\nalloc 1 9223372036854775808\n".as_slice(),
