@@ -58,7 +58,7 @@ impl Write for FailingWriter<'_> {
 }
 
 #[test]
-fn each_read_fails_once(rt: HostRuntime) -> Result<(), Fail> {
+fn reader_fails_in_turn(rt: HostRuntime) -> Result<(), Fail> {
     for (kind, status) in [
         (ErrorKind::Other, Status::InputFailed),
         (ErrorKind::OutOfMemory, Status::OutOfMemory),
@@ -102,7 +102,7 @@ fn an_interrupted_read_is_tried_again(rt: HostRuntime) -> Result<(), Fail> {
 }
 
 #[test]
-fn each_write_fails_once(rt: HostRuntime) -> Result<(), Fail> {
+fn writer_fails_in_turn(rt: HostRuntime) -> Result<(), Fail> {
     for (script, lines, status) in [
         (FIRST_PATH, FIRST_PATH_LINES, Status::Done),
         (
@@ -136,7 +136,7 @@ fn each_write_fails_once(rt: HostRuntime) -> Result<(), Fail> {
 }
 
 #[test]
-fn each_beginning_of_a_script(rt: HostRuntime) -> Result<(), Fail> {
+fn script_cut_at_every_byte(rt: HostRuntime) -> Result<(), Fail> {
     // Cut in front of these bytes, a script ends so: with the line of this number unreadable (`alloc 10 3` too, as 3 is no
     // power of two), or done with so many bytes of the whole script's lines (`bump 4096 1` is a region, too).
     for (from, to, end) in [
