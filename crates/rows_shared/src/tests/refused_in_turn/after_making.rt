@@ -56,18 +56,8 @@ fn a_shared_fixed_pool(rt: HostRuntime) -> Result<(), Fail> {
     assert_eq!(rt; (pool.number_of_buckets(), pool.bucket_size()), (4, 128));
     assert_eq!(rt; (pool.size(), pool.max_alignment()), (1024, 8));
     pool.meet(&mut first, &mut second);
-    let mut taken = pool.allocate(&mut second, bucket)?;
-    assert!(rt; taken.chunk().place() % bucket.align() == 0);
-    assert!(rt; bucket.size() <= pool.bucket_size());
-    let small = Layout::from_size_align(48, 4)?;
-    assert_eq!(rt; pool.shrink(&mut taken, bucket, small)?.len(), 48);
-    assert_eq!(rt;
-        (pool.number_at(4096), pool.number_at(4097)),
-        (Some(0), None)
-    );
-    let number = taken.number();
-    let again = pool.bucket(&second, number, 16);
-    pool.deallocate_bucket(&mut second, again);
+    let taken = pool.allocate(&mut second, bucket)?;
+    pool.deallocate_bucket(&mut second, taken);
     four_buckets(&rt, &pool, first)?;
     assert!(rt; none_was_asked(rt.alloc()));
     Ok(())
@@ -90,13 +80,45 @@ fn a_bucket(rt: HostRuntime) -> Result<(), Fail> {
     let shrunk = pool.shrink(&mut taken, bucket, small)?;
     assert_eq!(rt; (shrunk.place(), shrunk.len()), (4096, 48));
     assert_eq!(rt; (taken.number(), taken.chunk()), (0, shrunk));
-    assert_eq!(rt;
-        (pool.number_at(4096), pool.number_at(4097)),
-        (Some(0), None)
-    );
+    assert!(rt; none_was_asked(rt.alloc()));
+    Ok(())
+}
+
+/// A shared pool's bucket by its place and by its number.
+#[test]
+fn a_bucket_by_number(rt: HostRuntime) -> Result<(), Fail> {
+    let bucket = Layout::from_size_align(128, 8)?;
+    let Ok((pool, mut parties)) = shared_over(rt.alloc(), bucket, 4096, 256, 1) else {
+        return Ok(());
+    };
+    let mut only = parties.pop().unwrap();
+    refuse_memory(rt.alloc());
+    assert!(rt; pool.number_at(4097).is_none());
+    let taken = pool.allocate(&mut only, bucket)?;
     let number = taken.number();
-    let again = pool.bucket(&only, number, 16);
-    assert_eq!(rt; (again.number(), again.chunk().len()), (0, 16));
+    let again = pool.bucket(&only, number, 0);
+    assert_eq!(rt; pool.number_at(again.chunk().place()), Some(0));
+    assert!(rt; none_was_asked(rt.alloc()));
+    Ok(())
+}
+
+/// The same of a shared fixed pool, and a bucket that shrinks.
+#[test]
+fn a_bucket_of_a_fixed_pool(rt: HostRuntime) -> Result<(), Fail> {
+    let bucket = Layout::from_size_align(128, 8)?;
+    let Ok((pool, mut parties)) = shared_fixed_over(rt.alloc(), bucket, 4096, 1024, 1) else {
+        return Ok(());
+    };
+    let mut only = parties.pop().unwrap();
+    refuse_memory(rt.alloc());
+    assert!(rt; bucket.size() <= pool.bucket_size());
+    let taken = pool.allocate(&mut only, bucket)?;
+    let number = taken.number();
+    let mut again = pool.bucket(&only, number, 0);
+    let place = again.chunk().place();
+    assert!(rt; place % bucket.align() == 0 && pool.number_at(place) == Some(0));
+    let small = Layout::from_size_align(48, 4)?;
+    assert_eq!(rt; pool.shrink(&mut again, bucket, small)?.len(), 48);
     assert!(rt; none_was_asked(rt.alloc()));
     Ok(())
 }
