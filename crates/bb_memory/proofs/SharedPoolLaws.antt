@@ -71,7 +71,7 @@ history_sound party is layouts live run =
 
 -- REFUSED PASSES
 
--- what a list keeps behind others stands in it at some place, up to which the list keeps just these
+-- `last` stands in the list at some place, up to which just this is kept of the list, and then `last`
 pub record IsKeptAfter {X : Type 0} (test : X → Bool) (list kept : List X) (last : X) : Type 0 where
   pub place : ℕ
   pub there : slice_get list place ≡ Some last
