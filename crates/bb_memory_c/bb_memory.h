@@ -3,7 +3,8 @@
 //
 // - A handle is a variable of the host's, both fields zero before its first use: `bb_pool pool = BB_EMPTY;`. It is passed
 //   by its address, which isn't null. Nothing but these functions writes it. It may be moved, and then the old one isn't
-//   used.
+//   used. One variable has one kind of handle. A function's type names the kind that it takes, so the compiler refuses
+//   another one (some compilers only warn); no function tests it, so a caller who casts has to see to it.
 // - One call at a time has a handle, and a call that takes two handles is passed two. A handle may go to another thread
 //   between two calls, if the threads order that by a lock or by a thread's start or join. Threads that call at once share
 //   by the shared forms alone, each through a seat of its own; any other handle they share under one lock.
@@ -46,7 +47,7 @@ enum {
     BB_GROW_WOULD_SHRINK = 5,  // the new size isn't greater than the old one
     BB_SHRINK_WOULD_GROW = 6,  // the new size isn't smaller than the old one
     BB_NOT_A_LAYOUT = 7,       // the alignment is no power of two, or the size rounded up to it is greater than PTRDIFF_MAX
-    BB_NOT_MADE = 8,           // the handle is empty, or of another kind
+    BB_NOT_MADE = 8,           // the handle is empty
     BB_NOT_HELD = 9,           // no chunk that is out begins at the place; of a seat, no bucket that this seat holds
     BB_ALREADY_MADE = 10,      // the handle isn't empty
     BB_CANNOT_MAKE = 11,       // the region, the buckets or the parties can't be; each maker says when
@@ -56,15 +57,15 @@ enum {
 
 #define BB_EMPTY {0, false}
 
-// Handles. `at` and `made` are not for the host.
-typedef struct { void *at; bool made; } bb_bump;
-typedef struct { void *at; bool made; } bb_one_chunk;
-typedef struct { void *at; bool made; } bb_pool;
-typedef struct { void *at; bool made; } bb_fixed_pool;
-typedef struct { void *at; bool made; } bb_shared_bump;
-typedef struct { void *at; bool made; } bb_bump_seat;
-typedef struct { void *at; bool made; } bb_shared_pool;
-typedef struct { void *at; bool made; } bb_pool_seat;
+// Handles, a type for each kind. `at` and `made` are not for the host.
+typedef struct bb_bump { void *at; bool made; } bb_bump;
+typedef struct bb_one_chunk { void *at; bool made; } bb_one_chunk;
+typedef struct bb_pool { void *at; bool made; } bb_pool;
+typedef struct bb_fixed_pool { void *at; bool made; } bb_fixed_pool;
+typedef struct bb_shared_bump { void *at; bool made; } bb_shared_bump;
+typedef struct bb_bump_seat { void *at; bool made; } bb_bump_seat;
+typedef struct bb_shared_pool { void *at; bool made; } bb_shared_pool;
+typedef struct bb_pool_seat { void *at; bool made; } bb_pool_seat;
 
 // A chunk that was given: where it begins, and how many bytes it has.
 typedef struct { uint32_t code; size_t place; size_t len; } bb_answer;
@@ -72,15 +73,16 @@ typedef struct { uint32_t code; size_t place; size_t len; } bb_answer;
 // A number that was asked for.
 typedef struct { uint32_t code; size_t number; } bb_figure;
 
-// Frees what is behind a handle of any kind, which is empty then: `bb_free(&pool)`. BB_NOT_MADE where it was empty
-// already. The bytes of chunks that are out stay the host's. A shared bump or pool stays as long as one of its handles
-// does, a seat's or its own, in whichever order they are freed. The buckets of a freed seat stay held for good.
-uint32_t bb_free(void *handle);
+// Each kind has a function that frees what is behind its handle, which is empty then: `bb_pool_free(&pool)`. It answers
+// BB_NOT_MADE where the handle was empty already. The bytes of chunks that are out stay the host's. A shared bump or pool
+// stays as long as one of its handles does, a seat's or its own, in whichever order they are freed. The buckets of a freed
+// seat stay held for good.
 
 // A bump gives one chunk after another, and takes all of them back at once.
 
 // Over the region of `size` bytes at `start`. BB_CANNOT_MAKE where the start is 0, or start plus size exceeds SIZE_MAX.
 uint32_t bb_bump_make(bb_bump *, size_t start, size_t size);
+uint32_t bb_bump_free(bb_bump *);
 // A chunk of exactly `size` bytes at the least multiple of `align` behind what is used.
 bb_answer bb_bump_allocate(bb_bump *, size_t size, size_t align);
 // All chunks are given back.
@@ -100,6 +102,7 @@ bb_figure bb_bump_start_address(bb_bump *);
 
 // BB_CANNOT_MAKE as of `bb_bump_make`.
 uint32_t bb_one_chunk_make(bb_one_chunk *, size_t start, size_t size);
+uint32_t bb_one_chunk_free(bb_one_chunk *);
 // A chunk of at least `size` bytes, up to the region's end. BB_OUT_OF_MEMORY where one is out, where none of the region is
 // left behind the first multiple of `align`, or less than `size` bytes are.
 bb_answer bb_one_chunk_allocate(bb_one_chunk *, size_t size, size_t align);
@@ -128,6 +131,7 @@ bb_figure bb_one_chunk_size(bb_one_chunk *);
 // bucket's size is 0, or there is room for UINT32_MAX buckets or more. With room for no bucket it is made, with 0 buckets.
 // No call but the maker takes memory.
 uint32_t bb_pool_make(bb_pool *, size_t bucket_size, size_t bucket_align, size_t start, size_t size);
+uint32_t bb_pool_free(bb_pool *);
 // A chunk of `size` bytes in a bucket that isn't held. Refused by size, then by alignment, then where every bucket is
 // held.
 bb_answer bb_pool_allocate(bb_pool *, size_t size, size_t align);
@@ -155,6 +159,7 @@ bb_figure bb_pool_start_address(bb_pool *);
 
 // The same of at most 512 buckets, which keeps what it knows of them in one block of fixed size.
 uint32_t bb_fixed_pool_make(bb_fixed_pool *, size_t bucket_size, size_t bucket_align, size_t start, size_t size);
+uint32_t bb_fixed_pool_free(bb_fixed_pool *);
 bb_answer bb_fixed_pool_allocate(bb_fixed_pool *, size_t size, size_t align);
 uint32_t bb_fixed_pool_deallocate(bb_fixed_pool *, size_t place);
 bb_figure bb_fixed_pool_holds(bb_fixed_pool *, size_t place);
@@ -174,9 +179,11 @@ bb_figure bb_fixed_pool_size(bb_fixed_pool *);
 // Over the region of `size` bytes at `start`. BB_CANNOT_MAKE where the start is 0, start plus size exceeds SIZE_MAX, or
 // there is no party. No call but the maker and `bb_shared_bump_seat` takes memory.
 uint32_t bb_shared_bump_make(bb_shared_bump *, size_t start, size_t size, uint32_t parties);
+uint32_t bb_shared_bump_free(bb_shared_bump *);
 // BB_ALREADY_MADE where the seat isn't empty, then BB_NOT_MADE, then BB_NO_SEAT. Two handles; it is no call of a seat, so
 // one thread at a time makes it.
 uint32_t bb_shared_bump_seat(bb_shared_bump *, bb_bump_seat *);
+uint32_t bb_bump_seat_free(bb_bump_seat *);
 // A chunk of exactly `size` bytes at the least multiple of `align` behind what is used.
 bb_answer bb_shared_bump_allocate(bb_bump_seat *, size_t size, size_t align);
 // What one look found; the start is the region's.
@@ -196,8 +203,10 @@ bb_figure bb_shared_bump_party(bb_bump_seat *);
 // memory.
 uint32_t bb_shared_pool_make(bb_shared_pool *, size_t bucket_size, size_t bucket_align, size_t start, size_t size,
                              uint32_t parties);
+uint32_t bb_shared_pool_free(bb_shared_pool *);
 // As of the shared bump.
 uint32_t bb_shared_pool_seat(bb_shared_pool *, bb_pool_seat *);
+uint32_t bb_pool_seat_free(bb_pool_seat *);
 // A chunk of `size` bytes in a bucket that isn't held, found by one pass over the buckets. BB_OUT_OF_MEMORY where each was
 // held when the pass looked at it; while other threads step, that need not have been at one moment.
 bb_answer bb_shared_pool_allocate(bb_pool_seat *, size_t size, size_t align);

@@ -48,7 +48,8 @@ static void run_bump(void) {
     EXPECT(bb_bump_deallocate(&bump) == BB_DONE && is(bb_bump_used_space(&bump), 0));
     EXPECT(is(bb_bump_total_space(&bump), 1024) && is(bb_bump_start_address(&bump), 4096));
     EXPECT(requests == 0);
-    EXPECT(bb_free(&bump) == BB_DONE && has_none(bb_bump_used_space(&bump), BB_NOT_MADE));
+    EXPECT(bb_bump_free(&bump) == BB_DONE && bb_bump_free(&bump) == BB_NOT_MADE);
+    EXPECT(has_none(bb_bump_used_space(&bump), BB_NOT_MADE));
 }
 
 static void run_one_chunk(void) {
@@ -79,7 +80,8 @@ static void run_one_chunk(void) {
     EXPECT(bb_one_chunk_deallocate(&one, 4101) == BB_NOT_HELD && bb_one_chunk_deallocate(&one, 4100) == BB_DONE);
     EXPECT(bb_one_chunk_deallocate(&one, 4100) == BB_NOT_HELD && is(bb_one_chunk_has_chunk_available(&one), 1));
     EXPECT(requests == 0);
-    EXPECT(bb_free(&one) == BB_DONE && refused(bb_one_chunk_grow(&one, 4100, 48, 4, 64, 4), BB_NOT_MADE));
+    EXPECT(bb_one_chunk_free(&one) == BB_DONE && bb_one_chunk_free(&one) == BB_NOT_MADE);
+    EXPECT(refused(bb_one_chunk_grow(&one, 4100, 48, 4, 64, 4), BB_NOT_MADE));
 }
 
 // Both pools with one owner have the same calls, but for the start.
@@ -121,7 +123,8 @@ static void run_one_chunk(void) {
         EXPECT(POOL##_deallocate(&pool, place) == BB_NOT_HELD);                                                               \
         EXPECT(given(POOL##_allocate(&pool, 48, 4), place, 48));                                                              \
         EXPECT(requests == 0);                                                                                                \
-        EXPECT(bb_free(&pool) == BB_DONE && POOL##_deallocate(&pool, place) == BB_NOT_MADE);                                  \
+        EXPECT(POOL##_free(&pool) == BB_DONE && POOL##_free(&pool) == BB_NOT_MADE);                                           \
+        EXPECT(POOL##_deallocate(&pool, place) == BB_NOT_MADE);                                                               \
     }
 
 RUN_POOL(bb_pool)
@@ -138,8 +141,8 @@ static void run_starts(void) {
     bb_pool_seat seat = BB_EMPTY;
     EXPECT(bb_shared_pool_make(&shared, 128, 64, 4097, 1024, 1) == BB_DONE && bb_shared_pool_seat(&shared, &seat) == BB_DONE);
     EXPECT(is(bb_shared_pool_start_address(&seat), 4160) && is(bb_shared_pool_size(&seat), 1024));
-    EXPECT(bb_free(&unaligned) == BB_DONE && bb_free(&empty) == BB_DONE);
-    EXPECT(bb_free(&shared) == BB_DONE && bb_free(&seat) == BB_DONE);
+    EXPECT(bb_pool_free(&unaligned) == BB_DONE && bb_pool_free(&empty) == BB_DONE);
+    EXPECT(bb_shared_pool_free(&shared) == BB_DONE && bb_pool_seat_free(&seat) == BB_DONE);
 }
 
 // The buckets of a freed seat stay held, and its party gets no other seat.
@@ -150,14 +153,14 @@ static void run_freed_pool_seat(void) {
     EXPECT(bb_shared_pool_seat(&pool, &freed) == BB_DONE && bb_shared_pool_seat(&pool, &other) == BB_DONE);
     bb_answer kept = bb_shared_pool_allocate(&freed, 64, 8);
     EXPECT(kept.code == BB_DONE && kept.len == 64 && (kept.place == 4096 || kept.place == 4160));
-    EXPECT(bb_free(&freed) == BB_DONE && bb_shared_pool_seat(&pool, &freed) == BB_NO_SEAT);
+    EXPECT(bb_pool_seat_free(&freed) == BB_DONE && bb_shared_pool_seat(&pool, &freed) == BB_NO_SEAT);
     size_t place = kept.place == 4096 ? 4160 : 4096;
     EXPECT(given(bb_shared_pool_allocate(&other, 64, 8), place, 64));
     EXPECT(refused(bb_shared_pool_allocate(&other, 64, 8), BB_OUT_OF_MEMORY));
     EXPECT(bb_shared_pool_deallocate(&other, kept.place) == BB_NOT_HELD);
-    EXPECT(bb_free(&pool) == BB_DONE && bb_shared_pool_deallocate(&other, place) == BB_DONE);
+    EXPECT(bb_shared_pool_free(&pool) == BB_DONE && bb_shared_pool_deallocate(&other, place) == BB_DONE);
     EXPECT(given(bb_shared_pool_allocate(&other, 48, 8), place, 48));
-    EXPECT(bb_free(&other) == BB_DONE && bb_free(&freed) == BB_NOT_MADE);
+    EXPECT(bb_pool_seat_free(&other) == BB_DONE && bb_pool_seat_free(&freed) == BB_NOT_MADE);
 }
 
 // The chunks of a freed seat stay used, and its party gets no other seat.
@@ -167,11 +170,11 @@ static void run_freed_bump_seat(void) {
     EXPECT(bb_shared_bump_make(&bump, 4096, 64, 2) == BB_DONE);
     EXPECT(bb_shared_bump_seat(&bump, &freed) == BB_DONE && bb_shared_bump_seat(&bump, &other) == BB_DONE);
     EXPECT(given(bb_shared_bump_allocate(&freed, 40, 8), 4096, 40));
-    EXPECT(bb_free(&freed) == BB_DONE && bb_shared_bump_seat(&bump, &freed) == BB_NO_SEAT);
-    EXPECT(bb_free(&bump) == BB_DONE && is(bb_shared_bump_used_space(&other), 40));
+    EXPECT(bb_bump_seat_free(&freed) == BB_DONE && bb_shared_bump_seat(&bump, &freed) == BB_NO_SEAT);
+    EXPECT(bb_shared_bump_free(&bump) == BB_DONE && is(bb_shared_bump_used_space(&other), 40));
     EXPECT(given(bb_shared_bump_allocate(&other, 24, 8), 4136, 24));
     EXPECT(refused(bb_shared_bump_allocate(&other, 1, 1), BB_OUT_OF_MEMORY));
-    EXPECT(bb_free(&other) == BB_DONE && bb_free(&freed) == BB_NOT_MADE);
+    EXPECT(bb_bump_seat_free(&other) == BB_DONE && bb_bump_seat_free(&freed) == BB_NOT_MADE);
 }
 
 // Makers of large numbers are done.
@@ -185,7 +188,8 @@ static void run_large(void) {
     EXPECT(bb_one_chunk_make(&one, 4096, gibibyte) == BB_DONE && given(bb_one_chunk_allocate(&one, 0, 1), 4096, gibibyte));
     EXPECT(bb_pool_make(&pool, 64, 8, 4096, gibibyte / 16) == BB_DONE && is(bb_pool_number_of_buckets(&pool), 1048576));
     EXPECT(bb_fixed_pool_make(&fixed, 1, 1, 4096, 100000) == BB_DONE && is(bb_fixed_pool_number_of_buckets(&fixed), 512));
-    EXPECT(bb_free(&bump) == BB_DONE && bb_free(&one) == BB_DONE && bb_free(&pool) == BB_DONE && bb_free(&fixed) == BB_DONE);
+    EXPECT(bb_bump_free(&bump) == BB_DONE && bb_one_chunk_free(&one) == BB_DONE);
+    EXPECT(bb_pool_free(&pool) == BB_DONE && bb_fixed_pool_free(&fixed) == BB_DONE);
 }
 
 static void run_many_seats(void) {
@@ -198,13 +202,13 @@ static void run_many_seats(void) {
         EXPECT(is(bb_shared_pool_number_of_buckets(&seats[at]), 4096));
         EXPECT(bb_shared_pool_allocate(&seats[at], 64, 8).code == BB_DONE);
     }
-    EXPECT(bb_shared_pool_seat(&pool, &none) == BB_NO_SEAT && bb_free(&pool) == BB_DONE);
+    EXPECT(bb_shared_pool_seat(&pool, &none) == BB_NO_SEAT && bb_shared_pool_free(&pool) == BB_DONE);
     for (size_t at = 0; at < 100; at++)
-        EXPECT(bb_free(&seats[at]) == BB_DONE);
+        EXPECT(bb_pool_seat_free(&seats[at]) == BB_DONE);
 }
 
 // A maker answers BB_OUT_OF_MEMORY with each of its requests refused, and leaves its handle empty. With none refused it makes.
-#define WITH_EACH_REFUSED(HANDLE, MAKE)                                                   \
+#define WITH_EACH_REFUSED(FREE, MAKE)                                                     \
     do {                                                                                  \
         uint32_t told = BB_OUT_OF_MEMORY;                                                 \
         size_t nth = 0;                                                                   \
@@ -215,7 +219,7 @@ static void run_many_seats(void) {
             told = (MAKE);                                                                \
             to_refuse = 0;                                                                \
             EXPECT(told == BB_DONE || (told == BB_OUT_OF_MEMORY && requests == nth));     \
-            EXPECT(told == BB_DONE || bb_free(HANDLE) == BB_NOT_MADE);                    \
+            EXPECT(told == BB_DONE || (FREE) == BB_NOT_MADE);                             \
         }                                                                                 \
         EXPECT(told == BB_DONE && requests == nth - 1 && nth > 1);                        \
     } while (0)
@@ -227,17 +231,17 @@ static void run_makers(void) {
     bb_fixed_pool fixed = BB_EMPTY;
     bb_shared_bump shared_bump = BB_EMPTY;
     bb_shared_pool shared_pool = BB_EMPTY;
-    WITH_EACH_REFUSED(&bump, bb_bump_make(&bump, 4096, 1024));
-    WITH_EACH_REFUSED(&one, bb_one_chunk_make(&one, 4096, 1024));
-    WITH_EACH_REFUSED(&pool, bb_pool_make(&pool, 128, 8, 4096, 1024));
-    WITH_EACH_REFUSED(&fixed, bb_fixed_pool_make(&fixed, 128, 8, 4096, 1024));
-    WITH_EACH_REFUSED(&shared_bump, bb_shared_bump_make(&shared_bump, 4096, 1024, 2));
-    WITH_EACH_REFUSED(&shared_pool, bb_shared_pool_make(&shared_pool, 128, 8, 4096, 1024, 2));
+    WITH_EACH_REFUSED(bb_bump_free(&bump), bb_bump_make(&bump, 4096, 1024));
+    WITH_EACH_REFUSED(bb_one_chunk_free(&one), bb_one_chunk_make(&one, 4096, 1024));
+    WITH_EACH_REFUSED(bb_pool_free(&pool), bb_pool_make(&pool, 128, 8, 4096, 1024));
+    WITH_EACH_REFUSED(bb_fixed_pool_free(&fixed), bb_fixed_pool_make(&fixed, 128, 8, 4096, 1024));
+    WITH_EACH_REFUSED(bb_shared_bump_free(&shared_bump), bb_shared_bump_make(&shared_bump, 4096, 1024, 2));
+    WITH_EACH_REFUSED(bb_shared_pool_free(&shared_pool), bb_shared_pool_make(&shared_pool, 128, 8, 4096, 1024, 2));
     bb_bump_seat bump_seats[2] = {BB_EMPTY, BB_EMPTY};
     bb_pool_seat pool_seats[2] = {BB_EMPTY, BB_EMPTY};
     for (size_t at = 0; at < 2; at++) {
-        WITH_EACH_REFUSED(&bump_seats[at], bb_shared_bump_seat(&shared_bump, &bump_seats[at]));
-        WITH_EACH_REFUSED(&pool_seats[at], bb_shared_pool_seat(&shared_pool, &pool_seats[at]));
+        WITH_EACH_REFUSED(bb_bump_seat_free(&bump_seats[at]), bb_shared_bump_seat(&shared_bump, &bump_seats[at]));
+        WITH_EACH_REFUSED(bb_pool_seat_free(&pool_seats[at]), bb_shared_pool_seat(&shared_pool, &pool_seats[at]));
         // A refused seat loses no party.
         EXPECT(is(bb_shared_bump_party(&bump_seats[at]), 1 - at) && is(bb_shared_pool_party(&pool_seats[at]), 1 - at));
     }
@@ -261,10 +265,11 @@ static void run_makers(void) {
     EXPECT(bb_shared_pool_deallocate(&pool_seats[0], 4096) == BB_DONE);
     EXPECT(bb_pool_allocate(&pool, 48, 4).code == BB_DONE && bb_bump_allocate(&bump, 48, 4).code == BB_DONE);
     EXPECT(requests == 0);
-    EXPECT(bb_free(&bump) == BB_DONE && bb_free(&one) == BB_DONE && bb_free(&pool) == BB_DONE && bb_free(&fixed) == BB_DONE);
-    EXPECT(bb_free(&shared_bump) == BB_DONE && bb_free(&shared_pool) == BB_DONE);
+    EXPECT(bb_bump_free(&bump) == BB_DONE && bb_one_chunk_free(&one) == BB_DONE);
+    EXPECT(bb_pool_free(&pool) == BB_DONE && bb_fixed_pool_free(&fixed) == BB_DONE);
+    EXPECT(bb_shared_bump_free(&shared_bump) == BB_DONE && bb_shared_pool_free(&shared_pool) == BB_DONE);
     for (size_t at = 0; at < 2; at++)
-        EXPECT(bb_free(&bump_seats[at]) == BB_DONE && bb_free(&pool_seats[at]) == BB_DONE);
+        EXPECT(bb_bump_seat_free(&bump_seats[at]) == BB_DONE && bb_pool_seat_free(&pool_seats[at]) == BB_DONE);
 }
 
 int main(void) {

@@ -1,6 +1,6 @@
 // A pool from Rust, by the header alone: the declarations are those of bb_memory.h.
 #[repr(C)]
-pub struct Handle {
+pub struct Pool {
     at: *mut core::ffi::c_void,
     made: bool,
 }
@@ -13,10 +13,10 @@ pub struct Answer {
 }
 
 unsafe extern "C" {
-    fn bb_pool_make(pool: *mut Handle, bucket_size: usize, bucket_align: usize, start: usize, size: usize) -> u32;
-    fn bb_pool_allocate(pool: *mut Handle, size: usize, align: usize) -> Answer;
-    fn bb_pool_deallocate(pool: *mut Handle, place: usize) -> u32;
-    fn bb_free(handle: *mut Handle) -> u32;
+    fn bb_pool_make(pool: *mut Pool, bucket_size: usize, bucket_align: usize, start: usize, size: usize) -> u32;
+    fn bb_pool_allocate(pool: *mut Pool, size: usize, align: usize) -> Answer;
+    fn bb_pool_deallocate(pool: *mut Pool, place: usize) -> u32;
+    fn bb_pool_free(pool: *mut Pool) -> u32;
 }
 
 const BB_DONE: u32 = 0;
@@ -25,7 +25,7 @@ const BB_NOT_HELD: u32 = 9;
 fn main() {
     let mut buffer = vec![0u64; 128];
     let start = buffer.as_mut_ptr() as usize;
-    let mut pool = Handle { at: core::ptr::null_mut(), made: false };
+    let mut pool = Pool { at: core::ptr::null_mut(), made: false };
     // The handle is this function's own and passed by its address; the buffer outlives the pool.
     unsafe {
         assert_eq!(bb_pool_make(&mut pool, 128, 8, start, 1024), BB_DONE);
@@ -34,7 +34,7 @@ fn main() {
         assert!(start <= given.place && given.place + given.len <= start + 1024);
         assert_eq!(bb_pool_deallocate(&mut pool, given.place), BB_DONE);
         assert_eq!(bb_pool_deallocate(&mut pool, given.place), BB_NOT_HELD);
-        assert_eq!(bb_free(&mut pool), BB_DONE);
+        assert_eq!(bb_pool_free(&mut pool), BB_DONE);
     }
     println!("from_rust: a pool was made, used and freed");
 }

@@ -99,8 +99,8 @@ static void run_queue(void) {
     for (size_t sender = 0; sender < SENDERS; sender++)
         pthread_join(threads[sender], NULL);
 
-    expect(bb_free(&shared.pool) == BB_DONE && bb_free(&shared.pool) == BB_NOT_MADE, "a pool is freed once");
-    expect(bb_free(&bump) == BB_DONE, "a bump is freed");
+    expect(bb_pool_free(&shared.pool) == BB_DONE && bb_pool_free(&shared.pool) == BB_NOT_MADE, "a pool is freed once");
+    expect(bb_bump_free(&bump) == BB_DONE, "a bump is freed");
 }
 
 // Each cause of a refusal, once.
@@ -118,8 +118,7 @@ static void run_refusals(void) {
     expect(bb_fixed_pool_holds(&pool, given.place).number == 1, "the bucket is held");
     expect(bb_fixed_pool_deallocate(&pool, given.place) == BB_DONE, "the bucket is given back");
     expect(bb_fixed_pool_deallocate(&pool, given.place) == BB_NOT_HELD, "a second return is refused");
-    expect(bb_bump_used_space((bb_bump *)&pool).code == BB_NOT_MADE, "a pool is no bump");
-    expect(bb_free(&pool) == BB_DONE, "a pool is freed");
+    expect(bb_fixed_pool_free(&pool) == BB_DONE, "a pool is freed");
 }
 
 int main(void) {

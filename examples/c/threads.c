@@ -160,9 +160,11 @@ static void make(bb_shared_pool *pool, bb_shared_bump *bump) {
     expect(seats == 15, "each party has one seat");
     bb_pool_seat none = BB_EMPTY;
     expect(bb_shared_pool_seat(pool, &none) == BB_NO_SEAT, "no party is left");
-    expect(bb_shared_pool_seat((bb_shared_pool *)bump, &none) == BB_NOT_MADE, "a bump is no pool");
+    bb_shared_pool no_pool = BB_EMPTY;
+    expect(bb_shared_pool_seat(&no_pool, &none) == BB_NOT_MADE, "an empty handle has no seats");
     expect(bb_shared_pool_allocate(&none, 8, 8).code == BB_NOT_MADE, "an empty handle has no seat");
-    expect(bb_shared_bump_allocate((bb_bump_seat *)&workers[0].pool, 8, 8).code == BB_NOT_MADE, "a pool's seat is no bump's");
+    bb_bump_seat no_seat = BB_EMPTY;
+    expect(bb_shared_bump_allocate(&no_seat, 8, 8).code == BB_NOT_MADE, "an empty handle has no seat");
 }
 
 // What one seat holds is not another's, and each cause of a refusal.
@@ -205,7 +207,7 @@ int main(void) {
     make(&pool, &bump);
     one_by_one();
     // The seats keep the pool and the bump.
-    expect(bb_free(&pool) == BB_DONE && bb_free(&pool) == BB_NOT_MADE, "a pool's handle is freed once");
+    expect(bb_shared_pool_free(&pool) == BB_DONE && bb_shared_pool_free(&pool) == BB_NOT_MADE, "a pool's handle is freed once");
 
     pthread_t threads[THREADS];
     for (size_t number = 0; number < THREADS; number++)
@@ -220,9 +222,11 @@ int main(void) {
     }
     expect(bb_shared_bump_free_space(&workers[0].bump).number == 0, "all of the bump is used");
     expect(bb_shared_bump_allocate(&workers[0].bump, 1, 1).code == BB_OUT_OF_MEMORY, "the bump is full");
-    for (size_t number = 0; number < THREADS; number++)
-        expect(bb_free(&workers[number].pool) == BB_DONE && bb_free(&workers[number].bump) == BB_DONE, "a seat is freed");
-    expect(bb_free(&bump) == BB_DONE, "a bump's handle is freed");
+    for (size_t number = 0; number < THREADS; number++) {
+        expect(bb_pool_seat_free(&workers[number].pool) == BB_DONE, "a seat is freed");
+        expect(bb_bump_seat_free(&workers[number].bump) == BB_DONE, "a seat is freed");
+    }
+    expect(bb_shared_bump_free(&bump) == BB_DONE, "a bump's handle is freed");
     puts("threads: every chunk kept what its thread wrote");
     return 0;
 }

@@ -1,5 +1,6 @@
 pub mod Unseated
 pub mod Values
 pub mod Holds
+pub mod Crossing
 pub mod HeldFlags
 pub mod Layouts

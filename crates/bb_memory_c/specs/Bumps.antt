@@ -1,5 +1,5 @@
 -- A bump behind a handle, and what its requests are answered.
-use Rattle.std.specs.Prelude.{◌≡◌, ◌≢◌, ◌+◌, ◌<◌, ◌≤◌, ◌↔◌, ◌++◌, ◌∷◌, [], List, Option, Some, Result, Err, IsOk, IfOk, OnErr}
+use Rattle.std.specs.Prelude.{◌≡◌, ◌+◌, ◌<◌, ◌≤◌, ◌↔◌, ◌++◌, ◌∷◌, [], List, Option, Some, Result, Err, IsOk, IfOk, OnErr}
 use Rattle.bb_memory_base.specs.Region.{region_end}
 use Rattle.bb_memory_base.specs.Chunk.{Chunk, chunk_end}
 use Rattle.bb_memory_base.specs.BumpObject.{MayAllocate, StandsFor, chunk_at_or_after}

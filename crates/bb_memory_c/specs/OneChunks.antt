@@ -1,5 +1,5 @@
 -- A one-chunk allocator behind a handle, and what its requests are answered.
-use Rattle.std.specs.Prelude.{◌≡◌, ◌≢◌, ◌⊎◌, ◌↔◌, Option, Some, None, Result, Err, IsOk, IsSome, IfOk, OnErr}
+use Rattle.std.specs.Prelude.{◌≡◌, ◌⊎◌, ◌↔◌, Option, Some, None, Result, Err, IsOk, IsSome, IfOk, OnErr}
 use Rattle.bb_memory_base.specs.Region.{region_end}
 use Rattle.bb_memory_base.specs.Chunk.{Chunk, chunk_end}
 use Rattle.bb_memory_base.specs.FirstPlace.{first_place}

@@ -1,5 +1,5 @@
 -- A pool behind a handle, and what its requests are answered.
-use Rattle.std.specs.Prelude.{◌≡◌, ◌≢◌, ℕ, Option, Some, Result}
+use Rattle.std.specs.Prelude.{◌≡◌, ℕ, Option, Some, Result}
 use Rattle.bb_memory_base.specs.Region.{Region}
 use Rattle.bb_memory_base.specs.Chunk.{Chunk}
 use Rattle.bb_memory_base.specs.PoolGeometry.{PoolGeometry, IsCut, at_most}

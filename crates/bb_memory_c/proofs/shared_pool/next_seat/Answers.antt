@@ -1,9 +1,9 @@
-use Rattle.std.proofs.Common.{rules, ◌++◌, List, ◌∙◌, ap, sym, subst}
+use Rattle.std.proofs.Common.{◌++◌, ◌∙◌, ap, sym}
 use Rattle.std.specs.Arc.{arc_value}
 use Rattle.std.specs.Option.{option_to_list}
-use Rattle.bb_memory.specs.SharedPool.{PoolParty, fresh_party}
+use Rattle.bb_memory.specs.SharedPool.{fresh_party}
 use Rattle.bb_memory_c.specs.SharedPools.{PoolSeats}
-use Rattle.bb_memory_c.proofs.Unseated.{AreMadeBy, front_made, last_made, put_back}
+use Rattle.bb_memory_c.proofs.Unseated.{last_made}
 use Rattle.bb_memory_c.proofs.shared_pool.next_seat.Goals as goal
 
 pub returns-in-Ok-new-clause-party : goal.returns-in-Ok-new-clause-party

@@ -1,0 +1,28 @@
+-- Handles go to other threads: what they own may.
+use mathlib.Core.Bool.{Bool, true, false}
+use mir.Raw.{raw}
+use base.Fraction.{full_share}
+use base.Shift.{Keyless}
+use denote.Exit.{Exit, unchanged, leaves, hidden, under}
+use denote.Memory.{lone}
+use denote.RattleType.{RattleType}
+use denote.RawPtr.{Ptr, block_ptr, null_ptr, lies_at}
+use denote.Param.Send.{IsSend, Quiet, part_keyless}
+use Rattle.std.specs.Prelude.{Option, Some, None}
+use Rattle.std.specs.declared.alloc.Global.{Global}
+use Rattle.std.proofs.Crossing.{frees}
+use Rattle.bb_memory_c.specs.Handles.{owns_if}
+
+pub quiet : {D X : Type 0} (to : D → X) (e : Exit X) → Quiet e → Quiet (hidden (under to e))
+quiet to unchanged q = λ x w. tt
+quiet to (leaves L l S s r₀) q = λ d. q (to d)
+
+lies : (R : RattleType) → IsSend R → (p : Ptr) (x : R.Denot) → Keyless (lies_at R full_share p x)
+lies R s (block_ptr b o) x = part_keyless R s full_share x b o
+lies R s null_ptr x = tt
+
+pub owned : (R : RattleType) → IsSend R → (heap : Global) (made : Bool) (at : Ptr) (value : Option R.Denot) → Keyless (owns_if R heap made at value)
+owned R s heap true at (Some x) = (lies R s at x, frees.frees heap (raw (lone R.mir)) at)
+owned R s heap true at None = tt
+owned R s heap false at (Some x) = tt
+owned R s heap false at None = tt
