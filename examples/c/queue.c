@@ -1,5 +1,6 @@
-// A queue of messages over one buffer, which a pool cuts into buckets: four threads send and one receives. Each message is filled by
-// its sender and checked by the receiver, and then its bucket is given back. A bump behind the buffer's end gives the queue's slots.
+// A queue of messages over one buffer, which a pool cuts into buckets: four threads send and one receives. Each message is
+// filled by its sender and checked by the receiver, and then its bucket is given back. A bump over the buffer's last 1024 bytes
+// gives the queue's slots.
 #include <pthread.h>
 #include <stdint.h>
 #include <stdio.h>
@@ -94,7 +95,7 @@ static void run_queue(void) {
 
     pthread_t threads[SENDERS];
     for (size_t sender = 0; sender < SENDERS; sender++)
-        pthread_create(&threads[sender], NULL, send_all, (void *)(uintptr_t)sender);
+        expect(pthread_create(&threads[sender], NULL, send_all, (void *)(uintptr_t)sender) == 0, "a thread starts");
     receive_all();
     for (size_t sender = 0; sender < SENDERS; sender++)
         pthread_join(threads[sender], NULL);
@@ -103,7 +104,7 @@ static void run_queue(void) {
     expect(bb_bump_free(&bump) == BB_DONE, "a bump is freed");
 }
 
-// Each cause of a refusal, once.
+// Some refusals of a fixed pool.
 static void run_refusals(void) {
     bb_fixed_pool pool = BB_EMPTY;
     expect(bb_fixed_pool_allocate(&pool, 1, 1).code == BB_NOT_MADE, "nothing is made");

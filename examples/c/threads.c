@@ -167,7 +167,7 @@ static void make(bb_shared_pool *pool, bb_shared_bump *bump) {
     expect(bb_shared_bump_allocate(&no_seat, 8, 8).code == BB_NOT_MADE, "an empty handle has no seat");
 }
 
-// What one seat holds is not another's, and each cause of a refusal.
+// What one seat holds is not another's.
 static void one_by_one(void) {
     bb_pool_seat *mine = &workers[0].pool, *other = &workers[1].pool;
     expect(bb_shared_pool_number_of_buckets(mine).number == BUCKETS, "eight buckets");
