@@ -5,9 +5,10 @@
 //   by its address, which isn't null. Nothing but these functions writes it. It may be moved, and then the old one isn't
 //   used. One variable has one kind of handle. A function's type names the kind that it takes, so the compiler refuses
 //   another one (some compilers only warn); no function tests it, so a caller who casts has to see to it.
-// - One call at a time has a handle, and a call that takes two handles is passed two. A handle may go to another thread
-//   between two calls, if the threads order that by a lock or by a thread's start or join. Threads that call at once share
-//   by the shared forms alone, each through a seat of its own; any other handle they share under one lock.
+// - One call at a time has a handle; a getter has it, too, so no function takes a const one. A call that takes two handles
+//   is passed two. A handle may go to another thread between two calls, if the threads order that by a lock or by a thread's
+//   start or join. Threads that call at once share by the shared forms alone, each through a seat of its own; any other
+//   handle they share under one lock.
 // - No function is called from a signal handler, or in a child that a process of several threads forked. In a forked child
 //   handles are copies, so it uses none whose region both processes share.
 // - A region is the host's as long as chunks in it are used. No two allocators have a byte in common, and none is made
@@ -87,6 +88,8 @@ uint32_t bb_bump_free(bb_bump *);
 bb_answer bb_bump_allocate(bb_bump *, size_t size, size_t align);
 // All chunks are given back.
 uint32_t bb_bump_deallocate(bb_bump *);
+// How many bytes are used, the padding between chunks among them; how many lie behind the last chunk; and how many the region
+// has.
 bb_figure bb_bump_used_space(bb_bump *);
 bb_figure bb_bump_free_space(bb_bump *);
 bb_figure bb_bump_total_space(bb_bump *);
@@ -157,7 +160,8 @@ bb_figure bb_pool_size(bb_pool *);
 // end.
 bb_figure bb_pool_start_address(bb_pool *);
 
-// The same of at most 512 buckets, which keeps what it knows of them in one block of fixed size.
+// The same of at most 512 buckets, which keeps what it knows of them in one block of fixed size. It doesn't tell where bucket 0
+// is.
 uint32_t bb_fixed_pool_make(bb_fixed_pool *, size_t bucket_size, size_t bucket_align, size_t start, size_t size);
 uint32_t bb_fixed_pool_free(bb_fixed_pool *);
 bb_answer bb_fixed_pool_allocate(bb_fixed_pool *, size_t size, size_t align);
@@ -174,7 +178,8 @@ bb_figure bb_fixed_pool_max_alignment(bb_fixed_pool *);
 bb_figure bb_fixed_pool_size(bb_fixed_pool *);
 
 // A bump that threads share. It is made for some number of parties; `bb_shared_bump_seat` gives the last party without a
-// seat one, behind a handle of its own. Each thread that allocates has a seat, and no call waits for another.
+// seat one, behind a handle of its own. Each thread that allocates has a seat, and no call waits for another. It takes nothing
+// back: to begin anew, free all its handles and make another.
 
 // Over the region of `size` bytes at `start`. BB_CANNOT_MAKE where the start is 0, start plus size exceeds SIZE_MAX, or
 // there is no party. No call but the maker and `bb_shared_bump_seat` takes memory.
