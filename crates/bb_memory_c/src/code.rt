@@ -16,7 +16,7 @@ pub(crate) const SHRINK_WOULD_GROW: u32 = 6;
 /// The size and the alignment make no layout.
 pub(crate) const NOT_A_LAYOUT: u32 = 7;
 
-/// The handle is empty, or of another kind.
+/// The handle is empty.
 pub(crate) const NOT_MADE: u32 = 8;
 
 /// The place isn't that of a held bucket, or of the chunk that is out.
