@@ -15,6 +15,8 @@ mod Positions
 mod Seatings
 mod SharedBumpAnswers
 mod SharedBumpClosings
+mod SharedBumpFloors
+mod SharedBumpGatherings
 mod SharedBumpKeeps
 mod SharedBumpMeetings
 mod SharedBumpParties
@@ -22,10 +24,12 @@ mod SharedBumpRequests
 mod SharedBumpSeats
 mod SharedBumpTries
 mod SharedLogs
+mod SharedPoolGatherings
 mod SharedPoolKeeps
 mod SharedPoolLaws
 mod SharedPoolMeetings
 mod SharedPoolParties
 mod SharedPoolPasses
+mod SharedPoolRounds
 mod SharedPoolSeats
 mod SharedPoolTries

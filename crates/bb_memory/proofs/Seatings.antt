@@ -7,7 +7,7 @@ use mathlib.Core.Option.{some, some-injective, some-ne-none}
 use lib.ListN.{get_elem?}
 use Rattle.atomic_table.proofs.Lists.{at_set, at_snoc}
 use Rattle.bb_memory_base.proofs.SliceGets.{slice_get-set_other, slice_get-set_same, slice_get-replicate}
-use Rattle.bb_memory.specs.Seats.{AreSeated, HaveLogs, Numbered, Seat, alone, both_of, first_of, fresh_from, head_of}
+use Rattle.bb_memory.specs.Seats.{AreSeated, HaveLogs, Numbered, Seat, alone, first_of, fresh_from, head_of}
 use Rattle.bb_memory.specs.Seats.{numbered, one_if, others_of, standing_for, tail_of, times_in, times_in_views}
 
 -- HOW OFTEN A PARTY STANDS IN VIEWS
@@ -60,22 +60,89 @@ times_in-two number (first ∷ views) (suc seat) (suc other) view there apart at
 pub one_same : (number other : ℕ) → number ≡ other → one_if (eqb number other) ≡ 1
 one_same number other same = ap one_if (eq-eqb number other same)
 
-one_apart : (number other : ℕ) → number ≢ other → one_if (eqb number other) ≡ 0
+pub one_apart : (number other : ℕ) → number ≢ other → one_if (eqb number other) ≡ 0
 one_apart number other apart = ap one_if (ne_eqb number other apart)
 
 times_in-own : {E : Type 0} (number : ℕ) (log : List E) → times_in number (numbered number log ∷ []) ≡ 1
 times_in-own number log = let one = one_same number number refl in omega arith
 
--- two parties of one seat are two
-pub two_parties : {S E : Type 0} (made : ℕ) (logs : List (List E)) (views : List (Seat S E)) (seat : ℕ) (scene : S)
-    (one other : Numbered E) →
-    AreSeated made logs views → get_elem? views seat ≡ some (standing_for scene (one ∷ other ∷ [])) → one.number ≢ other.number
-two_parties made logs views seat scene one other seated at same =
-    let view = standing_for scene (one ∷ other ∷ []) in
-    let within = times_in-at one.number views seat view at in
-    let most = seated.once one.number (seated.known seat view at).0 in
+-- two parties that each stand once in a list are two
+pub two_parties : {E : Type 0} (one other : Numbered E) (parties : List (Numbered E)) →
+    times_in one.number (one ∷ other ∷ parties) ≤ 1 → one.number ≢ other.number
+two_parties one other parties most same =
     let first = one_same one.number one.number refl in
     let second = one_same other.number one.number (sym same) in omega arith
+
+-- ALL PARTIES IN ONE LIST
+
+-- how many parties of a list have a number below this
+abbrev counted : {E : Type 0} → ℕ → List (Numbered E) → ℕ
+counted zero parties = 0
+counted (suc made) parties = times_in made parties + counted made parties
+
+counted-none : (E : Type 0) (made : ℕ) → counted {E = E} made [] ≡ 0
+counted-none E zero = refl
+counted-none E (suc made) = let rest = counted-none E made in omega arith
+
+counted-past : {E : Type 0} (made : ℕ) (party : Numbered E) (parties : List (Numbered E)) → made ≤ party.number →
+    counted made (party ∷ parties) ≡ counted made parties
+counted-past zero party parties past = refl
+counted-past (suc made) party parties past =
+    let apart = one_apart party.number made (λ same. omega arith) in
+    let rest = counted-past made party parties (omega arith) in omega arith
+
+counted-more : {E : Type 0} (made : ℕ) (party : Numbered E) (parties : List (Numbered E)) → party.number < made →
+    counted made (party ∷ parties) ≡ 1 + counted made parties
+counted-more zero party parties below = absurd (omega arith)
+counted-more (suc made) party parties below =
+    elim (cases_eq party.number made) [
+      | inl same ↦
+          let one = one_same party.number made same in
+          let rest = counted-past made party parties (omega arith) in omega arith
+      | inr other ↦
+          let none = one_apart party.number made other in
+          let rest = counted-more made party parties (grind (arith, below, other)) in omega arith
+    ]
+
+counted-all : {E : Type 0} (made : ℕ) (logs : List (List E)) (parties : List (Numbered E)) → HaveLogs made logs parties →
+    counted made parties ≡ length parties
+counted-all {E = E} made logs [] have = counted-none E made
+counted-all made logs (party ∷ parties) have =
+    let more = counted-more made party parties have.0 in
+    let rest = counted-all made logs parties have.2 in omega arith
+
+counted-most : {E : Type 0} (made : ℕ) (parties : List (Numbered E)) →
+    ((number : ℕ) → number < made → times_in number parties ≤ 1) → counted made parties ≤ made
+counted-most zero parties once = omega arith
+counted-most (suc made) parties once =
+    let here = once made (omega arith) in
+    let rest = counted-most made parties (λ number below. once number (omega arith)) in omega arith
+
+counted-few : {E : Type 0} (made missing : ℕ) (parties : List (Numbered E)) → missing < made → times_in missing parties ≡ 0 →
+    ((number : ℕ) → number < made → times_in number parties ≤ 1) → counted made parties < made
+counted-few zero missing parties below none once = absurd (omega arith)
+counted-few (suc made) missing parties below none once =
+    elim (cases_eq missing made) [
+      | inl same ↦
+          let here = ap (λ (n : ℕ). times_in n parties) same in
+          let rest = counted-most made parties (λ number less. once number (omega arith)) in omega arith
+      | inr other ↦
+          let here = once made (omega arith) in
+          let rest = counted-few made missing parties (grind (arith, below, other)) none (λ number less. once number (omega arith)) in
+          omega arith
+    ]
+
+-- a list of as many parties as were made, no two of which are one, has each
+pub all_there : {E : Type 0} (made : ℕ) (logs : List (List E)) (parties : List (Numbered E)) → HaveLogs made logs parties →
+    ((number : ℕ) → number < made → times_in number parties ≤ 1) → length parties ≡ made →
+    (number : ℕ) → number < made → 1 ≤ times_in number parties
+all_there made logs parties have once long number below =
+    elim (cases_eq (times_in number parties) 0) [
+      | inl none ↦
+          let few = counted-few made number parties below none once in
+          let all = counted-all made logs parties have in absurd (omega arith)
+      | inr there ↦ grind (arith, there)
+    ]
 
 -- LOGS
 
@@ -168,21 +235,16 @@ seated_others made logs views seat view = seated_split made logs views seat view
     (λ number. let parts = times_in-parts number view.parties in omega arith)
     (λ have. let parts = have-parts made logs view.parties have in (parts.1, parts.0))
 
-pub seated_first : {S E : Type 0} (made : ℕ) (logs : List (List E)) (views : List (Seat S E)) (seat : ℕ) (view : Seat S E) →
-    AreSeated made logs views → get_elem? views seat ≡ some view →
-    AreSeated made logs (set views seat (first_of view) ++ others_of view ∷ [])
-seated_first made logs views seat view = seated_split made logs views seat view (first_of view) (others_of view)
-    (λ number. times_in-parts number view.parties) (λ have. have-parts made logs view.parties have)
-
 -- two views are joined: one has the parties of both, and the other none
-pub seated_both : {S E : Type 0} (made : ℕ) (logs : List (List E)) (views : List (Seat S E)) (seat : ℕ) (view : Seat S E)
-    (other : ℕ) (guest : Seat S E)
-    (none : S) → AreSeated made logs views → get_elem? views seat ≡ some view → other ≢ seat →
-    get_elem? (set views seat (both_of view guest)) other ≡ some guest →
-    AreSeated made logs (set (set views seat (both_of view guest)) other (standing_for none []))
-seated_both {S = S} {E = E} made logs views seat view other guest none seated at apart there =
+pub seated_joined : {S E : Type 0} (made : ℕ) (logs : List (List E)) (views : List (Seat S E)) (seat : ℕ) (view : Seat S E)
+    (other : ℕ) (guest : Seat S E) (scene none : S) →
+    let both = standing_for scene (guest.parties ++ view.parties) in
+    AreSeated made logs views → get_elem? views seat ≡ some view → other ≢ seat →
+    get_elem? (set views seat both) other ≡ some guest →
+    AreSeated made logs (set (set views seat both) other (standing_for none []))
+seated_joined {S = S} {E = E} made logs views seat view other guest scene none seated at apart there =
     let Known : Seat S E → Type 0 = λ v. HaveLogs made logs v.parties in
-    let both = both_of view guest in
+    let both : Seat S E = standing_for scene (guest.parties ++ view.parties) in
     let spent : Seat S E = standing_for none [] in
     let first : List (Seat S E) = set views seat both in
     let was : get_elem? views other ≡ some guest = elim (at_set views seat other both guest there) [
@@ -193,16 +255,39 @@ seated_both {S = S} {E = E} made logs views seat view other guest none seated at
         | inl here ↦ subst Known here.1 tt
         | inr rest ↦ elim (at_set views seat third both found rest.1) [
           | inl joined ↦ subst Known joined.1
-              (have-append made logs view.parties guest.parties (seated.known seat view at) (seated.known other guest was))
+              (have-append made logs guest.parties view.parties (seated.known other guest was) (seated.known seat view at))
           | inr elsewhere ↦ seated.known third found elsewhere.1
         ]
       ];
       once = λ number below.
           let placed = times_in_views-set number views seat view both at in
           let emptied = times_in_views-set number first other guest spent there in
-          let same = times_in-append number view.parties guest.parties in
+          let same = times_in-append number guest.parties view.parties in
           let one = seated.once number below in omega arith;
     }
+
+-- a view becomes another with the same parties
+pub seated_again : {S E : Type 0} (made : ℕ) (logs : List (List E)) (views : List (Seat S E)) (seat : ℕ) (view : Seat S E)
+    (scene : S) → AreSeated made logs views → get_elem? views seat ≡ some view →
+    AreSeated made logs (set views seat (standing_for scene view.parties))
+seated_again {S = S} {E = E} made logs views seat view scene seated at =
+    let new : Seat S E = standing_for scene view.parties in record {
+      known = λ other found there. elim (at_set views seat other new found there) [
+        | inl here ↦ subst (λ (v : Seat S E). HaveLogs made logs v.parties) here.1 (seated.known seat view at)
+        | inr elsewhere ↦ seated.known other found elsewhere.1
+      ];
+      once = λ number below.
+          let placed = times_in_views-set number views seat view new at in
+          let one = seated.once number below in omega arith;
+    }
+
+-- no party stands twice in one view
+pub once_in : {S E : Type 0} (made : ℕ) (logs : List (List E)) (views : List (Seat S E)) (seat : ℕ) (view : Seat S E) →
+    AreSeated made logs views → get_elem? views seat ≡ some view → (number : ℕ) → number < made →
+    times_in number view.parties ≤ 1
+once_in made logs views seat view seated at number below =
+    let within = times_in-at number views seat view at in
+    let one = seated.once number below in omega arith
 
 -- THE OPENING
 

@@ -1,65 +1,81 @@
--- Two parties at one seat are two, and one interleaving has the logs of both.
-use Rattle.std.proofs.Common.{◌≡◌, ℕ, List, [], ◌∷◌, set, get_or, refl, sym, subst}
+-- What a load by a seat of several parties finds: how they agree with the position, and what two of them have of one another.
+use Rattle.std.proofs.Common.{◌≡◌, ℕ, List, [], ◌∷◌, set, get_or, refl, sym, ap, subst, arith}
 use mathlib.Core.Option.{none, some}
 use lib.ListN.{get_elem?}
 use Rattle.atomic_table.specs.Table.{State, Me, keeps, Allows, step}
-use Rattle.atomic_table.proofs.Lists.{set_again}
 use Rattle.bb_memory_base.specs.BumpMachine.{BumpScene}
+use Rattle.bb_memory_base.specs.BumpHistory.{BumpLog}
 use Rattle.bb_memory_base.proofs.BumpMeetings.{chunks_apart}
-use Rattle.bb_memory_base.proofs.BumpPositions.{both_interleaved}
-use Rattle.bb_memory.specs.Seats.{standing_for}
-use Rattle.bb_memory.specs.SharedBumpRule.{NumberedLog, SeatView, WordsAndLogsAgree}
-use Rattle.bb_memory.specs.SharedBumpSteps.{FirstTwoMeet, TellsMeeting, meets}
-use Rattle.bb_memory.proofs.Seatings.{two_parties}
+use Rattle.bb_memory_base.proofs.BumpPositions.{both_interleaved, position_within, seen_below}
+use Rattle.bb_memory_base.proofs.BumpWholes.{ends_by}
+use Rattle.bb_memory.specs.Seats.{numbered, standing_for}
+use Rattle.bb_memory.specs.SharedBumpRule.{NumberedLog, SeatView, WordsAndLogsAgree, meeting_of, met_by, sight}
+use Rattle.bb_memory.specs.SharedBumpSteps.{TellsMeeting, TellsTwo, meets}
+use Rattle.bb_memory.proofs.Seatings.{once_in, seated_again, two_parties}
+use Rattle.bb_memory.proofs.SharedBumpFloors.{met_set}
 
--- a load that changes nothing
-unmoved : (scene : BumpScene) (state : State ℕ SeatView) (rule : WordsAndLogsAgree scene state) (seat : ℕ) (view : SeatView) →
-    get_elem? state.views seat ≡ some view →
-    WordsAndLogsAgree scene
-    record { words = set state.words 0 (get_or state.words 0 0); homes = state.homes; views = set state.views seat view }
-unmoved scene state rule seat view at =
-    let same_words : set state.words 0 (get_or state.words 0 0) ≡ state.words = set_first state.words rule.position rule.words in
-    let same_views = set_again state.views seat view at in
-    subst (λ (x : List ℕ × List SeatView). WordsAndLogsAgree scene record { words = x.0; homes = state.homes; views = x.1 })
-    (λ i. (sym same_words i, sym same_views i)) rule
-  where
-    set_first : (words : List ℕ) (n : ℕ) → words ≡ n ∷ [] → set words 0 (get_or words 0 0) ≡ words
-    set_first words n is = subst (λ (l : List ℕ). set l 0 (get_or l 0 0) ≡ l) (sym is) refl
+-- what the rule tells a seat
+pub told_by : (scene : BumpScene) (state : State ℕ SeatView) (rule : WordsAndLogsAgree scene state) (seat : ℕ)
+    (view : SeatView) → get_elem? state.views seat ≡ some view →
+    TellsMeeting scene view.parties (met_by view) rule.position
+told_by scene state rule seat view at = record {
+  above = rule.met seat view at;
+  within = position_within scene rule.position rule.logs rule.opened rule.agree;
+  opened = rule.opened;
+  logs = rule.logs;
+  agree = rule.agree;
+  one_a_party = rule.one_a_party;
+  theirs = rule.seated.known seat view at;
+  once = once_in scene.parties rule.logs state.views seat view rule.seated at;
+}
 
-meets_at : (scene : BumpScene) (slots seat : ℕ) (a b : NumberedLog) →
-    Allows (WordsAndLogsAgree scene) slots seat (standing_for scene (a ∷ b ∷ []), []) 0 (λ found. found)
-    (meets (step slots 0 0 0 none) (standing_for scene (a ∷ b ∷ []), []))
-meets_at scene slots seat a b state rule _ at _ =
-    let view = standing_for scene (a ∷ b ∷ []) in
-    let have = rule.seated.known seat view at in
-    let two = two_parties scene.parties rule.logs state.views seat scene a b rule.seated at in (
-      view,
+meets_at : (scene : BumpScene) (slots seat met : ℕ) (parties : List NumberedLog) →
+    let view = standing_for (sight scene met) parties in
+    Allows (WordsAndLogsAgree scene) slots seat (view, []) 0 (λ found. found) (meets (step slots 0 0 0 none) (view, []))
+meets_at scene slots seat met parties state rule _ at _ =
+    let view : SeatView = standing_for (sight scene met) parties in
+    let found : ℕ = get_or state.words 0 0 in
+    let word : found ≡ rule.position = ap (λ (words : List ℕ). get_or words 0 0) rule.words in
+    let same : set state.words 0 found ≡ rule.position ∷ [] =
+    ap (λ (words : List ℕ). set words 0 (get_or words 0 0)) rule.words in (
+      meeting_of found view,
       keeps,
       tt,
-      unmoved scene state rule seat view at,
-      (
-        refl,
-        record {
-          differ = two;
-          apart =
-              chunks_apart scene rule.position rule.logs a.number a.log b.number b.log rule.opened rule.agree have.1 have.2.1 two;
-          interleaved = (
-            rule.position,
-            both_interleaved scene rule.position rule.logs a.number a.log b.number b.log rule.agree have.1 have.2.1,
-          );
-        },
-      ),
+      record {
+        position = rule.position;
+        logs = rule.logs;
+        agree = rule.agree;
+        words = same;
+        opened = rule.opened;
+        one_a_party = rule.one_a_party;
+        seated = seated_again scene.parties rule.logs state.views seat view (sight scene found) rule.seated at;
+        met = met_set state.views seat (meeting_of found view) rule.position rule.position rule.met (omega arith)
+            (omega (arith, word));
+      },
+      (refl, subst (TellsMeeting scene parties met) (sym word) (told_by scene state rule seat view at)),
     )
 
-pub meets_as : (scene : BumpScene) (slots seat : ℕ) (a b : NumberedLog) (me : Me ℕ SeatView) →
-    me ≡ (standing_for scene (a ∷ b ∷ []), []) →
+pub meets_as : (scene : BumpScene) (slots seat met : ℕ) (parties : List NumberedLog) (me : Me ℕ SeatView) →
+    me ≡ (standing_for (sight scene met) parties, []) →
     Allows (WordsAndLogsAgree scene) slots seat me 0 (λ found. found) (meets (step slots 0 0 0 none) me)
-meets_as scene slots seat a b me is =
+meets_as scene slots seat met parties me is =
     subst (λ (m : Me ℕ SeatView). Allows (WordsAndLogsAgree scene) slots seat m 0 (λ found. found)
     (meets (step slots 0 0 0 none) m)) (sym is)
-    (meets_at scene slots seat a b)
+    (meets_at scene slots seat met parties)
 
--- what such a load has told
-pub have_met : (scene : BumpScene) (a b : NumberedLog) (me : Me ℕ SeatView) → me ≡ (standing_for scene (a ∷ b ∷ []), []) →
-    FirstTwoMeet me.0.scene me.0.parties → TellsMeeting scene a b
-have_met scene a b me is told = subst (λ (m : Me ℕ SeatView). FirstTwoMeet m.0.scene m.0.parties) is told
+-- what a meeting of two has found
+pub two_met : (scene : BumpScene) (number : ℕ) (log : BumpLog) (other : ℕ) (other_log : BumpLog) (met found : ℕ) →
+    TellsMeeting scene (numbered other other_log ∷ numbered number log ∷ []) met found →
+    TellsTwo scene number log other other_log found
+two_met scene number log other other_log met found told =
+    let have = told.theirs in
+    let differ = two_parties (numbered other other_log) (numbered number log) [] (told.once other have.0) in
+    let apart = λ (same : number ≡ other). differ (sym same) in
+    let seen = seen_below scene found told.logs number log told.agree have.2.1 in
+    let other_seen = seen_below scene found told.logs other other_log told.agree have.1 in record {
+      differ = apart;
+      apart = chunks_apart scene found told.logs number log other other_log told.opened told.agree have.2.1 have.1 apart;
+      interleaved = both_interleaved scene found told.logs number log other other_log told.agree have.2.1 have.1;
+      seen = (seen, other_seen);
+      chunks = (ends_by scene log found seen, ends_by scene other_log found other_seen);
+    }

@@ -1,6 +1,6 @@
 -- One more entry of a request: what it finds, loses and wins.
-use Rattle.std.proofs.Common.{◌≡◌, ◌+◌, ◌≤◌, List, [], ◌∷◌, ◌++◌, ap, ◌∙◌, arith}
-use Rattle.std.specs.Prelude.{if◌then◌else◌}
+use Rattle.std.proofs.Common.{◌≡◌, ℕ, ◌+◌, ◌≤◌, List, [], ◌∷◌, ◌++◌, ap, ◌∙◌, arith}
+use Rattle.std.specs.Prelude.{if◌then◌else◌, max}
 use Rattle.std.proofs.lemmas.List.Elements.{All-push}
 use Rattle.std.proofs.lemmas.List.Sums.{sum_by-append}
 use Rattle.bb_memory_base.specs.Chunk.{Chunk}
@@ -17,11 +17,13 @@ losses_more tried entry =
     let both = sum_by-append (λ (e : BumpEntry). if is_loss e.outcome then 1 else 0) tried (entry ∷ []) in
     let one = losses_in-cons entry [] in omega arith
 
-pub counted_more : (scene : BumpScene) (log tried : BumpLog) (entry : BumpEntry) → IsCounted scene log tried →
-    HasPositionFrom (seen_in scene log) scene.region entry → HasPositionUpTo scene.region.size scene.region entry →
-    losses_in tried + (if is_loss entry.outcome then 1 else 0) ≤ scene.region.size → IsCounted scene log (tried ++ entry ∷ [])
-counted_more scene log tried entry counted from up_to few = record {
-  seen = All-push (HasPositionFrom (seen_in scene log) scene.region) tried entry counted.seen from;
+pub counted_more : (scene : BumpScene) (log : BumpLog) (met : ℕ) (tried : BumpLog) (entry : BumpEntry) →
+    IsCounted scene log met tried →
+    HasPositionFrom (max (seen_in scene log) met) scene.region entry → HasPositionUpTo scene.region.size scene.region entry →
+    losses_in tried + (if is_loss entry.outcome then 1 else 0) ≤ scene.region.size →
+    IsCounted scene log met (tried ++ entry ∷ [])
+counted_more scene log met tried entry counted from up_to few = record {
+  seen = All-push (HasPositionFrom (max (seen_in scene log) met) scene.region) tried entry counted.seen from;
   within = All-push (HasPositionUpTo scene.region.size scene.region) tried entry counted.within up_to;
   losses = let more = losses_more tried entry in omega (arith, more, few);
 }

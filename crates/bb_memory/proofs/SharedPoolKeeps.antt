@@ -1,24 +1,25 @@
 -- Each atomic step keeps words and logs in agreement.
 use Rattle.std.proofs.Common.{◌≡◌, ℕ, zero, suc, ◌<◌, List, [], ◌∷◌, ◌++◌, length, map, set, get_or, Bool}
-use Rattle.std.proofs.Common.{true, false, Some, Option, eqb, refl, sym, ap, ◌∙◌, subst, arith, suc-ne-zero}
+use Rattle.std.proofs.Common.{true, false, None, Some, Option, eqb, refl, sym, ap, ◌∙◌, subst, arith, suc-ne-zero}
 use Rattle.std.specs.Prelude.{slice_get, slice_set}
 use mathlib.Core.Option.{none, some}
 use lib.ListN.{get_elem?}
 use lib.Seq.{map-set}
 use prog.Atomic.{either}
-use Rattle.atomic_table.specs.Table.{State, Me, Act, keeps, step, stepped, carried_after, Valid, Allows}
+use Rattle.atomic_table.specs.Table.{State, Me, Act, Step, keeps, step, stepped, carried_after, Valid, Allows}
 use Rattle.bb_memory_base.specs.PoolMachine.{PoolScene}
 use Rattle.bb_memory_base.specs.PoolHistory.{PoolEntry, PoolLog, entry_of}
-use Rattle.bb_memory_base.specs.PoolLogs.{HasLog, IsHeldAfter, LogsAgree, loss_at, next_bucket, with_entry}
-use Rattle.bb_memory_base.specs.declared.steps.pool.PoolStep.TheVariants.{Try, GiveBack}
-use Rattle.bb_memory_base.specs.declared.steps.pool.PoolOutcome.TheVariants.{Takes, Gives}
-use Rattle.bb_memory_base.proofs.PoolLogSteps.{take_agrees, lose_agrees, give_agrees}
+use Rattle.bb_memory_base.specs.PoolLogs.{HasLog, IsHeldAfter, LogsAgree, loss_at, next_bucket, pass_after, pass_in, with_entry}
+use Rattle.bb_memory_base.specs.declared.steps.pool.PoolStep.TheVariants.{Try, GiveBack, TryAt}
+use Rattle.bb_memory_base.specs.declared.steps.pool.PoolOutcome.TheVariants.{Takes, Gives, Misses}
+use Rattle.bb_memory_base.proofs.PoolLogSteps.{take_agrees, lose_agrees, give_agrees, take_at_agrees, miss_agrees}
 use Rattle.bb_memory_base.proofs.PoolLogFacts.{free_not_held, taken_is_held_alone, length-flags, interleaved_log}
 use Rattle.bb_memory_base.proofs.SliceGets.{slice_get-set_same, length-set_at}
 use Rattle.bb_memory.specs.Seats.{alone}
-use Rattle.bb_memory.specs.SharedPoolRule.{IsSeatOf, SeatView, WordsAndLogsAgree, word_of, words_of}
-use Rattle.bb_memory.specs.SharedPoolSteps.{returns, tries}
+use Rattle.bb_memory.specs.SharedPoolRule.{IsSeatOf, IsSeatOfIdle, SeatView, WordsAndLogsAgree, word_of, words_of}
+use Rattle.bb_memory.specs.SharedPoolSteps.{returns, tries, tries_at}
 use Rattle.bb_memory.proofs.Seatings.{seated_step}
+use Rattle.bb_memory.proofs.SharedPoolTries.{idle_after_one}
 
 -- WORDS AND FLAGS
 
@@ -94,20 +95,34 @@ told scene flags logs party log entry at agree = record {
       (slice_get-set_same logs party (log ++ entry ∷ []) log at);
 }
 
+-- the same of a step that leaves the party idle
+told_idle : (scene : PoolScene) (flags : List Bool) (logs : List PoolLog) (party : ℕ) (log : PoolLog) (entry : PoolEntry) →
+    HasLog logs party log → LogsAgree scene flags (with_entry logs party log entry) →
+    pass_in log ≡ None → pass_after None entry.outcome ≡ None →
+    IsSeatOfIdle scene party (log ++ entry ∷ []) (alone scene party (log ++ entry ∷ []), [])
+told_idle scene flags logs party log entry at agree idle is = record {
+  seat = told scene flags logs party log entry at agree;
+  idle = idle_after_one log entry idle is;
+}
+
 -- EXCHANGES
 
+-- what a step tells
+abbrev Telling : Type 1
+Telling = Step ℕ → Me ℕ SeatView → ℕ → Me ℕ SeatView → Type 0
+
 -- what an exchange that found a word may do
-abbrev Allowed : PoolScene → State ℕ SeatView → ℕ → ℕ → ℕ → Me ℕ SeatView → ℕ → Type 0
-Allowed scene state seat slots bucket me found =
+abbrev Allowed : Telling → PoolScene → State ℕ SeatView → ℕ → ℕ → ℕ → Me ℕ SeatView → ℕ → Type 0
+Allowed tells scene state seat slots bucket me found =
     (new : SeatView) × (act : Act ℕ) × Valid state.homes me.1 act
     × WordsAndLogsAgree scene (stepped state bucket (either (eqb found 0) 1 found) seat me.1 new act)
-    × tries (step slots bucket 0 1 none) me found (new, carried_after me.1 act)
+    × tells (step slots bucket 0 1 none) me found (new, carried_after me.1 act)
 
 tries_flag : (scene : PoolScene) (slots seat party bucket : ℕ) (log : PoolLog) → next_bucket log ≡ bucket →
     (state : State ℕ SeatView) (rule : WordsAndLogsAgree scene state) →
     get_elem? state.views seat ≡ some (alone scene party log) →
     (flag : Bool) → slice_get rule.flags bucket ≡ Some flag →
-    Allowed scene state seat slots bucket (alone scene party log, []) (word_of flag)
+    Allowed tries scene state seat slots bucket (alone scene party log, []) (word_of flag)
 tries_flag scene slots seat party bucket log next state rule at false free =
     let mine = rule.seated.known seat (alone scene party log) at in
     let entry : PoolEntry = entry_of (Try party) (Takes bucket) in
@@ -157,7 +172,7 @@ tries_one scene slots seat party bucket log below next state rule homes at fits 
     let flag = some_at rule.flags bucket (omega arith) in
     let found : get_or state.words bucket 0 ≡ word_of flag.0 =
     ap (λ (words : List ℕ). get_or words bucket 0) rule.words ∙ word_at rule.flags bucket flag.0 flag.1 in
-    subst (Allowed scene state seat slots bucket (alone scene party log, [])) (sym found)
+    subst (Allowed tries scene state seat slots bucket (alone scene party log, [])) (sym found)
     (tries_flag scene slots seat party bucket log next state rule at flag.0 flag.1)
 
 -- a seat of one party may try the bucket that is next
@@ -169,6 +184,75 @@ tries_as scene slots seat party bucket log me is below next =
     subst (λ (m : Me ℕ SeatView). Allows (WordsAndLogsAgree scene) slots seat m bucket (λ found. either (eqb found 0) 1 found)
     (tries (step slots bucket 0 1 none) m)) (sym is)
     (tries_one scene slots seat party bucket log below next)
+
+-- EXCHANGES OF AN IDLE PARTY
+
+tries_one_flag : (scene : PoolScene) (slots seat party bucket : ℕ) (log : PoolLog) → pass_in log ≡ None →
+    (state : State ℕ SeatView) (rule : WordsAndLogsAgree scene state) →
+    get_elem? state.views seat ≡ some (alone scene party log) →
+    (flag : Bool) → slice_get rule.flags bucket ≡ Some flag →
+    Allowed tries_at scene state seat slots bucket (alone scene party log, []) (word_of flag)
+tries_one_flag scene slots seat party bucket log idle state rule at false free =
+    let mine = rule.seated.known seat (alone scene party log) at in
+    let entry : PoolEntry = entry_of (TryAt party bucket) (Takes bucket) in
+    let flags : List Bool = slice_set rule.flags bucket true in
+    let agree = take_at_agrees scene rule.flags rule.logs party log bucket rule.agree mine.0 mine.1 idle free in (
+      alone scene party (log ++ entry ∷ []),
+      keeps,
+      tt,
+      entered scene state rule seat party log entry (set state.words bucket 1) flags at agree
+          (ap (λ (words : List ℕ). set words bucket 1) rule.words ∙ word_set rule.flags bucket false true free),
+      (
+        λ _. record {
+          ended = told_idle scene flags rule.logs party log entry mine.1 agree idle refl;
+          free = free_not_held scene rule.flags rule.logs party log bucket rule.agree mine.1 free;
+        },
+        λ not_free. absurd (not_free refl),
+      ),
+    )
+tries_one_flag scene slots seat party bucket log idle state rule at true taken =
+    let mine = rule.seated.known seat (alone scene party log) at in
+    let entry : PoolEntry = entry_of (TryAt party bucket) (Misses bucket) in
+    let agree = miss_agrees scene rule.flags rule.logs party log bucket rule.agree mine.0 mine.1 idle taken in (
+      alone scene party (log ++ entry ∷ []),
+      keeps,
+      tt,
+      entered scene state rule seat party log entry (set state.words bucket 1) rule.flags at agree
+          (ap (λ (words : List ℕ). set words bucket 1) rule.words ∙ word_set rule.flags bucket true true taken
+          ∙ ap words_of (flag_again rule.flags bucket taken)),
+      (
+        λ zero_found. absurd (suc-ne-zero zero zero_found),
+        λ _. record {
+          ended = told_idle scene rule.flags rule.logs party log entry mine.1 agree idle refl;
+          held = λ one.
+              let first : party ≡ 0 = let made = mine.0 in omega arith in
+              taken_is_held_alone scene rule.flags rule.logs log bucket rule.agree one
+              (subst (λ n. HasLog rule.logs n log) first mine.1) taken;
+        },
+      ),
+    )
+
+tries_at_one : (scene : PoolScene) (slots seat party bucket : ℕ) (log : PoolLog) → bucket < scene.geometry.buckets →
+    pass_in log ≡ None →
+    Allows (WordsAndLogsAgree scene) slots seat (alone scene party log, []) bucket (λ found. either (eqb found 0) 1 found)
+    (tries_at (step slots bucket 0 1 none) (alone scene party log, []))
+tries_at_one scene slots seat party bucket log below idle state rule homes at fits =
+    let count = length-flags scene rule.flags rule.logs rule.agree in
+    let flag = some_at rule.flags bucket (omega arith) in
+    let found : get_or state.words bucket 0 ≡ word_of flag.0 =
+    ap (λ (words : List ℕ). get_or words bucket 0) rule.words ∙ word_at rule.flags bucket flag.0 flag.1 in
+    subst (Allowed tries_at scene state seat slots bucket (alone scene party log, [])) (sym found)
+    (tries_one_flag scene slots seat party bucket log idle state rule at flag.0 flag.1)
+
+-- a seat of one idle party may try any bucket
+pub tries_at_as : (scene : PoolScene) (slots seat party bucket : ℕ) (log : PoolLog) (me : Me ℕ SeatView) →
+    me ≡ (alone scene party log, []) → bucket < scene.geometry.buckets → pass_in log ≡ None →
+    Allows (WordsAndLogsAgree scene) slots seat me bucket (λ found. either (eqb found 0) 1 found)
+    (tries_at (step slots bucket 0 1 none) me)
+tries_at_as scene slots seat party bucket log me is below idle =
+    subst (λ (m : Me ℕ SeatView). Allows (WordsAndLogsAgree scene) slots seat m bucket (λ found. either (eqb found 0) 1 found)
+    (tries_at (step slots bucket 0 1 none) m)) (sym is)
+    (tries_at_one scene slots seat party bucket log below idle)
 
 -- STORES
 

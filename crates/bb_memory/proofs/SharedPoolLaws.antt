@@ -10,21 +10,23 @@ use Rattle.bb_memory_base.specs.PoolGeometry.{PoolGeometry, IsPoolGeometry, buck
 use Rattle.bb_memory_base.specs.PoolObject.{IsHeld}
 use Rattle.bb_memory_base.specs.PoolMachine.{PoolScene, IsHolder, left_by}
 use Rattle.bb_memory_base.specs.PoolHistory.{PoolEntry, PoolLog, entries_by, entry_of, history_of, is_by, log_of}
-use Rattle.bb_memory_base.specs.PoolCalls.{AreAsked, IsPoolRun, IsRefusedAt}
+use Rattle.bb_memory_base.specs.PoolCalls.{AreAsked, IsPoolRun, IsRefusedAt, MissesAt}
 use Rattle.bb_memory_base.specs.PoolLogs.{IsHeldAfter, loss_at}
 use Rattle.bb_memory_base.specs.declared.steps.pool.PoolStep.{PoolStep}
-use Rattle.bb_memory_base.specs.declared.steps.pool.PoolStep.TheVariants.{Try}
+use Rattle.bb_memory_base.specs.declared.steps.pool.PoolStep.TheVariants.{Try, TryAt}
 use Rattle.bb_memory_base.specs.declared.steps.pool.PoolOutcome.{PoolOutcome}
-use Rattle.bb_memory_base.specs.declared.steps.pool.PoolOutcome.TheVariants.{Loses, RefusedAtLoss}
+use Rattle.bb_memory_base.specs.declared.steps.pool.PoolOutcome.TheVariants.{Loses, Misses, RefusedAtLoss}
 use Rattle.bb_memory_base.specs.declared.layout.Layout.{Layout}
 use Rattle.bb_memory_base.proofs.PoolGeometries.{bucket_place-after, stride-above}
 use Rattle.bb_memory_base.proofs.PoolHolders.{holder_in_log, one_holder}
-use Rattle.bb_memory_base.proofs.PoolPasses.{refused_found_held}
+use Rattle.bb_memory_base.proofs.PoolPasses.{missed_is_held, refused_found_held}
 use Rattle.bb_memory_base.proofs.PoolRuns.{pool_run, run_is_sound, taken_is_held}
 use Rattle.bb_memory_base.proofs.PoolSteps.{length-left_by}
 use Rattle.bb_memory.specs.Pool.{AreAStrideApart}
 use Rattle.bb_memory.specs.SharedPool.{AreInterleaved, HasFoundAllHeld, IsHistoryRun, IsParty, PoolParty}
 use Rattle.bb_memory.specs.SharedPool.{SharedPool, TakenBucket, chunk_of, losses, refused_pass}
+use Rattle.bb_memory.specs.SharedPoolRounds.{HasMissedAll, at_turn, miss_at, misses, refused_round}
+use Rattle.bb_memory.proofs.SharedPoolRounds.{turn_at}
 
 pub history_run : (party : PoolParty) (is : IsParty party) (layouts : List Layout) →
     AreAsked party.allocator.scene.geometry is.interleaved.steps layouts →
@@ -163,6 +165,66 @@ history_refused party is before after some has =
       its_last = ap (λ (k : ℕ). entries_by number (take k history)) (add-one last.place) ∙ last.up_to ∙ sym beginning_is;
       refused = refused;
       found = λ bucket below. refused_found_held scene steps number last.place bucket is.scene.geometry refused below;
+    }
+
+-- REFUSED ROUNDS
+
+-- the misses of a round are those before a turn, the one at it, and others
+misses-split : (buckets party first turn count : ℕ) → turn < count →
+    let tried = at_turn buckets first turn in
+    (rest : PoolLog)
+    × (misses buckets party first count
+    ≡ misses buckets party first turn ++ entry_of (TryAt party tried) (Misses tried) ∷ rest)
+misses-split buckets party first turn zero below = absurd (omega arith)
+misses-split buckets party first turn (suc count) below = elim (cases_lt turn count) [
+  | inl before ↦
+      let split = misses-split buckets party first turn count before in
+      let tried = at_turn buckets first turn in
+      let end : PoolLog = miss_at party (at_turn buckets first count) in (
+        split.0 ++ end,
+        ap (λ (log : PoolLog). log ++ end) split.1
+            ∙ append_assoc (misses buckets party first turn) (entry_of (TryAt party tried) (Misses tried) ∷ split.0) end,
+      )
+  | inr not_before ↦
+      let same : turn ≡ count = omega arith in (
+        [],
+        ap (λ (t : ℕ). misses buckets party first t ++ miss_at party (at_turn buckets first t)) (sym same),
+      )
+]
+
+pub history_missed : (party : PoolParty) (is : IsParty party) (before after : PoolLog) (first : ℕ) →
+    party.log ≡ (before ++ refused_round party.allocator.scene.geometry.buckets party.number first) ++ after →
+    HasMissedAll party is before first
+history_missed party is before after first has bucket below =
+    let scene = party.allocator.scene in
+    let buckets : ℕ = scene.geometry.buckets in
+    let steps = is.interleaved.steps in
+    let history = history_of scene steps in
+    let number = party.number in
+    let at = turn_at buckets first bucket below in
+    let earlier : PoolLog = misses buckets number first at.turn in
+    let tried = at_turn buckets first at.turn in
+    let entry : PoolEntry = entry_of (TryAt number tried) (Misses tried) in
+    let split = misses-split buckets number first at.turn buckets at.before_end in
+    let log_is : party.log ≡ (before ++ earlier) ++ entry ∷ (split.0 ++ after) =
+    has
+    ∙ append_assoc before (refused_round buckets number first) after
+    ∙ ap (λ (log : PoolLog). before ++ (log ++ after)) split.1
+    ∙ ap (λ (log : PoolLog). before ++ log) (append_assoc earlier (entry ∷ split.0) after)
+    ∙ sym (append_assoc before earlier (entry ∷ (split.0 ++ after))) in
+    let last = kept_after (λ (other : PoolEntry). is_by number other.step) history (before ++ earlier) entry (split.0 ++ after)
+    (is.interleaved.logged ∙ log_is) in
+    let missed : MissesAt history number bucket last.place =
+    subst (λ (b : ℕ). slice_get history last.place ≡ Some (entry_of (TryAt number b) (Misses b))) at.there last.there in
+    record {
+      turn = at.turn;
+      step = last.place;
+      its_turn = ap (λ (k : ℕ). entries_by number (take k history)) (add-one last.place)
+          ∙ last.up_to
+          ∙ append_assoc before earlier (entry ∷ [])
+          ∙ ap (λ (t : ℕ). before ++ misses buckets number first t) (sym (add-one at.turn));
+      missed = missed;
+      held = (missed_is_held scene steps number bucket last.place is.scene.geometry missed).2;
     }
 
 -- BUCKETS

@@ -1,28 +1,28 @@
--- Two parties at one seat are two, and no bucket is held after both their logs.
+-- What a load by a seat of several parties finds: how they agree with the flags, and what two of them have of one another.
 use Rattle.std.proofs.Common.{◌≡◌, ℕ, zero, suc, List, [], ◌∷◌, set, get_or, refl, sym, ap, subst}
 use mathlib.Core.Option.{none, some}
 use lib.ListN.{get_elem?}
 use Rattle.atomic_table.specs.Table.{State, Me, keeps, step, Allows}
 use Rattle.atomic_table.proofs.Lists.{set_again}
 use Rattle.bb_memory_base.specs.PoolMachine.{PoolScene}
+use Rattle.bb_memory_base.specs.PoolHistory.{PoolLog}
 use Rattle.bb_memory_base.proofs.PoolLogFacts.{logs_apart, interleaved_logs}
-use Rattle.bb_memory.specs.Seats.{standing_for}
+use Rattle.bb_memory.specs.Seats.{numbered, standing_for}
 use Rattle.bb_memory.specs.SharedPoolRule.{NumberedLog, SeatView, WordsAndLogsAgree}
-use Rattle.bb_memory.specs.SharedPoolSteps.{TellsMeeting, meets}
-use Rattle.bb_memory.proofs.Seatings.{two_parties}
+use Rattle.bb_memory.specs.SharedPoolSteps.{TellsMeeting, TellsTwo, meets}
+use Rattle.bb_memory.proofs.Seatings.{once_in, two_parties}
 
-have_met : (scene : PoolScene) (state : State ℕ SeatView) (rule : WordsAndLogsAgree scene state) (seat : ℕ)
-    (a b : NumberedLog) → get_elem? state.views seat ≡ some (standing_for scene (a ∷ b ∷ [])) → TellsMeeting scene a b
-have_met scene state rule seat a b at =
-    let known = rule.seated.known seat (standing_for scene (a ∷ b ∷ [])) at in
-    let two = two_parties scene.parties rule.logs state.views seat scene a b rule.seated at in
-    record {
-      differ = two;
-      apart = λ bucket held other_held. two
-          (logs_apart scene rule.flags rule.logs a.number a.log b.number b.log bucket rule.agree known.1 known.2.1 held
-          other_held);
-      interleaved = interleaved_logs scene rule.flags rule.logs a.number a.log b.number b.log rule.agree known.1 known.2.1;
-    }
+-- what the rule tells a seat
+told_by : (scene : PoolScene) (state : State ℕ SeatView) (rule : WordsAndLogsAgree scene state) (seat : ℕ)
+    (view : SeatView) → get_elem? state.views seat ≡ some view → TellsMeeting scene view.parties
+told_by scene state rule seat view at = record {
+  flags = rule.flags;
+  logs = rule.logs;
+  agree = rule.agree;
+  one_a_party = rule.one_a_party;
+  theirs = rule.seated.known seat view at;
+  once = once_in scene.parties rule.logs state.views seat view rule.seated at;
+}
 
 -- a word that is stored again stays
 same_word : (words : List ℕ) (i : ℕ) → set words i (get_or words i 0) ≡ words
@@ -31,24 +31,37 @@ same_word (word ∷ words) zero = refl
 same_word (word ∷ words) (suc i) = ap (λ (rest : List ℕ). word ∷ rest) (same_word words i)
 
 -- a load that changes nothing
-meets_both : (scene : PoolScene) (slots seat word : ℕ) (a b : NumberedLog) →
-    Allows (WordsAndLogsAgree scene) slots seat (standing_for scene (a ∷ b ∷ []), []) word (λ found. found)
-    (meets (step slots word 0 0 none) (standing_for scene (a ∷ b ∷ []), []))
-meets_both scene slots seat word a b state rule homes at fits =
-    let both : SeatView = standing_for scene (a ∷ b ∷ []) in
+meets_at : (scene : PoolScene) (slots seat word : ℕ) (parties : List NumberedLog) →
+    let view = standing_for scene parties in
+    Allows (WordsAndLogsAgree scene) slots seat (view, []) word (λ found. found) (meets (step slots word 0 0 none) (view, []))
+meets_at scene slots seat word parties state rule homes at fits =
+    let view : SeatView = standing_for scene parties in
     let words = same_word state.words word in
-    let views = set_again state.views seat both at in (
-      both,
+    let views = set_again state.views seat view at in (
+      view,
       keeps,
       tt,
       subst (λ (s : List ℕ × List SeatView). WordsAndLogsAgree scene record { words = s.0; homes = state.homes; views = s.1 })
           (λ i. (sym words i, sym views i)) rule,
-      (refl, have_met scene state rule seat a b at),
+      (refl, told_by scene state rule seat view at),
     )
 
-pub meets_as : (scene : PoolScene) (slots seat word : ℕ) (a b : NumberedLog) (me : Me ℕ SeatView) →
-    me ≡ (standing_for scene (a ∷ b ∷ []), []) →
+pub meets_as : (scene : PoolScene) (slots seat word : ℕ) (parties : List NumberedLog) (me : Me ℕ SeatView) →
+    me ≡ (standing_for scene parties, []) →
     Allows (WordsAndLogsAgree scene) slots seat me word (λ found. found) (meets (step slots word 0 0 none) me)
-meets_as scene slots seat word a b me is =
+meets_as scene slots seat word parties me is =
     subst (λ (m : Me ℕ SeatView). Allows (WordsAndLogsAgree scene) slots seat m word (λ found. found)
-    (meets (step slots word 0 0 none) m)) (sym is) (meets_both scene slots seat word a b)
+    (meets (step slots word 0 0 none) m)) (sym is) (meets_at scene slots seat word parties)
+
+-- what a meeting of two has found
+pub two_met : (scene : PoolScene) (number : ℕ) (log : PoolLog) (other : ℕ) (other_log : PoolLog) →
+    TellsMeeting scene (numbered other other_log ∷ numbered number log ∷ []) → TellsTwo scene number log other other_log
+two_met scene number log other other_log told =
+    let have = told.theirs in
+    let differ = two_parties (numbered other other_log) (numbered number log) [] (told.once other have.0) in
+    let apart = λ (same : number ≡ other). differ (sym same) in record {
+      differ = apart;
+      apart = λ bucket held other_held. apart
+          (logs_apart scene told.flags told.logs number log other other_log bucket told.agree have.2.1 have.1 held other_held);
+      interleaved = interleaved_logs scene told.flags told.logs number log other other_log told.agree have.2.1 have.1;
+    }

@@ -9,7 +9,7 @@ use Rattle.bb_memory_base.specs.PoolHistory.{PoolEntry, PoolLog}
 use Rattle.bb_memory_base.proofs.PoolLogSteps.{opening_agrees}
 use Rattle.bb_memory.specs.Seats.{both_of, first_of, others_of}
 use Rattle.bb_memory.specs.SharedPoolRule.{SeatView, WordsAndLogsAgree, all_parties, nobody, word_of, words_of}
-use Rattle.bb_memory.proofs.Seatings.{seated_both, seated_first, seated_opening, seated_others}
+use Rattle.bb_memory.proofs.Seatings.{seated_joined, seated_opening, seated_others}
 
 pub gives_first : (scene : PoolScene) (seat : ℕ) (view : SeatView) →
     Splits (WordsAndLogsAgree scene) seat view (others_of view) (first_of view)
@@ -22,17 +22,6 @@ gives_first scene seat view state rule at = record {
   seated = seated_others scene.parties rule.logs state.views seat view rule.seated at;
 }
 
-pub keeps_first : (scene : PoolScene) (seat : ℕ) (view : SeatView) →
-    Splits (WordsAndLogsAgree scene) seat view (first_of view) (others_of view)
-keeps_first scene seat view state rule at = record {
-  flags = rule.flags;
-  logs = rule.logs;
-  agree = rule.agree;
-  words = rule.words;
-  one_a_party = rule.one_a_party;
-  seated = seated_first scene.parties rule.logs state.views seat view rule.seated at;
-}
-
 pub gathers : (scene : PoolScene) (seat other : ℕ) (view guest : SeatView) →
     Joins (WordsAndLogsAgree scene) seat view other guest (both_of view guest) nobody
 gathers scene seat other view guest state rule at apart there = record {
@@ -41,7 +30,8 @@ gathers scene seat other view guest state rule at apart there = record {
   agree = rule.agree;
   words = rule.words;
   one_a_party = rule.one_a_party;
-  seated = seated_both scene.parties rule.logs state.views seat view other guest nobody.scene rule.seated at apart there;
+  seated = seated_joined scene.parties rule.logs state.views seat view other guest view.scene nobody.scene
+      rule.seated at apart there;
 }
 
 -- THE OPENING

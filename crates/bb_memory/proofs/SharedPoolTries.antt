@@ -1,9 +1,9 @@
--- What a pass and a return make of a log.
+-- What a pass, a step of an idle party and a return make of a log.
 use Rattle.std.proofs.Common.{◌≡◌, ◌≢◌, ℕ, zero, suc, ◌+◌, ◌<◌, ◌≤◌, Bool, true, false}
 use Rattle.std.proofs.Common.{true≢false, [], ◌∷◌, ◌++◌, refl, sym, ap, ◌∙◌, arith, Option, None}
 use Rattle.std.specs.Prelude.{fold, unwrap_or, nat_lt, ◌==◌, if◌then◌else◌}
 use Rattle.std.proofs.lemmas.Bool.Decides.{nat_tests}
-use Rattle.bb_memory_base.specs.PoolHistory.{PoolLog, entry_of}
+use Rattle.bb_memory_base.specs.PoolHistory.{PoolEntry, PoolLog, entry_of}
 use Rattle.bb_memory_base.specs.PoolLogs.{held_after, IsHeldAfter, pass_after, pass_in, next_bucket, loss_at}
 use Rattle.bb_memory_base.specs.declared.steps.pool.PoolStep.TheVariants.{Try}
 use Rattle.bb_memory_base.specs.declared.steps.pool.PoolOutcome.TheVariants.{Takes, Loses, RefusedAtLoss}
@@ -13,7 +13,7 @@ use Rattle.bb_memory.specs.SharedPool.{losses, taking_pass, refused_pass, return
 abbrev pass_through : Option ℕ → PoolLog → Option ℕ
 pass_through pass log = fold (λ pass entry. pass_after pass entry.outcome) pass log
 
-abbrev held_through : ℕ → Bool → PoolLog → Bool
+abbrev pub held_through : ℕ → Bool → PoolLog → Bool
 held_through bucket held log = fold (λ held entry. held_after bucket held entry.outcome) held log
 
 pass-append : (pass : Option ℕ) (log more : PoolLog) →
@@ -21,7 +21,7 @@ pass-append : (pass : Option ℕ) (log more : PoolLog) →
 pass-append pass [] more = refl
 pass-append pass (entry ∷ log) more = pass-append (pass_after pass entry.outcome) log more
 
-held-append : (bucket : ℕ) (held : Bool) (log more : PoolLog) →
+pub held-append : (bucket : ℕ) (held : Bool) (log more : PoolLog) →
     held_through bucket held (log ++ more) ≡ held_through bucket (held_through bucket held log) more
 held-append bucket held [] more = refl
 held-append bucket held (entry ∷ log) more = held-append bucket (held_after bucket held entry.outcome) log more
@@ -49,10 +49,10 @@ same_held buckets party lost bucket log =
     held-append bucket false log (losses buckets party lost)
     ∙ held-losses buckets party lost bucket (held_through bucket false log)
 
-test_below : (m n : ℕ) → m < n → nat_lt m n ≡ true
+pub test_below : (m n : ℕ) → m < n → nat_lt m n ≡ true
 test_below m n below = grind (arith, nat_tests)
 
-test_not_below : (m n : ℕ) → n ≤ m → nat_lt m n ≡ false
+pub test_not_below : (m n : ℕ) → n ≤ m → nat_lt m n ≡ false
 test_not_below m n least = grind (arith, nat_tests)
 
 -- after losses at some of the buckets the next one is tried
@@ -117,7 +117,7 @@ holds_taken buckets party bucket log =
     held-taking buckets party bucket bucket log
     ∙ ap (λ (b : Bool). if b then true else held_through bucket false log) (test_same bucket bucket refl)
 
-either_true : (b : Bool) → (if b then true else true) ≡ true
+pub either_true : (b : Bool) → (if b then true else true) ≡ true
 either_true true = refl
 either_true false = refl
 
@@ -128,6 +128,14 @@ held_after_taking buckets party taken bucket log held =
     held-taking buckets party taken bucket log
     ∙ ap (λ (b : Bool). if taken == bucket then true else b) held
     ∙ either_true (taken == bucket)
+
+-- STEPS OF AN IDLE PARTY
+
+-- such a step leaves the party idle
+pub idle_after_one : (log : PoolLog) (entry : PoolEntry) → pass_in log ≡ None → pass_after None entry.outcome ≡ None →
+    pass_in (log ++ entry ∷ []) ≡ None
+idle_after_one log entry idle is =
+    pass-append None log (entry ∷ []) ∙ ap (λ (pass : Option ℕ). pass_after pass entry.outcome) idle ∙ is
 
 -- RETURNS
 

@@ -1,8 +1,9 @@
 -- What holds of every live list that a pool stands for.
-use Rattle.std.specs.Prelude.{◌≡◌, ◌≤◌, ℕ, List, Some, slice_get}
-use Rattle.std.proofs.Common.{sym, ◌∙◌, ap, subst}
+use Rattle.std.specs.Prelude.{◌≡◌, ◌<◌, ◌≤◌, ℕ, List, Some, min, slice_get}
+use Rattle.std.proofs.Common.{sym, ◌∙◌, ap, arith, subst}
 use Rattle.std.proofs.lemmas.Option.{slice_get_within, get_or_from_slice_get}
 use Rattle.bb_memory_base.specs.Chunk.{Chunk}
+use Rattle.bb_memory.specs.IndexWords.{index_words}
 use Rattle.bb_memory.specs.Pool.{Pool, StandsFor, HoldsPlace}
 
 -- what stands at a position of it has the place of a held bucket
@@ -31,3 +32,7 @@ pub held_is_live : (pool : Pool) (live : List Chunk) (place : ℕ) →
 held_is_live pool live place stands (i, has, is) =
     let held = stands.held i has in
     (held.0, held.1.chunk, held.1.there, held.1.placed ∙ sym is)
+
+-- where there is a bucket, there is a word to read
+pub one_word : (count : ℕ) → 0 < count → min (index_words count) 1 ≡ 1
+one_word count some = omega (arith, some)

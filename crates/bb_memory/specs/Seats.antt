@@ -84,7 +84,7 @@ abbrev pub tail_of : {E : Type 0} → List (Numbered E) → List (Numbered E)
 tail_of [] = []
 tail_of (party ∷ parties) = parties
 
--- a view of the first party, of the others, and of the parties of two views
+-- a view of the first party, of the others, and of the parties of two views, the other's first
 abbrev pub first_of : {S E : Type 0} → Seat S E → Seat S E
 first_of view = standing_for view.scene (head_of view.parties)
 
@@ -92,4 +92,4 @@ abbrev pub others_of : {S E : Type 0} → Seat S E → Seat S E
 others_of view = standing_for view.scene (tail_of view.parties)
 
 abbrev pub both_of : {S E : Type 0} → Seat S E → Seat S E → Seat S E
-both_of view other = standing_for view.scene (view.parties ++ other.parties)
+both_of view other = standing_for view.scene (other.parties ++ view.parties)

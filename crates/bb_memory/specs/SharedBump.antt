@@ -1,11 +1,14 @@
 -- A shared bump and its parties, as their contracts see them, and what each call adds to its party's log.
-use Rattle.std.specs.Prelude.{◌≡◌, ℕ, ◌<◌, ◌≤◌, true, false, [], ◌∷◌, ◌++◌, None, Result, Ok, Err, All}
+use Rattle.std.specs.Prelude.{◌≡◌, ℕ, ◌+◌, ◌<◌, ◌≤◌, true, false, List, [], ◌∷◌, ◌++◌, None, Result, Ok, Err, All}
+use Rattle.std.specs.Prelude.{Contains, length, map, max}
 use Rattle.atomic_table.specs.Seated.{TableId}
 use Rattle.bb_memory_base.specs.Region.{Region}
-use Rattle.bb_memory_base.specs.Chunk.{Chunk, AreApart}
+use Rattle.bb_memory_base.specs.Chunk.{Chunk, AreApart, chunk_end}
 use Rattle.bb_memory_base.specs.BumpMachine.{BumpScene, chunk_at, fits}
 use Rattle.bb_memory_base.specs.BumpHistory.{BumpLog, chunks_won, entry_of}
-use Rattle.bb_memory_base.specs.BumpLogs.{CommonInterleaving, Interleaving, HasPositionFrom, HasPositionUpTo, call_in, seen_in}
+use Rattle.bb_memory_base.specs.BumpObject.{MayAllocate, StandsFor}
+use Rattle.bb_memory_base.specs.BumpLogs.{CommonInterleaving, Interleaving, HasLog, HasPositionFrom, HasPositionUpTo, LogsAgree}
+use Rattle.bb_memory_base.specs.BumpLogs.{call_in, seen_in}
 use Rattle.bb_memory_base.specs.declared.layout.Layout.{Layout}
 use Rattle.bb_memory_base.specs.declared.allocator.AllocationError.{AllocationError}
 use Rattle.bb_memory_base.specs.declared.allocator.AllocationError.TheVariants.{SizeIsZero, SizeTooLarge}
@@ -27,24 +30,48 @@ pub record IsSharedScene (scene : BumpScene) : Type 0 where
   pub opening : scene.opening ≤ scene.region.size
   pub parties : 1 ≤ scene.parties
 
--- a party: the bump that it belongs to, its number there, and its log
+-- a party: the bump that it belongs to, its number there, its log, and the position that its last meeting found, or 0
 pub record BumpParty : Type 0 where
   pub allocator : SharedBump
   pub number : ℕ
   pub log : BumpLog
+  pub met : ℕ
 
 -- the party of this number, which has made no step
 abbrev pub fresh_party : SharedBump → ℕ → BumpParty
-fresh_party allocator number = record { allocator = allocator; number = number; log = [] }
+fresh_party allocator number =
+    record { allocator = allocator; number = number; log = []; met = 0 }
 
 -- the party with these more entries in its log
 abbrev pub with_entries : BumpParty → BumpLog → BumpParty
-with_entries party entries =
-    record { allocator = party.allocator; number = party.number; log = party.log ++ entries }
+with_entries party entries = record {
+  allocator = party.allocator;
+  number = party.number;
+  log = party.log ++ entries;
+  met = party.met;
+}
+
+-- the party after a meeting that found this position
+abbrev pub meeting_at : ℕ → BumpParty → BumpParty
+meeting_at position party = record {
+  allocator = party.allocator;
+  number = party.number;
+  log = party.log;
+  met = position;
+}
 
 -- what the party has seen: the greatest position in its log, or the opening where that is empty
 abbrev pub seen_by : BumpParty → ℕ
 seen_by party = seen_in party.allocator.scene party.log
+
+-- its floor: what the party knows that the position is at least, which it has seen, or which its last meeting found
+abbrev pub floor_of : BumpParty → ℕ
+floor_of party = max (seen_by party) party.met
+
+-- the greatest position that one of these parties has seen, or 0 where there is none
+abbrev pub greatest_seen : List BumpParty → ℕ
+greatest_seen [] = 0
+greatest_seen (party ∷ parties) = max (seen_by party) (greatest_seen parties)
 
 -- WHAT CALLS ADD TO A LOG
 
@@ -80,9 +107,9 @@ pub data IsRefused (region : Region) (party : ℕ) (layout : Layout) (added : Bu
       added ≡ tried ++ entry_of (Exchange party) (RefusedAtLoss position) ∷ [] → seen < position →
       fits region position layout ≡ false → IsRefused region party layout added
 
--- each position in these entries is at least what the party had seen, and at most the region's size
+-- each position in these entries is at least the party's floor, and at most the region's size
 pub record IsFoundBy (party : BumpParty) (added : BumpLog) : Type 0 where
-  pub seen : All (HasPositionFrom (seen_by party) party.allocator.scene.region) added
+  pub seen : All (HasPositionFrom (floor_of party) party.allocator.scene.region) added
   pub within : let region = party.allocator.scene.region in
       All (HasPositionUpTo region.size region) added
 
@@ -105,18 +132,25 @@ MayTake party layout (Err OutOfMemory) new =
 MayTake party layout (Err SizeTooLarge) new = ⊥
 MayTake party layout (Err AlignmentFailure) new = ⊥
 
+-- the answer is the bump object's where this much of the region is used
+abbrev pub IsAnsweredAt : Region → ℕ → Layout → Result Chunk AllocationError → Type 0
+IsAnsweredAt region used layout answer =
+    (live : List Chunk) → StandsFor region used live → MayAllocate region live layout answer
+
 -- INTERLEAVINGS
 
 -- some interleaving of the party's log with some logs of the bump's other parties is allowed, and leaves what the party has seen
 abbrev pub IsInterleaved : BumpParty → Type 0
 IsInterleaved party = Interleaving party.allocator.scene party.number party.log (seen_by party)
 
--- what holds of every party: its number is below how many there are, it is in no call, and some interleaving has its log
+-- what holds of every party: its number is below how many there are, it is in no call, some interleaving has its log, and no
+-- meeting found more than the region's size
 pub record IsParty (party : BumpParty) : Type 0 where
   pub scene : IsSharedScene party.allocator.scene
   pub number : party.number < party.allocator.scene.parties
   pub idle : call_in party.log ≡ None
   pub interleaved : IsInterleaved party
+  pub met : party.met ≤ party.allocator.scene.region.size
 
 -- one interleaving has the logs of both parties
 abbrev pub AreInterleaved : BumpParty → BumpParty → Type 0
@@ -127,3 +161,34 @@ AreInterleaved a b =
 abbrev pub HaveChunksApart : BumpLog → BumpLog → Type 0
 HaveChunksApart log other_log =
     All (λ chunk. All (AreApart chunk) (chunks_won other_log)) (chunks_won log)
+
+-- each chunk that was won in the log ends at or before this much of the region
+abbrev pub HasChunksWithin : Region → BumpLog → ℕ → Type 0
+HasChunksWithin region log used =
+    All (λ chunk. chunk_end chunk ≤ region.start + used) (chunks_won log)
+
+-- ALL PARTIES
+
+-- each of so many numbers is that of one of these parties
+abbrev pub HaveAllNumbers : ℕ → List BumpParty → Type 0
+HaveAllNumbers count parties =
+    (number : ℕ) → number < count → Contains (map (λ party. party.number) parties) number
+
+-- There is a log for each of the bump's parties, with which this position agrees, and these parties' logs are among them. Where
+-- these are all parties, each log is one of theirs, and the position is the greatest that one of them has seen.
+pub record AgreeAt (scene : BumpScene) (position : ℕ) (parties : List BumpParty) : Type 0 where
+  pub logs : List BumpLog
+  pub agree : LogsAgree scene position logs
+  pub one_a_party : length logs ≡ scene.parties
+  pub theirs : All (λ party. HasLog logs party.number party.log) parties
+  pub whole : length parties ≡ scene.parties →
+      HaveAllNumbers scene.parties parties × (position ≡ greatest_seen parties)
+
+-- These parties have met, and are now these. The position that they found is at least each one's floor, and is the one that some
+-- interleaving of all their logs leaves.
+pub record HaveMet (scene : BumpScene) (old new : List BumpParty) : Type 0 where
+  pub position : ℕ
+  pub kept : new ≡ map (meeting_at position) old
+  pub risen : All (λ party. floor_of party ≤ position) old
+  pub within : position ≤ scene.region.size
+  pub agree : AgreeAt scene position old

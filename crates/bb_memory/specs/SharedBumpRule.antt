@@ -1,12 +1,14 @@
 -- The rule of a shared bump's word, and what its seats and fields stand for.
-use Rattle.std.specs.Prelude.{◌≡◌, ℕ, ◌<◌, ◌≤◌, List, [], ◌∷◌, None, length}
+use Rattle.std.specs.Prelude.{◌≡◌, ℕ, ◌<◌, ◌≤◌, List, [], ◌∷◌, ◌++◌, None, length, max}
+use mathlib.Core.Option.{some}
+use lib.ListN.{get_elem?}
 use Rattle.atomic_table.specs.Seated.{TableId}
 use Rattle.atomic_table.specs.Table.{State, Me}
 use Rattle.bb_memory_base.specs.Region.{IsRegion, region_at}
 use Rattle.bb_memory_base.specs.BumpMachine.{BumpScene}
 use Rattle.bb_memory_base.specs.BumpHistory.{BumpEntry, BumpLog}
 use Rattle.bb_memory_base.specs.BumpLogs.{Interleaving, LogsAgree, call_in, seen_in}
-use Rattle.bb_memory.specs.Seats.{AreSeated, Numbered, Seat, alone, fresh_from, standing_for, view_log}
+use Rattle.bb_memory.specs.Seats.{AreSeated, Numbered, Seat, alone, fresh_from, numbered, standing_for, view_log}
 use Rattle.bb_memory.specs.SharedBump.{BumpParty, IsSharedScene, scene_at}
 
 -- SEATS
@@ -15,21 +17,39 @@ use Rattle.bb_memory.specs.SharedBump.{BumpParty, IsSharedScene, scene_at}
 abbrev pub NumberedLog : Type 0
 NumberedLog = Numbered BumpEntry
 
+abbrev pub numbered_of : BumpParty → NumberedLog
+numbered_of party = numbered party.number party.log
+
+-- the scene, and the position that the last meeting there found, or 0
+pub record Sight : Type 0 where
+  pub scene : BumpScene
+  pub met : ℕ
+
+abbrev pub sight : BumpScene → ℕ → Sight
+sight scene met = record { scene = scene; met = met }
+
 abbrev pub SeatView : Type 0
-SeatView = Seat BumpScene BumpEntry
+SeatView = Seat Sight BumpEntry
+
+abbrev pub scene_of : SeatView → BumpScene
+scene_of view = view.scene.scene
+
+abbrev pub met_by : SeatView → ℕ
+met_by view = view.scene.met
 
 -- the party of a seat in the table
 abbrev pub party_in : TableId → ℕ → SeatView → BumpParty
 party_in table number view = record {
-  allocator = record { table = table; scene = view.scene };
+  allocator = record { table = table; scene = scene_of view };
   number = number;
   log = view_log view;
+  met = met_by view;
 }
 
 -- the seat stands for this party alone, whose log some interleaving has, which leaves what the party has seen
 pub record IsSeatOf (scene : BumpScene) (number : ℕ) (log : BumpLog) (me : Me ℕ SeatView)
     : Type 0 where
-  pub is : me ≡ (alone scene number log, [])
+  pub is : me ≡ (alone (sight scene (met_by me.0)) number log, [])
   pub interleaved : Interleaving scene number log (seen_in scene log)
 
 -- the same of an idle party
@@ -40,14 +60,15 @@ pub record IsSeatOfIdle (scene : BumpScene) (number : ℕ) (log : BumpLog) (me :
 
 -- the seat of an idle party with this number
 pub record IsPartySeat (number : ℕ) (me : Me ℕ SeatView) : Type 0 where
-  pub seat : IsSeatOfIdle me.0.scene number (view_log me.0) me
-  pub below : number < me.0.scene.parties
-  pub shared : IsSharedScene me.0.scene
+  pub seat : IsSeatOfIdle (scene_of me.0) number (view_log me.0) me
+  pub below : number < (scene_of me.0).parties
+  pub shared : IsSharedScene (scene_of me.0)
+  pub met : met_by me.0 ≤ (scene_of me.0).region.size
 
 -- THE RULE
 
 -- Words and logs agree: there is a log for each party, with which the machine's position agrees that the word has. Each party
--- stands in exactly one view, with its log; a dropped party's view stays.
+-- stands in exactly one view, with its log; a dropped party's view stays. No meeting has found more than the position.
 pub record WordsAndLogsAgree (scene : BumpScene) (state : State ℕ SeatView) : Type 0 where
   pub position : ℕ
   pub logs : List BumpLog
@@ -56,6 +77,7 @@ pub record WordsAndLogsAgree (scene : BumpScene) (state : State ℕ SeatView) : 
   pub opened : scene.opening ≤ scene.region.size
   pub one_a_party : length logs ≡ scene.parties
   pub seated : AreSeated scene.parties logs state.views
+  pub met : (seat : ℕ) (view : SeatView) → get_elem? state.views seat ≡ some view → met_by view ≤ position
 
 -- the table has one word, and no slot
 pub record HasOneWord (table : TableId) : Type 0 where
@@ -72,8 +94,19 @@ pub record IsSharedBump (scene : BumpScene) (start size : ℕ) : Type 0 where
 
 -- the view of the first seat, which stands for all parties
 abbrev pub all_parties : BumpScene → SeatView
-all_parties scene = standing_for scene (fresh_from 0 scene.parties)
+all_parties scene = standing_for (sight scene 0) (fresh_from 0 scene.parties)
 
 -- a view of no party
 abbrev pub nobody : SeatView
-nobody = standing_for (scene_at (region_at 0 0) 0 0) []
+nobody = standing_for (sight (scene_at (region_at 0 0) 0 0) 0) []
+
+-- MEETING
+
+-- the view of the parties of a guest and of a view, which knows what the last meeting of either found
+abbrev pub gathered : SeatView → SeatView → SeatView
+gathered view guest =
+    standing_for (sight (scene_of view) (max (met_by view) (met_by guest))) (guest.parties ++ view.parties)
+
+-- the view after a meeting that found this position
+abbrev pub meeting_of : ℕ → SeatView → SeatView
+meeting_of position view = standing_for (sight (scene_of view) position) view.parties

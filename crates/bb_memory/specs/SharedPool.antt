@@ -1,6 +1,7 @@
 -- A shared pool, its parties and the buckets that they took, as their contracts see them, and what each call adds to its
 -- party's log.
 use Rattle.std.specs.Prelude.{◌≡◌, ℕ, zero, suc, ◌<◌, ◌≤◌, List, [], ◌∷◌, ◌++◌, None, Result, Ok, Err, ◌+◌, take}
+use Rattle.std.specs.Prelude.{◌↔◌, All, Any, Bool, true, Contains, Some, length, map, slice_get}
 use Rattle.atomic_table.specs.Seated.{TableId}
 use Rattle.bb_memory_base.specs.Chunk.{Chunk}
 use Rattle.bb_memory_base.specs.PoolGeometry.{PoolGeometry, IsPoolGeometry, bucket_place}
@@ -8,7 +9,7 @@ use Rattle.bb_memory_base.specs.PoolObject.{IsWithin}
 use Rattle.bb_memory_base.specs.PoolMachine.{PoolScene}
 use Rattle.bb_memory_base.specs.PoolHistory.{PoolLog, entries_by, entry_of, history_of}
 use Rattle.bb_memory_base.specs.PoolCalls.{FoundHeld, IsPoolRun, IsRefusedAt}
-use Rattle.bb_memory_base.specs.PoolLogs.{CommonInterleaving, Interleaving, IsHeldAfter, loss_at, pass_in}
+use Rattle.bb_memory_base.specs.PoolLogs.{CommonInterleaving, HasLog, Interleaving, IsHeldAfter, LogsAgree, loss_at, pass_in}
 use Rattle.bb_memory_base.specs.declared.layout.Layout.{Layout}
 use Rattle.bb_memory_base.specs.declared.allocator.AllocationError.{AllocationError}
 use Rattle.bb_memory_base.specs.declared.allocator.AllocationError.TheVariants.{SizeIsZero, SizeTooLarge}
@@ -149,6 +150,35 @@ pub record HasFoundAllHeld (party : PoolParty) (is : IsParty party) (beginning :
 -- one interleaving has the logs of both parties
 abbrev pub AreInterleaved : PoolParty → PoolParty → Type 0
 AreInterleaved a b = CommonInterleaving a.allocator.scene a.number a.log b.number b.log
+
+-- ALL PARTIES
+
+-- each of so many numbers is that of one of these parties
+abbrev pub HaveAllNumbers : ℕ → List PoolParty → Type 0
+HaveAllNumbers count parties =
+    (number : ℕ) → number < count → Contains (map (λ party. party.number) parties) number
+
+-- one of these parties holds the bucket
+abbrev pub IsHeldByOne : List PoolParty → ℕ → Type 0
+IsHeldByOne parties bucket = Any (λ party. IsHeldAfter party.log bucket) parties
+
+-- There is a log for each of the pool's parties, with which these flags agree, and these parties' logs are among them. Where these
+-- are all parties, each log is one of theirs, and a flag is taken exactly where one of them holds the bucket.
+pub record AgreeWith (scene : PoolScene) (flags : List Bool) (parties : List PoolParty)
+    : Type 0 where
+  pub logs : List PoolLog
+  pub agree : LogsAgree scene flags logs
+  pub one_a_party : length logs ≡ scene.parties
+  pub theirs : All (λ party. HasLog logs party.number party.log) parties
+  pub whole : length parties ≡ scene.parties →
+      HaveAllNumbers scene.parties parties
+      × ((bucket : ℕ) → (slice_get flags bucket ≡ Some true) ↔ IsHeldByOne parties bucket)
+
+-- these parties have met: their logs, and the flags as they were then, agree
+abbrev pub HaveMet : PoolScene → List PoolParty → Type 0
+HaveMet scene parties = (flags : List Bool) × AgreeWith scene flags parties
+
+-- RUNS
 
 -- the takings and returns of the party's interleaving are a run of the pool object, from the empty list to this one
 abbrev pub IsHistoryRun : (party : PoolParty) → IsParty party → List Layout → List Chunk → Type 0

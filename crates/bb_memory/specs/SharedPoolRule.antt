@@ -11,13 +11,16 @@ use Rattle.bb_memory_base.specs.PoolHistory.{PoolEntry, PoolLog}
 use Rattle.bb_memory_base.specs.PoolLogs.{Interleaving, LogsAgree, pass_in}
 use Rattle.bb_memory_base.specs.declared.layout.Layout.{Layout}
 use Rattle.bb_memory.specs.SharedPool.{PoolParty, IsSharedScene, scene_at}
-use Rattle.bb_memory.specs.Seats.{AreSeated, Numbered, Seat, alone, fresh_from, standing_for, view_log}
+use Rattle.bb_memory.specs.Seats.{AreSeated, Numbered, Seat, alone, fresh_from, numbered, standing_for, view_log}
 
 -- SEATS
 
 -- a party's number with its log, and what a seat of a shared pool knows
 abbrev pub NumberedLog : Type 0
 NumberedLog = Numbered PoolEntry
+
+abbrev pub numbered_of : PoolParty → NumberedLog
+numbered_of party = numbered party.number party.log
 
 abbrev pub SeatView : Type 0
 SeatView = Seat PoolScene PoolEntry

@@ -1,13 +1,15 @@
--- What each step on a shared pool's words tells the party that makes it, and a pass as it stands at its party's seat.
-use Rattle.std.specs.Prelude.{◌≡◌, ◌≢◌, ℕ, ◌<◌, List, [], ◌∷◌, ◌++◌}
+-- What each step on a shared pool's words tells the party that makes it, and passes and rounds as they stand at their party's
+-- seat.
+use Rattle.std.specs.Prelude.{◌≡◌, ◌≢◌, ℕ, ◌<◌, ◌≤◌, Bool, List, [], ◌∷◌, ◌++◌, length}
 use Rattle.atomic_table.specs.Table.{Me, Step}
 use Rattle.bb_memory_base.specs.PoolMachine.{PoolScene}
 use Rattle.bb_memory_base.specs.PoolHistory.{PoolLog, entry_of}
-use Rattle.bb_memory_base.specs.PoolLogs.{CommonInterleaving, IsHeldAfter, loss_at}
+use Rattle.bb_memory_base.specs.PoolLogs.{CommonInterleaving, IsHeldAfter, LogsAgree, loss_at}
 use Rattle.bb_memory_base.specs.declared.steps.pool.PoolStep.TheVariants.{Try}
 use Rattle.bb_memory_base.specs.declared.steps.pool.PoolOutcome.TheVariants.{Takes}
-use Rattle.bb_memory.specs.Seats.{number_of, view_log}
+use Rattle.bb_memory.specs.Seats.{HaveLogs, number_of, times_in, view_log}
 use Rattle.bb_memory.specs.SharedPool.{AreAllHeldAfter, refused_pass, return_entry, taking_pass}
+use Rattle.bb_memory.specs.SharedPoolRounds.{at_turn, miss_at, refused_round, taking_at, taking_round}
 use Rattle.bb_memory.specs.SharedPoolRule.{IsSeatOf, IsSeatOfIdle, NumberedLog, SeatView}
 
 -- WHAT A STEP TELLS
@@ -31,21 +33,49 @@ TellsTry scene number log bucket found new =
     (found ≡ 0 → TellsTaking scene number log bucket new)
     × (found ≢ 0 → TellsLoss scene number log bucket new)
 
+-- Calls that have ended: the party is idle, and has added this.
+abbrev pub HasEnded : PoolScene → ℕ → PoolLog → PoolLog → Me ℕ SeatView → Type 0
+HasEnded scene number log added new = IsSeatOfIdle scene number (log ++ added) new
+
+-- an idle party's exchange took this bucket, which wasn't held after the party's log
+pub record HasTakenAt (scene : PoolScene) (number : ℕ) (log : PoolLog) (bucket : ℕ)
+    (new : Me ℕ SeatView) : Type 0 where
+  pub ended : HasEnded scene number log (taking_at number bucket) new
+  pub free : ¬ IsHeldAfter log bucket
+
+-- it missed the bucket, which is held after the log of a party that is the only one
+pub record HasMissedAt (scene : PoolScene) (number : ℕ) (log : PoolLog) (bucket : ℕ)
+    (new : Me ℕ SeatView) : Type 0 where
+  pub ended : HasEnded scene number log (miss_at number bucket) new
+  pub held : scene.parties ≡ 1 → IsHeldAfter log bucket
+
+-- an idle party's exchange from free to taken, which finds the flag free or not
+abbrev pub TellsTryAt : PoolScene → ℕ → PoolLog → ℕ → ℕ → Me ℕ SeatView → Type 0
+TellsTryAt scene number log bucket found new =
+    (found ≡ 0 → HasTakenAt scene number log bucket new)
+    × (found ≢ 0 → HasMissedAt scene number log bucket new)
+
 -- a store of free
 abbrev pub TellsReturn : PoolScene → ℕ → PoolLog → ℕ → Me ℕ SeatView → Type 0
 TellsReturn scene number log bucket new =
     IsSeatOf scene number (log ++ return_entry number bucket) new
 
--- two parties are different ones, no bucket is held after both logs, and one interleaving has both
-pub record TellsMeeting (scene : PoolScene) (a b : NumberedLog) : Type 0 where
-  pub differ : a.number ≢ b.number
-  pub apart : (bucket : ℕ) → IsHeldAfter a.log bucket → ¬ IsHeldAfter b.log bucket
-  pub interleaved : CommonInterleaving scene a.number a.log b.number b.log
+-- A load by a seat that stands for these parties: there are flags, and a log for each of the pool's parties, which agree, and
+-- theirs are among them; no two are one.
+pub record TellsMeeting (scene : PoolScene) (parties : List NumberedLog) : Type 0 where
+  pub flags : List Bool
+  pub logs : List PoolLog
+  pub agree : LogsAgree scene flags logs
+  pub one_a_party : length logs ≡ scene.parties
+  pub theirs : HaveLogs scene.parties logs parties
+  pub once : (number : ℕ) → number < scene.parties → times_in number parties ≤ 1
 
--- the first two parties of a seat that stands for two
-abbrev pub FirstTwoMeet : PoolScene → List NumberedLog → Type 0
-FirstTwoMeet scene (a ∷ b ∷ parties) = TellsMeeting scene a b
-FirstTwoMeet scene _ = Unit {0}
+-- what a meeting of two found: they are different ones, no bucket is held after both logs, and one interleaving has both
+pub record TellsTwo (scene : PoolScene) (number : ℕ) (log : PoolLog) (other : ℕ)
+    (other_log : PoolLog) : Type 0 where
+  pub differ : number ≢ other
+  pub apart : (bucket : ℕ) → IsHeldAfter log bucket → ¬ IsHeldAfter other_log bucket
+  pub interleaved : CommonInterleaving scene number log other other_log
 
 -- THE STEPS AS THE TABLE KNOWS THEM
 
@@ -53,21 +83,21 @@ abbrev pub tries : Step ℕ → Me ℕ SeatView → ℕ → Me ℕ SeatView → 
 tries step old found new =
     TellsTry old.0.scene (number_of old.0) (view_log old.0) step.word found new
 
+abbrev pub tries_at : Step ℕ → Me ℕ SeatView → ℕ → Me ℕ SeatView → Type 0
+tries_at step old found new =
+    TellsTryAt old.0.scene (number_of old.0) (view_log old.0) step.word found new
+
 abbrev pub returns : Step ℕ → Me ℕ SeatView → ℕ → Me ℕ SeatView → Type 0
 returns step old found new =
     TellsReturn old.0.scene (number_of old.0) (view_log old.0) step.word new
 
--- a load that changes nothing, by a seat that stands for two
+-- a load that changes nothing, by a seat that stands for any number of parties
 abbrev pub meets : Step ℕ → Me ℕ SeatView → ℕ → Me ℕ SeatView → Type 0
-meets step old found new = (new ≡ old) × FirstTwoMeet old.0.scene old.0.parties
+meets step old found new = (new ≡ old) × TellsMeeting old.0.scene old.0.parties
 
 -- PASSES
 
--- A pass, or a return, that has ended: the party is idle, and has added this.
-abbrev pub HasEnded : PoolScene → ℕ → PoolLog → PoolLog → Me ℕ SeatView → Type 0
-HasEnded scene number log added new = IsSeatOfIdle scene number (log ++ added) new
-
--- it took this bucket, which wasn't held after the log before
+-- a pass took this bucket, which wasn't held after the log before
 pub record HasTaken (scene : PoolScene) (number : ℕ) (log : PoolLog) (new : Me ℕ SeatView)
     (bucket : ℕ) : Type 0 where
   pub ended : HasEnded scene number log (taking_pass scene.geometry.buckets number bucket) new
@@ -78,4 +108,24 @@ pub record HasTaken (scene : PoolScene) (number : ℕ) (log : PoolLog) (new : Me
 pub record HasRefused (scene : PoolScene) (number : ℕ) (log : PoolLog) (new : Me ℕ SeatView)
     : Type 0 where
   pub ended : HasEnded scene number log (refused_pass scene.geometry.buckets number) new
+  pub held : scene.parties ≡ 1 → AreAllHeldAfter log scene.geometry.buckets
+
+-- ROUNDS
+
+-- a round took this bucket at a turn, and it wasn't held after the log before
+pub record HasTakenFrom (scene : PoolScene) (number : ℕ) (log : PoolLog) (first : ℕ)
+    (new : Me ℕ SeatView) (bucket : ℕ) : Type 0 where
+  pub turn : ℕ
+  pub before_end : turn < scene.geometry.buckets
+  pub there : at_turn scene.geometry.buckets first turn ≡ bucket
+  pub ended : HasEnded scene number log
+      (taking_round scene.geometry.buckets number first turn) new
+  pub below : bucket < scene.geometry.buckets
+  pub free : ¬ IsHeldAfter log bucket
+
+-- it was refused: where the party is the only one, all buckets were held after its log
+pub record HasRefusedFrom (scene : PoolScene) (number : ℕ) (log : PoolLog) (first : ℕ)
+    (new : Me ℕ SeatView) : Type 0 where
+  pub ended : HasEnded scene number log
+      (refused_round scene.geometry.buckets number first) new
   pub held : scene.parties ≡ 1 → AreAllHeldAfter log scene.geometry.buckets

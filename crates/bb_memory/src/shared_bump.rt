@@ -1,5 +1,5 @@
 //! The bump that threads share: its word is the position, and each thread steps with a party of its own.
-ghost use Rattle.std.specs.Prelude.{◌≡◌, ◌≢◌, ◌-◌, ◌<◌, ◌≤◌, ◌%◌, ◌∷◌, ◌++◌, [], ℕ, List, All, IfOk};
+ghost use Rattle.std.specs.Prelude.{◌≡◌, ◌≢◌, ◌+◌, ◌-◌, ◌<◌, ◌≤◌, ◌%◌, ◌∷◌, ◌++◌, [], ℕ, List, All, IfOk};
 ghost use Rattle.std.specs.Prelude.{OnErr, Some, length, slice_get, vec_len, vec_capacity, Contains};
 ghost use Rattle.bb_memory_base.specs.Region.{IsRegion, region_at};
 ghost use Rattle.bb_memory_base.specs.Chunk.{AreApart, Chunk, IsInside};
@@ -7,11 +7,14 @@ ghost use Rattle.bb_memory_base.specs.LiveList.{IsSound};
 ghost use Rattle.bb_memory_base.specs.BumpObject.{StandsFor};
 ghost use Rattle.bb_memory_base.specs.BumpHistory.{BumpLog, chunks_won, history_of, losses_in};
 ghost use Rattle.bb_memory_base.specs.BumpCalls.{IsCallRun, OpensWith, calls_of, live_after};
-ghost use Rattle.bb_memory_base.specs.BumpLogs.{Interleaving};
-ghost use Rattle.bb_memory.specs.SharedBump.{AreInterleaved, BumpParty, HaveChunksApart, IsFoundBy, IsInterleaved, IsParty};
-ghost use Rattle.bb_memory.specs.SharedBump.{IsSharedScene, MayTake, fresh_party, load_entry, scene_at, seen_by, with_entries};
+ghost use Rattle.bb_memory_base.specs.BumpLogs.{CommonInterleaving, Interleaving};
+ghost use Rattle.bb_memory.specs.SharedBump.{AgreeAt, AreInterleaved, BumpParty, HasChunksWithin, HaveChunksApart};
+ghost use Rattle.bb_memory.specs.SharedBump.{HaveMet, IsAnsweredAt, IsFoundBy, IsInterleaved, IsParty, IsSharedScene, MayTake};
+ghost use Rattle.bb_memory.specs.SharedBump.{floor_of, fresh_party, greatest_seen, load_entry, meeting_at, scene_at, seen_by};
+ghost use Rattle.bb_memory.specs.SharedBump.{with_entries};
 ghost use Rattle.bb_memory.specs.SharedBumpRule.{all_parties};
 
+mod meeting;
 mod party;
 mod position;
 mod request;
@@ -130,9 +133,17 @@ impl SharedBumpAllocator {
             chunks_won party.new.log ≡ chunks_won party.old.log ++ chunk ∷ []) }
         ensures none_won { OnErr result (chunks_won party.new.log ≡ chunks_won party.old.log) }
 
-        // Each position that it finds is at least what the party had seen, and at most the size.
+        // Each position that it finds is at least the party's floor, and at most the size.
         ensures found { (added : BumpLog) → party.new ≡ with_entries party.old added
             → IsFoundBy party.old added }
+
+        // A chunk begins at or after the party's floor.
+        ensures floor { IfOk result (λ chunk.
+            self.now.scene.region.start + floor_of party.old ≤ chunk.place) }
+
+        // Where the party is the only one, the answer is the bump object's at what it had seen.
+        ensures alone { self.now.scene.parties ≡ 1
+            → IsAnsweredAt self.now.scene.region (seen_by party.old) layout result }
 
         // It loses at most as many exchanges as the region has bytes.
         ensures losses { (added : BumpLog) → party.new ≡ with_entries party.old added
@@ -153,19 +164,47 @@ impl SharedBumpAllocator {
         }
     }
 
-    /// Two parties meet: no chunk of the one overlaps one of the other. It loads a word four times, which is in no log, and
-    /// changes nothing. The parties have to be this bump's.
+    /// Two parties meet: no chunk of the one overlaps one of the other. It loads a word four times, which is in no log. What it
+    /// finds raises the floor of both, and nothing else changes. The parties have to be this bump's.
     pub fn meet(&self, a: &mut BumpParty, b: &mut BumpParty)
         requires a { a.old.allocator ≡ self.now }
         requires b { b.old.allocator ≡ self.now }
-        ensures kept { (a.new ≡ a.old) × (b.new ≡ b.old) }
+        ensures kept { (a.new ≡ meeting_at a.new.met a.old) × (b.new ≡ meeting_at a.new.met b.old) }
         ensures a { a.new.allocator ≡ self.now }
         ensures b { b.new.allocator ≡ self.now }
         ensures differ { a.old.number ≢ b.old.number }
         ensures apart { HaveChunksApart a.old.log b.old.log }
         ensures interleaved { AreInterleaved a.old b.old }
+
+        // What it found is at least what either knew, at most the size, and what an interleaving of
+        // both logs leaves.
+        ensures risen { (floor_of a.old ≤ a.new.met) × (floor_of b.old ≤ a.new.met) }
+        ensures within { a.new.met ≤ self.now.scene.region.size }
+        ensures leaves { CommonInterleaving self.now.scene
+            a.old.number a.old.log b.old.number b.old.log a.new.met }
+
+        // Each chunk of either ends there or before.
+        ensures behind { let region = self.now.scene.region in
+            HasChunksWithin region a.new.log a.new.met × HasChunksWithin region b.new.log a.new.met }
     {
         self.position.meet(&mut a.seat, &mut b.seat);
+    }
+
+    /// All these parties meet: one interleaving has all their logs, and leaves the position that the meeting finds; where these are
+    /// all the bump's parties, it has no other steps, and the position is the greatest that one of them has seen. What it finds
+    /// raises the floor of each, and nothing else changes. It loads a word once, and two times more for each party but one, which is
+    /// in no log. The parties have to be this bump's.
+    pub fn meet_all(&self, parties: &mut Vec<BumpParty>)
+        requires parties { All (λ party. party.allocator ≡ self.now) parties.old.items }
+        ensures met { HaveMet self.now.scene parties.old.items parties.new.items }
+        ensures parties { All (λ party. party.allocator ≡ self.now) parties.new.items }
+    {
+        let _ = &self.start;
+        if let Some(party) = parties.pop() {
+            let BumpParty { number, mut seat } = party;
+            self.meet_rest(&mut seat, parties);
+            parties.push_reserved(BumpParty { number, seat });
+        }
     }
 
     /// Where the region starts.
@@ -185,7 +224,9 @@ impl SharedBumpAllocator {
         ensures interleaved { IsInterleaved party.new }
         ensures is_party { IsParty party.new }
         ensures seen { seen_by party.old ≤ result }
+        ensures floor { floor_of party.old ≤ result }
         ensures within { result ≤ self.now.scene.region.size }
+        ensures alone { self.now.scene.parties ≡ 1 → result ≡ seen_by party.old }
     {
         self.position.load(&mut party.seat)
     }
@@ -200,7 +241,10 @@ impl SharedBumpAllocator {
         ensures interleaved { IsInterleaved party.new }
         ensures is_party { IsParty party.new }
         ensures seen { seen_by party.old ≤ self.now.scene.region.size - result }
+        ensures floor { floor_of party.old ≤ self.now.scene.region.size - result }
         ensures within { result ≤ self.now.scene.region.size }
+        ensures alone { self.now.scene.parties ≡ 1
+            → self.now.scene.region.size - result ≡ seen_by party.old }
     {
         self.size - self.used_space(party)
     }
@@ -222,8 +266,12 @@ impl SharedBumpAllocator {
         ensures region { result.region ≡ self.scene.region }
         ensures interleaved { Interleaving self.scene party.number party.log result.used }
         ensures seen { seen_by party ≤ result.used }
+        ensures floor { floor_of party ≤ result.used }
         ensures within { result.used ≤ self.scene.region.size }
         ensures exact { self.scene.parties ≡ 1 → result.used ≡ seen_by party }
+
+        // Each chunk that was won in the party's log ends there or before.
+        ensures behind { HasChunksWithin self.scene.region party.log result.used }
     {
         let SharedBumpAllocator {
             position,
@@ -233,6 +281,36 @@ impl SharedBumpAllocator {
         let BumpParty { number: _, seat } = party;
         let used = position.close(seat);
         BumpAllocator::at_position(start, size, used)
+    }
+
+    /// The bump again, for one owner who has all its parties: of the same region, and at exactly the greatest position that one
+    /// of them has seen. It stands for the list that was live before the bump was shared, with the chunks that were won since
+    /// behind it, in the order of an interleaving of all logs. The parties have to be this bump's, and as many as it has.
+    pub fn into_owner_all(self, mut parties: Vec<BumpParty>) -> BumpAllocator
+        requires parties { All (λ party. party.allocator ≡ self) parties.items }
+        requires all { length parties.items ≡ self.scene.parties }
+        ensures region { result.region ≡ self.scene.region }
+        ensures agree { AgreeAt self.scene result.used parties.items }
+        ensures exact { result.used ≡ greatest_seen parties.items }
+        ensures floor { All (λ party. floor_of party ≤ result.used) parties.items }
+        ensures stands { (live : List Chunk)
+            → OpensWith self.scene live → (all : AgreeAt self.scene result.used parties.items)
+            → StandsFor self.scene.region result.used
+            (live ++ chunks_won (history_of self.scene all.agree.steps)) }
+    {
+        let party = parties.pop().unwrap();
+        let BumpParty {
+            number: _,
+            mut seat,
+        } = party;
+        self.gather_rest(&mut seat, parties);
+        let SharedBumpAllocator {
+            position,
+            start,
+            size,
+        } = self;
+        let last = position.close(seat);
+        BumpAllocator::at_position(start, size, last)
     }
 
     /// Gives each party a seat of its own.
@@ -290,6 +368,10 @@ pub fn shared_bump_law()
     ensures sound { (party : BumpParty)
         → IsParty party
         → IsSound party.allocator.scene.region (chunks_won party.log) }
+
+    // Each ends at or before what the party has seen, and so at or before its floor.
+    ensures ends { (party : BumpParty)
+        → HasChunksWithin party.allocator.scene.region party.log (seen_by party) }
 
     // Each is apart from each chunk that was live before the bump was shared.
     ensures older { (party : BumpParty) (live : List Chunk)

@@ -1,38 +1,40 @@
 //! Pools that threads share: each call takes its pool by `&`, and steps on one atomic flag for each bucket.
-ghost use Rattle.std.specs.Prelude.{◌≡◌, ◌≢◌, ◌<◌, ◌≤◌, ◌↔◌, ◌%◌, ℕ, All, List, Some};
-ghost use Rattle.std.specs.Prelude.{IsErr, IfOk, IfErr, OnErr, length, slice_get, ◌++◌, ◌⊎◌};
-ghost use Rattle.bb_memory_base.specs.Region.{IsRegion, region_at};
-ghost use Rattle.bb_memory_base.specs.Chunk.{AreApart, Chunk, IsInside};
+ghost use Rattle.std.specs.Prelude.{◌≡◌, ◌≢◌, ◌<◌, ◌≤◌, ℕ, All, List, Some};
+ghost use Rattle.std.specs.Prelude.{IfOk, IfErr, length, slice_get, ◌++◌, ◌⊎◌};
+ghost use Rattle.bb_memory_base.specs.Region.{region_at};
+ghost use Rattle.bb_memory_base.specs.Chunk.{AreApart, Chunk};
 ghost use Rattle.bb_memory_base.specs.LiveList.{IsSound};
 ghost use Rattle.bb_memory_base.specs.FirstPlace.{first_place};
 ghost use Rattle.bb_memory_base.specs.PoolGeometry.{IsCut};
-ghost use Rattle.bb_memory_base.specs.PoolObject.{IsHeld, IsWithin, MayGrow, MayShrink};
+ghost use Rattle.bb_memory_base.specs.PoolObject.{IsHeld};
 ghost use Rattle.bb_memory_base.specs.PoolCalls.{AreAsked, IsPoolRun};
 ghost use Rattle.bb_memory_base.specs.PoolHistory.{PoolLog};
 ghost use Rattle.bb_memory_base.specs.PoolLogs.{IsHeldAfter};
 ghost use Rattle.bb_memory_base.specs.declared.layout.Layout.{Layout};
 ghost use Rattle.bb_memory.specs.Pool.{AreAStrideApart, MayBeCut};
-ghost use Rattle.bb_memory.specs.SharedPool.{AreAllHeldAfter, AreInterleaved, HasFoundAllHeld, IsHistoryRun, IsInterleaved};
-ghost use Rattle.bb_memory.specs.SharedPool.{IsParty, IsSharedScene, MayTake, PoolParty, TakenBucket, chunk_of, fresh_party};
-ghost use Rattle.bb_memory.specs.SharedPool.{refused_pass, resized, return_entry, with_entries};
+ghost use Rattle.bb_memory.specs.SharedPool.{AreInterleaved, HasFoundAllHeld, IsHistoryRun};
+ghost use Rattle.bb_memory.specs.SharedPool.{IsParty, PoolParty, TakenBucket, chunk_of, fresh_party};
+ghost use Rattle.bb_memory.specs.SharedPool.{refused_pass};
+ghost use Rattle.bb_memory.specs.SharedPoolRounds.{HasMissedAll, refused_round};
 
 mod bucket;
 mod buckets;
 mod by_number;
 mod fixed_size;
 mod flags;
+mod meeting;
 mod party;
+mod rounds;
 mod rule;
 
 pub use crate::allocator::{AllocationError, AllocationGrowError, AllocationShrinkError};
-use crate::layout::{Chunk, Layout};
+use crate::layout::Layout;
 use crate::pool_allocator::geometry::Geometry;
 pub use bucket::Bucket;
-use buckets::SharedBuckets;
+use buckets::SharedBucketPool;
 pub use fixed_size::SharedFixedSizePoolAllocator;
 pub use party::PoolParty;
 use std::alloc::{AllocError, Global};
-use std::marker::Model;
 
 /// Gives buckets of one layout to any number of threads. The pool is made for some number of parties, and each thread that
 /// takes or gives back buckets has one of them. No call waits for another, and none takes memory once the pool is made.
@@ -50,18 +52,7 @@ use std::marker::Model;
 /// prove!(number < 8 && len == 48);
 /// pool.deallocate_bucket(&mut party, taken);
 /// ```
-#[derive(Drop)]
-pub struct SharedPoolAllocator {
-    buckets: SharedBuckets,
-}
-
-impl Model for SharedPoolAllocator {
-    ghost use Rattle.bb_memory.specs.SharedPool.{SharedPool};
-
-    ghost Value = { SharedPool };
-
-    ghost view = { λ a. a.buckets };
-}
+pub type SharedPoolAllocator = SharedBucketPool<0, 0>;
 
 impl SharedPoolAllocator {
     /// A pool over the region of `size` bytes at `start`, cut into buckets of this layout, with no bucket held, and its
@@ -89,156 +80,10 @@ impl SharedPoolAllocator {
         ensures refused { IfErr result (λ error. error ≡ AllocationError.OutOfMemory) }
     {
         let geometry = Geometry::new(bucket_layout, start, size);
-        match SharedBuckets::open(alloc, geometry, parties) {
-            Ok((buckets, all)) => Ok((SharedPoolAllocator { buckets }, all)),
+        match Self::open(alloc, geometry, parties) {
+            Ok(made) => Ok(made),
             Err(AllocError) => Err(AllocationError::OutOfMemory),
         }
-    }
-
-    /// Takes a bucket for the party, with a chunk of `layout.size()` bytes. It is refused in this order: with `SizeTooLarge`
-    /// where the size is greater than the bucket's, and with `AlignmentFailure` where the alignment is greater than the
-    /// bucket's, both without a step. Then it makes one pass: one exchange on each flag from bucket 0 up, until one is taken.
-    /// It is refused with `OutOfMemory` where all are lost. Where other parties step meanwhile, that doesn't mean that all
-    /// buckets were held at one moment. The party has to be this pool's.
-    pub fn allocate(
-        &self,
-        party: &mut PoolParty,
-        layout: Layout,
-    ) -> Result<Bucket<'_>, AllocationError>
-        requires party { party.old.allocator ≡ self.now }
-        ensures answer { MayTake party.old layout result party.new }
-        ensures party { party.new.allocator ≡ self.now }
-        ensures number { party.new.number ≡ party.old.number }
-        ensures bucket { IfOk result (λ bucket. bucket.allocator ≡ self.now) }
-        ensures interleaved { IsInterleaved party.new }
-        ensures is_party { IsParty party.new }
-
-        // What is held after the party's log.
-        ensures held { IfOk result (λ bucket. IsHeldAfter party.new.log bucket.number) }
-        ensures still_held { (other : ℕ) → IsHeldAfter party.old.log other
-            → IsHeldAfter party.new.log other }
-        ensures alone { self.now.scene.parties ≡ 1 → IsWithin self.now.scene.geometry.bucket layout
-            → (IsErr result ↔ AreAllHeldAfter party.old.log self.now.scene.geometry.buckets) }
-
-        // The chunk in the bucket.
-        ensures inside { IfOk result (λ bucket.
-            IsInside self.now.scene.geometry.region (chunk_of bucket)) }
-        ensures aligned { IfOk result (λ bucket. (chunk_of bucket).place % layout.align ≡ 0) }
-        ensures exact_size { IfOk result (λ bucket. (chunk_of bucket).len ≡ layout.size) }
-    {
-        self.buckets.allocate(party, layout)
-    }
-
-    /// Gives back a bucket by one store, which makes its flag free. The party and the bucket have to be this pool's, and the
-    /// party's log has to hold the bucket: this party took it, and it wasn't given back since.
-    pub fn deallocate_bucket(&self, party: &mut PoolParty, bucket: Bucket<'_>)
-        requires party { party.old.allocator ≡ self.now }
-        requires bucket { bucket.allocator ≡ self.now }
-        requires held { IsHeldAfter party.old.log bucket.number }
-        ensures logged { party.new
-            ≡ with_entries party.old (return_entry party.old.number bucket.entry.number) }
-        ensures party { party.new.allocator ≡ self.now }
-        ensures number { party.new.number ≡ party.old.number }
-        ensures interleaved { IsInterleaved party.new }
-        ensures is_party { IsParty party.new }
-        ensures given_back { ¬ IsHeldAfter party.new.log bucket.entry.number }
-        ensures still_held { (other : ℕ) → other ≢ bucket.entry.number
-            → IsHeldAfter party.old.log other → IsHeldAfter party.new.log other }
-    {
-        self.buckets.free(party, bucket);
-    }
-
-    /// Two parties meet: no bucket is held by both. It loads a word four times, which is in no log, and changes nothing. The
-    /// parties have to be this pool's.
-    pub fn meet(&self, a: &mut PoolParty, b: &mut PoolParty)
-        requires a { a.old.allocator ≡ self.now }
-        requires b { b.old.allocator ≡ self.now }
-        ensures kept { (a.new ≡ a.old) × (b.new ≡ b.old) }
-        ensures a { a.new.allocator ≡ self.now }
-        ensures b { b.new.allocator ≡ self.now }
-        ensures differ { a.old.number ≢ b.old.number }
-        ensures apart { (bucket : ℕ) → IsHeldAfter a.old.log bucket
-            → ¬ IsHeldAfter b.old.log bucket }
-        ensures interleaved { AreInterleaved a.old b.old }
-    {
-        self.buckets.meet(a, b);
-    }
-
-    /// Gives the bucket's chunk the new size, in its bucket and without a step. It is refused in this order: with
-    /// `GrowWouldShrink` where the new size isn't greater than the old one, with `AlignmentFailure` where the new alignment is
-    /// greater than the bucket's, and with `OutOfMemory` where the new size is greater than the bucket's. A refusal changes
-    /// nothing. The bucket has to be this pool's, and its place a multiple of the old alignment.
-    /// The old size is the one that is handed in: the token's own length isn't compared with it.
-    pub fn grow(
-        &self,
-        bucket: &mut Bucket<'_>,
-        old: Layout,
-        new: Layout,
-    ) -> Result<Chunk, AllocationGrowError>
-        requires bucket { bucket.old.allocator ≡ self.now }
-        requires aligned { (chunk_of bucket.old).place % old.align ≡ 0 }
-        ensures answer { MayGrow self.now.scene.geometry.bucket (chunk_of bucket.old).place
-            old new result }
-        ensures resized { IfOk result (λ grown. bucket.new ≡ resized bucket.old grown.len) }
-        ensures chunk { IfOk result (λ grown. chunk_of bucket.new ≡ grown) }
-        ensures inside { IfOk result (IsInside self.now.scene.geometry.region) }
-        ensures kept { OnErr result (bucket.new ≡ bucket.old) }
-    {
-        self.buckets.grow(bucket, old, new)
-    }
-
-    /// Gives the bucket's chunk exactly the new size, without a step. It is refused in this order: with `ShrinkWouldGrow` where
-    /// the new size isn't smaller than the old one, and with `AlignmentFailure` where the new alignment is greater than the
-    /// bucket's. A refusal changes nothing. The bucket has to be this pool's, its place a multiple of the old alignment, and the
-    /// old size at most the bucket's. The old size is the one that is handed in: the token's own length isn't compared
-    /// with it.
-    pub fn shrink(
-        &self,
-        bucket: &mut Bucket<'_>,
-        old: Layout,
-        new: Layout,
-    ) -> Result<Chunk, AllocationShrinkError>
-        requires bucket { bucket.old.allocator ≡ self.now }
-        requires aligned { (chunk_of bucket.old).place % old.align ≡ 0 }
-        requires reserved { old.size ≤ self.now.scene.geometry.bucket.size }
-        ensures answer { MayShrink self.now.scene.geometry.bucket (chunk_of bucket.old).place
-            old new result }
-        ensures resized { IfOk result (λ shrunk. bucket.new ≡ resized bucket.old shrunk.len) }
-        ensures chunk { IfOk result (λ shrunk. chunk_of bucket.new ≡ shrunk) }
-        ensures inside { IfOk result (IsInside self.now.scene.geometry.region) }
-        ensures kept { OnErr result (bucket.new ≡ bucket.old) }
-    {
-        self.buckets.shrink(bucket, old, new)
-    }
-
-    /// How many buckets there are. They lie in a region, and there is a party.
-    pub fn number_of_buckets(&self) -> u32
-        ensures value { result ≡ self.now.scene.geometry.buckets }
-        ensures region { IsRegion self.now.scene.geometry.region }
-        ensures scene { IsSharedScene self.now.scene }
-    {
-        self.buckets.count()
-    }
-
-    /// The size of a bucket in bytes, as it was asked for. The buckets are at least that far apart.
-    pub fn bucket_size(&self) -> usize
-        ensures value { result ≡ self.now.scene.geometry.bucket.size }
-    {
-        self.buckets.bucket().size()
-    }
-
-    /// The greatest alignment that a request may have, of which each bucket's place is a multiple.
-    pub fn max_alignment(&self) -> usize
-        ensures value { result ≡ self.now.scene.geometry.bucket.align }
-    {
-        self.buckets.bucket().align()
-    }
-
-    /// How many bytes the region has, as it was handed in.
-    pub fn size(&self) -> usize
-        ensures value { result ≡ self.now.scene.geometry.region.size }
-    {
-        self.buckets.region_size()
     }
 
     /// Where the first bucket is: the region's start, rounded up to the bucket's alignment.
@@ -246,7 +91,7 @@ impl SharedPoolAllocator {
         ensures value { result
             ≡ first_place self.now.scene.geometry.region self.now.scene.geometry.bucket }
     {
-        self.buckets.first()
+        self.flags.geometry().first()
     }
 }
 
@@ -282,6 +127,13 @@ pub fn shared_pool_law()
         → let buckets = party.allocator.scene.geometry.buckets in
         let beginning = before ++ refused_pass buckets party.number in
         0 < buckets → party.log ≡ beginning ++ after → HasFoundAllHeld party is beginning }
+
+    // Wherever the log has a round that was refused, that round has missed each bucket, which was
+    // held in the run then, each at a step of its own.
+    ensures missed { (party : PoolParty) (is : IsParty party) (before after : PoolLog) (first : ℕ)
+        → let buckets = party.allocator.scene.geometry.buckets in
+        party.log ≡ (before ++ refused_round buckets party.number first) ++ after
+        → HasMissedAll party is before first }
 
     // Two parties that met have one history together, whose takings and returns are a run too: one
     // run has those of both.

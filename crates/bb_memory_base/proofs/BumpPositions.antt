@@ -28,7 +28,7 @@ use Rattle.bb_memory_base.proofs.BumpLogs.{agreed_call}
 -- POSITIONS IN A LOG
 
 -- an allowed step leaves the greater of the position before it and the one in its outcome
-step_leaves : (region : Region) (state : BumpState) (step : BumpStep) (move : BumpMove) → StepView region state step move →
+pub step_leaves : (region : Region) (state : BumpState) (step : BumpStep) (move : BumpMove) → StepView region state step move →
     IsAllowed move.outcome →
     greater_of state.position (position_in region move.outcome) ≡ move.state.position
 step_leaves region state step move (sees party layout idle asks fit) allowed = omega arith
@@ -135,7 +135,7 @@ call_fits scene position logs party log call agree at inside is =
 
 -- WHAT A PARTY HAS SEEN
 
-greatest_in-below : (region : Region) (seen bound : ℕ) (log : BumpLog) → seen ≤ bound →
+pub greatest_in-below : (region : Region) (seen bound : ℕ) (log : BumpLog) → seen ≤ bound →
     AllByRecursion (HasPositionUpTo bound region) log →
     greatest_in region seen log ≤ bound
 greatest_in-below region seen bound [] below all = below

@@ -9,6 +9,7 @@ pub mod BumpPositions
 pub mod BumpRuns
 pub mod BumpSteps
 pub mod BumpStretches
+pub mod BumpWholes
 pub mod Layouts
 pub mod LeastPlaces
 pub mod LiveBytes

@@ -11,7 +11,7 @@ use Rattle.bb_memory_base.specs.PoolLogs.{held_after, IsHeldAfter}
 use Rattle.bb_memory_base.specs.declared.steps.pool.PoolOutcome.{PoolOutcome}
 use Rattle.bb_memory_base.specs.declared.steps.pool.PoolStep.{PoolStep}
 use Rattle.bb_memory_base.proofs.SliceSets.{slice_get-same, slice_get-set_other, slice_get-set_same}
-use Rattle.bb_memory_base.proofs.PoolSteps.{StepKind, takes, loses, is_refused, gives, passes}
+use Rattle.bb_memory_base.proofs.PoolSteps.{StepKind, takes, takes_at, loses, is_refused, gives, misses, passes}
 use Rattle.bb_memory_base.proofs.PoolSteps.{kind_of, same_from_test, test_same, test_apart}
 
 abbrev is_holder : ℕ → Option (Option ℕ) → Bool
@@ -55,6 +55,19 @@ step_holds state step move party bucket held (takes other at next free) before =
       ∙ either_way (other == party) held ∙ before
       ∙ sym (ap (is_holder party) now)
 ]
+step_holds state step move party bucket held (takes_at other at idle free) before = elim (cases_eq at bucket) [
+  | inl same ↦
+      let was = slice_get-same state.holders at bucket (Some None) same free in
+      let now = slice_get-set_same state.holders at bucket (Some other) None same free in
+      ap (λ (b : Bool). if other == party then (if b then true else held) else held) (test_same at bucket same)
+      ∙ when_taken (other == party) held (before ∙ ap (is_holder party) was)
+      ∙ sym (ap (is_holder party) now)
+  | inr apart ↦
+      let now = slice_get-set_other state.holders at bucket (Some other) apart in
+      ap (λ (b : Bool). if other == party then (if b then true else held) else held) (test_apart at bucket apart)
+      ∙ either_way (other == party) held ∙ before
+      ∙ sym (ap (is_holder party) now)
+]
 step_holds state step move party bucket held (gives other at taken) before = elim (cases_eq at bucket) [
   | inl same ↦
       let was = slice_get-same state.holders at bucket (Some (Some other)) same taken in
@@ -71,6 +84,8 @@ step_holds state step move party bucket held (gives other at taken) before = eli
 step_holds state step move party bucket held (loses other at holder next taken more) before =
     either_way (other == party) held ∙ before
 step_holds state step move party bucket held (is_refused other at holder next taken last) before =
+    either_way (other == party) held ∙ before
+step_holds state step move party bucket held (misses other at holder idle taken) before =
     either_way (other == party) held ∙ before
 step_holds state step move party bucket held (passes other) before =
     either_way (is_by party step) held ∙ before

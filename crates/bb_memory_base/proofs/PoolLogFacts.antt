@@ -1,7 +1,7 @@
 -- What follows where a pool's flags and logs agree.
-use Rattle.std.proofs.Common.{◌≡◌, ◌≢◌, ℕ, zero, suc, ◌+◌, ◌≤◌, List, [], ◌∷◌, length, replicate, refl}
+use Rattle.std.proofs.Common.{◌≡◌, ◌≢◌, ℕ, zero, suc, ◌+◌, ◌<◌, ◌≤◌, List, [], ◌∷◌, length, replicate, refl}
 use Rattle.std.proofs.Common.{sym, ap, ◌∙◌, subst, arith, Bool, true, false, Option, Some, None, inl, inr}
-use Rattle.std.specs.Prelude.{slice_get, slice_set, if◌then◌else◌, is_some}
+use Rattle.std.specs.Prelude.{◌⊎◌, slice_get, slice_set, if◌then◌else◌, is_some}
 use Rattle.std.specs.List.{AllByRecursion}
 use Rattle.std.proofs.lemmas.Bool.{cases_eq, cases_lt}
 use Rattle.std.proofs.lemmas.Option.{same_Some, none-some}
@@ -11,9 +11,11 @@ use Rattle.bb_memory_base.specs.PoolMachine.{PoolScene, PoolState, PoolMove, IsH
 use Rattle.bb_memory_base.specs.PoolHistory.{entry_of, PoolLog, PoolEntry, pool_history, is_by, entries_by, history_of, log_of}
 use Rattle.bb_memory_base.specs.PoolLogs.{AllAllowed, CommonInterleaving, HasLog, IsHeldAfter, Interleaving, IsAllowed, LogsAgree}
 use Rattle.bb_memory_base.specs.declared.steps.pool.PoolStep.{PoolStep}
+use Rattle.bb_memory_base.specs.declared.steps.pool.PoolStep.TheVariants.{Try, TryAt}
+use Rattle.bb_memory_base.specs.declared.steps.pool.PoolOutcome.TheVariants.{Takes}
 use Rattle.bb_memory_base.proofs.SliceSets.{slice_get-same, slice_get-set_other, slice_get-set_same}
-use Rattle.bb_memory_base.proofs.PoolSteps.{IsNext, StepKind, takes, loses, is_refused, gives}
-use Rattle.bb_memory_base.proofs.PoolSteps.{passes, kind_of, length-left_by, test_apart}
+use Rattle.bb_memory_base.proofs.PoolSteps.{IsNext, StepKind, takes, takes_at, loses, is_refused, gives, misses}
+use Rattle.bb_memory_base.proofs.PoolSteps.{passes, kind_of, length-left_by, next_of_idle, test_apart}
 use Rattle.bb_memory_base.proofs.PoolFlags.{free_from_flag, taken_from_flag, flag_from_taken}
 use Rattle.bb_memory_base.proofs.PoolHolders.{holder_in_log}
 
@@ -74,6 +76,18 @@ absent_step state step move party (gives other bucket taken) allowed absent =
         holds = λ b. still_no_holder state bucket party b (Some other) None taken (λ same. none-some party same) absent;
       },
     )
+absent_step state step move party (takes_at other bucket idle free) allowed absent =
+    let apart = tries_is_another state other party 0 (next_of_idle state other idle) absent in
+    let another : ¬ (Some other ≡ Some party) = λ same. apart (same_Some other party same) in (
+      test_apart other party apart,
+      record {
+        nowhere = still_nowhere state other party None apart absent;
+        holds = λ b. still_no_holder state bucket party b None (Some other) free another absent;
+      },
+    )
+absent_step state step move party (misses other bucket holder idle taken) allowed absent =
+    let apart = tries_is_another state other party 0 (next_of_idle state other idle) absent in
+    (test_apart other party apart, absent)
 absent_step state step move party (passes other) allowed absent = absurd allowed
 
 absent_steps : (state : PoolState) (steps : List PoolStep) (party : ℕ) → IsAbsent state party →
@@ -109,6 +123,31 @@ nobody_else scene steps party past allowed =
     let each = recursion_from_All (λ (e : PoolEntry). IsAllowed e.outcome) (history_of scene steps) allowed in
     absent_steps (opening_state scene) steps party absent each
 
+-- THE FIRST STEP
+
+first_kind : (scene : PoolScene) (step : PoolStep) (move : PoolMove) → StepKind (opening_state scene) step move →
+    IsAllowed move.outcome →
+    (party : ℕ) × (bucket : ℕ) × ((step ≡ Try party) ⊎ (step ≡ TryAt party bucket)) × (move.outcome ≡ Takes bucket)
+first_kind scene step move (takes party bucket next free) allowed = (party, bucket, inl refl, refl)
+first_kind scene step move (takes_at party bucket idle free) allowed = (party, bucket, inr refl, refl)
+first_kind scene step move (misses party bucket holder idle taken) allowed =
+    absurd (no_holder_at_opening scene.geometry.buckets holder bucket taken)
+first_kind scene step move (loses party bucket holder next taken more) allowed =
+    absurd (no_holder_at_opening scene.geometry.buckets holder bucket taken)
+first_kind scene step move (is_refused party bucket holder next taken last) allowed =
+    absurd (no_holder_at_opening scene.geometry.buckets holder bucket taken)
+first_kind scene step move (gives party bucket taken) allowed =
+    absurd (no_holder_at_opening scene.geometry.buckets party bucket taken)
+first_kind scene step move (passes other) allowed = absurd allowed
+
+-- where all steps are allowed, the first takes a bucket
+pub first_takes : (scene : PoolScene) (step : PoolStep) (steps : List PoolStep) → AllAllowed (history_of scene (step ∷ steps)) →
+    (party : ℕ) × (bucket : ℕ) × ((step ≡ Try party) ⊎ (step ≡ TryAt party bucket))
+    × ((pool_step (opening_state scene) step).outcome ≡ Takes bucket)
+first_takes scene step steps allowed =
+    let each = recursion_from_All (λ (e : PoolEntry). IsAllowed e.outcome) (history_of scene (step ∷ steps)) allowed in
+    first_kind scene step (pool_step (opening_state scene) step) (kind_of (opening_state scene) step) each.0
+
 -- WHAT FLAGS AND LOGS SAY OF EACH OTHER
 
 -- a party whose log holds a bucket is its holder
@@ -141,6 +180,32 @@ pub held_is_taken : (scene : PoolScene) (flags : List Bool) (logs : List PoolLog
 held_is_taken scene flags logs party log bucket agree at holds =
     let holder = holder_from_log scene flags logs party log bucket agree at holds in
     flag_from_taken (left_by scene agree.steps) flags bucket party agree.leaves holder
+
+-- where each party's log is in the list, a bucket that is taken is held after one of them
+pub taken_is_held_whole : (scene : PoolScene) (flags : List Bool) (logs : List PoolLog) (bucket : ℕ) →
+    LogsAgree scene flags logs →
+    ((party : ℕ) → party < scene.parties → (log : PoolLog) × HasLog logs party log) →
+    slice_get flags bucket ≡ Some true →
+    (party : ℕ) × (log : PoolLog) × (party < scene.parties) × HasLog logs party log × IsHeldAfter log bucket
+taken_is_held_whole scene flags logs bucket agree each taken =
+    let holder = taken_from_flag (left_by scene agree.steps) flags bucket agree.leaves taken in
+    let holds = (holder_in_log scene agree.steps holder.0 bucket).0 holder.1 in
+    elim (cases_lt holder.0 scene.parties) [
+      | inl there ↦
+          let own = each holder.0 there in (
+            holder.0,
+            own.0,
+            there,
+            own.1,
+            subst (λ (l : PoolLog). IsHeldAfter l bucket) (agree.each holder.0 own.0 own.1) holds,
+          )
+      | inr past ↦
+          let none = nobody_else scene agree.steps holder.0 (omega arith) agree.allowed in
+          absurd (empty (subst (λ (l : PoolLog). IsHeldAfter l bucket) none holds))
+    ]
+  where
+    empty : IsHeldAfter [] bucket → ⊥
+    empty holds = absurd (cc)
 
 pub taken_is_held_alone : (scene : PoolScene) (flags : List Bool) (logs : List PoolLog) (log : PoolLog) (bucket : ℕ) →
     LogsAgree scene flags logs → scene.parties ≡ 1 → HasLog logs 0 log →

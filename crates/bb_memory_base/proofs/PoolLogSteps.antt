@@ -6,17 +6,18 @@ use Rattle.std.proofs.lemmas.Bool.{cases_eq}
 use Rattle.std.proofs.lemmas.Option.{same_Some, slice_get_within, get_or_from_slice_get}
 use Rattle.std.proofs.lemmas.List.Elements.{All-push, All-nil}
 use Rattle.bb_memory_base.specs.PoolMachine.{move_of, PoolScene, PoolState, PoolMove, IsHolder, with_pass, taking, return_of}
-use Rattle.bb_memory_base.specs.PoolMachine.{passed, try_flag, try_next, give_flag, pool_step, pool_after, opening_state, left_by}
+use Rattle.bb_memory_base.specs.PoolMachine.{passed, try_flag, try_next, give_flag, try_at, try_one}
+use Rattle.bb_memory_base.specs.PoolMachine.{pool_step, pool_after, opening_state, left_by}
 use Rattle.bb_memory_base.specs.PoolHistory.{entry_of, PoolLog, PoolEntry, pool_history, is_by, entries_by, history_of, log_of}
 use Rattle.bb_memory_base.specs.PoolLogs.{HasLog, pass_after, pass_in, next_bucket, loss_at}
 use Rattle.bb_memory_base.specs.PoolLogs.{flags_of, IsAllowed, IsHeldAfter, LogsAgree, with_entry}
 use Rattle.bb_memory_base.specs.declared.steps.pool.PoolStep.{PoolStep}
-use Rattle.bb_memory_base.specs.declared.steps.pool.PoolStep.TheVariants.{Try, GiveBack}
+use Rattle.bb_memory_base.specs.declared.steps.pool.PoolStep.TheVariants.{Try, GiveBack, TryAt}
 use Rattle.bb_memory_base.specs.declared.steps.pool.PoolOutcome.{PoolOutcome}
-use Rattle.bb_memory_base.specs.declared.steps.pool.PoolOutcome.TheVariants.{Takes, Loses, RefusedAtLoss, Gives}
+use Rattle.bb_memory_base.specs.declared.steps.pool.PoolOutcome.TheVariants.{Takes, Loses, RefusedAtLoss, Gives, Misses}
 use Rattle.bb_memory_base.proofs.SliceSets.{slice_get-same, slice_get-set_other, slice_get-set_same}
-use Rattle.bb_memory_base.proofs.PoolSteps.{IsNext, StepKind, takes, loses, is_refused, gives}
-use Rattle.bb_memory_base.proofs.PoolSteps.{passes, kind_of, length-left_by, test_same, test_apart}
+use Rattle.bb_memory_base.proofs.PoolSteps.{IsNext, StepKind, takes, takes_at, loses, is_refused, gives, misses}
+use Rattle.bb_memory_base.proofs.PoolSteps.{passes, kind_of, length-left_by, next_of_idle, test_same, test_apart}
 use Rattle.bb_memory_base.proofs.PoolHolders.{holder_in_log}
 use Rattle.bb_memory_base.proofs.PoolFlags.{free_from_flag, taken_from_flag, flags_of-set}
 
@@ -53,6 +54,10 @@ step_pass state step move party pass (loses other bucket holder next taken more)
 step_pass state step move party pass (is_refused other bucket holder next taken last) there =
     pass-set state other party bucket pass None next there
 step_pass state step move party pass (gives other bucket taken) there =
+    there ∙ ap Some (sym (kept_pass (other == party) pass))
+step_pass state step move party pass (takes_at other bucket idle free) there =
+    pass-set state other party 0 pass None (next_of_idle state other idle) there
+step_pass state step move party pass (misses other bucket holder idle taken) there =
     there ∙ ap Some (sym (kept_pass (other == party) pass))
 step_pass state step move party pass (passes other) there =
     there ∙ ap Some (sym (kept_pass (is_by party step) pass))
@@ -128,6 +133,9 @@ record IsStepOf (party : ℕ) (step : PoolStep) : Type 0 where
 
 try_is_of : (party : ℕ) → IsStepOf party (Try party)
 try_is_of party = record { mine = test_same party party refl; others = test_apart party }
+
+try_at_is_of : (party bucket : ℕ) → IsStepOf party (TryAt party bucket)
+try_at_is_of party bucket = record { mine = test_same party party refl; others = test_apart party }
 
 give_is_of : (party bucket : ℕ) → IsStepOf party (GiveBack party bucket)
 give_is_of party bucket = record { mine = test_same party party refl; others = test_apart party }
@@ -228,6 +236,42 @@ lose_agrees scene flags logs party log bucket agree made at next taken =
     λ buckets. LogsAgree scene flags (with_entry logs party log (entry_of (Try party) (loss_at buckets bucket))) in
     let more : Bool = nat_lt (bucket + 1) (length state.holders) in
     subst Agree (length-left_by scene agree.steps) (loss_agrees scene flags logs party log bucket agree at more is)
+
+-- an idle party that was made tries one bucket
+tries_one : (scene : PoolScene) (flags : List Bool) (logs : List PoolLog) (party : ℕ) (log : PoolLog) (bucket : ℕ)
+    (agree : LogsAgree scene flags logs) → party < scene.parties → HasLog logs party log → pass_in log ≡ None →
+    (found : Option (Option ℕ)) → slice_get (left_by scene agree.steps).holders bucket ≡ found →
+    pool_step (left_by scene agree.steps) (TryAt party bucket) ≡ try_one (left_by scene agree.steps) party bucket found
+tries_one scene flags logs party log bucket agree made at idle found is =
+    let state : PoolState = left_by scene agree.steps in
+    let pass : slice_get state.calls party ≡ Some None =
+    log_pass scene agree.steps party made ∙ ap (λ (l : PoolLog). Some (pass_in l)) (agree.each party log at) ∙ ap Some idle in
+    ap (try_at state party bucket) pass ∙ ap (try_one state party bucket) is
+
+pub take_at_agrees : (scene : PoolScene) (flags : List Bool) (logs : List PoolLog) (party : ℕ) (log : PoolLog) (bucket : ℕ) →
+    LogsAgree scene flags logs → party < scene.parties → HasLog logs party log →
+    pass_in log ≡ None → slice_get flags bucket ≡ Some false →
+    LogsAgree scene (slice_set flags bucket true) (with_entry logs party log (entry_of (TryAt party bucket) (Takes bucket)))
+take_at_agrees scene flags logs party log bucket agree made at idle free =
+    let state : PoolState = left_by scene agree.steps in
+    let found : slice_get state.holders bucket ≡ Some None = free_from_flag state flags bucket agree.leaves free in
+    let is = tries_one scene flags logs party log bucket agree made at idle (Some None) found in
+    let leaves = flags_of-set state.holders bucket (Some party) ∙ ap (λ (f : List Bool). slice_set f bucket true) agree.leaves in
+    let step : PoolStep = TryAt party bucket in
+    let new : List Bool = slice_set flags bucket true in
+    agree_on scene flags logs party log step agree at (try_at_is_of party bucket) (taking state party bucket) is tt new leaves
+
+pub miss_agrees : (scene : PoolScene) (flags : List Bool) (logs : List PoolLog) (party : ℕ) (log : PoolLog) (bucket : ℕ) →
+    LogsAgree scene flags logs → party < scene.parties → HasLog logs party log →
+    pass_in log ≡ None → slice_get flags bucket ≡ Some true →
+    LogsAgree scene flags (with_entry logs party log (entry_of (TryAt party bucket) (Misses bucket)))
+miss_agrees scene flags logs party log bucket agree made at idle taken =
+    let state : PoolState = left_by scene agree.steps in
+    let holder = taken_from_flag state flags bucket agree.leaves taken in
+    let is = tries_one scene flags logs party log bucket agree made at idle (Some (Some holder.0)) holder.1 in
+    let step : PoolStep = TryAt party bucket in
+    let move : PoolMove = move_of (Misses bucket) state in
+    agree_on scene flags logs party log step agree at (try_at_is_of party bucket) move is tt flags agree.leaves
 
 pub give_agrees : (scene : PoolScene) (flags : List Bool) (logs : List PoolLog) (party : ℕ) (log : PoolLog) (bucket : ℕ) →
     LogsAgree scene flags logs → HasLog logs party log → IsHeldAfter log bucket →

@@ -1,21 +1,22 @@
--- What a refused pass has met.
+-- What a refused pass has met, and what a miss has.
 use Rattle.std.proofs.Common.{◌≡◌, ℕ, zero, suc, ◌+◌, ◌<◌, ◌≤◌, ◌⊎◌, List, [], ◌∷◌, length, replicate}
 use Rattle.std.proofs.Common.{refl, sym, ap, ◌∙◌, subst, arith, Option, Some, None, inl, inr}
 use Rattle.std.specs.Prelude.{slice_get, slice_set, take, unwrap_or}
 use Rattle.std.proofs.lemmas.Bool.{cases_eq}
-use Rattle.std.proofs.lemmas.Option.{same_Some}
+use Rattle.std.proofs.lemmas.Option.{same_Some, slice_get_within}
 use Rattle.std.proofs.lemmas.List.{length-replicate}
 use Rattle.bb_memory_base.specs.PoolGeometry.{IsPoolGeometry}
 use Rattle.bb_memory_base.specs.PoolMachine.{PoolScene, PoolState, PoolMove, IsTaken}
-use Rattle.bb_memory_base.specs.PoolMachine.{IsInCall, pool_step, pool_after, opening_state}
+use Rattle.bb_memory_base.specs.PoolMachine.{IsInCall, left_by, pool_step, pool_after, opening_state}
 use Rattle.bb_memory_base.specs.PoolHistory.{entry_of, PoolEntry, pool_history, history_of}
-use Rattle.bb_memory_base.specs.PoolCalls.{IsLossAt, LosesAt, IsRefusedAt, FoundHeld}
+use Rattle.bb_memory_base.specs.PoolCalls.{IsLossAt, LosesAt, IsRefusedAt, FoundHeld, IsHeldInRun, MissesAt}
 use Rattle.bb_memory_base.specs.declared.steps.pool.PoolStep.{PoolStep}
-use Rattle.bb_memory_base.specs.declared.steps.pool.PoolStep.TheVariants.{Try}
+use Rattle.bb_memory_base.specs.declared.steps.pool.PoolStep.TheVariants.{Try, TryAt}
 use Rattle.bb_memory_base.specs.declared.steps.pool.PoolOutcome.{PoolOutcome}
-use Rattle.bb_memory_base.specs.declared.steps.pool.PoolOutcome.TheVariants.{RefusedAtLoss}
+use Rattle.bb_memory_base.specs.declared.steps.pool.PoolOutcome.TheVariants.{Misses, RefusedAtLoss}
 use Rattle.bb_memory_base.proofs.SliceSets.{slice_get-same, slice_get-set_other, slice_get-set_same}
-use Rattle.bb_memory_base.proofs.PoolSteps.{IsNext, StepKind, takes, loses, is_refused, gives, passes, kind_of, length-step}
+use Rattle.bb_memory_base.proofs.PoolSteps.{IsNext, StepKind, takes, takes_at, loses, is_refused, gives, misses, passes}
+use Rattle.bb_memory_base.proofs.PoolSteps.{kind_of, length-left_by, length-step, next_of_idle}
 use Rattle.bb_memory_base.proofs.PoolRuns.{taken_is_held}
 
 -- PROGRESS
@@ -50,6 +51,8 @@ at_refusal : (state : PoolState) (step : PoolStep) (move : PoolMove) (party last
 at_refusal state step move party last bucket (takes other taken next free) by refusal below = absurd (cc)
 at_refusal state step move party last bucket (loses other lost holder next taken more) by refusal below = absurd (cc)
 at_refusal state step move party last bucket (gives other returned taken) by refusal below = absurd (cc)
+at_refusal state step move party last bucket (takes_at other taken idle free) by refusal below = absurd (cc)
+at_refusal state step move party last bucket (misses other missed holder idle taken) by refusal below = absurd (cc)
 at_refusal state step move party last bucket (passes other) by refusal below = absurd (cc)
 at_refusal state step move party last bucket (is_refused other lost holder next taken none) by refusal below =
     let at = progress_next state other party lost (same_party other party by) next in
@@ -78,6 +81,9 @@ at_progress state step move party bucket (takes other taken next free) less =
 at_progress state step move party bucket (is_refused other lost holder next taken none) less =
     inl (over state other party bucket lost next less)
 at_progress state step move party bucket (gives other returned taken) less = inl less
+at_progress state step move party bucket (takes_at other taken idle free) less =
+    inl (over state other party bucket 0 (next_of_idle state other idle) less)
+at_progress state step move party bucket (misses other missed holder idle taken) less = inl less
 at_progress state step move party bucket (passes other) less = inl less
 at_progress state step move party bucket (loses other lost holder next taken more) less = elim (cases_eq other party) [
   | inl same ↦
@@ -99,6 +105,8 @@ taken_at_loss : (state : PoolState) (step : PoolStep) (move : PoolMove) (bucket 
     IsLossAt bucket move.outcome → IsTaken state bucket
 taken_at_loss state step move bucket (takes other taken next free) lost = absurd lost
 taken_at_loss state step move bucket (gives other returned taken) lost = absurd lost
+taken_at_loss state step move bucket (takes_at other taken idle free) lost = absurd lost
+taken_at_loss state step move bucket (misses other missed holder idle taken) lost = absurd lost
 taken_at_loss state step move bucket (passes other) lost = absurd lost
 taken_at_loss state step move bucket (loses other at holder next taken more) lost =
     (holder, slice_get-same state.holders at bucket (Some (Some holder)) lost taken)
@@ -234,3 +242,40 @@ refused_found_held scene steps party last bucket is refused below =
       }
       | earlier less pass ↦ absurd (omega (arith, none_lost_yet scene.parties party, less))
     ]
+
+-- MISSES
+
+same_missed : (bucket other : ℕ) → Misses bucket ≡ Misses other → bucket ≡ other
+same_missed bucket other same = cc
+
+-- what is missed is taken
+taken_at_miss : (state : PoolState) (step : PoolStep) (move : PoolMove) (bucket : ℕ) → StepKind state step move →
+    move.outcome ≡ Misses bucket → IsTaken state bucket
+taken_at_miss state step move bucket (takes other taken next free) is = absurd (cc)
+taken_at_miss state step move bucket (takes_at other taken idle free) is = absurd (cc)
+taken_at_miss state step move bucket (loses other lost holder next taken more) is = absurd (cc)
+taken_at_miss state step move bucket (is_refused other lost holder next taken none) is = absurd (cc)
+taken_at_miss state step move bucket (gives other returned taken) is = absurd (cc)
+taken_at_miss state step move bucket (passes other) is = absurd (cc)
+taken_at_miss state step move bucket (misses other at holder idle taken) is =
+    (holder, slice_get-same state.holders at bucket (Some (Some holder)) (same_missed at bucket is) taken)
+
+taken_where_missed : (state : PoolState) (steps : List PoolStep) (party bucket k : ℕ) →
+    MissesAt (pool_history state steps) party bucket k → IsTaken (pool_after state (take k steps)) bucket
+taken_where_missed state [] party bucket k missed = absurd (cc)
+taken_where_missed state (step ∷ steps) party bucket zero missed =
+    let move : PoolMove = pool_step state step in
+    let entry = entry_parts step (TryAt party bucket) move.outcome (Misses bucket) missed in
+    taken_at_miss state step move bucket (kind_of state step) entry.1
+taken_where_missed state (step ∷ steps) party bucket (suc k) missed =
+    taken_where_missed (pool_step state step).state steps party bucket k missed
+
+-- at a miss the bucket is held in the run
+pub missed_is_held : (scene : PoolScene) (steps : List PoolStep) (party bucket k : ℕ) → IsPoolGeometry scene.geometry →
+    MissesAt (history_of scene steps) party bucket k →
+    (bucket < scene.geometry.buckets) × IsTaken (left_by scene (take k steps)) bucket × IsHeldInRun scene (take k steps) bucket
+missed_is_held scene steps party bucket k is missed =
+    let taken = taken_where_missed (opening_state scene) steps party bucket k missed in
+    let within = slice_get_within (left_by scene (take k steps)).holders bucket (Some taken.0) taken.1 in
+    let below : bucket < scene.geometry.buckets = omega (arith, within, length-left_by scene (take k steps)) in
+    (below, taken, λ layouts live run. (taken_is_held scene (take k steps) layouts live bucket is run below).0 taken)

@@ -24,7 +24,7 @@ use Rattle.bb_memory_base.proofs.PoolGeometries.{bucket_place-apart}
 use Rattle.bb_memory_base.proofs.PoolLists.{AreInBuckets, AreInBuckets-empty, AreInBuckets-push, AreInBuckets-remove}
 use Rattle.bb_memory_base.proofs.PoolLists.{sound_from_buckets, count_at, count_at-push_same, count_at-push_other}
 use Rattle.bb_memory_base.proofs.PoolLists.{count_at-remove_same, count_at-remove_other, at_from_count, count_from_at}
-use Rattle.bb_memory_base.proofs.PoolSteps.{StepKind, takes, loses, is_refused, gives, passes, kind_of}
+use Rattle.bb_memory_base.proofs.PoolSteps.{StepKind, takes, takes_at, loses, is_refused, gives, misses, passes, kind_of}
 
 -- STATES AND LISTS
 
@@ -113,12 +113,16 @@ module _ (geometry : PoolGeometry) (is : IsPoolGeometry geometry) where
   step_calls old live layout step move (takes party bucket next free) matches within =
       let may = may_give old live layout bucket matches within free in
       (live ++ chunk_in geometry bucket layout ∷ [], record { answers = (bucket, may, refl); leaves = refl })
+  step_calls old live layout step move (takes_at party bucket idle free) matches within =
+      let may = may_give old live layout bucket matches within free in
+      (live ++ chunk_in geometry bucket layout ∷ [], record { answers = (bucket, may, refl); leaves = refl })
   step_calls old live layout step move (gives party bucket held) matches within =
       let there : IsHeld geometry live bucket = held_from_flag old live bucket party matches held in
       let within_live = slice_get_within live there.0 there.1.chunk there.1.there in
       (remove live there.0, (there.0, there.1, record { within = within_live; leaves = refl }))
   step_calls old live layout step move (loses party bucket holder next held more) matches within = (live, refl)
   step_calls old live layout step move (is_refused party bucket holder next held last) matches within = (live, refl)
+  step_calls old live layout step move (misses party bucket holder idle held) matches within = (live, refl)
   step_calls old live layout step move (passes other) matches within = (live, refl)
 
   -- the parties' passes decide nothing
@@ -141,6 +145,13 @@ module _ (geometry : PoolGeometry) (is : IsPoolGeometry geometry) where
         size = length-set old.holders bucket (Some party) ∙ matches.size;
         buckets = AreInBuckets-push geometry live layout bucket may matches.buckets;
       })
+  step_matches old live new layout step move (takes_at party bucket idle free) matches call =
+      let may : MayGive geometry live layout bucket = may_give old live layout bucket matches call.answers.1.within free in
+      subst (Matches geometry move.state) (sym call.leaves) (record {
+        flags = flags-take old live layout party bucket matches free;
+        size = length-set old.holders bucket (Some party) ∙ matches.size;
+        buckets = AreInBuckets-push geometry live layout bucket may matches.buckets;
+      })
   step_matches old live new layout step move (gives party bucket held) matches (position, at, released) =
       subst (Matches geometry move.state) (sym released.leaves) (record {
         flags = flags-give old live bucket party position matches held at;
@@ -151,6 +162,8 @@ module _ (geometry : PoolGeometry) (is : IsPoolGeometry geometry) where
       subst (Matches geometry move.state) (sym call) (same_holders old move.state live refl matches)
   step_matches old live new layout step move (is_refused party bucket holder next held last) matches call =
       subst (Matches geometry move.state) (sym call) (same_holders old move.state live refl matches)
+  step_matches old live new layout step move (misses party bucket holder idle held) matches call =
+      subst (Matches geometry old) (sym call) matches
   step_matches old live new layout step move (passes other) matches call = subst (Matches geometry old) (sym call) matches
 
   -- LISTS OF STEPS

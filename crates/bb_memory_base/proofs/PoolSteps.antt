@@ -5,16 +5,25 @@ use Rattle.std.specs.Prelude.{slice_get, ◌==◌, nat_lt, if◌then◌else◌, 
 use Rattle.std.proofs.lemmas.Bool.Decides.{nat_tests}
 use Rattle.std.proofs.lemmas.List.{length-set, length-replicate}
 use Rattle.bb_memory_base.specs.PoolMachine.{PoolScene, opening_state, left_by, move_of, PoolState, PoolMove, IsHolder, with_pass}
-use Rattle.bb_memory_base.specs.PoolMachine.{taking, return_of, passed, try_flag, try_next, give_flag, pool_step, pool_after}
+use Rattle.bb_memory_base.specs.PoolMachine.{taking, return_of, passed, try_flag, try_next, give_flag, try_at, try_one}
+use Rattle.bb_memory_base.specs.PoolMachine.{pool_step, pool_after}
 use Rattle.bb_memory_base.specs.declared.steps.pool.PoolStep.{PoolStep}
-use Rattle.bb_memory_base.specs.declared.steps.pool.PoolStep.TheVariants.{Try, GiveBack}
-use Rattle.bb_memory_base.specs.declared.steps.pool.PoolOutcome.TheVariants.{Loses, RefusedAtLoss}
+use Rattle.bb_memory_base.specs.declared.steps.pool.PoolStep.TheVariants.{Try, GiveBack, TryAt}
+use Rattle.bb_memory_base.specs.declared.steps.pool.PoolOutcome.TheVariants.{Loses, RefusedAtLoss, Misses}
 
 -- the party's pass is at this bucket, or begins there
 pub record IsNext (state : PoolState) (party bucket : ℕ) : Type 0 where
   pub pass : Option ℕ
   pub there : slice_get state.calls party ≡ Some pass
   pub at : unwrap_or pass 0 ≡ bucket
+
+-- the party is there, and in no pass
+abbrev pub IsIdle : PoolState → ℕ → Type 0
+IsIdle state party = slice_get state.calls party ≡ Some None
+
+-- a pass of it would begin at bucket 0
+pub next_of_idle : (state : PoolState) (party : ℕ) → IsIdle state party → IsNext state party 0
+next_of_idle state party idle = record { pass = None; there = idle; at = refl }
 
 -- a step that makes this move is one of these
 pub data StepKind (state : PoolState) : PoolStep → PoolMove → Type 0 where
@@ -28,6 +37,10 @@ pub data StepKind (state : PoolState) : PoolStep → PoolMove → Type 0 where
       StepKind state (Try party) (move_of (RefusedAtLoss bucket) (with_pass state party None))
   gives : (party bucket : ℕ) → IsHolder state bucket party →
       StepKind state (GiveBack party bucket) (return_of state bucket)
+  takes_at : (party bucket : ℕ) → IsIdle state party → slice_get state.holders bucket ≡ Some None →
+      StepKind state (TryAt party bucket) (taking state party bucket)
+  misses : (party bucket holder : ℕ) → IsIdle state party → IsHolder state bucket holder →
+      StepKind state (TryAt party bucket) (move_of (Misses bucket) state)
   passes : (step : PoolStep) → StepKind state step (passed state)
 
 -- TESTS
@@ -87,16 +100,32 @@ kind_of_give state party bucket None is = passes (GiveBack party bucket)
 kind_of_give state party bucket (Some None) is = passes (GiveBack party bucket)
 kind_of_give state party bucket (Some (Some holder)) is = kind_of_return state party bucket holder (holder == party) refl is
 
+kind_of_one : (state : PoolState) (party bucket : ℕ) (found : Option (Option ℕ)) → IsIdle state party →
+    slice_get state.holders bucket ≡ found → StepKind state (TryAt party bucket) (try_one state party bucket found)
+kind_of_one state party bucket None idle is = passes (TryAt party bucket)
+kind_of_one state party bucket (Some None) idle is = takes_at party bucket idle is
+kind_of_one state party bucket (Some (Some holder)) idle is = misses party bucket holder idle is
+
+kind_of_try_at : (state : PoolState) (party bucket : ℕ) (found : Option (Option ℕ)) →
+    slice_get state.calls party ≡ found →
+    StepKind state (TryAt party bucket) (try_at state party bucket found)
+kind_of_try_at state party bucket None is = passes (TryAt party bucket)
+kind_of_try_at state party bucket (Some None) is =
+    kind_of_one state party bucket (slice_get state.holders bucket) is refl
+kind_of_try_at state party bucket (Some (Some next)) is = passes (TryAt party bucket)
+
 -- each step is of some kind
 pub kind_of : (state : PoolState) (step : PoolStep) → StepKind state step (pool_step state step)
 kind_of state (Try party) = kind_of_try state party (slice_get state.calls party) refl
 kind_of state (GiveBack party bucket) = kind_of_give state party bucket (slice_get state.holders bucket) refl
+kind_of state (TryAt party bucket) = kind_of_try_at state party bucket (slice_get state.calls party) refl
 
 -- HOW MANY FLAGS THERE ARE
 
 pub length-step : (state : PoolState) (step : PoolStep) (move : PoolMove) → StepKind state step move →
     length move.state.holders ≡ length state.holders
 length-step state step move (takes party bucket next free) = length-set state.holders bucket (Some party)
+length-step state step move (takes_at party bucket idle free) = length-set state.holders bucket (Some party)
 length-step state step move (gives party bucket held) = length-set state.holders bucket None
 length-step state step move _ = refl
 

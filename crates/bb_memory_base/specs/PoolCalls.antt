@@ -9,9 +9,9 @@ use Rattle.bb_memory_base.specs.PoolMachine.{PoolScene, left_by, IsInCall}
 use Rattle.bb_memory_base.specs.PoolHistory.{PoolLog, entry_of, outcomes_of, history_of}
 use Rattle.bb_memory_base.specs.declared.layout.Layout.{Layout}
 use Rattle.bb_memory_base.specs.declared.steps.pool.PoolStep.{PoolStep}
-use Rattle.bb_memory_base.specs.declared.steps.pool.PoolStep.TheVariants.{Try}
+use Rattle.bb_memory_base.specs.declared.steps.pool.PoolStep.TheVariants.{Try, TryAt}
 use Rattle.bb_memory_base.specs.declared.steps.pool.PoolOutcome.{PoolOutcome}
-use Rattle.bb_memory_base.specs.declared.steps.pool.PoolOutcome.TheVariants.{Takes, Loses, RefusedAtLoss, Gives}
+use Rattle.bb_memory_base.specs.declared.steps.pool.PoolOutcome.TheVariants.{Takes, Loses, RefusedAtLoss, Gives, Misses}
 
 -- What a step with this outcome is to the object, which goes from `old` to `new`.
 abbrev pub PoolCall : PoolGeometry → List Chunk → Layout → PoolOutcome → List Chunk → Type 0
@@ -80,3 +80,10 @@ pub record FoundHeld (scene : PoolScene) (steps : List PoolStep) (party last buc
   pub one_pass : IsOnePass scene steps party step last
   pub loses : LosesAt (history_of scene steps) party bucket step
   pub held : IsHeldInRun scene (take step steps) bucket
+
+-- MISSES
+
+-- entry k of the history is the party's, and a miss of this bucket
+abbrev pub MissesAt : PoolLog → ℕ → ℕ → ℕ → Type 0
+MissesAt history party bucket k =
+    slice_get history k ≡ Some (entry_of (TryAt party bucket) (Misses bucket))

@@ -4,9 +4,9 @@ use Rattle.std.specs.Prelude.{ℕ, ◌+◌, ◌≡◌, ◌==◌, nat_lt, List, [
 use Rattle.std.specs.Prelude.{None, if◌then◌else◌, slice_get, slice_set, replicate, unwrap_or}
 use Rattle.bb_memory_base.specs.PoolGeometry.{PoolGeometry}
 use Rattle.bb_memory_base.specs.declared.steps.pool.PoolStep.{PoolStep}
-use Rattle.bb_memory_base.specs.declared.steps.pool.PoolStep.TheVariants.{Try, GiveBack}
+use Rattle.bb_memory_base.specs.declared.steps.pool.PoolStep.TheVariants.{Try, GiveBack, TryAt}
 use Rattle.bb_memory_base.specs.declared.steps.pool.PoolOutcome.{PoolOutcome}
-use Rattle.bb_memory_base.specs.declared.steps.pool.PoolOutcome.TheVariants.{Takes, Loses, RefusedAtLoss, Gives, Passed}
+use Rattle.bb_memory_base.specs.declared.steps.pool.PoolOutcome.TheVariants.{Takes, Loses, RefusedAtLoss, Gives, Passed, Misses}
 
 -- STATES
 
@@ -103,11 +103,25 @@ give_flag state party bucket (Some (Some holder)) =
     if holder == party then return_of state bucket else passed state
 give_flag state party bucket _ = passed state
 
+-- a party's exchange on the flag of one bucket, of which this is found: it misses a taken one, and nothing changes
+abbrev pub try_one : PoolState → ℕ → ℕ → Option (Option ℕ) → PoolMove
+try_one state party bucket (Some None) = taking state party bucket
+try_one state party bucket (Some (Some holder)) = move_of (Misses bucket) state
+try_one state party bucket None = passed state
+
+-- a party whose pass this is tries one bucket, as it may where it is idle
+abbrev pub try_at : PoolState → ℕ → ℕ → Option (Option ℕ) → PoolMove
+try_at state party bucket (Some None) =
+    try_one state party bucket (slice_get state.holders bucket)
+try_at state party bucket _ = passed state
+
 -- one atomic step
 abbrev pub pool_step : PoolState → PoolStep → PoolMove
 pool_step state (Try party) = try_next state party (slice_get state.calls party)
 pool_step state (GiveBack party bucket) =
     give_flag state party bucket (slice_get state.holders bucket)
+pool_step state (TryAt party bucket) =
+    try_at state party bucket (slice_get state.calls party)
 
 -- the state that a list of steps leaves
 abbrev pub pool_after : PoolState → List PoolStep → PoolState

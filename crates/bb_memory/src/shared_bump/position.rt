@@ -1,17 +1,18 @@
 //! The position that threads share: its word, and the only calls that touch it.
 //!
 //! `read`, `exchange` and `load` make one atomic step each, by the seat of the party whose step it is, and tell that its log then
-//! ends with that step and what it found. `deal` and `meet` only load the word, and are in no log; `open` and `close` are before
-//! and after all sharing.
+//! ends with that step and what it found. `deal`, `gather`, `find` and `meet` only load the word, and are in no log; `open` and
+//! `close` are before and after all sharing.
 ghost use Rattle.std.specs.Prelude.{◌≡◌, ◌<◌, ◌≤◌, [], IfOk, Some};
 ghost use Rattle.bb_memory_base.specs.BumpMachine.{chunk_at, position_behind};
 ghost use Rattle.bb_memory_base.specs.BumpLogs.{call_in};
-ghost use Rattle.bb_memory.specs.Seats.{first_of, number_of, numbered, others_of, view_log};
-ghost use Rattle.bb_memory.specs.SharedBumpRule.{IsSeatOf, IsSeatOfIdle, all_parties};
-ghost use Rattle.bb_memory.specs.SharedBumpSteps.{TellsExchange, TellsLast, TellsLoad, TellsMeeting, TellsRead};
+ghost use Rattle.bb_memory.specs.Seats.{first_of, number_of, others_of, standing_for, view_log};
+ghost use Rattle.bb_memory.specs.SharedBumpRule.{IsSeatOf, IsSeatOfIdle, all_parties, gathered, meeting_of, met_by};
+ghost use Rattle.bb_memory.specs.SharedBumpRule.{scene_of, sight};
+ghost use Rattle.bb_memory.specs.SharedBumpSteps.{TellsExchange, TellsLoad, TellsMeeting, TellsRead, TellsTwo};
 
 use super::rule::{
-    Agreement, Asked, Exchanges, Gather, GiveFirst, KeepFirst, Loads, Meets, Reads, Scene, View,
+    Agreement, Asked, Exchanges, Gather, GiveFirst, Loads, Meets, Reads, Scene, View,
 };
 use crate::layout::Layout;
 use atomic_table::{Seat, Table};
@@ -71,7 +72,8 @@ impl Position {
         requires asked { L.layout ≡ Some _layout }
         ensures table { seat.new.table_id ≡ seat.old.table_id }
         ensures step { TellsRead self.now.scene
-            (number_of seat.old.me.0) (view_log seat.old.me.0) _layout result seat.new.me }
+            (number_of seat.old.me.0) (view_log seat.old.me.0) (met_by seat.old.me.0)
+            _layout result seat.new.me }
     {
         self.table.shared.load::<Reads<L>>(seat, 0) as usize
     }
@@ -93,7 +95,8 @@ impl Position {
             behind ≡ position_behind region (chunk_at region seen layout) }
         ensures table { seat.new.table_id ≡ seat.old.table_id }
         ensures step { TellsExchange self.now.scene
-            (number_of seat.old.me.0) (view_log seat.old.me.0) result seat.new.me }
+            (number_of seat.old.me.0) (view_log seat.old.me.0) (met_by seat.old.me.0)
+            result seat.new.me }
     {
         let shared = &self.table.shared;
         let found = shared.compare_exchange::<Exchanges>(seat, 0, seen as u64, behind as u64);
@@ -107,34 +110,61 @@ impl Position {
             (number_of seat.old.me.0) (view_log seat.old.me.0) seat.old.me }
         ensures table { seat.new.table_id ≡ seat.old.table_id }
         ensures step { TellsLoad self.now.scene
-            (number_of seat.old.me.0) (view_log seat.old.me.0) result seat.new.me }
+            (number_of seat.old.me.0) (view_log seat.old.me.0) (met_by seat.old.me.0)
+            result seat.new.me }
     {
         self.table.shared.load::<Loads>(seat, 0) as usize
     }
 
+    /// A guest's parties go to this seat, before its own.
+    pub(super) fn gather(&self, seat: &mut Seat<u8, View>, guest: Seat<u8, View>)
+        requires tables { (seat.old.table_id ≡ self.now.table) × (guest.table_id ≡ self.now.table) }
+        requires guest { guest.me.1 ≡ [] }
+        ensures table { seat.new.table_id ≡ seat.old.table_id }
+        ensures seat { seat.new.me ≡ (gathered seat.old.me.0 guest.me.0, seat.old.me.1) }
+    {
+        self.table.shared.join_seat::<Gather>(seat, guest);
+    }
+
+    /// A load that asks where the parties of one seat have met.
+    pub(super) fn find(&self, seat: &mut Seat<u8, View>) -> usize
+        requires table { seat.old.table_id ≡ self.now.table }
+        requires seat { seat.old.me
+            ≡ (standing_for (sight self.now.scene (met_by seat.old.me.0)) seat.old.me.0.parties, []) }
+        ensures table { seat.new.table_id ≡ seat.old.table_id }
+        ensures seat { seat.new.me ≡ (meeting_of result seat.old.me.0, []) }
+        ensures told { TellsMeeting self.now.scene
+            seat.old.me.0.parties (met_by seat.old.me.0) result }
+    {
+        self.table.shared.load::<Meets>(seat, 0) as usize
+    }
+
     /// Two parties meet at one seat, load the position there, and go back to their own.
-    pub(super) fn meet(&self, a: &mut Seat<u8, View>, b: &mut Seat<u8, View>)
+    pub(super) fn meet(&self, a: &mut Seat<u8, View>, b: &mut Seat<u8, View>) -> usize
         requires tables { (a.old.table_id ≡ self.now.table) × (b.old.table_id ≡ self.now.table) }
         requires a { IsSeatOf self.now.scene (number_of a.old.me.0) (view_log a.old.me.0) a.old.me }
         requires b { IsSeatOf self.now.scene (number_of b.old.me.0) (view_log b.old.me.0) b.old.me }
         ensures tables { (a.new.table_id ≡ a.old.table_id) × (b.new.table_id ≡ b.old.table_id) }
-        ensures kept { (a.new.me ≡ a.old.me) × (b.new.me ≡ b.old.me) }
-        ensures met { TellsMeeting self.now.scene
-            (numbered (number_of a.old.me.0) (view_log a.old.me.0))
-            (numbered (number_of b.old.me.0) (view_log b.old.me.0)) }
+        ensures kept { (a.new.me ≡ (meeting_of result a.old.me.0, []))
+            × (b.new.me ≡ (meeting_of result b.old.me.0, [])) }
+        ensures risen { (met_by a.old.me.0 ≤ result) × (met_by b.old.me.0 ≤ result) }
+        ensures within { result ≤ self.now.scene.region.size }
+        ensures met { TellsTwo self.now.scene
+            (number_of a.old.me.0) (view_log a.old.me.0)
+            (number_of b.old.me.0) (view_log b.old.me.0) result }
     {
-        let shared = &self.table.shared;
-        let guest = shared.split_seat::<GiveFirst>(b);
-        shared.join_seat::<Gather>(a, guest);
-        shared.load::<Meets>(a, 0);
-        *b = shared.split_seat::<KeepFirst>(a);
+        let guest = self.deal(b);
+        self.gather(a, guest);
+        let found = self.find(a);
+        *b = self.deal(a);
+        found
     }
 
     /// The last position, once no thread shares it any more.
     pub(super) fn close(self, seat: Seat<u8, View>) -> usize
         requires table { seat.table_id ≡ self.table }
-        requires seat { IsSeatOf self.scene (number_of seat.me.0) (view_log seat.me.0) seat.me }
-        ensures last { TellsLast self.scene (number_of seat.me.0) (view_log seat.me.0) result }
+        requires scene { scene_of seat.me.0 ≡ self.scene }
+        ensures last { TellsMeeting self.scene seat.me.0.parties (met_by seat.me.0) result }
     {
         let Position { table } = self;
         let closed = table.close_with(seat);

@@ -3,7 +3,7 @@ ghost use Rattle.std.specs.Prelude.{◌≡◌, ◌+◌, ◌<◌, ◌≤◌, ◌%
 ghost use Rattle.bb_memory_base.specs.Chunk.{IsInside};
 ghost use Rattle.bb_memory_base.specs.BumpMachine.{chunk_at, fits};
 ghost use Rattle.bb_memory.specs.Seats.{number_of, view_log};
-ghost use Rattle.bb_memory.specs.SharedBumpRule.{IsSeatOf, IsSeatOfIdle};
+ghost use Rattle.bb_memory.specs.SharedBumpRule.{IsSeatOf, IsSeatOfIdle, met_by};
 ghost use Rattle.bb_memory.specs.SharedBumpSteps.{HasRefused, HasWon};
 
 use super::SharedBumpAllocator;
@@ -21,10 +21,10 @@ impl SharedBumpAllocator {
         requires asked { L.layout ≡ Some layout }
         ensures table { seat.new.table_id ≡ seat.old.table_id }
         ensures call { MatchOption result
-            (HasRefused self.now.scene
-            (number_of seat.old.me.0) (view_log seat.old.me.0) layout seat.new.me)
-            (HasWon self.now.scene
-            (number_of seat.old.me.0) (view_log seat.old.me.0) layout seat.new.me) }
+            (HasRefused self.now.scene (number_of seat.old.me.0) (view_log seat.old.me.0)
+            (met_by seat.old.me.0) layout seat.new.me)
+            (HasWon self.now.scene (number_of seat.old.me.0) (view_log seat.old.me.0)
+            (met_by seat.old.me.0) layout seat.new.me) }
         ensures aligned { IfSome result (λ chunk. chunk.place % layout.align ≡ 0) }
         ensures inside { IfSome result (IsInside self.now.scene.region) }
     {

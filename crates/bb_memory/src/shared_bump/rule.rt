@@ -86,7 +86,7 @@ impl Play<u8, View> for Loads {
     ghost then = { loads };
 }
 
-/// A load by a seat that stands for two parties.
+/// A load by a seat that stands for any number of parties.
 pub(crate) struct Meets;
 
 impl Play<u8, View> for Meets {
@@ -106,25 +106,13 @@ impl Split<View> for GiveFirst {
     ghost right = { first_of };
 }
 
-/// All but the first party go to the new seat.
-pub(crate) struct KeepFirst;
-
-impl Split<View> for KeepFirst {
-    ghost use Rattle.bb_memory.specs.Seats.{first_of, others_of};
-
-    ghost left = { first_of };
-
-    ghost right = { others_of };
-}
-
 /// One seat stands for the parties of two.
 pub(crate) struct Gather;
 
 impl Join<View> for Gather {
-    ghost use Rattle.bb_memory.specs.Seats.{both_of};
-    ghost use Rattle.bb_memory.specs.SharedBumpRule.{nobody};
+    ghost use Rattle.bb_memory.specs.SharedBumpRule.{gathered, nobody};
 
-    ghost both = { both_of };
+    ghost both = { gathered };
 
     ghost spent = { nobody };
 }

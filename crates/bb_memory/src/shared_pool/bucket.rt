@@ -3,7 +3,7 @@ ghost use Rattle.std.specs.Prelude.{◌≡◌, ◌<◌, ◌≤◌};
 ghost use Rattle.bb_memory_base.specs.Chunk.{IsInside};
 ghost use Rattle.bb_memory.specs.SharedPool.{chunk_of, taken_bucket};
 
-use super::buckets::SharedBuckets;
+use super::flags::Flags;
 use crate::layout::Chunk;
 use std::marker::Model;
 
@@ -12,7 +12,7 @@ use std::marker::Model;
 /// are stale. The bucket of a dropped token stays held until it is returned by another.
 #[derive(Drop)]
 pub struct Bucket<'a> {
-    pub(super) buckets: &'a SharedBuckets,
+    pub(super) flags: &'a Flags,
     pub(super) number: u32,
     pub(super) len: usize,
 }
@@ -23,10 +23,10 @@ impl<'a> Model for Bucket<'a> {
 
     ghost Value = { TakenBucket };
 
-    ghost view = { λ b. taken_bucket b.buckets.now b.number b.len };
+    ghost view = { λ b. taken_bucket b.flags.now b.number b.len };
 
-    ghost invariant = { λ b. (b.number < b.buckets.now.scene.geometry.buckets)
-        × (b.len ≤ b.buckets.now.scene.geometry.bucket.size) };
+    ghost invariant = { λ b. (b.number < b.flags.now.scene.geometry.buckets)
+        × (b.len ≤ b.flags.now.scene.geometry.bucket.size) };
 }
 
 impl<'a> Bucket<'a> {
@@ -45,6 +45,6 @@ impl<'a> Bucket<'a> {
         ensures short { result.len ≤ self.now.allocator.scene.geometry.bucket.size }
         ensures inside { IsInside self.now.allocator.scene.geometry.region result }
     {
-        self.buckets.chunk(self.number, self.len)
+        self.flags.geometry().chunk(self.number as usize, self.len)
     }
 }

@@ -1,15 +1,12 @@
-//! What both shared pools are: buckets with a flag each, on which any number of threads step.
-ghost use Rattle.std.specs.Prelude.{◌≡◌, ◌≢◌, ℕ, ◌<◌, ◌≤◌, ◌↔◌, ◌%◌, [], All, Some, None, IsErr, IfOk, IfSome};
-ghost use Rattle.std.specs.Prelude.{IfNone, MatchOption, OnErr, length, slice_get, vec_capacity, vec_len};
+//! What the shared pools are: buckets with a flag each, on which any number of threads step.
+ghost use Rattle.std.specs.Prelude.{◌≡◌, ◌≢◌, ℕ, ◌<◌, ◌≤◌, ◌↔◌, ◌%◌, [], All, Some, None, IsErr, IfOk};
+ghost use Rattle.std.specs.Prelude.{MatchOption, OnErr, length, slice_get, vec_capacity, vec_len};
 ghost use Rattle.bb_memory_base.specs.Region.{IsRegion};
 ghost use Rattle.bb_memory_base.specs.Chunk.{Chunk, IsInside};
-ghost use Rattle.bb_memory_base.specs.FirstPlace.{first_place};
-ghost use Rattle.bb_memory_base.specs.PoolGeometry.{bucket_place};
 ghost use Rattle.bb_memory_base.specs.PoolObject.{IsWithin, MayGrow, MayShrink};
 ghost use Rattle.bb_memory_base.specs.PoolLogs.{IsHeldAfter};
-ghost use Rattle.bb_memory.specs.Buckets.{IsPlaceOfBucket};
 ghost use Rattle.bb_memory.specs.Seats.{number_of, view_log};
-ghost use Rattle.bb_memory.specs.SharedPool.{AreAllHeldAfter, AreInterleaved, IsInterleaved, IsParty, IsSharedScene};
+ghost use Rattle.bb_memory.specs.SharedPool.{AreAllHeldAfter, AreInterleaved, HaveMet, IsInterleaved, IsParty, IsSharedScene};
 ghost use Rattle.bb_memory.specs.SharedPool.{MayTake, chunk_of, fresh_party, resized, return_entry, with_entries};
 ghost use Rattle.bb_memory.specs.SharedPoolRule.{IsSeatOfIdle, all_parties};
 ghost use Rattle.bb_memory.specs.SharedPoolSteps.{HasRefused, HasTaken};
@@ -17,6 +14,7 @@ ghost use Rattle.bb_memory.specs.SharedPoolSteps.{HasRefused, HasTaken};
 use super::bucket::Bucket;
 use super::flags::Flags;
 use super::party::PoolParty;
+use super::rounds::part_of;
 use super::rule::{Scene, View};
 use crate::allocator::{AllocationError, AllocationGrowError, AllocationShrinkError};
 use crate::layout::{Chunk, Layout};
@@ -25,13 +23,18 @@ use atomic_table::Seat;
 use std::alloc::{AllocError, Global};
 use std::marker::Model;
 
-/// Buckets with a flag each.
-#[derive(Drop)]
-pub struct SharedBuckets {
-    flags: Flags,
+/// Buckets with a flag each: all that the region has room for where `CAPPED` is 0, and at most `MOST` of them where it is 1.
+pub struct SharedBucketPool<const CAPPED: usize, const MOST: usize> {
+    pub(super) flags: Flags,
 }
 
-impl Model for SharedBuckets {
+impl<const CAPPED: usize, const MOST: usize> Drop for SharedBucketPool<CAPPED, MOST> {
+    fn drop(self) {
+        let SharedBucketPool { flags: _ } = self;
+    }
+}
+
+impl<const CAPPED: usize, const MOST: usize> Model for SharedBucketPool<CAPPED, MOST> {
     ghost use Rattle.bb_memory.specs.SharedPool.{SharedPool};
     ghost use Rattle.bb_memory.specs.SharedPoolRule.{IsSharedPool};
 
@@ -42,13 +45,13 @@ impl Model for SharedBuckets {
     ghost invariant = { λ b. IsSharedPool b.flags.scene };
 }
 
-impl SharedBuckets {
-    /// The buckets with all flags free, and so many parties, which are idle.
-    pub fn open(
+impl<const CAPPED: usize, const MOST: usize> SharedBucketPool<CAPPED, MOST> {
+    /// A pool with all flags free, and so many parties, which are idle.
+    pub(super) fn open(
         alloc: Global,
         geometry: Geometry,
         parties: u32,
-    ) -> Result<(SharedBuckets, Vec<PoolParty>), AllocError>
+    ) -> Result<(Self, Vec<PoolParty>), AllocError>
         requires parties { 1 ≤ parties }
         ensures geometry { IfOk result (λ made. made.0.scene.geometry ≡ geometry) }
         ensures parties { IfOk result (λ made. made.0.scene.parties ≡ parties) }
@@ -61,9 +64,9 @@ impl SharedBuckets {
         let mut all = Vec::with_capacity(alloc, parties as usize)?;
         let scene = Scene { geometry, parties };
         let (flags, seat) = Flags::open(alloc, scene)?;
-        let buckets = SharedBuckets { flags };
-        buckets.seat_parties(seat, parties, &mut all);
-        Ok((buckets, all))
+        let pool = SharedBucketPool { flags };
+        pool.seat_parties(seat, parties, &mut all);
+        Ok((pool, all))
     }
 
     /// Gives each party a seat of its own.
@@ -80,7 +83,8 @@ impl SharedBuckets {
     {
         for number in 0..parties {
             let seat = self.flags.deal(&mut rest);
-            all.push_reserved(PoolParty { number, seat });
+            let near = part_of(number, parties, self.number_of_buckets());
+            all.push_reserved(PoolParty { number, seat, near });
         }
     }
 
@@ -96,7 +100,7 @@ impl SharedBuckets {
             (HasTaken self.now.scene (number_of seat.old.me.0) (view_log seat.old.me.0)
             seat.new.me) }
     {
-        for bucket in 0..self.count() {
+        for bucket in 0..self.number_of_buckets() {
             if self.flags.try_flag(seat, bucket) {
                 return Some(bucket);
             }
@@ -104,7 +108,11 @@ impl SharedBuckets {
         None
     }
 
-    /// Takes a bucket for the party.
+    /// Takes a bucket for the party, with a chunk of `layout.size()` bytes. It is refused in this order: with `SizeTooLarge`
+    /// where the size is greater than the bucket's, and with `AlignmentFailure` where the alignment is greater than the
+    /// bucket's, both without a step. Then it makes one pass: one exchange on each flag from bucket 0 up, until one is taken.
+    /// It is refused with `OutOfMemory` where all are lost. Where other parties step meanwhile, that doesn't mean that all
+    /// buckets were held at one moment. The party has to be this pool's.
     pub fn allocate(
         &self,
         party: &mut PoolParty,
@@ -133,7 +141,7 @@ impl SharedBuckets {
     {
         // What holds of the party is known from here on, also where no step is made.
         let _ = &party.number;
-        let bucket = self.bucket();
+        let bucket = self.flags.geometry().bucket();
         if layout.size() > bucket.size() {
             return Err(AllocationError::SizeTooLarge);
         }
@@ -142,7 +150,7 @@ impl SharedBuckets {
         }
         match self.pass(&mut party.seat) {
             Some(number) => Ok(Bucket {
-                buckets: self,
+                flags: &self.flags,
                 number,
                 len: layout.size(),
             }),
@@ -150,8 +158,9 @@ impl SharedBuckets {
         }
     }
 
-    /// Frees the bucket, which is held after the party's log.
-    pub fn free(&self, party: &mut PoolParty, bucket: Bucket<'_>)
+    /// Gives back a bucket by one store, which makes its flag free. The party and the bucket have to be this pool's, and the
+    /// party's log has to hold the bucket: this party took it, and it wasn't given back since.
+    pub fn deallocate_bucket(&self, party: &mut PoolParty, bucket: Bucket<'_>)
         requires party { party.old.allocator ≡ self.now }
         requires bucket { bucket.allocator ≡ self.now }
         requires held { IsHeldAfter party.old.log bucket.number }
@@ -166,9 +175,11 @@ impl SharedBuckets {
             → IsHeldAfter party.old.log other → IsHeldAfter party.new.log other }
     {
         self.flags.give_back(&mut party.seat, bucket.number);
+        party.near = bucket.number;
     }
 
-    /// Two parties meet: they are two, and no bucket is held after both logs. No word and no log changes.
+    /// Two parties meet: no bucket is held by both. It loads a word four times, which is in no log, and changes nothing. The
+    /// parties have to be this pool's.
     pub fn meet(&self, a: &mut PoolParty, b: &mut PoolParty)
         requires a { a.old.allocator ≡ self.now }
         requires b { b.old.allocator ≡ self.now }
@@ -183,7 +194,32 @@ impl SharedBuckets {
         self.flags.meet(&mut a.seat, &mut b.seat);
     }
 
-    /// Gives the bucket's chunk the new size, where it may grow so.
+    /// All these parties meet: one interleaving has all their logs. Where these are all the pool's parties, it has no other steps,
+    /// and a flag is taken exactly where one of them holds the bucket. It loads a word once, and two times more for each party but
+    /// one, which is in no log, and changes nothing. The parties have to be this pool's.
+    pub fn meet_all(&self, parties: &mut Vec<PoolParty>)
+        requires parties { All (λ party. party.allocator ≡ self.now) parties.old.items }
+        ensures kept { parties.new.items ≡ parties.old.items }
+        ensures parties { All (λ party. party.allocator ≡ self.now) parties.new.items }
+        ensures met { HaveMet self.now.scene parties.old.items }
+    {
+        let flags = &self.flags;
+        if let Some(party) = parties.pop() {
+            let PoolParty {
+                number,
+                mut seat,
+                near,
+            } = party;
+            flags.meet_rest(&mut seat, parties);
+            parties.push_reserved(PoolParty { number, seat, near });
+        }
+    }
+
+    /// Gives the bucket's chunk the new size, in its bucket and without a step. It is refused in this order: with
+    /// `GrowWouldShrink` where the new size isn't greater than the old one, with `AlignmentFailure` where the new alignment is
+    /// greater than the bucket's, and with `OutOfMemory` where the new size is greater than the bucket's. A refusal changes
+    /// nothing. The bucket has to be this pool's, and its place a multiple of the old alignment.
+    /// The old size is the one that is handed in: the token's own length isn't compared with it.
     pub fn grow(
         &self,
         bucket: &mut Bucket<'_>,
@@ -205,7 +241,11 @@ impl SharedBuckets {
         Ok(grown)
     }
 
-    /// Gives the bucket's chunk exactly the new size, where it may shrink so.
+    /// Gives the bucket's chunk exactly the new size, without a step. It is refused in this order: with `ShrinkWouldGrow` where
+    /// the new size isn't smaller than the old one, and with `AlignmentFailure` where the new alignment is greater than the
+    /// bucket's. A refusal changes nothing. The bucket has to be this pool's, its place a multiple of the old alignment, and the
+    /// old size at most the bucket's. The old size is the one that is handed in: the token's own length isn't compared
+    /// with it.
     pub fn shrink(
         &self,
         bucket: &mut Bucket<'_>,
@@ -229,7 +269,7 @@ impl SharedBuckets {
     }
 
     /// How many buckets there are. They lie in a region, and there is a party.
-    pub fn count(&self) -> u32
+    pub fn number_of_buckets(&self) -> u32
         ensures value { result ≡ self.now.scene.geometry.buckets }
         ensures region { IsRegion self.now.scene.geometry.region }
         ensures scene { IsSharedScene self.now.scene }
@@ -237,48 +277,24 @@ impl SharedBuckets {
         self.flags.geometry().count()
     }
 
-    /// The layout of each bucket.
-    pub fn bucket(&self) -> Layout
-        ensures { result ≡ self.now.scene.geometry.bucket }
+    /// The size of a bucket in bytes, as it was asked for. The buckets are at least that far apart.
+    pub fn bucket_size(&self) -> usize
+        ensures value { result ≡ self.now.scene.geometry.bucket.size }
     {
-        self.flags.geometry().bucket()
+        self.flags.geometry().bucket().size()
     }
 
-    /// How many bytes the region has.
-    pub fn region_size(&self) -> usize
-        ensures { result ≡ self.now.scene.geometry.region.size }
+    /// The greatest alignment that a request may have, of which each bucket's place is a multiple.
+    pub fn max_alignment(&self) -> usize
+        ensures value { result ≡ self.now.scene.geometry.bucket.align }
+    {
+        self.flags.geometry().bucket().align()
+    }
+
+    /// How many bytes the region has, as it was handed in.
+    pub fn size(&self) -> usize
+        ensures value { result ≡ self.now.scene.geometry.region.size }
     {
         self.flags.geometry().region_size()
-    }
-
-    /// Where the first bucket is.
-    pub fn first(&self) -> usize
-        ensures { result
-            ≡ first_place self.now.scene.geometry.region self.now.scene.geometry.bucket }
-    {
-        self.flags.geometry().first()
-    }
-
-    /// The number of the bucket at this place, or `None` where no bucket begins there.
-    pub fn number_at(&self, place: usize) -> Option<u32>
-        ensures below { IfSome result (λ number. number < self.now.scene.geometry.buckets) }
-        ensures there { IfSome result (λ number.
-            place ≡ bucket_place self.now.scene.geometry number) }
-        ensures one { IfSome result (λ number. (other : ℕ)
-            → place ≡ bucket_place self.now.scene.geometry other → other ≡ number) }
-        ensures none { IfNone result (¬ IsPlaceOfBucket self.now.scene.geometry place) }
-    {
-        self.flags.geometry().number_at(place)
-    }
-
-    /// The first `len` bytes of a bucket.
-    pub fn chunk(&self, bucket: u32, len: usize) -> Chunk
-        requires below { bucket < self.now.scene.geometry.buckets }
-        requires short { len ≤ self.now.scene.geometry.bucket.size }
-        ensures value { let place = bucket_place self.now.scene.geometry bucket in
-            let chunk : Chunk = record { place = place; len = len } in result ≡ chunk }
-        ensures inside { IsInside self.now.scene.geometry.region result }
-    {
-        self.flags.geometry().chunk(bucket as usize, len)
     }
 }

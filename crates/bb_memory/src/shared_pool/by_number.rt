@@ -6,29 +6,10 @@ ghost use Rattle.bb_memory.specs.Buckets.{IsPlaceOfBucket};
 ghost use Rattle.bb_memory.specs.SharedPool.{taken_bucket};
 
 use super::bucket::Bucket;
-use super::buckets::SharedBuckets;
+use super::buckets::SharedBucketPool;
 use super::party::PoolParty;
-use super::{SharedFixedSizePoolAllocator, SharedPoolAllocator};
 
-impl SharedBuckets {
-    /// The bucket of this number, which is held after the party's log.
-    pub fn bucket_of(&self, party: &PoolParty, number: u32, len: usize) -> Bucket<'_>
-        requires party { party.now.allocator ≡ self.now }
-        requires held { IsHeldAfter party.now.log number }
-        requires short { len ≤ self.now.scene.geometry.bucket.size }
-        ensures { result ≡ taken_bucket self.now number len }
-    {
-        // What holds of the party is known from here on.
-        let _ = party.number();
-        Bucket {
-            buckets: self,
-            number,
-            len,
-        }
-    }
-}
-
-impl SharedPoolAllocator {
+impl<const CAPPED: usize, const MOST: usize> SharedBucketPool<CAPPED, MOST> {
     /// The number of the bucket at this place, or `None` where no bucket begins there.
     pub fn number_at(&self, place: usize) -> Option<u32>
         ensures below { IfSome result (λ number. number < self.now.scene.geometry.buckets) }
@@ -38,7 +19,7 @@ impl SharedPoolAllocator {
             → place ≡ bucket_place self.now.scene.geometry other → other ≡ number) }
         ensures none { IfNone result (¬ IsPlaceOfBucket self.now.scene.geometry place) }
     {
-        self.buckets.number_at(place)
+        self.flags.geometry().number_at(place)
     }
 
     /// The bucket of this number again, with a chunk of `len` bytes, without a step. It is for a user that kept the number in
@@ -58,33 +39,12 @@ impl SharedPoolAllocator {
         requires short { len ≤ self.now.scene.geometry.bucket.size }
         ensures value { result ≡ taken_bucket self.now number len }
     {
-        self.buckets.bucket_of(party, number, len)
-    }
-}
-
-impl<const MAX_NUMBER_OF_BUCKETS: usize> SharedFixedSizePoolAllocator<MAX_NUMBER_OF_BUCKETS> {
-    /// The number of the bucket at this place, or `None` where no bucket begins there.
-    pub fn number_at(&self, place: usize) -> Option<u32>
-        ensures below { IfSome result (λ number. number < self.now.scene.geometry.buckets) }
-        ensures there { IfSome result (λ number.
-            place ≡ bucket_place self.now.scene.geometry number) }
-        ensures one { IfSome result (λ number. (other : ℕ)
-            → place ≡ bucket_place self.now.scene.geometry other → other ≡ number) }
-        ensures none { IfNone result (¬ IsPlaceOfBucket self.now.scene.geometry place) }
-    {
-        self.buckets.number_at(place)
-    }
-
-    /// The bucket of this number again, with a chunk of `len` bytes, without a step. It is for a user that kept the number in
-    /// place of the bucket. The party has to be this pool's, and its log has to hold the bucket: this party took it, and it
-    /// wasn't given back since. The length has to be at most the bucket's size. Tokens that there are already stay, and a return
-    /// by one leaves the others stale.
-    pub fn bucket(&self, party: &PoolParty, number: u32, len: usize) -> Bucket<'_>
-        requires party { party.now.allocator ≡ self.now }
-        requires held { IsHeldAfter party.now.log number }
-        requires short { len ≤ self.now.scene.geometry.bucket.size }
-        ensures value { result ≡ taken_bucket self.now number len }
-    {
-        self.buckets.bucket_of(party, number, len)
+        // What holds of the party is known from here on.
+        let _ = party.number();
+        Bucket {
+            flags: &self.flags,
+            number,
+            len,
+        }
     }
 }

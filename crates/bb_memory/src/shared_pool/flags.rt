@@ -1,17 +1,18 @@
 //! The flags that threads share, one a bucket: their words, and the only calls that touch them.
 //!
-//! `try_flag` and `give_back` make one atomic step each, by the seat of the party whose step it is, and tell that its log then
-//! ends with that step and what it found. `deal` and `meet` only load words, and are in no log; `open` is before all sharing, and
-//! `geometry` touches no word.
+//! `try_flag`, `try_at` and `give_back` make one atomic step each, by the seat of the party whose step it is, and tell that its
+//! log then ends with that step and what it found. `deal`, `gather`, `find` and `meet` only load words, and are in no log; `open`
+//! is before all sharing, and `geometry` touches no word.
 ghost use Rattle.std.specs.Prelude.{◌≡◌, ◌<◌, [], IfOk, MatchBool, max};
 ghost use Rattle.bb_memory_base.specs.Region.{IsRegion};
 ghost use Rattle.bb_memory_base.specs.PoolGeometry.{IsPoolGeometry};
 ghost use Rattle.bb_memory_base.specs.PoolLogs.{IsHeldAfter, next_bucket};
-ghost use Rattle.bb_memory.specs.Seats.{first_of, number_of, numbered, others_of, view_log};
-ghost use Rattle.bb_memory.specs.SharedPoolRule.{IsSeatOf, all_parties};
-ghost use Rattle.bb_memory.specs.SharedPoolSteps.{TellsLoss, TellsMeeting, TellsReturn, TellsTaking};
+ghost use Rattle.bb_memory.specs.Seats.{both_of, first_of, number_of, others_of, standing_for, view_log};
+ghost use Rattle.bb_memory.specs.SharedPoolRule.{IsSeatOf, IsSeatOfIdle, all_parties};
+ghost use Rattle.bb_memory.specs.SharedPoolSteps.{HasMissedAt, HasTakenAt, TellsLoss, TellsMeeting, TellsReturn};
+ghost use Rattle.bb_memory.specs.SharedPoolSteps.{TellsTaking, TellsTwo};
 
-use super::rule::{Agreement, Gather, GiveFirst, KeepFirst, Meets, Returns, Scene, Tries, View};
+use super::rule::{Agreement, Gather, GiveFirst, Meets, Returns, Scene, Tries, TriesAt, View};
 use crate::pool_allocator::geometry::Geometry;
 use atomic_table::{Seat, Table};
 use std::alloc::{AllocError, Global};
@@ -94,6 +95,26 @@ impl Flags {
         found == FREE
     }
 
+    /// One exchange on the flag of this bucket, by a party that is in no pass: whether it took the bucket.
+    pub(super) fn try_at(&self, seat: &mut Seat<u8, View>, bucket: u32) -> bool
+        requires table { seat.old.table_id ≡ self.now.table }
+        requires seat { IsSeatOfIdle self.now.scene (number_of seat.old.me.0)
+            (view_log seat.old.me.0) seat.old.me }
+        requires below { bucket < self.now.scene.geometry.buckets }
+        ensures table { seat.new.table_id ≡ seat.old.table_id }
+        ensures step { MatchBool result
+            (HasTakenAt self.now.scene (number_of seat.old.me.0) (view_log seat.old.me.0)
+            bucket seat.new.me)
+            (HasMissedAt self.now.scene (number_of seat.old.me.0) (view_log seat.old.me.0)
+            bucket seat.new.me) }
+    {
+        let flag = self
+            .table
+            .shared
+            .compare_exchange::<TriesAt>(seat, bucket as usize, FREE, TAKEN);
+        flag == FREE
+    }
+
     /// A store of free on the flag of a bucket that is held after the party's log.
     pub(super) fn give_back(&self, seat: &mut Seat<u8, View>, bucket: u32)
         requires table { seat.old.table_id ≡ self.now.table }
@@ -110,6 +131,27 @@ impl Flags {
             .store::<Returns>(seat, bucket as usize, FREE);
     }
 
+    /// A guest's parties go to this seat, before its own.
+    pub(super) fn gather(&self, seat: &mut Seat<u8, View>, guest: Seat<u8, View>)
+        requires tables { (seat.old.table_id ≡ self.now.table) × (guest.table_id ≡ self.now.table) }
+        requires guest { guest.me.1 ≡ [] }
+        ensures table { seat.new.table_id ≡ seat.old.table_id }
+        ensures seat { seat.new.me ≡ (both_of seat.old.me.0 guest.me.0, seat.old.me.1) }
+    {
+        self.table.shared.join_seat::<Gather>(seat, guest);
+    }
+
+    /// A load where the parties of one seat have met.
+    pub(super) fn find(&self, seat: &mut Seat<u8, View>)
+        requires table { seat.old.table_id ≡ self.now.table }
+        requires seat { seat.old.me ≡ (standing_for self.now.scene seat.old.me.0.parties, []) }
+        ensures table { seat.new.table_id ≡ seat.old.table_id }
+        ensures seat { seat.new.me ≡ seat.old.me }
+        ensures told { TellsMeeting self.now.scene seat.old.me.0.parties }
+    {
+        self.table.shared.load::<Meets>(seat, 0);
+    }
+
     /// Two parties meet at one seat, load a word there, and go back to their own.
     pub(super) fn meet(&self, a: &mut Seat<u8, View>, b: &mut Seat<u8, View>)
         requires tables { (a.old.table_id ≡ self.now.table) × (b.old.table_id ≡ self.now.table) }
@@ -117,15 +159,14 @@ impl Flags {
         requires b { IsSeatOf self.now.scene (number_of b.old.me.0) (view_log b.old.me.0) b.old.me }
         ensures tables { (a.new.table_id ≡ a.old.table_id) × (b.new.table_id ≡ b.old.table_id) }
         ensures kept { (a.new.me ≡ a.old.me) × (b.new.me ≡ b.old.me) }
-        ensures met { TellsMeeting self.now.scene
-            (numbered (number_of a.old.me.0) (view_log a.old.me.0))
-            (numbered (number_of b.old.me.0) (view_log b.old.me.0)) }
+        ensures met { TellsTwo self.now.scene
+            (number_of a.old.me.0) (view_log a.old.me.0)
+            (number_of b.old.me.0) (view_log b.old.me.0) }
     {
-        let shared = &self.table.shared;
-        let guest = shared.split_seat::<GiveFirst>(b);
-        shared.join_seat::<Gather>(a, guest);
-        shared.load::<Meets>(a, 0);
-        *b = shared.split_seat::<KeepFirst>(a);
+        let guest = self.deal(b);
+        self.gather(a, guest);
+        self.find(a);
+        *b = self.deal(a);
     }
 
     /// The buckets that the flags are of.

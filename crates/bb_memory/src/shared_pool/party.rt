@@ -12,6 +12,9 @@ use std::marker::Model;
 pub struct PoolParty {
     pub(super) number: u32,
     pub(super) seat: Seat<u8, View>,
+    /// Where the party's next round begins: at first in its own part of the pool, and then at the bucket that it gave back
+    /// last, or behind the one that its last round took.
+    pub(super) near: u32,
 }
 
 impl Model for PoolParty {

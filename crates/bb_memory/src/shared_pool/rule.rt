@@ -49,6 +49,15 @@ impl Play<u8, View> for Tries {
     ghost then = { tries };
 }
 
+/// An exchange from free to taken, by a party that is in no pass.
+pub(crate) struct TriesAt;
+
+impl Play<u8, View> for TriesAt {
+    ghost use Rattle.bb_memory.specs.SharedPoolSteps.{tries_at};
+
+    ghost then = { tries_at };
+}
+
 /// A store of free, by a party after whose log the bucket is held.
 pub(crate) struct Returns;
 
@@ -58,7 +67,7 @@ impl Play<u8, View> for Returns {
     ghost then = { returns };
 }
 
-/// A load by a seat that stands for two parties.
+/// A load by a seat that stands for any number of parties.
 pub(crate) struct Meets;
 
 impl Play<u8, View> for Meets {
@@ -76,17 +85,6 @@ impl Split<View> for GiveFirst {
     ghost left = { others_of };
 
     ghost right = { first_of };
-}
-
-/// All but the first party go to the new seat.
-pub(crate) struct KeepFirst;
-
-impl Split<View> for KeepFirst {
-    ghost use Rattle.bb_memory.specs.Seats.{first_of, others_of};
-
-    ghost left = { first_of };
-
-    ghost right = { others_of };
 }
 
 /// One seat stands for the parties of two.

@@ -1,7 +1,7 @@
 //! The bump machine's steps, and what holds of every list of them.
-ghost use Rattle.std.specs.Prelude.{◌≡◌, ◌≤◌, ◌<◌, ◌++◌, ◌≢◌, ℕ, List, [], All, Some, None, slice_get};
+ghost use Rattle.std.specs.Prelude.{◌≡◌, ◌+◌, ◌≤◌, ◌<◌, ◌++◌, ◌≢◌, ℕ, List, [], All, Some, None, slice_get};
 ghost use Rattle.bb_memory_base.specs.Region.{Region};
-ghost use Rattle.bb_memory_base.specs.Chunk.{Chunk, AreApart};
+ghost use Rattle.bb_memory_base.specs.Chunk.{Chunk, AreApart, chunk_end};
 ghost use Rattle.bb_memory_base.specs.LiveList.{IsSound};
 ghost use Rattle.bb_memory_base.specs.BumpObject.{StandsFor, used_space};
 ghost use Rattle.bb_memory_base.specs.BumpMachine.{BumpScene, OngoingCall, IsIdle, IsFitting};
@@ -220,6 +220,18 @@ pub fn bump_log_theorem()
         (party : ℕ) (log : BumpLog)
         → LogsAgree scene position logs → HasLog logs party log
         → seen_in scene log ≤ position }
+
+    // Where each party's log is there, it is at most what one of them has seen.
+    ensures whole { (scene : BumpScene) (position most : ℕ) (logs : List BumpLog)
+        → LogsAgree scene position logs → scene.opening ≤ most
+        → ((party : ℕ) → party < scene.parties
+        → (log : BumpLog) × HasLog logs party log × (seen_in scene log ≤ most))
+        → position ≤ most }
+
+    // Each chunk of a log ends at or before what its party has seen.
+    ensures ends { (scene : BumpScene) (log : BumpLog) (seen : ℕ)
+        → seen_in scene log ≤ seen
+        → All (λ chunk. chunk_end chunk ≤ scene.region.start + seen) (chunks_won log) }
 
     // It is never below the opening.
     ensures risen { (scene : BumpScene) (position : ℕ) (logs : List BumpLog)

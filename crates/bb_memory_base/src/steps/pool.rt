@@ -1,20 +1,21 @@
 //! The pool machine's steps, and what holds of every list of them.
-ghost use Rattle.std.specs.Prelude.{◌≡◌, ◌<◌, ◌≤◌, ◌↔◌, ℕ, Bool, true, false, List, [], Some, All, drop};
+ghost use Rattle.std.specs.Prelude.{◌≡◌, ◌<◌, ◌≤◌, ◌↔◌, ◌⊎◌, ◌∷◌, ℕ, Bool, true, false, List, [], Some, None, All, drop};
 ghost use Rattle.std.specs.Prelude.{length, replicate, slice_get, slice_set, take};
 ghost use Rattle.bb_memory_base.specs.Region.{Region};
 ghost use Rattle.bb_memory_base.specs.Chunk.{Chunk};
 ghost use Rattle.bb_memory_base.specs.LiveList.{IsSound};
 ghost use Rattle.bb_memory_base.specs.PoolGeometry.{PoolGeometry, pool_geometry, FillsRegion, IsPoolGeometry, at_most};
 ghost use Rattle.bb_memory_base.specs.PoolObject.{IsHeld};
-ghost use Rattle.bb_memory_base.specs.PoolMachine.{PoolScene, IsHolder, IsTaken, left_by};
+ghost use Rattle.bb_memory_base.specs.PoolMachine.{PoolScene, IsHolder, IsTaken, left_by, opening_state, pool_step};
 ghost use Rattle.bb_memory_base.specs.PoolHistory.{PoolLog, entry_of, history_of, log_of};
-ghost use Rattle.bb_memory_base.specs.PoolCalls.{AreAsked, IsCallRun, IsPoolRun, IsRefusedAt, LosesAt, FoundHeld};
+ghost use Rattle.bb_memory_base.specs.PoolCalls.{AreAsked, FoundHeld, IsCallRun, IsHeldInRun, IsPoolRun};
+ghost use Rattle.bb_memory_base.specs.PoolCalls.{IsRefusedAt, LosesAt, MissesAt};
 ghost use Rattle.bb_memory_base.specs.PoolLogs.{AllAllowed, CommonInterleaving, HasLog, Interleaving, IsHeldAfter};
 ghost use Rattle.bb_memory_base.specs.PoolLogs.{LogsAgree, loss_at, next_bucket, pass_in, with_entry};
 ghost use Rattle.bb_memory_base.specs.declared.layout.Layout.{Layout};
 ghost use Rattle.bb_memory_base.specs.declared.steps.pool.PoolStep.{PoolStep};
-ghost use Rattle.bb_memory_base.specs.declared.steps.pool.PoolStep.TheVariants.{Try, GiveBack};
-ghost use Rattle.bb_memory_base.specs.declared.steps.pool.PoolOutcome.TheVariants.{Takes, Gives};
+ghost use Rattle.bb_memory_base.specs.declared.steps.pool.PoolStep.TheVariants.{Try, GiveBack, TryAt};
+ghost use Rattle.bb_memory_base.specs.declared.steps.pool.PoolOutcome.TheVariants.{Takes, Gives, Misses};
 
 /// One atomic step over the pool's flags, of which each bucket has one.
 #[derive(Debug, Clone, Copy, PartialEq, Eq)]
@@ -24,6 +25,8 @@ pub enum PoolStep {
     Try { party: u32 },
     /// The party gives back a bucket, as only its holder may.
     GiveBack { party: u32, bucket: u32 },
+    /// The party, which is in no pass, tries to take one bucket of its choice.
+    TryAt { party: u32, bucket: u32 },
 }
 
 /// What a step found, and what it did.
@@ -39,6 +42,8 @@ pub enum PoolOutcome {
     Gives(u32),
     /// The step isn't allowed, or names a party or a bucket that isn't there. It changed nothing.
     Passed,
+    /// The bucket's flag was taken, and the party, which is in no pass, stays so. It changed nothing.
+    Misses(u32),
 }
 
 /// Whatever steps any number of parties take over the flags of a pool, from the opening with all flags free. It does
@@ -100,6 +105,12 @@ pub fn pool_theorem()
     ensures one_bucket { (scene : PoolScene) (steps : List PoolStep) (party step bucket other : ℕ)
         → LosesAt (history_of scene steps) party bucket step
         → LosesAt (history_of scene steps) party other step → bucket ≡ other }
+
+    // At each miss the bucket was held in the run, by another party or by the same one.
+    ensures missed { (scene : PoolScene) (steps : List PoolStep) (party bucket k : ℕ)
+        → IsPoolGeometry scene.geometry → MissesAt (history_of scene steps) party bucket k
+        → (bucket < scene.geometry.buckets) × IsTaken (left_by scene (take k steps)) bucket
+        × IsHeldInRun scene (take k steps) bucket }
 {}
 
 /// What follows from the parties' logs alone, where they agree with the flags: some list of steps, each allowed, leaves
@@ -132,6 +143,22 @@ pub fn pool_log_theorem()
         → (let loss = entry_of (Try party) (loss_at scene.geometry.buckets bucket) in
         LogsAgree scene flags (with_entry logs party log loss)) }
 
+    // A party that was made, and that is in no pass, may try any bucket. Where its flag is free, the party takes it.
+    ensures take_at { (scene : PoolScene) (flags : List Bool) (logs : List PoolLog)
+        (party : ℕ) (log : PoolLog) (bucket : ℕ) → LogsAgree scene flags logs
+        → party < scene.parties → HasLog logs party log → pass_in log ≡ None
+        → slice_get flags bucket ≡ Some false
+        → (let taking = entry_of (TryAt party bucket) (Takes bucket) in
+        LogsAgree scene (slice_set flags bucket true) (with_entry logs party log taking)) }
+
+    // Where it is taken, the party misses it, and no flag changes.
+    ensures miss { (scene : PoolScene) (flags : List Bool) (logs : List PoolLog)
+        (party : ℕ) (log : PoolLog) (bucket : ℕ) → LogsAgree scene flags logs
+        → party < scene.parties → HasLog logs party log → pass_in log ≡ None
+        → slice_get flags bucket ≡ Some true
+        → (let miss = entry_of (TryAt party bucket) (Misses bucket) in
+        LogsAgree scene flags (with_entry logs party log miss)) }
+
     // A party after whose log a bucket is held may give it back, which makes its flag free.
     ensures give { (scene : PoolScene) (flags : List Bool) (logs : List PoolLog)
         (party : ℕ) (log : PoolLog) (bucket : ℕ) → LogsAgree scene flags logs
@@ -150,6 +177,14 @@ pub fn pool_log_theorem()
         (log : PoolLog) (bucket : ℕ) → LogsAgree scene flags logs → scene.parties ≡ 1
         → HasLog logs 0 log → slice_get flags bucket ≡ Some true → IsHeldAfter log bucket }
 
+    // Where each party's log is there, it is held after one of them.
+    ensures whole { (scene : PoolScene) (flags : List Bool) (logs : List PoolLog)
+        (bucket : ℕ) → LogsAgree scene flags logs
+        → ((party : ℕ) → party < scene.parties → (log : PoolLog) × HasLog logs party log)
+        → slice_get flags bucket ≡ Some true
+        → (party : ℕ) × (log : PoolLog) × (party < scene.parties) × HasLog logs party log
+        × IsHeldAfter log bucket }
+
     // A bucket whose flag is free is held after no log.
     ensures free { (scene : PoolScene) (flags : List Bool) (logs : List PoolLog)
         (party : ℕ) (log : PoolLog) (bucket : ℕ) → LogsAgree scene flags logs
@@ -159,6 +194,13 @@ pub fn pool_log_theorem()
     ensures held { (scene : PoolScene) (flags : List Bool) (logs : List PoolLog)
         (party : ℕ) (log : PoolLog) (bucket : ℕ) → LogsAgree scene flags logs
         → HasLog logs party log → IsHeldAfter log bucket → slice_get flags bucket ≡ Some true }
+
+    // The first step of a list that is allowed takes a bucket, so where no log has taken one, none has a
+    // step.
+    ensures first { (scene : PoolScene) (step : PoolStep) (steps : List PoolStep)
+        → AllAllowed (history_of scene (step ∷ steps))
+        → (party : ℕ) × (bucket : ℕ) × ((step ≡ Try party) ⊎ (step ≡ TryAt party bucket))
+        × ((pool_step (opening_state scene) step).outcome ≡ Takes bucket) }
 
     // There are as many flags as buckets.
     ensures count { (scene : PoolScene) (flags : List Bool) (logs : List PoolLog)

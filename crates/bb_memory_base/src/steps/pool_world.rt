@@ -1,6 +1,6 @@
 //! A pool machine that can be run: of each bucket its holder, and of each party the bucket that its pass tries next.
 ghost use Rattle.std.specs.Prelude.{◌≡◌, ◌+◌, ◌<◌, ◌≤◌, ℕ, IsSome, IfOk, OnErr, OnOk, length, slice_get};
-ghost use Rattle.bb_memory_base.specs.PoolMachine.{holder_of, try_flag, try_next, give_flag};
+ghost use Rattle.bb_memory_base.specs.PoolMachine.{holder_of, try_flag, try_next, give_flag, try_at, try_one};
 ghost use Rattle.bb_memory_base.specs.PoolWorld.{opened, outcome_of, outcomes_of, after_step, after_steps};
 
 use super::{PoolOutcome, PoolStep};
@@ -56,6 +56,7 @@ impl PoolWorld {
         match step {
             PoolStep::Try { party } => self.try_next(party),
             PoolStep::GiveBack { party, bucket } => self.give_flag(party, bucket),
+            PoolStep::TryAt { party, bucket } => self.try_at(party, bucket),
         }
     }
 
@@ -148,6 +149,38 @@ impl PoolWorld {
                 }
             }
             Some(None) | None => PoolOutcome::Passed,
+        }
+    }
+
+    /// A party tries one bucket, as it may where it is in no pass.
+    fn try_at(&mut self, party: u32, bucket: u32) -> PoolOutcome
+        ensures outcome { let pass = slice_get self.old.calls party in
+            result ≡ (try_at self.old party bucket pass).outcome }
+        ensures state { let pass = slice_get self.old.calls party in
+            self.new ≡ (try_at self.old party bucket pass).state }
+    {
+        match found_at(&self.calls, party as usize) {
+            Some(None) => self.try_one(party, bucket),
+            Some(Some(_)) | None => PoolOutcome::Passed,
+        }
+    }
+
+    /// A party that is in no pass tries the flag of a bucket.
+    fn try_one(&mut self, party: u32, bucket: u32) -> PoolOutcome
+        requires { party < length self.old.calls }
+        ensures outcome { let flag = slice_get self.old.holders bucket in
+            result ≡ (try_one self.old party bucket flag).outcome }
+        ensures state { let flag = slice_get self.old.holders bucket in
+            self.new ≡ (try_one self.old party bucket flag).state }
+    {
+        match found_at(&self.holders, bucket as usize) {
+            Some(None) => {
+                self.holders[bucket as usize] = Some(party);
+                self.calls[party as usize] = None;
+                PoolOutcome::Takes(bucket)
+            }
+            Some(Some(_)) => PoolOutcome::Misses(bucket),
+            None => PoolOutcome::Passed,
         }
     }
 }

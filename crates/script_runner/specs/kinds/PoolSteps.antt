@@ -1,12 +1,12 @@
 -- Scripts that take the steps of a pool machine.
-use Rattle.std.specs.Prelude.{ℕ, ◌≡◌, List, ◌++◌, codes, Option, Some, None, true}
+use Rattle.std.specs.Prelude.{ℕ, ◌≡◌, List, [], ◌++◌, codes, Option, Some, None, true}
 use Rattle.std.specs.Fmt.{decimal}
 use Rattle.std.specs.List.{flat_map}
 use Rattle.bb_memory_base.specs.PoolWorld.{PoolWorld, opened, outcomes_of, after_steps}
 use Rattle.bb_memory_base.specs.declared.steps.pool.PoolOutcome.{PoolOutcome}
 use Rattle.bb_memory_base.specs.declared.steps.pool.PoolOutcome.TheVariants as outcome
 use Rattle.bb_memory_base.specs.declared.steps.pool.PoolStep.{PoolStep}
-use Rattle.bb_memory_base.specs.declared.steps.pool.PoolStep.TheVariants.{Try, GiveBack}
+use Rattle.bb_memory_base.specs.declared.steps.pool.PoolStep.TheVariants.{Try, GiveBack, TryAt}
 use Rattle.script_runner.specs.engine.Rules.{Rules}
 use Rattle.script_runner.specs.kinds.Buckets.{IsBucket, IsBucketCount}
 use Rattle.script_runner.specs.kinds.Parties.{parties, IsParty}
@@ -21,6 +21,8 @@ IsGiving party bucket = IsParty party × IsBucket bucket
 abbrev pub IsStep : PoolStep → Type 0
 IsStep (Try party) = IsParty party
 IsStep (GiveBack party bucket) = IsGiving party bucket
+-- no line writes this step
+IsStep (TryAt party bucket) = ⊥
 
 -- `PARTY BUCKET`
 abbrev pub giving_text : ℕ → ℕ → List ℕ
@@ -36,6 +38,7 @@ give_line party bucket = codes "give " ++ giving_text party bucket
 abbrev pub step_line : PoolStep → List ℕ
 step_line (Try party) = try_line party
 step_line (GiveBack party bucket) = give_line party bucket
+step_line (TryAt party bucket) = []
 
 -- REPLIES
 
@@ -56,6 +59,7 @@ outcome_line (outcome.RefusedAtLoss bucket) =
     codes "loses " ++ (decimal bucket ++ codes " refused OutOfMemory\n")
 outcome_line (outcome.Gives bucket) = codes "gives " ++ (decimal bucket ++ codes "\n")
 outcome_line outcome.Passed = codes "passed\n"
+outcome_line (outcome.Misses bucket) = codes "misses " ++ (decimal bucket ++ codes "\n")
 
 -- RUNS
 

@@ -71,6 +71,7 @@ fn write_outcome<W: Write>(outcome: &PoolOutcome, writer: &mut W) -> io::Result<
         }
         PoolOutcome::Gives(bucket) => writeln!(writer, "gives {bucket}"),
         PoolOutcome::Passed => writeln!(writer, "passed"),
+        PoolOutcome::Misses(bucket) => writeln!(writer, "misses {bucket}"),
     }
 }
 

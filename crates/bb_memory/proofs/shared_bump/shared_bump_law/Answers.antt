@@ -1,4 +1,4 @@
-use Rattle.std.proofs.Common.{List, ℕ, sym, subst}
+use Rattle.std.proofs.Common.{List, ℕ, sym, subst, arith}
 use Rattle.std.specs.List.{All, Contains}
 use Rattle.std.proofs.lemmas.List.Elements.{All-contains_itself, All-from_recursion, Contains-append_right, recursion_from_All}
 use Rattle.bb_memory_base.specs.Chunk.{Chunk}
@@ -9,6 +9,7 @@ use Rattle.bb_memory_base.specs.BumpLogs.{Interleaving}
 use Rattle.bb_memory_base.proofs.BumpMeetings.{all_in_log, common_apart}
 use Rattle.bb_memory_base.proofs.BumpPositions.{interleaving_stands}
 use Rattle.bb_memory_base.proofs.BumpRuns.{calls_run}
+use Rattle.bb_memory_base.proofs.BumpWholes.{ends_by}
 use Rattle.bb_memory_base.proofs.OwnChunks.{interleaved_older, interleaved_own, interleaved_since}
 use Rattle.bb_memory.specs.SharedBump.{seen_by}
 use Rattle.bb_memory.proofs.shared_bump.shared_bump_law.Goals as goal
@@ -72,3 +73,6 @@ returns-clause-both_held c = λ a b live met.
 pub returns-clause-apart : goal.returns-clause-apart
 returns-clause-apart c = λ a b is met.
     common_apart a.allocator.scene met.0 a.number a.log b.number b.log is.scene.opening met.1
+
+pub returns-clause-ends : goal.returns-clause-ends
+returns-clause-ends c = λ party. ends_by party.allocator.scene party.log (seen_by party) (omega arith)

@@ -1,4 +1,4 @@
-use Rattle.bb_memory.proofs.SharedPoolLaws.{history_run, history_held, history_refused, history_sound}
+use Rattle.bb_memory.proofs.SharedPoolLaws.{history_run, history_held, history_missed, history_refused, history_sound}
 use Rattle.bb_memory.proofs.SharedPoolLaws.{both_run, both_held, both_apart, buckets_apart, no_overlap}
 use Rattle.bb_memory.proofs.shared_pool.shared_pool_law.Goals as goal
 
@@ -13,6 +13,9 @@ returns-clause-sound c = history_sound
 
 pub returns-clause-refused : goal.returns-clause-refused
 returns-clause-refused c = history_refused
+
+pub returns-clause-missed : goal.returns-clause-missed
+returns-clause-missed c = history_missed
 
 pub returns-clause-both_run : goal.returns-clause-both_run
 returns-clause-both_run c = both_run

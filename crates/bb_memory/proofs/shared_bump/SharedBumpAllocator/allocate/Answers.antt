@@ -1,9 +1,9 @@
-use Rattle.std.proofs.Common.{[], ◌∷◌, ◌<◌, ℕ, append-nil, arith, ap, ◌∙◌}
+use Rattle.std.proofs.Common.{[], ◌∷◌, ◌<◌, ℕ, append-nil, arith, ap, sym, ◌∙◌}
 use Rattle.atomic_table.specs.Table.{Me}
 use Rattle.bb_memory_base.specs.BumpHistory.{chunks_won}
 use Rattle.bb_memory.specs.Seats.{number_of, view_log}
-use Rattle.bb_memory.specs.SharedBumpRule.{SeatView}
-use Rattle.bb_memory.proofs.SharedBumpAnswers.{answers_refused, answers_won, ended_by, found_by}
+use Rattle.bb_memory.specs.SharedBumpRule.{SeatView, met_by}
+use Rattle.bb_memory.proofs.SharedBumpAnswers.{alone_refused, alone_won, answers_refused, answers_won, behind_floor, ended_by, found_by}
 use Rattle.bb_memory.proofs.SharedBumpAnswers.{lost_by, nothing_found, nothing_lost, won_by}
 use Rattle.bb_memory.proofs.shared_bump.SharedBumpAllocator.allocate.Goals.{in-Some, in-None}
 use Rattle.bb_memory.proofs.shared_bump.SharedBumpAllocator.allocate.Goals as goal
@@ -40,7 +40,7 @@ returns-clause-found c =
     let scene = c.args.self.now.scene in
     let old = c.party.inside.seat.me in
     let new = c.claim.new.seat.me in
-    let ended = ended_by scene (number_of old.0) (view_log old.0) c.args.layout new c.claim.result c.claim.ensures.call in
+    let ended = ended_by scene (number_of old.0) (view_log old.0) (met_by old.0) c.args.layout new c.claim.result c.claim.ensures.call in
     found_by scene c.claim.new.seat.table_id c.party.inside.seat.table_id c.party.inside.number old new c.args.party.now
     c.claim.ensures.table c.party.view_is (ap (λ b. b.scene) c.requires.party) ended.0 ended.1
 
@@ -49,7 +49,7 @@ returns-clause-losses c =
     let scene = c.args.self.now.scene in
     let old = c.party.inside.seat.me in
     let new = c.claim.new.seat.me in
-    let ended = ended_by scene (number_of old.0) (view_log old.0) c.args.layout new c.claim.result c.claim.ensures.call in
+    let ended = ended_by scene (number_of old.0) (view_log old.0) (met_by old.0) c.args.layout new c.claim.result c.claim.ensures.call in
     lost_by scene c.claim.new.seat.table_id c.party.inside.seat.table_id c.party.inside.number old new c.args.party.now
     c.claim.ensures.table c.party.view_is (ap (λ b. b.scene) c.requires.party) ended.0 ended.1
 
@@ -73,4 +73,36 @@ returns-clause-none_won c =
       | in-Some w ↦ rw w.result-is tt
       | in-None w ↦ (let refused = w.in-None.ensures.call in
           rw w.result-is (chunks refused.added [] refused.ended refused.chunks ∙ append-nil (chunks_won c.args.party.now.log)))
+    ]
+
+pub returns-clause-floor : goal.returns-clause-floor
+returns-clause-floor c =
+    let behind = behind_floor c.args.self.now.scene c.claim.new.seat.table_id c.party.inside.seat.table_id
+    c.party.inside.number c.party.inside.seat.me c.claim.new.seat.me c.args.party.now c.claim.ensures.table c.party.view_is
+    (ap (λ b. b.scene) c.requires.party) c.args.layout in
+    elim c.match-claim.branch [
+      | in-Some w ↦ rw w.result-is (rw (sym (ap (λ b. b.scene) c.requires.party)) (behind w.in-Some.chunk w.in-Some.ensures.call))
+      | in-None w ↦ rw w.result-is tt
+    ]
+
+pub returns-clause-alone : goal.returns-clause-alone
+returns-clause-alone c = λ one.
+    let scene = c.args.self.now.scene in
+    let me = c.party.inside.seat.me in
+    let apart = c.if-size-eq0.false in
+    let asks : 0 < c.args.layout.size = grind (arith, apart) in
+    let same = c.claim.ensures.table in
+    let is = ap (λ b. b.scene) c.requires.party in
+    elim c.match-claim.branch [
+      | in-Some w ↦
+          rw w.result-is
+          (rw (sym is)
+          (alone_won scene c.claim.new.seat.table_id c.party.inside.seat.table_id c.party.inside.number me c.claim.new.seat.me
+          c.args.party.now same c.party.view_is is c.args.layout asks one w.in-Some.chunk w.in-Some.ensures.call))
+      | in-None w ↦
+          rw w.result-is
+          (rw (sym is)
+          (alone_refused scene c.claim.new.seat.table_id c.party.inside.seat.table_id c.party.inside.number me
+          c.claim.new.seat.me
+          c.args.party.now same c.party.view_is is c.args.layout asks one w.in-None.ensures.call))
     ]

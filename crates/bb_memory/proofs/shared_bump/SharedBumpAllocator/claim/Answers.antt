@@ -1,5 +1,6 @@
 use Rattle.std.proofs.Common.{◌∙◌, arith}
 use Rattle.bb_memory.specs.Seats.{number_of, view_log}
+use Rattle.bb_memory.specs.SharedBumpRule.{met_by}
 use Rattle.bb_memory.proofs.SharedBumpRequests.{begins, goes_on, raises, refused_at_once, refused_later, wins}
 use Rattle.bb_memory.proofs.shared_bump.SharedBumpAllocator.claim.Goals as goal
 
@@ -7,14 +8,14 @@ pub returns-in-None-clause-call : goal.returns-in-None-clause-call
 returns-in-None-clause-call g c =
     let me = c.args.seat.now.me in
     refused_at_once c.args.self.now.scene (number_of me.0)
-    (view_log me.0) c.args.layout c.read-seen.result c.read-seen.new.seat.me
+    (view_log me.0) (met_by me.0) c.args.layout c.read-seen.result c.read-seen.new.seat.me
     (rw c.self.view_is at c.read-seen.ensures.step) c.in-None.ensures.fits
 
 pub loop-seen-init : goal.loop-seen-init
 loop-seen-init g c =
     let me = c.args.seat.now.me in record {
       table = c.read-seen.ensures.table;
-      trying = begins c.args.self.now.scene (number_of me.0) (view_log me.0) c.args.layout c.read-seen.result
+      trying = begins c.args.self.now.scene (number_of me.0) (view_log me.0) (met_by me.0) c.args.layout c.read-seen.result
           c.read-seen.new.seat.me (rw c.self.view_is at c.read-seen.ensures.step) c.in-Some.ensures.fits.0;
       placed = c.in-Some.ensures.fits.1;
       inside = c.in-Some.ensures.inside;
@@ -25,7 +26,7 @@ pub returns-then-found-seen-clause-call : goal.returns-then-found-seen-clause-ca
 returns-then-found-seen-clause-call g c =
     let me = c.args.seat.now.me in
     let before = c.loop-seen.invariant in
-    wins c.args.self.now.scene (number_of me.0) (view_log me.0) c.args.layout c.loop-seen.seen c.exchange-found.result
+    wins c.args.self.now.scene (number_of me.0) (view_log me.0) (met_by me.0) c.args.layout c.loop-seen.seen c.exchange-found.result
     c.loop-seen.seat.me c.exchange-found.new.seat.me before.trying (rw c.self.view_is at c.exchange-found.ensures.step)
     c.loop-seen.chunk c.if-found-seen.true before.placed before.inside.below
 
@@ -33,7 +34,7 @@ pub returns-in-None-place-clause-call : goal.returns-in-None-place-clause-call
 returns-in-None-place-clause-call g c =
     let me = c.args.seat.now.me in
     let before = c.loop-seen.invariant in
-    refused_later c.args.self.now.scene (number_of me.0) (view_log me.0) c.args.layout c.loop-seen.seen c.exchange-found.result
+    refused_later c.args.self.now.scene (number_of me.0) (view_log me.0) (met_by me.0) c.args.layout c.loop-seen.seen c.exchange-found.result
     c.loop-seen.seat.me c.exchange-found.new.seat.me before.trying (rw c.self.view_is at c.exchange-found.ensures.step)
     c.if-found-seen.false c.in-None-place.ensures.fits
 
@@ -43,7 +44,7 @@ loop-seen-preserved g c =
     let before = c.loop-seen.invariant in record {
       table = c.exchange-found.ensures.table ∙ before.table;
       trying =
-          goes_on c.args.self.now.scene (number_of me.0) (view_log me.0) c.args.layout c.loop-seen.seen c.exchange-found.result
+          goes_on c.args.self.now.scene (number_of me.0) (view_log me.0) (met_by me.0) c.args.layout c.loop-seen.seen c.exchange-found.result
           c.loop-seen.seat.me c.exchange-found.new.seat.me before.trying (rw c.self.view_is at c.exchange-found.ensures.step)
           c.if-found-seen.false c.in-Some-place.ensures.fits.0;
       placed = c.in-Some-place.ensures.fits.1;
@@ -54,14 +55,14 @@ loop-seen-preserved g c =
 pub place-requires-in-loop-seen : goal.place-requires-in-loop-seen
 place-requires-in-loop-seen g c =
     let me = c.args.seat.now.me in
-    (raises c.args.self.now.scene (number_of me.0) (view_log me.0) c.args.layout c.loop-seen.seen c.exchange-found.result
+    (raises c.args.self.now.scene (number_of me.0) (view_log me.0) (met_by me.0) c.args.layout c.loop-seen.seen c.exchange-found.result
     c.loop-seen.seat.me c.exchange-found.new.seat.me c.loop-seen.invariant.trying
     (rw c.self.view_is at c.exchange-found.ensures.step)).1
 
 pub loop-seen-smaller : goal.loop-seen-smaller
 loop-seen-smaller g c =
     let me = c.args.seat.now.me in
-    let up = raises c.args.self.now.scene (number_of me.0) (view_log me.0) c.args.layout c.loop-seen.seen c.exchange-found.result
+    let up = raises c.args.self.now.scene (number_of me.0) (view_log me.0) (met_by me.0) c.args.layout c.loop-seen.seen c.exchange-found.result
     c.loop-seen.seat.me c.exchange-found.new.seat.me c.loop-seen.invariant.trying
     (rw c.self.view_is at c.exchange-found.ensures.step) in
     let apart = c.if-found-seen.false in

@@ -3,8 +3,8 @@ use Rattle.std.specs.Prelude.{All, slice_get}
 use Rattle.std.proofs.lemmas.List.Elements.{All-push}
 use Rattle.atomic_table.specs.Table.{Me}
 use Rattle.bb_memory.specs.SharedBump.{BumpParty, IsSharedScene, SharedBump, fresh_party}
-use Rattle.bb_memory.specs.Seats.{first_of, others_of, standing_for, view_log}
-use Rattle.bb_memory.specs.SharedBumpRule.{NumberedLog, SeatView, party_in}
+use Rattle.bb_memory.specs.Seats.{alone, first_of, others_of, standing_for, view_log}
+use Rattle.bb_memory.specs.SharedBumpRule.{NumberedLog, SeatView, met_by, party_in, scene_of, sight}
 use Rattle.bb_memory_base.proofs.BumpAllowed.{none_allowed}
 use Rattle.bb_memory.proofs.Seatings.{fresh_more, given_more}
 use Rattle.bb_memory.proofs.SharedBumpParties.{party_seat}
@@ -17,16 +17,17 @@ pub invariant_of-push_reserved : goal.invariant_of-push_reserved
 invariant_of-push_reserved c =
     let scene = c.args.self.now.scene in
     let number = c.loop-number.number in
-    let is = c.loop-number.invariant.rest ∙ ap (λ (parties : List NumberedLog). (standing_for scene parties, []))
+    let is = c.loop-number.invariant.rest ∙ ap (λ (parties : List NumberedLog). (standing_for (sight scene 0) parties, []))
     (fresh_more number c.args.parties (omega arith)) in
     let seated = c.deal-seat.ensures.first ∙ ap (λ (m : Me ℕ SeatView). (first_of m.0, [])) is in
     party_seat scene number [] c.deal-seat.result.me
     record {
-      seat = record { is = seated; interleaved = record { steps = []; allowed = none_allowed; leaves = refl; logged = refl } };
+      seat = record { is = seated ∙ λ i. (alone (sight scene (met_by (sym seated i).0)) number [], []); interleaved = record { steps = []; allowed = none_allowed; leaves = refl; logged = refl } };
       idle = refl;
     }
     (omega (arith, c.requires.parties))
     (subst IsSharedScene (ap (λ (b : SharedBump). b.scene) c.self.view_is) c.self.invariant.shared)
+    (omega (arith, ap (λ (m : Me ℕ SeatView). met_by m.0) seated))
 
 pub loop-number-preserved : goal.loop-number-preserved
 loop-number-preserved c =
@@ -37,13 +38,14 @@ loop-number-preserved c =
     let before = c.loop-number.invariant in
     let dealt = c.deal-seat.ensures in
     let is =
-    before.rest ∙ ap (λ (parties : List NumberedLog). (standing_for scene parties, [])) (fresh_more number count (omega arith)) in
+    before.rest ∙ ap (λ (parties : List NumberedLog). (standing_for (sight scene 0) parties, [])) (fresh_more number count (omega arith)) in
     let seated = dealt.first ∙ ap (λ (m : Me ℕ SeatView). (first_of m.0, [])) is in
     let value : BumpParty = party_in c.deal-seat.result.table_id number c.deal-seat.result.me.0 in
     let value_is : value ≡ fresh_party bump number = λ j. record {
-      allocator = record { table = (dealt.its_table ∙ before.table) j; scene = ap (λ (m : Me ℕ SeatView). m.0.scene) seated j };
+      allocator = record { table = (dealt.its_table ∙ before.table) j; scene = ap (λ (m : Me ℕ SeatView). scene_of m.0) seated j };
       number = number;
       log = ap (λ (m : Me ℕ SeatView). view_log m.0) seated j;
+      met = ap (λ (m : Me ℕ SeatView). met_by m.0) seated j;
     } in
     let items = c.push_reserved.ensures.items in
     let more = given_more (fresh_party bump) c.loop-number.all.items value (λ j below. before.fresh j (omega arith))

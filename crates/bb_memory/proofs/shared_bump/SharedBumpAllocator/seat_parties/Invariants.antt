@@ -2,12 +2,13 @@ use Rattle.std.proofs.Common.{◌≡◌, ◌-◌, ◌<◌, ◌≤◌, ℕ, [], A
 use Rattle.std.specs.Prelude.{slice_get}
 use Rattle.bb_memory.specs.SharedBump.{fresh_party}
 use Rattle.bb_memory.specs.Seats.{fresh_from, standing_for}
+use Rattle.bb_memory.specs.SharedBumpRule.{sight}
 use Rattle.bb_memory.proofs.shared_bump.SharedBumpAllocator.seat_parties.Given as goal
 
 abbrev pub invariant-loop-number : goal.invariant-loop-number
 invariant-loop-number l = record {
   table : l.rest.table_id ≡ l.self.table;
-  rest : l.rest.me ≡ (standing_for l.self.scene (fresh_from l.number (l.parties - l.number)), []);
+  rest : l.rest.me ≡ (standing_for (sight l.self.scene 0) (fresh_from l.number (l.parties - l.number)), []);
   len : vec_len l.all ≡ l.number;
   long : length l.all.items ≡ l.number;
   room : l.parties ≤ vec_capacity l.all;

@@ -8,6 +8,7 @@ use Rattle.bb_memory_base.proofs.OwnChunks.{own_sound, older_apart, agreed_since
 use Rattle.bb_memory_base.proofs.OwnChunks.{interleaved_own, interleaved_older, interleaved_since}
 use Rattle.std.proofs.Common.{None}
 use Rattle.bb_memory_base.proofs.BumpBounds.{call_grows, seen_grows, won_grows}
+use Rattle.bb_memory_base.proofs.BumpWholes.{ends_by, whole_bounds}
 use Rattle.bb_memory_base.proofs.steps.bump.bump_log_theorem.Goals as goal
 
 pub returns-clause-call : goal.returns-clause-call
@@ -99,3 +100,9 @@ returns-clause-seen_grows c = λ scene. seen_grows scene.region scene.opening
 
 pub returns-clause-won_grows : goal.returns-clause-won_grows
 returns-clause-won_grows c = won_grows
+
+pub returns-clause-whole : goal.returns-clause-whole
+returns-clause-whole c = whole_bounds
+
+pub returns-clause-ends : goal.returns-clause-ends
+returns-clause-ends c = λ scene log. ends_by scene log

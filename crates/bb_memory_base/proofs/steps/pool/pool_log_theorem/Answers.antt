@@ -4,9 +4,11 @@ use Rattle.bb_memory_base.specs.PoolLogs.{IsHeldAfter}
 use Rattle.bb_memory_base.proofs.PoolLogFacts.{logs_apart, free_not_held, held_is_taken, taken_is_held_alone}
 use Rattle.bb_memory_base.proofs.PoolLogFacts.{length-flags, nobody_else, interleaved_log, interleaved_logs}
 use Rattle.bb_memory_base.proofs.PoolLogSteps.{opening_agrees, take_agrees, lose_agrees, give_agrees, log_pass}
+use Rattle.bb_memory_base.proofs.PoolLogSteps.{miss_agrees, take_at_agrees}
 use Rattle.bb_memory_base.proofs.PoolHolders.{one_holder}
 use Rattle.bb_memory_base.proofs.PoolLogRuns.{flags_run}
 use Rattle.bb_memory_base.proofs.PoolRuns.{pool_run}
+use Rattle.bb_memory_base.proofs.PoolLogFacts.{first_takes, taken_is_held_whole}
 use Rattle.bb_memory_base.proofs.steps.pool.pool_log_theorem.Goals as goal
 
 pub returns-clause-opening : goal.returns-clause-opening
@@ -17,6 +19,12 @@ returns-clause-take c = take_agrees
 
 pub returns-clause-lose : goal.returns-clause-lose
 returns-clause-lose c = lose_agrees
+
+pub returns-clause-take_at : goal.returns-clause-take_at
+returns-clause-take_at c = take_at_agrees
+
+pub returns-clause-miss : goal.returns-clause-miss
+returns-clause-miss c = miss_agrees
 
 pub returns-clause-give : goal.returns-clause-give
 returns-clause-give c = give_agrees
@@ -60,3 +68,9 @@ returns-clause-interleaved_apart c = λ scene party log other other_log bucket b
     one_holder scene both.steps party other bucket
     (subst (λ (l : PoolLog). IsHeldAfter l bucket) (sym both.logged) held)
     (subst (λ (l : PoolLog). IsHeldAfter l bucket) (sym both.other_logged) other_held)
+
+pub returns-clause-whole : goal.returns-clause-whole
+returns-clause-whole c = taken_is_held_whole
+
+pub returns-clause-first : goal.returns-clause-first
+returns-clause-first c = first_takes

@@ -1,6 +1,6 @@
 use Rattle.bb_memory_base.proofs.PoolGeometries.{some_geometry}
 use Rattle.bb_memory_base.proofs.PoolHolders.{holder_in_log, one_holder}
-use Rattle.bb_memory_base.proofs.PoolPasses.{refused_found_held}
+use Rattle.bb_memory_base.proofs.PoolPasses.{missed_is_held, refused_found_held}
 use Rattle.bb_memory_base.proofs.PoolRuns.{pool_run, run_at_step, taken_is_held, run_is_sound}
 use Rattle.bb_memory_base.proofs.steps.pool.pool_theorem.Goals as goal
 
@@ -27,3 +27,6 @@ returns-clause-apart c = one_holder
 
 pub returns-clause-refused : goal.returns-clause-refused
 returns-clause-refused c = refused_found_held
+
+pub returns-clause-missed : goal.returns-clause-missed
+returns-clause-missed c = missed_is_held

@@ -1,6 +1,7 @@
 use Rattle.std.proofs.Common.{[], sym, ap, ◌∙◌, arith}
 use Rattle.bb_memory_base.specs.BumpMachine.{BumpScene, chunk_at, position_behind}
 use Rattle.bb_memory.specs.Seats.{alone, number_of, view_log}
+use Rattle.bb_memory.specs.SharedBumpRule.{met_by, sight}
 use Rattle.bb_memory.proofs.SharedBumpKeeps.{exchanges_as}
 use Rattle.bb_memory.proofs.SharedBumpParties.{told_exchange}
 use Rattle.bb_memory.proofs.shared_bump.position.Position.exchange.Goals as goal
@@ -12,8 +13,8 @@ compare_exchange-found-requires c =
     let scene = ap (λ b. b.scene) c.self.view_is in (
       c.requires.table ∙ sym (ap (λ b. b.table) c.self.view_is),
       omega (arith, fields.words),
-      exchanges_as c.self.inside.table.shared.key _ _ (number_of me.0) c.args.layout c.args.seen c.args.behind (view_log me.0) me
-          (c.requires.seat.is ∙ ap (λ s. (alone s (number_of me.0) (view_log me.0), [])) (sym scene)) c.requires.call
+      exchanges_as c.self.inside.table.shared.key _ _ (number_of me.0) c.args.layout c.args.seen c.args.behind (view_log me.0) (met_by me.0) me
+          (c.requires.seat.is ∙ ap (λ s. (alone (sight s (met_by me.0)) (number_of me.0) (view_log me.0), [])) (sym scene)) c.requires.call
           (c.requires.behind ∙ ap (λ (s : BumpScene). position_behind s.region (chunk_at s.region c.args.seen c.args.layout))
           (sym scene)),
     )

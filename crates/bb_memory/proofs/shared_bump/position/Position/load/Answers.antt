@@ -1,5 +1,6 @@
 use Rattle.std.proofs.Common.{[], sym, ap, ◌∙◌, arith}
 use Rattle.bb_memory.specs.Seats.{alone, number_of, view_log}
+use Rattle.bb_memory.specs.SharedBumpRule.{met_by, sight}
 use Rattle.bb_memory.proofs.SharedBumpKeeps.{loads_as}
 use Rattle.bb_memory.proofs.SharedBumpParties.{told_load}
 use Rattle.bb_memory.proofs.shared_bump.position.Position.load.Goals as goal
@@ -11,8 +12,8 @@ load-requires c =
     let scene = ap (λ b. b.scene) c.self.view_is in (
       c.requires.table ∙ sym (ap (λ b. b.table) c.self.view_is),
       omega (arith, c.self.invariant.words),
-      loads_as c.self.inside.table.shared.key _ _ (number_of me.0) (view_log me.0) me
-          (of.seat.is ∙ ap (λ s. (alone s (number_of me.0) (view_log me.0), [])) (sym scene)) of.idle,
+      loads_as c.self.inside.table.shared.key _ _ (number_of me.0) (view_log me.0) (met_by me.0) me
+          (of.seat.is ∙ ap (λ s. (alone (sight s (met_by me.0)) (number_of me.0) (view_log me.0), [])) (sym scene)) of.idle,
     )
 
 pub returns-clause-step : goal.returns-clause-step

@@ -1,5 +1,6 @@
 use Rattle.std.proofs.Common.{[], sym, ap, ◌∙◌, arith}
 use Rattle.bb_memory.specs.Seats.{alone, number_of, view_log}
+use Rattle.bb_memory.specs.SharedBumpRule.{met_by, sight}
 use Rattle.bb_memory.proofs.SharedBumpKeeps.{reads_as}
 use Rattle.bb_memory.proofs.SharedBumpParties.{told_read}
 use Rattle.bb_memory.proofs.shared_bump.position.Position.read.Goals as goal
@@ -12,8 +13,8 @@ load-requires g c =
     let scene = ap (λ b. b.scene) c.self.view_is in (
       c.requires.table ∙ sym (ap (λ b. b.table) c.self.view_is),
       omega (arith, fields.words),
-      reads_as c.self.inside.table.shared.key _ _ (number_of me.0) c.args._layout g.L.Asked.layout (view_log me.0) me
-          (of.seat.is ∙ ap (λ s. (alone s (number_of me.0) (view_log me.0), [])) (sym scene)) of.idle
+      reads_as c.self.inside.table.shared.key _ _ (number_of me.0) c.args._layout g.L.Asked.layout (view_log me.0) (met_by me.0) me
+          (of.seat.is ∙ ap (λ s. (alone (sight s (met_by me.0)) (number_of me.0) (view_log me.0), [])) (sym scene)) of.idle
           c.requires.asks c.requires.asked,
     )
 

@@ -1,0 +1,55 @@
+use Rattle.std.proofs.Common.{[], length, refl, append-nil, ◌∷◌, ◌++◌, ◌≡◌, ◌≤◌, List, ap, sym, subst, ◌∙◌, arith}
+use Rattle.std.specs.Prelude.{All, map}
+use Rattle.std.proofs.lemmas.List.{map-append}
+use Rattle.std.proofs.lemmas.List.Elements.{All-map, All-push}
+use Rattle.bb_memory.specs.SharedBump.{BumpParty, IsSharedScene, SharedBump, meeting_at}
+use Rattle.bb_memory.specs.SharedBumpRule.{NumberedLog, met_by, party_in}
+use Rattle.bb_memory.specs.SharedBumpSteps.{TellsMeeting}
+use Rattle.bb_memory.proofs.SharedBumpGatherings.{all_gathered, have_met, met_party, none_met}
+use Rattle.bb_memory.proofs.shared_bump.SharedBumpAllocator.meet_all.Goals as goal
+
+pub returns-in-Some-clause-met : goal.returns-in-Some-clause-met
+returns-in-Some-clause-met c =
+    let bump = c.args.self.now in
+    let items = c.args.parties.now.items in
+    let rest = c.pop.new.self.items in
+    let party = c.in-Some.party in
+    let me = c.party.inside.seat.me in
+    let found = c.meet_rest.result in
+    let is = c.in-Some.ensures.items in
+    let value = party_in c.meet_rest.new.seat.table_id c.party.inside.number c.meet_rest.new.seat.me.0 in
+    let back : value ≡ meeting_at found party = met_party c.meet_rest.new.seat.table_id c.party.inside.seat.table_id
+    c.party.inside.number found me c.meet_rest.new.seat.me party c.party.view_is c.meet_rest.ensures.table c.meet_rest.ensures.seat in
+    let told = subst (λ (parties : List NumberedLog). TellsMeeting bump.scene parties (met_by me.0) found)
+    (all_gathered c.party.inside.seat.table_id c.party.inside.number me party items rest c.party.invariant c.party.view_is is)
+    c.meet_rest.ensures.told in
+    let met = ap (λ (p : BumpParty). p.met) c.party.view_is in
+    let mets = subst (All (λ (p : BumpParty). p.met ≤ found)) (sym is)
+    (All-push (λ (p : BumpParty). p.met ≤ found) rest party c.meet_rest.ensures.risen (omega (arith, told.above, met))) in
+    have_met bump items c.push_reserved.new.self.items (met_by me.0) found
+    (subst IsSharedScene (ap (λ (b : SharedBump). b.scene) c.self.view_is) c.self.invariant.shared) c.requires.parties told mets
+    (c.push_reserved.ensures.items
+    ∙ (λ i. c.meet_rest.ensures.rest i ++ back i ∷ [])
+    ∙ sym (map-append (meeting_at found) rest (party ∷ [])) ∙ ap (map (meeting_at found)) (sym is))
+
+pub returns-in-Some-clause-parties : goal.returns-in-Some-clause-parties
+returns-in-Some-clause-parties c =
+    let bump = c.args.self.now in
+    let met = returns-in-Some-clause-met c in
+    subst (All (λ (p : BumpParty). p.allocator ≡ bump)) (sym met.kept)
+    (All-map (λ (p : BumpParty). p.allocator ≡ bump) (meeting_at met.position) c.args.parties.now.items c.requires.parties)
+
+-- a list without elements
+empty : (xs : List BumpParty) → length xs ≡ 0 → xs ≡ []
+empty [] none = refl
+empty (x ∷ xs) none = absurd (omega arith)
+
+pub returns-in_default-clause-met : goal.returns-in_default-clause-met
+returns-in_default-clause-met c =
+    let items = c.args.parties.now.items in
+    let rest = c.pop.new.self.items in
+    let is = c.in_default.ensures.items in
+    let none : items ≡ [] = empty items (omega (arith, c.args.parties.now.ok.0, c.in_default.ensures.cases.0)) in
+    none_met c.args.self.now items rest
+    (subst IsSharedScene (ap (λ (b : SharedBump). b.scene) c.self.view_is) c.self.invariant.shared)
+    none (sym (append-nil rest) ∙ sym is ∙ none)

@@ -1,0 +1,47 @@
+use Rattle.std.proofs.Common.{◌∙◌, arith, refl, sym, ap}
+use Rattle.bb_memory.specs.Seats.{number_of, view_log}
+use Rattle.bb_memory.specs.SharedPool.{SharedPool}
+use Rattle.bb_memory.proofs.SharedPoolPasses.{begins, goes_on, passing_next, passing_seat, takes}
+use Rattle.bb_memory.proofs.shared_pool.buckets.SharedBucketPool.pass.Goals as goal
+
+pub loop-bucket-init : goal.loop-bucket-init
+loop-bucket-init g c =
+    let me = c.args.seat.now.me in
+    record {
+      table = refl;
+      passing = begins c.args.self.now.scene (number_of me.0) (view_log me.0) me c.requires.seat.seat;
+    }
+
+pub try_flag-requires-clause-table : goal.try_flag-requires-clause-table
+try_flag-requires-clause-table g c =
+    c.loop-bucket.invariant.table ∙ c.requires.table ∙ sym (ap (λ (p : SharedPool). p.table) c.self.view_is)
+
+pub try_flag-requires-clause-seat : goal.try_flag-requires-clause-seat
+try_flag-requires-clause-seat g c =
+    let me = c.args.seat.now.me in
+    let seat = passing_seat c.args.self.now.scene (number_of me.0) (view_log me.0) c.loop-bucket.seat.me c.loop-bucket.bucket
+    c.loop-bucket.invariant.passing in
+    rw (← c.self.view_is) at seat
+
+pub try_flag-requires-clause-next : goal.try_flag-requires-clause-next
+try_flag-requires-clause-next g c =
+    let me = c.args.seat.now.me in
+    passing_next c.args.self.now.scene (number_of me.0) (view_log me.0) c.loop-bucket.seat.me c.loop-bucket.bucket
+    c.requires.seat.idle (omega arith) c.loop-bucket.invariant.passing
+
+pub returns-then-try_flag-clause-pass : goal.returns-then-try_flag-clause-pass
+returns-then-try_flag-clause-pass g c =
+    let me = c.args.seat.now.me in
+    takes c.args.self.now.scene (number_of me.0) (view_log me.0) c.loop-bucket.seat.me c.try_flag.new.seat.me
+    c.loop-bucket.bucket c.loop-bucket.invariant.passing
+    (rw c.if-try_flag.true at (rw c.self.view_is at c.try_flag.ensures.step)) (omega arith)
+
+pub loop-bucket-preserved : goal.loop-bucket-preserved
+loop-bucket-preserved g c =
+    let me = c.args.seat.now.me in
+    record {
+      table = c.try_flag.ensures.table ∙ c.loop-bucket.invariant.table;
+      passing = goes_on c.args.self.now.scene (number_of me.0) (view_log me.0) c.loop-bucket.seat.me
+          c.try_flag.new.seat.me c.loop-bucket.bucket c.loop-bucket.invariant.passing
+          (rw c.if-try_flag.false at (rw c.self.view_is at c.try_flag.ensures.step));
+    }

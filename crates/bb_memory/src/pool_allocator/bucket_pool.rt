@@ -1,0 +1,398 @@
+//! Pools over a set of held buckets: what the pools of this crate have in common.
+ghost use Rattle.std.specs.Prelude.{◌≡◌, ◌≢◌, ◌∷◌, ◌++◌, [], List, ℕ, ◌<◌, ◌≤◌, ◌%◌, ◌↔◌, IsOk, IfOk, OnOk};
+ghost use Rattle.std.specs.Prelude.{OnErr, IsTrue, Some, slice_get, slice_set, remove};
+ghost use Rattle.bb_memory_base.specs.Chunk.{Chunk, IsInside};
+ghost use Rattle.bb_memory_base.specs.LiveList.{IsSound};
+ghost use Rattle.bb_memory_base.specs.HeldBytes.{held_region, part_behind, ZeroesOnly};
+ghost use Rattle.bb_memory_base.specs.Run.{IsRun, Step};
+ghost use Rattle.bb_memory_base.specs.ResizableObject.{ResizableStep};
+ghost use Rattle.bb_memory_base.specs.PoolObject.{MayAllocate, MayGrow, MayShrink, IsWithin, pool_object};
+ghost use Rattle.bb_memory.specs.NumberSet.{Lacks};
+ghost use Rattle.bb_memory.specs.Pool.{AreAStrideApart, Frees, HoldsPlace, Reads, StandsFor, Takes};
+
+use super::buckets::Buckets;
+use super::held_set::HeldSet;
+use crate::allocator::{
+    AllocationError, AllocationGrowError, AllocationShrinkError, Allocator, BaseAllocator, Command,
+    Reply, run_base, run_full,
+};
+use crate::index_set::Counter;
+use crate::layout::{Chunk, Layout};
+use crate::region::Region;
+use std::alloc::AllocError;
+use std::marker::Model;
+
+/// Buckets, with what is kept of the last search for a free one.
+#[derive(Drop)]
+pub struct BucketPool<S: HeldSet> {
+    pub(super) buckets: Buckets<S>,
+    pub(super) last_search: S::LastSearch,
+}
+
+impl<S: HeldSet> Model for BucketPool<S> {
+    ghost use Rattle.std.specs.Prelude.{◌≤◌};
+    ghost use Rattle.bb_memory.specs.Pool.{IsPool};
+
+    ghost Value = { S.Seen };
+
+    ghost coded = { S.Seen.code };
+
+    ghost view = { λ a. S.seen a.buckets a.last_search };
+
+    ghost invariant = { λ a. IsPool a.buckets
+        × (S.last_reads a.last_search ≤ S.words a.buckets.geometry.buckets) };
+}
+
+impl<S: HeldSet> BucketPool<S> {
+    /// How many buckets there are.
+    #[inline]
+    pub fn number_of_buckets(&self) -> u32
+        ensures { result ≡ (S.pool self.now).geometry.buckets }
+    {
+        self.buckets.count()
+    }
+
+    /// The size of a bucket in bytes, as it was asked for. The buckets are at least that far apart.
+    #[inline]
+    pub fn bucket_size(&self) -> usize
+        ensures { result ≡ (S.pool self.now).geometry.bucket.size }
+    {
+        self.buckets.bucket().size()
+    }
+
+    /// The greatest alignment that a request may have, of which each bucket's place is a multiple.
+    #[inline]
+    pub fn max_alignment(&self) -> usize
+        ensures { result ≡ (S.pool self.now).geometry.bucket.align }
+    {
+        self.buckets.bucket().align()
+    }
+
+    /// How many bytes the region has, as it was handed in.
+    #[inline]
+    pub fn size(&self) -> usize
+        ensures { result ≡ (S.pool self.now).geometry.region.size }
+    {
+        self.buckets.region_size()
+    }
+
+    /// Whether this is the place of a held bucket, which may be given back: true exactly where `deallocate` may be called with
+    /// the place. Nothing is searched, and no read is counted.
+    ///
+    /// ```
+    /// let chunk = pool.allocate(Layout::empty())?;
+    /// let held = pool.holds(chunk.place());
+    /// prove!(held);
+    /// ```
+    #[inline(always)]
+    pub fn holds(&self, place: usize) -> bool
+        ensures value { IsTrue result ↔ HoldsPlace (S.pool self.now) place }
+        ensures may_release { IsTrue result
+            ↔ ⟦<BucketPool<S> as BaseAllocator>⟧.may_release self.now place }
+    {
+        self.buckets.holds(place)
+    }
+}
+
+impl<S: HeldSet> BaseAllocator for BucketPool<S> {
+    ghost use Rattle.std.specs.Prelude.{false};
+    ghost use Rattle.bb_memory_base.specs.PoolGeometry.{PoolGeometry};
+    ghost use Rattle.bb_memory_base.specs.PoolObject.{MayAllocate};
+    ghost use Rattle.bb_memory.specs.Pool.{StandsFor, HoldsPlace};
+    ghost use Rattle.bb_memory.specs.PoolLaws.{held_place};
+
+    const RELEASE_EMPTIES: bool = false;
+
+    ghost RELEASE_EMPTIES = { false };
+
+    ghost Geometry = { PoolGeometry };
+
+    ghost geometry = { λ pool. (S.pool pool).geometry };
+
+    ghost region_of = { λ geometry. geometry.region };
+
+    ghost may_allocate = { MayAllocate };
+
+    ghost stands_for = { λ pool. StandsFor (S.pool pool) };
+
+    ghost may_release = { λ pool. HoldsPlace (S.pool pool) };
+
+    /// A chunk of `layout.size()` bytes in a bucket that isn't held; which one is left open. It is refused in this order: with
+    /// `SizeTooLarge` where the size is greater than the bucket's, with `AlignmentFailure` where the alignment is greater than
+    /// the bucket's, and with `OutOfMemory` where every bucket is held. A refusal leaves the pool as it was, but for what
+    /// `last_reads` answers, where there is one.
+    #[inline(always)]
+    fn allocate(&mut self, layout: Layout) -> Result<Chunk, AllocationError>
+        ensures answer { (live : List Chunk) → StandsFor (S.pool self.old) live
+            → MayAllocate (S.pool self.old).geometry live layout result }
+        ensures appended { IfOk result (λ chunk. (live : List Chunk) → StandsFor (S.pool self.old) live
+            → StandsFor (S.pool self.new) (live ++ chunk ∷ [])) }
+        ensures kept { OnErr result ((live : List Chunk) → StandsFor (S.pool self.old) live
+            → StandsFor (S.pool self.new) live) }
+        ensures inside { IfOk result (IsInside (S.pool self.old).geometry.region) }
+        ensures aligned { IfOk result (λ chunk. chunk.place % layout.align ≡ 0) }
+        ensures long_enough { IfOk result (λ chunk. layout.size ≤ chunk.len) }
+        ensures geometry { (S.pool self.new).geometry ≡ (S.pool self.old).geometry }
+
+        // By the value alone: which bucket is held then, each refusal by its cause, and that there is no other.
+        ensures taken { Takes (S.pool self.old) layout result (S.pool self.new) }
+        ensures accepted { IsOk result ↔ (IsWithin (S.pool self.old).geometry.bucket layout
+            × ((i : ℕ) × Lacks (S.pool self.old).held i)) }
+        ensures still { OnErr result ((S.pool self.new) ≡ (S.pool self.old)) }
+        ensures given { IfOk result (λ chunk. HoldsPlace (S.pool self.new) chunk.place) }
+        ensures was_free { IfOk result (λ chunk. ¬ HoldsPlace (S.pool self.old) chunk.place) }
+        ensures apart { IfOk result (λ chunk. (place : ℕ) → HoldsPlace (S.pool self.old) place
+            → AreAStrideApart (S.pool self.old).geometry.bucket place chunk.place) }
+        ensures still_held { (place : ℕ)
+            → HoldsPlace (S.pool self.old) place → HoldsPlace (S.pool self.new) place }
+        ensures bucket_aligned { IfOk result
+            (λ chunk. chunk.place % (S.pool self.old).geometry.bucket.align ≡ 0) }
+        ensures reads { Reads (S.pool self.old).geometry.bucket layout
+            (S.words (S.pool self.old).geometry.buckets) (S.reads self.new) }
+        ensures one_read { IsWithin (S.pool self.old).geometry.bucket layout
+            → 0 < (S.pool self.old).geometry.buckets → S.reads self.new ≡ S.one_search }
+    {
+        let mut counter = Counter::new();
+        let answer = self.buckets.take(layout, &mut counter);
+        self.last_search = S::kept(counter);
+        answer
+    }
+
+    /// Gives back the bucket at this place, which has to be held. The layout decides nothing.
+    #[inline(always)]
+    fn deallocate(&mut self, place: usize, _layout: Layout)
+        requires { HoldsPlace (S.pool self.old) place }
+        ensures freed { Frees (S.pool self.old) place (S.pool self.new) }
+        ensures released { (live : List Chunk) (position : ℕ) (chunk : Chunk)
+            → StandsFor (S.pool self.old) live → slice_get live position ≡ Some chunk
+            → chunk.place ≡ place → StandsFor (S.pool self.new) (remove live position) }
+        ensures still_held { (other : ℕ) → HoldsPlace (S.pool self.old) other → other ≢ place
+            → HoldsPlace (S.pool self.new) other }
+        ensures given_back { ¬ HoldsPlace (S.pool self.new) place }
+        ensures room { (i : ℕ) × Lacks (S.pool self.new).held i }
+        ensures geometry { (S.pool self.new).geometry ≡ (S.pool self.old).geometry }
+        ensures reads { S.reads self.new ≡ S.reads self.old }
+    {
+        self.buckets.free(place);
+    }
+
+    /// Asks for a chunk as `allocate` does, and makes its bytes zero. Every other byte of the region stays, and after a
+    /// refusal all do. The region's start and size have to be those of the pool's maker.
+    #[inline]
+    fn allocate_zeroed(
+        &mut self,
+        layout: Layout,
+        region: &mut Region,
+    ) -> Result<Chunk, AllocationError>
+        requires same_region { held_region region.old ≡ (S.pool self.old).geometry.region }
+        ensures answer { (live : List Chunk) → StandsFor (S.pool self.old) live
+            → MayAllocate (S.pool self.old).geometry live layout result }
+        ensures appended { IfOk result (λ chunk. (live : List Chunk) → StandsFor (S.pool self.old) live
+            → StandsFor (S.pool self.new) (live ++ chunk ∷ [])) }
+        ensures kept { OnErr result ((live : List Chunk) → StandsFor (S.pool self.old) live
+            → StandsFor (S.pool self.new) live) }
+        ensures inside { IfOk result (IsInside (S.pool self.old).geometry.region) }
+        ensures aligned { IfOk result (λ chunk. chunk.place % layout.align ≡ 0) }
+        ensures long_enough { IfOk result (λ chunk. layout.size ≤ chunk.len) }
+        ensures geometry { (S.pool self.new).geometry ≡ (S.pool self.old).geometry }
+
+        ensures taken { Takes (S.pool self.old) layout result (S.pool self.new) }
+        ensures accepted { IsOk result ↔ (IsWithin (S.pool self.old).geometry.bucket layout
+            × ((i : ℕ) × Lacks (S.pool self.old).held i)) }
+        ensures still { OnErr result ((S.pool self.new) ≡ (S.pool self.old)) }
+        ensures given { IfOk result (λ chunk. HoldsPlace (S.pool self.new) chunk.place) }
+        ensures was_free { IfOk result (λ chunk. ¬ HoldsPlace (S.pool self.old) chunk.place) }
+        ensures apart { IfOk result (λ chunk. (place : ℕ) → HoldsPlace (S.pool self.old) place
+            → AreAStrideApart (S.pool self.old).geometry.bucket place chunk.place) }
+        ensures still_held { (place : ℕ)
+            → HoldsPlace (S.pool self.old) place → HoldsPlace (S.pool self.new) place }
+        ensures bucket_aligned { IfOk result
+            (λ chunk. chunk.place % (S.pool self.old).geometry.bucket.align ≡ 0) }
+        ensures reads { Reads (S.pool self.old).geometry.bucket layout
+            (S.words (S.pool self.old).geometry.buckets) (S.reads self.new) }
+        ensures one_read { IsWithin (S.pool self.old).geometry.bucket layout
+            → 0 < (S.pool self.old).geometry.buckets → S.reads self.new ≡ S.one_search }
+
+        ensures zeroed { IfOk result (λ chunk. ZeroesOnly region.old region.new chunk) }
+        ensures bytes_kept { OnErr result (region.new ≡ region.old) }
+    {
+        let chunk = self.allocate(layout)?;
+        region.zero(chunk);
+        Ok(chunk)
+    }
+
+    fn stands_for_some_list(&self) {
+        // What the type promises is known from here on.
+        let _ = &self.buckets;
+    }
+
+    fn answers_fit(&self) {
+        // What the type promises is known from here on.
+        let _ = &self.buckets;
+    }
+
+    ghost releases = { λ pool. held_place (S.pool pool) };
+
+    ghost sound = { λ pool live stands. stands.sound };
+}
+
+impl<S: HeldSet> Allocator for BucketPool<S> {
+    ghost use Rattle.bb_memory.specs.PoolLaws.{covered, held_is_live};
+    ghost use Rattle.std.specs.Prelude.{refl};
+    ghost use Rattle.bb_memory_base.specs.PoolGeometry.{PoolGeometry};
+    ghost use Rattle.bb_memory_base.specs.PoolObject.{MayGrow, MayShrink};
+
+    ghost Figures = { PoolGeometry };
+
+    ghost figures = { λ pool. (S.pool pool).geometry };
+
+    ghost reserved_at = { λ geometry place. geometry.bucket.size };
+
+    ghost may_grow = { λ geometry live. MayGrow geometry.bucket };
+
+    ghost may_shrink = { λ geometry live. MayShrink geometry.bucket };
+
+    /// How many bytes are reserved for the chunk at this place, which has to be a held bucket's: the bucket's size.
+    #[inline]
+    fn reserved(&self, _place: usize) -> usize
+        requires { HoldsPlace (S.pool self.now) _place }
+        ensures { result ≡ (S.pool self.now).geometry.bucket.size }
+    {
+        self.bucket_size()
+    }
+
+    /// Gives the chunk the new size, in its bucket. It is refused in this order: with `GrowWouldShrink` where the new size
+    /// isn't greater than the old one, with `AlignmentFailure` where the new alignment is greater than the bucket's, and with
+    /// `OutOfMemory` where the new size is greater than the bucket's. The pool stays as it was. The place has to be a held
+    /// bucket's and a multiple of the old alignment.
+    #[inline]
+    fn grow(&mut self, place: usize, old: Layout, new: Layout) -> Result<Chunk, AllocationGrowError>
+        requires live { HoldsPlace (S.pool self.old) place }
+        requires aligned { place % old.align ≡ 0 }
+        ensures answer { MayGrow (S.pool self.old).geometry.bucket place old new result }
+        ensures resized { IfOk result (λ grown. (live : List Chunk) (position : ℕ) (chunk : Chunk)
+            → StandsFor (S.pool self.old) live → slice_get live position ≡ Some chunk
+            → chunk.place ≡ place → StandsFor (S.pool self.new) (slice_set live position grown)) }
+        ensures same_place { IfOk result (λ grown. grown.place ≡ place) }
+        ensures longer { IfOk result (λ grown. old.size < grown.len) }
+        ensures long_enough { IfOk result (λ grown. new.size ≤ grown.len) }
+        ensures within { IfOk result (λ grown. grown.len ≤ (S.pool self.old).geometry.bucket.size) }
+        ensures inside { IfOk result (IsInside (S.pool self.old).geometry.region) }
+        ensures still { self.new ≡ self.old }
+    {
+        self.buckets.grow(place, old, new)
+    }
+
+    /// Gives the chunk exactly the new size. It is refused in this order: with `ShrinkWouldGrow` where the new size isn't
+    /// smaller than the old one, and with `AlignmentFailure` where the new alignment is greater than the bucket's. The pool
+    /// stays as it was. The place has to be a held bucket's and a multiple of the old alignment, and the old size at most the
+    /// bucket's.
+    #[inline]
+    fn shrink(
+        &mut self,
+        place: usize,
+        old: Layout,
+        new: Layout,
+    ) -> Result<Chunk, AllocationShrinkError>
+        requires live { HoldsPlace (S.pool self.old) place }
+        requires aligned { place % old.align ≡ 0 }
+        requires reserved { old.size ≤ (S.pool self.old).geometry.bucket.size }
+        ensures answer { MayShrink (S.pool self.old).geometry.bucket place old new result }
+        ensures resized { IfOk result (λ shrunk. (live : List Chunk) (position : ℕ) (chunk : Chunk)
+            → StandsFor (S.pool self.old) live → slice_get live position ≡ Some chunk
+            → chunk.place ≡ place → StandsFor (S.pool self.new) (slice_set live position shrunk)) }
+        ensures same_place { IfOk result (λ shrunk. shrunk.place ≡ place) }
+        ensures shorter { IfOk result (λ shrunk. shrunk.len < old.size) }
+        ensures long_enough { IfOk result (λ shrunk. new.size ≤ shrunk.len) }
+        ensures within { IfOk result (λ shrunk. shrunk.len ≤ (S.pool self.old).geometry.bucket.size) }
+        ensures inside { IfOk result (IsInside (S.pool self.old).geometry.region) }
+        ensures still { self.new ≡ self.old }
+    {
+        self.buckets.shrink(place, old, new)
+    }
+
+    /// Grows the chunk as `grow` does, and makes the bytes behind its old size zero, up to the new one. Every other byte of the
+    /// region stays, and after a refusal all do. The place has to be a held bucket's and a multiple of the old alignment, and the
+    /// region's start and size have to be those of the pool's maker.
+    #[inline]
+    fn grow_zeroed(
+        &mut self,
+        place: usize,
+        old: Layout,
+        new: Layout,
+        region: &mut Region,
+    ) -> Result<Chunk, AllocationGrowError>
+        requires live { HoldsPlace (S.pool self.old) place }
+        requires aligned { place % old.align ≡ 0 }
+        requires same_region { held_region region.old ≡ (S.pool self.old).geometry.region }
+        ensures answer { MayGrow (S.pool self.old).geometry.bucket place old new result }
+        ensures resized { IfOk result (λ grown. (live : List Chunk) (position : ℕ) (chunk : Chunk)
+            → StandsFor (S.pool self.old) live → slice_get live position ≡ Some chunk
+            → chunk.place ≡ place → StandsFor (S.pool self.new) (slice_set live position grown)) }
+        ensures same_place { IfOk result (λ grown. grown.place ≡ place) }
+        ensures longer { IfOk result (λ grown. old.size < grown.len) }
+        ensures long_enough { IfOk result (λ grown. new.size ≤ grown.len) }
+        ensures within { IfOk result (λ grown. grown.len ≤ (S.pool self.old).geometry.bucket.size) }
+        ensures inside { IfOk result (IsInside (S.pool self.old).geometry.region) }
+        ensures still { self.new ≡ self.old }
+
+        ensures zeroed { IfOk result
+            (λ grown. ZeroesOnly region.old region.new (part_behind old.size grown)) }
+        ensures bytes_kept { OnErr result (region.new ≡ region.old) }
+    {
+        let grown = self.grow(place, old, new)?;
+        region.zero(grown.behind(old.size()));
+        Ok(grown)
+    }
+
+    ghost fixed = { λ one other same. same };
+
+    ghost closes_up = { refl };
+
+    ghost distinct = { λ pool live stands. stands.differ };
+
+    ghost covered = { λ pool. covered (S.pool pool) };
+
+    ghost only_live = { λ pool. held_is_live (S.pool pool) };
+}
+
+/// Applies the commands in order, as [`run_full`] does: the replies and the live list are a run of the pool object over the
+/// pool's geometry, and the list is sound afterwards. The pool has to stand for the live list. `AllocError` comes only where
+/// memory was refused, and then the pool and the list are as before.
+pub fn run_pool<S: HeldSet>(
+    allocator: &mut BucketPool<S>,
+    live: &mut Vec<Chunk>,
+    commands: &[Command],
+) -> Result<Vec<Reply>, AllocError>
+    requires { StandsFor (S.pool allocator.old) live.old.items }
+    ensures run { IfOk result (λ replies.
+        IsRun (ResizableStep (pool_object (S.pool allocator.old).geometry))
+        live.old.items commands.now replies.items live.new.items) }
+    ensures stands { OnOk result (StandsFor (S.pool allocator.new) live.new.items) }
+    ensures sound { OnOk result (IsSound (S.pool allocator.old).geometry.region live.new.items) }
+    ensures geometry { (S.pool allocator.new).geometry ≡ (S.pool allocator.old).geometry }
+    ensures kept { OnErr result
+        ((allocator.new ≡ allocator.old) × (live.new.items ≡ live.old.items)) }
+{
+    run_full(allocator, live, commands)
+}
+
+/// The same without resizes, which are passed over, as [`run_base`] does. The pool has to stand for the live list.
+/// `AllocError` comes only where memory was refused, and then the pool and the list are as before.
+pub fn run_base_pool<S: HeldSet>(
+    allocator: &mut BucketPool<S>,
+    live: &mut Vec<Chunk>,
+    commands: &[Command],
+) -> Result<Vec<Reply>, AllocError>
+    requires { StandsFor (S.pool allocator.old) live.old.items }
+    ensures run { IfOk result (λ replies.
+        IsRun (Step (pool_object (S.pool allocator.old).geometry).base)
+        live.old.items commands.now replies.items live.new.items) }
+    ensures stands { OnOk result (StandsFor (S.pool allocator.new) live.new.items) }
+    ensures sound { OnOk result (IsSound (S.pool allocator.old).geometry.region live.new.items) }
+    ensures geometry { (S.pool allocator.new).geometry ≡ (S.pool allocator.old).geometry }
+    ensures kept { OnErr result
+        ((allocator.new ≡ allocator.old) × (live.new.items ≡ live.old.items)) }
+{
+    run_base(allocator, live, commands)
+}

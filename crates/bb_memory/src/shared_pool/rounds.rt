@@ -1,0 +1,202 @@
+//! Takings that don't begin at bucket 0: of a bucket of the caller's choice, and of the first free one from a bucket on.
+ghost use Rattle.std.specs.Prelude.{◌≡◌, ℕ, ◌<◌, ◌↔◌, ◌%◌, IsErr, IfOk, MatchOption};
+ghost use Rattle.bb_memory_base.specs.Chunk.{IsInside};
+ghost use Rattle.bb_memory_base.specs.PoolObject.{IsWithin};
+ghost use Rattle.bb_memory_base.specs.PoolLogs.{IsHeldAfter};
+ghost use Rattle.bb_memory.specs.Seats.{number_of, view_log};
+ghost use Rattle.bb_memory.specs.SharedPool.{AreAllHeldAfter, IsInterleaved, IsParty, chunk_of};
+ghost use Rattle.bb_memory.specs.SharedPoolRounds.{MayTakeAt, MayTakeFrom, at_turn};
+ghost use Rattle.bb_memory.specs.SharedPoolRule.{IsSeatOfIdle};
+ghost use Rattle.bb_memory.specs.SharedPoolSteps.{HasRefusedFrom, HasTakenFrom};
+
+use super::bucket::Bucket;
+use super::buckets::SharedBucketPool;
+use super::party::PoolParty;
+use super::rule::View;
+use crate::allocator::AllocationError;
+use crate::layout::Layout;
+use atomic_table::Seat;
+
+/// The bucket at which a party's own part of a pool begins, where the pool is cut into as many parts as it has parties.
+pub(super) fn part_of(number: u32, parties: u32, buckets: u32) -> u32
+    requires { number < parties }
+{
+    let before = (number as u64).saturating_mul(buckets as u64) / parties as u64;
+    (before & 0xffff_ffff) as u32
+}
+
+/// The bucket that a round over so many buckets, which begins at bucket `first`, tries at a turn.
+fn at_turn(buckets: u32, first: u32, turn: u32) -> u32
+    requires { turn < buckets }
+    ensures value { result ≡ at_turn buckets first turn }
+    ensures below { result < buckets }
+{
+    let start = if first < buckets { first } else { 0 };
+    let ahead = buckets - start;
+    if turn < ahead {
+        start + turn
+    } else {
+        turn - ahead
+    }
+}
+
+impl<const CAPPED: usize, const MOST: usize> SharedBucketPool<CAPPED, MOST> {
+    /// One whole round: an exchange on each flag from bucket `first` up, and then on those below it, until one is taken.
+    fn round(&self, seat: &mut Seat<u8, View>, first: u32) -> Option<u32>
+        requires table { seat.old.table_id ≡ self.now.table }
+        requires seat { IsSeatOfIdle self.now.scene (number_of seat.old.me.0)
+            (view_log seat.old.me.0) seat.old.me }
+        ensures table { seat.new.table_id ≡ seat.old.table_id }
+        ensures round { MatchOption result
+            (HasRefusedFrom self.now.scene (number_of seat.old.me.0) (view_log seat.old.me.0)
+            first seat.new.me)
+            (HasTakenFrom self.now.scene (number_of seat.old.me.0) (view_log seat.old.me.0)
+            first seat.new.me) }
+    {
+        let count = self.number_of_buckets();
+        for turn in 0..count {
+            let bucket = at_turn(count, first, turn);
+            if self.flags.try_at(seat, bucket) {
+                return Some(bucket);
+            }
+        }
+        None
+    }
+
+    /// Takes the bucket of this number for the party, with a chunk of `layout.size()` bytes. It is refused in this order: with
+    /// `SizeTooLarge` where the size is greater than the bucket's, and with `AlignmentFailure` where the alignment is greater
+    /// than the bucket's, both without a step; and with `OutOfMemory` where there is no bucket of this number, without a step,
+    /// or where one exchange on its flag finds it taken. The party has to be this pool's.
+    pub fn allocate_at(
+        &self,
+        party: &mut PoolParty,
+        layout: Layout,
+        number: u32,
+    ) -> Result<Bucket<'_>, AllocationError>
+        requires party { party.old.allocator ≡ self.now }
+        ensures answer { MayTakeAt number party.old layout result party.new }
+        ensures party { party.new.allocator ≡ self.now }
+        ensures number { party.new.number ≡ party.old.number }
+        ensures bucket { IfOk result (λ bucket. bucket.allocator ≡ self.now) }
+        ensures interleaved { IsInterleaved party.new }
+        ensures is_party { IsParty party.new }
+
+        // What is held after the party's log.
+        ensures held { IfOk result (λ bucket. IsHeldAfter party.new.log bucket.number) }
+        ensures still_held { (other : ℕ) → IsHeldAfter party.old.log other
+            → IsHeldAfter party.new.log other }
+        ensures alone { self.now.scene.parties ≡ 1 → IsWithin self.now.scene.geometry.bucket layout
+            → number < self.now.scene.geometry.buckets
+            → (IsErr result ↔ IsHeldAfter party.old.log number) }
+
+        // The chunk in the bucket.
+        ensures inside { IfOk result (λ bucket.
+            IsInside self.now.scene.geometry.region (chunk_of bucket)) }
+        ensures aligned { IfOk result (λ bucket. (chunk_of bucket).place % layout.align ≡ 0) }
+        ensures exact_size { IfOk result (λ bucket. (chunk_of bucket).len ≡ layout.size) }
+    {
+        // What holds of the party is known from here on, also where no step is made.
+        let _ = &party.number;
+        let bucket = self.flags.geometry().bucket();
+        if layout.size() > bucket.size() {
+            return Err(AllocationError::SizeTooLarge);
+        }
+        if layout.align() > bucket.align() {
+            return Err(AllocationError::AlignmentFailure);
+        }
+        if number >= self.number_of_buckets() || !self.flags.try_at(&mut party.seat, number) {
+            return Err(AllocationError::OutOfMemory);
+        }
+        Ok(Bucket {
+            flags: &self.flags,
+            number,
+            len: layout.size(),
+        })
+    }
+
+    /// Takes a bucket for the party, as `allocate` does, but tries the buckets in another order: after the same tests of size and
+    /// alignment it makes one round, one exchange on each flag from bucket `first` up to the last, and then from bucket 0 up,
+    /// until one is taken. Where there is no bucket `first`, it begins at bucket 0. It is refused with `OutOfMemory` where each
+    /// is missed. Where other parties step meanwhile, that doesn't mean that all buckets were held at one moment. The party has
+    /// to be this pool's.
+    pub fn allocate_from(
+        &self,
+        party: &mut PoolParty,
+        layout: Layout,
+        first: u32,
+    ) -> Result<Bucket<'_>, AllocationError>
+        requires party { party.old.allocator ≡ self.now }
+        ensures answer { MayTakeFrom first party.old layout result party.new }
+        ensures party { party.new.allocator ≡ self.now }
+        ensures number { party.new.number ≡ party.old.number }
+        ensures bucket { IfOk result (λ bucket. bucket.allocator ≡ self.now) }
+        ensures interleaved { IsInterleaved party.new }
+        ensures is_party { IsParty party.new }
+
+        // What is held after the party's log.
+        ensures held { IfOk result (λ bucket. IsHeldAfter party.new.log bucket.number) }
+        ensures still_held { (other : ℕ) → IsHeldAfter party.old.log other
+            → IsHeldAfter party.new.log other }
+        ensures alone { self.now.scene.parties ≡ 1 → IsWithin self.now.scene.geometry.bucket layout
+            → (IsErr result ↔ AreAllHeldAfter party.old.log self.now.scene.geometry.buckets) }
+
+        // The chunk in the bucket.
+        ensures inside { IfOk result (λ bucket.
+            IsInside self.now.scene.geometry.region (chunk_of bucket)) }
+        ensures aligned { IfOk result (λ bucket. (chunk_of bucket).place % layout.align ≡ 0) }
+        ensures exact_size { IfOk result (λ bucket. (chunk_of bucket).len ≡ layout.size) }
+    {
+        // What holds of the party is known from here on, also where no step is made.
+        let _ = &party.number;
+        let bucket = self.flags.geometry().bucket();
+        if layout.size() > bucket.size() {
+            return Err(AllocationError::SizeTooLarge);
+        }
+        if layout.align() > bucket.align() {
+            return Err(AllocationError::AlignmentFailure);
+        }
+        match self.round(&mut party.seat, first) {
+            Some(number) => {
+                party.near = number.wrapping_add(1);
+                Ok(Bucket {
+                    flags: &self.flags,
+                    number,
+                    len: layout.size(),
+                })
+            }
+            None => Err(AllocationError::OutOfMemory),
+        }
+    }
+
+    /// Takes a bucket for the party by a round, as `allocate_from` does, which begins where the party has been last: at the bucket
+    /// that it gave back, or behind the one that such a round took. Its first round begins in a part of the pool of its own.
+    pub fn allocate_near(
+        &self,
+        party: &mut PoolParty,
+        layout: Layout,
+    ) -> Result<Bucket<'_>, AllocationError>
+        requires party { party.old.allocator ≡ self.now }
+        ensures answer { (first : ℕ) × MayTakeFrom first party.old layout result party.new }
+        ensures party { party.new.allocator ≡ self.now }
+        ensures number { party.new.number ≡ party.old.number }
+        ensures bucket { IfOk result (λ bucket. bucket.allocator ≡ self.now) }
+        ensures interleaved { IsInterleaved party.new }
+        ensures is_party { IsParty party.new }
+
+        // What is held after the party's log.
+        ensures held { IfOk result (λ bucket. IsHeldAfter party.new.log bucket.number) }
+        ensures still_held { (other : ℕ) → IsHeldAfter party.old.log other
+            → IsHeldAfter party.new.log other }
+        ensures alone { self.now.scene.parties ≡ 1 → IsWithin self.now.scene.geometry.bucket layout
+            → (IsErr result ↔ AreAllHeldAfter party.old.log self.now.scene.geometry.buckets) }
+
+        // The chunk in the bucket.
+        ensures inside { IfOk result (λ bucket.
+            IsInside self.now.scene.geometry.region (chunk_of bucket)) }
+        ensures aligned { IfOk result (λ bucket. (chunk_of bucket).place % layout.align ≡ 0) }
+        ensures exact_size { IfOk result (λ bucket. (chunk_of bucket).len ≡ layout.size) }
+    {
+        let first = party.near;
+        self.allocate_from(party, layout, first)
+    }
+}

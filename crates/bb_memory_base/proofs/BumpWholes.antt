@@ -1,0 +1,163 @@
+-- What the logs of all parties say of the position, and what a log says of where its own chunks end.
+use Rattle.std.proofs.Common.{◌≡◌, ℕ, ◌+◌, ◌<◌, ◌≤◌, List, [], ◌∷◌, ◌++◌, length, refl, sym, ap}
+use Rattle.std.proofs.Common.{subst, arith, Bool, true, false, Option, Some, None}
+use Rattle.std.specs.Prelude.{if◌then◌else◌, is_some, IfSome, slice_get}
+use Rattle.std.specs.List.{All, AllByRecursion}
+use Rattle.std.proofs.lemmas.List.{length-replicate}
+use Rattle.std.proofs.lemmas.List.Elements.{All-from_recursion}
+use Rattle.bb_memory_base.specs.Region.{Region}
+use Rattle.bb_memory_base.specs.Chunk.{Chunk, chunk_end}
+use Rattle.bb_memory_base.specs.BumpMachine.{OngoingCall, BumpState, BumpMove, BumpScene, opening_state, bump_step, bump_after}
+use Rattle.bb_memory_base.specs.BumpHistory.{BumpEntry, BumpLog, entry_at, bump_history, is_by, entries_by, won_at}
+use Rattle.bb_memory_base.specs.BumpHistory.{chunks_won, log_of}
+use Rattle.bb_memory_base.specs.BumpLogs.{IsAllowed, AllAllowed, HasLog, LogsAgree}
+use Rattle.bb_memory_base.specs.BumpLogs.{HasPositionUpTo, position_in, greater_of, greatest_in, seen_in}
+use Rattle.bb_memory_base.specs.declared.steps.bump.BumpStep.{BumpStep}
+use Rattle.bb_memory_base.specs.declared.steps.bump.BumpOutcome.{BumpOutcome}
+use Rattle.bb_memory_base.specs.declared.steps.bump.BumpOutcome.TheVariants.{Sees, RefusedAtRead, Wins, Loses}
+use Rattle.bb_memory_base.specs.declared.steps.bump.BumpOutcome.TheVariants.{RefusedAtLoss, Loaded, Cleared, Passed}
+use Rattle.bb_memory_base.proofs.SliceGets.{slice_get-some}
+use Rattle.bb_memory_base.proofs.BumpSteps.{test_same, StepView, step_view, sees, refuses_read}
+use Rattle.bb_memory_base.proofs.BumpSteps.{wins, loses, refuses_loss, loads, clears, passes}
+use Rattle.bb_memory_base.proofs.BumpAllowed.{first_allowed, rest_allowed, parties_stay}
+use Rattle.bb_memory_base.proofs.BumpPositions.{step_leaves}
+
+-- WHAT A LOG HAS SEEN
+
+pub greater_of-above : (seen : ℕ) (found : Option ℕ) → seen ≤ greater_of seen found
+greater_of-above seen None = omega arith
+greater_of-above seen (Some position) = omega arith
+
+greater_of-found : (seen bound : ℕ) (found : Option ℕ) → greater_of seen found ≤ bound →
+    IfSome found (λ position. position ≤ bound)
+greater_of-found seen bound None below = tt
+greater_of-found seen bound (Some position) below = omega arith
+
+greatest_in-above : (region : Region) (seen : ℕ) (log : BumpLog) → seen ≤ greatest_in region seen log
+greatest_in-above region seen [] = omega arith
+greatest_in-above region seen (entry ∷ log) =
+    let found = position_in region entry.outcome in
+    omega (arith, greater_of-above seen found, greatest_in-above region (greater_of seen found) log)
+
+-- a log has seen the opening
+pub opened_below : (scene : BumpScene) (log : BumpLog) → scene.opening ≤ seen_in scene log
+opened_below scene log = greatest_in-above scene.region scene.opening log
+
+-- each position in a log is at most the greatest
+pub up_to_greatest : (region : Region) (seen bound : ℕ) (log : BumpLog) → greatest_in region seen log ≤ bound →
+    AllByRecursion (HasPositionUpTo bound region) log
+up_to_greatest region seen bound [] below = tt
+up_to_greatest region seen bound (entry ∷ log) below =
+    let found = position_in region entry.outcome in (
+      greater_of-found seen bound found (omega (arith, greatest_in-above region (greater_of seen found) log, below)),
+      up_to_greatest region (greater_of seen found) bound log below,
+    )
+
+won_up_to : (region : Region) (bound : ℕ) (outcome : BumpOutcome) (rest : List Chunk) →
+    IfSome (position_in region outcome) (λ position. position ≤ bound) →
+    AllByRecursion (λ (chunk : Chunk). chunk_end chunk ≤ region.start + bound) rest →
+    AllByRecursion (λ (chunk : Chunk). chunk_end chunk ≤ region.start + bound) (won_at outcome ++ rest)
+won_up_to region bound (Wins chunk) rest here more = (omega (arith, here), more)
+won_up_to region bound (Sees position) rest here more = more
+won_up_to region bound (RefusedAtRead position) rest here more = more
+won_up_to region bound (Loses position) rest here more = more
+won_up_to region bound (RefusedAtLoss position) rest here more = more
+won_up_to region bound (Loaded position) rest here more = more
+won_up_to region bound Cleared rest here more = more
+won_up_to region bound Passed rest here more = more
+
+chunks_up_to : (region : Region) (bound : ℕ) (log : BumpLog) → AllByRecursion (HasPositionUpTo bound region) log →
+    AllByRecursion (λ (chunk : Chunk). chunk_end chunk ≤ region.start + bound) (chunks_won log)
+chunks_up_to region bound [] all = tt
+chunks_up_to region bound (entry ∷ log) (here, rest) =
+    won_up_to region bound entry.outcome (chunks_won log) here (chunks_up_to region bound log rest)
+
+-- each chunk of a log ends at or before what the log has seen
+pub ends_by : (scene : BumpScene) (log : BumpLog) (bound : ℕ) → seen_in scene log ≤ bound →
+    All (λ (chunk : Chunk). chunk_end chunk ≤ scene.region.start + bound) (chunks_won log)
+ends_by scene log bound below =
+    All-from_recursion (λ (chunk : Chunk). chunk_end chunk ≤ scene.region.start + bound) (chunks_won log)
+    (chunks_up_to scene.region bound log (up_to_greatest scene.region scene.opening bound log below))
+
+-- ALL LOGS
+
+-- an allowed step is that of a party that is there
+pub record HasOwner (state : BumpState) (step : BumpStep) : Type 0 where
+  pub party : ℕ
+  pub there : party < length state.calls
+  pub own : is_by party step ≡ true
+
+owned : (state : BumpState) (step : BumpStep) (party : ℕ) (now : Option OngoingCall) →
+    slice_get state.calls party ≡ Some now → is_by party step ≡ true → HasOwner state step
+owned state step party now at own =
+    record { party = party; there = slice_get-some state.calls party (ap is_some at); own = own }
+
+pub owner_of : (region : Region) (state : BumpState) (step : BumpStep) (move : BumpMove) → StepView region state step move →
+    IsAllowed move.outcome → HasOwner state step
+owner_of region state step move (sees party layout idle asks fit) allowed =
+    owned state step party None idle (test_same party party refl)
+owner_of region state step move (refuses_read party layout idle asks fit) allowed =
+    owned state step party None idle (test_same party party refl)
+owner_of region state step move (wins party call is same) allowed =
+    owned state step party (Some call) is (test_same party party refl)
+owner_of region state step move (loses party call is apart fit) allowed =
+    owned state step party (Some call) is (test_same party party refl)
+owner_of region state step move (refuses_loss party call is apart fit) allowed =
+    owned state step party (Some call) is (test_same party party refl)
+owner_of region state step move (loads party idle) allowed = owned state step party None idle (test_same party party refl)
+owner_of region state step move clears allowed = absurd allowed
+owner_of region state step move (passes other) allowed = absurd allowed
+
+first_own : (P : BumpEntry → Type 0) (own : Bool) (entry : BumpEntry) (log : BumpLog) → own ≡ true →
+    AllByRecursion P (if own then entry ∷ log else log) → P entry
+first_own P true entry log is all = all.0
+first_own P false entry log is all = absurd (cc)
+
+rest_own : (P : BumpEntry → Type 0) (own : Bool) (entry : BumpEntry) (log : BumpLog) →
+    AllByRecursion P (if own then entry ∷ log else log) → AllByRecursion P log
+rest_own P true entry log all = all.1
+rest_own P false entry log all = all
+
+next_below : (state : ℕ) (bound : ℕ) (found : Option ℕ) → state ≤ bound → IfSome found (λ position. position ≤ bound) →
+    greater_of state found ≤ bound
+next_below state bound None below found_below = below
+next_below state bound (Some position) below found_below = omega arith
+
+-- where no log of a party that is there has a greater position, none is left
+stays_below : (region : Region) (state : BumpState) (steps : List BumpStep) (bound : ℕ) →
+    AllAllowed (bump_history region state steps) → state.position ≤ bound →
+    ((party : ℕ) → party < length state.calls →
+    AllByRecursion (HasPositionUpTo bound region) (entries_by party (bump_history region state steps))) →
+    (bump_after region state steps).position ≤ bound
+stays_below region state [] bound allowed below logs = below
+stays_below region state (step ∷ steps) bound allowed below logs =
+    let here = first_allowed region state step steps allowed in
+    let rest = rest_allowed region state step steps allowed in
+    let move = bump_step region state step in
+    let view = step_view region state step in
+    let entry = entry_at region state step in
+    let later = bump_history region move.state steps in
+    let owner = owner_of region state step move view here in
+    let found = first_own (HasPositionUpTo bound region) (is_by owner.party step) entry (entries_by owner.party later) owner.own
+    (logs owner.party owner.there) in
+    let leaves = step_leaves region state step move view here in
+    let next = next_below state.position bound (position_in region move.outcome) below found in
+    stays_below region move.state steps bound rest (omega (arith, leaves, next))
+    (λ party there. rest_own (HasPositionUpTo bound region) (is_by party step) entry (entries_by party later)
+    (logs party (omega (arith, there, parties_stay region state step move view))))
+
+-- Where every party's log is in the list, the position is at most the opening or the greatest that one of them has seen.
+pub whole_bounds : (scene : BumpScene) (position bound : ℕ) (logs : List BumpLog) → LogsAgree scene position logs →
+    scene.opening ≤ bound →
+    ((party : ℕ) → party < scene.parties → (log : BumpLog) × HasLog logs party log × (seen_in scene log ≤ bound)) →
+    position ≤ bound
+whole_bounds scene position bound logs agree opened each =
+    let state = opening_state scene in
+    let made : length state.calls ≡ scene.parties = length-replicate scene.parties None in
+    let most = stays_below scene.region state agree.steps bound agree.allowed opened
+    (λ party there.
+    let log = each party (omega (arith, made, there)) in
+    let own : log_of scene agree.steps party ≡ log.0 = agree.each party log.0 log.1 in
+    subst (AllByRecursion (HasPositionUpTo bound scene.region)) (sym own)
+    (up_to_greatest scene.region scene.opening bound log.0 log.2)) in
+    omega (arith, most, agree.leaves)
