@@ -3,6 +3,17 @@
 //! tested here, so a wrong number is answered by a code. `bb_memory.h` declares the functions, and says what a caller has to
 //! guarantee.
 //!
+//! The modules, in the order in which to read them:
+//!
+//! - `code`: what the functions answer. `answer`: a chunk or a figure with its code, as C sees it.
+//! - `layout`: layouts of two numbers that C hands in.
+//! - `loose`: a box whose pointer is in sight. `held`: what was made, or nothing.
+//! - `handle`: what the host holds, with a file for each kind: `bump`, `one_chunk`, `pool`, `fixed_pool`, `shared_bump`,
+//!   `bump_seat`, `shared_pool` and `pool_seat`.
+//! - `bump`, `one_chunk`, `pool`, `fixed_pool`: the exported functions of each allocator with one owner.
+//! - `bump_seat`, `pool_seat`: what a party's seat has, and the calls that it makes.
+//! - `shared_bump`, `shared_pool`: the exported functions of what threads share, and of its seats.
+//!
 //! Every function of a handle requires this of C: the handle is one variable of the host's, whose address isn't null, both
 //! fields zero before its first use, and nothing else writes it; it is of the kind that the function's type names, all its life;
 //! it may be moved, and then the old one isn't used; one call at a

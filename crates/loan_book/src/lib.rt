@@ -2,6 +2,14 @@
 //! of its readers has returned it. The crate stands on the trait [`Allocator`](bb_memory_base::allocator::Allocator)
 //! alone, and names no allocator.
 //!
+//! The modules, in the order in which to read them:
+//!
+//! - `error`: why a loan book refuses.
+//! - `sample`: one sample that is out.
+//! - `book`: the loan book and its calls.
+//! - `run`: calls one after the other, and what a list of them does.
+//! - `laws`: what holds of every book and every answer.
+//!
 //! The examples in the comments of this crate stand in `crates/uses/src/scripts/examples.rt`, where they are proved; its first
 //! lines have the imports, and the attribute that computes least places.
 #![tactic(auto)]

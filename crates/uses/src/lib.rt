@@ -1,4 +1,16 @@
 //! Layers that stand on the allocators by their public contracts alone, as users write them: this crate has no proof files.
+//!
+//! The modules, in the order in which to read them:
+//!
+//! - `scripts`: straight-line calls with literals, a file an allocator, and the examples of the libraries' comments.
+//! - `errors`: how the errors go through `?`.
+//! - `slab`: records of bytes, each in a chunk of its own. `mailbox`: messages in the order of their sending, over the slab.
+//! - `chunk_budget`, `byte_budget`: budgets, which are allocators themselves.
+//! - `byte_vector`: a vector of bytes at an offset of a region, which can move to another region.
+//! - `ring`: messages for several readers, over a loan book. In `ring/laws` what the book's calls do to its newest and its oldest
+//!   sample.
+//! - `workers`: two threads over one bump.
+//! - `job_board`: slots of a shared pool, each with one holder.
 #![tactic(auto)]
 
 pub mod byte_budget;
