@@ -142,10 +142,3 @@ pub still : (words new listed : List ℕ) (top at : ℕ) → IsStack words liste
 still words new listed top at is puts within was_open not_full =
     let there = is.all at within was_open in
     still_open words new listed top at there.0 is puts there.1 there.2 not_full
-
--- a store of one word
-pub put_at : (words : List ℕ) (at word : ℕ) → PutsAt words at (set words at word)
-put_at words at word = record {
-  len = length-set words at word;
-  others = λ other apart. get_or-set_other words at other word 0 apart;
-}

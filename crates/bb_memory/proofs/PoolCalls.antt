@@ -2,7 +2,7 @@
 use Rattle.std.proofs.Common.{◌≡◌, ◌≢◌, ℕ, suc, ◌+◌, ◌-◌, ◌*◌, ◌/◌, ◌%◌, ◌^◌, ◌<◌, ◌≤◌, ◌↔◌, true, false, List, [], ◌∷◌, ◌++◌}
 use Rattle.std.proofs.Common.{Result, Ok, Err, refl, sym, ap, subst, ◌∙◌, arith, Some, inl, inr, div-add-mod', pow_pos, pow_mono}
 use Rattle.std.proofs.Common.{pow-add, pow-suc}
-use Rattle.std.specs.Prelude.{slice_get, slice_set, remove, IsOk, IfOk, OnErr}
+use Rattle.std.specs.Prelude.{slice_get, slice_set, remove, IsOk, IfOk}
 use Rattle.std.specs.Int.{IsPowerOfTwo}
 use Rattle.std.proofs.Math.Nat.{mul_assoc}
 use Rattle.std.proofs.lemmas.Bool.{cases_lt}
@@ -98,12 +98,6 @@ Takes-bucket_aligned pool layout (Ok chunk) new (i, within, lacks, given, after)
     ap (λ (c : Chunk). c.place % pool.geometry.bucket.align) given ∙ bucket_place-aligned pool.geometry i
 Takes-bucket_aligned pool layout (Err error) new takes = tt
 
-pub Takes-long_enough : (pool : Pool) (layout : Layout) (answer : Result Chunk AllocationError) (new : Pool) →
-    Takes pool layout answer new → IfOk answer (λ chunk. layout.size ≤ chunk.len)
-Takes-long_enough pool layout (Ok chunk) new (i, within, lacks, given, after) =
-    omega (arith, ap (λ (c : Chunk). c.len) given)
-Takes-long_enough pool layout (Err error) new takes = tt
-
 -- there is a chunk exactly where the layout isn't too much for a bucket and some bucket isn't held
 pub Takes-accepted : (pool : Pool) (layout : Layout) (answer : Result Chunk AllocationError) (new : Pool) → IsPool pool →
     Takes pool layout answer new →
@@ -169,34 +163,6 @@ Takes-still_held pool layout (Err OutOfMemory) new takes place holds =
     subst (λ (p : Pool). HoldsPlace p place) (sym takes.2) holds
 Takes-still_held pool layout (Err SizeIsZero) new takes place holds = absurd takes
 
--- a refusal leaves all
-pub Takes-kept : (pool : Pool) (layout : Layout) (answer : Result Chunk AllocationError) (new : Pool) →
-    Takes pool layout answer new → OnErr answer (new ≡ pool)
-Takes-kept pool layout (Ok chunk) new takes = tt
-Takes-kept pool layout (Err SizeTooLarge) new takes = takes.1
-Takes-kept pool layout (Err AlignmentFailure) new takes = takes.2
-Takes-kept pool layout (Err OutOfMemory) new takes = takes.2
-Takes-kept pool layout (Err SizeIsZero) new takes = absurd takes
-
--- where the buckets are doesn't change
-pub Takes-geometry : (pool : Pool) (layout : Layout) (answer : Result Chunk AllocationError) (new : Pool) →
-    Takes pool layout answer new → new.geometry ≡ pool.geometry
-Takes-geometry pool layout (Ok chunk) new (i, within, lacks, given, after) = ap (λ (p : Pool). p.geometry) after
-Takes-geometry pool layout (Err SizeTooLarge) new takes = ap (λ (p : Pool). p.geometry) takes.1
-Takes-geometry pool layout (Err AlignmentFailure) new takes = ap (λ (p : Pool). p.geometry) takes.2
-Takes-geometry pool layout (Err OutOfMemory) new takes = ap (λ (p : Pool). p.geometry) takes.2
-Takes-geometry pool layout (Err SizeIsZero) new takes = absurd takes
-
--- what is left is a pool
-pub Takes-pool : (pool : Pool) (layout : Layout) (answer : Result Chunk AllocationError) (new : Pool) → IsPool pool →
-    Takes pool layout answer new → IsPool new
-Takes-pool pool layout (Ok chunk) new is (i, within, lacks, given, after) =
-    subst IsPool (sym after) (IsPool-with_flag pool is i true)
-Takes-pool pool layout (Err SizeTooLarge) new is takes = subst IsPool (sym takes.1) is
-Takes-pool pool layout (Err AlignmentFailure) new is takes = subst IsPool (sym takes.2) is
-Takes-pool pool layout (Err OutOfMemory) new is takes = subst IsPool (sym takes.2) is
-Takes-pool pool layout (Err SizeIsZero) new is takes = absurd takes
-
 -- RELEASES
 
 pub Frees-released : (pool : Pool) (place : ℕ) (new : Pool) → IsPool pool → Frees pool place new →
@@ -207,15 +173,6 @@ Frees-released pool place new is frees live position chunk stands at there =
     let after = frees fills.0 fills.1.held (sym there ∙ fills.1.placed) in
     subst (λ (p : Pool). StandsFor p (remove live position)) (sym after)
     (stands-freed pool live position fills.0 chunk is stands at fills.1)
-
-pub Frees-geometry : (pool : Pool) (place : ℕ) (new : Pool) → HoldsPlace pool place → Frees pool place new →
-    new.geometry ≡ pool.geometry
-Frees-geometry pool place new (i, held, placed) frees = ap (λ (p : Pool). p.geometry) (frees i held placed)
-
-pub Frees-pool : (pool : Pool) (place : ℕ) (new : Pool) → IsPool pool → HoldsPlace pool place → Frees pool place new →
-    IsPool new
-Frees-pool pool place new is (i, held, placed) frees =
-    subst IsPool (sym (frees i held placed)) (IsPool-with_flag pool is i false)
 
 -- each other bucket that was held still is
 pub Frees-still_held : (pool : Pool) (place : ℕ) (new : Pool) → HoldsPlace pool place → Frees pool place new →

@@ -16,26 +16,6 @@ use Rattle.bb_memory.proofs.SharedLogs.{call_next}
 
 -- SEATS
 
--- a seat's own number and log are those of the party that it stands for
-pub seat_own : (scene : BumpScene) (number : ℕ) (log : BumpLog) (me : Me ℕ SeatView) → IsSeatOf scene number log me →
-    IsSeatOf scene (number_of me.0) (view_log me.0) me
-seat_own scene number log me of =
-    subst (λ (m : Me ℕ SeatView). IsSeatOf scene (number_of m.0) (view_log m.0) m) (sym of.is)
-    record { is = refl; interleaved = of.interleaved }
-
-pub seat_own_idle : (scene : BumpScene) (number : ℕ) (log : BumpLog) (me : Me ℕ SeatView) → IsSeatOfIdle scene number log me →
-    IsSeatOfIdle scene (number_of me.0) (view_log me.0) me
-seat_own_idle scene number log me of = record {
-  seat = seat_own scene number log me of.seat;
-  idle = subst (λ (m : Me ℕ SeatView). call_in (view_log m.0) ≡ None) (sym of.seat.is) of.idle;
-}
-
--- a party's seat, in the scene that it is known to have
-pub seat_in : (me : Me ℕ SeatView) (scene : BumpScene) (number : ℕ) → IsPartySeat number me → scene_of me.0 ≡ scene →
-    IsSeatOfIdle scene number (view_log me.0) me
-seat_in me scene number fields same =
-    subst (λ (s : BumpScene). IsSeatOfIdle s number (view_log me.0) me) same fields.seat
-
 -- a party's fields, by what its seat stands for
 pub party_seat : (scene : BumpScene) (number : ℕ) (log : BumpLog) (me : Me ℕ SeatView) → IsSeatOfIdle scene number log me →
     number < scene.parties → IsSharedScene scene → met_by me.0 ≤ scene.region.size → IsPartySeat number me

@@ -7,25 +7,10 @@ use Rattle.bb_memory_base.specs.PoolMachine.{PoolScene}
 use Rattle.bb_memory_base.specs.PoolHistory.{PoolEntry, PoolLog}
 use Rattle.bb_memory_base.specs.PoolLogs.{IsAllowed}
 use Rattle.bb_memory.specs.Seats.{alone, number_of, view_log}
-use Rattle.bb_memory.specs.SharedPool.{IsParty, IsSharedScene, SharedPool, return_entry, with_entries}
+use Rattle.bb_memory.specs.SharedPool.{IsSharedScene, SharedPool, return_entry, with_entries}
 use Rattle.bb_memory.specs.SharedPoolRule.{IsPartySeat, IsSeatOfIdle, SeatView, party_in}
 use Rattle.bb_memory.specs.SharedPoolSteps.{HasEnded, TellsReturn}
 use Rattle.bb_memory.proofs.SharedPoolTries.{idle_after_return}
-
--- what holds of the party of such a seat
-pub party_is : (table : TableId) (number : ℕ) (me : Me ℕ SeatView) → IsPartySeat number me →
-    IsParty (party_in table number me.0)
-party_is table number me is = record {
-  scene = is.shared;
-  number = is.below;
-  idle = is.seat.idle;
-  interleaved = is.seat.seat.interleaved;
-}
-
--- a seat of one party, in the scene that it is known to have
-pub seated_in : (me : Me ℕ SeatView) (scene : PoolScene) (number : ℕ) → IsPartySeat number me → me.0.scene ≡ scene →
-    me ≡ (alone scene number (view_log me.0), [])
-seated_in me scene number is same = is.seat.seat.is ∙ ap (λ (s : PoolScene). (alone s number (view_log me.0), [])) same
 
 pub party_seat : (scene : PoolScene) (number : ℕ) (log : PoolLog) (me : Me ℕ SeatView) → IsSeatOfIdle scene number log me →
     number < scene.parties → IsSharedScene scene → IsPartySeat number me

@@ -9,7 +9,6 @@ use Rattle.atomic_table.specs.Table.{Me}
 use Rattle.bb_memory_base.specs.PoolMachine.{PoolScene}
 use Rattle.bb_memory_base.specs.PoolHistory.{PoolLog}
 use Rattle.bb_memory_base.specs.PoolLogs.{IsHeldAfter}
-use Rattle.bb_memory_base.proofs.PoolSteps.{test_same}
 use Rattle.bb_memory.specs.Seats.{number_of, view_log}
 use Rattle.bb_memory.specs.SharedPoolRounds.{at_turn, miss_at, misses, start_of, taking_at, taking_round}
 use Rattle.bb_memory.specs.SharedPoolRule.{IsSeatOfIdle, SeatView}
@@ -106,12 +105,6 @@ held-taking_at : (party taken bucket : ℕ) (log : PoolLog) →
     ≡ (if taken == bucket then true else held_through bucket false log)
 held-taking_at party taken bucket log = held-append bucket false log (taking_at party taken)
 
--- one step that takes a bucket leaves the log holding it
-pub holds_taken_at : (party bucket : ℕ) (log : PoolLog) → IsHeldAfter (log ++ taking_at party bucket) bucket
-holds_taken_at party bucket log =
-    held-taking_at party bucket bucket log
-    ∙ ap (λ (b : Bool). if b then true else held_through bucket false log) (test_same bucket bucket refl)
-
 -- and what it held
 pub held_after_taking_at : (party taken bucket : ℕ) (log : PoolLog) → IsHeldAfter log bucket →
     IsHeldAfter (log ++ taking_at party taken) bucket
@@ -119,11 +112,6 @@ held_after_taking_at party taken bucket log held =
     held-taking_at party taken bucket log
     ∙ ap (λ (b : Bool). if taken == bucket then true else b) held
     ∙ either_true (taken == bucket)
-
--- a miss leaves it what it held
-pub held_after_miss_at : (party missed bucket : ℕ) (log : PoolLog) → IsHeldAfter log bucket →
-    IsHeldAfter (log ++ miss_at party missed) bucket
-held_after_miss_at party missed bucket log held = held-append bucket false log (miss_at party missed) ∙ held
 
 -- so do a round's misses, and its taking
 pub held_after_misses : (buckets party first turn bucket : ℕ) (log : PoolLog) → IsHeldAfter log bucket →
@@ -137,13 +125,6 @@ held_after_round buckets party first turn bucket log held =
     subst (λ (l : PoolLog). IsHeldAfter l bucket) (append_assoc log (misses buckets party first turn) (taking_at party taken))
     (held_after_taking_at party taken bucket (log ++ misses buckets party first turn)
     (held_after_misses buckets party first turn bucket log held))
-
-pub holds_round : (buckets party first turn : ℕ) (log : PoolLog) →
-    IsHeldAfter (log ++ taking_round buckets party first turn) (at_turn buckets first turn)
-holds_round buckets party first turn log =
-    let taken : ℕ = at_turn buckets first turn in
-    subst (λ (l : PoolLog). IsHeldAfter l taken) (append_assoc log (misses buckets party first turn) (taking_at party taken))
-    (holds_taken_at party taken (log ++ misses buckets party first turn))
 
 -- ONE ROUND
 

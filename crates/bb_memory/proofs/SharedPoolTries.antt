@@ -1,13 +1,12 @@
 -- What a pass, a step of an idle party and a return make of a log.
-use Rattle.std.proofs.Common.{◌≡◌, ◌≢◌, ℕ, zero, suc, ◌+◌, ◌<◌, ◌≤◌, Bool, true, false}
-use Rattle.std.proofs.Common.{true≢false, [], ◌∷◌, ◌++◌, refl, sym, ap, ◌∙◌, arith, Option, None}
+use Rattle.std.proofs.Common.{◌≡◌, ℕ, zero, suc, ◌+◌, ◌<◌, ◌≤◌, Bool, true, false}
+use Rattle.std.proofs.Common.{[], ◌∷◌, ◌++◌, refl, ap, ◌∙◌, arith, Option, None}
 use Rattle.std.specs.Prelude.{fold, unwrap_or, nat_lt, ◌==◌, if◌then◌else◌}
 use Rattle.std.proofs.lemmas.Bool.Decides.{nat_tests}
 use Rattle.bb_memory_base.specs.PoolHistory.{PoolEntry, PoolLog, entry_of}
 use Rattle.bb_memory_base.specs.PoolLogs.{held_after, IsHeldAfter, pass_after, pass_in, next_bucket, loss_at}
 use Rattle.bb_memory_base.specs.declared.steps.pool.PoolStep.TheVariants.{Try}
 use Rattle.bb_memory_base.specs.declared.steps.pool.PoolOutcome.TheVariants.{Takes, Loses, RefusedAtLoss}
-use Rattle.bb_memory_base.proofs.PoolSteps.{test_same, test_apart}
 use Rattle.bb_memory.specs.SharedPool.{losses, taking_pass, refused_pass, return_entry}
 
 abbrev pass_through : Option ℕ → PoolLog → Option ℕ
@@ -111,12 +110,6 @@ held-taking buckets party taken bucket log =
     ∙ held-append bucket before (losses buckets party taken) (entry_of (Try party) (Takes taken) ∷ [])
     ∙ ap (λ (held : Bool). if taken == bucket then true else held) (held-losses buckets party taken bucket before)
 
--- a pass that takes a bucket leaves the log holding it
-pub holds_taken : (buckets party bucket : ℕ) (log : PoolLog) → IsHeldAfter (log ++ taking_pass buckets party bucket) bucket
-holds_taken buckets party bucket log =
-    held-taking buckets party bucket bucket log
-    ∙ ap (λ (b : Bool). if b then true else held_through bucket false log) (test_same bucket bucket refl)
-
 pub either_true : (b : Bool) → (if b then true else true) ≡ true
 either_true true = refl
 either_true false = refl
@@ -142,18 +135,3 @@ idle_after_one log entry idle is =
 pub idle_after_return : (party bucket : ℕ) (log : PoolLog) → pass_in log ≡ None →
     pass_in (log ++ return_entry party bucket) ≡ None
 idle_after_return party bucket log idle = pass-append None log (return_entry party bucket) ∙ idle
-
--- a bucket that was given back isn't held
-pub not_held_after_return : (party bucket : ℕ) (log : PoolLog) → ¬ IsHeldAfter (log ++ return_entry party bucket) bucket
-not_held_after_return party bucket log held =
-    true≢false (sym held ∙ held-append bucket false log (return_entry party bucket)
-    ∙ ap (λ (b : Bool). if b then false else held_through bucket false log) (test_same bucket bucket refl))
-
--- every other one that was held still is
-pub held_after_return : (party returned bucket : ℕ) (log : PoolLog) → bucket ≢ returned → IsHeldAfter log bucket →
-    IsHeldAfter (log ++ return_entry party returned) bucket
-held_after_return party returned bucket log other held =
-    held-append bucket false log (return_entry party returned)
-    ∙ ap (λ (b : Bool). if b then false else held_through bucket false log)
-    (test_apart returned bucket (λ same. other (sym same)))
-    ∙ held

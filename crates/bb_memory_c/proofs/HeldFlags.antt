@@ -1,8 +1,7 @@
 -- A seat's flags, and what a pass or a return makes of the log that they tell of.
 use Rattle.std.proofs.Common.{◌≡◌, ℕ, zero, suc, ◌<◌, Bool, true, false, List, [], ◌∷◌, ◌++◌, length, refl, sym, ap, ◌∙◌, subst, inl, inr}
-use Rattle.std.specs.Prelude.{Some, Ok, Err, fold, nat_lt, ◌==◌, ◌+◌, if◌then◌else◌, replicate, slice_get, slice_set}
-use Rattle.std.proofs.lemmas.Bool.{cases_eq, false≢true}
-use Rattle.std.proofs.lemmas.List.{length-replicate}
+use Rattle.std.specs.Prelude.{Some, Ok, Err, fold, nat_lt, ◌==◌, ◌+◌, if◌then◌else◌, slice_get, slice_set}
+use Rattle.std.proofs.lemmas.Bool.{cases_eq}
 use Rattle.std.proofs.lemmas.Option.{same_Some, slice_get-get_or, slice_get_within}
 use Rattle.bb_memory_base.specs.PoolHistory.{PoolLog, entry_of}
 use Rattle.bb_memory_base.specs.PoolLogs.{IsHeldAfter, held_after, loss_at}
@@ -12,9 +11,9 @@ use Rattle.bb_memory_base.specs.declared.allocator.AllocationError.TheVariants.{
 use Rattle.bb_memory_base.specs.declared.steps.pool.PoolStep.TheVariants.{Try}
 use Rattle.bb_memory_base.specs.declared.steps.pool.PoolOutcome.TheVariants.{Takes, Loses, RefusedAtLoss}
 use Rattle.bb_memory_base.proofs.PoolSteps.{test_same, test_apart}
-use Rattle.bb_memory_base.proofs.SliceGets.{length-set_at, slice_get-replicated}
+use Rattle.bb_memory_base.proofs.SliceGets.{length-set_at}
 use Rattle.bb_memory_base.proofs.SliceSets.{slice_get-set_other, slice_get-set_same}
-use Rattle.bb_memory.specs.SharedPool.{MayTake, PoolParty, SharedPool, TakenBucket, fresh_party, losses, refused_pass, return_entry, taking_pass, with_entries}
+use Rattle.bb_memory.specs.SharedPool.{MayTake, PoolParty, SharedPool, TakenBucket, losses, refused_pass, return_entry, taking_pass, with_entries}
 use Rattle.bb_memory_c.specs.SharedPools.{AreHeldFlags, IsSeatAt}
 
 -- LOGS
@@ -84,19 +83,6 @@ flags-set flags number flag log after below exact left = λ bucket. elim (cases_
 ]
 
 -- SEATS
-
--- of a fresh party no bucket is held
-pub fresh-seat : (pool : SharedPool) (party : PoolParty) (number : ℕ) → party ≡ fresh_party pool number →
-    IsSeatAt pool party (replicate pool.scene.geometry.buckets false)
-fresh-seat pool party number is =
-    subst (λ (p : PoolParty). IsSeatAt pool p (replicate pool.scene.geometry.buckets false)) (sym is) record {
-      theirs = refl;
-      as_many = length-replicate pool.scene.geometry.buckets false;
-      exact = λ bucket. (
-        λ has. absurd (false≢true (slice_get-replicated pool.scene.geometry.buckets bucket false true has)),
-        λ held. absurd (false≢true held),
-      );
-    }
 
 -- a request that took no bucket leaves the flags
 pub refused-seat : (pool : SharedPool) (party new : PoolParty) (flags : List Bool) (layout : Layout) (error : AllocationError) →

@@ -17,13 +17,6 @@ slice_get-last (x ∷ xs) y = slice_get-last xs y
 abbrev pub AreMadeBy : {X : Type 0} → (ℕ → X) → List X → Type 0
 AreMadeBy make xs = (i : ℕ) → i < length xs → slice_get xs i ≡ Some (make i)
 
--- without the last one they still are
-pub front_made : {X : Type 0} (make : ℕ → X) (old new : List X) (last : X) → old ≡ new ++ last ∷ [] →
-    AreMadeBy make old → AreMadeBy make new
-front_made make old new last parts made = λ i below.
-    let whole : length old ≡ length new + 1 = ap length parts ∙ length_push new last in
-    sym (slice_get-front new last i below) ∙ ap (λ xs. slice_get xs i) (sym parts) ∙ made i (omega (arith, whole, below))
-
 -- and the last one is that of its position
 pub last_made : {X : Type 0} (make : ℕ → X) (old new : List X) (last : X) → old ≡ new ++ last ∷ [] →
     AreMadeBy make old → last ≡ make (length new)
@@ -31,8 +24,3 @@ last_made make old new last parts made =
     let whole : length old ≡ length new + 1 = ap length parts ∙ length_push new last in
     same_Some _ _ (sym (slice_get-last new last) ∙ ap (λ xs. slice_get xs (length new)) (sym parts)
     ∙ made (length new) (omega (arith, whole)))
-
--- put back at the end, they are those that were
-pub put_back : {X : Type 0} (old new back : List X) (last again : X) → old ≡ new ++ last ∷ [] → again ≡ last →
-    back ≡ new ++ again ∷ [] → back ≡ old
-put_back old new back last again parts same is = is ∙ ap (λ x. new ++ x ∷ []) same ∙ sym parts

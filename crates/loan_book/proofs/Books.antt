@@ -46,14 +46,6 @@ id-set (s ∷ samples) zero old new at same (suc k) d = refl
 id-set (s ∷ samples) (suc i) old new at same zero d = refl
 id-set (s ∷ samples) (suc i) old new at same (suc k) d = id-set samples i old new at same k d
 
--- a fresh book
-pub IsBook-fresh : IsBook (record { loaned = 0; out = [] })
-IsBook-fresh = record {
-  rising = λ i j d before within. absurd (omega arith);
-  loaned = λ k d within. absurd (omega arith);
-  waiting = λ k d within. absurd (omega arith);
-}
-
 -- each sample of a book waits for a return
 pub sample-waits : (book : Book) (position : ℕ) (sample : Sample) → IsBook book → slice_get book.out position ≡ Some sample →
     0 < returns_to_come sample.returns
