@@ -6,6 +6,7 @@ mod loan_scripts;
 mod pool_rows;
 mod refused_in_turn;
 mod rows;
+mod table;
 mod writers;
 
 /// The script of row `bump-first-path`, and what it writes.

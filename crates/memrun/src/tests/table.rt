@@ -1,0 +1,76 @@
+//! Tables of scripts. A row has a line each for its name, its script and what that writes, where `; ` stands for a line feed; an
+//! empty line parts it from the next one. Where it is open which bucket a pool gives, `P` stands for the first place that is
+//! told, and a fourth line has the places that it may be.
+use script_runner::{Status, run};
+use std::alloc::{AllocError, Global};
+use std::process::Abort;
+use std::test::Fail;
+
+/// The text with a line feed for each semicolon and the space behind it, and one at the end.
+pub(super) fn lines(alloc: Global, text: &str) -> Result<Vec<u8>, AllocError> {
+    let mut bytes = Vec::new(alloc);
+    if text.is_empty() {
+        return Ok(bytes);
+    }
+    for part in text.split("; ") {
+        bytes.extend_from_slice(part.as_bytes())?;
+        bytes.push(b'\n')?;
+    }
+    Ok(bytes)
+}
+
+/// Runs a script, writes behind what was told, and answers how it ended.
+pub(super) fn run_script(alloc: Global, script: &[u8], told: &mut Vec<u8>) -> Status {
+    run(alloc, script, told)
+}
+
+/// How the run of a script ends, and what it writes.
+pub(super) fn answer(alloc: Global, script: &[u8]) -> (Status, Vec<u8>) {
+    let mut told = Vec::new(alloc);
+    let status = run_script(alloc, script, &mut told);
+    (status, told)
+}
+
+/// A line of a text and what is behind it. Where there is no line feed, the text is one line.
+fn line_and_rest(text: &str) -> (&str, &str) {
+    text.split_once("\n").unwrap_or((text, ""))
+}
+
+/// The place of the first chunk that was told.
+fn first_place(told: &str) -> &str {
+    let (_, told) = told.split_once("chunk ").unwrap_or(("", ""));
+    told.split(' ').next().unwrap_or("")
+}
+
+/// Runs the script of a row, which has to end so, and to write just what the row says.
+fn check_row(rt: &impl Abort, alloc: Global, ends: Status, row: &str) -> Result<(), Fail> {
+    let (name, row) = line_and_rest(row);
+    let (script, row) = line_and_rest(row);
+    let (wrote, places) = line_and_rest(row);
+    let (status, told) = answer(alloc, &lines(alloc, script)?);
+    assert_eq!(rt; status, ends, "{name}");
+    if places.is_empty() {
+        assert_eq!(rt; told, lines(alloc, wrote)?, "{name}");
+        return Ok(());
+    }
+    let place = first_place(str::from_utf8(&told).unwrap_or(""));
+    assert!(rt; places.split(' ').any(|any| any == place), "{name}");
+    let wanted = wrote.replace(alloc, "P", place)?;
+    assert_eq!(rt; told, lines(alloc, &wanted)?, "{name}");
+    Ok(())
+}
+
+/// Runs the script of each row, which has to end so, and answers how many there are.
+pub(super) fn check_rows(
+    rt: &impl Abort,
+    alloc: Global,
+    ends: Status,
+    table: &str,
+) -> Result<usize, Fail> {
+    let mut rows: usize = 0;
+    for row in table.split("\n\n") {
+        check_row(rt, alloc, ends, row)?;
+        rows = rows.saturating_add(1);
+    }
+    Ok(rows)
+}
