@@ -84,26 +84,3 @@ pub(super) fn behind_chunks<'a>(
     }
     Some(left)
 }
-
-/// What stands behind so many lines, each of which has to tell the next loan, from loan 0 on, of this length at the place of
-/// another bucket. The text may end before.
-pub(super) fn behind_loans<'a>(
-    named: &mut Named,
-    text: &'a str,
-    loans: usize,
-    len: &str,
-) -> Option<&'a str> {
-    let mut left = text;
-    for id in 0..loans {
-        if left.is_empty() {
-            break;
-        }
-        let (line, rest) = line_and_rest(left);
-        let (number, place) = between(line, "loan ", len).split_once(" ")?;
-        if number.parse() != Ok(id) || !named.adds(place) {
-            return None;
-        }
-        left = rest;
-    }
-    Some(left)
-}

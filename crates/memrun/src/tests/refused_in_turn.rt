@@ -1,13 +1,11 @@
 //! Scripts that hold with any one request for memory refused: the program ends with status 4, and what it wrote begins what
 //! it writes where none is refused. `.ci/refuse-in-turn` runs each test with its first request refused, then its second, and
 //! so on, until none is left to refuse. What a test makes for itself may be refused, too: then it ends.
-use super::buckets::{Named, behind_loans};
 use super::table::run_script;
 use super::{FIRST_PATH, FIRST_PATH_LINES};
 use script_runner::Status;
-use std::alloc::{AllocError, Global};
+use std::alloc::Global;
 use std::process::Abort;
-use std::test::Fail;
 
 /// A request of a size that no other has: `.ci/refuse-in-turn` refuses it exactly where it has refused another one before.
 const REFUSED_MARK: usize = 100_049;
@@ -106,47 +104,6 @@ fn a_script_of_loans(rt: HostRuntime) {
         Status::Done,
         b"no\nloan 0 4096 48\nOutOfMemory\npublished\nkept\nreturned\nloan 1 4096 7\n",
     );
-}
-
-/// What stands behind twenty loans in a pool of as many buckets, from which each has another one.
-fn behind_twenty_loans(alloc: Global, told: &[u8]) -> Result<Option<&str>, AllocError> {
-    let mut named = Named::new(alloc, 4096, 128, 20)?;
-    let told = str::from_utf8(told).unwrap_or("no text");
-    Ok(behind_loans(&mut named, told, 20, " 48"))
-}
-
-/// The book grows several times while twenty samples go out, each with a bucket of its own.
-#[test]
-fn a_script_of_twenty_samples_out(rt: HostRuntime) -> Result<(), Fail> {
-    let last = "OutOfMemory\nyes\n";
-    let mut script = Vec::new(rt.alloc());
-    let mut told = Vec::new(rt.alloc());
-    if script.reserve(300).is_err() || told.reserve(1000).is_err() {
-        return Ok(());
-    }
-    script.extend_from_slice(b"loan-pool 4096 2560 128 8\n")?;
-    for _ in 0..20 {
-        script.extend_from_slice(b"loan 48\n")?;
-    }
-    script.extend_from_slice(b"loan 48\nout 19\n")?;
-    let status = run_script(rt.alloc(), &script, &mut told);
-    if status != Status::Done {
-        assert!(rt;
-            some_was_refused(rt.alloc()),
-            "{status:?} with ample memory"
-        );
-        assert_eq!(rt; status, Status::OutOfMemory);
-        let behind = behind_twenty_loans(rt.alloc(), &told)?.unwrap_or("no loans");
-        assert!(rt; last.starts_with(behind), "{behind}");
-        told.clear();
-        assert_eq!(rt; run_script(rt.alloc(), &script, &mut told), Status::Done);
-    }
-    let Ok(behind) = behind_twenty_loans(rt.alloc(), &told) else {
-        assert!(rt; some_was_refused(rt.alloc()));
-        return Ok(());
-    };
-    assert_eq!(rt; behind, Some(last));
-    Ok(())
 }
 
 /// The line that is told of a first unreadable one takes memory, too.

@@ -42,6 +42,16 @@ fn first_place(told: &str) -> &str {
     told.split(' ').next().unwrap_or("")
 }
 
+/// What a row has, as it has to be written: where it has places, the first one that was told stands for `P`, if it is one of them.
+fn wanted(alloc: Global, wrote: &str, places: &str, told: &[u8]) -> Result<Vec<u8>, AllocError> {
+    let place = first_place(str::from_utf8(told).unwrap_or(""));
+    if places.split(' ').any(|any| any == place) {
+        lines(alloc, &wrote.replace(alloc, "P", place)?)
+    } else {
+        lines(alloc, wrote)
+    }
+}
+
 /// Runs the script of a row, which has to end so, and to write just what the row says.
 fn check_row(rt: &impl Abort, alloc: Global, ends: Status, row: &str) -> Result<(), Fail> {
     let (name, row) = line_and_rest(row);
@@ -49,14 +59,8 @@ fn check_row(rt: &impl Abort, alloc: Global, ends: Status, row: &str) -> Result<
     let (wrote, places) = line_and_rest(row);
     let (status, told) = answer(alloc, &lines(alloc, script)?);
     assert_eq!(rt; status, ends, "{name}");
-    if places.is_empty() {
-        assert_eq!(rt; told, lines(alloc, wrote)?, "{name}");
-        return Ok(());
-    }
-    let place = first_place(str::from_utf8(&told).unwrap_or(""));
-    assert!(rt; places.split(' ').any(|any| any == place), "{name}");
-    let wanted = wrote.replace(alloc, "P", place)?;
-    assert_eq!(rt; told, lines(alloc, &wanted)?, "{name}");
+    let wanted = wanted(alloc, wrote, places, &told)?;
+    assert_eq!(rt; told, wanted, "{name}");
     Ok(())
 }
 
