@@ -10,11 +10,9 @@ use std::process::Abort;
 /// A request of a size that no other has: `.ci/refuse-in-turn` refuses it exactly where it has refused another one before.
 const REFUSED_MARK: usize = 100_049;
 
-/// Whether a request for memory was refused since the test began. Where one alone is refused, and it is the first of these two,
-/// the second is granted.
+/// Whether a request for memory was refused since the test began.
 fn some_was_refused(alloc: Global) -> bool {
     Vec::<u8>::with_capacity(alloc, REFUSED_MARK).is_err()
-        && Vec::<u8>::with_capacity(alloc, REFUSED_MARK).is_err()
 }
 
 /// Runs a script, which has to end so, with these lines, and runs it again where a request was refused.

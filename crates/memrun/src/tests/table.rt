@@ -1,6 +1,6 @@
 //! Tables of scripts. A row has a line each for its name, its script and what that writes, where `; ` stands for a line feed; an
-//! empty line parts it from the next one. Where it is open which bucket a pool gives, `P` stands for the first place that is
-//! told, and a fourth line has the places that it may be.
+//! empty line parts it from the next one. Where it is open which bucket a pool gives, a fourth line has the places that may be
+//! told; `P` stands for the first one that is, and `Q` for the other one of two.
 use script_runner::{Status, run};
 use std::alloc::{AllocError, Global};
 use std::process::Abort;
@@ -36,20 +36,26 @@ fn line_and_rest(text: &str) -> (&str, &str) {
     text.split_once("\n").unwrap_or((text, ""))
 }
 
-/// The place of the first chunk that was told.
+/// The first place that was told.
 fn first_place(told: &str) -> &str {
-    let (_, told) = told.split_once("chunk ").unwrap_or(("", ""));
+    let before = if told.contains("chunk ") {
+        "chunk "
+    } else {
+        "loan 0 "
+    };
+    let (_, told) = told.split_once(before).unwrap_or(("", ""));
     told.split(' ').next().unwrap_or("")
 }
 
-/// What a row has, as it has to be written: where it has places, the first one that was told stands for `P`, if it is one of them.
+/// What a row says is written, where this is told: it can be only where the places are the row's.
 fn wanted(alloc: Global, wrote: &str, places: &str, told: &[u8]) -> Result<Vec<u8>, AllocError> {
     let place = first_place(str::from_utf8(told).unwrap_or(""));
-    if places.split(' ').any(|any| any == place) {
-        lines(alloc, &wrote.replace(alloc, "P", place)?)
-    } else {
-        lines(alloc, wrote)
+    if !places.split(' ').any(|any| any == place) {
+        return lines(alloc, wrote);
     }
+    let other = places.split(' ').find(|any| *any != place).unwrap_or("");
+    let wrote = wrote.replace(alloc, "P", place)?;
+    lines(alloc, &wrote.replace(alloc, "Q", other)?)
 }
 
 /// Runs the script of a row, which has to end so, and to write just what the row says.
