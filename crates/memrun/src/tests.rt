@@ -1,11 +1,12 @@
 //! Scripts with what they write, faults of readers and writers, and the program with memory refused.
 mod buckets;
 mod faults;
-mod large_scripts;
+mod large_figures;
 mod loan_scripts;
 mod pool_rows;
 mod refused_in_turn;
 mod rows;
+mod table;
 mod writers;
 
 /// The script of row `bump-first-path`, and what it writes.

@@ -11,6 +11,7 @@ pub mod one_chunk;
 pub mod parties;
 pub mod pool;
 pub mod pool_plan;
+pub mod pool_run;
 pub mod pool_steps;
 
 use crate::engine::driven::Driven;

@@ -39,7 +39,11 @@ impl Named {
         }
     }
 
+    /// The number of the bucket at this place, which is written as a number is: no sign and no zero stands before it.
     fn number_at(&self, place: &str) -> Option<usize> {
+        if place.starts_with(['+', '0']) {
+            return None;
+        }
         let behind = place.parse::<usize>().ok()?.checked_sub(self.first)?;
         let number = behind.checked_div(self.stride)?;
         if number.checked_mul(self.stride)? == behind {
@@ -51,14 +55,32 @@ impl Named {
 }
 
 /// The first line of a text without its line feed, and the text behind it. Where there is none, both are empty.
-pub(super) fn line_and_rest(text: &str) -> (&str, &str) {
+fn line_and_rest(text: &str) -> (&str, &str) {
     text.split_once("\n").unwrap_or(("", ""))
 }
 
 /// What stands between these two in the line, or nothing where they don't stand there.
-pub(super) fn between<'a>(line: &'a str, before: &str, behind: &str) -> &'a str {
+fn between<'a>(line: &'a str, before: &str, behind: &str) -> &'a str {
     let Some(line) = line.strip_prefix(before) else {
         return "";
     };
     line.strip_suffix(behind).unwrap_or("")
+}
+
+/// What stands behind so many lines, each of which has to tell a chunk of this length at the place of another bucket.
+pub(super) fn behind_chunks<'a>(
+    named: &mut Named,
+    text: &'a str,
+    chunks: usize,
+    len: &str,
+) -> Option<&'a str> {
+    let mut left = text;
+    for _ in 0..chunks {
+        let (line, rest) = line_and_rest(left);
+        if !named.adds(between(line, "chunk ", len)) {
+            return None;
+        }
+        left = rest;
+    }
+    Some(left)
 }

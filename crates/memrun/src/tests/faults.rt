@@ -1,9 +1,10 @@
 //! Readers and writers that fail at each of their calls in turn, and scripts that are cut at every byte.
+use super::table::answer;
 use super::{FIRST_PATH, FIRST_PATH_LINES};
 use script_runner::{Status, run};
+use std::alloc::Global;
 use std::io;
 use std::io::{ErrorKind, Read, Write};
-use std::test::Fail;
 
 /// Gives its bytes seven at a time, and fails at one of its reads.
 #[derive(Drop)]
@@ -57,22 +58,41 @@ impl Write for FailingWriter<'_> {
     }
 }
 
+/// How the run ends, and what it writes, where reading the script of row `bump-first-path` fails so at one of its reads.
+fn answer_to_failed_read(alloc: Global, fails_at: usize, kind: ErrorKind) -> (Status, Vec<u8>) {
+    let mut told = Vec::new(alloc);
+    let reader = FailingReader {
+        left: FIRST_PATH,
+        reads: 0,
+        fails_at,
+        kind,
+    };
+    let status = run(alloc, reader, &mut told);
+    (status, told)
+}
+
+/// How the run of a script ends, and what is kept of what it writes, where one of its writes or its flush fails.
+fn answer_by_failed_write(alloc: Global, script: &[u8], fails_at: usize) -> (Status, Vec<u8>) {
+    let mut told = Vec::new(alloc);
+    let mut writer = FailingWriter {
+        kept: &mut told,
+        writes: 0,
+        fails_at,
+    };
+    let status = run(alloc, script, &mut writer);
+    drop(writer);
+    (status, told)
+}
+
 #[test]
-fn reader_fails_in_turn(rt: HostRuntime) -> Result<(), Fail> {
+fn reader_fails_in_turn(rt: HostRuntime) {
     for (kind, status) in [
         (ErrorKind::Other, Status::InputFailed),
         (ErrorKind::OutOfMemory, Status::OutOfMemory),
     ] {
         let mut failed = 0;
         for fails_at in 1..100 {
-            let mut told = Vec::new(rt.alloc());
-            let reader = FailingReader {
-                left: FIRST_PATH,
-                reads: 0,
-                fails_at,
-                kind,
-            };
-            let ended = run(rt.alloc(), reader, &mut told);
+            let (ended, told) = answer_to_failed_read(rt.alloc(), fails_at, kind);
             if ended == Status::Done {
                 assert_eq!(rt; told.as_slice(), FIRST_PATH_LINES);
                 break;
@@ -84,25 +104,17 @@ fn reader_fails_in_turn(rt: HostRuntime) -> Result<(), Fail> {
         // The script has 70 bytes: ten reads, and one that finds its end.
         assert_eq!(rt; failed, 11);
     }
-    Ok(())
 }
 
 #[test]
-fn an_interrupted_read_is_tried_again(rt: HostRuntime) -> Result<(), Fail> {
-    let mut told = Vec::new(rt.alloc());
-    let reader = FailingReader {
-        left: FIRST_PATH,
-        reads: 0,
-        fails_at: 3,
-        kind: ErrorKind::Interrupted,
-    };
-    assert_eq!(rt; run(rt.alloc(), reader, &mut told), Status::Done);
+fn an_interrupted_read_is_tried_again(rt: HostRuntime) {
+    let (ended, told) = answer_to_failed_read(rt.alloc(), 3, ErrorKind::Interrupted);
+    assert_eq!(rt; ended, Status::Done);
     assert_eq!(rt; told.as_slice(), FIRST_PATH_LINES);
-    Ok(())
 }
 
 #[test]
-fn writer_fails_in_turn(rt: HostRuntime) -> Result<(), Fail> {
+fn writer_fails_in_turn(rt: HostRuntime) {
     for (script, lines, status) in [
         (FIRST_PATH, FIRST_PATH_LINES, Status::Done),
         (
@@ -113,14 +125,7 @@ fn writer_fails_in_turn(rt: HostRuntime) -> Result<(), Fail> {
     ] {
         let mut failed = 0;
         for fails_at in 1..200 {
-            let mut told = Vec::new(rt.alloc());
-            let mut writer = FailingWriter {
-                kept: &mut told,
-                writes: 0,
-                fails_at,
-            };
-            let ended = run(rt.alloc(), script, &mut writer);
-            drop(writer);
+            let (ended, told) = answer_by_failed_write(rt.alloc(), script, fails_at);
             if ended == status {
                 assert_eq!(rt; told.as_slice(), lines);
                 break;
@@ -132,11 +137,10 @@ fn writer_fails_in_turn(rt: HostRuntime) -> Result<(), Fail> {
         // At most five bytes go in a write, and the flush is the last call that can fail.
         assert!(rt; lines.len() / 5 < failed && failed < 199, "{failed}");
     }
-    Ok(())
 }
 
 #[test]
-fn script_cut_at_every_byte(rt: HostRuntime) -> Result<(), Fail> {
+fn script_cut_at_every_byte(rt: HostRuntime) {
     // Cut in front of these bytes, a script ends so: with the line of this number unreadable (`alloc 10 3` too, as 3 is no
     // power of two), or done with so many bytes of the whole script's lines (`bump 4096 1` is a region, too).
     for (from, to, end) in [
@@ -156,8 +160,7 @@ fn script_cut_at_every_byte(rt: HostRuntime) -> Result<(), Fail> {
         (69, 70, Ok(FIRST_PATH_LINES.len())),
     ] {
         for cut in from..to + 1 {
-            let mut told = Vec::new(rt.alloc());
-            let ended = run(rt.alloc(), &FIRST_PATH[..cut], &mut told);
+            let (ended, told) = answer(rt.alloc(), &FIRST_PATH[..cut]);
             match end {
                 Ok(len) => {
                     assert_eq!(rt; ended, Status::Done, "{cut}");
@@ -170,5 +173,4 @@ fn script_cut_at_every_byte(rt: HostRuntime) -> Result<(), Fail> {
             }
         }
     }
-    Ok(())
 }

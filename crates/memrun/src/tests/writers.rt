@@ -1,9 +1,9 @@
 //! Writers whose every call counts: one that only its flush fails, one that is interrupted once, and how many calls there are.
 use super::{FIRST_PATH, FIRST_PATH_LINES};
 use script_runner::{Status, run};
+use std::alloc::Global;
 use std::io;
 use std::io::{ErrorKind, Write};
-use std::test::Fail;
 
 /// Keeps what it is given, at most five bytes a write, and counts its calls. One of its writes may be answered with an error,
 /// and so may its flushes.
@@ -15,19 +15,6 @@ struct CountingWriter<'a> {
     /// The number of the write that is answered with this error, counted from 1.
     fails_write: (usize, ErrorKind),
     fails_flush: bool,
-}
-
-impl<'a> CountingWriter<'a> {
-    /// A writer that does all that it is asked.
-    fn new(kept: &'a mut Vec<u8>) -> CountingWriter<'a> {
-        CountingWriter {
-            kept,
-            writes: 0,
-            flushes: 0,
-            fails_write: (0, ErrorKind::Other),
-            fails_flush: false,
-        }
-    }
 }
 
 impl Write for CountingWriter<'_> {
@@ -49,6 +36,48 @@ impl Write for CountingWriter<'_> {
     }
 }
 
+/// What a writer had and did, and how the run ended.
+#[derive(Drop)]
+struct Written {
+    status: Status,
+    told: Vec<u8>,
+    writes: usize,
+    flushes: usize,
+}
+
+/// Runs a script over a writer, one of whose writes is answered with this error, where there is such a write, and whose flushes
+/// may fail.
+fn run_counting(
+    alloc: Global,
+    script: &[u8],
+    fails_write: (usize, ErrorKind),
+    fails_flush: bool,
+) -> Written {
+    let mut told = Vec::new(alloc);
+    let mut writer = CountingWriter {
+        kept: &mut told,
+        writes: 0,
+        flushes: 0,
+        fails_write,
+        fails_flush,
+    };
+    let status = run(alloc, script, &mut writer);
+    let CountingWriter {
+        writes,
+        flushes,
+        ..
+    } = writer;
+    Written {
+        status,
+        told,
+        writes,
+        flushes,
+    }
+}
+
+/// No write has this number.
+const NO_WRITE: (usize, ErrorKind) = (0, ErrorKind::Other);
+
 /// A script that is done and one with an unreadable line: each with what it writes, in how many writes, and how it ends.
 const SCRIPTS: [(&[u8], &[u8], usize, Status); 2] = [
     (FIRST_PATH, FIRST_PATH_LINES, 50, Status::Done),
@@ -61,63 +90,49 @@ const SCRIPTS: [(&[u8], &[u8], usize, Status); 2] = [
 ];
 
 #[test]
-fn each_byte_is_written_once_and_flushed(rt: HostRuntime) -> Result<(), Fail> {
+fn each_byte_is_written_once_and_flushed(rt: HostRuntime) {
     for (script, lines, writes, status) in SCRIPTS {
-        let mut told = Vec::new(rt.alloc());
-        let mut writer = CountingWriter::new(&mut told);
-        assert_eq!(rt; run(rt.alloc(), script, &mut writer), status);
-        assert_eq!(rt; (writer.writes, writer.flushes), (writes, 1));
-        drop(writer);
-        assert_eq!(rt; told.as_slice(), lines);
+        let written = run_counting(rt.alloc(), script, NO_WRITE, false);
+        assert_eq!(rt; written.status, status);
+        assert_eq!(rt; (written.writes, written.flushes), (writes, 1));
+        assert_eq!(rt; written.told.as_slice(), lines);
     }
-    Ok(())
 }
 
 #[test]
-fn a_failed_flush_fails_the_output(rt: HostRuntime) -> Result<(), Fail> {
+fn a_failed_flush_fails_the_output(rt: HostRuntime) {
     for (script, lines, _, _) in SCRIPTS {
-        let mut told = Vec::new(rt.alloc());
-        let mut writer = CountingWriter::new(&mut told);
-        writer.fails_flush = true;
-        assert_eq!(rt; run(rt.alloc(), script, &mut writer), Status::OutputFailed);
-        drop(writer);
-        assert_eq!(rt; told.as_slice(), lines);
+        let written = run_counting(rt.alloc(), script, NO_WRITE, true);
+        assert_eq!(rt; written.status, Status::OutputFailed);
+        assert_eq!(rt; written.told.as_slice(), lines);
     }
-    Ok(())
 }
 
 #[test]
-fn a_failed_write_is_the_last(rt: HostRuntime) -> Result<(), Fail> {
+fn a_failed_write_is_the_last(rt: HostRuntime) {
     for (script, lines, writes, _) in SCRIPTS {
         for fails_at in 1..writes + 1 {
-            let mut told = Vec::new(rt.alloc());
-            let mut writer = CountingWriter::new(&mut told);
-            writer.fails_write = (fails_at, ErrorKind::Other);
-            assert_eq!(rt;
-                run(rt.alloc(), script, &mut writer),
-                Status::OutputFailed,
-                "{fails_at}"
-            );
-            assert_eq!(rt; writer.writes, fails_at);
-            drop(writer);
-            assert!(rt; lines.starts_with(told.as_slice()), "{fails_at}");
+            let written = run_counting(rt.alloc(), script, (fails_at, ErrorKind::Other), false);
+            assert_eq!(rt; written.status, Status::OutputFailed, "{fails_at}");
+            assert_eq!(rt; written.writes, fails_at);
+            assert!(rt; lines.starts_with(written.told.as_slice()), "{fails_at}");
         }
     }
-    Ok(())
 }
 
 #[test]
-fn an_interrupted_write_is_tried_again(rt: HostRuntime) -> Result<(), Fail> {
+fn an_interrupted_write_is_tried_again(rt: HostRuntime) {
     for (script, lines, writes, status) in SCRIPTS {
         for fails_at in 1..writes + 1 {
-            let mut told = Vec::new(rt.alloc());
-            let mut writer = CountingWriter::new(&mut told);
-            writer.fails_write = (fails_at, ErrorKind::Interrupted);
-            assert_eq!(rt; run(rt.alloc(), script, &mut writer), status, "{fails_at}");
-            assert_eq!(rt; Some(writer.writes), writes.checked_add(1));
-            drop(writer);
-            assert_eq!(rt; told.as_slice(), lines, "{fails_at}");
+            let written = run_counting(
+                rt.alloc(),
+                script,
+                (fails_at, ErrorKind::Interrupted),
+                false,
+            );
+            assert_eq!(rt; written.status, status, "{fails_at}");
+            assert_eq!(rt; Some(written.writes), writes.checked_add(1));
+            assert_eq!(rt; written.told.as_slice(), lines, "{fails_at}");
         }
     }
-    Ok(())
 }
