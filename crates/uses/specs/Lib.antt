@@ -2,4 +2,5 @@ pub mod Budgets
 pub mod ByteVectors
 pub mod Hints
 pub mod Records
+pub mod Requests
 pub mod Rings
