@@ -1,12 +1,11 @@
 -- Requests of an allocator for so many bytes at any place, and what comes of them.
-use Rattle.std.specs.Prelude.{◌≡◌, ◌∷◌, ◌++◌, ◌<◌, [], ℕ, List, Result, Ok, Err, length}
+use Rattle.std.specs.Prelude.{◌≡◌, ◌∷◌, ◌++◌, ◌<◌, [], ℕ, List, Result, Ok, Err}
 use Rattle.std.specs.Align.{IsLayout}
 use Rattle.bb_memory_base.specs.Chunk.{Chunk}
 use Rattle.bb_memory_base.specs.declared.layout.Layout.{Layout}
 use Rattle.bb_memory_base.specs.declared.allocator.AllocationError.{AllocationError}
 use Rattle.uses.specs.declared.slab.InsertError.{InsertError}
 use Rattle.uses.specs.declared.slab.InsertError.TheVariants as insert
-use Rattle.uses.specs.Records.{Records}
 
 -- what may be answered to a request
 abbrev pub Answers : Type 1
@@ -36,11 +35,9 @@ IsWhyNotStored may_answer size (insert.List error) = IsLayout size 1
 IsWhyNotStored may_answer size (insert.Refused error) = MayAnswer may_answer size (Err error)
 IsWhyNotStored may_answer size insert.NoExactChunk = MayGiveLonger may_answer size
 
--- a record of these bytes was stored behind the others, in a chunk of exactly as many that the allocator may give
-pub record IsStored {A : Type 0} (may_answer : Answers) (old : Records A) (bytes : List ℕ)
-    (new : Records A) : Type 0 where
+-- one chunk more is out, of exactly so many bytes, which the allocator may give
+pub record HasOneMore (may_answer : Answers) (size : ℕ) (old new : List Chunk) : Type 0 where
   pub chunk : Chunk
-  pub exact : chunk.len ≡ length bytes
-  pub given : MayAnswer may_answer (length bytes) (Ok chunk)
-  pub chunks : new.chunks ≡ old.chunks ++ chunk ∷ []
-  pub records : new.records ≡ old.records ++ bytes ∷ []
+  pub exact : chunk.len ≡ size
+  pub given : MayAnswer may_answer size (Ok chunk)
+  pub behind : new ≡ old ++ chunk ∷ []

@@ -1,7 +1,7 @@
 //! Messages that wait, received in the order in which they were sent: a layer over the slab.
 ghost use Rattle.std.specs.Prelude.{◌≡◌, ◌∷◌, ◌++◌, ◌<◌, ◌↔◌, [], Some, IfSome, IfNone, IfErr, IsTrue, OnOk, OnErr, drop, length, slice_get};
 ghost use Rattle.bb_memory_base.specs.HeldBytes.{held_region};
-ghost use Rattle.uses.specs.Requests.{IsStored, IsWhyNotStored};
+ghost use Rattle.uses.specs.Requests.{HasOneMore, IsWhyNotStored};
 
 use crate::slab::{InsertError, Slab};
 use bb_memory_base::allocator::Allocator;
@@ -47,9 +47,9 @@ impl<A: Allocator + Drop> Mailbox<A> {
     /// Puts a message behind those that wait. A refusal keeps all, and comes where the slab refuses a record of these bytes.
     pub fn send(&mut self, bytes: &[u8]) -> Result<(), InsertError>
         ensures sent { OnOk result (self.new.records ≡ self.old.records ++ bytes.now ∷ []) }
-        ensures stored { OnOk result (IsStored
+        ensures chunk { OnOk result (HasOneMore
             (A.may_allocate (A.geometry self.old.allocator) self.old.chunks)
-            self.old bytes.now self.new) }
+            (length bytes.now) self.old.chunks self.new.chunks) }
         ensures refused { IfErr result (IsWhyNotStored
             (A.may_allocate (A.geometry self.old.allocator) self.old.chunks) (length bytes.now)) }
         ensures kept { OnErr result

@@ -5,7 +5,7 @@ ghost use Rattle.bb_memory_base.specs.LiveList.{IsSound};
 ghost use Rattle.bb_memory_base.specs.declared.layout.Layout.{Layout};
 ghost use Rattle.bb_memory_base.specs.HeldBytes.{HeldBytes, held_region};
 ghost use Rattle.uses.specs.Records.{Records, records_in};
-ghost use Rattle.uses.specs.Requests.{IsOfBytes, IsStored, IsWhyNotStored, MayGiveLonger};
+ghost use Rattle.uses.specs.Requests.{HasOneMore, IsOfBytes, IsWhyNotStored, MayGiveLonger};
 
 use bb_memory_base::allocator::{AllocationError, Allocator, BaseAllocator};
 use bb_memory_base::layout::{Chunk, Layout, LayoutError};
@@ -81,9 +81,9 @@ impl<A: Allocator + Drop> Slab<A> {
     /// `NoExactChunk` where it gives more.
     pub fn insert(&mut self, bytes: &[u8]) -> Result<(), InsertError>
         ensures appended { OnOk result (self.new.records ≡ self.old.records ++ bytes.now ∷ []) }
-        ensures stored { OnOk result (IsStored
+        ensures chunk { OnOk result (HasOneMore
             (A.may_allocate (A.geometry self.old.allocator) self.old.chunks)
-            self.old bytes.now self.new) }
+            (length bytes.now) self.old.chunks self.new.chunks) }
         ensures refused { IfErr result (IsWhyNotStored
             (A.may_allocate (A.geometry self.old.allocator) self.old.chunks) (length bytes.now)) }
         ensures kept { OnErr result
