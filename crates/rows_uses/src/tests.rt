@@ -7,11 +7,14 @@ mod boards;
 mod budgets;
 mod byte_vectors;
 mod results;
+mod rows;
 
 use bb_memory::bump_allocator::BumpAllocator;
 use bb_memory::layout::Layout;
 use bb_memory::pool_allocator::{FixedSizePoolAllocator, pool_count_law, pool_object_law};
 use bb_memory::region::Region;
+use bb_memory::shared_bump::{BumpParty, SharedBumpAllocator};
+use rows::{LineAnswer, LineCall, SlabAnswer, SlabCall, first_wrong};
 use std::alloc::Global;
 use std::sync::Arc;
 use std::test::Fail;
@@ -42,30 +45,34 @@ fn its_region(alloc: Global) -> Result<Region, Fail>
 #[test]
 fn slab_of_three_records(rt: HostRuntime) -> Result<(), Fail> {
     let mut slab = Slab::new(rt.alloc(), eight_buckets()?, its_region(rt.alloc())?);
-    slab.insert(&[1, 2, 3])?;
-    slab.insert(&[4, 5])?;
-    slab.insert(&[6])?;
-    if slab.read(1).len() == 2 {
-        slab.write(1, &[7, 8]);
-    }
-    assert_eq!(rt; slab.read(1), [7, 8].as_slice());
-    slab.remove(0);
-    assert_eq!(rt; slab.len(), 2);
-    assert_eq!(rt; slab.read(0), [7, 8].as_slice());
-    assert_eq!(rt; slab.read(1), [6].as_slice());
+    let rows = [
+        (SlabCall::Insert(&[1, 2, 3]), SlabAnswer::Done),
+        (SlabCall::Insert(&[4, 5]), SlabAnswer::Done),
+        (SlabCall::Insert(&[6]), SlabAnswer::Done),
+        (SlabCall::Write(1, &[7, 8]), SlabAnswer::Done),
+        (SlabCall::Read(1), SlabAnswer::Record(&[7, 8])),
+        (SlabCall::Remove(0), SlabAnswer::Done),
+        (SlabCall::Len, SlabAnswer::Len(2)),
+        (SlabCall::Read(0), SlabAnswer::Record(&[7, 8])),
+        (SlabCall::Read(1), SlabAnswer::Record(&[6])),
+    ];
+    assert_eq!(rt; first_wrong(&mut slab, &rows), None);
     Ok(())
 }
 
 #[test]
 fn mailbox_in_order(rt: HostRuntime) -> Result<(), Fail> {
     let mut mailbox = Mailbox::new(rt.alloc(), eight_buckets()?, its_region(rt.alloc())?);
-    assert!(rt; !mailbox.receive());
-    mailbox.send(&[1, 2, 3])?;
-    mailbox.send(&[4])?;
-    assert_eq!(rt; mailbox.front(), Some([1, 2, 3].as_slice()));
-    assert!(rt; mailbox.receive());
-    assert_eq!(rt; mailbox.front(), Some([4].as_slice()));
-    assert_eq!(rt; mailbox.waiting(), 1);
+    let rows = [
+        (LineCall::Next, LineAnswer::Left(false)),
+        (LineCall::Send(&[1, 2, 3]), LineAnswer::Sent),
+        (LineCall::Send(&[4]), LineAnswer::Sent),
+        (LineCall::Front, LineAnswer::Message(&[1, 2, 3])),
+        (LineCall::Next, LineAnswer::Left(true)),
+        (LineCall::Front, LineAnswer::Message(&[4])),
+        (LineCall::Waiting, LineAnswer::Waiting(1)),
+    ];
+    assert_eq!(rt; first_wrong(&mut mailbox, &rows), None);
     Ok(())
 }
 
@@ -73,15 +80,27 @@ fn mailbox_in_order(rt: HostRuntime) -> Result<(), Fail> {
 fn ring_for_two_readers(rt: HostRuntime) -> Result<(), Fail> {
     pool_object_law();
     let mut ring = MessageRing::new(rt.alloc(), eight_buckets()?, its_region(rt.alloc())?, 2);
-    ring.send(&[1, 2])?;
-    ring.send(&[3])?;
-    assert_eq!(rt; ring.front(), Some([1, 2].as_slice()));
-    assert!(rt; !ring.finish());
-    assert_eq!(rt; ring.front(), Some([1, 2].as_slice()));
-    assert!(rt; ring.finish());
-    assert_eq!(rt; ring.front(), Some([3].as_slice()));
-    assert_eq!(rt; ring.waiting(), 1);
+    let rows = [
+        (LineCall::Send(&[1, 2]), LineAnswer::Sent),
+        (LineCall::Send(&[3]), LineAnswer::Sent),
+        (LineCall::Front, LineAnswer::Message(&[1, 2])),
+        (LineCall::Next, LineAnswer::Left(false)),
+        (LineCall::Front, LineAnswer::Message(&[1, 2])),
+        (LineCall::Next, LineAnswer::Left(true)),
+        (LineCall::Front, LineAnswer::Message(&[3])),
+        (LineCall::Waiting, LineAnswer::Waiting(1)),
+    ];
+    assert_eq!(rt; first_wrong(&mut ring, &rows), None);
     Ok(())
+}
+
+/// How much is used, as one of two parties finds that have met.
+fn used_where_met(shared: &SharedBumpAllocator, mut here: BumpParty, mut there: BumpParty) -> usize
+    requires here { here.allocator ≡ shared.now }
+    requires there { there.allocator ≡ shared.now }
+{
+    shared.meet(&mut here, &mut there);
+    shared.used_space(&mut here)
 }
 
 #[test]
@@ -92,7 +111,7 @@ fn workers_share_a_region(rt: HostRuntime) -> Result<(), Fail> {
     let there = parties.pop().unwrap();
     let here = parties.pop().unwrap();
     let shared = Arc::new(rt.alloc(), shared)?;
-    let (mut here, mut there, taken) = two_workers(
+    let (here, there, taken) = two_workers(
         &rt,
         &shared,
         here,
@@ -100,7 +119,6 @@ fn workers_share_a_region(rt: HostRuntime) -> Result<(), Fail> {
         Layout::from_size_align(100, 4)?,
     )?;
     assert_eq!(rt; taken, 4);
-    shared.meet(&mut here, &mut there);
-    assert_eq!(rt; shared.used_space(&mut here), 400);
+    assert_eq!(rt; used_where_met(&shared, here, there), 400);
     Ok(())
 }

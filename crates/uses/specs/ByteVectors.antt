@@ -1,5 +1,5 @@
 -- A vector of bytes at an offset in a region.
-use Rattle.std.specs.Prelude.{◌≡◌, ◌+◌, ◌⊎◌, ⊤, ℕ, List, Result, Err}
+use Rattle.std.specs.Prelude.{◌+◌, ◌<◌, ◌⊎◌, ℕ, List, Result, Ok, Err}
 use Rattle.std.specs.Align.{IsLayout}
 use Rattle.bb_memory_base.specs.Chunk.{Chunk}
 use Rattle.bb_memory_base.specs.HeldBytes.{HeldBytes, bytes_in}
@@ -7,6 +7,7 @@ use Rattle.bb_memory_base.specs.declared.layout.Layout.{Layout}
 use Rattle.bb_memory_base.specs.declared.allocator.AllocationGrowError.{AllocationGrowError}
 use Rattle.uses.specs.declared.byte_vector.PushError.{PushError}
 use Rattle.uses.specs.declared.byte_vector.PushError.TheVariants.{TooLong, Full}
+use Rattle.uses.specs.Requests.{IsOfBytes}
 
 -- how far behind the region's start it begins, how many bytes it has room for, and how many it has
 pub record ByteVector : Type 0 where
@@ -19,30 +20,21 @@ abbrev pub contents : HeldBytes → ByteVector → List ℕ
 contents held vector =
     bytes_in held (record { place = held.start + vector.offset; len = vector.len })
 
--- a layout of so many bytes at any place
-pub record IsOfBytes (layout : Layout) (size : ℕ) : Type 0 where
-  pub many : layout.size ≡ size
-  pub align : layout.align ≡ 1
+-- so it may be answered where a chunk of so many bytes is to grow by one: not every two layouts rule it out
+pub record MayGrowByOne (may_grow : Layout → Layout → Result Chunk AllocationGrowError → Type 0)
+    (size : ℕ) (answer : Result Chunk AllocationGrowError) : Type 0 where
+  pub may : ¬ ((old new : Layout) → IsOfBytes old size → IsOfBytes new (size + 1)
+      → ¬ may_grow old new answer)
 
-abbrev pub IsTooLong : PushError → Type 0
-IsTooLong (TooLong cause) = ⊤
-IsTooLong (Full error) = ⊥
-
--- it is an answer that may come
-abbrev pub IsRefused : (Result Chunk AllocationGrowError → Type 0) → PushError → Type 0
-IsRefused MayCome (TooLong cause) = ⊥
-IsRefused MayCome (Full error) = MayCome (Err error)
-
--- the allocator may refuse so to grow a chunk of so many bytes by one: not every such answer is impossible
-pub record MayRefuseOneMore
-    (may_grow : Layout → Layout → Result Chunk AllocationGrowError → Type 0)
-    (size : ℕ) (error : PushError) : Type 0 where
-  pub refused : ¬ ((old new : Layout) → IsOfBytes old size → IsOfBytes new (size + 1)
-      → ¬ IsRefused (may_grow old new) error)
-
--- why such a chunk wasn't grown: there is no layout of as many bytes or of one more, or the allocator may refuse it
+-- why such a chunk wasn't grown
 abbrev pub IsWhyFull :
     (Layout → Layout → Result Chunk AllocationGrowError → Type 0) → ℕ → PushError → Type 0
-IsWhyFull may_grow size error =
-    (IsTooLong error × ((¬ IsLayout size 1) ⊎ (¬ IsLayout (size + 1) 1)))
-    ⊎ MayRefuseOneMore may_grow size error
+-- there is no layout of as many bytes, or of one more
+IsWhyFull may_grow size (TooLong cause) = (¬ IsLayout size 1) ⊎ (¬ IsLayout (size + 1) 1)
+IsWhyFull may_grow size (Full error) = MayGrowByOne may_grow size (Err error)
+
+-- the chunk at this place has more bytes, as the allocator may make it longer
+pub record IsGrown (may_grow : Layout → Layout → Result Chunk AllocationGrowError → Type 0)
+    (place old_size new_size : ℕ) : Type 0 where
+  pub longer : old_size < new_size
+  pub grown : MayGrowByOne may_grow old_size (Ok (record { place = place; len = new_size }))

@@ -1,5 +1,7 @@
 pub mod Budgets
 pub mod ByteVectors
+pub mod Carvings
 pub mod Hints
 pub mod Records
+pub mod Requests
 pub mod Rings

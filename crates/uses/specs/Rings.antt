@@ -1,16 +1,25 @@
 -- Messages for several readers, which lie in chunks of a region.
-use Rattle.std.specs.Prelude.{◌≡◌, ◌-◌, ◌<◌, ℕ, Bool, true, false, List, Result, Ok, drop, get_or, map, slice_set}
+use Rattle.std.specs.Prelude.{◌≡◌, ◌-◌, ◌<◌, ◌≤◌, ◌^◌, ⊤, ℕ, Bool, true, false, List, Result, Ok, Err, drop, get_or, map}
+use Rattle.std.specs.Prelude.{slice_set}
 use Rattle.bb_memory_base.specs.Chunk.{Chunk}
 use Rattle.bb_memory_base.specs.HeldBytes.{HeldBytes}
 use Rattle.bb_memory_base.specs.declared.layout.Layout.{Layout}
 use Rattle.bb_memory_base.specs.declared.allocator.AllocationError.{AllocationError}
 use Rattle.loan_book.specs.Book.{Book, chunks_of, chunks_out}
 use Rattle.loan_book.specs.Sample.{Sample, returns_to_come}
+use Rattle.loan_book.specs.declared.error.LoanError.TheVariants.{Size, IdsExhausted, Memory, Allocation}
+use Rattle.uses.specs.declared.ring.SendError.{SendError}
+use Rattle.uses.specs.declared.ring.SendError.TheVariants as send
 use Rattle.uses.specs.Records.{records_in}
+use Rattle.uses.specs.Requests.{Answers, MayAnswer}
 
--- how many readers each message has, the messages that wait, the oldest first, and how many readers of each are to come
-pub record Ring : Type 0 where
+-- the allocator below, how many readers each message has, how many messages were sent, the chunks and the bytes of those that
+-- wait, the oldest first, and how many readers of each are to come
+pub record Ring (A : Type 0) : Type 0 where
+  pub allocator : A
   pub readers : ℕ
+  pub sent : ℕ
+  pub chunks : List Chunk
   pub messages : List (List ℕ)
   pub to_come : List ℕ
 
@@ -20,12 +29,28 @@ ids_of samples = map (λ sample. sample.id) samples
 abbrev pub readers_of : List Sample → List ℕ
 readers_of samples = map (λ sample. returns_to_come sample.returns) samples
 
-abbrev pub ring_of : ℕ → HeldBytes → Book → Ring
-ring_of readers held book = record {
+abbrev pub ring_of : {A : Type 0} → A → ℕ → HeldBytes → Book → Ring A
+ring_of allocator readers held book = record {
+  allocator = allocator;
   readers = readers;
+  sent = book.loaned;
+  chunks = chunks_out book;
   messages = records_in held (chunks_out book);
   to_come = readers_of book.out;
 }
+
+-- why a message of so many bytes wasn't sent, where so many were sent before
+abbrev pub IsWhyNotSent : Answers → ℕ → ℕ → SendError → Type 0
+-- the memory for the lists was refused, which nothing here foretells, or that for the sample's record
+IsWhyNotSent may_answer sent size (send.List error) = ⊤
+IsWhyNotSent may_answer sent size (send.Refused Memory) = (size < 2 ^ 63) × (sent < 2 ^ 64)
+-- no layout has so many bytes
+IsWhyNotSent may_answer sent size (send.Refused Size) = 2 ^ 63 ≤ size
+IsWhyNotSent may_answer sent size (send.Refused IdsExhausted) = (size < 2 ^ 63) × (2 ^ 64 ≤ sent)
+IsWhyNotSent may_answer sent size (send.Refused (Allocation error)) =
+    (sent < 2 ^ 64) × MayAnswer may_answer size (Err error)
+-- for no other cause
+IsWhyNotSent may_answer sent size (send.Refused error) = ⊥
 
 -- the first sample has left, at the one return that it waited for
 pub record HasLeft (old new : List Sample) : Type 0 where

@@ -1,13 +1,8 @@
 //! A vector of bytes that lives at an offset of a region, and can move to another region with its bytes.
-ghost use Rattle.std.specs.Prelude.{◌≡◌, ◌+◌, ◌∷◌, ◌++◌, ◌<◌, ◌≤◌, ◌^◌, [], ℕ, List, Some, IsOk, IfOk, IfErr, OnOk, OnErr, Result, Err, length, slice_get, slice_index};
-ghost use Rattle.std.specs.Align.{IsLayout};
+ghost use Rattle.std.specs.Prelude.{◌≡◌, ◌+◌, ◌∷◌, ◌++◌, ◌<◌, ◌≤◌, ◌^◌, [], ℕ, List, Some, IsOk, IfOk, IfErr, OnOk, OnErr, Ok, length, slice_get, slice_index};
 ghost use Rattle.bb_memory_base.specs.Chunk.{Chunk, AreApart, IsInside};
 ghost use Rattle.bb_memory_base.specs.HeldBytes.{HeldBytes, held_region, bytes_in};
-ghost use Rattle.bb_memory_base.specs.declared.layout.Layout.{Layout};
-ghost use Rattle.bb_memory_base.specs.declared.allocator.AllocationGrowError.{AllocationGrowError};
-ghost use Rattle.uses.specs.declared.byte_vector.PushError.{PushError};
-ghost use Rattle.uses.specs.declared.byte_vector.PushError.TheVariants.{Full};
-ghost use Rattle.uses.specs.ByteVectors.{ByteVector, IsOfBytes, IsRefused, IsTooLong, IsWhyFull, MayRefuseOneMore, contents};
+ghost use Rattle.uses.specs.ByteVectors.{ByteVector, IsGrown, IsWhyFull, MayGrowByOne, contents};
 
 use bb_memory_base::allocator::{AllocationGrowError, Allocator, BaseAllocator};
 use bb_memory_base::layout::{Chunk, Layout, LayoutError};
@@ -85,9 +80,7 @@ impl ByteVec {
         ensures longer { self.new ≡ record self.old { len = self.old.len + 1 } }
         ensures region { held_region region.new ≡ held_region region.old }
     {
-        let place = region.start_address() + self.offset + self.len;
-        let behind = Chunk::new(place, 1).unwrap();
-        region.write(behind, &[byte]);
+        self.write_behind(region, byte);
         self.len += 1;
     }
 
@@ -104,9 +97,15 @@ impl ByteVec {
         ensures room { OnOk result (self.new.len < self.new.capacity) }
         ensures inside { self.new.offset + self.new.capacity ≤ length region.now.bytes }
         ensures contents { contents region.now self.new ≡ contents region.now self.old }
-        ensures offset { self.new.offset ≡ self.old.offset }
+        ensures others { self.new ≡ record self.old { capacity = self.new.capacity } }
         ensures kept { OnErr result (self.new ≡ self.old) }
         ensures at_once { self.old.len < self.old.capacity → IsOk result × (self.new ≡ self.old) }
+        ensures grown { OnOk result ((live : List Chunk) (position : ℕ) (chunk : Chunk)
+            → self.old.len ≡ self.old.capacity
+            → A.stands_for allocator.old live → slice_get live position ≡ Some chunk
+            → chunk.place ≡ region.now.start + self.old.offset
+            → IsGrown (A.may_grow (A.figures allocator.old) live chunk.place) chunk.place
+            self.old.capacity self.new.capacity) }
         ensures refused { IfErr result (λ error. (live : List Chunk) (position : ℕ) (chunk : Chunk)
             → A.stands_for allocator.old live → slice_get live position ≡ Some chunk
             → chunk.place ≡ region.now.start + self.old.offset
@@ -127,7 +126,8 @@ impl ByteVec {
         }
     }
 
-    /// One more byte, for which the chunk is grown where it is full. A refusal keeps all.
+    /// One more byte, for which the chunk is grown where it is full. A refusal keeps all, and comes only where the chunk is full,
+    /// as `reserve` refuses.
     pub fn push<A: Allocator>(
         &mut self,
         allocator: &mut A,
@@ -139,7 +139,21 @@ impl ByteVec {
         requires inside { self.old.offset + self.old.capacity ≤ length region.old.bytes }
         ensures pushed { OnOk result (contents region.new self.new
             ≡ contents region.old self.old ++ byte ∷ []) }
+        ensures longer { OnOk result (self.new.len ≡ self.old.len + 1) }
         ensures kept { OnErr result ((self.new ≡ self.old) × (region.new ≡ region.old)) }
+        ensures at_once { self.old.len < self.old.capacity
+            → IsOk result × (self.new.capacity ≡ self.old.capacity) }
+        ensures grown { OnOk result ((live : List Chunk) (position : ℕ) (chunk : Chunk)
+            → self.old.len ≡ self.old.capacity
+            → A.stands_for allocator.old live → slice_get live position ≡ Some chunk
+            → chunk.place ≡ region.old.start + self.old.offset
+            → IsGrown (A.may_grow (A.figures allocator.old) live chunk.place) chunk.place
+            self.old.capacity self.new.capacity) }
+        ensures refused { IfErr result (λ error. (live : List Chunk) (position : ℕ) (chunk : Chunk)
+            → A.stands_for allocator.old live → slice_get live position ≡ Some chunk
+            → chunk.place ≡ region.old.start + self.old.offset
+            → IsWhyFull (A.may_grow (A.figures allocator.old) live chunk.place)
+            self.old.capacity error) }
         ensures offset { self.new.offset ≡ self.old.offset }
         ensures inside { self.new.offset + self.new.capacity ≤ length region.new.bytes }
         ensures region { held_region region.new ≡ held_region region.old }
@@ -147,11 +161,25 @@ impl ByteVec {
     {
         match self.reserve(allocator, &*region) {
             Ok(()) => {
-                self.push_within(region, byte);
+                self.write_behind(region, byte);
+                self.len += 1;
                 Ok(())
             }
             Err(error) => Err(error),
         }
+    }
+
+    /// Writes a byte behind the last one.
+    fn write_behind(&self, region: &mut Region, byte: u8)
+        requires room { self.now.len < self.now.capacity }
+        requires inside { self.now.offset + self.now.capacity ≤ length region.old.bytes }
+        ensures contents { contents region.new (record self.now { len = self.now.len + 1 })
+            ≡ contents region.old self.now ++ byte ∷ [] }
+        ensures region { held_region region.new ≡ held_region region.old }
+    {
+        let place = region.start_address() + self.offset + self.len;
+        let behind = Chunk::new(place, 1).unwrap();
+        region.write(behind, &[byte]);
     }
 
     /// The same bytes in a chunk of another region, which has to have room for them: a copy of the vector, with the chunk's
@@ -190,61 +218,21 @@ fn grow_by_one<A: Allocator>(
     ensures longer { IfOk result (λ grown. size < grown.len) }
     ensures place { IfOk result (λ grown. grown.place ≡ place) }
     ensures inside { IfOk result (IsInside (A.region_of (A.geometry allocator.old))) }
+    ensures grown { IfOk result (λ grown. (live : List Chunk) (position : ℕ) (chunk : Chunk)
+        → A.stands_for allocator.old live → slice_get live position ≡ Some chunk
+        → chunk.place ≡ place
+        → MayGrowByOne (A.may_grow (A.figures allocator.old) live chunk.place) size (Ok grown)) }
     ensures refused { IfErr result (λ error. (live : List Chunk) (position : ℕ) (chunk : Chunk)
         → A.stands_for allocator.old live → slice_get live position ≡ Some chunk
         → chunk.place ≡ place
         → IsWhyFull (A.may_grow (A.figures allocator.old) live chunk.place) size error) }
     ensures still { allocator.new ≡ allocator.old }
 {
-    let old = bytes_layout(size)?;
-    let new = bytes_layout(size + 1)?;
-    grow_between(allocator, place, old, new, size)
-}
-
-/// Asks for one byte more, by the layouts of as many bytes and of one more.
-fn grow_between<A: Allocator>(
-    allocator: &mut A,
-    place: usize,
-    old: Layout,
-    new: Layout,
-    size: usize,
-) -> Result<Chunk, PushError>
-    requires live { A.may_release allocator.old place }
-    requires old { IsOfBytes old size }
-    requires new { IsOfBytes new (size + 1) }
-    ensures longer { IfOk result (λ grown. new.size ≤ grown.len) }
-    ensures place { IfOk result (λ grown. grown.place ≡ place) }
-    ensures inside { IfOk result (IsInside (A.region_of (A.geometry allocator.old))) }
-    ensures refused { IfErr result (λ error. (live : List Chunk) (position : ℕ) (chunk : Chunk)
-        → A.stands_for allocator.old live → slice_get live position ≡ Some chunk
-        → chunk.place ≡ place
-        → MayRefuseOneMore (A.may_grow (A.figures allocator.old) live chunk.place) size error) }
-    ensures still { allocator.new ≡ allocator.old }
-{
-    let _ = size;
-    refused_law(&*allocator);
+    let old = Layout::from_size_align(size, 1).map_err(PushError::TooLong)?;
+    let new = Layout::from_size_align(size + 1, 1).map_err(PushError::TooLong)?;
     match allocator.grow(place, old, new) {
         Ok(grown) => Ok(grown),
         Err(error) => Err(PushError::Full(error)),
-    }
-}
-
-/// An answer that may come for layouts of these sizes may come. It does nothing: its contract is the law.
-fn refused_law<A: Allocator>(allocator: &A)
-    ensures { (live : List Chunk) (place size : ℕ) (old new : Layout) (error : AllocationGrowError)
-        → IsOfBytes old size → IsOfBytes new (size + 1)
-        → A.may_grow (A.figures allocator.now) live place old new (Err error)
-        → MayRefuseOneMore (A.may_grow (A.figures allocator.now) live place) size (Full error) }
-{}
-
-/// The layout of so many bytes at any place.
-fn bytes_layout(size: usize) -> Result<Layout, PushError>
-    ensures layout { IfOk result (λ layout. IsOfBytes layout size) }
-    ensures refused { IfErr result (λ error. IsTooLong error × (¬ IsLayout size 1)) }
-{
-    match Layout::from_size_align(size, 1) {
-        Ok(layout) => Ok(layout),
-        Err(error) => Err(PushError::TooLong(error)),
     }
 }
 

@@ -22,6 +22,7 @@ pub struct JobBoard {
 }
 
 impl Model for JobBoard {
+    ghost use Rattle.std.specs.Prelude.{◌≡◌};
     ghost use Rattle.bb_memory.specs.SharedPool.{SharedPool};
     ghost use Rattle.bb_memory_base.specs.PoolObject.{IsWithin};
 
@@ -29,7 +30,8 @@ impl Model for JobBoard {
 
     ghost view = { λ b. b.slots };
 
-    ghost invariant = { λ b. IsWithin b.slots.scene.geometry.bucket b.job };
+    ghost invariant = { λ b. IsWithin b.slots.scene.geometry.bucket b.job
+        × (b.job.size ≡ b.slots.scene.geometry.bucket.size) };
 }
 
 impl JobBoard {
@@ -55,12 +57,13 @@ impl JobBoard {
         Ok((JobBoard { slots, job }, parties))
     }
 
-    /// Takes a slot for the worker, which it didn't have. What it had it keeps. It is refused, with `OutOfMemory`, only where it
-    /// has found each slot taken; on a board of one worker, exactly where that one has them all.
+    /// Takes a slot for the worker, which it didn't have, with room for a whole job. What it had it keeps. It is refused, with
+    /// `OutOfMemory`, only where it has found each slot taken; on a board of one worker, exactly where that one has them all.
     pub fn take(&self, worker: &mut PoolParty) -> Result<Bucket<'_>, AllocationError>
         requires worker { worker.old.allocator ≡ self.now }
         ensures worker { worker.new.allocator ≡ self.now }
         ensures slot { IfOk result (λ slot. slot.allocator ≡ self.now) }
+        ensures room { IfOk result (λ slot. slot.len ≡ self.now.scene.geometry.bucket.size) }
         ensures fresh { IfOk result (λ slot. ¬ IsHeldAfter worker.old.log slot.number) }
         ensures has { IfOk result (λ slot. IsHeldAfter worker.new.log slot.number) }
         ensures keeps { (other : ℕ) → IsHeldAfter worker.old.log other

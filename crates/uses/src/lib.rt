@@ -13,12 +13,14 @@
 //! - `job_board`: slots of a shared pool, each with one holder.
 #![tactic(auto)]
 
+pub mod bump_workers;
 pub mod byte_budget;
 pub mod byte_vector;
 pub mod chunk_budget;
 pub mod errors;
 pub mod job_board;
 pub mod mailbox;
+pub mod pool_workers;
 pub mod ring;
 pub mod scripts;
 pub mod slab;

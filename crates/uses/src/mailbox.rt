@@ -1,6 +1,7 @@
 //! Messages that wait, received in the order in which they were sent: a layer over the slab.
-ghost use Rattle.std.specs.Prelude.{◌≡◌, ◌∷◌, ◌++◌, ◌<◌, ◌↔◌, [], Some, IfSome, IfNone, IsTrue, OnOk, OnErr, drop, length, slice_get};
+ghost use Rattle.std.specs.Prelude.{◌≡◌, ◌∷◌, ◌++◌, ◌<◌, ◌↔◌, [], Some, IfSome, IfNone, IfErr, IsTrue, OnOk, OnErr, drop, length, slice_get};
 ghost use Rattle.bb_memory_base.specs.HeldBytes.{held_region};
+ghost use Rattle.uses.specs.Requests.{HasOneMore, IsWhyNotStored};
 
 use crate::slab::{InsertError, Slab};
 use bb_memory_base::allocator::Allocator;
@@ -15,10 +16,10 @@ pub struct Mailbox<A: Allocator + Drop> {
 }
 
 impl<A: Allocator + Drop> Model for Mailbox<A> {
-    ghost use Rattle.std.specs.Prelude.{ℕ, List};
+    ghost use Rattle.uses.specs.Records.{Records};
 
-    // A mailbox is the list of the messages that wait, the oldest first.
-    ghost Value = { List (List ℕ) };
+    // A mailbox is the messages that wait, the oldest first, with their allocator and the chunks in which they lie.
+    ghost Value = { Records A };
 
     ghost view = { λ m. m.messages };
 }
@@ -28,7 +29,8 @@ impl<A: Allocator + Drop> Mailbox<A> {
     pub fn new(alloc: Global, allocator: A, region: Region) -> Self
         requires fresh { A.stands_for allocator [] }
         requires same_region { held_region region ≡ A.region_of (A.geometry allocator) }
-        ensures empty { result ≡ [] }
+        ensures empty { result
+            ≡ record { allocator = allocator; chunks = []; records = [] } }
     {
         Mailbox {
             messages: Slab::new(alloc, allocator, region),
@@ -37,23 +39,30 @@ impl<A: Allocator + Drop> Mailbox<A> {
 
     /// How many messages wait.
     pub fn waiting(&self) -> usize
-        ensures { result ≡ length self.now }
+        ensures { result ≡ length self.now.records }
     {
         self.messages.len()
     }
 
-    /// Puts a message behind those that wait. A refusal keeps all.
+    /// Puts a message behind those that wait. A refusal keeps all, and comes where the slab refuses a record of these bytes.
     pub fn send(&mut self, bytes: &[u8]) -> Result<(), InsertError>
-        ensures sent { OnOk result (self.new ≡ self.old ++ bytes.now ∷ []) }
-        ensures kept { OnErr result (self.new ≡ self.old) }
+        ensures sent { OnOk result (self.new.records ≡ self.old.records ++ bytes.now ∷ []) }
+        ensures chunk { OnOk result (HasOneMore
+            (A.may_allocate (A.geometry self.old.allocator) self.old.chunks)
+            (length bytes.now) self.old.chunks self.new.chunks) }
+        ensures refused { IfErr result (IsWhyNotStored
+            (A.may_allocate (A.geometry self.old.allocator) self.old.chunks) (length bytes.now)) }
+        ensures kept { OnErr result
+            (self.new ≡ record self.old { allocator = self.new.allocator }) }
+        ensures geometry { A.geometry self.new.allocator ≡ A.geometry self.old.allocator }
     {
         self.messages.insert(bytes)
     }
 
     /// The oldest message, as it was sent, where one waits.
     pub fn front(&self) -> Option<&[u8]>
-        ensures some { IfSome result (λ bytes. slice_get self.now 0 ≡ Some bytes.now) }
-        ensures none { IfNone result (self.now ≡ []) }
+        ensures some { IfSome result (λ bytes. slice_get self.now.records 0 ≡ Some bytes.now) }
+        ensures none { IfNone result (self.now.records ≡ []) }
     {
         if self.messages.len() == 0 {
             return None;
@@ -63,8 +72,13 @@ impl<A: Allocator + Drop> Mailbox<A> {
 
     /// Takes the oldest message out, and gives its chunk back. It answers whether one waited.
     pub fn receive(&mut self) -> bool
-        ensures received { self.new ≡ drop 1 self.old }
-        ensures answer { IsTrue result ↔ (0 < length self.old) }
+        ensures received { self.new ≡ record self.old {
+          allocator = self.new.allocator;
+          chunks = drop 1 self.old.chunks;
+          records = drop 1 self.old.records;
+        } }
+        ensures geometry { A.geometry self.new.allocator ≡ A.geometry self.old.allocator }
+        ensures answer { IsTrue result ↔ (0 < length self.old.records) }
     {
         if self.messages.len() == 0 {
             return false;

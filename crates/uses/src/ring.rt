@@ -1,11 +1,12 @@
 //! Messages for several readers, each in a sample of a loan book.
-ghost use Rattle.std.specs.Prelude.{◌≡◌, ◌∷◌, ◌++◌, ◌<◌, ◌-◌, ◌↔◌, [], Some, IfSome, IfNone, IfOk, OnOk, OnErr, IsTrue, true, false, drop, get_or, length, slice_get, slice_set};
+ghost use Rattle.std.specs.Prelude.{◌≡◌, ◌∷◌, ◌++◌, ◌<◌, ◌+◌, ◌-◌, ◌↔◌, [], Some, Ok, IfSome, IfNone, IfOk, IfErr, OnOk, OnErr, IsTrue, true, false, drop, get_or, length, slice_get, slice_set};
 ghost use Rattle.bb_memory_base.specs.Chunk.{Chunk};
 ghost use Rattle.bb_memory_base.specs.LiveList.{IsSound};
 ghost use Rattle.bb_memory_base.specs.HeldBytes.{held_region};
 ghost use Rattle.loan_book.specs.Book.{Book, IsBook, chunks_out};
 ghost use Rattle.loan_book.specs.Calls.{with_sample};
-ghost use Rattle.uses.specs.Rings.{GivesExactly, Returned, ids_of, readers_of};
+ghost use Rattle.uses.specs.Requests.{HasOneMore, MayAnswer};
+ghost use Rattle.uses.specs.Rings.{GivesExactly, IsWhyNotSent, Returned, ids_of, readers_of};
 
 mod laws;
 
@@ -48,9 +49,9 @@ impl<A: Allocator + Drop> Model for MessageRing<A> {
     ghost use Rattle.loan_book.specs.Book.{chunks_out};
     ghost use Rattle.uses.specs.Rings.{Ring, GivesExactly, ids_of, ring_of};
 
-    ghost Value = { Ring };
+    ghost Value = { Ring A };
 
-    ghost view = { λ r. ring_of r.readers r.region r.book.book };
+    ghost view = { λ r. ring_of r.book.allocator r.readers r.region r.book.book };
 
     ghost invariant = { λ r. (0 < r.readers) × (r.ids.items ≡ ids_of r.book.book.out)
         × (r.chunks.items ≡ chunks_out r.book.book) × GivesExactly A.may_allocate
@@ -65,7 +66,14 @@ impl<A: Allocator + Drop> MessageRing<A> {
         requires exact { GivesExactly A.may_allocate }
         requires same_region { held_region region ≡ A.region_of (A.geometry allocator) }
         requires some_reader { 0 < readers }
-        ensures { result ≡ record { readers = readers; messages = []; to_come = [] } }
+        ensures { result ≡ record {
+          allocator = allocator;
+          readers = readers;
+          sent = 0;
+          chunks = [];
+          messages = [];
+          to_come = [];
+        } }
     {
         MessageRing {
             book: LoanBook::new(alloc, allocator),
@@ -83,17 +91,32 @@ impl<A: Allocator + Drop> MessageRing<A> {
         self.chunks.len()
     }
 
-    /// Sends a message to all readers. A refusal keeps all.
+    /// Sends a message to all readers. A refusal keeps all. It is refused with `List` where memory was, and else with `Refused`,
+    /// as the loan book refuses to loan as many bytes.
     pub fn send(&mut self, bytes: &[u8]) -> Result<(), SendError>
         ensures sent { OnOk result (self.new ≡ record self.old {
+          allocator = self.new.allocator;
+          sent = self.old.sent + 1;
+          chunks = self.new.chunks;
           messages = self.old.messages ++ bytes.now ∷ [];
           to_come = self.old.to_come ++ self.old.readers ∷ [];
         }) }
-        ensures kept { OnErr result (self.new ≡ self.old) }
+        ensures chunk { OnOk result (HasOneMore
+            (A.may_allocate (A.geometry self.old.allocator) self.old.chunks)
+            (length bytes.now) self.old.chunks self.new.chunks) }
+        ensures refused { IfErr result (IsWhyNotSent
+            (A.may_allocate (A.geometry self.old.allocator) self.old.chunks)
+            self.old.sent (length bytes.now)) }
+        ensures kept { OnErr result
+            (self.new ≡ record self.old { allocator = self.new.allocator }) }
+        ensures geometry { A.geometry self.new.allocator ≡ A.geometry self.old.allocator }
     {
-        self.ids.reserve(1)?;
-        self.chunks.reserve(1)?;
-        let (id, chunk) = loan_exactly(&mut self.book, bytes.len())?;
+        self.ids.reserve(1).map_err(SendError::List)?;
+        self.chunks.reserve(1).map_err(SendError::List)?;
+        let (id, chunk) = match loan_exactly(&mut self.book, bytes.len()) {
+            Ok(loaned) => loaned,
+            Err(error) => return Err(SendError::Refused(error)),
+        };
         put(&mut self.region, &self.chunks, chunk, bytes);
         publish_newest(&mut self.book, id, self.readers);
         self.ids.push_reserved(id);
@@ -106,13 +129,17 @@ impl<A: Allocator + Drop> MessageRing<A> {
     pub fn finish(&mut self) -> bool
         requires { 0 < length self.old.messages }
         ensures last { result ≡ true → self.new ≡ record self.old {
+          allocator = self.new.allocator;
+          chunks = drop 1 self.old.chunks;
           messages = drop 1 self.old.messages;
           to_come = drop 1 self.old.to_come;
         } }
         ensures further { result ≡ false → self.new ≡ record self.old {
+          allocator = self.new.allocator;
           to_come = slice_set self.old.to_come 0 (get_or self.old.to_come 0 0 - 1);
         } }
         ensures answer { IsTrue result ↔ (get_or self.old.to_come 0 0 ≡ 1) }
+        ensures geometry { A.geometry self.new.allocator ≡ A.geometry self.old.allocator }
     {
         let id = first_id(&self.ids);
         let last = return_oldest(&mut self.book, id);
@@ -143,6 +170,12 @@ fn loan_exactly<A: Allocator>(
     ensures loaned { IfOk result (λ loaned. (loaned.0 ≡ book.old.book.loaned)
         × (book.new.book ≡ with_sample book.old.book loaned.1)) }
     ensures exact { IfOk result (λ loaned. loaned.1.len ≡ size) }
+    ensures given { IfOk result (λ loaned. MayAnswer
+        (A.may_allocate (A.geometry book.old.allocator) (chunks_out book.old.book))
+        size (Ok loaned.1)) }
+    ensures refused { IfErr result (λ error. IsWhyNotSent
+        (A.may_allocate (A.geometry book.old.allocator) (chunks_out book.old.book))
+        book.old.book.loaned size (SendError.Refused error)) }
     ensures sound { IsSound (A.region_of (A.geometry book.old.allocator))
         (chunks_out book.new.book) }
     ensures geometry { A.geometry book.new.allocator ≡ A.geometry book.old.allocator }
@@ -168,6 +201,7 @@ fn return_oldest<A: Allocator>(book: &mut LoanBook<A>, id: u64) -> bool
     requires oldest { slice_get (ids_of book.old.book.out) 0 ≡ Some id }
     requires first { get_or (ids_of book.old.book.out) 0 id ≡ id }
     ensures returned { Returned book.old.book.out result book.new.book.out }
+    ensures loaned { book.new.book.loaned ≡ book.old.book.loaned }
     ensures geometry { A.geometry book.new.allocator ≡ A.geometry book.old.allocator }
 {
     book.law();
@@ -192,6 +226,7 @@ fn publish_newest<A: Allocator>(book: &mut LoanBook<A>, id: u64, readers: u32)
         → book.old.book ≡ with_sample before chunk
         → book.new.book.out ≡ before.out
         ++ record { id = before.loaned; chunk = chunk; returns = Some readers } ∷ [] }
+    ensures loaned { book.new.book.loaned ≡ book.old.book.loaned }
     ensures allocator { book.new.allocator ≡ book.old.allocator }
 {
     newest_law();

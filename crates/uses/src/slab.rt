@@ -1,9 +1,11 @@
 //! Records of bytes, each in a chunk of its own.
-ghost use Rattle.std.specs.Prelude.{◌≡◌, ◌∷◌, ◌++◌, ◌<◌, [], ℕ, List, Some, IfOk, OnOk, OnErr, length, remove, slice_get, slice_set};
+ghost use Rattle.std.specs.Prelude.{◌≡◌, ◌∷◌, ◌++◌, ◌<◌, [], ℕ, List, Some, Ok, IfErr, OnOk, OnErr, length, remove, slice_get, slice_set};
 ghost use Rattle.bb_memory_base.specs.Chunk.{Chunk};
 ghost use Rattle.bb_memory_base.specs.LiveList.{IsSound};
+ghost use Rattle.bb_memory_base.specs.declared.layout.Layout.{Layout};
 ghost use Rattle.bb_memory_base.specs.HeldBytes.{HeldBytes, held_region};
-ghost use Rattle.uses.specs.Records.{records_in};
+ghost use Rattle.uses.specs.Records.{Records, records_in};
+ghost use Rattle.uses.specs.Requests.{HasOneMore, IsOfBytes, IsWhyNotStored, MayGiveLonger};
 
 use bb_memory_base::allocator::{AllocationError, Allocator, BaseAllocator};
 use bb_memory_base::layout::{Chunk, Layout, LayoutError};
@@ -34,14 +36,18 @@ pub struct Slab<A: Allocator + Drop> {
 }
 
 impl<A: Allocator + Drop> Model for Slab<A> {
-    ghost use Rattle.std.specs.Prelude.{◌≡◌, ℕ, List};
+    ghost use Rattle.std.specs.Prelude.{◌≡◌};
     ghost use Rattle.bb_memory_base.specs.HeldBytes.{held_region};
-    ghost use Rattle.uses.specs.Records.{records_in};
+    ghost use Rattle.uses.specs.Records.{Records, records_in};
 
-    // A slab is the list of its records.
-    ghost Value = { List (List ℕ) };
+    // A slab is its records, with their allocator and the chunks in which they lie.
+    ghost Value = { Records A };
 
-    ghost view = { λ s. records_in s.region s.chunks.items };
+    ghost view = { λ s. record {
+      allocator = s.allocator;
+      chunks = s.chunks.items;
+      records = records_in s.region s.chunks.items;
+    } };
 
     ghost invariant = { λ s. A.stands_for s.allocator s.chunks.items
         × (held_region s.region ≡ A.region_of (A.geometry s.allocator)) };
@@ -52,7 +58,8 @@ impl<A: Allocator + Drop> Slab<A> {
     pub fn new(alloc: Global, allocator: A, region: Region) -> Self
         requires fresh { A.stands_for allocator [] }
         requires same_region { held_region region ≡ A.region_of (A.geometry allocator) }
-        ensures empty { result ≡ [] }
+        ensures empty { result
+            ≡ record { allocator = allocator; chunks = []; records = [] } }
     {
         Slab {
             allocator,
@@ -61,23 +68,37 @@ impl<A: Allocator + Drop> Slab<A> {
         }
     }
 
-    /// How many records there are.
+    /// How many records there are, each in a chunk of its own.
     pub fn len(&self) -> usize
-        ensures { result ≡ length self.now }
+        ensures records { result ≡ length self.now.records }
+        ensures chunks { result ≡ length self.now.chunks }
     {
         self.chunks.len()
     }
 
-    /// Stores one more record, behind the others. A refusal keeps all.
+    /// Stores one more record, behind the others. A refusal keeps all. It is refused in this order: with `Layout` where no layout
+    /// has as many bytes, with `List` where memory was, with `Refused` as the allocator refuses to give as many, and with
+    /// `NoExactChunk` where it gives more.
     pub fn insert(&mut self, bytes: &[u8]) -> Result<(), InsertError>
-        ensures appended { OnOk result (self.new ≡ self.old ++ bytes.now ∷ []) }
-        ensures kept { OnErr result (self.new ≡ self.old) }
+        ensures appended { OnOk result (self.new.records ≡ self.old.records ++ bytes.now ∷ []) }
+        ensures chunk { OnOk result (HasOneMore
+            (A.may_allocate (A.geometry self.old.allocator) self.old.chunks)
+            (length bytes.now) self.old.chunks self.new.chunks) }
+        ensures refused { IfErr result (IsWhyNotStored
+            (A.may_allocate (A.geometry self.old.allocator) self.old.chunks) (length bytes.now)) }
+        ensures kept { OnErr result
+            (self.new ≡ record self.old { allocator = self.new.allocator }) }
+        ensures geometry { A.geometry self.new.allocator ≡ A.geometry self.old.allocator }
     {
-        let layout = Layout::from_size_align(bytes.len(), 1)?;
-        self.chunks.reserve(1)?;
-        let chunk = self.allocator.allocate(layout)?;
+        let layout = Layout::from_size_align(bytes.len(), 1).map_err(InsertError::Layout)?;
+        self.chunks.reserve(1).map_err(InsertError::List)?;
+        let chunk = match self.allocator.allocate(layout) {
+            Ok(chunk) => chunk,
+            Err(error) => return Err(InsertError::Refused(error)),
+        };
         if chunk.len() != bytes.len() {
             last_law();
+            longer_law::<A>();
             self.allocator.deallocate(chunk.place(), layout);
             return Err(InsertError::NoExactChunk);
         }
@@ -88,8 +109,8 @@ impl<A: Allocator + Drop> Slab<A> {
 
     /// The bytes of a record.
     pub fn read(&self, position: usize) -> &[u8]
-        requires { position < length self.now }
-        ensures { slice_get self.now position ≡ Some result.now }
+        requires { position < length self.now.records }
+        ensures { slice_get self.now.records position ≡ Some result.now }
     {
         let chunk = self.chunks[position];
         self.region.chunk(chunk)
@@ -97,17 +118,24 @@ impl<A: Allocator + Drop> Slab<A> {
 
     /// Writes a record whole, with as many bytes as it has. The others keep theirs.
     pub fn write(&mut self, position: usize, bytes: &[u8])
-        requires { (old : List ℕ) × (slice_get self.old position ≡ Some old)
+        requires { (old : List ℕ) × (slice_get self.old.records position ≡ Some old)
             × (length bytes.now ≡ length old) }
-        ensures { self.new ≡ slice_set self.old position bytes.now }
+        ensures { self.new ≡ record self.old {
+          records = slice_set self.old.records position bytes.now;
+        } }
     {
         overwrite(&mut self.region, &self.chunks, position, bytes);
     }
 
     /// Takes a record out, and gives its chunk back. Those behind it move up.
     pub fn remove(&mut self, position: usize)
-        requires { position < length self.old }
-        ensures { self.new ≡ remove self.old position }
+        requires { position < length self.old.records }
+        ensures removed { self.new ≡ record self.old {
+          allocator = self.new.allocator;
+          chunks = remove self.old.chunks position;
+          records = remove self.old.records position;
+        } }
+        ensures geometry { A.geometry self.new.allocator ≡ A.geometry self.old.allocator }
     {
         let chunk = self.chunks.remove(position);
         removed_records_law();
@@ -157,6 +185,14 @@ fn last_law()
         → slice_get (live ++ chunk ∷ []) (length live) ≡ Some chunk }
     ensures as_before { (live : List Chunk) (chunk : Chunk)
         → remove (live ++ chunk ∷ []) (length live) ≡ live }
+{}
+
+/// A longer chunk that may be given may be given. It does nothing: its contract is the law.
+fn longer_law<A: Allocator>()
+    ensures { (geometry : A.Geometry) (live : List Chunk) (size : ℕ) (layout : Layout)
+        (chunk : Chunk)
+        → IsOfBytes layout size → size < chunk.len → A.may_allocate geometry live layout (Ok chunk)
+        → MayGiveLonger (A.may_allocate geometry live) size }
 {}
 
 /// Taking a chunk out of a list takes its record out. It does nothing: its contract is the law.

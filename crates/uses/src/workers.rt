@@ -1,6 +1,7 @@
 //! Two threads that carve one region up between them.
-ghost use Rattle.std.specs.Prelude.{◌≡◌, IfOk};
+ghost use Rattle.std.specs.Prelude.{◌≡◌, ◌+◌, IfOk, length};
 ghost use Rattle.std.specs.Arc.{arc_value};
+ghost use Rattle.bb_memory_base.specs.BumpHistory.{chunks_won};
 
 use bb_memory::layout::Layout;
 use bb_memory::shared_bump::{BumpParty, SharedBumpAllocator};
@@ -13,7 +14,9 @@ use std::thread::{Promise, Threads};
 /// Asks twice, and hands the party back with how many chunks it got.
 pub fn take_two(shared: &SharedBumpAllocator, party: BumpParty, layout: Layout) -> (BumpParty, u32)
     requires { party.allocator ≡ shared.now }
-    ensures { result.0.allocator ≡ shared.entry.now }
+    ensures party { result.0.allocator ≡ shared.entry.now }
+    ensures taken { length (chunks_won result.0.log)
+        ≡ length (chunks_won party.log) + result.1 }
 {
     let mut party = party;
     let first = shared.allocate(&mut party, layout).is_ok();
@@ -21,14 +24,17 @@ pub fn take_two(shared: &SharedBumpAllocator, party: BumpParty, layout: Layout) 
     (party, first as u32 + second as u32)
 }
 
-/// That a thread hands back a party of this bump.
+/// That a thread hands back a party of this bump, with how many chunks this one got meanwhile.
 #[derive(Drop)]
-struct ComesBack(Snapshot<SharedBumpAllocator>);
+struct ComesBack(Snapshot<SharedBumpAllocator>, Snapshot<BumpParty>);
 
 impl Promise<(BumpParty, u32)> for ComesBack {
-    ghost use Rattle.std.specs.Prelude.{◌≡◌};
+    ghost use Rattle.std.specs.Prelude.{◌≡◌, ◌+◌, length};
+    ghost use Rattle.bb_memory_base.specs.BumpHistory.{chunks_won};
 
-    ghost kept_by = { λ promise answer. answer.0.allocator ≡ promise.0.value };
+    ghost kept_by = { λ promise answer. (answer.0.allocator ≡ promise.0.value)
+        × (length (chunks_won answer.0.log)
+        ≡ length (chunks_won promise.1.value.log) + answer.1) };
 }
 
 /// Both parties ask twice, one in a thread of its own. They come back as this bump's, so that it can `meet` them, which says
@@ -44,9 +50,12 @@ pub fn two_workers(
     requires there { there.allocator ≡ arc_value shared.now }
     ensures here { IfOk result (λ made. made.0.allocator ≡ arc_value shared.now) }
     ensures there { IfOk result (λ made. made.1.allocator ≡ arc_value shared.now) }
+    ensures taken { IfOk result (λ made.
+        length (chunks_won made.0.log) + length (chunks_won made.1.log)
+        ≡ length (chunks_won here.log) + length (chunks_won there.log) + made.2) }
 {
     let its_shared = Arc::try_clone(shared)?;
-    let promise = ComesBack(Snapshot::of(&**shared));
+    let promise = ComesBack(Snapshot::of(&**shared), Snapshot::of(&there));
     let child = thread::spawn_with(rt, promise, move || take_two(&its_shared, there, layout))?;
     let (here, taken_here) = take_two(&**shared, here, layout);
     let (there, taken_there) = child.join(rt);

@@ -6,6 +6,7 @@ use bb_memory::pool_allocator::{AllocationError, pool_count_law};
 use bb_memory::shared_pool::PoolParty;
 use std::alloc::Global;
 use std::test::Fail;
+use std::thread::Threads;
 use uses::job_board::JobBoard;
 
 /// A board of four slots of 64 bytes, for two workers.
@@ -18,24 +19,53 @@ fn four_slots(alloc: Global) -> Result<(JobBoard, Vec<PoolParty>), Fail>
     Ok(JobBoard::new(alloc, job, 4096, 256, 2)?)
 }
 
+/// The numbers of the slots that two workers get at once.
+fn two_slots(
+    rt: &(impl Threads + Sync),
+    board: &JobBoard,
+    here: &mut PoolParty,
+    there: &mut PoolParty,
+) -> Result<(u32, u32), AllocationError>
+    requires here { here.old.allocator ≡ board.now }
+    requires there { there.old.allocator ≡ board.now }
+    ensures here { here.new.allocator ≡ board.now }
+    ensures there { there.new.allocator ≡ board.now }
+{
+    let (one, two) = board.take_two(rt, here, there);
+    Ok((one?.number(), two?.number()))
+}
+
+/// For which cause a worker gets no slot.
+fn refusal(board: &JobBoard, mut worker: PoolParty) -> Option<AllocationError>
+    requires { worker.allocator ≡ board.now }
+{
+    board.take(&mut worker).err()
+}
+
 #[test]
 fn slots_have_one_holder(rt: HostRuntime) -> Result<(), Fail> {
     let (board, mut workers) = four_slots(rt.alloc())?;
     let (Some(mut there), Some(mut here)) = (workers.pop(), workers.pop()) else {
         return Err(Fail::from("too few workers"));
     };
-    let (one, two) = board.take_two(&rt, &mut here, &mut there);
-    let (three, four) = board.take_two(&rt, &mut here, &mut there);
-    let mut numbers = [
-        one?.number(),
-        two?.number(),
-        three?.number(),
-        four?.number(),
-    ];
+    let (one, two) = two_slots(&rt, &board, &mut here, &mut there)?;
+    let (three, four) = two_slots(&rt, &board, &mut here, &mut there)?;
+    let mut numbers = [one, two, three, four];
     numbers.sort_unstable();
     assert_eq!(rt; numbers, [0, 1, 2, 3]);
-    assert!(rt; matches!(board.take(&mut here), Err(AllocationError::OutOfMemory)));
+    assert_eq!(rt; refusal(&board, here), Some(AllocationError::OutOfMemory));
     Ok(())
+}
+
+/// The number of the slot that a worker gets and gives back.
+fn taken_and_done(board: &JobBoard, worker: &mut PoolParty) -> Result<u32, AllocationError>
+    requires { worker.old.allocator ≡ board.now }
+    ensures { worker.new.allocator ≡ board.now }
+{
+    let slot = board.take(worker)?;
+    let number = slot.number();
+    board.done(worker, slot);
+    Ok(number)
 }
 
 #[test]
@@ -44,9 +74,7 @@ fn slot_given_back(rt: HostRuntime) -> Result<(), Fail> {
     let Some(mut worker) = workers.pop() else {
         return Err(Fail::from("too few workers"));
     };
-    let slot = board.take(&mut worker)?;
-    assert_eq!(rt; slot.number(), 0);
-    board.done(&mut worker, slot);
-    assert_eq!(rt; board.take(&mut worker)?.number(), 0);
+    assert_eq!(rt; taken_and_done(&board, &mut worker)?, 0);
+    assert_eq!(rt; taken_and_done(&board, &mut worker)?, 0);
     Ok(())
 }

@@ -5,10 +5,11 @@ ghost use Rattle.bb_memory_base.specs.HeldBytes.{held_region};
 use super::{eight_buckets, its_region};
 use bb_memory::layout::{Chunk, Layout};
 use bb_memory::pool_allocator::{
-    AllocationGrowError, BaseAllocator, FixedSizePoolAllocator, pool_count_law,
+    AllocationGrowError, Allocator, BaseAllocator, FixedSizePoolAllocator, pool_count_law,
 };
 use bb_memory::region::Region;
 use std::alloc::Global;
+use std::marker::Model;
 use std::test::Fail;
 use uses::byte_vector::{ByteVec, PushError};
 
@@ -30,41 +31,95 @@ fn buckets_of_four() -> Result<FixedSizePoolAllocator<16>, Fail>
     Ok(FixedSizePoolAllocator::new(bucket, 4096, 1024))
 }
 
+/// A vector in a chunk of its own, with its allocator and region.
+#[derive(Drop)]
+struct Growing<A: Allocator + Drop> {
+    allocator: A,
+    region: Region,
+    chunk: Chunk,
+    bytes: ByteVec,
+}
+
+impl<A: Allocator + Drop> Model for Growing<A> {
+    ghost use Rattle.std.specs.Prelude.{◌≡◌, ◌+◌, ◌≤◌, length};
+    ghost use Rattle.bb_memory_base.specs.Chunk.{IsInside};
+    ghost use Rattle.bb_memory_base.specs.HeldBytes.{held_region};
+    ghost use Rattle.uses.specs.ByteVectors.{ByteVector};
+
+    ghost Value = { ByteVector };
+
+    ghost view = { λ g. g.bytes };
+
+    ghost invariant = { λ g. (held_region g.region ≡ A.region_of (A.geometry g.allocator))
+        × A.may_release g.allocator (g.region.start + g.bytes.offset)
+        × (g.bytes.offset + g.bytes.capacity ≤ length g.region.bytes)
+        × IsInside (held_region g.region) g.chunk };
+}
+
+impl<A: Allocator + Drop> Growing<A> {
+    /// No bytes, in a chunk of two.
+    fn new(mut allocator: A, region: Region) -> Result<Self, Fail>
+        requires { held_region region ≡ A.region_of (A.geometry allocator) }
+    {
+        let chunk = allocator.allocate(Layout::from_size_align(2, 1)?)?;
+        let bytes = ByteVec::new(&region, chunk);
+        Ok(Growing {
+            allocator,
+            region,
+            chunk,
+            bytes,
+        })
+    }
+
+    fn push(&mut self, byte: u8) -> Result<(), PushError> {
+        self.bytes.push(&mut self.allocator, &mut self.region, byte)
+    }
+
+    /// What is answered to each push.
+    fn pushes(&mut self, alloc: Global, bytes: &[u8]) -> Result<Vec<Result<(), PushError>>, Fail> {
+        let mut answers = Vec::new(alloc);
+        for byte in bytes {
+            answers.push(self.push(*byte))?;
+        }
+        Ok(answers)
+    }
+
+    /// What the chunk has that the vector began with.
+    fn held(&self) -> &[u8] {
+        self.region.chunk(self.chunk)
+    }
+
+    /// How many bytes a copy has that is made in a chunk of four of another region.
+    fn copied(&self, other: &mut Region) -> Option<usize>
+        requires { held_region other.old ≡ record { start = 9000; size = 64 } }
+        ensures { held_region other.new ≡ held_region other.old }
+    {
+        if self.bytes.len() > 4 {
+            return None;
+        }
+        let there = Chunk::new(9005, 4).unwrap();
+        Some(self.bytes.copy_to(&self.region, other, there).len())
+    }
+}
+
 #[test]
 fn byte_vector_grows_in_its_bucket(rt: HostRuntime) -> Result<(), Fail> {
-    let mut pool = buckets_of_four()?;
-    let mut region = its_region(rt.alloc())?;
-    let chunk = pool.allocate(Layout::from_size_align(2, 1)?)?;
-    let mut bytes = ByteVec::new(&region, chunk);
-    bytes.push(&mut pool, &mut region, 1)?;
-    bytes.push(&mut pool, &mut region, 2)?;
-    bytes.push(&mut pool, &mut region, 3)?;
-    bytes.push(&mut pool, &mut region, 4)?;
-    let refused = bytes.push(&mut pool, &mut region, 5);
-    assert_eq!(rt;
-        refused,
-        Err(PushError::Full(AllocationGrowError::OutOfMemory))
-    );
-    assert_eq!(rt; bytes.len(), 4);
-    assert_eq!(rt; region.chunk(chunk), [1, 2].as_slice());
+    let mut growing = Growing::new(buckets_of_four()?, its_region(rt.alloc())?)?;
+    let full = Err(PushError::Full(AllocationGrowError::OutOfMemory));
+    let answers = growing.pushes(rt.alloc(), &[1, 2, 3, 4, 5])?;
+    let expected = [Ok(()), Ok(()), Ok(()), Ok(()), full];
+    assert_eq!(rt; answers.as_slice(), expected.as_slice());
+    assert_eq!(rt; growing.bytes.len(), 4);
+    assert_eq!(rt; growing.held(), [1, 2].as_slice());
     Ok(())
 }
 
 #[test]
 fn byte_vector_copied(rt: HostRuntime) -> Result<(), Fail> {
-    let mut pool = eight_buckets()?;
-    let mut region = its_region(rt.alloc())?;
+    let mut growing = Growing::new(eight_buckets()?, its_region(rt.alloc())?)?;
     let mut other = another_region(rt.alloc())?;
-    let chunk = pool.allocate(Layout::from_size_align(2, 1)?)?;
-    let mut bytes = ByteVec::new(&region, chunk);
-    bytes.push(&mut pool, &mut region, 7)?;
-    bytes.push(&mut pool, &mut region, 8)?;
-    bytes.push(&mut pool, &mut region, 9)?;
-    let there = Chunk::new(9005, 4).unwrap();
-    if bytes.len() <= 4 {
-        let copy = bytes.copy_to(&region, &mut other, there);
-        assert_eq!(rt; copy.len(), 3);
-    }
+    growing.pushes(rt.alloc(), &[7, 8, 9])?;
+    assert_eq!(rt; growing.copied(&mut other), Some(3));
     let held = [0, 0, 0, 0, 0, 7, 8, 9, 0, 0].as_slice();
     assert_eq!(rt; &other.bytes()[..10], held);
     Ok(())

@@ -40,3 +40,23 @@ pub fn shared_pool(alloc: Global) -> Result<(), AllocationError> {
     pool.deallocate_bucket(&mut party, taken);
     Ok(())
 }
+
+/// A bucket near the party's own part of the pool is taken, which one exchange then misses; and one by a round from bucket 5.
+pub fn rounds_of_a_pool(alloc: Global) -> Result<(), AllocationError> {
+    pool_count_law();
+    let bucket = Layout::from_size_align(128, 8).unwrap();
+    let (pool, mut parties) = SharedPoolAllocator::new(alloc, bucket, 4096, 1024, 1)?;
+    let mut party = parties.pop().unwrap();
+    let near = pool.allocate_near(&mut party, forty_eight())?;
+    let missed = pool
+        .allocate_at(&mut party, forty_eight(), near.number())
+        .is_err();
+    prove!(missed);
+    pool.deallocate_bucket(&mut party, near);
+    let taken = pool.allocate_from(&mut party, forty_eight(), 5)?;
+    let (number, len) = (taken.number(), taken.chunk().len());
+    prove!(number < 8);
+    prove!(len == 48);
+    pool.deallocate_bucket(&mut party, taken);
+    Ok(())
+}

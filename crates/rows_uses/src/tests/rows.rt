@@ -1,0 +1,142 @@
+//! Rows of a table: a call, and what it has to be answered. The layers are driven by them, over any allocator.
+ghost use Rattle.std.specs.Prelude.{◌≡◌, ℕ, List, Some, IsTrue, length, slice_get};
+
+use bb_memory::allocator::Allocator;
+use uses::mailbox::Mailbox;
+use uses::ring::MessageRing;
+use uses::slab::Slab;
+
+/// What can be driven by rows.
+pub(super) trait Driven<R> {
+    /// Makes the row's call, and tells whether it was answered as the row has it.
+    fn keeps(&mut self, row: &R) -> bool;
+}
+
+/// The first row that wasn't answered as it has it.
+pub(super) fn first_wrong<R, D: Driven<R>>(driven: &mut D, rows: &[R]) -> Option<usize> {
+    for (position, row) in rows.iter().enumerate() {
+        if !driven.keeps(row) {
+            return Some(position);
+        }
+    }
+    None
+}
+
+/// A call of a slab.
+#[derive(Drop)]
+pub(super) enum SlabCall<'a> {
+    Insert(&'a [u8]),
+    Write(usize, &'a [u8]),
+    Read(usize),
+    Remove(usize),
+    Len,
+}
+
+/// What a slab answers.
+#[derive(Drop, PartialEq)]
+pub(super) enum SlabAnswer<'a> {
+    Done,
+    Record(&'a [u8]),
+    Len(usize),
+    /// No record was stored, or there is none at the position, or one of another length.
+    Refused,
+}
+
+impl<'a, A: Allocator + Drop> Driven<(SlabCall<'a>, SlabAnswer<'a>)> for Slab<A> {
+    fn keeps(&mut self, row: &(SlabCall<'a>, SlabAnswer<'a>)) -> bool {
+        slab_answer(self, &row.0) == row.1
+    }
+}
+
+fn slab_answer<'s, A: Allocator + Drop>(
+    slab: &'s mut Slab<A>,
+    call: &SlabCall<'_>,
+) -> SlabAnswer<'s> {
+    match call {
+        SlabCall::Insert(bytes) if slab.insert(bytes).is_ok() => SlabAnswer::Done,
+        SlabCall::Write(position, bytes) if has_record(slab, *position, bytes.len()) => {
+            slab.write(*position, bytes);
+            SlabAnswer::Done
+        }
+        SlabCall::Read(position) if *position < slab.len() => SlabAnswer::Record(slab.read(
+            *position,
+        )),
+        SlabCall::Remove(position) if *position < slab.len() => {
+            slab.remove(*position);
+            SlabAnswer::Done
+        }
+        SlabCall::Len => SlabAnswer::Len(slab.len()),
+        _ => SlabAnswer::Refused,
+    }
+}
+
+/// A call of a mailbox or a ring. `Next` is done with the oldest message, as its receiver or as one of its readers.
+#[derive(Drop)]
+pub(super) enum LineCall<'a> {
+    Send(&'a [u8]),
+    Front,
+    Next,
+    Waiting,
+}
+
+/// What it is answered. `Left` tells whether the oldest message has left.
+#[derive(Drop, PartialEq)]
+pub(super) enum LineAnswer<'a> {
+    Sent,
+    Message(&'a [u8]),
+    Left(bool),
+    Waiting(usize),
+    /// No message was sent, or none waits.
+    Refused,
+}
+
+impl<'a, A: Allocator + Drop> Driven<(LineCall<'a>, LineAnswer<'a>)> for Mailbox<A> {
+    fn keeps(&mut self, row: &(LineCall<'a>, LineAnswer<'a>)) -> bool {
+        mailbox_answer(self, &row.0) == row.1
+    }
+}
+
+fn mailbox_answer<'m, A: Allocator + Drop>(
+    mailbox: &'m mut Mailbox<A>,
+    call: &LineCall<'_>,
+) -> LineAnswer<'m> {
+    match call {
+        LineCall::Send(bytes) if mailbox.send(bytes).is_ok() => LineAnswer::Sent,
+        LineCall::Send(_) => LineAnswer::Refused,
+        LineCall::Front => mailbox
+            .front()
+            .map_or(LineAnswer::Refused, LineAnswer::Message),
+        LineCall::Next => LineAnswer::Left(mailbox.receive()),
+        LineCall::Waiting => LineAnswer::Waiting(mailbox.waiting()),
+    }
+}
+
+impl<'a, A: Allocator + Drop> Driven<(LineCall<'a>, LineAnswer<'a>)> for MessageRing<A> {
+    fn keeps(&mut self, row: &(LineCall<'a>, LineAnswer<'a>)) -> bool {
+        ring_answer(self, &row.0) == row.1
+    }
+}
+
+fn ring_answer<'r, A: Allocator + Drop>(
+    ring: &'r mut MessageRing<A>,
+    call: &LineCall<'_>,
+) -> LineAnswer<'r> {
+    match call {
+        LineCall::Send(bytes) if ring.send(bytes).is_ok() => LineAnswer::Sent,
+        LineCall::Send(_) => LineAnswer::Refused,
+        LineCall::Front => ring
+            .front()
+            .map_or(LineAnswer::Refused, LineAnswer::Message),
+        LineCall::Next if ring.waiting() > 0 => LineAnswer::Left(ring.finish()),
+        LineCall::Next => LineAnswer::Refused,
+        LineCall::Waiting => LineAnswer::Waiting(ring.waiting()),
+    }
+}
+
+/// Whether a record of this length is at the position.
+fn has_record<A: Allocator + Drop>(slab: &Slab<A>, position: usize, len: usize) -> bool
+    ensures { IsTrue result
+        → (old : List ℕ) × (slice_get slab.now.records position ≡ Some old) × (len ≡ length old) }
+{
+    position < slab.len() && slab.read(position).len() == len
+}

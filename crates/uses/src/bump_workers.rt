@@ -1,0 +1,43 @@
+//! Threads that carve one bump up, and the bump that one owner then has again.
+ghost use Rattle.std.specs.Prelude.{◌≡◌, IfOk};
+ghost use Rattle.uses.specs.Carvings.{HasAsked, IsCarved};
+
+use bb_memory::allocator::AllocationError;
+use bb_memory::bump_allocator::BumpAllocator;
+use bb_memory::layout::Layout;
+use bb_memory::shared_bump::{BumpParty, SharedBumpAllocator};
+use std::alloc::Global;
+use std::thread;
+use std::thread::Threads;
+
+/// Asks for a chunk, and hands the party back.
+pub fn carve(shared: &SharedBumpAllocator, party: BumpParty, layout: Layout) -> BumpParty
+    requires { party.allocator ≡ shared.now }
+    ensures party { result.allocator ≡ shared.entry.now }
+    ensures number { result.number ≡ party.number }
+    ensures asked { HasAsked layout result }
+{
+    let mut party = party;
+    let _ = shared.allocate(&mut party, layout);
+    party
+}
+
+/// Four workers ask a bump for a chunk each, all at once. Then it is one owner's again, and what is used of it is exactly the
+/// greatest position that one of the four has seen. It is refused, with `OutOfMemory`, only where memory was.
+pub fn carved_by_four<R: Threads + Sync>(
+    rt: &R,
+    alloc: Global,
+    bump: BumpAllocator,
+    layout: Layout,
+) -> Result<BumpAllocator, AllocationError>
+    ensures region { IfOk result (λ again. again.region ≡ bump.region) }
+    ensures carved { IfOk result (λ again. IsCarved bump.region bump.used 4 layout again.used) }
+{
+    let Ok((shared, parties)) = bump.share(alloc, 4) else {
+        return Err(AllocationError::OutOfMemory);
+    };
+    let Ok(back) = thread::map_vec(rt, parties, &|party| carve(&shared, party, layout)) else {
+        return Err(AllocationError::OutOfMemory);
+    };
+    Ok(shared.into_owner_all(back))
+}

@@ -1,0 +1,63 @@
+//! Threads that take buckets of one pool, and what is known once all of them are back.
+ghost use Rattle.std.specs.Prelude.{◌≡◌, ◌↔◌, ℕ, All, IfOk, List, Some, true, length, slice_get};
+ghost use Rattle.bb_memory_base.specs.PoolMachine.{PoolScene};
+ghost use Rattle.bb_memory_base.specs.PoolLogs.{IsHeldAfter};
+ghost use Rattle.bb_memory.specs.SharedPool.{HaveAllNumbers, HaveMet, IsHeldByOne, PoolParty};
+
+use bb_memory::allocator::AllocationError;
+use bb_memory::layout::Layout;
+use bb_memory::pool_allocator::pool_count_law;
+use bb_memory::shared_pool::{PoolParty, SharedPoolAllocator};
+use std::alloc::Global;
+use std::thread;
+use std::thread::Threads;
+
+/// Takes a bucket near the one that the party had last, where one is free, and hands the party back. The token ends here, so the
+/// bucket stays the party's, with those that it had.
+pub fn take_one(pool: &SharedPoolAllocator, party: PoolParty, layout: Layout) -> PoolParty
+    requires { party.allocator ≡ pool.now }
+    ensures party { result.allocator ≡ pool.entry.now }
+    ensures number { result.number ≡ party.number }
+    ensures keeps { (bucket : ℕ) → IsHeldAfter party.log bucket → IsHeldAfter result.log bucket }
+{
+    let mut party = party;
+    let _ = pool.allocate_near(&mut party, layout);
+    party
+}
+
+/// Four workers take a bucket each, all at once, and meet when they are back: one list of steps has all their logs and nothing
+/// else, and a flag is taken exactly where one of them holds the bucket. It is refused, with `OutOfMemory`, only where memory was.
+#[tactic(auto, unfolding(bb_memory_base::specs::LeastPlace::least_place))]
+pub fn four_workers<R: Threads + Sync>(
+    rt: &R,
+    alloc: Global,
+    layout: Layout,
+) -> Result<(SharedPoolAllocator, Vec<PoolParty>), AllocationError>
+    ensures four { IfOk result (λ made. made.0.scene.parties ≡ 4) }
+    ensures all { IfOk result (λ made. length made.1.items ≡ made.0.scene.parties) }
+    ensures theirs { IfOk result (λ made. All (λ party. party.allocator ≡ made.0) made.1.items) }
+    ensures met { IfOk result (λ made. HaveMet made.0.scene made.1.items) }
+{
+    pool_count_law();
+    let bucket = Layout::from_size_align(128, 8).unwrap();
+    let (pool, parties) = SharedPoolAllocator::new(alloc, bucket, 4096, 1024, 4)?;
+    let back = thread::map_vec(rt, parties, &|party| take_one(&pool, party, layout));
+    let Ok(mut back) = back else {
+        return Err(AllocationError::OutOfMemory);
+    };
+    pool.meet_all(&mut back);
+    Ok((pool, back))
+}
+
+/// What is known where all parties of a pool have met. It does nothing: its contract is the law.
+pub fn all_met_law()
+    // Each number below theirs is that of one of them.
+    ensures numbers { (scene : PoolScene) (parties : List PoolParty)
+        → HaveMet scene parties → length parties ≡ scene.parties
+        → HaveAllNumbers scene.parties parties }
+
+    // A flag is taken exactly where one of them holds the bucket.
+    ensures taken { (scene : PoolScene) (parties : List PoolParty) (met : HaveMet scene parties)
+        → length parties ≡ scene.parties
+        → (bucket : ℕ) → (slice_get met.0 bucket ≡ Some true) ↔ IsHeldByOne parties bucket }
+{}
