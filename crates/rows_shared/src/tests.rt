@@ -1,6 +1,8 @@
 //! Rows of the forms that threads share.
+mod pool_rows;
 mod refused_in_turn;
 mod rounds;
+mod shared_buckets;
 mod shared_bumps;
 mod shared_pools;
 mod threads;
