@@ -1,5 +1,7 @@
 //! Rows of the forms that threads share.
+mod bump_rows;
 mod pool_rows;
+mod pool_worlds;
 mod refused_in_turn;
 mod rounds;
 mod shared_buckets;

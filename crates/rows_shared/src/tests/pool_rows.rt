@@ -30,8 +30,8 @@ pub(super) enum Call {
     Keep(Request, Asked),
     /// The return of the bucket whose token is kept.
     GiveBack,
-    /// The token that is kept is dropped for another, by the bucket's number and with a chunk of no bytes.
-    FindAgain,
+    /// The token that is kept is dropped for another, by the bucket's number and with a chunk of so many bytes.
+    FindAgain(usize),
     /// A resize by the token that is kept, from one layout to another.
     Grow(Asked, Asked),
     Shrink(Asked, Asked),
@@ -47,14 +47,10 @@ pub(super) enum Call {
 /// What a call is answered.
 #[derive(Debug, Clone, Copy, PartialEq, Eq)]
 pub(super) enum Answer {
-    /// The bucket of a number, and a chunk of so many bytes at a place.
-    Bucket {
-        number: u32,
-        place: usize,
-        len: usize,
-    },
-    /// A chunk of so many bytes at a place.
-    Chunk { place: usize, len: usize },
+    /// The bucket of a number, and in it a chunk at a place, of so many bytes.
+    Bucket(u32, usize, usize),
+    /// A chunk at a place, of so many bytes.
+    Chunk(usize, usize),
     Refused(AllocationError),
     GrowRefused(AllocationGrowError),
     ShrinkRefused(AllocationShrinkError),
@@ -75,18 +71,11 @@ fn layout_of((size, align): Asked) -> Option<Layout> {
 
 fn bucket_of(bucket: &Bucket<'_>) -> Answer {
     let chunk = bucket.chunk();
-    Answer::Bucket {
-        number: bucket.number(),
-        place: chunk.place(),
-        len: chunk.len(),
-    }
+    Answer::Bucket(bucket.number(), chunk.place(), chunk.len())
 }
 
 fn chunk_of(chunk: Chunk) -> Answer {
-    Answer::Chunk {
-        place: chunk.place(),
-        len: chunk.len(),
-    }
+    Answer::Chunk(chunk.place(), chunk.len())
 }
 
 fn take<'a, P: SharedBuckets>(
@@ -136,13 +125,15 @@ fn give_back<'a, P: SharedBuckets>(pool: &'a P, user: &mut User<'a>) -> Answer
     }
 }
 
-fn find_again<'a, P: SharedBuckets>(pool: &'a P, user: &mut User<'a>) -> Answer
+fn find_again<'a, P: SharedBuckets>(pool: &'a P, user: &mut User<'a>, len: usize) -> Answer
     requires { IsUser (P.shown pool.now) user.old.party user.old.kept }
     ensures { IsUser (P.shown pool.now) user.new.party user.new.kept }
 {
-    match user.kept.take() {
-        Some(bucket) => {
-            let again = pool.again(&user.party, bucket);
+    let Some(bucket) = user.kept.take() else {
+        return Answer::WrongRow;
+    };
+    match pool.again(&user.party, bucket, len) {
+        Some(again) => {
             let answer = bucket_of(&again);
             user.kept = Some(again);
             answer
@@ -213,7 +204,7 @@ fn answered<'a, P: SharedBuckets>(pool: &'a P, user: &mut User<'a>, call: Call) 
             None => Answer::WrongRow,
         },
         Call::GiveBack => give_back(pool, user),
-        Call::FindAgain => find_again(pool, user),
+        Call::FindAgain(len) => find_again(pool, user, len),
         Call::Grow(old, new) => match (layout_of(old), layout_of(new)) {
             (Some(old), Some(new)) => grow(pool, user, old, new),
             _ => Answer::WrongRow,
@@ -276,4 +267,86 @@ pub(super) fn hold<'a, P: SharedBuckets>(
         let found = answer_of(pool, users, *index, *call);
         assert_eq!(rt; found, *expected, "{call:?} of {index}");
     }
+}
+
+/// The last of these users meets another one.
+pub(super) fn last_meets<'a, P: SharedBuckets>(
+    pool: &'a P,
+    users: &mut Vec<User<'a>>,
+    index: usize,
+) -> bool
+    requires { All (λ user. IsUser (P.shown pool.now) user.party user.kept) users.old.items }
+    ensures { All (λ user. IsUser (P.shown pool.now) user.party user.kept) users.new.items }
+{
+    let Some(mut last) = users.pop() else {
+        return false;
+    };
+    let Some(other) = users.get_mut(index) else {
+        return false;
+    };
+    pool.meet(&mut other.party, &mut last.party);
+    users.push(last).is_ok()
+}
+
+/// So many of these users, from the last one on, let their tokens go and leave as parties.
+fn leave<'a, P: SharedBuckets>(
+    pool: &'a P,
+    users: &mut Vec<User<'a>>,
+    parties: &mut Vec<PoolParty>,
+    count: usize,
+) -> Result<(), AllocError>
+    requires users { All (λ user. IsUser (P.shown pool.now) user.party user.kept) users.old.items }
+    requires parties { All (λ party. party.allocator ≡ P.shown pool.now) parties.old.items }
+    ensures users { All (λ user. IsUser (P.shown pool.now) user.party user.kept) users.new.items }
+    ensures parties { All (λ party. party.allocator ≡ P.shown pool.now) parties.new.items }
+{
+    for _ in 0..count {
+        if let Some(user) = users.pop() {
+            parties.push(user.party)?;
+        }
+    }
+    Ok(())
+}
+
+/// So many of these parties, from the last one on, come back as users.
+fn come_back<'a, P: SharedBuckets>(
+    pool: &'a P,
+    users: &mut Vec<User<'a>>,
+    parties: &mut Vec<PoolParty>,
+    count: usize,
+) -> Result<(), AllocError>
+    requires users { All (λ user. IsUser (P.shown pool.now) user.party user.kept) users.old.items }
+    requires parties { All (λ party. party.allocator ≡ P.shown pool.now) parties.old.items }
+    ensures { All (λ user. IsUser (P.shown pool.now) user.party user.kept) users.new.items }
+{
+    for _ in 0..count {
+        if let Some(party) = parties.pop() {
+            users.push(User { party, kept: None })?;
+        }
+    }
+    Ok(())
+}
+
+/// So many of these users meet, from the last one on, and let their tokens go.
+pub(super) fn last_ones_meet<'a, P: SharedBuckets>(
+    alloc: Global,
+    pool: &'a P,
+    users: &mut Vec<User<'a>>,
+    count: usize,
+) -> Result<(), AllocError>
+    requires { All (λ user. IsUser (P.shown pool.now) user.party user.kept) users.old.items }
+    ensures { All (λ user. IsUser (P.shown pool.now) user.party user.kept) users.new.items }
+{
+    let mut parties = Vec::new(alloc);
+    leave(pool, users, &mut parties, count)?;
+    pool.meet_all(&mut parties);
+    come_back(pool, users, &mut parties, count)
+}
+
+/// The parties of these users are numbered from 0.
+pub(super) fn are_numbered(users: &[User<'_>]) -> bool {
+    users
+        .iter()
+        .enumerate()
+        .all(|(index, user)| user.party.number() as usize == index)
 }

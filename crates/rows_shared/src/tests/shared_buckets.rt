@@ -1,5 +1,5 @@
 //! What the two shared pools have in common, as far as the rows need it: a test carries no more of a call than what is told here.
-ghost use Rattle.std.specs.Prelude.{◌≡◌, ℕ, IfOk, ◌<◌};
+ghost use Rattle.std.specs.Prelude.{◌≡◌, ℕ, All, IfOk, IfSome};
 ghost use Rattle.bb_memory_base.specs.PoolLogs.{IsHeldAfter};
 ghost use Rattle.rows_shared.specs.Users.{IsKeptBy};
 
@@ -25,6 +25,8 @@ pub(super) enum Request {
 /// A pool's figures.
 #[derive(Debug, Clone, Copy, PartialEq, Eq)]
 pub(super) struct Figures {
+    /// Where the first bucket is, which a pool of at most a constant of buckets doesn't tell.
+    pub(super) start: Option<usize>,
     pub(super) buckets: u32,
     pub(super) bucket_size: usize,
     pub(super) max_alignment: usize,
@@ -60,11 +62,11 @@ pub(super) trait SharedBuckets {
         requires kept { IsKeptBy (shown self.now) party.old bucket }
         ensures { party.new.allocator ≡ shown self.now };
 
-    /// The same bucket, by its number, with a chunk of no bytes.
-    fn again(&self, party: &PoolParty, bucket: Bucket<'_>) -> Bucket<'_>
+    /// The same bucket by its number, with a chunk of so many bytes, where a bucket has as many.
+    fn again(&self, party: &PoolParty, bucket: Bucket<'_>, len: usize) -> Option<Bucket<'_>>
         requires party { party.now.allocator ≡ shown self.now }
         requires kept { IsKeptBy (shown self.now) party.now bucket }
-        ensures { IsKeptBy (shown self.now) party.now result };
+        ensures { IfSome result (IsKeptBy (shown self.now) party.now) };
 
     /// A resize, where the chunk's place is a multiple of the old alignment.
     fn grow(
@@ -87,6 +89,15 @@ pub(super) trait SharedBuckets {
         requires { bucket.old.allocator ≡ shown self.now }
         ensures allocator { bucket.new.allocator ≡ shown self.now }
         ensures number { bucket.new.number ≡ bucket.old.number };
+
+    fn meet(&self, a: &mut PoolParty, b: &mut PoolParty)
+        requires a { a.old.allocator ≡ shown self.now }
+        requires b { b.old.allocator ≡ shown self.now }
+        ensures { (a.new ≡ a.old) × (b.new ≡ b.old) };
+
+    fn meet_all(&self, parties: &mut Vec<PoolParty>)
+        requires { All (λ party. party.allocator ≡ shown self.now) parties.old.items }
+        ensures { All (λ party. party.allocator ≡ shown self.now) parties.new.items };
 }
 
 impl SharedBuckets for SharedPoolAllocator {
@@ -94,6 +105,7 @@ impl SharedBuckets for SharedPoolAllocator {
 
     fn figures(&self) -> Figures {
         Figures {
+            start: Some(self.start_address()),
             buckets: self.number_of_buckets(),
             bucket_size: self.bucket_size(),
             max_alignment: self.max_alignment(),
@@ -123,8 +135,11 @@ impl SharedBuckets for SharedPoolAllocator {
         self.deallocate_bucket(party, bucket);
     }
 
-    fn again(&self, party: &PoolParty, bucket: Bucket<'_>) -> Bucket<'_> {
-        self.bucket(party, bucket.number(), 0)
+    fn again(&self, party: &PoolParty, bucket: Bucket<'_>, len: usize) -> Option<Bucket<'_>> {
+        if len > self.bucket_size() {
+            return None;
+        }
+        Some(self.bucket(party, bucket.number(), len))
     }
 
     fn grow(
@@ -150,13 +165,22 @@ impl SharedBuckets for SharedPoolAllocator {
         }
         Some(SharedPoolAllocator::shrink(self, bucket, old, new))
     }
+
+    fn meet(&self, a: &mut PoolParty, b: &mut PoolParty) {
+        SharedPoolAllocator::meet(self, a, b);
+    }
+
+    fn meet_all(&self, parties: &mut Vec<PoolParty>) {
+        SharedPoolAllocator::meet_all(self, parties);
+    }
 }
 
-impl SharedBuckets for SharedFixedSizePoolAllocator<4> {
+impl<const MOST: usize> SharedBuckets for SharedFixedSizePoolAllocator<MOST> {
     ghost shown = { λ pool. pool };
 
     fn figures(&self) -> Figures {
         Figures {
+            start: None,
             buckets: self.number_of_buckets(),
             bucket_size: self.bucket_size(),
             max_alignment: self.max_alignment(),
@@ -165,7 +189,7 @@ impl SharedBuckets for SharedFixedSizePoolAllocator<4> {
     }
 
     fn number_at(&self, place: usize) -> Option<u32> {
-        SharedFixedSizePoolAllocator::<4>::number_at(self, place)
+        SharedFixedSizePoolAllocator::<MOST>::number_at(self, place)
     }
 
     fn ask(
@@ -186,8 +210,11 @@ impl SharedBuckets for SharedFixedSizePoolAllocator<4> {
         self.deallocate_bucket(party, bucket);
     }
 
-    fn again(&self, party: &PoolParty, bucket: Bucket<'_>) -> Bucket<'_> {
-        self.bucket(party, bucket.number(), 0)
+    fn again(&self, party: &PoolParty, bucket: Bucket<'_>, len: usize) -> Option<Bucket<'_>> {
+        if len > self.bucket_size() {
+            return None;
+        }
+        Some(self.bucket(party, bucket.number(), len))
     }
 
     fn grow(
@@ -199,7 +226,7 @@ impl SharedBuckets for SharedFixedSizePoolAllocator<4> {
         if bucket.chunk().place() % old.align() != 0 {
             return None;
         }
-        Some(SharedFixedSizePoolAllocator::<4>::grow(self, bucket, old, new))
+        Some(SharedFixedSizePoolAllocator::<MOST>::grow(self, bucket, old, new))
     }
 
     fn shrink(
@@ -211,6 +238,14 @@ impl SharedBuckets for SharedFixedSizePoolAllocator<4> {
         if bucket.chunk().place() % old.align() != 0 || self.bucket_size() < old.size() {
             return None;
         }
-        Some(SharedFixedSizePoolAllocator::<4>::shrink(self, bucket, old, new))
+        Some(SharedFixedSizePoolAllocator::<MOST>::shrink(self, bucket, old, new))
+    }
+
+    fn meet(&self, a: &mut PoolParty, b: &mut PoolParty) {
+        SharedFixedSizePoolAllocator::<MOST>::meet(self, a, b);
+    }
+
+    fn meet_all(&self, parties: &mut Vec<PoolParty>) {
+        SharedFixedSizePoolAllocator::<MOST>::meet_all(self, parties);
     }
 }

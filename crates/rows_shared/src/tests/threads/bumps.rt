@@ -2,6 +2,7 @@
 ghost use Rattle.std.specs.Prelude.{◌≡◌, ◌<◌, All, IfOk, IfSome, length};
 ghost use Rattle.std.specs.Arc.{arc_value};
 
+use crate::tests::bump_rows::{owner_by_all, share_of};
 use bb_memory::allocator::AllocationError;
 use bb_memory::bump_allocator::BumpAllocator;
 use bb_memory::layout::{Chunk, Layout};
@@ -309,5 +310,69 @@ fn threads_really_at_once(rt: HostRuntime) -> Result<(), Fail> {
     let (mut other, other_saw_both) = other.join(&rt);
     assert!(rt; one_saw_both && other_saw_both);
     shared.meet(&mut one, &mut other);
+    Ok(())
+}
+
+/// The parties of these threads, in their order.
+fn parties_of(
+    alloc: Global,
+    shared: &SharedBumpAllocator,
+    all: Vec<Taken>,
+) -> Result<Vec<BumpParty>, AllocError>
+    requires { All (λ taken. taken.party.allocator ≡ shared.now) all.items }
+    ensures { IfOk result (λ parties. All (λ party. party.allocator ≡ shared.now) parties.items) }
+{
+    let mut parties = Vec::new(alloc);
+    for taken in all {
+        parties.push(taken.party)?;
+    }
+    Ok(parties)
+}
+
+/// So many threads take from a bump of 4096 bytes, and then all parties hand it back: how many bytes are used then, and at how many
+/// the greatest chunk ends.
+fn owner_of_all(
+    rt: &impl Threads,
+    alloc: Global,
+    parties: u32,
+    layouts: &[Layout],
+    times: u32,
+) -> Result<(usize, usize), Fail>
+    requires { 0 < length layouts.now }
+{
+    let Some((shared, all)) = share_of(alloc, 4096, 0, parties) else {
+        return Err(Fail::from("share"));
+    };
+    let shared = Arc::new(alloc, shared)?;
+    let all = take_in_threads(rt, alloc, &shared, all, layouts, times)?;
+    let greatest = match ends_of(alloc, &all)?.last() {
+        Some((_, end)) => end.saturating_sub(4096),
+        None => 0,
+    };
+    let all = parties_of(alloc, &shared, all)?;
+    let Ok(shared) = Arc::try_unwrap(shared) else {
+        return Err(Fail::from("a thread that was joined has the bump"));
+    };
+    match owner_by_all(shared, all, parties) {
+        Some((4096, 4096, used)) => Ok((used, greatest)),
+        _ => Err(Fail::from("another bump came back")),
+    }
+}
+
+/// What all parties hand back is used up to the end of the greatest chunk, whichever threads took it.
+#[test]
+fn threads_bump_owner_of_all(rt: HostRuntime) -> Result<(), Fail> {
+    let ten = [Layout::from_size_align(10, 1)?];
+    for (parties, times, used) in [(4, 100, 4000), (4, 0, 0), (1, 100, 1000), (1, 0, 0)] {
+        let found = owner_of_all(&rt, rt.alloc(), parties, &ten, times)?;
+        assert_eq!(rt; found, (used, used), "{parties} parties, {times} times");
+    }
+    let mixed = [
+        Layout::from_size_align(24, 16)?,
+        Layout::from_size_align(5, 1)?,
+    ];
+    let (used, greatest) = owner_of_all(&rt, rt.alloc(), 4, &mixed, 1000)?;
+    assert_eq!(rt; used, greatest);
+    assert!(rt; greatest > 4000);
     Ok(())
 }
