@@ -24,17 +24,6 @@ impl Promise<(PoolParty, u64)> for ComesBack {
     ghost kept_by = { λ promise answer. answer.0.allocator ≡ promise.0.value };
 }
 
-/// Takes out the last of the parties.
-fn last_party(pool: &SharedPoolAllocator, parties: &mut Vec<PoolParty>) -> Result<PoolParty, Fail>
-    requires { All (λ party. party.allocator ≡ pool.now) parties.old.items }
-    ensures { IfOk result (λ party. party.allocator ≡ pool.now) }
-{
-    match parties.pop() {
-        Some(party) => Ok(party),
-        None => Err(Fail::from("too few parties")),
-    }
-}
-
 /// Takes buckets until a request is refused because none is free, and answers how many.
 fn take_all(rt: &impl Abort, pool: &SharedPoolAllocator, mut party: PoolParty, asked: Layout) -> u32
     requires { party.allocator ≡ pool.now }
@@ -193,14 +182,27 @@ fn work_in_threads(
     Ok((back, counts))
 }
 
-/// Each of so many threads works on a pool over so many bytes. They count as `counts` says, and then meet, and so many buckets are
-/// left.
+/// These parties meet, and then so many buckets are left for one of them.
+fn are_left(
+    rt: &impl Abort,
+    pool: &SharedPoolAllocator,
+    mut parties: Vec<PoolParty>,
+    asked: Layout,
+    left: u32,
+)
+    requires { All (λ party. party.allocator ≡ pool.now) parties.items }
+{
+    SharedBuckets::meet_all(pool, &mut parties);
+    let taken = parties.pop().map(|party| take_all(rt, pool, party, asked));
+    assert_eq!(rt; taken, Some(left));
+}
+
+/// Each of so many threads works on a pool over so many bytes. They count as `counts` says, and so many buckets are left.
 fn threads_count<R: Threads + Abort>(
     rt: &R,
     alloc: Global,
     size: usize,
-    work: Work,
-    request: Request,
+    (work, request): (Work, Request),
     counts: &[u64],
     left: u32,
 ) -> Result<(), Fail> {
@@ -212,11 +214,9 @@ fn threads_count<R: Threads + Abort>(
         request,
         asked,
     };
-    let (mut parties, found) = work_in_threads(rt, alloc, &pool, parties, job)?;
-    assert_eq!(rt; found.as_slice(), counts);
-    SharedBuckets::meet_all(&*pool, &mut parties);
-    let one = last_party(&pool, &mut parties)?;
-    assert_eq!(rt; take_all(rt, &pool, one, asked), left);
+    let (parties, found) = work_in_threads(rt, alloc, &pool, parties, job)?;
+    assert!(rt; found.as_slice() == counts);
+    are_left(rt, &pool, parties, asked, left);
     Ok(())
 }
 
@@ -227,8 +227,7 @@ fn threads_pool_take_and_return(rt: HostRuntime) -> Result<(), Fail> {
         &rt,
         rt.alloc(),
         1024,
-        Work::TakeAndReturn,
-        Request::Pass,
+        (Work::TakeAndReturn, Request::Pass),
         &none,
         8,
     )
@@ -240,8 +239,7 @@ fn threads_pool_dropped_tokens(rt: HostRuntime) -> Result<(), Fail> {
         &rt,
         rt.alloc(),
         1024,
-        Work::TakeAndDrop,
-        Request::Pass,
+        (Work::TakeAndDrop, Request::Pass),
         &[1, 1],
         6,
     )
@@ -255,8 +253,7 @@ fn threads_pool_near(rt: HostRuntime) -> Result<(), Fail> {
         &rt,
         rt.alloc(),
         1024,
-        Work::TakeAndReturn,
-        Request::Near,
+        (Work::TakeAndReturn, Request::Near),
         &none,
         8,
     )
@@ -270,8 +267,7 @@ fn threads_pool_near_few_buckets(rt: HostRuntime) -> Result<(), Fail> {
         &rt,
         rt.alloc(),
         384,
-        Work::TakeAndReturn,
-        Request::Near,
+        (Work::TakeAndReturn, Request::Near),
         &none,
         3,
     )
@@ -283,8 +279,7 @@ fn threads_pool_near_dropped_tokens(rt: HostRuntime) -> Result<(), Fail> {
         &rt,
         rt.alloc(),
         1024,
-        Work::TakeAndDrop,
-        Request::Near,
+        (Work::TakeAndDrop, Request::Near),
         &[1, 1, 1],
         5,
     )
