@@ -35,6 +35,9 @@ pub(super) enum Answer {
     WrongRow,
 }
 
+/// Want of room.
+pub(super) const NO_ROOM: Answer = Answer::Refused(AllocationError::OutOfMemory);
+
 /// The index of a party among those of the test, its call, and the answer that it has to have.
 pub(super) type Row = (usize, Call, Answer);
 

@@ -62,7 +62,13 @@ pub(super) enum Answer {
     WrongRow,
 }
 
-/// The number of a party among those of the test, its call, and the answer that it has to have.
+/// What the tests mostly ask for: 48 bytes, at a multiple of 4.
+pub(super) const ASKED: Asked = (48, 4);
+
+/// Want of a free bucket.
+pub(super) const NONE_FREE: Answer = Answer::Refused(AllocationError::OutOfMemory);
+
+/// The index of a party among those of the test, its call, and the answer that it has to have.
 pub(super) type Row = (usize, Call, Answer);
 
 fn layout_of((size, align): Asked) -> Option<Layout> {

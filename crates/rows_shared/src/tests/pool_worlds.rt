@@ -1,4 +1,5 @@
 //! Steps on single flags in a pool machine's world.
+use bb_memory::steps::PoolOutcome::{Gives, Loses, Misses, Passed, RefusedAtLoss, Takes};
 use bb_memory::steps::{PoolOutcome, PoolStep, PoolWorld};
 use std::alloc::Global;
 use std::process::Abort;
@@ -6,6 +7,14 @@ use std::test::Fail;
 
 /// A step, what it finds, and who holds buckets 0 and 1 then.
 type Row = (PoolStep, PoolOutcome, [Option<u32>; 2]);
+
+fn try_at(party: u32, bucket: u32) -> PoolStep {
+    PoolStep::TryAt { party, bucket }
+}
+
+fn give_back(party: u32, bucket: u32) -> PoolStep {
+    PoolStep::GiveBack { party, bucket }
+}
 
 /// A world of two buckets and two parties takes each step as its row says.
 fn steps_find(rt: &impl Abort, alloc: Global, rows: &[Row]) -> Result<(), &'static str> {
@@ -23,54 +32,12 @@ fn steps_find(rt: &impl Abort, alloc: Global, rows: &[Row]) -> Result<(), &'stat
 #[test]
 fn pool_world_at_a_bucket(rt: HostRuntime) -> Result<(), Fail> {
     let rows = [
-        (
-            PoolStep::TryAt {
-                party: 0,
-                bucket: 1,
-            },
-            PoolOutcome::Takes(1),
-            [None, Some(0)],
-        ),
-        (
-            PoolStep::TryAt {
-                party: 0,
-                bucket: 1,
-            },
-            PoolOutcome::Misses(1),
-            [None, Some(0)],
-        ),
-        (
-            PoolStep::TryAt {
-                party: 1,
-                bucket: 1,
-            },
-            PoolOutcome::Misses(1),
-            [None, Some(0)],
-        ),
-        (
-            PoolStep::TryAt {
-                party: 1,
-                bucket: 0,
-            },
-            PoolOutcome::Takes(0),
-            [Some(1), Some(0)],
-        ),
-        (
-            PoolStep::GiveBack {
-                party: 0,
-                bucket: 1,
-            },
-            PoolOutcome::Gives(1),
-            [Some(1), None],
-        ),
-        (
-            PoolStep::TryAt {
-                party: 1,
-                bucket: 1,
-            },
-            PoolOutcome::Takes(1),
-            [Some(1), Some(1)],
-        ),
+        (try_at(0, 1), Takes(1), [None, Some(0)]),
+        (try_at(0, 1), Misses(1), [None, Some(0)]),
+        (try_at(1, 1), Misses(1), [None, Some(0)]),
+        (try_at(1, 0), Takes(0), [Some(1), Some(0)]),
+        (give_back(0, 1), Gives(1), [Some(1), None]),
+        (try_at(1, 1), Takes(1), [Some(1), Some(1)]),
     ];
     Ok(steps_find(&rt, rt.alloc(), &rows)?)
 }
@@ -79,27 +46,9 @@ fn pool_world_at_a_bucket(rt: HostRuntime) -> Result<(), Fail> {
 #[test]
 fn pool_world_pass_behind_a_miss(rt: HostRuntime) -> Result<(), Fail> {
     let rows = [
-        (
-            PoolStep::TryAt {
-                party: 0,
-                bucket: 1,
-            },
-            PoolOutcome::Takes(1),
-            [None, Some(0)],
-        ),
-        (
-            PoolStep::TryAt {
-                party: 1,
-                bucket: 1,
-            },
-            PoolOutcome::Misses(1),
-            [None, Some(0)],
-        ),
-        (
-            PoolStep::Try { party: 1 },
-            PoolOutcome::Takes(0),
-            [Some(1), Some(0)],
-        ),
+        (try_at(0, 1), Takes(1), [None, Some(0)]),
+        (try_at(1, 1), Misses(1), [None, Some(0)]),
+        (PoolStep::Try { party: 1 }, Takes(0), [Some(1), Some(0)]),
     ];
     Ok(steps_find(&rt, rt.alloc(), &rows)?)
 }
@@ -108,53 +57,17 @@ fn pool_world_pass_behind_a_miss(rt: HostRuntime) -> Result<(), Fail> {
 #[test]
 fn pool_world_at_a_bucket_in_a_pass(rt: HostRuntime) -> Result<(), Fail> {
     let rows = [
-        (
-            PoolStep::Try { party: 0 },
-            PoolOutcome::Takes(0),
-            [Some(0), None],
-        ),
-        (
-            PoolStep::Try { party: 1 },
-            PoolOutcome::Loses(0),
-            [Some(0), None],
-        ),
-        (
-            PoolStep::TryAt {
-                party: 1,
-                bucket: 1,
-            },
-            PoolOutcome::Passed,
-            [Some(0), None],
-        ),
-        (
-            PoolStep::TryAt {
-                party: 1,
-                bucket: 0,
-            },
-            PoolOutcome::Passed,
-            [Some(0), None],
-        ),
-        (
-            PoolStep::TryAt {
-                party: 0,
-                bucket: 1,
-            },
-            PoolOutcome::Takes(1),
-            [Some(0), Some(0)],
-        ),
+        (PoolStep::Try { party: 0 }, Takes(0), [Some(0), None]),
+        (PoolStep::Try { party: 1 }, Loses(0), [Some(0), None]),
+        (try_at(1, 1), Passed, [Some(0), None]),
+        (try_at(1, 0), Passed, [Some(0), None]),
+        (try_at(0, 1), Takes(1), [Some(0), Some(0)]),
         (
             PoolStep::Try { party: 1 },
-            PoolOutcome::RefusedAtLoss(1),
+            RefusedAtLoss(1),
             [Some(0), Some(0)],
         ),
-        (
-            PoolStep::TryAt {
-                party: 1,
-                bucket: 0,
-            },
-            PoolOutcome::Misses(0),
-            [Some(0), Some(0)],
-        ),
+        (try_at(1, 0), Misses(0), [Some(0), Some(0)]),
     ];
     Ok(steps_find(&rt, rt.alloc(), &rows)?)
 }
@@ -164,54 +77,12 @@ fn pool_world_at_a_bucket_in_a_pass(rt: HostRuntime) -> Result<(), Fail> {
 fn pool_world_at_no_bucket(rt: HostRuntime) -> Result<(), Fail> {
     let most = u32::MAX;
     let rows = [
-        (
-            PoolStep::TryAt {
-                party: 0,
-                bucket: 2,
-            },
-            PoolOutcome::Passed,
-            [None, None],
-        ),
-        (
-            PoolStep::TryAt {
-                party: 0,
-                bucket: most,
-            },
-            PoolOutcome::Passed,
-            [None, None],
-        ),
-        (
-            PoolStep::TryAt {
-                party: 2,
-                bucket: 0,
-            },
-            PoolOutcome::Passed,
-            [None, None],
-        ),
-        (
-            PoolStep::TryAt {
-                party: most,
-                bucket: 1,
-            },
-            PoolOutcome::Passed,
-            [None, None],
-        ),
-        (
-            PoolStep::TryAt {
-                party: 1,
-                bucket: 1,
-            },
-            PoolOutcome::Takes(1),
-            [None, Some(1)],
-        ),
-        (
-            PoolStep::TryAt {
-                party: 2,
-                bucket: 1,
-            },
-            PoolOutcome::Passed,
-            [None, Some(1)],
-        ),
+        (try_at(0, 2), Passed, [None, None]),
+        (try_at(0, most), Passed, [None, None]),
+        (try_at(2, 0), Passed, [None, None]),
+        (try_at(most, 1), Passed, [None, None]),
+        (try_at(1, 1), Takes(1), [None, Some(1)]),
+        (try_at(2, 1), Passed, [None, Some(1)]),
     ];
     Ok(steps_find(&rt, rt.alloc(), &rows)?)
 }

@@ -2,8 +2,8 @@
 ghost use Rattle.std.specs.Prelude.{◌≡◌, All};
 
 use crate::tests::bump_rows::{
-    Answer, Call, Row, are_numbered, figures_of, hold, last_meets, last_ones_meet, owner_by_last,
-    share_of,
+    Answer, Call, NO_ROOM, Row, are_numbered, figures_of, hold, last_meets, last_ones_meet,
+    owner_by_last, share_of,
 };
 use bb_memory::bump_allocator::{AllocationError, BaseAllocator, BumpAllocator};
 use bb_memory::layout::Layout;
@@ -18,11 +18,7 @@ const TWO_PARTIES: [Row; 6] = [
     (1, Call::Number, Answer::Number(1)),
     (0, Call::Take(40, 1), Answer::Chunk(4096, 40)),
     (1, Call::UsedSpace, Answer::Bytes(40)),
-    (
-        1,
-        Call::Take(40, 1),
-        Answer::Refused(AllocationError::OutOfMemory),
-    ),
+    (1, Call::Take(40, 1), NO_ROOM),
     (
         1,
         Call::Take(0, 1),
@@ -169,11 +165,7 @@ const AFTER_THE_MEETING: [Row; 10] = [
     (2, Call::FreeSpace, Answer::Bytes(37)),
     (0, Call::Take(5, 1), Answer::Chunk(4123, 5)),
     (1, Call::Take(4, 4), Answer::Chunk(4128, 4)),
-    (
-        2,
-        Call::Take(40, 1),
-        Answer::Refused(AllocationError::OutOfMemory),
-    ),
+    (2, Call::Take(40, 1), NO_ROOM),
     (2, Call::Take(28, 1), Answer::Chunk(4132, 28)),
 ];
 

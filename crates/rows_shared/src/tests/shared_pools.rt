@@ -1,10 +1,13 @@
 //! The pools that threads share, each row by its name.
 ghost use Rattle.std.specs.Prelude.{◌≡◌, ◌-◌, ◌<◌, ◌^◌, All, IfOk};
 
+use crate::tests::pool_rows::Answer::{Bucket, Chunk, GrowRefused, Nothing};
+use crate::tests::pool_rows::Call::{FindAgain, GiveBack, Grow, Keep, NumberAt, Take, Token};
 use crate::tests::pool_rows::{
-    Answer, Call, Row, are_numbered, hold, last_meets, last_ones_meet, users_of,
+    ASKED, Answer, Call, NONE_FREE, Row, are_numbered, hold, last_meets, last_ones_meet, users_of,
 };
-use crate::tests::shared_buckets::{Figures, Request, SharedBuckets};
+use crate::tests::shared_buckets::Request::{self, At, Pass};
+use crate::tests::shared_buckets::{Figures, SharedBuckets};
 use bb_memory::layout::Layout;
 use bb_memory::pool_allocator::{
     AllocationError, AllocationGrowError, FixedSizePoolAllocator, PoolAllocator,
@@ -100,33 +103,15 @@ pub(super) fn shared_fixed_answers(
     answers(rt, alloc, &pool, parties, rows)
 }
 
-/// What the tests mostly ask for: 48 bytes, at a multiple of 4.
-pub(super) const ASKED: (usize, usize) = (48, 4);
-
-/// Want of a free bucket.
-pub(super) const NONE_FREE: Answer = Answer::Refused(AllocationError::OutOfMemory);
-
 /// The calls of row `shared-pool-dropped-bucket` on a pool of two buckets, with its only party.
 pub(super) const DROPPED_BUCKET: [Row; 7] = [
     (0, Call::Number, Answer::Number(0)),
-    (
-        0,
-        Call::Keep(Request::Pass, ASKED),
-        Answer::Bucket(0, 4096, 48),
-    ),
-    (
-        0,
-        Call::Take(Request::Pass, ASKED),
-        Answer::Bucket(1, 4224, 48),
-    ),
-    (0, Call::Take(Request::Pass, ASKED), NONE_FREE),
-    (0, Call::GiveBack, Answer::Nothing),
-    (
-        0,
-        Call::Take(Request::Pass, ASKED),
-        Answer::Bucket(0, 4096, 48),
-    ),
-    (0, Call::Take(Request::Pass, ASKED), NONE_FREE),
+    (0, Keep(Pass, ASKED), Bucket(0, 4096, 48)),
+    (0, Take(Pass, ASKED), Bucket(1, 4224, 48)),
+    (0, Take(Pass, ASKED), NONE_FREE),
+    (0, GiveBack, Nothing),
+    (0, Take(Pass, ASKED), Bucket(0, 4096, 48)),
+    (0, Take(Pass, ASKED), NONE_FREE),
 ];
 
 #[test]
@@ -146,34 +131,18 @@ const FOUR: Figures = Figures {
 /// The calls of row `shared-fixed-four-buckets` on a pool of four buckets at most, with its first party.
 pub(super) const FOUR_BUCKETS: [Row; 9] = [
     (0, Call::Figures, Answer::Figures(FOUR)),
+    (0, Keep(Pass, ASKED), Bucket(0, 4096, 48)),
+    (0, Take(Pass, ASKED), Bucket(1, 4224, 48)),
+    (0, Take(Pass, ASKED), Bucket(2, 4352, 48)),
+    (0, Take(Pass, ASKED), Bucket(3, 4480, 48)),
+    (0, Take(Pass, ASKED), NONE_FREE),
+    (0, Grow(ASKED, (64, 4)), Chunk(4096, 64)),
     (
         0,
-        Call::Keep(Request::Pass, ASKED),
-        Answer::Bucket(0, 4096, 48),
+        Grow((64, 4), (129, 4)),
+        GrowRefused(AllocationGrowError::OutOfMemory),
     ),
-    (
-        0,
-        Call::Take(Request::Pass, ASKED),
-        Answer::Bucket(1, 4224, 48),
-    ),
-    (
-        0,
-        Call::Take(Request::Pass, ASKED),
-        Answer::Bucket(2, 4352, 48),
-    ),
-    (
-        0,
-        Call::Take(Request::Pass, ASKED),
-        Answer::Bucket(3, 4480, 48),
-    ),
-    (0, Call::Take(Request::Pass, ASKED), NONE_FREE),
-    (0, Call::Grow(ASKED, (64, 4)), Answer::Chunk(4096, 64)),
-    (
-        0,
-        Call::Grow((64, 4), (129, 4)),
-        Answer::GrowRefused(AllocationGrowError::OutOfMemory),
-    ),
-    (0, Call::Token, Answer::Bucket(0, 4096, 64)),
+    (0, Token, Bucket(0, 4096, 64)),
 ];
 
 #[test]
@@ -204,7 +173,7 @@ fn no_bucket<P: SharedBuckets>(
     };
     let rows = [
         (0, Call::Figures, Answer::Figures(none)),
-        (0, Call::Take(Request::Pass, (128, 8)), NONE_FREE),
+        (0, Take(Pass, (128, 8)), NONE_FREE),
     ];
     hold(rt, pool, &mut users, &rows);
     Ok(())
@@ -234,8 +203,8 @@ fn many_parties<P: SharedBuckets>(
     assert!(rt; are_numbered(&users));
     let rows = [(
         count.saturating_sub(1),
-        Call::Take(Request::Pass, (128, 8)),
-        Answer::Bucket(0, 4096, 128),
+        Take(Pass, (128, 8)),
+        Bucket(0, 4096, 128),
     )];
     hold(rt, pool, &mut users, &rows);
     Ok(())
@@ -266,12 +235,8 @@ fn shared_fixed_of_512_buckets(rt: HostRuntime) -> Result<(), Fail> {
     };
     let rows = [
         (0, Call::Figures, Answer::Figures(figures)),
-        (
-            0,
-            Call::Take(Request::At(511), ASKED),
-            Answer::Bucket(511, 69504, 48),
-        ),
-        (0, Call::Take(Request::At(512), ASKED), NONE_FREE),
+        (0, Take(At(511), ASKED), Bucket(511, 69504, 48)),
+        (0, Take(At(512), ASKED), NONE_FREE),
     ];
     Ok(answers(&rt, rt.alloc(), &pool, parties, &rows)?)
 }
@@ -280,18 +245,10 @@ fn shared_fixed_of_512_buckets(rt: HostRuntime) -> Result<(), Fail> {
 #[test]
 fn one_bucket_for_two_parties(rt: HostRuntime) -> Result<(), Fail> {
     let rows = [
-        (
-            0,
-            Call::Keep(Request::Pass, ASKED),
-            Answer::Bucket(0, 4096, 48),
-        ),
-        (1, Call::Take(Request::Pass, ASKED), NONE_FREE),
-        (0, Call::GiveBack, Answer::Nothing),
-        (
-            1,
-            Call::Take(Request::Pass, ASKED),
-            Answer::Bucket(0, 4096, 48),
-        ),
+        (0, Keep(Pass, ASKED), Bucket(0, 4096, 48)),
+        (1, Take(Pass, ASKED), NONE_FREE),
+        (0, GiveBack, Nothing),
+        (1, Take(Pass, ASKED), Bucket(0, 4096, 48)),
     ];
     Ok(shared_answers(&rt, rt.alloc(), (4096, 128), 2, &rows)?)
 }
@@ -300,23 +257,15 @@ fn one_bucket_for_two_parties(rt: HostRuntime) -> Result<(), Fail> {
 #[test]
 fn shared_pool_bucket_by_number(rt: HostRuntime) -> Result<(), Fail> {
     let rows = [
-        (0, Call::NumberAt(4096), Answer::Nothing),
-        (0, Call::NumberAt(4104), Answer::Number(0)),
-        (0, Call::NumberAt(4105), Answer::Nothing),
-        (0, Call::NumberAt(4232), Answer::Number(1)),
-        (0, Call::NumberAt(4360), Answer::Nothing),
-        (
-            0,
-            Call::Keep(Request::Pass, ASKED),
-            Answer::Bucket(0, 4104, 48),
-        ),
-        (0, Call::FindAgain(48), Answer::Bucket(0, 4104, 48)),
-        (0, Call::GiveBack, Answer::Nothing),
-        (
-            0,
-            Call::Take(Request::Pass, ASKED),
-            Answer::Bucket(0, 4104, 48),
-        ),
+        (0, NumberAt(4096), Nothing),
+        (0, NumberAt(4104), Answer::Number(0)),
+        (0, NumberAt(4105), Nothing),
+        (0, NumberAt(4232), Answer::Number(1)),
+        (0, NumberAt(4360), Nothing),
+        (0, Keep(Pass, ASKED), Bucket(0, 4104, 48)),
+        (0, FindAgain(48), Bucket(0, 4104, 48)),
+        (0, GiveBack, Nothing),
+        (0, Take(Pass, ASKED), Bucket(0, 4104, 48)),
     ];
     Ok(shared_answers(&rt, rt.alloc(), (4097, 300), 1, &rows)?)
 }
@@ -325,20 +274,12 @@ fn shared_pool_bucket_by_number(rt: HostRuntime) -> Result<(), Fail> {
 #[test]
 fn shared_fixed_bucket_by_number(rt: HostRuntime) -> Result<(), Fail> {
     let rows = [
-        (0, Call::NumberAt(4352), Answer::Number(2)),
-        (0, Call::NumberAt(4480), Answer::Nothing),
-        (
-            0,
-            Call::Keep(Request::Pass, ASKED),
-            Answer::Bucket(0, 4096, 48),
-        ),
-        (0, Call::FindAgain(48), Answer::Bucket(0, 4096, 48)),
-        (0, Call::GiveBack, Answer::Nothing),
-        (
-            0,
-            Call::Take(Request::Pass, ASKED),
-            Answer::Bucket(0, 4096, 48),
-        ),
+        (0, NumberAt(4352), Answer::Number(2)),
+        (0, NumberAt(4480), Nothing),
+        (0, Keep(Pass, ASKED), Bucket(0, 4096, 48)),
+        (0, FindAgain(48), Bucket(0, 4096, 48)),
+        (0, GiveBack, Nothing),
+        (0, Take(Pass, ASKED), Bucket(0, 4096, 48)),
     ];
     Ok(shared_fixed_answers(&rt, rt.alloc(), (4096, 511), 1, &rows)?)
 }
@@ -365,21 +306,9 @@ fn shared_pool_of_1000_parties(rt: HostRuntime) -> Result<(), Fail> {
 
 /// What three parties take before some of them meet.
 const BEFORE_THE_MEETING: [Row; 3] = [
-    (
-        0,
-        Call::Take(Request::Pass, ASKED),
-        Answer::Bucket(0, 4096, 48),
-    ),
-    (
-        1,
-        Call::Take(Request::Pass, ASKED),
-        Answer::Bucket(1, 4224, 48),
-    ),
-    (
-        2,
-        Call::Take(Request::From(3), ASKED),
-        Answer::Bucket(3, 4480, 48),
-    ),
+    (0, Take(Pass, ASKED), Bucket(0, 4096, 48)),
+    (1, Take(Pass, ASKED), Bucket(1, 4224, 48)),
+    (2, Take(Request::From(3), ASKED), Bucket(3, 4480, 48)),
 ];
 
 /// What they are answered then: what was held is held, and what was free is free.
@@ -387,19 +316,11 @@ const AFTER_THE_MEETING: [Row; 8] = [
     (0, Call::Number, Answer::Number(0)),
     (1, Call::Number, Answer::Number(1)),
     (2, Call::Number, Answer::Number(2)),
-    (0, Call::Take(Request::At(1), ASKED), NONE_FREE),
-    (1, Call::Take(Request::At(3), ASKED), NONE_FREE),
-    (
-        2,
-        Call::Keep(Request::Pass, ASKED),
-        Answer::Bucket(2, 4352, 48),
-    ),
-    (2, Call::GiveBack, Answer::Nothing),
-    (
-        1,
-        Call::Take(Request::From(3), ASKED),
-        Answer::Bucket(2, 4352, 48),
-    ),
+    (0, Take(At(1), ASKED), NONE_FREE),
+    (1, Take(At(3), ASKED), NONE_FREE),
+    (2, Keep(Pass, ASKED), Bucket(2, 4352, 48)),
+    (2, GiveBack, Nothing),
+    (1, Take(Request::From(3), ASKED), Bucket(2, 4352, 48)),
 ];
 
 /// Three parties of a pool of at least four buckets take, so many of them meet, and all take again.

@@ -4,13 +4,16 @@ ghost use Rattle.std.specs.Prelude.{◌≡◌, All};
 
 use super::was_refused;
 use crate::tests::bump_rows::{self, all_meet, owner_by_all};
-use crate::tests::pool_rows::{Answer, Call, Row, hold, last_meets, users_of};
-use crate::tests::rounds::FROM_EACH_BUCKET;
-use crate::tests::shared_buckets::{Figures, Request, SharedBuckets};
-use crate::tests::shared_bumps::two_parties;
-use crate::tests::shared_pools::{
-    ASKED, DROPPED_BUCKET, FOUR_BUCKETS, shared_fixed_over, shared_over,
+use crate::tests::pool_rows::Answer::{Bucket, Chunk, Nothing};
+use crate::tests::pool_rows::Call::{
+    FindAgain, GiveBack, Grow, Keep, NumberAt, Shrink, Take, Token,
 };
+use crate::tests::pool_rows::{ASKED, Answer, Call, Row, hold, last_meets, users_of};
+use crate::tests::rounds::FROM_EACH_BUCKET;
+use crate::tests::shared_buckets::Request::{Near, Pass};
+use crate::tests::shared_buckets::{Figures, SharedBuckets};
+use crate::tests::shared_bumps::two_parties;
+use crate::tests::shared_pools::{DROPPED_BUCKET, FOUR_BUCKETS, shared_fixed_over, shared_over};
 use bb_memory::shared_pool::PoolParty;
 use rows::marks::{none_was_asked, refuse_memory};
 use std::alloc::Global;
@@ -123,12 +126,8 @@ fn a_shared_pool(rt: HostRuntime) {
 #[test]
 fn a_shared_fixed_pool(rt: HostRuntime) {
     let first = [
-        (
-            1,
-            Call::Keep(Request::Pass, (128, 8)),
-            Answer::Bucket(0, 4096, 128),
-        ),
-        (1, Call::GiveBack, Answer::Nothing),
+        (1, Keep(Pass, (128, 8)), Bucket(0, 4096, 128)),
+        (1, GiveBack, Nothing),
     ];
     shared_fixed_answers(&rt, rt.alloc(), 2, &first, &FOUR_BUCKETS);
 }
@@ -137,14 +136,10 @@ fn a_shared_fixed_pool(rt: HostRuntime) {
 #[test]
 fn a_bucket(rt: HostRuntime) {
     let rows = [
-        (
-            0,
-            Call::Keep(Request::Pass, ASKED),
-            Answer::Bucket(0, 4096, 48),
-        ),
-        (0, Call::Grow(ASKED, (128, 8)), Answer::Chunk(4096, 128)),
-        (0, Call::Shrink((128, 8), ASKED), Answer::Chunk(4096, 48)),
-        (0, Call::Token, Answer::Bucket(0, 4096, 48)),
+        (0, Keep(Pass, ASKED), Bucket(0, 4096, 48)),
+        (0, Grow(ASKED, (128, 8)), Chunk(4096, 128)),
+        (0, Shrink((128, 8), ASKED), Chunk(4096, 48)),
+        (0, Token, Bucket(0, 4096, 48)),
     ];
     shared_answers(&rt, rt.alloc(), 256, 1, &rows, &[]);
 }
@@ -153,14 +148,10 @@ fn a_bucket(rt: HostRuntime) {
 #[test]
 fn a_bucket_by_number(rt: HostRuntime) {
     let rows = [
-        (0, Call::NumberAt(4097), Answer::Nothing),
-        (
-            0,
-            Call::Keep(Request::Pass, (128, 8)),
-            Answer::Bucket(0, 4096, 128),
-        ),
-        (0, Call::FindAgain(0), Answer::Bucket(0, 4096, 0)),
-        (0, Call::NumberAt(4096), Answer::Number(0)),
+        (0, NumberAt(4097), Nothing),
+        (0, Keep(Pass, (128, 8)), Bucket(0, 4096, 128)),
+        (0, FindAgain(0), Bucket(0, 4096, 0)),
+        (0, NumberAt(4096), Answer::Number(0)),
     ];
     shared_answers(&rt, rt.alloc(), 256, 1, &rows, &[]);
 }
@@ -169,14 +160,10 @@ fn a_bucket_by_number(rt: HostRuntime) {
 #[test]
 fn a_bucket_of_a_fixed_pool(rt: HostRuntime) {
     let rows = [
-        (
-            0,
-            Call::Keep(Request::Pass, (128, 8)),
-            Answer::Bucket(0, 4096, 128),
-        ),
-        (0, Call::FindAgain(0), Answer::Bucket(0, 4096, 0)),
-        (0, Call::NumberAt(4096), Answer::Number(0)),
-        (0, Call::Shrink((128, 8), ASKED), Answer::Chunk(4096, 48)),
+        (0, Keep(Pass, (128, 8)), Bucket(0, 4096, 128)),
+        (0, FindAgain(0), Bucket(0, 4096, 0)),
+        (0, NumberAt(4096), Answer::Number(0)),
+        (0, Shrink((128, 8), ASKED), Chunk(4096, 48)),
     ];
     shared_fixed_answers(&rt, rt.alloc(), 1, &rows, &[]);
 }
@@ -184,11 +171,7 @@ fn a_bucket_of_a_fixed_pool(rt: HostRuntime) {
 /// Rounds from each bucket on, and one that begins where the party has been last.
 #[test]
 fn rounds_of_shared_pools(rt: HostRuntime) {
-    let near = [(
-        0,
-        Call::Take(Request::Near, ASKED),
-        Answer::Bucket(0, 4096, 48),
-    )];
+    let near = [(0, Take(Near, ASKED), Bucket(0, 4096, 48))];
     shared_answers(&rt, rt.alloc(), 512, 1, &FROM_EACH_BUCKET, &near);
     shared_fixed_answers(&rt, rt.alloc(), 1, &FROM_EACH_BUCKET, &near);
 }

@@ -3,7 +3,7 @@ ghost use Rattle.std.specs.Prelude.{◌≡◌, ◌<◌, All, IfOk, length};
 ghost use Rattle.std.specs.Arc.{arc_value};
 
 use crate::tests::bump_rows::{
-    Answer, Call, Row, all_meet, hold, last_meets, owner_by_all, share_of,
+    Answer, Call, NO_ROOM, Row, all_meet, hold, last_meets, owner_by_all, share_of,
 };
 use bb_memory::allocator::AllocationError;
 use bb_memory::bump_allocator::BumpAllocator;
@@ -186,11 +186,7 @@ const BEHIND_4000_BYTES: [Row; 6] = [
     (1, Call::UsedSpace, Answer::Bytes(4000)),
     (2, Call::UsedSpace, Answer::Bytes(4000)),
     (3, Call::UsedSpace, Answer::Bytes(4000)),
-    (
-        3,
-        Call::Take(97, 1),
-        Answer::Refused(AllocationError::OutOfMemory),
-    ),
+    (3, Call::Take(97, 1), NO_ROOM),
     (3, Call::Take(96, 1), Answer::Chunk(8096, 96)),
 ];
 
@@ -336,8 +332,8 @@ fn threads_really_at_once(rt: HostRuntime) -> Result<(), Fail> {
     Ok(())
 }
 
-/// So many threads take from a bump of 4096 bytes, and then all parties hand it back: how many bytes are used then, and at how many
-/// the greatest chunk ends.
+/// So many threads take from a bump of 4096 bytes, and then all parties hand it back: how many bytes are used then, and at how
+/// many the greatest chunk ends.
 fn owner_of_all(
     rt: &impl Threads,
     alloc: Global,
