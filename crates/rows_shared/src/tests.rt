@@ -1,6 +1,10 @@
 //! Rows of the forms that threads share.
+mod bump_rows;
+mod pool_rows;
+mod pool_worlds;
 mod refused_in_turn;
 mod rounds;
+mod shared_buckets;
 mod shared_bumps;
 mod shared_pools;
 mod threads;

@@ -1,117 +1,192 @@
 //! The bump that threads share, each row by its name.
-ghost use Rattle.std.specs.Prelude.{◌≡◌};
+ghost use Rattle.std.specs.Prelude.{◌≡◌, All};
 
-use bb_memory::allocator::AllocationError;
-use bb_memory::bump_allocator::{BaseAllocator, BumpAllocator};
-use bb_memory::layout::{Chunk, Layout};
+use crate::tests::bump_rows::{
+    Answer, Call, NO_ROOM, Row, are_numbered, figures_of, hold, last_meets, last_ones_meet,
+    owner_by_last, share_of,
+};
+use bb_memory::bump_allocator::{AllocationError, BaseAllocator, BumpAllocator};
+use bb_memory::layout::Layout;
 use bb_memory::shared_bump::{BumpParty, SharedBumpAllocator};
+use std::alloc::Global;
 use std::process::Abort;
 use std::test::Fail;
 
 /// The calls of row `share-two-parties` on a bump of 64 bytes at 4096, with its two parties.
-pub(super) fn two_parties(
+const TWO_PARTIES: [Row; 6] = [
+    (0, Call::Number, Answer::Number(0)),
+    (1, Call::Number, Answer::Number(1)),
+    (0, Call::Take(40, 1), Answer::Chunk(4096, 40)),
+    (1, Call::UsedSpace, Answer::Bytes(40)),
+    (1, Call::Take(40, 1), NO_ROOM),
+    (
+        1,
+        Call::Take(0, 1),
+        Answer::Refused(AllocationError::SizeIsZero),
+    ),
+];
+
+/// These rows hold, and then the last party hands back a bump that has used so much.
+fn answers(
     rt: &impl Abort,
     shared: SharedBumpAllocator,
-    mut first: BumpParty,
-    mut second: BumpParty,
-) -> Result<(), Fail>
-    requires first { first.allocator ≡ shared }
-    requires second { second.allocator ≡ shared }
+    mut parties: Vec<BumpParty>,
+    rows: &[Row],
+    used: usize,
+)
+    requires { All (λ party. party.allocator ≡ shared) parties.items }
 {
-    assert_eq!(rt; (first.number(), second.number()), (0, 1));
-    let forty = Layout::from_size_align(40, 1)?;
-    let given = shared.allocate(&mut first, forty);
-    assert_eq!(rt; given, Ok(Chunk::new(4096, 40).unwrap()));
-    assert_eq!(rt; shared.used_space(&mut second), 40);
-    let over = shared.allocate(&mut second, forty);
-    assert_eq!(rt; over, Err(AllocationError::OutOfMemory));
-    let empty = shared.allocate(&mut second, Layout::from_size_align(0, 1)?);
-    assert_eq!(rt; empty, Err(AllocationError::SizeIsZero));
-    let bump = shared.into_owner(second);
-    assert_eq!(rt;
-        (bump.start_address(), bump.total_space(), bump.used_space()),
-        (4096, 64, 40)
-    );
+    hold(rt, &shared, &mut parties, rows);
+    let owner = owner_by_last(shared, parties);
+    assert_eq!(rt; owner.map(|bump| figures_of(&bump)), Some((4096, 64, used)));
+}
+
+/// The calls of row `share-two-parties`, and what the second party hands back.
+pub(super) fn two_parties(rt: &impl Abort, shared: SharedBumpAllocator, parties: Vec<BumpParty>)
+    requires { All (λ party. party.allocator ≡ shared) parties.items }
+{
+    assert_eq!(rt; parties.len(), 2);
+    answers(rt, shared, parties, &TWO_PARTIES, 40);
+}
+
+/// The same of a bump of 64 bytes at 4096, of which so many are used before it is shared.
+fn shared_answers(
+    rt: &impl Abort,
+    alloc: Global,
+    used: usize,
+    parties: u32,
+    rows: &[Row],
+    used_then: usize,
+) -> Result<(), &'static str> {
+    let Some((shared, parties)) = share_of(alloc, 64, used, parties) else {
+        return Err("share");
+    };
+    answers(rt, shared, parties, rows, used_then);
     Ok(())
 }
 
 #[test]
 fn share_two_parties(rt: HostRuntime) -> Result<(), Fail> {
-    let Ok((shared, mut parties)) = BumpAllocator::new(4096, 64).share(rt.alloc(), 2) else {
+    let Some((shared, parties)) = share_of(rt.alloc(), 64, 0, 2) else {
         return Err(Fail::from("share"));
     };
-    let second = parties.pop().unwrap();
-    let first = parties.pop().unwrap();
-    assert!(rt; parties.is_empty());
-    two_parties(&rt, shared, first, second)
+    two_parties(&rt, shared, parties);
+    Ok(())
 }
 
 /// Two parties can meet, which changes nothing.
 #[test]
 fn parties_of_a_bump_meet(rt: HostRuntime) -> Result<(), Fail> {
-    let Ok((shared, mut parties)) = BumpAllocator::new(4096, 64).share(rt.alloc(), 2) else {
+    let Some((shared, mut parties)) = share_of(rt.alloc(), 64, 0, 2) else {
         return Err(Fail::from("share"));
     };
-    let mut second = parties.pop().unwrap();
-    let mut first = parties.pop().unwrap();
-    shared.allocate(&mut first, Layout::from_size_align(40, 1)?)?;
-    shared.meet(&mut first, &mut second);
-    assert_eq!(rt; (first.number(), second.number()), (0, 1));
-    assert_eq!(rt; shared.used_space(&mut second), 40);
+    let before = [(0, Call::Take(40, 1), Answer::Chunk(4096, 40))];
+    hold(&rt, &shared, &mut parties, &before);
+    assert!(rt; last_meets(&shared, &mut parties, 0));
+    let after = [
+        (0, Call::Number, Answer::Number(0)),
+        (1, Call::Number, Answer::Number(1)),
+        (1, Call::UsedSpace, Answer::Bytes(40)),
+    ];
+    answers(&rt, shared, parties, &after, 40);
     Ok(())
 }
 
 #[test]
 fn share_keeps_position(rt: HostRuntime) -> Result<(), Fail> {
-    let mut bump = BumpAllocator::new(4096, 64);
-    bump.allocate(Layout::from_size_align(40, 1)?)?;
-    let Ok((shared, mut parties)) = bump.share(rt.alloc(), 2) else {
-        return Err(Fail::from("share"));
-    };
-    let mut second = parties.pop().unwrap();
-    let mut first = parties.pop().unwrap();
-    assert_eq!(rt; shared.used_space(&mut second), 40);
-    assert_eq!(rt; shared.free_space(&mut first), 24);
-    assert_eq!(rt; (shared.start_address(), shared.total_space()), (4096, 64));
-    Ok(())
+    let rows = [
+        (1, Call::UsedSpace, Answer::Bytes(40)),
+        (0, Call::FreeSpace, Answer::Bytes(24)),
+        (0, Call::Region, Answer::Region(4096, 64)),
+    ];
+    Ok(shared_answers(&rt, rt.alloc(), 40, 2, &rows, 40)?)
 }
 
 /// The position is what all parties' steps left, also where the party that is handed in made none.
 #[test]
 fn into_owner_of_the_last_of_three(rt: HostRuntime) -> Result<(), Fail> {
-    let Ok((shared, mut parties)) = BumpAllocator::new(4096, 64).share(rt.alloc(), 3) else {
-        return Err(Fail::from("share"));
-    };
-    let third = parties.pop().unwrap();
-    let mut second = parties.pop().unwrap();
-    shared.allocate(&mut second, Layout::from_size_align(40, 1)?)?;
-    assert_eq!(rt; shared.into_owner(third).used_space(), 40);
-    Ok(())
+    let rows = [(1, Call::Take(40, 1), Answer::Chunk(4096, 40))];
+    Ok(shared_answers(&rt, rt.alloc(), 0, 3, &rows, 40)?)
 }
 
 #[test]
 fn share_of_one_party(rt: HostRuntime) -> Result<(), Fail> {
-    let Ok((shared, mut parties)) = BumpAllocator::new(4096, 64).share(rt.alloc(), 1) else {
+    let Some((shared, mut parties)) = share_of(rt.alloc(), 64, 0, 1) else {
         return Err(Fail::from("share"));
     };
-    let mut only = parties.pop().unwrap();
-    assert!(rt; parties.is_empty());
-    shared.allocate(&mut only, Layout::from_size_align(64, 1)?)?;
-    let mut bump = shared.into_owner(only);
+    assert_eq!(rt; parties.len(), 1);
+    let rows = [(0, Call::Take(64, 1), Answer::Chunk(4096, 64))];
+    hold(&rt, &shared, &mut parties, &rows);
+    let Some(mut bump) = owner_by_last(shared, parties) else {
+        return Err(Fail::from("no party came back"));
+    };
     let byte = Layout::from_size_align(1, 1)?;
     assert_eq!(rt; bump.allocate(byte), Err(AllocationError::OutOfMemory));
     Ok(())
 }
 
-/// As many parties as asked, numbered from 0.
+/// As many parties as asked, numbered from 0, of which the last one takes the first byte.
+fn many_parties(rt: &impl Abort, alloc: Global, count: u32) -> Result<(), &'static str> {
+    let Some((shared, mut parties)) = share_of(alloc, 64, 0, count) else {
+        return Err("share");
+    };
+    assert_eq!(rt; parties.len(), count as usize);
+    assert!(rt; are_numbered(&parties));
+    let last = parties.len().saturating_sub(1);
+    let rows = [(last, Call::Take(1, 1), Answer::Chunk(4096, 1))];
+    hold(rt, &shared, &mut parties, &rows);
+    Ok(())
+}
+
 #[test]
 fn share_of_64_parties(rt: HostRuntime) -> Result<(), Fail> {
-    let Ok((shared, mut parties)) = BumpAllocator::new(4096, 64).share(rt.alloc(), 64) else {
-        return Err(Fail::from("share"));
+    Ok(many_parties(&rt, rt.alloc(), 64)?)
+}
+
+#[test]
+fn share_of_1000_parties(rt: HostRuntime) -> Result<(), Fail> {
+    Ok(many_parties(&rt, rt.alloc(), 1000)?)
+}
+
+/// What three parties take before some of them meet: 27 bytes are used then, padding included.
+const BEFORE_THE_MEETING: [Row; 3] = [
+    (0, Call::Take(10, 1), Answer::Chunk(4096, 10)),
+    (1, Call::Take(8, 8), Answer::Chunk(4112, 8)),
+    (2, Call::Take(3, 1), Answer::Chunk(4120, 3)),
+];
+
+/// What they are answered then: each finds the end of the greatest chunk, and is given what lies behind it.
+const AFTER_THE_MEETING: [Row; 10] = [
+    (0, Call::Number, Answer::Number(0)),
+    (1, Call::Number, Answer::Number(1)),
+    (2, Call::Number, Answer::Number(2)),
+    (0, Call::UsedSpace, Answer::Bytes(27)),
+    (1, Call::UsedSpace, Answer::Bytes(27)),
+    (2, Call::FreeSpace, Answer::Bytes(37)),
+    (0, Call::Take(5, 1), Answer::Chunk(4123, 5)),
+    (1, Call::Take(4, 4), Answer::Chunk(4128, 4)),
+    (2, Call::Take(40, 1), NO_ROOM),
+    (2, Call::Take(28, 1), Answer::Chunk(4132, 28)),
+];
+
+/// Three parties take, so many of them meet, and all take again.
+fn some_meet(rt: &impl Abort, alloc: Global, count: usize) -> Result<(), &'static str> {
+    let Some((shared, mut parties)) = share_of(alloc, 64, 0, 3) else {
+        return Err("share");
     };
-    let mut last = parties.pop().unwrap();
-    let chunk = shared.allocate(&mut last, Layout::from_size_align(1, 1)?)?;
-    assert_eq!(rt; (chunk.place(), last.number()), (4096, 63));
-    assert!(rt; parties.iter().map(|party| party.number()).eq(0..63));
+    hold(rt, &shared, &mut parties, &BEFORE_THE_MEETING);
+    if last_ones_meet(alloc, &shared, &mut parties, count).is_err() {
+        return Err("memory was refused");
+    }
+    answers(rt, shared, parties, &AFTER_THE_MEETING, 64);
+    Ok(())
+}
+
+/// None, one, some and all parties of a bump meet.
+#[test]
+fn all_parties_of_a_bump_meet(rt: HostRuntime) -> Result<(), Fail> {
+    for count in [0, 1, 2, 3] {
+        some_meet(&rt, rt.alloc(), count)?;
+    }
     Ok(())
 }

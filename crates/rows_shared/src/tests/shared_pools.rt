@@ -1,28 +1,34 @@
 //! The pools that threads share, each row by its name.
-ghost use Rattle.std.specs.Prelude.{◌≡◌, IfOk, All, length};
+ghost use Rattle.std.specs.Prelude.{◌≡◌, ◌-◌, ◌<◌, ◌^◌, All, IfOk};
 
-use bb_memory::layout::{Chunk, Layout};
+use crate::tests::pool_rows::Answer::{Bucket, Chunk, GrowRefused, Nothing};
+use crate::tests::pool_rows::Call::{FindAgain, GiveBack, Grow, Keep, NumberAt, Take, Token};
+use crate::tests::pool_rows::{
+    ASKED, Answer, Call, NONE_FREE, Row, are_numbered, hold, last_meets, last_ones_meet, users_of,
+};
+use crate::tests::shared_buckets::Request::{self, At, Pass};
+use crate::tests::shared_buckets::{Figures, SharedBuckets};
+use bb_memory::layout::Layout;
 use bb_memory::pool_allocator::{
     AllocationError, AllocationGrowError, FixedSizePoolAllocator, PoolAllocator,
 };
-use bb_memory::shared_pool::{
-    Bucket, PoolParty, SharedFixedSizePoolAllocator, SharedPoolAllocator,
-};
+use bb_memory::shared_pool::{PoolParty, SharedFixedSizePoolAllocator, SharedPoolAllocator};
 use std::alloc::Global;
 use std::process::Abort;
 use std::test::Fail;
 
-/// A shared pool over a region, with so many parties.
+/// A shared pool of buckets of 128 bytes over a region, with so many parties.
 pub(super) fn shared_over(
     alloc: Global,
-    bucket: Layout,
     start: usize,
     size: usize,
     parties: u32,
 ) -> Result<(SharedPoolAllocator, Vec<PoolParty>), &'static str>
-    ensures theirs { IfOk result (λ made. All (λ party. party.allocator ≡ made.0) made.1.items) }
-    ensures as_many { IfOk result (λ made. length made.1.items ≡ parties) }
+    ensures { IfOk result (λ made. All (λ party. party.allocator ≡ made.0) made.1.items) }
 {
+    let Ok(bucket) = Layout::from_size_align(128, 8) else {
+        return Err("no such layout");
+    };
     if parties == 0 || !PoolAllocator::can_make(bucket, start, size) {
         return Err("no pool can be made of that");
     }
@@ -33,223 +39,326 @@ pub(super) fn shared_over(
     }
 }
 
-/// The calls of row `shared-pool-dropped-bucket` on a pool of two buckets, with its only party.
-pub(super) fn dropped_bucket(
-    rt: &impl Abort,
-    pool: &SharedPoolAllocator,
-    mut party: PoolParty,
-) -> Result<(), Fail>
-    requires { party.allocator ≡ pool.now }
-{
-    let asked = Layout::from_size_align(48, 4)?;
-    let first = pool.allocate(&mut party, asked)?;
-    assert_eq!(rt;
-        (first.number(), first.chunk()),
-        (0, Chunk::new(4096, 48).unwrap())
-    );
-    let second = pool.allocate(&mut party, asked)?;
-    assert_eq!(rt;
-        (second.number(), second.chunk()),
-        (1, Chunk::new(4224, 48).unwrap())
-    );
-    let refused = pool.allocate(&mut party, asked).err();
-    assert_eq!(rt; refused, Some(AllocationError::OutOfMemory));
-    pool.deallocate_bucket(&mut party, first);
-    assert_eq!(rt; pool.allocate(&mut party, asked)?.number(), 0);
-    let refused = pool.allocate(&mut party, asked).err();
-    assert_eq!(rt; refused, Some(AllocationError::OutOfMemory));
-    Ok(())
-}
-
-#[test]
-fn shared_pool_dropped_bucket(rt: HostRuntime) -> Result<(), Fail> {
-    let bucket = Layout::from_size_align(128, 8)?;
-    let (pool, mut parties) = shared_over(rt.alloc(), bucket, 4096, 256, 1)?;
-    let party = parties.pop().unwrap();
-    assert!(rt; parties.is_empty());
-    assert_eq!(rt; party.number(), 0);
-    dropped_bucket(&rt, &pool, party)
-}
-
-/// What a bucket's `grow` answers, where its place is a multiple of the old alignment.
-fn grow(
-    pool: &SharedFixedSizePoolAllocator<4>,
-    bucket: &mut Bucket<'_>,
-    old: Layout,
-    new: Layout,
-) -> Option<Result<Chunk, AllocationGrowError>>
-    requires { bucket.old.allocator ≡ pool.now }
-    ensures { bucket.new.allocator ≡ pool.now }
-{
-    if bucket.chunk().place() % old.align() != 0 {
-        return None;
-    }
-    Some(pool.grow(bucket, old, new))
-}
-
-/// The calls of row `shared-fixed-four-buckets` on a pool of four buckets at most, with its only party.
-pub(super) fn four_buckets(
-    rt: &impl Abort,
-    pool: &SharedFixedSizePoolAllocator<4>,
-    mut party: PoolParty,
-) -> Result<(), Fail>
-    requires { party.allocator ≡ pool.now }
-{
-    let asked = Layout::from_size_align(48, 4)?;
-    let mut first = pool.allocate(&mut party, asked)?;
-    assert_eq!(rt; first.number(), 0);
-    assert_eq!(rt; pool.allocate(&mut party, asked)?.number(), 1);
-    assert_eq!(rt; pool.allocate(&mut party, asked)?.number(), 2);
-    assert_eq!(rt; pool.allocate(&mut party, asked)?.number(), 3);
-    let refused = pool.allocate(&mut party, asked).err();
-    assert_eq!(rt; refused, Some(AllocationError::OutOfMemory));
-    let more = Layout::from_size_align(64, 4)?;
-    let grown = grow(pool, &mut first, asked, more);
-    assert_eq!(rt; grown, Some(Ok(Chunk::new(4096, 64).unwrap())));
-    let refused = grow(pool, &mut first, more, Layout::from_size_align(129, 4)?);
-    assert_eq!(rt; refused, Some(Err(AllocationGrowError::OutOfMemory)));
-    assert_eq!(rt; first.chunk(), Chunk::new(4096, 64).unwrap());
-    Ok(())
-}
-
-/// A shared pool of at most four buckets over a region, with so many parties.
-pub(super) fn shared_fixed_over(
+/// The same of at most a constant of buckets.
+pub(super) fn shared_fixed_over<const MOST: usize>(
     alloc: Global,
-    bucket: Layout,
     start: usize,
     size: usize,
     parties: u32,
-) -> Result<(SharedFixedSizePoolAllocator<4>, Vec<PoolParty>), &'static str>
-    ensures theirs { IfOk result (λ made. All (λ party. party.allocator ≡ made.0) made.1.items) }
-    ensures as_many { IfOk result (λ made. length made.1.items ≡ parties) }
+) -> Result<(SharedFixedSizePoolAllocator<MOST>, Vec<PoolParty>), &'static str>
+    requires { MOST < 2 ^ 32 - 1 }
+    ensures { IfOk result (λ made. All (λ party. party.allocator ≡ made.0) made.1.items) }
 {
-    if parties == 0 || !FixedSizePoolAllocator::<4>::can_make(bucket, start, size) {
+    let Ok(bucket) = Layout::from_size_align(128, 8) else {
+        return Err("no such layout");
+    };
+    if parties == 0 || !FixedSizePoolAllocator::<MOST>::can_make(bucket, start, size) {
         return Err("no pool can be made of that");
     }
-    match SharedFixedSizePoolAllocator::<4>::new(alloc, bucket, start, size, parties) {
+    match SharedFixedSizePoolAllocator::<MOST>::new(alloc, bucket, start, size, parties) {
         Ok(made) => Ok(made),
         Err(AllocationError::OutOfMemory) => Err("memory was refused"),
         Err(_) => Err("another cause"),
     }
 }
 
+/// These rows hold of a pool that was just made.
+fn answers<P: SharedBuckets>(
+    rt: &impl Abort,
+    alloc: Global,
+    pool: &P,
+    parties: Vec<PoolParty>,
+    rows: &[Row],
+) -> Result<(), &'static str>
+    requires { All (λ party. party.allocator ≡ P.shown pool.now) parties.items }
+{
+    let Ok(mut users) = users_of(alloc, pool, parties) else {
+        return Err("memory was refused");
+    };
+    hold(rt, pool, &mut users, rows);
+    Ok(())
+}
+
+/// They hold of a shared pool over so many bytes at a place.
+pub(super) fn shared_answers(
+    rt: &impl Abort,
+    alloc: Global,
+    (start, size): (usize, usize),
+    parties: u32,
+    rows: &[Row],
+) -> Result<(), &'static str> {
+    let (pool, parties) = shared_over(alloc, start, size, parties)?;
+    answers(rt, alloc, &pool, parties, rows)
+}
+
+/// They hold of one of at most four buckets.
+pub(super) fn shared_fixed_answers(
+    rt: &impl Abort,
+    alloc: Global,
+    (start, size): (usize, usize),
+    parties: u32,
+    rows: &[Row],
+) -> Result<(), &'static str> {
+    let (pool, parties) = shared_fixed_over::<4>(alloc, start, size, parties)?;
+    answers(rt, alloc, &pool, parties, rows)
+}
+
+/// The calls of row `shared-pool-dropped-bucket` on a pool of two buckets, with its only party.
+pub(super) const DROPPED_BUCKET: [Row; 7] = [
+    (0, Call::Number, Answer::Number(0)),
+    (0, Keep(Pass, ASKED), Bucket(0, 4096, 48)),
+    (0, Take(Pass, ASKED), Bucket(1, 4224, 48)),
+    (0, Take(Pass, ASKED), NONE_FREE),
+    (0, GiveBack, Nothing),
+    (0, Take(Pass, ASKED), Bucket(0, 4096, 48)),
+    (0, Take(Pass, ASKED), NONE_FREE),
+];
+
+#[test]
+fn shared_pool_dropped_bucket(rt: HostRuntime) -> Result<(), Fail> {
+    Ok(shared_answers(&rt, rt.alloc(), (4096, 256), 1, &DROPPED_BUCKET)?)
+}
+
+/// The figures of a pool of at most four buckets.
+const FOUR: Figures = Figures {
+    start: None,
+    buckets: 4,
+    bucket_size: 128,
+    max_alignment: 8,
+    size: 1024,
+};
+
+/// The calls of row `shared-fixed-four-buckets` on a pool of four buckets at most, with its first party.
+pub(super) const FOUR_BUCKETS: [Row; 9] = [
+    (0, Call::Figures, Answer::Figures(FOUR)),
+    (0, Keep(Pass, ASKED), Bucket(0, 4096, 48)),
+    (0, Take(Pass, ASKED), Bucket(1, 4224, 48)),
+    (0, Take(Pass, ASKED), Bucket(2, 4352, 48)),
+    (0, Take(Pass, ASKED), Bucket(3, 4480, 48)),
+    (0, Take(Pass, ASKED), NONE_FREE),
+    (0, Grow(ASKED, (64, 4)), Chunk(4096, 64)),
+    (
+        0,
+        Grow((64, 4), (129, 4)),
+        GrowRefused(AllocationGrowError::OutOfMemory),
+    ),
+    (0, Token, Bucket(0, 4096, 64)),
+];
+
 #[test]
 fn shared_fixed_four_buckets(rt: HostRuntime) -> Result<(), Fail> {
-    let bucket = Layout::from_size_align(128, 8)?;
-    let (pool, mut parties) = shared_fixed_over(rt.alloc(), bucket, 4096, 1024, 1)?;
-    let party = parties.pop().unwrap();
-    assert_eq!(rt; (pool.number_of_buckets(), pool.bucket_size()), (4, 128));
-    assert_eq!(rt; (pool.size(), pool.max_alignment()), (1024, 8));
-    four_buckets(&rt, &pool, party)
+    Ok(shared_fixed_answers(&rt, rt.alloc(), (4096, 1024), 1, &FOUR_BUCKETS)?)
+}
+
+/// The two parties of a pool without buckets meet, and the first one is refused.
+fn no_bucket<P: SharedBuckets>(
+    rt: &impl Abort,
+    alloc: Global,
+    pool: &P,
+    parties: Vec<PoolParty>,
+    start: Option<usize>,
+) -> Result<(), &'static str>
+    requires { All (λ party. party.allocator ≡ P.shown pool.now) parties.items }
+{
+    let Ok(mut users) = users_of(alloc, pool, parties) else {
+        return Err("memory was refused");
+    };
+    assert!(rt; last_meets(pool, &mut users, 0));
+    let none = Figures {
+        start,
+        buckets: 0,
+        bucket_size: 128,
+        max_alignment: 8,
+        size: 127,
+    };
+    let rows = [
+        (0, Call::Figures, Answer::Figures(none)),
+        (0, Take(Pass, (128, 8)), NONE_FREE),
+    ];
+    hold(rt, pool, &mut users, &rows);
+    Ok(())
 }
 
 /// A pool without buckets refuses at once, and its parties can meet.
 #[test]
 fn shared_fixed_of_no_bucket(rt: HostRuntime) -> Result<(), Fail> {
-    let bucket = Layout::from_size_align(128, 8)?;
-    let (pool, mut parties) = shared_fixed_over(rt.alloc(), bucket, 4096, 127, 2)?;
-    assert_eq!(rt; pool.number_of_buckets(), 0);
-    let mut second = parties.pop().unwrap();
-    let mut first = parties.pop().unwrap();
-    pool.meet(&mut first, &mut second);
-    let refused = pool.allocate(&mut first, bucket).err();
-    assert_eq!(rt; refused, Some(AllocationError::OutOfMemory));
+    let (pool, parties) = shared_fixed_over::<4>(rt.alloc(), 4096, 127, 2)?;
+    Ok(no_bucket(&rt, rt.alloc(), &pool, parties, None)?)
+}
+
+/// As many parties as asked, numbered from 0, of which the last one takes bucket 0.
+fn many_parties<P: SharedBuckets>(
+    rt: &impl Abort,
+    alloc: Global,
+    pool: &P,
+    parties: Vec<PoolParty>,
+    count: usize,
+) -> Result<(), &'static str>
+    requires { All (λ party. party.allocator ≡ P.shown pool.now) parties.items }
+{
+    let Ok(mut users) = users_of(alloc, pool, parties) else {
+        return Err("memory was refused");
+    };
+    assert_eq!(rt; users.len(), count);
+    assert!(rt; are_numbered(&users));
+    let rows = [(
+        count.saturating_sub(1),
+        Take(Pass, (128, 8)),
+        Bucket(0, 4096, 128),
+    )];
+    hold(rt, pool, &mut users, &rows);
     Ok(())
 }
 
-/// As many parties as asked, numbered from 0.
 #[test]
 fn shared_fixed_of_64_parties(rt: HostRuntime) -> Result<(), Fail> {
-    let bucket = Layout::from_size_align(128, 8)?;
-    let (pool, mut parties) = shared_fixed_over(rt.alloc(), bucket, 4096, 1024, 64)?;
-    let mut last = parties.pop().unwrap();
-    assert_eq!(rt; pool.allocate(&mut last, bucket)?.number(), 0);
-    assert_eq!(rt; last.number(), 63);
-    assert!(rt; parties.iter().map(|party| party.number()).eq(0..63));
-    Ok(())
+    let (pool, parties) = shared_fixed_over::<4>(rt.alloc(), 4096, 1024, 64)?;
+    Ok(many_parties(&rt, rt.alloc(), &pool, parties, 64)?)
+}
+
+#[test]
+fn shared_fixed_of_1000_parties(rt: HostRuntime) -> Result<(), Fail> {
+    let (pool, parties) = shared_fixed_over::<4>(rt.alloc(), 4096, 1024, 1000)?;
+    Ok(many_parties(&rt, rt.alloc(), &pool, parties, 1000)?)
+}
+
+/// Where the constant is 512, a pool has as many buckets, and no more.
+#[test]
+fn shared_fixed_of_512_buckets(rt: HostRuntime) -> Result<(), Fail> {
+    let (pool, parties) = shared_fixed_over::<512>(rt.alloc(), 4096, 128 * 600, 1)?;
+    let figures = Figures {
+        start: None,
+        buckets: 512,
+        bucket_size: 128,
+        max_alignment: 8,
+        size: 128 * 600,
+    };
+    let rows = [
+        (0, Call::Figures, Answer::Figures(figures)),
+        (0, Take(At(511), ASKED), Bucket(511, 69504, 48)),
+        (0, Take(At(512), ASKED), NONE_FREE),
+    ];
+    Ok(answers(&rt, rt.alloc(), &pool, parties, &rows)?)
 }
 
 /// A party that was refused looks again, and finds the bucket that was given back meanwhile.
 #[test]
 fn one_bucket_for_two_parties(rt: HostRuntime) -> Result<(), Fail> {
-    let asked = Layout::from_size_align(48, 4)?;
-    let bucket = Layout::from_size_align(128, 8)?;
-    let (pool, mut parties) = shared_over(rt.alloc(), bucket, 4096, 128, 2)?;
-    let mut second = parties.pop().unwrap();
-    let mut first = parties.pop().unwrap();
-    let taken = pool.allocate(&mut first, asked)?;
-    let refused = pool.allocate(&mut second, asked).err();
-    assert_eq!(rt; refused, Some(AllocationError::OutOfMemory));
-    pool.deallocate_bucket(&mut first, taken);
-    assert_eq!(rt; pool.allocate(&mut second, asked)?.number(), 0);
-    Ok(())
+    let rows = [
+        (0, Keep(Pass, ASKED), Bucket(0, 4096, 48)),
+        (1, Take(Pass, ASKED), NONE_FREE),
+        (0, GiveBack, Nothing),
+        (1, Take(Pass, ASKED), Bucket(0, 4096, 48)),
+    ];
+    Ok(shared_answers(&rt, rt.alloc(), (4096, 128), 2, &rows)?)
 }
 
 /// A bucket is found again by its place and by its number, and given back.
 #[test]
 fn shared_pool_bucket_by_number(rt: HostRuntime) -> Result<(), Fail> {
-    let asked = Layout::from_size_align(48, 4)?;
-    let bucket = Layout::from_size_align(128, 8)?;
-    let (pool, mut parties) = shared_over(rt.alloc(), bucket, 4097, 300, 1)?;
-    let mut party = parties.pop().unwrap();
-    let places = [4096, 4104, 4105, 4232, 4360];
-    let numbers = places.map(|place| pool.number_at(place));
-    assert_eq!(rt; numbers, [None, Some(0), None, Some(1), None]);
-    let taken = pool.allocate(&mut party, asked)?;
-    let (number, len) = (taken.number(), taken.chunk().len());
-    let again = pool.bucket(&party, number, len);
-    assert_eq!(rt;
-        (again.number(), again.chunk()),
-        (0, Chunk::new(4104, 48).unwrap())
-    );
-    pool.deallocate_bucket(&mut party, again);
-    assert_eq!(rt; pool.allocate(&mut party, asked)?.number(), 0);
-    Ok(())
+    let rows = [
+        (0, NumberAt(4096), Nothing),
+        (0, NumberAt(4104), Answer::Number(0)),
+        (0, NumberAt(4105), Nothing),
+        (0, NumberAt(4232), Answer::Number(1)),
+        (0, NumberAt(4360), Nothing),
+        (0, Keep(Pass, ASKED), Bucket(0, 4104, 48)),
+        (0, FindAgain(48), Bucket(0, 4104, 48)),
+        (0, GiveBack, Nothing),
+        (0, Take(Pass, ASKED), Bucket(0, 4104, 48)),
+    ];
+    Ok(shared_answers(&rt, rt.alloc(), (4097, 300), 1, &rows)?)
 }
 
 /// The same of a pool of at most four buckets, of which three have room.
 #[test]
 fn shared_fixed_bucket_by_number(rt: HostRuntime) -> Result<(), Fail> {
-    let asked = Layout::from_size_align(48, 4)?;
-    let bucket = Layout::from_size_align(128, 8)?;
-    let (pool, mut parties) = shared_fixed_over(rt.alloc(), bucket, 4096, 511, 1)?;
-    let mut party = parties.pop().unwrap();
-    assert_eq!(rt;
-        (pool.number_at(4352), pool.number_at(4480)),
-        (Some(2), None)
-    );
-    let taken = pool.allocate(&mut party, asked)?;
-    let (number, len) = (taken.number(), taken.chunk().len());
-    let again = pool.bucket(&party, number, len);
-    assert_eq!(rt; again.chunk(), Chunk::new(4096, 48).unwrap());
-    pool.deallocate_bucket(&mut party, again);
-    assert_eq!(rt; pool.allocate(&mut party, asked)?.number(), 0);
-    Ok(())
+    let rows = [
+        (0, NumberAt(4352), Answer::Number(2)),
+        (0, NumberAt(4480), Nothing),
+        (0, Keep(Pass, ASKED), Bucket(0, 4096, 48)),
+        (0, FindAgain(48), Bucket(0, 4096, 48)),
+        (0, GiveBack, Nothing),
+        (0, Take(Pass, ASKED), Bucket(0, 4096, 48)),
+    ];
+    Ok(shared_fixed_answers(&rt, rt.alloc(), (4096, 511), 1, &rows)?)
 }
 
 /// A pool without buckets refuses at once, and its parties can meet.
 #[test]
 fn shared_pool_of_no_bucket(rt: HostRuntime) -> Result<(), Fail> {
-    let bucket = Layout::from_size_align(128, 8)?;
-    let (pool, mut parties) = shared_over(rt.alloc(), bucket, 4096, 127, 2)?;
-    assert_eq!(rt; pool.number_of_buckets(), 0);
-    let mut second = parties.pop().unwrap();
-    let mut first = parties.pop().unwrap();
-    pool.meet(&mut first, &mut second);
-    let refused = pool.allocate(&mut first, bucket).err();
-    assert_eq!(rt; refused, Some(AllocationError::OutOfMemory));
+    let (pool, parties) = shared_over(rt.alloc(), 4096, 127, 2)?;
+    Ok(no_bucket(&rt, rt.alloc(), &pool, parties, Some(4096))?)
+}
+
+#[test]
+fn shared_pool_of_64_parties(rt: HostRuntime) -> Result<(), Fail> {
+    let (pool, parties) = shared_over(rt.alloc(), 4096, 1024, 64)?;
+    assert_eq!(rt; pool.start_address(), 4096);
+    Ok(many_parties(&rt, rt.alloc(), &pool, parties, 64)?)
+}
+
+#[test]
+fn shared_pool_of_1000_parties(rt: HostRuntime) -> Result<(), Fail> {
+    let (pool, parties) = shared_over(rt.alloc(), 4096, 1024, 1000)?;
+    Ok(many_parties(&rt, rt.alloc(), &pool, parties, 1000)?)
+}
+
+/// What three parties take before some of them meet.
+const BEFORE_THE_MEETING: [Row; 3] = [
+    (0, Take(Pass, ASKED), Bucket(0, 4096, 48)),
+    (1, Take(Pass, ASKED), Bucket(1, 4224, 48)),
+    (2, Take(Request::From(3), ASKED), Bucket(3, 4480, 48)),
+];
+
+/// What they are answered then: what was held is held, and what was free is free.
+const AFTER_THE_MEETING: [Row; 8] = [
+    (0, Call::Number, Answer::Number(0)),
+    (1, Call::Number, Answer::Number(1)),
+    (2, Call::Number, Answer::Number(2)),
+    (0, Take(At(1), ASKED), NONE_FREE),
+    (1, Take(At(3), ASKED), NONE_FREE),
+    (2, Keep(Pass, ASKED), Bucket(2, 4352, 48)),
+    (2, GiveBack, Nothing),
+    (1, Take(Request::From(3), ASKED), Bucket(2, 4352, 48)),
+];
+
+/// Three parties of a pool of at least four buckets take, so many of them meet, and all take again.
+fn some_meet<P: SharedBuckets>(
+    rt: &impl Abort,
+    alloc: Global,
+    pool: &P,
+    parties: Vec<PoolParty>,
+    count: usize,
+) -> Result<(), &'static str>
+    requires { All (λ party. party.allocator ≡ P.shown pool.now) parties.items }
+{
+    let Ok(mut users) = users_of(alloc, pool, parties) else {
+        return Err("memory was refused");
+    };
+    hold(rt, pool, &mut users, &BEFORE_THE_MEETING);
+    if last_ones_meet(alloc, pool, &mut users, count).is_err() {
+        return Err("memory was refused");
+    }
+    hold(rt, pool, &mut users, &AFTER_THE_MEETING);
     Ok(())
 }
 
-/// As many parties as asked, numbered from 0.
+/// None, one, some and all parties of a pool of four buckets meet.
 #[test]
-fn shared_pool_of_64_parties(rt: HostRuntime) -> Result<(), Fail> {
-    let bucket = Layout::from_size_align(128, 8)?;
-    let (pool, mut parties) = shared_over(rt.alloc(), bucket, 4096, 1024, 64)?;
-    let mut last = parties.pop().unwrap();
-    assert_eq!(rt; pool.allocate(&mut last, bucket)?.number(), 0);
-    assert_eq!(rt; last.number(), 63);
-    assert!(rt; parties.iter().map(|party| party.number()).eq(0..63));
-    assert_eq!(rt; pool.start_address(), 4096);
+fn all_parties_of_a_shared_pool_meet(rt: HostRuntime) -> Result<(), Fail> {
+    for count in [0, 1, 2, 3] {
+        let (pool, parties) = shared_over(rt.alloc(), 4096, 512, 3)?;
+        some_meet(&rt, rt.alloc(), &pool, parties, count)?;
+    }
+    Ok(())
+}
+
+#[test]
+fn all_parties_of_a_shared_fixed_pool_meet(rt: HostRuntime) -> Result<(), Fail> {
+    for count in [0, 1, 2, 3] {
+        let (pool, parties) = shared_fixed_over::<4>(rt.alloc(), 4096, 1024, 3)?;
+        some_meet(&rt, rt.alloc(), &pool, parties, count)?;
+    }
     Ok(())
 }

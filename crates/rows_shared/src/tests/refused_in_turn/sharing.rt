@@ -1,11 +1,15 @@
 //! Rows of what threads share, whose maker was refused first.
-ghost use Rattle.std.specs.Prelude.{◌≡◌, All, IfOk, length};
+ghost use Rattle.std.specs.Prelude.{◌≡◌, All, IfOk};
 
+use super::was_refused;
+use crate::tests::pool_rows::{Row, hold, users_of};
+use crate::tests::shared_buckets::SharedBuckets;
 use crate::tests::shared_bumps::two_parties;
-use crate::tests::shared_pools::{dropped_bucket, four_buckets, shared_fixed_over, shared_over};
+use crate::tests::shared_pools::{DROPPED_BUCKET, FOUR_BUCKETS, shared_fixed_over, shared_over};
 use bb_memory::bump_allocator::{AllocationError, BumpAllocator};
-use bb_memory::layout::Layout;
 use bb_memory::shared_bump::{BumpParty, SharedBumpAllocator};
+use bb_memory::shared_pool::{PoolParty, SharedFixedSizePoolAllocator, SharedPoolAllocator};
+use rows::marks::some_was_refused;
 use std::alloc::Global;
 use std::process::Abort;
 use std::test::Fail;
@@ -14,14 +18,14 @@ use std::test::Fail;
 fn shared_by_two(
     rt: &impl Abort,
     alloc: Global,
-) -> Result<(SharedBumpAllocator, Vec<BumpParty>), Fail>
-    ensures theirs { IfOk result (λ made. All (λ party. party.allocator ≡ made.0) made.1.items) }
-    ensures as_many { IfOk result (λ made. length made.1.items ≡ 2) }
+) -> Result<(SharedBumpAllocator, Vec<BumpParty>), &'static str>
+    ensures { IfOk result (λ made. All (λ party. party.allocator ≡ made.0) made.1.items) }
 {
     let (handed_back, cause) = match BumpAllocator::new(4096, 64).share(alloc, 2) {
         Ok(shared) => return Ok(shared),
         Err(refused) => refused,
     };
+    assert!(rt; some_was_refused(alloc));
     assert_eq!(rt; cause, AllocationError::OutOfMemory);
     assert_eq!(rt;
         (handed_back.start_address(), handed_back.total_space()),
@@ -30,40 +34,75 @@ fn shared_by_two(
     assert_eq!(rt; handed_back.used_space(), 0);
     match handed_back.share(alloc, 2) {
         Ok(shared) => Ok(shared),
-        Err(_) => Err(Fail::from("share was refused with memory")),
+        Err(_) => Err("share was refused with memory"),
     }
 }
 
 #[test]
 fn share_two_parties(rt: HostRuntime) -> Result<(), Fail> {
-    let (shared, mut parties) = shared_by_two(&rt, rt.alloc())?;
-    let second = parties.pop().unwrap();
-    let first = parties.pop().unwrap();
-    two_parties(&rt, shared, first, second)
+    let (shared, parties) = shared_by_two(&rt, rt.alloc())?;
+    two_parties(&rt, shared, parties);
+    Ok(())
+}
+
+/// These rows hold of a pool, where memory for the test itself isn't refused.
+fn answers<P: SharedBuckets>(
+    rt: &impl Abort,
+    alloc: Global,
+    pool: &P,
+    parties: Vec<PoolParty>,
+    rows: &[Row],
+)
+    requires { All (λ party. party.allocator ≡ P.shown pool.now) parties.items }
+{
+    match users_of(alloc, pool, parties) {
+        Ok(mut users) => hold(rt, pool, &mut users, rows),
+        Err(_) => assert!(rt; some_was_refused(alloc)),
+    }
+}
+
+/// A pool of two buckets with one party. Where memory was refused it is made once more.
+fn two_buckets(
+    rt: &impl Abort,
+    alloc: Global,
+) -> Result<(SharedPoolAllocator, Vec<PoolParty>), &'static str>
+    ensures { IfOk result (λ made. All (λ party. party.allocator ≡ made.0) made.1.items) }
+{
+    match shared_over(alloc, 4096, 256, 1) {
+        Ok(made) => Ok(made),
+        Err(cause) => {
+            was_refused(rt, alloc, cause);
+            shared_over(alloc, 4096, 256, 1)
+        }
+    }
 }
 
 #[test]
 fn shared_pool_dropped_bucket(rt: HostRuntime) -> Result<(), Fail> {
-    let bucket = Layout::from_size_align(128, 8)?;
-    match shared_over(rt.alloc(), bucket, 4096, 256, 1) {
-        Ok((pool, mut parties)) => dropped_bucket(&rt, &pool, parties.pop().unwrap()),
+    let (pool, parties) = two_buckets(&rt, rt.alloc())?;
+    answers(&rt, rt.alloc(), &pool, parties, &DROPPED_BUCKET);
+    Ok(())
+}
+
+/// A pool of at most four buckets with one party. Where memory was refused it is made once more.
+fn four_buckets(
+    rt: &impl Abort,
+    alloc: Global,
+) -> Result<(SharedFixedSizePoolAllocator<4>, Vec<PoolParty>), &'static str>
+    ensures { IfOk result (λ made. All (λ party. party.allocator ≡ made.0) made.1.items) }
+{
+    match shared_fixed_over::<4>(alloc, 4096, 1024, 1) {
+        Ok(made) => Ok(made),
         Err(cause) => {
-            assert_eq!(rt; cause, "memory was refused");
-            let (pool, mut parties) = shared_over(rt.alloc(), bucket, 4096, 256, 1)?;
-            dropped_bucket(&rt, &pool, parties.pop().unwrap())
+            was_refused(rt, alloc, cause);
+            shared_fixed_over::<4>(alloc, 4096, 1024, 1)
         }
     }
 }
 
 #[test]
 fn shared_fixed_four_buckets(rt: HostRuntime) -> Result<(), Fail> {
-    let bucket = Layout::from_size_align(128, 8)?;
-    match shared_fixed_over(rt.alloc(), bucket, 4096, 1024, 1) {
-        Ok((pool, mut parties)) => four_buckets(&rt, &pool, parties.pop().unwrap()),
-        Err(cause) => {
-            assert_eq!(rt; cause, "memory was refused");
-            let (pool, mut parties) = shared_fixed_over(rt.alloc(), bucket, 4096, 1024, 1)?;
-            four_buckets(&rt, &pool, parties.pop().unwrap())
-        }
-    }
+    let (pool, parties) = four_buckets(&rt, rt.alloc())?;
+    answers(&rt, rt.alloc(), &pool, parties, &FOUR_BUCKETS);
+    Ok(())
 }

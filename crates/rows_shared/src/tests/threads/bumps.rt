@@ -1,7 +1,10 @@
 //! Threads over one shared bump.
-ghost use Rattle.std.specs.Prelude.{◌≡◌, ◌<◌, All, IfOk, IfSome, length};
+ghost use Rattle.std.specs.Prelude.{◌≡◌, ◌<◌, All, IfOk, length};
 ghost use Rattle.std.specs.Arc.{arc_value};
 
+use crate::tests::bump_rows::{
+    Answer, Call, NO_ROOM, Row, all_meet, hold, last_meets, owner_by_all, share_of,
+};
 use bb_memory::allocator::AllocationError;
 use bb_memory::bump_allocator::BumpAllocator;
 use bb_memory::layout::{Chunk, Layout};
@@ -142,24 +145,50 @@ fn ends_of(alloc: Global, all: &[Taken]) -> Result<Vec<(usize, usize)>, AllocErr
     Ok(ends)
 }
 
-/// Each of the parties finds that so many bytes are used. One of them.
-fn all_find(
-    rt: &impl Abort,
+/// The parties of these threads, in their order.
+fn parties_of(
+    alloc: Global,
     shared: &SharedBumpAllocator,
     all: Vec<Taken>,
-    used: usize,
-) -> Option<BumpParty>
+) -> Result<Vec<BumpParty>, AllocError>
     requires { All (λ taken. taken.party.allocator ≡ shared.now) all.items }
-    ensures { IfSome result (λ party. party.allocator ≡ shared.now) }
+    ensures { IfOk result (λ parties. All (λ party. party.allocator ≡ shared.now) parties.items) }
 {
-    let mut last = None;
+    let mut parties = Vec::new(alloc);
     for taken in all {
-        let mut party = taken.party;
-        assert_eq!(rt; shared.used_space(&mut party), used);
-        last = Some(party);
+        parties.push(taken.party)?;
     }
-    last
+    Ok(parties)
 }
+
+/// Each of so many threads was given so many chunks, and found its own to be used.
+fn were_given(rt: &impl Abort, all: &[Taken], threads: usize, chunks: usize) {
+    assert_eq!(rt; all.len(), threads);
+    for taken in all {
+        assert!(rt; taken.saw_its_own);
+        assert_eq!(rt; taken.chunks.len(), chunks);
+    }
+}
+
+/// These are so many chunks of ten bytes, one behind the other from 4096 on.
+fn are_in_a_row(rt: &impl Abort, ends: &[(usize, usize)], count: usize) {
+    assert_eq!(rt; ends.len(), count);
+    let mut behind: usize = 4096;
+    for (place, end) in ends {
+        assert_eq!(rt; (*place, *end), (behind, behind.saturating_add(10)));
+        behind = *end;
+    }
+}
+
+/// What the four parties find when each has taken 1000 bytes of 4096.
+const BEHIND_4000_BYTES: [Row; 6] = [
+    (0, Call::UsedSpace, Answer::Bytes(4000)),
+    (1, Call::UsedSpace, Answer::Bytes(4000)),
+    (2, Call::UsedSpace, Answer::Bytes(4000)),
+    (3, Call::UsedSpace, Answer::Bytes(4000)),
+    (3, Call::Take(97, 1), NO_ROOM),
+    (3, Call::Take(96, 1), Answer::Chunk(8096, 96)),
+];
 
 #[test]
 fn threads_bump_exact_places(rt: HostRuntime) -> Result<(), Fail> {
@@ -167,19 +196,10 @@ fn threads_bump_exact_places(rt: HostRuntime) -> Result<(), Fail> {
     let (shared, parties) = four_parties(rt.alloc())?;
     let shared = Arc::new(rt.alloc(), shared)?;
     let all = take_in_threads(&rt, rt.alloc(), &shared, parties, &[ten], 100)?;
-    assert!(rt; all.iter().all(|taken| taken.chunks.len() == 100));
-    let ends = ends_of(rt.alloc(), &all)?;
-    assert_eq!(rt; ends.len(), 400);
-    for (k, (place, end)) in ends.iter().enumerate() {
-        assert_eq!(rt; (*place, *end), (4096 + 10 * k, 4106 + 10 * k));
-    }
-    let Some(mut party) = all_find(&rt, &shared, all, 4000) else {
-        return Err(Fail::from("no party came back"));
-    };
-    let over = shared.allocate(&mut party, Layout::from_size_align(97, 1)?);
-    assert_eq!(rt; over, Err(AllocationError::OutOfMemory));
-    let rest = shared.allocate(&mut party, Layout::from_size_align(96, 1)?);
-    assert_eq!(rt; rest, Ok(Chunk::new(8096, 96).unwrap()));
+    were_given(&rt, &all, 4, 100);
+    are_in_a_row(&rt, &ends_of(rt.alloc(), &all)?, 400);
+    let mut parties = parties_of(rt.alloc(), &shared, all)?;
+    hold(&rt, &shared, &mut parties, &BEHIND_4000_BYTES);
     Ok(())
 }
 
@@ -189,24 +209,38 @@ fn threads_used_space_seen(rt: HostRuntime) -> Result<(), Fail> {
     let (shared, parties) = four_parties(rt.alloc())?;
     let shared = Arc::new(rt.alloc(), shared)?;
     let all = take_in_threads(&rt, rt.alloc(), &shared, parties, &[ten], 100)?;
-    assert_eq!(rt; all.len(), 4);
-    for taken in &all {
-        assert!(rt; taken.saw_its_own);
-        assert_eq!(rt; taken.chunks.len(), 100);
-    }
+    were_given(&rt, &all, 4, 100);
     Ok(())
 }
 
-/// Takes out the last of those that came back.
-fn last_party(shared: &SharedBumpAllocator, all: &mut Vec<Taken>) -> Result<BumpParty, Fail>
-    requires { All (λ taken. taken.party.allocator ≡ shared.now) all.old.items }
-    ensures others { All (λ taken. taken.party.allocator ≡ shared.now) all.new.items }
-    ensures own { IfOk result (λ party. party.allocator ≡ shared.now) }
-{
-    match all.pop() {
-        Some(taken) => Ok(taken.party),
-        None => Err(Fail::from("too few parties")),
+/// Each thread was given chunks of its own layout, until it was refused.
+fn have_layouts(rt: &impl Abort, all: &[Taken], layouts: &[Layout]) {
+    assert_eq!(rt; all.len(), layouts.len());
+    for (taken, layout) in all.iter().zip(layouts) {
+        assert!(rt; taken.refused && taken.layout == *layout);
+        for chunk in &taken.chunks {
+            assert_eq!(rt;
+                (chunk.place() % layout.align(), chunk.len()),
+                (0, layout.size())
+            );
+        }
     }
+}
+
+/// These threads' parties meet: the last one each other one, and then all.
+fn meet(
+    rt: &impl Abort,
+    alloc: Global,
+    shared: &SharedBumpAllocator,
+    all: Vec<Taken>,
+) -> Result<(), AllocError>
+    requires { All (λ taken. taken.party.allocator ≡ shared.now) all.items }
+{
+    let mut parties = parties_of(alloc, shared, all)?;
+    assert!(rt; last_meets(shared, &mut parties, 0));
+    assert!(rt; last_meets(shared, &mut parties, 1));
+    all_meet(shared, &mut parties);
+    Ok(())
 }
 
 #[test]
@@ -220,24 +254,10 @@ fn threads_bump_mixed_layouts(rt: HostRuntime) -> Result<(), Fail> {
         return Err(Fail::from("share"));
     };
     let shared = Arc::new(rt.alloc(), shared)?;
-    let mut all = take_in_threads(&rt, rt.alloc(), &shared, parties, &layouts, 1000)?;
-    assert_eq!(rt; all.len(), 3);
-    for (taken, layout) in all.iter().zip(layouts) {
-        assert!(rt; taken.refused && taken.layout == layout);
-        for chunk in &taken.chunks {
-            assert_eq!(rt;
-                (chunk.place() % layout.align(), chunk.len()),
-                (0, layout.size())
-            );
-        }
-    }
+    let all = take_in_threads(&rt, rt.alloc(), &shared, parties, &layouts, 1000)?;
+    have_layouts(&rt, &all, &layouts);
     are_apart(&rt, &ends_of(rt.alloc(), &all)?, 4097, 5097);
-    let mut third = last_party(&shared, &mut all)?;
-    let mut second = last_party(&shared, &mut all)?;
-    let mut first = last_party(&shared, &mut all)?;
-    shared.meet(&mut first, &mut second);
-    shared.meet(&mut first, &mut third);
-    shared.meet(&mut second, &mut third);
+    meet(&rt, rt.alloc(), &shared, all)?;
     Ok(())
 }
 
@@ -309,5 +329,52 @@ fn threads_really_at_once(rt: HostRuntime) -> Result<(), Fail> {
     let (mut other, other_saw_both) = other.join(&rt);
     assert!(rt; one_saw_both && other_saw_both);
     shared.meet(&mut one, &mut other);
+    Ok(())
+}
+
+/// So many threads take from a bump of 4096 bytes, and then all parties hand it back: how many bytes are used then, and at how
+/// many the greatest chunk ends.
+fn owner_of_all(
+    rt: &impl Threads,
+    alloc: Global,
+    parties: u32,
+    layouts: &[Layout],
+    times: u32,
+) -> Result<(usize, usize), Fail>
+    requires { 0 < length layouts.now }
+{
+    let Some((shared, all)) = share_of(alloc, 4096, 0, parties) else {
+        return Err(Fail::from("share"));
+    };
+    let shared = Arc::new(alloc, shared)?;
+    let all = take_in_threads(rt, alloc, &shared, all, layouts, times)?;
+    let greatest = match ends_of(alloc, &all)?.last() {
+        Some((_, end)) => end.saturating_sub(4096),
+        None => 0,
+    };
+    let all = parties_of(alloc, &shared, all)?;
+    let Ok(shared) = Arc::try_unwrap(shared) else {
+        return Err(Fail::from("a thread that was joined has the bump"));
+    };
+    match owner_by_all(shared, all, parties) {
+        Some((4096, 4096, used)) => Ok((used, greatest)),
+        _ => Err(Fail::from("another bump came back")),
+    }
+}
+
+/// What all parties hand back is used up to the end of the greatest chunk, whichever threads took it: four, one, and none.
+#[test]
+fn threads_bump_owner_of_all(rt: HostRuntime) -> Result<(), Fail> {
+    let ten = [Layout::from_size_align(10, 1)?];
+    for (parties, times, used) in [(4, 100, 4000), (4, 0, 0), (1, 100, 1000), (1, 0, 0)] {
+        let found = owner_of_all(&rt, rt.alloc(), parties, &ten, times)?;
+        assert_eq!(rt; found, (used, used));
+    }
+    let mixed = [
+        Layout::from_size_align(24, 16)?,
+        Layout::from_size_align(5, 1)?,
+    ];
+    let (used, greatest) = owner_of_all(&rt, rt.alloc(), 4, &mixed, 1000)?;
+    assert!(rt; used == greatest && greatest > 4000);
     Ok(())
 }

@@ -1,0 +1,8 @@
+use Rattle.std.proofs.Common.{All}
+use Rattle.rows_shared.specs.Users.{IsUser}
+use Rattle.rows_shared.proofs.tests.pool_rows.hold.Given as goal
+
+-- the users stay this pool's
+abbrev pub invariant-loop-index : goal.invariant-loop-index
+invariant-loop-index g l =
+    All (λ u. IsUser (g.P.SharedBuckets.shown l.pool) u.party u.kept) l.users.items

@@ -1,0 +1,227 @@
+//! Rows of a shared bump: which party calls what, and what it has to be answered. A test carries no more of a call than what is
+//! told here.
+ghost use Rattle.std.specs.Prelude.{All, IfSome, ◌≡◌};
+
+use bb_memory::bump_allocator::{AllocationError, BaseAllocator, BumpAllocator};
+use bb_memory::layout::Layout;
+use bb_memory::shared_bump::{BumpParty, SharedBumpAllocator};
+use std::alloc::{AllocError, Global};
+use std::process::Abort;
+
+/// What a party calls.
+#[derive(Debug, Clone, Copy)]
+pub(super) enum Call {
+    /// A request for so many bytes at an alignment.
+    Take(usize, usize),
+    UsedSpace,
+    FreeSpace,
+    /// The party's own number.
+    Number,
+    /// The bump's start and its total space.
+    Region,
+}
+
+/// What a call is answered.
+#[derive(Debug, Clone, Copy, PartialEq, Eq)]
+pub(super) enum Answer {
+    /// A chunk at a place, of so many bytes.
+    Chunk(usize, usize),
+    Refused(AllocationError),
+    Bytes(usize),
+    Number(u32),
+    /// Where the region starts, and how many bytes it has.
+    Region(usize, usize),
+    /// The row is wrong: there is no such party or layout.
+    WrongRow,
+}
+
+/// Want of room.
+pub(super) const NO_ROOM: Answer = Answer::Refused(AllocationError::OutOfMemory);
+
+/// The index of a party among those of the test, its call, and the answer that it has to have.
+pub(super) type Row = (usize, Call, Answer);
+
+fn take(shared: &SharedBumpAllocator, party: &mut BumpParty, size: usize, align: usize) -> Answer
+    requires { party.old.allocator ≡ shared.now }
+    ensures { party.new.allocator ≡ shared.now }
+{
+    let Ok(asked) = Layout::from_size_align(size, align) else {
+        return Answer::WrongRow;
+    };
+    match shared.allocate(party, asked) {
+        Ok(chunk) => Answer::Chunk(chunk.place(), chunk.len()),
+        Err(error) => Answer::Refused(error),
+    }
+}
+
+/// What the call of a party is answered.
+fn answered(shared: &SharedBumpAllocator, party: &mut BumpParty, call: Call) -> Answer
+    requires { party.old.allocator ≡ shared.now }
+    ensures { party.new.allocator ≡ shared.now }
+{
+    match call {
+        Call::Take(size, align) => take(shared, party, size, align),
+        Call::UsedSpace => Answer::Bytes(shared.used_space(party)),
+        Call::FreeSpace => Answer::Bytes(shared.free_space(party)),
+        Call::Number => Answer::Number(party.number()),
+        Call::Region => Answer::Region(shared.start_address(), shared.total_space()),
+    }
+}
+
+/// The party of this index among those of a test calls.
+fn answer_of(
+    shared: &SharedBumpAllocator,
+    parties: &mut Vec<BumpParty>,
+    index: usize,
+    call: Call,
+) -> Answer
+    requires { All (λ party. party.allocator ≡ shared.now) parties.old.items }
+    ensures { All (λ party. party.allocator ≡ shared.now) parties.new.items }
+{
+    match parties.get_mut(index) {
+        Some(party) => answered(shared, party, call),
+        None => Answer::WrongRow,
+    }
+}
+
+/// Each row, in turn, is answered as it says.
+pub(super) fn hold(
+    rt: &impl Abort,
+    shared: &SharedBumpAllocator,
+    parties: &mut Vec<BumpParty>,
+    rows: &[Row],
+)
+    requires { All (λ party. party.allocator ≡ shared.now) parties.old.items }
+    ensures { All (λ party. party.allocator ≡ shared.now) parties.new.items }
+{
+    for (index, call, expected) in rows {
+        let found = answer_of(shared, parties, *index, *call);
+        assert_eq!(rt; found, *expected, "{call:?} of {index}");
+    }
+}
+
+/// A bump of so many bytes at 4096, of which some are used, with parties; or none where it was refused.
+pub(super) fn share_of(
+    alloc: Global,
+    size: usize,
+    used: usize,
+    parties: u32,
+) -> Option<(SharedBumpAllocator, Vec<BumpParty>)>
+    ensures theirs { IfSome result (λ made. All (λ party. party.allocator ≡ made.0) made.1.items) }
+    ensures parties { IfSome result (λ made. made.0.scene.parties ≡ parties) }
+{
+    if parties == 0 || size > 1_000_000 {
+        return None;
+    }
+    let mut bump = BumpAllocator::new(4096, size);
+    if used > 0
+        && bump
+            .allocate(Layout::from_size_align(used, 1).ok()?)
+            .is_err()
+    {
+        return None;
+    }
+    bump.share(alloc, parties).ok()
+}
+
+/// The last of these parties meets another one.
+pub(super) fn last_meets(
+    shared: &SharedBumpAllocator,
+    parties: &mut Vec<BumpParty>,
+    index: usize,
+) -> bool
+    requires { All (λ party. party.allocator ≡ shared.now) parties.old.items }
+    ensures { All (λ party. party.allocator ≡ shared.now) parties.new.items }
+{
+    let Some(mut last) = parties.pop() else {
+        return false;
+    };
+    let Some(other) = parties.get_mut(index) else {
+        return false;
+    };
+    shared.meet(other, &mut last);
+    parties.push(last).is_ok()
+}
+
+/// So many of these parties, from the last one on, go to others.
+fn go(
+    shared: &SharedBumpAllocator,
+    from: &mut Vec<BumpParty>,
+    to: &mut Vec<BumpParty>,
+    count: usize,
+) -> Result<(), AllocError>
+    requires from { All (λ party. party.allocator ≡ shared.now) from.old.items }
+    requires to { All (λ party. party.allocator ≡ shared.now) to.old.items }
+    ensures from { All (λ party. party.allocator ≡ shared.now) from.new.items }
+    ensures to { All (λ party. party.allocator ≡ shared.now) to.new.items }
+{
+    let _ = shared.start_address();
+    for _ in 0..count {
+        if let Some(party) = from.pop() {
+            to.push(party)?;
+        }
+    }
+    Ok(())
+}
+
+/// So many of these parties meet, from the last one on.
+pub(super) fn last_ones_meet(
+    alloc: Global,
+    shared: &SharedBumpAllocator,
+    parties: &mut Vec<BumpParty>,
+    count: usize,
+) -> Result<(), AllocError>
+    requires { All (λ party. party.allocator ≡ shared.now) parties.old.items }
+    ensures { All (λ party. party.allocator ≡ shared.now) parties.new.items }
+{
+    let mut met = Vec::new(alloc);
+    go(shared, parties, &mut met, count)?;
+    all_meet(shared, &mut met);
+    go(shared, &mut met, parties, count)
+}
+
+/// These parties are numbered from 0.
+pub(super) fn are_numbered(parties: &[BumpParty]) -> bool {
+    parties
+        .iter()
+        .enumerate()
+        .all(|(index, party)| party.number() as usize == index)
+}
+
+/// The bump that the last of these parties hands back.
+pub(super) fn owner_by_last(
+    shared: SharedBumpAllocator,
+    mut parties: Vec<BumpParty>,
+) -> Option<BumpAllocator>
+    requires { All (λ party. party.allocator ≡ shared) parties.items }
+{
+    Some(shared.into_owner(parties.pop()?))
+}
+
+/// The start, the total and the used space of a bump.
+pub(super) fn figures_of(bump: &BumpAllocator) -> (usize, usize, usize) {
+    (bump.start_address(), bump.total_space(), bump.used_space())
+}
+
+/// What the bump tells that all its parties hand back, or none where these aren't all.
+pub(super) fn owner_by_all(
+    shared: SharedBumpAllocator,
+    parties: Vec<BumpParty>,
+    count: u32,
+) -> Option<(usize, usize, usize)>
+    requires parties { All (λ party. party.allocator ≡ shared) parties.items }
+    requires count { shared.scene.parties ≡ count }
+{
+    if parties.len() != count as usize {
+        return None;
+    }
+    Some(figures_of(&shared.into_owner_all(parties)))
+}
+
+/// All these parties meet.
+pub(super) fn all_meet(shared: &SharedBumpAllocator, parties: &mut Vec<BumpParty>)
+    requires { All (λ party. party.allocator ≡ shared.now) parties.old.items }
+    ensures { All (λ party. party.allocator ≡ shared.now) parties.new.items }
+{
+    shared.meet_all(parties);
+}

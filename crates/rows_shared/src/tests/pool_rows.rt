@@ -1,0 +1,358 @@
+//! Rows of a shared pool: which party calls what, and what it has to be answered. The calls go to the library through
+//! [`SharedBuckets`], so that a test is its rows alone.
+ghost use Rattle.std.specs.Prelude.{All, IfOk, ◌≡◌};
+ghost use Rattle.rows_shared.specs.Users.{IsUser};
+
+use crate::tests::shared_buckets::{Figures, Request, SharedBuckets};
+use bb_memory::layout::{Chunk, Layout};
+use bb_memory::shared_pool::{
+    AllocationError, AllocationGrowError, AllocationShrinkError, Bucket, PoolParty,
+};
+use std::alloc::{AllocError, Global};
+use std::process::Abort;
+
+/// A party, and the token that it keeps.
+#[derive(Drop)]
+pub(super) struct User<'a> {
+    pub(super) party: PoolParty,
+    pub(super) kept: Option<Bucket<'a>>,
+}
+
+/// A size in bytes and an alignment.
+type Asked = (usize, usize);
+
+/// What a party calls.
+#[derive(Debug, Clone, Copy)]
+pub(super) enum Call {
+    /// A request, whose token is dropped.
+    Take(Request, Asked),
+    /// A request, whose token is kept in place of the one that was.
+    Keep(Request, Asked),
+    /// The return of the bucket whose token is kept.
+    GiveBack,
+    /// The token that is kept is dropped for another, by the bucket's number and with a chunk of so many bytes.
+    FindAgain(usize),
+    /// A resize by the token that is kept, from one layout to another.
+    Grow(Asked, Asked),
+    Shrink(Asked, Asked),
+    /// What the token that is kept tells.
+    Token,
+    /// The party's own number.
+    Number,
+    /// The number of the bucket at a place.
+    NumberAt(usize),
+    Figures,
+}
+
+/// What a call is answered.
+#[derive(Debug, Clone, Copy, PartialEq, Eq)]
+pub(super) enum Answer {
+    /// The bucket of a number, and in it a chunk at a place, of so many bytes.
+    Bucket(u32, usize, usize),
+    /// A chunk at a place, of so many bytes.
+    Chunk(usize, usize),
+    Refused(AllocationError),
+    GrowRefused(AllocationGrowError),
+    ShrinkRefused(AllocationShrinkError),
+    Number(u32),
+    Figures(Figures),
+    /// A return, which answers nothing; and a place where no bucket begins.
+    Nothing,
+    /// The row is wrong: there is no such party, token or layout, or the call may not be made with it.
+    WrongRow,
+}
+
+/// What the tests mostly ask for: 48 bytes, at a multiple of 4.
+pub(super) const ASKED: Asked = (48, 4);
+
+/// Want of a free bucket.
+pub(super) const NONE_FREE: Answer = Answer::Refused(AllocationError::OutOfMemory);
+
+/// The index of a party among those of the test, its call, and the answer that it has to have.
+pub(super) type Row = (usize, Call, Answer);
+
+fn layout_of((size, align): Asked) -> Option<Layout> {
+    Layout::from_size_align(size, align).ok()
+}
+
+fn bucket_of(bucket: &Bucket<'_>) -> Answer {
+    let chunk = bucket.chunk();
+    Answer::Bucket(bucket.number(), chunk.place(), chunk.len())
+}
+
+fn chunk_of(chunk: Chunk) -> Answer {
+    Answer::Chunk(chunk.place(), chunk.len())
+}
+
+fn take<'a, P: SharedBuckets>(
+    pool: &'a P,
+    user: &mut User<'a>,
+    request: Request,
+    asked: Layout,
+) -> Answer
+    requires { IsUser (P.shown pool.now) user.old.party user.old.kept }
+    ensures { IsUser (P.shown pool.now) user.new.party user.new.kept }
+{
+    match pool.ask(&mut user.party, request, asked) {
+        Ok(bucket) => bucket_of(&bucket),
+        Err(error) => Answer::Refused(error),
+    }
+}
+
+fn keep<'a, P: SharedBuckets>(
+    pool: &'a P,
+    user: &mut User<'a>,
+    request: Request,
+    asked: Layout,
+) -> Answer
+    requires { IsUser (P.shown pool.now) user.old.party user.old.kept }
+    ensures { IsUser (P.shown pool.now) user.new.party user.new.kept }
+{
+    match pool.ask(&mut user.party, request, asked) {
+        Ok(bucket) => {
+            let answer = bucket_of(&bucket);
+            user.kept = Some(bucket);
+            answer
+        }
+        Err(error) => Answer::Refused(error),
+    }
+}
+
+fn give_back<'a, P: SharedBuckets>(pool: &'a P, user: &mut User<'a>) -> Answer
+    requires { IsUser (P.shown pool.now) user.old.party user.old.kept }
+    ensures { IsUser (P.shown pool.now) user.new.party user.new.kept }
+{
+    match user.kept.take() {
+        Some(bucket) => {
+            pool.give_back(&mut user.party, bucket);
+            Answer::Nothing
+        }
+        None => Answer::WrongRow,
+    }
+}
+
+fn find_again<'a, P: SharedBuckets>(pool: &'a P, user: &mut User<'a>, len: usize) -> Answer
+    requires { IsUser (P.shown pool.now) user.old.party user.old.kept }
+    ensures { IsUser (P.shown pool.now) user.new.party user.new.kept }
+{
+    let Some(bucket) = user.kept.take() else {
+        return Answer::WrongRow;
+    };
+    match pool.again(&user.party, bucket, len) {
+        Some(again) => {
+            let answer = bucket_of(&again);
+            user.kept = Some(again);
+            answer
+        }
+        None => Answer::WrongRow,
+    }
+}
+
+fn grow<'a, P: SharedBuckets>(pool: &'a P, user: &mut User<'a>, old: Layout, new: Layout) -> Answer
+    requires { IsUser (P.shown pool.now) user.old.party user.old.kept }
+    ensures { IsUser (P.shown pool.now) user.new.party user.new.kept }
+{
+    let Some(bucket) = &mut user.kept else {
+        return Answer::WrongRow;
+    };
+    match pool.grow(bucket, old, new) {
+        Some(Ok(chunk)) => chunk_of(chunk),
+        Some(Err(error)) => Answer::GrowRefused(error),
+        None => Answer::WrongRow,
+    }
+}
+
+fn shrink<'a, P: SharedBuckets>(
+    pool: &'a P,
+    user: &mut User<'a>,
+    old: Layout,
+    new: Layout,
+) -> Answer
+    requires { IsUser (P.shown pool.now) user.old.party user.old.kept }
+    ensures { IsUser (P.shown pool.now) user.new.party user.new.kept }
+{
+    let Some(bucket) = &mut user.kept else {
+        return Answer::WrongRow;
+    };
+    match pool.shrink(bucket, old, new) {
+        Some(Ok(chunk)) => chunk_of(chunk),
+        Some(Err(error)) => Answer::ShrinkRefused(error),
+        None => Answer::WrongRow,
+    }
+}
+
+fn number_at<P: SharedBuckets>(pool: &P, place: usize) -> Answer {
+    match pool.number_at(place) {
+        Some(number) => Answer::Number(number),
+        None => Answer::Nothing,
+    }
+}
+
+fn token(user: &User<'_>) -> Answer {
+    match &user.kept {
+        Some(bucket) => bucket_of(bucket),
+        None => Answer::WrongRow,
+    }
+}
+
+/// What the call of a user is answered.
+fn answered<'a, P: SharedBuckets>(pool: &'a P, user: &mut User<'a>, call: Call) -> Answer
+    requires { IsUser (P.shown pool.now) user.old.party user.old.kept }
+    ensures { IsUser (P.shown pool.now) user.new.party user.new.kept }
+{
+    match call {
+        Call::Take(request, asked) => match layout_of(asked) {
+            Some(asked) => take(pool, user, request, asked),
+            None => Answer::WrongRow,
+        },
+        Call::Keep(request, asked) => match layout_of(asked) {
+            Some(asked) => keep(pool, user, request, asked),
+            None => Answer::WrongRow,
+        },
+        Call::GiveBack => give_back(pool, user),
+        Call::FindAgain(len) => find_again(pool, user, len),
+        Call::Grow(old, new) => match (layout_of(old), layout_of(new)) {
+            (Some(old), Some(new)) => grow(pool, user, old, new),
+            _ => Answer::WrongRow,
+        },
+        Call::Shrink(old, new) => match (layout_of(old), layout_of(new)) {
+            (Some(old), Some(new)) => shrink(pool, user, old, new),
+            _ => Answer::WrongRow,
+        },
+        Call::Token => token(user),
+        Call::Number => Answer::Number(user.party.number()),
+        Call::NumberAt(place) => number_at(pool, place),
+        Call::Figures => Answer::Figures(pool.figures()),
+    }
+}
+
+/// The parties as users that keep nothing.
+pub(super) fn users_of<'a, P: SharedBuckets>(
+    alloc: Global,
+    pool: &'a P,
+    parties: Vec<PoolParty>,
+) -> Result<Vec<User<'a>>, AllocError>
+    requires { All (λ party. party.allocator ≡ P.shown pool.now) parties.items }
+    ensures { IfOk result (λ users.
+        All (λ user. IsUser (P.shown pool.now) user.party user.kept) users.items) }
+{
+    let mut users = Vec::with_capacity(alloc, parties.len())?;
+    for party in parties {
+        users.push(User { party, kept: None })?;
+    }
+    Ok(users)
+}
+
+/// The user of this number among those of a test calls.
+fn answer_of<'a, P: SharedBuckets>(
+    pool: &'a P,
+    users: &mut Vec<User<'a>>,
+    index: usize,
+    call: Call,
+) -> Answer
+    requires { All (λ user. IsUser (P.shown pool.now) user.party user.kept) users.old.items }
+    ensures { All (λ user. IsUser (P.shown pool.now) user.party user.kept) users.new.items }
+{
+    match users.get_mut(index) {
+        Some(user) => answered(pool, user, call),
+        None => Answer::WrongRow,
+    }
+}
+
+/// Each row, in turn, is answered as it says.
+pub(super) fn hold<'a, P: SharedBuckets>(
+    rt: &impl Abort,
+    pool: &'a P,
+    users: &mut Vec<User<'a>>,
+    rows: &[Row],
+)
+    requires { All (λ user. IsUser (P.shown pool.now) user.party user.kept) users.old.items }
+    ensures { All (λ user. IsUser (P.shown pool.now) user.party user.kept) users.new.items }
+{
+    for (index, call, expected) in rows {
+        let found = answer_of(pool, users, *index, *call);
+        assert_eq!(rt; found, *expected, "{call:?} of {index}");
+    }
+}
+
+/// The last of these users meets another one.
+pub(super) fn last_meets<'a, P: SharedBuckets>(
+    pool: &'a P,
+    users: &mut Vec<User<'a>>,
+    index: usize,
+) -> bool
+    requires { All (λ user. IsUser (P.shown pool.now) user.party user.kept) users.old.items }
+    ensures { All (λ user. IsUser (P.shown pool.now) user.party user.kept) users.new.items }
+{
+    let Some(mut last) = users.pop() else {
+        return false;
+    };
+    let Some(other) = users.get_mut(index) else {
+        return false;
+    };
+    pool.meet(&mut other.party, &mut last.party);
+    users.push(last).is_ok()
+}
+
+/// So many of these users, from the last one on, let their tokens go and leave as parties.
+fn leave<'a, P: SharedBuckets>(
+    pool: &'a P,
+    users: &mut Vec<User<'a>>,
+    parties: &mut Vec<PoolParty>,
+    count: usize,
+) -> Result<(), AllocError>
+    requires users { All (λ user. IsUser (P.shown pool.now) user.party user.kept) users.old.items }
+    requires parties { All (λ party. party.allocator ≡ P.shown pool.now) parties.old.items }
+    ensures users { All (λ user. IsUser (P.shown pool.now) user.party user.kept) users.new.items }
+    ensures parties { All (λ party. party.allocator ≡ P.shown pool.now) parties.new.items }
+{
+    for _ in 0..count {
+        if let Some(user) = users.pop() {
+            parties.push(user.party)?;
+        }
+    }
+    Ok(())
+}
+
+/// So many of these parties, from the last one on, come back as users.
+fn come_back<'a, P: SharedBuckets>(
+    pool: &'a P,
+    users: &mut Vec<User<'a>>,
+    parties: &mut Vec<PoolParty>,
+    count: usize,
+) -> Result<(), AllocError>
+    requires users { All (λ user. IsUser (P.shown pool.now) user.party user.kept) users.old.items }
+    requires parties { All (λ party. party.allocator ≡ P.shown pool.now) parties.old.items }
+    ensures { All (λ user. IsUser (P.shown pool.now) user.party user.kept) users.new.items }
+{
+    for _ in 0..count {
+        if let Some(party) = parties.pop() {
+            users.push(User { party, kept: None })?;
+        }
+    }
+    Ok(())
+}
+
+/// So many of these users meet, from the last one on, and let their tokens go.
+pub(super) fn last_ones_meet<'a, P: SharedBuckets>(
+    alloc: Global,
+    pool: &'a P,
+    users: &mut Vec<User<'a>>,
+    count: usize,
+) -> Result<(), AllocError>
+    requires { All (λ user. IsUser (P.shown pool.now) user.party user.kept) users.old.items }
+    ensures { All (λ user. IsUser (P.shown pool.now) user.party user.kept) users.new.items }
+{
+    let mut parties = Vec::new(alloc);
+    leave(pool, users, &mut parties, count)?;
+    pool.meet_all(&mut parties);
+    come_back(pool, users, &mut parties, count)
+}
+
+/// The parties of these users are numbered from 0.
+pub(super) fn are_numbered(users: &[User<'_>]) -> bool {
+    users
+        .iter()
+        .enumerate()
+        .all(|(index, user)| user.party.number() as usize == index)
+}
