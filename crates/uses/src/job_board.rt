@@ -58,7 +58,8 @@ impl JobBoard {
     }
 
     /// Takes a slot for the worker, which it didn't have, with room for a whole job. What it had it keeps. It is refused, with
-    /// `OutOfMemory`, only where it has lost an exchange at each slot; on a board of one worker, exactly where that one has them all.
+    /// `OutOfMemory`, only where it has lost an exchange at each slot; on a board of one worker, exactly where that one has them
+    /// all.
     pub fn take(&self, worker: &mut PoolParty) -> Result<Bucket<'_>, AllocationError>
         requires worker { worker.old.allocator ≡ self.now }
         ensures worker { worker.new.allocator ≡ self.now }
