@@ -1,5 +1,6 @@
 //! Rows of library calls, a module for each thing that they call.
 mod bumps;
+mod counted;
 mod errors;
 mod fixed_pools;
 mod heap_blocks;
@@ -7,6 +8,8 @@ mod laws;
 mod layouts;
 mod loans;
 mod one_chunks;
+mod owner;
 mod pools;
 mod refused_in_turn;
 mod regions;
+mod worlds;

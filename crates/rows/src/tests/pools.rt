@@ -1,14 +1,13 @@
 //! The pool of one owner, each row by its name. Which free bucket is given is left open, so the tests speak of sets of places.
-ghost use Rattle.std.specs.Prelude.{◌≡◌, [], IfOk, IfSome};
+ghost use Rattle.std.specs.Prelude.{◌≡◌, [], IfOk};
 ghost use Rattle.bb_memory_base.specs.Region.{region_at};
-ghost use Rattle.bb_memory.specs.Pool.{HoldsPlace, StandsFor};
+ghost use Rattle.bb_memory.specs.Pool.{StandsFor};
 
+use super::owner::runs::replies_are;
+use super::owner::{Answer, Call, Owner, sevens};
 use bb_memory::allocator::{Command, Reply};
 use bb_memory::layout::{Chunk, Layout};
-use bb_memory::pool_allocator::{
-    AllocationError, Allocator, BaseAllocator, PoolAllocator, run_base_pool, run_pool,
-};
-use bb_memory::region::Region;
+use bb_memory::pool_allocator::{AllocationError, BaseAllocator, PoolAllocator};
 use std::alloc::Global;
 use std::process::Abort;
 use std::test::Fail;
@@ -32,30 +31,56 @@ pub(super) fn pool_over(
     }
 }
 
+/// The owner of a pool over a region. Its buckets have this size and this alignment.
+pub(super) fn pool_owner(
+    alloc: Global,
+    bucket: (usize, usize),
+    start: usize,
+    size: usize,
+) -> Result<Owner<PoolAllocator<Global>>, &'static str> {
+    let Ok(bucket) = Layout::from_size_align(bucket.0, bucket.1) else {
+        return Err("the bucket has no layout");
+    };
+    let pool = pool_over(alloc, bucket, start, size)?;
+    let region = sevens(alloc, start, size)?;
+    Ok(Owner::new(alloc, pool, region))
+}
+
+/// The getters answer these: the start, the number of buckets, the region's size, and the bucket's size and alignment.
+pub(super) fn has_figures(rt: &impl Abort, pool: &PoolAllocator<Global>, wanted: [usize; 5]) {
+    let figures = [
+        pool.start_address(),
+        pool.number_of_buckets() as usize,
+        pool.size(),
+        pool.bucket_size(),
+        pool.max_alignment(),
+    ];
+    assert_eq!(rt; figures, wanted);
+}
+
 /// Calls that no row makes.
 #[test]
 fn a_pool_call_by_call(rt: HostRuntime) -> Result<(), Fail> {
-    let bucket = Layout::from_size_align(128, 8)?;
-    assert!(rt; !PoolAllocator::can_make(bucket, 0, 8));
-    let mut pool = pool_over(rt.alloc(), bucket, 4096, 1024)?;
-    let place = pool.allocate(bucket)?.place();
-    assert_eq!(rt; pool.reserved(place), 128);
-    pool.stands_for_some_list();
+    assert!(rt; !PoolAllocator::can_make(Layout::from_size_align(128, 8)?, 0, 8));
+    let mut pool = pool_owner(rt.alloc(), (128, 8), 4096, 1024)?;
+    let table = [
+        (Call::Allocate(128, 8), Answer::Somewhere(128)),
+        (Call::Reserved(0), Answer::Reserved(128)),
+    ];
+    pool.answers(&rt, &table);
+    pool.laws();
     Ok(())
 }
 
 #[test]
 fn pool_rounded_stride(rt: HostRuntime) -> Result<(), Fail> {
     let bucket = Layout::from_size_align(12, 8)?;
-    let mut pool = pool_over(rt.alloc(), bucket, 4096, 64)?;
-    assert_eq!(rt; (pool.number_of_buckets(), pool.bucket_size()), (4, 12));
     assert_eq!(rt; PoolAllocator::memory_size(bucket, 64), 40);
-    let mut places = [0; 4];
-    for place in &mut places {
-        *place = pool.allocate(bucket)?.place();
-    }
-    places.sort_unstable();
-    assert_eq!(rt; places, [4096, 4112, 4128, 4144]);
+    let mut pool = pool_owner(rt.alloc(), (12, 8), 4096, 64)?;
+    has_figures(&rt, pool.allocator(), [4096, 4, 64, 12, 8]);
+    let table = [(Call::Allocate(12, 8), Answer::Somewhere(12)); 4];
+    pool.answers(&rt, &table);
+    pool.is_at(&rt, 4096, 16, 4);
     Ok(())
 }
 
@@ -72,94 +97,74 @@ fn memory_sizes(rt: HostRuntime) -> Result<(), Fail> {
 
 #[test]
 fn pool_odd_start_getters(rt: HostRuntime) -> Result<(), Fail> {
-    let bucket = Layout::from_size_align(128, 8)?;
-    let pool = pool_over(rt.alloc(), bucket, 4097, 1024)?;
-    assert_eq!(rt; (pool.start_address(), pool.number_of_buckets()), (4104, 7));
-    assert_eq!(rt;
-        (pool.size(), pool.bucket_size(), pool.max_alignment()),
-        (1024, 128, 8)
-    );
+    let pool = pool_owner(rt.alloc(), (128, 8), 4097, 1024)?;
+    has_figures(&rt, pool.allocator(), [4104, 7, 1024, 128, 8]);
     Ok(())
 }
 
-/// Takes every bucket of a pool of buckets of one byte at 4096, and answers the place that is looked for, once it was given.
-fn take_all(
+const BYTE: Call = Call::Allocate(1, 1);
+
+const FULL: Answer = Answer::Refused(AllocationError::OutOfMemory);
+
+/// The owner of a pool of so many buckets of one byte at 4096, all of which are taken, each by one read.
+fn all_taken(
     rt: &impl Abort,
-    pool: &mut PoolAllocator<Global>,
-    places: &mut [usize],
-    wanted: usize,
-) -> Result<Option<usize>, Fail>
-    ensures { IfOk result (λ found. IfSome found (HoldsPlace pool.new.pool)) }
-{
-    let byte = Layout::from_size_align(1, 1)?;
-    let mut found = None;
-    for place in places.iter_mut() {
-        *place = pool.allocate(byte)?.place();
-        if *place == wanted {
-            found = Some(wanted);
-        }
-        assert_eq!(rt; pool.last_reads(), 1);
+    alloc: Global,
+    buckets: usize,
+) -> Result<Owner<PoolAllocator<Global>>, &'static str> {
+    let mut pool = pool_owner(alloc, (1, 1), 4096, buckets)?;
+    for _ in 0..buckets {
+        pool.answers(rt, &[(BYTE, Answer::Somewhere(1))]);
+        pool.has_read(rt, 1);
     }
-    places.sort_unstable();
-    assert!(rt; places.iter().copied().eq(4096..4096 + places.len()));
-    assert_eq!(rt; pool.allocate(byte), Err(AllocationError::OutOfMemory));
-    Ok(found)
+    pool.is_at(rt, 4096, 1, buckets);
+    pool.answers(rt, &[(BYTE, FULL)]);
+    Ok(pool)
 }
 
 #[test]
 fn pool_sixty_five_buckets(rt: HostRuntime) -> Result<(), Fail> {
-    let byte = Layout::from_size_align(1, 1)?;
-    let mut pool = pool_over(rt.alloc(), byte, 4096, 65)?;
-    if let Some(place) = take_all(&rt, &mut pool, &mut [0; 65], 4160)? {
-        assert_eq!(rt; pool.last_reads(), 1);
-        pool.deallocate_bucket(place);
-    }
-    assert_eq!(rt; pool.allocate(byte), Ok(Chunk::new(4160, 1).unwrap()));
-    assert_eq!(rt; pool.last_reads(), 1);
+    let mut pool = all_taken(&rt, rt.alloc(), 65)?;
+    pool.has_read(&rt, 1);
+    let last = pool.position_of(&rt, 4160);
+    pool.gives_back(&rt, last);
+    pool.answers(&rt, &[(BYTE, Answer::Chunk(4160, 1))]);
+    pool.has_read(&rt, 1);
     Ok(())
 }
 
 #[test]
 fn pool_two_full_words(rt: HostRuntime) -> Result<(), Fail> {
-    let byte = Layout::from_size_align(1, 1)?;
-    let mut pool = pool_over(rt.alloc(), byte, 4096, 128)?;
-    if let Some(place) = take_all(&rt, &mut pool, &mut [0; 128], 4100)? {
-        pool.deallocate(place, byte);
-    }
-    assert_eq!(rt; pool.allocate(byte), Ok(Chunk::new(4100, 1).unwrap()));
-    assert_eq!(rt; pool.allocate(byte), Err(AllocationError::OutOfMemory));
+    let mut pool = all_taken(&rt, rt.alloc(), 128)?;
+    let fifth = pool.position_of(&rt, 4100);
+    let table = [
+        (Call::Deallocate(fifth), Answer::Done),
+        (BYTE, Answer::Chunk(4100, 1)),
+        (BYTE, FULL),
+    ];
+    pool.answers(&rt, &table);
     Ok(())
 }
 
 /// A pool whose buckets are all held is found so by one read, and so is a bucket that is given back.
 #[test]
 fn one_read_where_all_are_held(rt: HostRuntime) -> Result<(), Fail> {
-    let byte = Layout::from_size_align(1, 1)?;
-    let mut pool = pool_over(rt.alloc(), byte, 4096, 320)?;
-    let found = take_all(&rt, &mut pool, &mut [0; 320], 4300)?;
-    assert_eq!(rt; pool.last_reads(), 1);
-    if let Some(place) = found {
-        pool.deallocate_bucket(place);
-    }
-    assert_eq!(rt; pool.allocate(byte), Ok(Chunk::new(4300, 1).unwrap()));
-    assert_eq!(rt; pool.last_reads(), 1);
+    let mut pool = all_taken(&rt, rt.alloc(), 320)?;
+    pool.has_read(&rt, 1);
+    let found = pool.position_of(&rt, 4300);
+    pool.gives_back(&rt, found);
+    pool.answers(&rt, &[(BYTE, Answer::Chunk(4300, 1))]);
+    pool.has_read(&rt, 1);
     Ok(())
 }
 
 #[test]
 fn pool_zeroed(rt: HostRuntime) -> Result<(), Fail> {
-    let mut region = Region::new(4096, vec![in rt.alloc(); 7; 1024]?);
-    let mut pool = pool_over(rt.alloc(), Layout::from_size_align(128, 8)?, 4096, 1024)?;
-    let chunk = pool.allocate_zeroed(Layout::from_size_align(48, 4)?, &mut region)?;
-    assert_eq!(rt; pool.last_reads(), 1);
-    for (byte, place) in region.bytes().iter().zip(4096..) {
-        let wanted = if chunk.place() <= place && place < chunk.end() {
-            0
-        } else {
-            7
-        };
-        assert_eq!(rt; *byte, wanted, "at {place}");
-    }
+    let mut pool = pool_owner(rt.alloc(), (128, 8), 4096, 1024)?;
+    let table = [(Call::AllocateZeroed(48, 4), Answer::Somewhere(48))];
+    pool.answers(&rt, &table);
+    pool.has_read(&rt, 1);
+    pool.has_zeros_in(&rt, 0, 0, 48);
     Ok(())
 }
 
@@ -179,15 +184,8 @@ fn runs_over_a_pool(rt: HostRuntime) -> Result<(), Fail> {
     let grown = Reply::Chunk(Chunk::new(4096, 16).unwrap());
     let full = [given, grown, refused, Reply::Released];
     let base = [given, Reply::Passed, refused, Reply::Released];
-    let mut pool = pool_over(rt.alloc(), bucket, 4096, 16)?;
-    let mut live = Vec::new(rt.alloc());
-    assert_eq!(rt;
-        run_pool(&mut pool, &mut live, &commands)?.as_slice(),
-        full.as_slice()
-    );
-    assert_eq!(rt;
-        run_base_pool(&mut pool, &mut live, &commands)?.as_slice(),
-        base.as_slice()
-    );
+    let mut pool = pool_owner(rt.alloc(), (16, 8), 4096, 16)?;
+    replies_are(&rt, pool.run_pool(&commands)?, &full);
+    replies_are(&rt, pool.run_base_pool(&commands)?, &base);
     Ok(())
 }

@@ -1,9 +1,20 @@
 //! Calls that hold with any one request for memory refused. `.ci/refuse-in-turn` runs each test with its first request refused,
 //! then with its second, and so on, until none is left to refuse. What a test makes for itself may be refused, too: then it
-//! ends.
+//! ends. Want of memory is accepted only where a request was refused.
 mod after_making;
 mod blocks;
 mod books;
 mod makers;
 mod runs;
 mod worlds;
+
+use crate::marks::some_was_refused;
+use std::alloc::Global;
+use std::process::Abort;
+use std::test::Fail;
+
+/// Ends a test that couldn't make what it needs: for that a request has to have been refused.
+fn ends_unmade(rt: &impl Abort, alloc: Global) -> Result<(), Fail> {
+    assert!(rt; some_was_refused(alloc));
+    Ok(())
+}

@@ -1,8 +1,9 @@
 //! Regions with their bytes, each row by its name.
-use bb_memory::allocator::{AllocationError, Allocator, BaseAllocator};
-use bb_memory::bump_allocator::BumpAllocator;
-use bb_memory::layout::{Chunk, Layout};
-use bb_memory::one_chunk_allocator::OneChunkAllocator;
+use super::bumps::bump_owner;
+use super::one_chunks::one_owner;
+use super::owner::{Answer, Call};
+use bb_memory::allocator::AllocationError;
+use bb_memory::layout::Chunk;
 use bb_memory::region::Region;
 use std::test::Fail;
 
@@ -23,63 +24,51 @@ fn a_region_call_by_call(rt: HostRuntime) -> Result<(), Fail> {
 
 #[test]
 fn bump_allocate_zeroed(rt: HostRuntime) -> Result<(), Fail> {
-    let mut region = Region::new(4096, vec![in rt.alloc(); 7; 1024]?);
-    let mut bump = BumpAllocator::new(4096, 1024);
-    let first = bump.allocate(Layout::from_size_align(10, 1)?)?;
-    assert_eq!(rt; (first.place(), first.len()), (4096, 10));
-    let second = bump.allocate_zeroed(Layout::from_size_align(16, 8)?, &mut region)?;
-    assert_eq!(rt; (second.place(), second.len()), (4112, 16));
-    for (i, byte) in region.bytes().iter().enumerate() {
-        let wanted = if 16 <= i && i < 32 { 0 } else { 7 };
-        assert_eq!(rt; *byte, wanted, "at {i}");
-    }
+    let mut owner = bump_owner(rt.alloc(), 4096, 1024)?;
+    let table = [
+        (Call::Allocate(10, 1), Answer::Chunk(4096, 10)),
+        (Call::AllocateZeroed(16, 8), Answer::Chunk(4112, 16)),
+    ];
+    owner.answers_base(&rt, &table);
+    owner.has_zeros(&rt, 4112, 16);
     Ok(())
 }
 
 #[test]
 fn one_zeroed_refused(rt: HostRuntime) -> Result<(), Fail> {
-    let mut region = Region::new(4096, vec![in rt.alloc(); 7; 1024]?);
-    let mut one = OneChunkAllocator::new(4096, 1024);
-    let refused = one.allocate_zeroed(Layout::from_size_align(1025, 1)?, &mut region);
-    assert_eq!(rt; refused, Err(AllocationError::OutOfMemory));
-    assert!(rt; region.bytes().iter().all(|byte| *byte == 7));
+    let mut owner = one_owner(rt.alloc(), 4096, 1024)?;
+    let table = [(
+        Call::AllocateZeroed(1025, 1),
+        Answer::Refused(AllocationError::OutOfMemory),
+    )];
+    owner.answers(&rt, &table);
+    owner.has_zeros(&rt, 4096, 0);
     Ok(())
 }
 
 #[test]
 fn one_grow_zeroed(rt: HostRuntime) -> Result<(), Fail> {
-    let mut region = Region::new(4096, vec![in rt.alloc(); 7; 1024]?);
-    let mut one = OneChunkAllocator::new(4096, 1024);
-    let old = Layout::from_size_align(48, 4)?;
-    let chunk = one.allocate(old)?;
-    assert_eq!(rt; (chunk.place(), chunk.len()), (4096, 1024));
-    let grown = one.grow_zeroed(4096, old, Layout::from_size_align(64, 4)?, &mut region)?;
-    assert_eq!(rt; (grown.place(), grown.len()), (4096, 1024));
-    for (i, byte) in region.bytes().iter().enumerate() {
-        let wanted = if i < 48 { 7 } else { 0 };
-        assert_eq!(rt; *byte, wanted, "at {i}");
-    }
+    let mut owner = one_owner(rt.alloc(), 4096, 1024)?;
+    let table = [
+        (Call::Allocate(48, 4), Answer::Chunk(4096, 1024)),
+        (Call::GrowZeroed(0, (48, 4), (64, 4)), Answer::InPlace(1024)),
+    ];
+    owner.answers(&rt, &table);
+    owner.has_zeros(&rt, 4144, 976);
     Ok(())
 }
 
 #[test]
 fn one_doc_example(rt: HostRuntime) -> Result<(), Fail> {
-    let mut region = Region::new(4096, vec![in rt.alloc(); 7; 1024]?);
-    let mut one = OneChunkAllocator::new(4096, 1024);
-    let of_48 = Layout::from_size_align(48, 4)?;
-    let of_64 = Layout::from_size_align(64, 4)?;
-    let chunk = one.allocate(of_48)?;
-    let place = chunk.place();
-    assert_eq!(rt; (place, chunk.len()), (4096, 1024));
-    let shrunk = one.shrink(place, of_64, Layout::from_size_align(32, 4)?)?;
-    assert_eq!(rt; (shrunk.place(), shrunk.len()), (4096, 32));
-    let grown = one.grow_zeroed(place, of_48, of_64, &mut region)?;
-    assert_eq!(rt; (grown.place(), grown.len()), (4096, 1024));
-    one.deallocate(place, of_64);
-    assert!(rt; one.has_chunk_available());
-    for (i, byte) in region.bytes().iter().enumerate() {
-        let wanted = if i < 48 { 7 } else { 0 };
-        assert_eq!(rt; *byte, wanted, "at {i}");
-    }
+    let mut owner = one_owner(rt.alloc(), 4096, 1024)?;
+    let table = [
+        (Call::Allocate(48, 4), Answer::Chunk(4096, 1024)),
+        (Call::Shrink(0, (64, 4), (32, 4)), Answer::InPlace(32)),
+        (Call::GrowZeroed(0, (48, 4), (64, 4)), Answer::InPlace(1024)),
+        (Call::Deallocate(0), Answer::Done),
+    ];
+    owner.answers(&rt, &table);
+    assert!(rt; owner.allocator().has_chunk_available());
+    owner.has_zeros(&rt, 4144, 976);
     Ok(())
 }

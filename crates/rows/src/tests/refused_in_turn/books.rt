@@ -1,56 +1,104 @@
 //! A refused loan leaves the book as it was: each sample is out that was out before, and no other.
-use crate::tests::pools::pool_over;
-use bb_memory::layout::{Chunk, Layout};
-use bb_memory::one_chunk_allocator::OneChunkAllocator;
-use loan_book::{LoanBook, LoanCall, LoanError, LoanReply, run_loans};
+use super::ends_unmade;
+use crate::marks::some_was_refused;
+use crate::tests::counted::counted_book;
+use crate::tests::loans::{answers, id_of, one_book, pool_book, reply_to, told};
+use bb_memory::allocator::Allocator;
+use bb_memory::layout::Chunk;
+use loan_book::{LoanBook, LoanCall, LoanError, LoanReply};
+use std::alloc::Global;
+use std::cell::Cell;
+use std::process::Abort;
+use std::rc::Rc;
 use std::test::Fail;
 
 #[test]
 fn each_loan_keeps_the_book(rt: HostRuntime) -> Result<(), Fail> {
-    let bucket = Layout::from_size_align(64, 8)?;
-    let Ok(pool) = pool_over(rt.alloc(), bucket, 4096, 1024) else {
-        return Ok(());
+    let Ok(mut book) = pool_book(rt.alloc(), (64, 8), 4096, 1024) else {
+        return ends_unmade(&rt, rt.alloc());
     };
-    let mut book = LoanBook::new(rt.alloc(), pool);
     for id in 0..16 {
-        let loaned = match book.loan(64) {
-            Err(error) => {
-                assert_eq!(rt; error, LoanError::Memory);
-                for other in 0..17 {
-                    assert_eq!(rt; book.is_out(other), other < id);
-                }
-                book.loan(64)
-            }
-            loaned => loaned,
-        };
-        assert_eq!(rt; loaned?.0, id);
+        is_loaned(&rt, rt.alloc(), &mut book, id);
     }
     Ok(())
 }
 
+/// The next sample that is loaned has this id, where memory was refused at a second trial. The refusal leaves just the samples
+/// before it out.
+fn is_loaned<A: Allocator>(rt: &impl Abort, alloc: Global, book: &mut LoanBook<A>, id: u64) {
+    let mut reply = reply_to(book, LoanCall::Loan(64));
+    if reply == LoanReply::Refused(LoanError::Memory) {
+        assert!(rt; some_was_refused(alloc));
+        for other in 0..17 {
+            answers(
+                rt,
+                book,
+                &[(LoanCall::IsOut(other), LoanReply::Out(other < id))],
+            );
+        }
+        reply = reply_to(book, LoanCall::Loan(64));
+    }
+    assert_eq!(rt; id_of(reply), Some(id));
+}
+
+/// A loan that is refused for its record's memory hasn't asked the allocator, and one that is made has asked it once.
 #[test]
-fn a_list_of_loans_keeps_the_book(rt: HostRuntime) -> Result<(), Fail> {
-    let mut book = LoanBook::new(rt.alloc(), OneChunkAllocator::new(4096, 64));
+fn a_loan_asks_for_its_record_first(rt: HostRuntime) -> Result<(), Fail> {
+    let Ok(requests) = Rc::new(rt.alloc(), Cell::new(0)) else {
+        return ends_unmade(&rt, rt.alloc());
+    };
+    let Ok(mut book) = counted_book(rt.alloc(), requests.clone()?) else {
+        return ends_unmade(&rt, rt.alloc());
+    };
+    for _ in 0..16 {
+        asks_once(&rt, rt.alloc(), &requests, &mut book);
+    }
+    Ok(())
+}
+
+/// A loan makes no request of the allocator where it is refused for its record's memory, and else one.
+fn asks_once<A: Allocator>(
+    rt: &impl Abort,
+    alloc: Global,
+    requests: &Cell<usize>,
+    book: &mut LoanBook<A>,
+) {
+    let reply = reply_to(book, LoanCall::Loan(64));
+    if reply == LoanReply::Refused(LoanError::Memory) {
+        assert!(rt; some_was_refused(alloc));
+        assert_eq!(rt; requests.replace(0), 0);
+    } else {
+        assert!(rt; id_of(reply).is_some());
+        assert_eq!(rt; requests.replace(0), 1);
+    }
+}
+
+#[test]
+fn a_list_of_loans_keeps_the_book(rt: HostRuntime) {
     let whole = Chunk::new(4096, 64).unwrap();
     let calls = [LoanCall::Loan(1), LoanCall::GiveBack(0)];
     let replies = [LoanReply::Loaned(0, whole), LoanReply::Returned];
-    let told = match run_loans(rt.alloc(), &mut book, &calls) {
-        Ok(told) => told,
-        Err(_) => {
-            assert!(rt; !book.is_out(0));
-            run_loans(rt.alloc(), &mut book, &calls)?
-        }
-    };
-    // The list of replies was reserved first, so what is refused then is the record of the loan, which no id was used up for.
+    let mut book = one_book(rt.alloc());
+    let told = told_at_last(&rt, rt.alloc(), &mut book, &calls);
+    assert_eq!(rt; told.as_slice(), replies.as_slice());
+}
+
+/// The replies to a loan and its return, where memory was refused at a second trial.
+fn told_at_last<A: Allocator>(
+    rt: &impl Abort,
+    alloc: Global,
+    book: &mut LoanBook<A>,
+    calls: &[LoanCall],
+) -> Vec<LoanReply> {
+    // The list of replies is reserved first. What is refused after it is the record of the loan, which no id is used up for.
     let refused = [
         LoanReply::Refused(LoanError::Memory),
         LoanReply::Refused(LoanError::UnknownSample),
     ];
-    let told = if told.as_slice() == refused.as_slice() {
-        run_loans(rt.alloc(), &mut book, &calls)?
-    } else {
-        told
-    };
-    assert_eq!(rt; told.as_slice(), replies.as_slice());
-    Ok(())
+    match told(alloc, book, calls) {
+        Ok(replies) if replies.as_slice() != refused.as_slice() => return replies,
+        _ => assert!(rt; some_was_refused(alloc)),
+    }
+    answers(rt, book, &[(LoanCall::IsOut(0), LoanReply::Out(false))]);
+    told(alloc, book, calls).expect(rt, "there is memory again")
 }

@@ -1,7 +1,9 @@
 //! A refused `init` or `share` hands back what it was called on, as it was.
 ghost use Rattle.std.specs.Prelude.{◌≡◌, All, IfOk, length};
 
+use crate::marks::some_was_refused;
 use crate::tests::errors::has_text;
+use crate::tests::pools::has_figures;
 use bb_memory::bump_allocator::{AllocationError, BaseAllocator, BumpAllocator};
 use bb_memory::layout::Layout;
 use bb_memory::pool_allocator::PoolAllocator;
@@ -21,17 +23,14 @@ fn pool_odd_start_getters(rt: HostRuntime) -> Result<(), Fail> {
         Ok(pool) => Ok(pool),
         Err((handed_back, error)) => {
             assert_eq!(rt; error, AllocationError::OutOfMemory);
+            assert!(rt; some_was_refused(rt.alloc()));
             handed_back.init(rt.alloc())
         }
     };
     let Ok(pool) = made else {
         return Err(Fail::from("init was refused with memory"));
     };
-    assert_eq!(rt; (pool.start_address(), pool.number_of_buckets()), (4104, 7));
-    assert_eq!(rt;
-        (pool.size(), pool.bucket_size(), pool.max_alignment()),
-        (1024, 128, 8)
-    );
+    has_figures(&rt, &pool, [4104, 7, 1024, 128, 8]);
     assert_eq!(rt; pool.last_reads(), 0);
     Ok(())
 }
@@ -51,6 +50,7 @@ fn shared_by_two(
         Err(refused) => refused,
     };
     assert_eq!(rt; error, AllocationError::OutOfMemory);
+    assert!(rt; some_was_refused(alloc));
     assert_eq!(rt; handed_back.used_space(), 48);
     let text = "BumpAllocator { start: 4096, size: 1024, current_position: 48 }";
     has_text(rt, alloc, &handed_back, text)?;

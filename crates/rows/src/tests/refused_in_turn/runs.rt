@@ -1,12 +1,18 @@
 //! A refused run has applied no command: the allocator and its live list are as before.
-use crate::tests::pools::pool_over;
-use bb_memory::allocator::{
-    AllocationError, AllocationGrowError, Command, Reply, run_base, run_full,
-};
+use super::ends_unmade;
+use crate::marks::some_was_refused;
+use crate::tests::bumps::bump_owner;
+use crate::tests::one_chunks::one_owner;
+use crate::tests::owner::Owner;
+use crate::tests::owner::runs::replies_are;
+use crate::tests::pools::pool_owner;
+use bb_memory::allocator::{AllocationError, AllocationGrowError, Command, Reply};
 use bb_memory::bump_allocator::BumpAllocator;
 use bb_memory::layout::{Chunk, Layout};
 use bb_memory::one_chunk_allocator::OneChunkAllocator;
-use bb_memory::pool_allocator::run_pool;
+use bb_memory::pool_allocator::PoolAllocator;
+use std::alloc::Global;
+use std::process::Abort;
 use std::test::Fail;
 
 /// The commands of row `bump-first-path`, up to its second `show`, as one batch.
@@ -30,19 +36,18 @@ fn bump_first_path(rt: HostRuntime) -> Result<(), Fail> {
         Reply::Chunk(Chunk::new(4170, 950).unwrap()),
         Reply::Refused(AllocationError::OutOfMemory),
     ];
-    let mut bump = BumpAllocator::new(4096, 1024);
-    let mut live = Vec::new(rt.alloc());
-    let told = match run_base(&mut bump, &mut live, &commands) {
-        Ok(told) => told,
-        Err(_) => {
-            assert_eq!(rt; bump.used_space(), 0);
-            assert!(rt; live.is_empty());
-            run_base(&mut bump, &mut live, &commands)?
-        }
+    let Ok(mut bump) = bump_owner(rt.alloc(), 4096, 1024) else {
+        return ends_unmade(&rt, rt.alloc());
     };
-    assert_eq!(rt; told.as_slice(), replies.as_slice());
-    assert_eq!(rt; bump.used_space(), 1024);
-    assert_eq!(rt; live.len(), 3);
+    replies_are(
+        &rt,
+        told_by_bump(&rt, rt.alloc(), &mut bump, &commands),
+        &replies,
+    );
+    assert_eq!(rt;
+        (bump.allocator().used_space(), bump.live().len()),
+        (1024, 3)
+    );
     Ok(())
 }
 
@@ -82,18 +87,15 @@ fn one_resizes(rt: HostRuntime) -> Result<(), Fail> {
         Reply::Chunk(whole),
         Reply::Passed,
     ];
-    let mut one = OneChunkAllocator::new(4097, 1024);
-    let mut live = Vec::new(rt.alloc());
-    let told = match run_full(&mut one, &mut live, &commands) {
-        Ok(told) => told,
-        Err(_) => {
-            assert!(rt; one.has_chunk_available());
-            assert!(rt; live.is_empty());
-            run_full(&mut one, &mut live, &commands)?
-        }
+    let Ok(mut one) = one_owner(rt.alloc(), 4097, 1024) else {
+        return ends_unmade(&rt, rt.alloc());
     };
-    assert_eq!(rt; told.as_slice(), replies.as_slice());
-    assert_eq!(rt; live.as_slice(), [whole].as_slice());
+    replies_are(
+        &rt,
+        told_by_one(&rt, rt.alloc(), &mut one, &commands),
+        &replies,
+    );
+    assert_eq!(rt; one.live(), [whole].as_slice());
     Ok(())
 }
 
@@ -112,34 +114,87 @@ fn pool_eight_buckets(rt: HostRuntime) -> Result<(), Fail> {
     let Some(commands) = eight_buckets() else {
         return Err(Fail::from("a layout was refused"));
     };
-    let Ok(mut pool) = pool_over(rt.alloc(), Layout::from_size_align(128, 8)?, 4096, 1024) else {
-        return Ok(());
+    let Ok(mut pool) = pool_owner(rt.alloc(), (128, 8), 4096, 1024) else {
+        return ends_unmade(&rt, rt.alloc());
     };
-    let mut live = Vec::new(rt.alloc());
-    let told = match run_pool(&mut pool, &mut live, &commands) {
-        Ok(told) => told,
-        Err(_) => {
-            assert!(rt; live.is_empty());
-            run_pool(&mut pool, &mut live, &commands)?
-        }
-    };
+    let told = told_by_pool(&rt, rt.alloc(), &mut pool, &commands);
+    are_of_eight_buckets(&rt, &told);
+    assert_eq!(rt; pool.live().len(), 8);
+    Ok(())
+}
+
+/// The replies of the row: three refusals, the eight buckets, one more refusal, and the first bucket once more.
+fn are_of_eight_buckets(rt: &impl Abort, told: &[Reply]) {
     let refused = [
         Reply::Refused(AllocationError::SizeTooLarge),
         Reply::Refused(AllocationError::SizeTooLarge),
         Reply::Refused(AllocationError::AlignmentFailure),
     ];
-    assert_eq!(rt; told.get(..3), Some(refused.as_slice()));
-    for place in (4096..5120).step_by(128) {
-        let bucket = Reply::Chunk(Chunk::new(place, 48).unwrap());
-        let given = told.iter().skip(3).take(8);
-        assert_eq!(rt; given.filter(|reply| **reply == bucket).count(), 1);
-    }
     let full = [
         Reply::Refused(AllocationError::OutOfMemory),
         Reply::Released,
     ];
+    assert_eq!(rt; told.get(..3), Some(refused.as_slice()));
+    are_given_once(rt, told, 4096);
     assert_eq!(rt; told.get(11..13), Some(full.as_slice()));
     assert_eq!(rt; told.get(13), told.get(3));
-    assert_eq!(rt; live.len(), 8);
-    Ok(())
+    assert_eq!(rt; told.len(), 14);
+}
+
+/// Each of the eight buckets from here on, 128 bytes apart, has exactly one chunk of 48 bytes among the fourth reply and the seven
+/// behind it.
+fn are_given_once(rt: &impl Abort, told: &[Reply], start: usize) {
+    for place in (start..).step_by(128).take(8) {
+        let bucket = Chunk::new(place, 48).map(Reply::Chunk);
+        let given = told.iter().skip(3).take(8);
+        assert_eq!(rt; given.filter(|reply| Some(**reply) == bucket).count(), 1);
+    }
+}
+
+/// The replies of a run over a bump, which is fresh where memory was refused at first.
+fn told_by_bump(
+    rt: &impl Abort,
+    alloc: Global,
+    bump: &mut Owner<BumpAllocator>,
+    commands: &[Command],
+) -> Vec<Reply> {
+    if let Ok(told) = bump.run_base(commands) {
+        return told;
+    }
+    assert!(rt; some_was_refused(alloc));
+    assert_eq!(rt; (bump.allocator().used_space(), bump.live().len()), (0, 0));
+    bump.run_base(commands).expect(rt, "there is memory again")
+}
+
+/// The same over a one chunk.
+fn told_by_one(
+    rt: &impl Abort,
+    alloc: Global,
+    one: &mut Owner<OneChunkAllocator>,
+    commands: &[Command],
+) -> Vec<Reply> {
+    if let Ok(told) = one.run(commands) {
+        return told;
+    }
+    assert!(rt; some_was_refused(alloc));
+    assert_eq!(rt;
+        (one.allocator().has_chunk_available(), one.live().len()),
+        (true, 0)
+    );
+    one.run(commands).expect(rt, "there is memory again")
+}
+
+/// The same over a pool.
+fn told_by_pool(
+    rt: &impl Abort,
+    alloc: Global,
+    pool: &mut Owner<PoolAllocator<Global>>,
+    commands: &[Command],
+) -> Vec<Reply> {
+    if let Ok(told) = pool.run_pool(commands) {
+        return told;
+    }
+    assert!(rt; some_was_refused(alloc));
+    assert_eq!(rt; pool.live().len(), 0);
+    pool.run_pool(commands).expect(rt, "there is memory again")
 }

@@ -1,15 +1,39 @@
 //! A refused world isn't made, and a refused replay leaves its world as it was.
+use crate::marks::some_was_refused;
+use crate::tests::worlds::{bump_outcome, pool_outcome};
 use bb_memory::layout::{Chunk, Layout};
 use bb_memory::steps::{BumpOutcome, BumpStep, BumpWorld, PoolOutcome, PoolStep, PoolWorld};
+use std::alloc::Global;
+use std::process::Abort;
 use std::test::Fail;
+
+/// A world of a bump at 4096 of 64 bytes with 64 parties, where memory was refused at a second trial.
+fn bump_world(rt: &impl Abort, alloc: Global) -> BumpWorld {
+    if let Ok(world) = BumpWorld::new(alloc, 4096, 64, 64) {
+        return world;
+    }
+    assert!(rt; some_was_refused(alloc));
+    BumpWorld::new(alloc, 4096, 64, 64).expect(rt, "there is memory again")
+}
+
+/// What a replay tells, which leaves the bump fresh where memory was refused at first.
+fn replayed_by_bump(
+    rt: &impl Abort,
+    alloc: Global,
+    world: &mut BumpWorld,
+    steps: &[BumpStep],
+) -> Vec<BumpOutcome> {
+    if let Ok(told) = world.replay(steps) {
+        return told;
+    }
+    assert!(rt; some_was_refused(alloc));
+    let load = bump_outcome(world, BumpStep::Load { party: 0 });
+    assert_eq!(rt; load, BumpOutcome::Loaded(0));
+    world.replay(steps).expect(rt, "there is memory again")
+}
 
 #[test]
 fn steps_bump_race(rt: HostRuntime) -> Result<(), Fail> {
-    let made = match BumpWorld::new(rt.alloc(), 4096, 64, 64) {
-        Err(_) => BumpWorld::new(rt.alloc(), 4096, 64, 64),
-        made => made,
-    };
-    let mut world = made?;
     let layout = Layout::from_size_align(40, 1)?;
     let steps = [
         BumpStep::Read { party: 0, layout },
@@ -23,26 +47,46 @@ fn steps_bump_race(rt: HostRuntime) -> Result<(), Fail> {
         BumpOutcome::Wins(Chunk::new(4096, 40).unwrap()),
         BumpOutcome::RefusedAtLoss(40),
     ];
-    let told = match world.replay(&steps) {
-        Ok(told) => told,
-        Err(_) => {
-            let load = world.step(BumpStep::Load { party: 0 });
-            assert_eq!(rt; load, BumpOutcome::Loaded(0));
-            world.replay(&steps)?
-        }
-    };
+    let mut world = bump_world(&rt, rt.alloc());
+    let told = replayed_by_bump(&rt, rt.alloc(), &mut world, &steps);
     assert_eq!(rt; told.as_slice(), outcomes.as_slice());
     assert_eq!(rt; world.used_space(), 40);
     Ok(())
 }
 
+/// A world of a pool of two buckets with 64 parties, where memory was refused at a second trial.
+fn pool_world(rt: &impl Abort, alloc: Global) -> PoolWorld {
+    if let Ok(world) = PoolWorld::new(alloc, 2, 64) {
+        return world;
+    }
+    assert!(rt; some_was_refused(alloc));
+    PoolWorld::new(alloc, 2, 64).expect(rt, "there is memory again")
+}
+
+/// What a replay tells, which leaves the pool fresh where memory was refused at first.
+fn replayed_by_pool(
+    rt: &impl Abort,
+    alloc: Global,
+    world: &mut PoolWorld,
+    steps: &[PoolStep],
+) -> Vec<PoolOutcome> {
+    if let Ok(told) = world.replay(steps) {
+        return told;
+    }
+    assert!(rt; some_was_refused(alloc));
+    let untimely = pool_outcome(
+        world,
+        PoolStep::GiveBack {
+            party: 0,
+            bucket: 0,
+        },
+    );
+    assert_eq!(rt; untimely, PoolOutcome::Passed);
+    world.replay(steps).expect(rt, "there is memory again")
+}
+
 #[test]
-fn steps_pool_never_full(rt: HostRuntime) -> Result<(), Fail> {
-    let made = match PoolWorld::new(rt.alloc(), 2, 64) {
-        Err(_) => PoolWorld::new(rt.alloc(), 2, 64),
-        made => made,
-    };
-    let mut world = made?;
+fn steps_pool_never_full(rt: HostRuntime) {
     let steps = [
         PoolStep::Try { party: 0 },
         PoolStep::Try { party: 1 },
@@ -62,18 +106,8 @@ fn steps_pool_never_full(rt: HostRuntime) -> Result<(), Fail> {
         PoolOutcome::Takes(1),
         PoolOutcome::RefusedAtLoss(1),
     ];
-    let told = match world.replay(&steps) {
-        Ok(told) => told,
-        Err(_) => {
-            let untimely = world.step(PoolStep::GiveBack {
-                party: 0,
-                bucket: 0,
-            });
-            assert_eq!(rt; untimely, PoolOutcome::Passed);
-            world.replay(&steps)?
-        }
-    };
+    let mut world = pool_world(&rt, rt.alloc());
+    let told = replayed_by_pool(&rt, rt.alloc(), &mut world, &steps);
     assert_eq!(rt; told.as_slice(), outcomes.as_slice());
     assert_eq!(rt; (world.holder(0), world.holder(1)), (None, Some(1)));
-    Ok(())
 }

@@ -1,27 +1,38 @@
 //! Loan books: `loan` alone takes memory, and it asks for its record's before it asks its allocator.
-use crate::marks::{none_was_asked, refuse_memory};
-use crate::tests::pools::pool_over;
-use bb_memory::allocator::AllocationError;
-use bb_memory::layout::Layout;
-use bb_memory::one_chunk_allocator::OneChunkAllocator;
-use loan_book::{LoanBook, LoanError};
+use super::super::ends_unmade;
+use crate::marks::{none_was_asked, refuse_memory, some_was_refused};
+use crate::tests::loans::{answers, id_of, one_book, pool_book, reply_to};
+use bb_memory::allocator::{AllocationError, Allocator};
+use loan_book::{LoanBook, LoanCall, LoanError, LoanReply};
+use std::alloc::Global;
+use std::process::Abort;
 use std::test::Fail;
 
 #[test]
 fn a_loan_book(rt: HostRuntime) -> Result<(), Fail> {
-    let mut book = LoanBook::new(rt.alloc(), OneChunkAllocator::new(4096, 64));
-    if book.loan(64).is_err() {
-        return Ok(());
+    let mut book = one_book(rt.alloc());
+    if id_of(reply_to(&mut book, LoanCall::Loan(64))).is_none() {
+        return ends_unmade(&rt, rt.alloc());
     }
     refuse_memory(rt.alloc());
-    assert_eq!(rt; book.publish(1, 2), Err(LoanError::UnknownSample));
-    assert_eq!(rt; book.publish(0, 2), Ok(()));
-    assert_eq!(rt; book.give_back(0), Ok(false));
-    assert!(rt; book.is_out(0));
-    assert_eq!(rt; book.give_back(0), Ok(true));
-    assert!(rt; !book.is_out(0));
-    let another = LoanBook::new(rt.alloc(), OneChunkAllocator::new(4096, 64));
-    assert!(rt; !another.is_out(0));
+    let table = [
+        (
+            LoanCall::Publish(1, 2),
+            LoanReply::Refused(LoanError::UnknownSample),
+        ),
+        (LoanCall::Publish(0, 2), LoanReply::Published),
+        (LoanCall::GiveBack(0), LoanReply::Kept),
+        (LoanCall::IsOut(0), LoanReply::Out(true)),
+        (LoanCall::GiveBack(0), LoanReply::Returned),
+        (LoanCall::IsOut(0), LoanReply::Out(false)),
+    ];
+    answers(&rt, &mut book, &table);
+    let mut another = one_book(rt.alloc());
+    answers(
+        &rt,
+        &mut another,
+        &[(LoanCall::IsOut(0), LoanReply::Out(false))],
+    );
     assert!(rt; none_was_asked(rt.alloc()));
     Ok(())
 }
@@ -30,20 +41,29 @@ fn a_loan_book(rt: HostRuntime) -> Result<(), Fail> {
 /// refused for its record's, before the pool is asked; with memory it is refused by the pool.
 #[test]
 fn a_loan_of_a_full_pool(rt: HostRuntime) -> Result<(), Fail> {
-    let Ok(pool) = pool_over(rt.alloc(), Layout::from_size_align(64, 8)?, 4096, 1024) else {
-        return Ok(());
+    let Ok(mut book) = pool_book(rt.alloc(), (64, 8), 4096, 1024) else {
+        return ends_unmade(&rt, rt.alloc());
     };
-    let mut book = LoanBook::new(rt.alloc(), pool);
     for _ in 0..16 {
-        if book.loan(64).is_err() {
-            return Ok(());
+        if id_of(reply_to(&mut book, LoanCall::Loan(64))).is_none() {
+            return ends_unmade(&rt, rt.alloc());
         }
     }
-    let full = Err(LoanError::Allocation(AllocationError::OutOfMemory));
-    let refused = refuse_memory(rt.alloc());
-    let answer = book.loan(64);
-    assert_eq!(rt; none_was_asked(rt.alloc()), !refused);
-    assert!(rt; answer == Err(LoanError::Memory) || !refused && answer == full);
-    assert_eq!(rt; book.loan(64), full);
+    is_refused(&rt, rt.alloc(), &mut book);
     Ok(())
+}
+
+/// A loan that finds no bucket is refused for its record's memory, where that was refused, and else by the allocator.
+fn is_refused<A: Allocator>(rt: &impl Abort, alloc: Global, book: &mut LoanBook<A>) {
+    let full = LoanReply::Refused(LoanError::Allocation(AllocationError::OutOfMemory));
+    let refused = refuse_memory(alloc);
+    let reply = reply_to(book, LoanCall::Loan(64));
+    assert_eq!(rt; none_was_asked(alloc), !refused);
+    let wanted = if some_was_refused(alloc) {
+        LoanReply::Refused(LoanError::Memory)
+    } else {
+        full
+    };
+    assert_eq!(rt; reply, wanted);
+    assert_eq!(rt; reply_to(book, LoanCall::Loan(64)), full);
 }

@@ -1,58 +1,61 @@
 //! The bump and the one chunk of one owner.
+use super::super::ends_unmade;
 use crate::marks::{none_was_asked, refuse_memory};
-use bb_memory::allocator::Allocator;
+use crate::tests::bumps::{bump_owner, has_figures};
+use crate::tests::one_chunks::one_owner;
+use crate::tests::owner::{Answer, Call, with_room};
 use bb_memory::bump_allocator::{BaseAllocator, BumpAllocator};
-use bb_memory::layout::Layout;
 use bb_memory::one_chunk_allocator::OneChunkAllocator;
-use bb_memory::region::Region;
 use std::test::Fail;
 
 #[test]
 fn a_bump(rt: HostRuntime) -> Result<(), Fail> {
-    let Ok(bytes) = vec![in rt.alloc(); 7; 64] else {
-        return Ok(());
+    let Ok(mut bump) = with_room(bump_owner(rt.alloc(), 4096, 64), 2) else {
+        return ends_unmade(&rt, rt.alloc());
     };
+    let requests = [
+        (Call::Allocate(8, 8), Answer::Chunk(4096, 8)),
+        (Call::AllocateZeroed(8, 8), Answer::Chunk(4104, 8)),
+    ];
     refuse_memory(rt.alloc());
-    let mut region = Region::new(4096, bytes);
     assert!(rt; BumpAllocator::can_make(4096, 64));
-    let mut bump = BumpAllocator::new(4096, 64);
-    let eight = Layout::from_size_align(8, 8)?;
-    assert_eq!(rt; bump.allocate(eight)?.place(), 4096);
-    assert_eq!(rt; bump.allocate_zeroed(eight, &mut region)?.place(), 4104);
-    assert_eq!(rt; (bump.used_space(), bump.free_space()), (16, 48));
-    assert_eq!(rt; (bump.start_address(), bump.total_space()), (4096, 64));
-    bump.stands_for_some_list();
-    bump.deallocate(4096, eight);
+    has_figures(&rt, &BumpAllocator::new(4096, 64), [4096, 0, 64, 64]);
+    bump.answers_base(&rt, &requests);
+    has_figures(&rt, bump.allocator(), [4096, 16, 48, 64]);
+    bump.laws();
+    let release = [(Call::Deallocate(0), Answer::Done)];
+    bump.answers_base(&rt, &release);
     assert!(rt; none_was_asked(rt.alloc()));
-    assert_eq!(rt; bump.used_space(), 0);
+    has_figures(&rt, bump.allocator(), [4096, 0, 64, 64]);
     Ok(())
 }
 
 #[test]
 fn a_one_chunk(rt: HostRuntime) -> Result<(), Fail> {
-    let Ok(bytes) = vec![in rt.alloc(); 7; 64] else {
-        return Ok(());
+    let Ok(mut one) = with_room(one_owner(rt.alloc(), 4096, 64), 1) else {
+        return ends_unmade(&rt, rt.alloc());
     };
+    let table = [
+        (Call::AllocateZeroed(32, 4), Answer::Chunk(4096, 64)),
+        (Call::Shrink(0, (32, 4), (16, 4)), Answer::InPlace(16)),
+        (Call::Grow(0, (16, 4), (32, 4)), Answer::InPlace(64)),
+        (Call::GrowZeroed(0, (16, 4), (32, 4)), Answer::InPlace(64)),
+        (Call::Reserved(0), Answer::Reserved(64)),
+    ];
+    let again = [
+        (Call::Deallocate(0), Answer::Done),
+        (Call::Allocate(32, 4), Answer::Chunk(4096, 64)),
+    ];
     refuse_memory(rt.alloc());
-    let mut region = Region::new(4096, bytes);
     assert!(rt; OneChunkAllocator::can_make(4096, 64));
-    let mut one = OneChunkAllocator::new(4096, 64);
-    assert_eq!(rt; (one.start_address(), one.size()), (4096, 64));
-    let of_16 = Layout::from_size_align(16, 4)?;
-    let of_32 = Layout::from_size_align(32, 4)?;
-    let place = one.allocate_zeroed(of_32, &mut region)?.place();
-    assert_eq!(rt; one.shrink(place, of_32, of_16)?.len(), 16);
-    assert_eq!(rt; one.grow(place, of_16, of_32)?.len(), 64);
-    assert_eq!(rt;
-        one.grow_zeroed(place, of_16, of_32, &mut region)?.len(),
-        64
-    );
-    assert_eq!(rt; one.reserved(place), 64);
-    assert!(rt; one.holds(place) && !one.holds(1));
-    one.stands_for_some_list();
-    one.deallocate(place, of_32);
-    assert!(rt; one.has_chunk_available());
-    assert_eq!(rt; one.allocate(of_32)?.len(), 64);
+    assert!(rt; OneChunkAllocator::new(4096, 64).has_chunk_available());
+    one.answers(&rt, &table);
+    let allocator = one.allocator();
+    assert_eq!(rt; (allocator.start_address(), allocator.size()), (4096, 64));
+    assert!(rt; allocator.holds(4096) && !allocator.holds(1));
+    allocator.stands_for_some_list();
+    one.answers(&rt, &again);
+    assert!(rt; !one.allocator().has_chunk_available());
     assert!(rt; none_was_asked(rt.alloc()));
     Ok(())
 }

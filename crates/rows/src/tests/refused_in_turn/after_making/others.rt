@@ -1,5 +1,8 @@
 //! Layouts, regions, heap blocks and worlds.
+use super::super::ends_unmade;
 use crate::marks::{none_was_asked, refuse_memory, some_was_freed};
+use crate::tests::heap_blocks::{BlockAnswer, BlockCall, answered, block_of};
+use crate::tests::worlds::{bump_outcome, pool_outcome};
 use bb_memory::heap_allocator::HeapAllocator;
 use bb_memory::layout::{Chunk, Layout, round_up};
 use bb_memory::region::Region;
@@ -25,7 +28,7 @@ fn layouts_and_chunks(rt: HostRuntime) -> Result<(), Fail> {
 #[test]
 fn a_region(rt: HostRuntime) -> Result<(), Fail> {
     let Ok(bytes) = vec![in rt.alloc(); 7; 8] else {
-        return Ok(());
+        return ends_unmade(&rt, rt.alloc());
     };
     refuse_memory(rt.alloc());
     assert!(rt; Region::can_make(4096, 8));
@@ -44,17 +47,15 @@ fn a_region(rt: HostRuntime) -> Result<(), Fail> {
 #[test]
 fn a_heap_block(rt: HostRuntime) -> Result<(), Fail> {
     let two = Layout::from_size_align(2, 1)?;
-    let four = Layout::from_size_align(4, 1)?;
-    let Ok(mut block) = HeapAllocator::new(rt.alloc()).allocate(four) else {
-        return Ok(());
+    let Ok(block) = block_of(&HeapAllocator::new(rt.alloc()), 4) else {
+        return ends_unmade(&rt, rt.alloc());
     };
+    let (block, _) = answered(&HeapAllocator::new(rt.alloc()), block, BlockCall::Count(1));
     refuse_memory(rt.alloc());
     let heap = HeapAllocator::new(rt.alloc());
-    block.as_mut_slice().copy_from_slice(&[1, 2, 3, 4]);
-    let Ok(block) = heap.shrink(block, four, two) else {
-        return Err(Fail::from("a shrink was refused"));
-    };
-    assert_eq!(rt; (block.as_slice(), block.len()), ([1, 2].as_slice(), 2));
+    let (block, answer) = answered(&heap, block, BlockCall::Shrink(2, 1));
+    assert_eq!(rt; (answer, block.len()), (BlockAnswer::Done, 2));
+    assert_eq!(rt; block.as_slice(), [1, 2].as_slice());
     heap.deallocate(block, two);
     assert!(rt; some_was_freed(rt.alloc()));
     assert!(rt; none_was_asked(rt.alloc()));
@@ -63,20 +64,22 @@ fn a_heap_block(rt: HostRuntime) -> Result<(), Fail> {
 
 #[test]
 fn worlds(rt: HostRuntime) -> Result<(), Fail> {
+    let layout = Layout::from_size_align(40, 1)?;
+    let whole = Chunk::new(4096, 40).unwrap();
     let Ok(mut bump) = BumpWorld::new(rt.alloc(), 4096, 64, 2) else {
-        return Ok(());
+        return ends_unmade(&rt, rt.alloc());
     };
     let Ok(mut pool) = PoolWorld::new(rt.alloc(), 2, 2) else {
-        return Ok(());
+        return ends_unmade(&rt, rt.alloc());
     };
     refuse_memory(rt.alloc());
-    let layout = Layout::from_size_align(40, 1)?;
-    let read = bump.step(BumpStep::Read { party: 1, layout });
-    assert_eq!(rt; read, BumpOutcome::Sees(0));
-    let won = bump.step(BumpStep::Exchange { party: 1 });
-    assert_eq!(rt; won, BumpOutcome::Wins(Chunk::new(4096, 40).unwrap()));
+    let outcomes = [
+        bump_outcome(&mut bump, BumpStep::Read { party: 1, layout }),
+        bump_outcome(&mut bump, BumpStep::Exchange { party: 1 }),
+    ];
+    assert_eq!(rt; outcomes, [BumpOutcome::Sees(0), BumpOutcome::Wins(whole)]);
     assert_eq!(rt; bump.used_space(), 40);
-    let taken = pool.step(PoolStep::Try { party: 1 });
+    let taken = pool_outcome(&mut pool, PoolStep::Try { party: 1 });
     assert_eq!(rt; (taken, pool.holder(0)), (PoolOutcome::Takes(0), Some(1)));
     bump_theorem();
     pool_theorem();

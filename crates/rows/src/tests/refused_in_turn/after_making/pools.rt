@@ -1,37 +1,34 @@
 //! The pools of one owner.
+use super::super::ends_unmade;
 use crate::marks::{none_was_asked, refuse_memory};
-use crate::tests::fixed_pools::fixed_over;
-use crate::tests::pools::pool_over;
+use crate::tests::fixed_pools::{self, fixed_over, fixed_owner};
+use crate::tests::owner::{Answer, Call, with_room};
+use crate::tests::pools::{self, pool_owner};
 use bb_memory::layout::Layout;
-use bb_memory::pool_allocator::{Allocator, BaseAllocator, PoolAllocator};
-use bb_memory::region::Region;
+use bb_memory::pool_allocator::{BaseAllocator, PoolAllocator};
 use std::test::Fail;
+
+/// The requests and resizes of a pool, by its first bucket.
+const TABLE: [(Call, Answer); 6] = [
+    (Call::Allocate(32, 4), Answer::Somewhere(32)),
+    (Call::Shrink(0, (32, 4), (16, 4)), Answer::InPlace(16)),
+    (Call::Grow(0, (16, 4), (32, 4)), Answer::InPlace(32)),
+    (Call::GrowZeroed(0, (16, 4), (32, 4)), Answer::InPlace(32)),
+    (Call::Reserved(0), Answer::Reserved(32)),
+    (Call::AllocateZeroed(32, 4), Answer::Somewhere(32)),
+];
 
 /// The requests, resizes and releases of a pool.
 #[test]
 fn calls_of_a_pool(rt: HostRuntime) -> Result<(), Fail> {
-    let bucket = Layout::from_size_align(32, 8)?;
-    let Ok(mut pool) = pool_over(rt.alloc(), bucket, 4096, 64) else {
-        return Ok(());
-    };
-    let Ok(bytes) = vec![in rt.alloc(); 7; 64] else {
-        return Ok(());
+    let Ok(mut pool) = with_room(pool_owner(rt.alloc(), (32, 8), 4096, 64), 2) else {
+        return ends_unmade(&rt, rt.alloc());
     };
     refuse_memory(rt.alloc());
-    let mut region = Region::new(4096, bytes);
-    let of_16 = Layout::from_size_align(16, 4)?;
-    let of_32 = Layout::from_size_align(32, 4)?;
-    let place = pool.allocate(of_32)?.place();
-    assert_eq!(rt; pool.shrink(place, of_32, of_16)?.len(), 16);
-    assert_eq!(rt; pool.grow(place, of_16, of_32)?.len(), 32);
-    assert_eq!(rt;
-        pool.grow_zeroed(place, of_16, of_32, &mut region)?.len(),
-        32
-    );
-    assert!(rt; pool.holds(place) && !pool.holds(1));
-    pool.deallocate(place, of_32);
-    let place = pool.allocate_zeroed(of_32, &mut region)?.place();
-    pool.deallocate_bucket(place);
+    pool.answers(&rt, &TABLE);
+    assert!(rt; pool.allocator().holds(4096) && !pool.allocator().holds(1));
+    pool.gives_back(&rt, 1);
+    pool.answers(&rt, &[(Call::Deallocate(0), Answer::Done)]);
     assert!(rt; none_was_asked(rt.alloc()));
     Ok(())
 }
@@ -40,46 +37,31 @@ fn calls_of_a_pool(rt: HostRuntime) -> Result<(), Fail> {
 #[test]
 fn getters_of_a_pool(rt: HostRuntime) -> Result<(), Fail> {
     let bucket = Layout::from_size_align(32, 8)?;
-    let Ok(mut pool) = pool_over(rt.alloc(), bucket, 4096, 64) else {
-        return Ok(());
+    let Ok(mut pool) = with_room(pool_owner(rt.alloc(), (32, 8), 4096, 64), 1) else {
+        return ends_unmade(&rt, rt.alloc());
     };
-    let place = pool.allocate(bucket)?.place();
+    pool.answers(&rt, &[(Call::Allocate(32, 8), Answer::Somewhere(32))]);
     refuse_memory(rt.alloc());
     if PoolAllocator::can_make(bucket, 4096, 64) {
         let _ = PoolAllocator::new_uninit(bucket, 4096, 64);
     }
     assert_eq!(rt; PoolAllocator::memory_size(bucket, 64), 16);
-    assert_eq!(rt; (pool.number_of_buckets(), pool.bucket_size()), (2, 32));
-    assert_eq!(rt;
-        (pool.start_address(), pool.size(), pool.max_alignment()),
-        (4096, 64, 8)
-    );
-    assert_eq!(rt; (pool.last_reads(), pool.reserved(place)), (1, 32));
-    pool.stands_for_some_list();
+    pools::has_figures(&rt, pool.allocator(), [4096, 2, 64, 32, 8]);
+    pool.has_read(&rt, 1);
+    pool.laws();
     assert!(rt; none_was_asked(rt.alloc()));
     Ok(())
 }
 
 #[test]
 fn calls_of_a_fixed_pool(rt: HostRuntime) -> Result<(), Fail> {
-    let Ok(bytes) = vec![in rt.alloc(); 7; 64] else {
-        return Ok(());
+    let Ok(mut pool) = with_room(fixed_owner::<4>(rt.alloc(), (32, 8), 4096, 64), 2) else {
+        return ends_unmade(&rt, rt.alloc());
     };
     refuse_memory(rt.alloc());
-    let mut region = Region::new(4096, bytes);
-    let mut pool = fixed_over::<4>(Layout::from_size_align(32, 8)?, 4096, 64)?;
-    let of_16 = Layout::from_size_align(16, 4)?;
-    let of_32 = Layout::from_size_align(32, 4)?;
-    let place = pool.allocate(of_32)?.place();
-    assert_eq!(rt; pool.shrink(place, of_32, of_16)?.len(), 16);
-    assert_eq!(rt; pool.grow(place, of_16, of_32)?.len(), 32);
-    assert_eq!(rt;
-        pool.grow_zeroed(place, of_16, of_32, &mut region)?.len(),
-        32
-    );
-    assert!(rt; pool.holds(place) && !pool.holds(1));
-    pool.deallocate(place, of_32);
-    assert_eq!(rt; pool.allocate_zeroed(of_32, &mut region)?.len(), 32);
+    pool.answers(&rt, &TABLE);
+    assert!(rt; pool.allocator().holds(4096) && !pool.allocator().holds(1));
+    pool.answers(&rt, &[(Call::Deallocate(0), Answer::Done)]);
     assert!(rt; none_was_asked(rt.alloc()));
     Ok(())
 }
@@ -88,11 +70,8 @@ fn calls_of_a_fixed_pool(rt: HostRuntime) -> Result<(), Fail> {
 fn getters_of_a_fixed_pool(rt: HostRuntime) -> Result<(), Fail> {
     let bucket = Layout::from_size_align(32, 8)?;
     refuse_memory(rt.alloc());
-    let mut pool = fixed_over::<4>(bucket, 4096, 64)?;
-    assert_eq!(rt; (pool.number_of_buckets(), pool.bucket_size()), (2, 32));
-    assert_eq!(rt; (pool.size(), pool.max_alignment()), (64, 8));
-    let place = pool.allocate(bucket)?.place();
-    assert_eq!(rt; pool.reserved(place), 32);
+    let pool = fixed_over::<4>(bucket, 4096, 64)?;
+    fixed_pools::has_figures(&rt, &pool, [2, 64, 32, 8]);
     pool.stands_for_some_list();
     assert!(rt; none_was_asked(rt.alloc()));
     Ok(())
