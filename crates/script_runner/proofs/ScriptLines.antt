@@ -21,7 +21,8 @@ first_unreadable {A} IsAllowed text_of lines after before line index same all co
     let front : List (List ℕ) = map text_of before in
     let at : length front ≡ index = length-map before text_of ∙ sym counted in
     let read : All Reads front =
-    All-map Reads text_of before (All-weaker IsAllowed (λ value. Reads (text_of value)) (λ value allowed. (value, allowed, refl)) before all) in
+    All-map Reads text_of before
+    (All-weaker IsAllowed (λ value. Reads (text_of value)) (λ value allowed. (value, allowed, refl)) before all) in
     let taken : take index lines ≡ front = ap (take index) same ∙ take_at front (line ∷ after) index at in
     let got : slice_get lines index ≡ Some line =
     ap (slice_get lines) (sym at) ∙ (ap (λ ls. slice_get ls (length front)) same ∙ slice_get_at front line after) in

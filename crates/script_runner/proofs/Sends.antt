@@ -19,7 +19,8 @@ begins_longer text rest = (rest, refl)
 -- what begins a part begins the whole, behind what comes before the part
 pub begins_after : (front sent part rest : List ℕ) → Begins sent part → Begins (front ++ sent) (front ++ (part ++ rest))
 begins_after front sent part rest (more, same) =
-    (more ++ rest, ap (λ p. front ++ (p ++ rest)) same ∙ (ap (λ l. front ++ l) (append_assoc sent more rest) ∙ sym (append_assoc front sent (more ++ rest))))
+    let whole = ap (λ l. front ++ l) (append_assoc sent more rest) ∙ sym (append_assoc front sent (more ++ rest)) in
+    (more ++ rest, ap (λ p. front ++ (p ++ rest)) same ∙ whole)
 
 -- more is sent of what is left
 pub sent_more : (bytes sent left rest : List ℕ) (count : ℕ) → bytes ≡ sent ++ left →
@@ -45,4 +46,6 @@ pub flat_map-at : {X : Type 0} (text_of : X → List ℕ) (items : List X) (inde
 flat_map-at text_of items index item below is =
     ap (flat_map text_of) (sym (take-append-drop index items))
     ∙ (flat_map-append text_of (take index items) (drop index items)
-    ∙ ap (λ l. flat_map text_of (take index items) ++ l) (ap (flat_map text_of) (drop_more items index item below) ∙ ap (λ x. text_of x ++ flat_map text_of (drop (index + 1) items)) (sym is)))
+    ∙ ap (λ l. flat_map text_of (take index items) ++ l)
+    (ap (flat_map text_of) (drop_more items index item below)
+    ∙ ap (λ x. text_of x ++ flat_map text_of (drop (index + 1) items)) (sym is)))

@@ -50,8 +50,11 @@ unreadable_first table first rest none =
 
 -- where there is no line it is the first too
 pub unreadable_empty : (table : List Kind) → IsUnreadableAt table [] 1
-unreadable_empty table =
-    (inl refl, some-none table (IsScriptOf []) (λ one (opening, after, opens, read). let cut : [] ≡ first_line one.rules opening ∷ after = opens.cut in cc))
+unreadable_empty table = (
+  inl refl,
+  some-none table (IsScriptOf [])
+      (λ one (opening, after, opens, read). let cut : [] ≡ first_line one.rules opening ∷ after = opens.cut in cc),
+)
 
 -- a line that is the first unreadable one to other kinds is so also with a kind more that doesn't read the first line
 pub unreadable_later : (one : Kind) (others : List Kind) (first : List ℕ) (rest : List (List ℕ)) (number : ℕ)
@@ -116,7 +119,8 @@ unreadable_here rules others opening first rest number test allowed e (index, (b
           unread (further_unread (IsLineText rules) rest index line got (rw same_after at read))
       | inr there ↦
           apart_unopened others (rules.name ++ codes " ") (rules.opening_text opening) first rest test whole
-          (some-map others (IsScriptOf (take (suc (suc index)) (first ∷ rest))) (IsOpenedBy (first ∷ rest)) (script_opened first rest (suc (suc index))) there)
+          (some-map others (IsScriptOf (take (suc (suc index)) (first ∷ rest))) (IsOpenedBy (first ∷ rest))
+          (script_opened first rest (suc (suc index))) there)
     ] in
     rw (less, same) (inr readable, unreadable)
 

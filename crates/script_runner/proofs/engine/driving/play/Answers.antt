@@ -24,7 +24,8 @@ returns-in_err-tell-clause-err g c =
     let more : List ℕ = flat_map rules.reply_text replies in
     let state : List ℕ = rules.state_text end in
     let longer =
-    told_more rules start c.loop-index.driven end script.shown i c.shown.result.now text replies c.shown.ensures told c.in_ok-replies.ensures in
+    told_more rules start c.loop-index.driven end script.shown i c.shown.result.now text replies c.shown.ensures told
+    c.in_ok-replies.ensures in
     let part = rw c.deref.ensures.value at c.in_err-tell.ensures in
     on_err c.from_residual-in_err-tell.result
     (begun_part rules start end script _ _ _ (text ++ (more ++ state)) text more state refl (inl (i + 1, longer)) wrote part)
@@ -41,7 +42,8 @@ returns-in_err-show-clause-err g c =
     let more : List ℕ = flat_map rules.reply_text replies in
     let state : List ℕ = rules.state_text end in
     let longer =
-    told_more rules start c.loop-index.driven end script.shown i c.shown.result.now text replies c.shown.ensures told c.in_ok-replies.ensures in
+    told_more rules start c.loop-index.driven end script.shown i c.shown.result.now text replies c.shown.ensures told
+    c.in_ok-replies.ensures in
     let lines = rw c.deref.ensures.value at c.in_ok-tell.ensures in
     let split = sym (ap (λ l. (text ++ more) ++ l) (append-nil state) ∙ append_assoc text more state) in
     on_err c.from_residual-in_err-show.result

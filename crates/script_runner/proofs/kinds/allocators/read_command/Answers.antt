@@ -13,7 +13,8 @@ returns-in_err-layout-in-alloc-clause-each c command numbers e =
     let parts = Writes-cut c.args.line.now c.in_ok-name.name.now c.in_ok-name.rest.now command c.in_ok-name.ensures.each e in
     let is_alloc = same_text c.in_ok-name.name.now (codes "alloc") (omega arith) (search arith) in
     c.from_residual-in_err-layout-in-alloc.ensures
-    ∙ reads_alloc c.in_ok-name.name.now c.in_ok-name.rest.now None command is_alloc parts numbers c.in_err-layout-in-alloc.ensures.each
+    ∙ reads_alloc c.in_ok-name.name.now c.in_ok-name.rest.now None command is_alloc parts numbers
+    c.in_err-layout-in-alloc.ensures.each
 
 pub returns-in_ok-layout-in-alloc-clause-each : goal.returns-in_ok-layout-in-alloc-clause-each
 returns-in_ok-layout-in-alloc-clause-each c command numbers e =
@@ -36,7 +37,8 @@ returns-in_err-number-in-free-clause-each c command numbers e =
     let parts = Writes-cut c.args.line.now c.in_ok-name.name.now c.in_ok-name.rest.now command c.in_ok-name.ensures.each e in
     let is_free = same_text c.in_ok-name.name.now (codes "free") (omega arith) (search arith) in
     c.from_residual-in_err-number-in-free.ensures
-    ∙ reads_free c.in_ok-name.name.now c.in_ok-name.rest.now None command is_free parts numbers c.in_err-number-in-free.ensures.each
+    ∙ reads_free c.in_ok-name.name.now c.in_ok-name.rest.now None command is_free parts numbers
+    c.in_err-number-in-free.ensures.each
 
 pub returns-in_ok-number-in-free-clause-each : goal.returns-in_ok-number-in-free-clause-each
 returns-in_ok-number-in-free-clause-each c command numbers e =
@@ -50,7 +52,8 @@ returns-in_err-position-in-grow-clause-each c command numbers e =
     let parts = Writes-cut c.args.line.now c.in_ok-name.name.now c.in_ok-name.rest.now command c.in_ok-name.ensures.each e in
     let is_grow = same_text c.in_ok-name.name.now (codes "grow") (omega arith) (search arith) in
     c.from_residual-in_err-position-in-grow.ensures
-    ∙ reads_grow c.in_ok-name.name.now c.in_ok-name.rest.now None command is_grow parts numbers c.in_err-position-in-grow.ensures.each
+    ∙ reads_grow c.in_ok-name.name.now c.in_ok-name.rest.now None command is_grow parts numbers
+    c.in_err-position-in-grow.ensures.each
 
 pub returns-in_ok-position-in-grow-clause-each : goal.returns-in_ok-position-in-grow-clause-each
 returns-in_ok-position-in-grow-clause-each c command numbers e =
@@ -74,7 +77,8 @@ returns-in_err-position-in-shrink-clause-each c command numbers e =
     let parts = Writes-cut c.args.line.now c.in_ok-name.name.now c.in_ok-name.rest.now command c.in_ok-name.ensures.each e in
     let is_shrink = same_text c.in_ok-name.name.now (codes "shrink") (omega arith) (search arith) in
     c.from_residual-in_err-position-in-shrink.ensures
-    ∙ reads_shrink c.in_ok-name.name.now c.in_ok-name.rest.now None command is_shrink parts numbers c.in_err-position-in-shrink.ensures.each
+    ∙ reads_shrink c.in_ok-name.name.now c.in_ok-name.rest.now None command is_shrink parts numbers
+    c.in_err-position-in-shrink.ensures.each
 
 pub returns-in_ok-position-in-shrink-clause-each : goal.returns-in_ok-position-in-shrink-clause-each
 returns-in_ok-position-in-shrink-clause-each c command numbers e =
