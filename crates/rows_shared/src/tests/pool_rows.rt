@@ -259,6 +259,11 @@ fn answer_of<'a, P: SharedBuckets>(
     }
 }
 
+/// The call of a row was answered as the row says.
+fn matches(rt: &impl Abort, (index, call, expected): &Row, found: Answer) {
+    assert_eq!(rt; found, *expected, "{call:?} of {index}");
+}
+
 /// Each row, in turn, is answered as it says.
 pub(super) fn hold<'a, P: SharedBuckets>(
     rt: &impl Abort,
@@ -269,9 +274,9 @@ pub(super) fn hold<'a, P: SharedBuckets>(
     requires { All (λ user. IsUser (P.shown pool.now) user.party user.kept) users.old.items }
     ensures { All (λ user. IsUser (P.shown pool.now) user.party user.kept) users.new.items }
 {
-    for (index, call, expected) in rows {
-        let found = answer_of(pool, users, *index, *call);
-        assert_eq!(rt; found, *expected, "{call:?} of {index}");
+    for row in rows {
+        let found = answer_of(pool, users, row.0, row.1);
+        matches(rt, row, found);
     }
 }
 
