@@ -343,9 +343,7 @@ fn some_meet<P: SharedBuckets>(
         return Err(REFUSED);
     };
     hold(rt, pool, &mut users, &BEFORE_THE_MEETING);
-    if last_ones_meet(alloc, pool, &mut users, count).is_err() {
-        return Err(REFUSED);
-    }
+    assert!(rt; last_ones_meet(alloc, pool, &mut users, count));
     hold(rt, pool, &mut users, &AFTER_THE_MEETING);
     Ok(())
 }

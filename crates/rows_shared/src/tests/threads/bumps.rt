@@ -1,11 +1,10 @@
 //! Threads over one shared bump.
-ghost use Rattle.std.specs.Prelude.{◌≡◌, ◌<◌, All, IfOk, length};
+ghost use Rattle.std.specs.Prelude.{◌≡◌, ◌<◌, All, IfOk, IfSome, length};
 ghost use Rattle.std.specs.Arc.{arc_value};
 
 use crate::tests::bump_rows::{
     Answer, Call, NO_ROOM, Row, all_meet, hold, last_meets, owner_by_all, share_at, share_of,
 };
-use bb_memory::allocator::AllocationError;
 use bb_memory::layout::{Chunk, Layout};
 use bb_memory::shared_bump::{BumpParty, SharedBumpAllocator};
 use std::alloc::{AllocError, Global};
@@ -375,38 +374,50 @@ fn meet_again(shared: &SharedBumpAllocator, mut one: BumpParty, mut other: BumpP
     shared.meet(&mut one, &mut other);
 }
 
-/// Each of two threads takes eight bytes, and watches until 16 are used. Whether both came to that.
+/// Each of two threads takes a chunk, and watches until so many bytes are used. Whether both came to that.
 fn both_watch(
     rt: &impl Threads,
-    alloc: Global,
-    shared: SharedBumpAllocator,
-    mut parties: Vec<BumpParty>,
+    shared: &Arc<SharedBumpAllocator, Global>,
+    first: BumpParty,
+    second: BumpParty,
+    layout: Layout,
+    used: usize,
 ) -> Result<bool, AllocError>
-    requires { All (λ party. party.allocator ≡ shared) parties.items }
+    requires first { first.allocator ≡ arc_value shared.now }
+    requires second { second.allocator ≡ arc_value shared.now }
 {
-    let (Some(second), Some(first), Ok(eight)) = (
-        parties.pop(),
-        parties.pop(),
-        Layout::from_size_align(8, 1),
-    ) else {
-        return Ok(false);
-    };
-    let shared = Arc::new(alloc, shared)?;
-    let one = start_watching(rt, &shared, first, eight, 16)?;
-    let other = start_watching(rt, &shared, second, eight, 16)?;
+    let one = start_watching(rt, shared, first, layout, used)?;
+    let other = start_watching(rt, shared, second, layout, used)?;
     let (one, one_saw_both) = one.join(rt);
     let (other, other_saw_both) = other.join(rt);
-    meet_again(&shared, one, other);
+    meet_again(shared, one, other);
     Ok(one_saw_both && other_saw_both)
+}
+
+/// Takes out the last of the parties.
+fn last_of(shared: &SharedBumpAllocator, parties: &mut Vec<BumpParty>) -> Option<BumpParty>
+    requires { All (λ party. party.allocator ≡ shared.now) parties.old.items }
+    ensures others { All (λ party. party.allocator ≡ shared.now) parties.new.items }
+    ensures own { IfSome result (λ party. party.allocator ≡ shared.now) }
+{
+    parties.pop()
 }
 
 /// Each of two threads watches for what the other takes, so threads that ran one after the other would fail.
 #[test]
 fn threads_really_at_once(rt: HostRuntime) -> Result<(), Fail> {
-    let Some((shared, parties)) = share_of(rt.alloc(), 64, 0, 2) else {
+    let eight = Layout::from_size_align(8, 1)?;
+    let Some((shared, mut parties)) = share_of(rt.alloc(), 64, 0, 2) else {
         return Err(Fail::from("share"));
     };
-    assert!(rt; both_watch(&rt, rt.alloc(), shared, parties)?);
+    let Some(second) = last_of(&shared, &mut parties) else {
+        return Err(Fail::from("no second party"));
+    };
+    let Some(first) = last_of(&shared, &mut parties) else {
+        return Err(Fail::from("no first party"));
+    };
+    let shared = Arc::new(rt.alloc(), shared)?;
+    assert!(rt; both_watch(&rt, &shared, first, second, eight, 16)?);
     Ok(())
 }
 
