@@ -84,6 +84,11 @@ fn answer_of(
     }
 }
 
+/// The call of a row was answered as the row says.
+fn matches(rt: &impl Abort, (index, call, expected): &Row, found: Answer) {
+    assert_eq!(rt; found, *expected, "{call:?} of {index}");
+}
+
 /// Each row, in turn, is answered as it says.
 pub(super) fn hold(
     rt: &impl Abort,
@@ -94,13 +99,61 @@ pub(super) fn hold(
     requires { All (λ party. party.allocator ≡ shared.now) parties.old.items }
     ensures { All (λ party. party.allocator ≡ shared.now) parties.new.items }
 {
-    for (index, call, expected) in rows {
-        let found = answer_of(shared, parties, *index, *call);
-        assert_eq!(rt; found, *expected, "{call:?} of {index}");
+    for row in rows {
+        let found = answer_of(shared, parties, row.0, row.1);
+        matches(rt, row, found);
     }
 }
 
-/// A bump of so many bytes at 4096, of which some are used, with parties; or none where it was refused.
+/// A bump of so many bytes at a place.
+fn bump_at(start: usize, size: usize) -> Option<BumpAllocator> {
+    if start == 0 || start > 1_000_000 || size > 1_000_000 {
+        return None;
+    }
+    Some(BumpAllocator::new(start, size))
+}
+
+/// It is given so many bytes, where these are any.
+fn has_used(mut bump: BumpAllocator, used: usize) -> Option<BumpAllocator> {
+    if used == 0 {
+        return Some(bump);
+    }
+    let asked = Layout::from_size_align(used, 1).ok()?;
+    match bump.allocate(asked) {
+        Ok(_) => Some(bump),
+        Err(_) => None,
+    }
+}
+
+/// A bump that is shared by parties, or none where that was refused.
+fn shared_by(
+    alloc: Global,
+    bump: BumpAllocator,
+    parties: u32,
+) -> Option<(SharedBumpAllocator, Vec<BumpParty>)>
+    ensures theirs { IfSome result (λ made. All (λ party. party.allocator ≡ made.0) made.1.items) }
+    ensures parties { IfSome result (λ made. made.0.scene.parties ≡ parties) }
+{
+    if parties == 0 {
+        return None;
+    }
+    bump.share(alloc, parties).ok()
+}
+
+/// A bump of so many bytes at a place, with parties, or none where it was refused.
+pub(super) fn share_at(
+    alloc: Global,
+    start: usize,
+    size: usize,
+    parties: u32,
+) -> Option<(SharedBumpAllocator, Vec<BumpParty>)>
+    ensures theirs { IfSome result (λ made. All (λ party. party.allocator ≡ made.0) made.1.items) }
+    ensures parties { IfSome result (λ made. made.0.scene.parties ≡ parties) }
+{
+    shared_by(alloc, bump_at(start, size)?, parties)
+}
+
+/// A bump of so many bytes at 4096, of which so many are used, with parties, or none where it was refused.
 pub(super) fn share_of(
     alloc: Global,
     size: usize,
@@ -110,18 +163,7 @@ pub(super) fn share_of(
     ensures theirs { IfSome result (λ made. All (λ party. party.allocator ≡ made.0) made.1.items) }
     ensures parties { IfSome result (λ made. made.0.scene.parties ≡ parties) }
 {
-    if parties == 0 || size > 1_000_000 {
-        return None;
-    }
-    let mut bump = BumpAllocator::new(4096, size);
-    if used > 0
-        && bump
-            .allocate(Layout::from_size_align(used, 1).ok()?)
-            .is_err()
-    {
-        return None;
-    }
-    bump.share(alloc, parties).ok()
+    shared_by(alloc, has_used(bump_at(4096, size)?, used)?, parties)
 }
 
 /// The last of these parties meets another one.

@@ -259,6 +259,11 @@ fn answer_of<'a, P: SharedBuckets>(
     }
 }
 
+/// The call of a row was answered as the row says.
+fn matches(rt: &impl Abort, (index, call, expected): &Row, found: Answer) {
+    assert_eq!(rt; found, *expected, "{call:?} of {index}");
+}
+
 /// Each row, in turn, is answered as it says.
 pub(super) fn hold<'a, P: SharedBuckets>(
     rt: &impl Abort,
@@ -269,13 +274,34 @@ pub(super) fn hold<'a, P: SharedBuckets>(
     requires { All (λ user. IsUser (P.shown pool.now) user.party user.kept) users.old.items }
     ensures { All (λ user. IsUser (P.shown pool.now) user.party user.kept) users.new.items }
 {
-    for (index, call, expected) in rows {
-        let found = answer_of(pool, users, *index, *call);
-        assert_eq!(rt; found, *expected, "{call:?} of {index}");
+    for row in rows {
+        let found = answer_of(pool, users, row.0, row.1);
+        matches(rt, row, found);
     }
 }
 
-/// The last of these users meets another one.
+/// One of these users meets another one.
+fn meets<'a, P: SharedBuckets>(
+    pool: &'a P,
+    users: &mut Vec<User<'a>>,
+    index: usize,
+    party: &mut PoolParty,
+) -> bool
+    requires users { All (λ user. IsUser (P.shown pool.now) user.party user.kept) users.old.items }
+    requires party { party.old.allocator ≡ P.shown pool.now }
+    ensures users { All (λ user. IsUser (P.shown pool.now) user.party user.kept) users.new.items }
+    ensures party { party.new ≡ party.old }
+{
+    match users.get_mut(index) {
+        Some(user) => {
+            pool.meet(&mut user.party, party);
+            true
+        }
+        None => false,
+    }
+}
+
+/// The last of these users lets its token go and meets another one.
 pub(super) fn last_meets<'a, P: SharedBuckets>(
     pool: &'a P,
     users: &mut Vec<User<'a>>,
@@ -284,53 +310,45 @@ pub(super) fn last_meets<'a, P: SharedBuckets>(
     requires { All (λ user. IsUser (P.shown pool.now) user.party user.kept) users.old.items }
     ensures { All (λ user. IsUser (P.shown pool.now) user.party user.kept) users.new.items }
 {
-    let Some(mut last) = users.pop() else {
+    let Some(last) = users.pop() else {
         return false;
     };
-    let Some(other) = users.get_mut(index) else {
-        return false;
-    };
-    pool.meet(&mut other.party, &mut last.party);
-    users.push(last).is_ok()
+    let mut party = last.party;
+    meets(pool, users, index, &mut party) && users.push(User { party, kept: None }).is_ok()
 }
 
-/// So many of these users, from the last one on, let their tokens go and leave as parties.
-fn leave<'a, P: SharedBuckets>(
+/// The last of these users lets its token go and leaves as a party.
+fn one_leaves<'a, P: SharedBuckets>(
     pool: &'a P,
     users: &mut Vec<User<'a>>,
     parties: &mut Vec<PoolParty>,
-    count: usize,
-) -> Result<(), AllocError>
+) -> bool
     requires users { All (λ user. IsUser (P.shown pool.now) user.party user.kept) users.old.items }
     requires parties { All (λ party. party.allocator ≡ P.shown pool.now) parties.old.items }
     ensures users { All (λ user. IsUser (P.shown pool.now) user.party user.kept) users.new.items }
     ensures parties { All (λ party. party.allocator ≡ P.shown pool.now) parties.new.items }
 {
-    for _ in 0..count {
-        if let Some(user) = users.pop() {
-            parties.push(user.party)?;
-        }
+    match users.pop() {
+        Some(user) => parties.push(user.party).is_ok(),
+        None => false,
     }
-    Ok(())
 }
 
-/// So many of these parties, from the last one on, come back as users.
-fn come_back<'a, P: SharedBuckets>(
+/// The last of these parties comes back as a user.
+fn one_comes_back<'a, P: SharedBuckets>(
     pool: &'a P,
     users: &mut Vec<User<'a>>,
     parties: &mut Vec<PoolParty>,
-    count: usize,
-) -> Result<(), AllocError>
+) -> bool
     requires users { All (λ user. IsUser (P.shown pool.now) user.party user.kept) users.old.items }
     requires parties { All (λ party. party.allocator ≡ P.shown pool.now) parties.old.items }
-    ensures { All (λ user. IsUser (P.shown pool.now) user.party user.kept) users.new.items }
+    ensures users { All (λ user. IsUser (P.shown pool.now) user.party user.kept) users.new.items }
+    ensures parties { All (λ party. party.allocator ≡ P.shown pool.now) parties.new.items }
 {
-    for _ in 0..count {
-        if let Some(party) = parties.pop() {
-            users.push(User { party, kept: None })?;
-        }
+    match parties.pop() {
+        Some(party) => users.push(User { party, kept: None }).is_ok(),
+        None => false,
     }
-    Ok(())
 }
 
 /// So many of these users meet, from the last one on, and let their tokens go.
@@ -339,14 +357,23 @@ pub(super) fn last_ones_meet<'a, P: SharedBuckets>(
     pool: &'a P,
     users: &mut Vec<User<'a>>,
     count: usize,
-) -> Result<(), AllocError>
+) -> bool
     requires { All (λ user. IsUser (P.shown pool.now) user.party user.kept) users.old.items }
     ensures { All (λ user. IsUser (P.shown pool.now) user.party user.kept) users.new.items }
 {
     let mut parties = Vec::new(alloc);
-    leave(pool, users, &mut parties, count)?;
+    for _ in 0..count {
+        if !one_leaves(pool, users, &mut parties) {
+            return false;
+        }
+    }
     pool.meet_all(&mut parties);
-    come_back(pool, users, &mut parties, count)
+    for _ in 0..count {
+        if !one_comes_back(pool, users, &mut parties) {
+            return false;
+        }
+    }
+    true
 }
 
 /// The parties of these users are numbered from 0.

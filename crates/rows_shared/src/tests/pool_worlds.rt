@@ -16,14 +16,19 @@ fn give_back(party: u32, bucket: u32) -> PoolStep {
     PoolStep::GiveBack { party, bucket }
 }
 
+/// The world takes the step of a row as it says.
+fn step_finds(rt: &impl Abort, world: &mut PoolWorld, (step, outcome, holders): &Row) {
+    assert_eq!(rt; world.step(*step), *outcome, "{step:?}");
+    assert_eq!(rt; [world.holder(0), world.holder(1)], *holders, "{step:?}");
+}
+
 /// A world of two buckets and two parties takes each step as its row says.
 fn steps_find(rt: &impl Abort, alloc: Global, rows: &[Row]) -> Result<(), &'static str> {
     let Ok(mut world) = PoolWorld::new(alloc, 2, 2) else {
         return Err("memory was refused");
     };
-    for (step, outcome, holders) in rows {
-        assert_eq!(rt; world.step(*step), *outcome, "{step:?}");
-        assert_eq!(rt; [world.holder(0), world.holder(1)], *holders, "{step:?}");
+    for row in rows {
+        step_finds(rt, &mut world, row);
     }
     Ok(())
 }

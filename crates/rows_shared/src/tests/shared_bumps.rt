@@ -57,28 +57,26 @@ fn shared_answers(
     parties: u32,
     rows: &[Row],
     used_then: usize,
-) -> Result<(), &'static str> {
-    let Some((shared, parties)) = share_of(alloc, 64, used, parties) else {
-        return Err("share");
-    };
-    answers(rt, shared, parties, rows, used_then);
-    Ok(())
+) {
+    match share_of(alloc, 64, used, parties) {
+        Some((shared, parties)) => answers(rt, shared, parties, rows, used_then),
+        None => panic!(rt; "share"),
+    }
 }
 
 #[test]
-fn share_two_parties(rt: HostRuntime) -> Result<(), Fail> {
-    let Some((shared, parties)) = share_of(rt.alloc(), 64, 0, 2) else {
-        return Err(Fail::from("share"));
-    };
-    two_parties(&rt, shared, parties);
-    Ok(())
+fn share_two_parties(rt: HostRuntime) {
+    match share_of(rt.alloc(), 64, 0, 2) {
+        Some((shared, parties)) => two_parties(&rt, shared, parties),
+        None => panic!(rt; "share"),
+    }
 }
 
 /// Two parties can meet, which changes nothing.
 #[test]
-fn parties_of_a_bump_meet(rt: HostRuntime) -> Result<(), Fail> {
+fn parties_of_a_bump_meet(rt: HostRuntime) -> Result<(), &'static str> {
     let Some((shared, mut parties)) = share_of(rt.alloc(), 64, 0, 2) else {
-        return Err(Fail::from("share"));
+        return Err("share");
     };
     let before = [(0, Call::Take(40, 1), Answer::Chunk(4096, 40))];
     hold(&rt, &shared, &mut parties, &before);
@@ -93,20 +91,27 @@ fn parties_of_a_bump_meet(rt: HostRuntime) -> Result<(), Fail> {
 }
 
 #[test]
-fn share_keeps_position(rt: HostRuntime) -> Result<(), Fail> {
+fn share_keeps_position(rt: HostRuntime) {
     let rows = [
         (1, Call::UsedSpace, Answer::Bytes(40)),
         (0, Call::FreeSpace, Answer::Bytes(24)),
         (0, Call::Region, Answer::Region(4096, 64)),
     ];
-    Ok(shared_answers(&rt, rt.alloc(), 40, 2, &rows, 40)?)
+    shared_answers(&rt, rt.alloc(), 40, 2, &rows, 40);
 }
 
 /// The position is what all parties' steps left, also where the party that is handed in made none.
 #[test]
-fn into_owner_of_the_last_of_three(rt: HostRuntime) -> Result<(), Fail> {
+fn into_owner_of_the_last_of_three(rt: HostRuntime) {
     let rows = [(1, Call::Take(40, 1), Answer::Chunk(4096, 40))];
-    Ok(shared_answers(&rt, rt.alloc(), 0, 3, &rows, 40)?)
+    shared_answers(&rt, rt.alloc(), 0, 3, &rows, 40);
+}
+
+/// A bump that has no room for a byte refuses it to its owner.
+fn is_full(rt: &impl Abort, mut bump: BumpAllocator) -> Result<(), Fail> {
+    let byte = Layout::from_size_align(1, 1)?;
+    assert_eq!(rt; bump.allocate(byte), Err(AllocationError::OutOfMemory));
+    Ok(())
 }
 
 #[test]
@@ -117,12 +122,10 @@ fn share_of_one_party(rt: HostRuntime) -> Result<(), Fail> {
     assert_eq!(rt; parties.len(), 1);
     let rows = [(0, Call::Take(64, 1), Answer::Chunk(4096, 64))];
     hold(&rt, &shared, &mut parties, &rows);
-    let Some(mut bump) = owner_by_last(shared, parties) else {
-        return Err(Fail::from("no party came back"));
-    };
-    let byte = Layout::from_size_align(1, 1)?;
-    assert_eq!(rt; bump.allocate(byte), Err(AllocationError::OutOfMemory));
-    Ok(())
+    match owner_by_last(shared, parties) {
+        Some(bump) => is_full(&rt, bump),
+        None => Err(Fail::from("no party came back")),
+    }
 }
 
 /// As many parties as asked, numbered from 0, of which the last one takes the first byte.
@@ -139,13 +142,13 @@ fn many_parties(rt: &impl Abort, alloc: Global, count: u32) -> Result<(), &'stat
 }
 
 #[test]
-fn share_of_64_parties(rt: HostRuntime) -> Result<(), Fail> {
-    Ok(many_parties(&rt, rt.alloc(), 64)?)
+fn share_of_64_parties(rt: HostRuntime) -> Result<(), &'static str> {
+    many_parties(&rt, rt.alloc(), 64)
 }
 
 #[test]
-fn share_of_1000_parties(rt: HostRuntime) -> Result<(), Fail> {
-    Ok(many_parties(&rt, rt.alloc(), 1000)?)
+fn share_of_1000_parties(rt: HostRuntime) -> Result<(), &'static str> {
+    many_parties(&rt, rt.alloc(), 1000)
 }
 
 /// What three parties take before some of them meet: 27 bytes are used then, padding included.
@@ -184,7 +187,7 @@ fn some_meet(rt: &impl Abort, alloc: Global, count: usize) -> Result<(), &'stati
 
 /// None, one, some and all parties of a bump meet.
 #[test]
-fn all_parties_of_a_bump_meet(rt: HostRuntime) -> Result<(), Fail> {
+fn all_parties_of_a_bump_meet(rt: HostRuntime) -> Result<(), &'static str> {
     for count in [0, 1, 2, 3] {
         some_meet(&rt, rt.alloc(), count)?;
     }

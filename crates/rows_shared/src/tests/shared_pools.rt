@@ -15,7 +15,6 @@ use bb_memory::pool_allocator::{
 use bb_memory::shared_pool::{PoolParty, SharedFixedSizePoolAllocator, SharedPoolAllocator};
 use std::alloc::Global;
 use std::process::Abort;
-use std::test::Fail;
 
 /// A shared pool of buckets of 128 bytes over a region, with so many parties.
 pub(super) fn shared_over(
@@ -34,7 +33,7 @@ pub(super) fn shared_over(
     }
     match SharedPoolAllocator::new(alloc, bucket, start, size, parties) {
         Ok(made) => Ok(made),
-        Err(AllocationError::OutOfMemory) => Err("memory was refused"),
+        Err(AllocationError::OutOfMemory) => Err(REFUSED),
         Err(_) => Err("another cause"),
     }
 }
@@ -57,10 +56,13 @@ pub(super) fn shared_fixed_over<const MOST: usize>(
     }
     match SharedFixedSizePoolAllocator::<MOST>::new(alloc, bucket, start, size, parties) {
         Ok(made) => Ok(made),
-        Err(AllocationError::OutOfMemory) => Err("memory was refused"),
+        Err(AllocationError::OutOfMemory) => Err(REFUSED),
         Err(_) => Err("another cause"),
     }
 }
+
+/// What a test makes for itself was refused.
+const REFUSED: &str = "memory was refused";
 
 /// These rows hold of a pool that was just made.
 fn answers<P: SharedBuckets>(
@@ -69,14 +71,13 @@ fn answers<P: SharedBuckets>(
     pool: &P,
     parties: Vec<PoolParty>,
     rows: &[Row],
-) -> Result<(), &'static str>
+)
     requires { All (λ party. party.allocator ≡ P.shown pool.now) parties.items }
 {
-    let Ok(mut users) = users_of(alloc, pool, parties) else {
-        return Err("memory was refused");
-    };
-    hold(rt, pool, &mut users, rows);
-    Ok(())
+    match users_of(alloc, pool, parties) {
+        Ok(mut users) => hold(rt, pool, &mut users, rows),
+        Err(_) => panic!(rt; "memory was refused"),
+    }
 }
 
 /// They hold of a shared pool over so many bytes at a place.
@@ -86,9 +87,11 @@ pub(super) fn shared_answers(
     (start, size): (usize, usize),
     parties: u32,
     rows: &[Row],
-) -> Result<(), &'static str> {
-    let (pool, parties) = shared_over(alloc, start, size, parties)?;
-    answers(rt, alloc, &pool, parties, rows)
+) {
+    match shared_over(alloc, start, size, parties) {
+        Ok((pool, parties)) => answers(rt, alloc, &pool, parties, rows),
+        Err(cause) => panic!(rt; "{cause}"),
+    }
 }
 
 /// They hold of one of at most four buckets.
@@ -98,9 +101,11 @@ pub(super) fn shared_fixed_answers(
     (start, size): (usize, usize),
     parties: u32,
     rows: &[Row],
-) -> Result<(), &'static str> {
-    let (pool, parties) = shared_fixed_over::<4>(alloc, start, size, parties)?;
-    answers(rt, alloc, &pool, parties, rows)
+) {
+    match shared_fixed_over::<4>(alloc, start, size, parties) {
+        Ok((pool, parties)) => answers(rt, alloc, &pool, parties, rows),
+        Err(cause) => panic!(rt; "{cause}"),
+    }
 }
 
 /// The calls of row `shared-pool-dropped-bucket` on a pool of two buckets, with its only party.
@@ -115,8 +120,8 @@ pub(super) const DROPPED_BUCKET: [Row; 7] = [
 ];
 
 #[test]
-fn shared_pool_dropped_bucket(rt: HostRuntime) -> Result<(), Fail> {
-    Ok(shared_answers(&rt, rt.alloc(), (4096, 256), 1, &DROPPED_BUCKET)?)
+fn shared_pool_dropped_bucket(rt: HostRuntime) {
+    shared_answers(&rt, rt.alloc(), (4096, 256), 1, &DROPPED_BUCKET);
 }
 
 /// The figures of a pool of at most four buckets.
@@ -146,8 +151,8 @@ pub(super) const FOUR_BUCKETS: [Row; 9] = [
 ];
 
 #[test]
-fn shared_fixed_four_buckets(rt: HostRuntime) -> Result<(), Fail> {
-    Ok(shared_fixed_answers(&rt, rt.alloc(), (4096, 1024), 1, &FOUR_BUCKETS)?)
+fn shared_fixed_four_buckets(rt: HostRuntime) {
+    shared_fixed_answers(&rt, rt.alloc(), (4096, 1024), 1, &FOUR_BUCKETS);
 }
 
 /// The two parties of a pool without buckets meet, and the first one is refused.
@@ -161,7 +166,7 @@ fn no_bucket<P: SharedBuckets>(
     requires { All (λ party. party.allocator ≡ P.shown pool.now) parties.items }
 {
     let Ok(mut users) = users_of(alloc, pool, parties) else {
-        return Err("memory was refused");
+        return Err(REFUSED);
     };
     assert!(rt; last_meets(pool, &mut users, 0));
     let none = Figures {
@@ -181,9 +186,9 @@ fn no_bucket<P: SharedBuckets>(
 
 /// A pool without buckets refuses at once, and its parties can meet.
 #[test]
-fn shared_fixed_of_no_bucket(rt: HostRuntime) -> Result<(), Fail> {
+fn shared_fixed_of_no_bucket(rt: HostRuntime) -> Result<(), &'static str> {
     let (pool, parties) = shared_fixed_over::<4>(rt.alloc(), 4096, 127, 2)?;
-    Ok(no_bucket(&rt, rt.alloc(), &pool, parties, None)?)
+    no_bucket(&rt, rt.alloc(), &pool, parties, None)
 }
 
 /// As many parties as asked, numbered from 0, of which the last one takes bucket 0.
@@ -197,7 +202,7 @@ fn many_parties<P: SharedBuckets>(
     requires { All (λ party. party.allocator ≡ P.shown pool.now) parties.items }
 {
     let Ok(mut users) = users_of(alloc, pool, parties) else {
-        return Err("memory was refused");
+        return Err(REFUSED);
     };
     assert_eq!(rt; users.len(), count);
     assert!(rt; are_numbered(&users));
@@ -211,20 +216,20 @@ fn many_parties<P: SharedBuckets>(
 }
 
 #[test]
-fn shared_fixed_of_64_parties(rt: HostRuntime) -> Result<(), Fail> {
+fn shared_fixed_of_64_parties(rt: HostRuntime) -> Result<(), &'static str> {
     let (pool, parties) = shared_fixed_over::<4>(rt.alloc(), 4096, 1024, 64)?;
-    Ok(many_parties(&rt, rt.alloc(), &pool, parties, 64)?)
+    many_parties(&rt, rt.alloc(), &pool, parties, 64)
 }
 
 #[test]
-fn shared_fixed_of_1000_parties(rt: HostRuntime) -> Result<(), Fail> {
+fn shared_fixed_of_1000_parties(rt: HostRuntime) -> Result<(), &'static str> {
     let (pool, parties) = shared_fixed_over::<4>(rt.alloc(), 4096, 1024, 1000)?;
-    Ok(many_parties(&rt, rt.alloc(), &pool, parties, 1000)?)
+    many_parties(&rt, rt.alloc(), &pool, parties, 1000)
 }
 
 /// Where the constant is 512, a pool has as many buckets, and no more.
 #[test]
-fn shared_fixed_of_512_buckets(rt: HostRuntime) -> Result<(), Fail> {
+fn shared_fixed_of_512_buckets(rt: HostRuntime) -> Result<(), &'static str> {
     let (pool, parties) = shared_fixed_over::<512>(rt.alloc(), 4096, 128 * 600, 1)?;
     let figures = Figures {
         start: None,
@@ -238,24 +243,25 @@ fn shared_fixed_of_512_buckets(rt: HostRuntime) -> Result<(), Fail> {
         (0, Take(At(511), ASKED), Bucket(511, 69504, 48)),
         (0, Take(At(512), ASKED), NONE_FREE),
     ];
-    Ok(answers(&rt, rt.alloc(), &pool, parties, &rows)?)
+    answers(&rt, rt.alloc(), &pool, parties, &rows);
+    Ok(())
 }
 
 /// A party that was refused looks again, and finds the bucket that was given back meanwhile.
 #[test]
-fn one_bucket_for_two_parties(rt: HostRuntime) -> Result<(), Fail> {
+fn one_bucket_for_two_parties(rt: HostRuntime) {
     let rows = [
         (0, Keep(Pass, ASKED), Bucket(0, 4096, 48)),
         (1, Take(Pass, ASKED), NONE_FREE),
         (0, GiveBack, Nothing),
         (1, Take(Pass, ASKED), Bucket(0, 4096, 48)),
     ];
-    Ok(shared_answers(&rt, rt.alloc(), (4096, 128), 2, &rows)?)
+    shared_answers(&rt, rt.alloc(), (4096, 128), 2, &rows);
 }
 
 /// A bucket is found again by its place and by its number, and given back.
 #[test]
-fn shared_pool_bucket_by_number(rt: HostRuntime) -> Result<(), Fail> {
+fn shared_pool_bucket_by_number(rt: HostRuntime) {
     let rows = [
         (0, NumberAt(4096), Nothing),
         (0, NumberAt(4104), Answer::Number(0)),
@@ -267,12 +273,12 @@ fn shared_pool_bucket_by_number(rt: HostRuntime) -> Result<(), Fail> {
         (0, GiveBack, Nothing),
         (0, Take(Pass, ASKED), Bucket(0, 4104, 48)),
     ];
-    Ok(shared_answers(&rt, rt.alloc(), (4097, 300), 1, &rows)?)
+    shared_answers(&rt, rt.alloc(), (4097, 300), 1, &rows);
 }
 
 /// The same of a pool of at most four buckets, of which three have room.
 #[test]
-fn shared_fixed_bucket_by_number(rt: HostRuntime) -> Result<(), Fail> {
+fn shared_fixed_bucket_by_number(rt: HostRuntime) {
     let rows = [
         (0, NumberAt(4352), Answer::Number(2)),
         (0, NumberAt(4480), Nothing),
@@ -281,27 +287,27 @@ fn shared_fixed_bucket_by_number(rt: HostRuntime) -> Result<(), Fail> {
         (0, GiveBack, Nothing),
         (0, Take(Pass, ASKED), Bucket(0, 4096, 48)),
     ];
-    Ok(shared_fixed_answers(&rt, rt.alloc(), (4096, 511), 1, &rows)?)
+    shared_fixed_answers(&rt, rt.alloc(), (4096, 511), 1, &rows);
 }
 
 /// A pool without buckets refuses at once, and its parties can meet.
 #[test]
-fn shared_pool_of_no_bucket(rt: HostRuntime) -> Result<(), Fail> {
+fn shared_pool_of_no_bucket(rt: HostRuntime) -> Result<(), &'static str> {
     let (pool, parties) = shared_over(rt.alloc(), 4096, 127, 2)?;
-    Ok(no_bucket(&rt, rt.alloc(), &pool, parties, Some(4096))?)
+    no_bucket(&rt, rt.alloc(), &pool, parties, Some(4096))
 }
 
 #[test]
-fn shared_pool_of_64_parties(rt: HostRuntime) -> Result<(), Fail> {
+fn shared_pool_of_64_parties(rt: HostRuntime) -> Result<(), &'static str> {
     let (pool, parties) = shared_over(rt.alloc(), 4096, 1024, 64)?;
     assert_eq!(rt; pool.start_address(), 4096);
-    Ok(many_parties(&rt, rt.alloc(), &pool, parties, 64)?)
+    many_parties(&rt, rt.alloc(), &pool, parties, 64)
 }
 
 #[test]
-fn shared_pool_of_1000_parties(rt: HostRuntime) -> Result<(), Fail> {
+fn shared_pool_of_1000_parties(rt: HostRuntime) -> Result<(), &'static str> {
     let (pool, parties) = shared_over(rt.alloc(), 4096, 1024, 1000)?;
-    Ok(many_parties(&rt, rt.alloc(), &pool, parties, 1000)?)
+    many_parties(&rt, rt.alloc(), &pool, parties, 1000)
 }
 
 /// What three parties take before some of them meet.
@@ -334,19 +340,17 @@ fn some_meet<P: SharedBuckets>(
     requires { All (λ party. party.allocator ≡ P.shown pool.now) parties.items }
 {
     let Ok(mut users) = users_of(alloc, pool, parties) else {
-        return Err("memory was refused");
+        return Err(REFUSED);
     };
     hold(rt, pool, &mut users, &BEFORE_THE_MEETING);
-    if last_ones_meet(alloc, pool, &mut users, count).is_err() {
-        return Err("memory was refused");
-    }
+    assert!(rt; last_ones_meet(alloc, pool, &mut users, count));
     hold(rt, pool, &mut users, &AFTER_THE_MEETING);
     Ok(())
 }
 
 /// None, one, some and all parties of a pool of four buckets meet.
 #[test]
-fn all_parties_of_a_shared_pool_meet(rt: HostRuntime) -> Result<(), Fail> {
+fn all_parties_of_a_shared_pool_meet(rt: HostRuntime) -> Result<(), &'static str> {
     for count in [0, 1, 2, 3] {
         let (pool, parties) = shared_over(rt.alloc(), 4096, 512, 3)?;
         some_meet(&rt, rt.alloc(), &pool, parties, count)?;
@@ -355,7 +359,7 @@ fn all_parties_of_a_shared_pool_meet(rt: HostRuntime) -> Result<(), Fail> {
 }
 
 #[test]
-fn all_parties_of_a_shared_fixed_pool_meet(rt: HostRuntime) -> Result<(), Fail> {
+fn all_parties_of_a_shared_fixed_pool_meet(rt: HostRuntime) -> Result<(), &'static str> {
     for count in [0, 1, 2, 3] {
         let (pool, parties) = shared_fixed_over::<4>(rt.alloc(), 4096, 1024, 3)?;
         some_meet(&rt, rt.alloc(), &pool, parties, count)?;

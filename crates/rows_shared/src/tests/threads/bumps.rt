@@ -1,12 +1,10 @@
 //! Threads over one shared bump.
-ghost use Rattle.std.specs.Prelude.{◌≡◌, ◌<◌, All, IfOk, length};
+ghost use Rattle.std.specs.Prelude.{◌≡◌, ◌<◌, All, IfOk, IfSome, length};
 ghost use Rattle.std.specs.Arc.{arc_value};
 
 use crate::tests::bump_rows::{
-    Answer, Call, NO_ROOM, Row, all_meet, hold, last_meets, owner_by_all, share_of,
+    Answer, Call, NO_ROOM, Row, all_meet, hold, last_meets, owner_by_all, share_at, share_of,
 };
-use bb_memory::allocator::AllocationError;
-use bb_memory::bump_allocator::BumpAllocator;
 use bb_memory::layout::{Chunk, Layout};
 use bb_memory::shared_bump::{BumpParty, SharedBumpAllocator};
 use std::alloc::{AllocError, Global};
@@ -16,6 +14,8 @@ use std::sync::Arc;
 use std::test::Fail;
 use std::thread;
 use std::thread::{Promise, PromisedHandle, Threads};
+
+const REFUSED: &str = "memory was refused";
 
 /// What a thread hands back.
 #[derive(Drop)]
@@ -98,7 +98,49 @@ fn start(
     Ok(handle)
 }
 
-/// A thread for each of these parties, all at once: that of party i asks for the i-th layout. What they hand back.
+/// A promised handle of a thread that takes.
+type Taking = PromisedHandle<Taken, ComesBack>;
+
+/// A thread for each of these parties, all at once: that of party i asks for the i-th layout.
+fn start_all(
+    rt: &impl Threads,
+    alloc: Global,
+    shared: &Arc<SharedBumpAllocator, Global>,
+    parties: Vec<BumpParty>,
+    layouts: &[Layout],
+    times: u32,
+) -> Result<Vec<Taking>, AllocError>
+    requires parties { All (λ party. party.allocator ≡ arc_value shared.now) parties.items }
+    requires some { 0 < length layouts.now }
+    ensures { IfOk result (λ all.
+        All (λ handle. handle.promise.0.value ≡ arc_value shared.now) all.items) }
+{
+    let mut threads = Vec::new(alloc);
+    for party in parties {
+        let layout = layouts[party.number() as usize % layouts.len()];
+        threads.push(start(rt, alloc, shared, party, layout, times)?)?;
+    }
+    Ok(threads)
+}
+
+/// What these threads hand back, in order.
+fn join_all(
+    rt: &impl Threads,
+    alloc: Global,
+    shared: &Arc<SharedBumpAllocator, Global>,
+    threads: Vec<Taking>,
+) -> Result<Vec<Taken>, AllocError>
+    requires { All (λ handle. handle.promise.0.value ≡ arc_value shared.now) threads.items }
+    ensures { IfOk result (λ all. All (λ taken. taken.party.allocator ≡ arc_value shared.now) all.items) }
+{
+    let mut all = Vec::new(alloc);
+    for thread in threads {
+        all.push(thread.join(rt))?;
+    }
+    Ok(all)
+}
+
+/// A thread for each of these parties takes. What they hand back.
 fn take_in_threads(
     rt: &impl Threads,
     alloc: Global,
@@ -111,25 +153,30 @@ fn take_in_threads(
     requires some { 0 < length layouts.now }
     ensures { IfOk result (λ all. All (λ taken. taken.party.allocator ≡ arc_value shared.now) all.items) }
 {
-    let mut threads = Vec::new(alloc);
-    for party in parties {
-        let layout = layouts[party.number() as usize % layouts.len()];
-        threads.push(start(rt, alloc, shared, party, layout, times)?)?;
-    }
-    let mut all = Vec::new(alloc);
-    for thread in threads {
-        all.push(thread.join(rt))?;
-    }
-    Ok(all)
+    let threads = start_all(rt, alloc, shared, parties, layouts, times)?;
+    join_all(rt, alloc, shared, threads)
 }
 
-/// A bump of 4096 bytes at 4096, shared among four.
-fn four_parties(alloc: Global) -> Result<(SharedBumpAllocator, Vec<BumpParty>), Fail>
-    ensures { IfOk result (λ made. All (λ party. party.allocator ≡ made.0) made.1.items) }
+/// Each of four threads takes ten bytes 100 times from a bump of 4096 bytes at 4096. The bump, and what they hand back.
+fn four_take_ten(
+    rt: &impl Threads,
+    alloc: Global,
+) -> Result<(Arc<SharedBumpAllocator, Global>, Vec<Taken>), &'static str>
+    ensures { IfOk result (λ taken.
+        All (λ thread. thread.party.allocator ≡ arc_value taken.0) taken.1.items) }
 {
-    match BumpAllocator::new(4096, 4096).share(alloc, 4) {
-        Ok(made) => Ok(made),
-        Err((_, error)) => Err(Fail::from(error)),
+    let (Ok(ten), Some((shared, parties))) = (
+        Layout::from_size_align(10, 1),
+        share_of(alloc, 4096, 0, 4),
+    ) else {
+        return Err("share");
+    };
+    let Ok(shared) = Arc::new(alloc, shared) else {
+        return Err(REFUSED);
+    };
+    match take_in_threads(rt, alloc, &shared, parties, &[ten], 100) {
+        Ok(all) => Ok((shared, all)),
+        Err(_) => Err(REFUSED),
     }
 }
 
@@ -192,10 +239,7 @@ const BEHIND_4000_BYTES: [Row; 6] = [
 
 #[test]
 fn threads_bump_exact_places(rt: HostRuntime) -> Result<(), Fail> {
-    let ten = Layout::from_size_align(10, 1)?;
-    let (shared, parties) = four_parties(rt.alloc())?;
-    let shared = Arc::new(rt.alloc(), shared)?;
-    let all = take_in_threads(&rt, rt.alloc(), &shared, parties, &[ten], 100)?;
+    let (shared, all) = four_take_ten(&rt, rt.alloc())?;
     were_given(&rt, &all, 4, 100);
     are_in_a_row(&rt, &ends_of(rt.alloc(), &all)?, 400);
     let mut parties = parties_of(rt.alloc(), &shared, all)?;
@@ -204,26 +248,17 @@ fn threads_bump_exact_places(rt: HostRuntime) -> Result<(), Fail> {
 }
 
 #[test]
-fn threads_used_space_seen(rt: HostRuntime) -> Result<(), Fail> {
-    let ten = Layout::from_size_align(10, 1)?;
-    let (shared, parties) = four_parties(rt.alloc())?;
-    let shared = Arc::new(rt.alloc(), shared)?;
-    let all = take_in_threads(&rt, rt.alloc(), &shared, parties, &[ten], 100)?;
+fn threads_used_space_seen(rt: HostRuntime) -> Result<(), &'static str> {
+    let (_, all) = four_take_ten(&rt, rt.alloc())?;
     were_given(&rt, &all, 4, 100);
     Ok(())
 }
 
-/// Each thread was given chunks of its own layout, until it was refused.
-fn have_layouts(rt: &impl Abort, all: &[Taken], layouts: &[Layout]) {
-    assert_eq!(rt; all.len(), layouts.len());
-    for (taken, layout) in all.iter().zip(layouts) {
-        assert!(rt; taken.refused && taken.layout == *layout);
-        for chunk in &taken.chunks {
-            assert_eq!(rt;
-                (chunk.place() % layout.align(), chunk.len()),
-                (0, layout.size())
-            );
-        }
+/// A thread was given chunks of this layout, until it was refused.
+fn has_layout(rt: &impl Abort, taken: &Taken, layout: Layout) {
+    assert!(rt; taken.refused && taken.layout == layout);
+    for chunk in &taken.chunks {
+        assert!(rt; chunk.place() % layout.align() == 0 && chunk.len() == layout.size());
     }
 }
 
@@ -243,6 +278,31 @@ fn meet(
     Ok(())
 }
 
+/// Each of these threads was given chunks of its own layout.
+fn have_layouts(rt: &impl Abort, all: &[Taken], layouts: &[Layout]) {
+    assert_eq!(rt; all.len(), layouts.len());
+    for (taken, layout) in all.iter().zip(layouts) {
+        has_layout(rt, taken, *layout);
+    }
+}
+
+/// A thread for each of these layouts takes from a bump of 1000 bytes at 4097 until it is refused, and then their parties meet.
+fn take_layouts(
+    rt: &(impl Threads + Abort),
+    alloc: Global,
+    layouts: &[Layout; 3],
+) -> Result<bool, AllocError> {
+    let Some((shared, parties)) = share_at(alloc, 4097, 1000, 3) else {
+        return Ok(false);
+    };
+    let shared = Arc::new(alloc, shared)?;
+    let all = take_in_threads(rt, alloc, &shared, parties, layouts, 1000)?;
+    have_layouts(rt, &all, layouts);
+    are_apart(rt, &ends_of(alloc, &all)?, 4097, 5097);
+    meet(rt, alloc, &shared, all)?;
+    Ok(true)
+}
+
 #[test]
 fn threads_bump_mixed_layouts(rt: HostRuntime) -> Result<(), Fail> {
     let layouts = [
@@ -250,14 +310,7 @@ fn threads_bump_mixed_layouts(rt: HostRuntime) -> Result<(), Fail> {
         Layout::from_size_align(5, 1)?,
         Layout::from_size_align(8, 8)?,
     ];
-    let Ok((shared, parties)) = BumpAllocator::new(4097, 1000).share(rt.alloc(), 3) else {
-        return Err(Fail::from("share"));
-    };
-    let shared = Arc::new(rt.alloc(), shared)?;
-    let all = take_in_threads(&rt, rt.alloc(), &shared, parties, &layouts, 1000)?;
-    have_layouts(&rt, &all, &layouts);
-    are_apart(&rt, &ends_of(rt.alloc(), &all)?, 4097, 5097);
-    meet(&rt, rt.alloc(), &shared, all)?;
+    assert!(rt; take_layouts(&rt, rt.alloc(), &layouts)?);
     Ok(())
 }
 
@@ -313,23 +366,82 @@ fn start_watching(
     Ok(handle)
 }
 
+/// Two parties meet again.
+fn meet_again(shared: &SharedBumpAllocator, mut one: BumpParty, mut other: BumpParty)
+    requires one { one.allocator ≡ shared.now }
+    requires other { other.allocator ≡ shared.now }
+{
+    shared.meet(&mut one, &mut other);
+}
+
+/// Each of two threads takes a chunk, and watches until so many bytes are used. Whether both came to that.
+fn both_watch(
+    rt: &impl Threads,
+    shared: &Arc<SharedBumpAllocator, Global>,
+    first: BumpParty,
+    second: BumpParty,
+    layout: Layout,
+    used: usize,
+) -> Result<bool, AllocError>
+    requires first { first.allocator ≡ arc_value shared.now }
+    requires second { second.allocator ≡ arc_value shared.now }
+{
+    let one = start_watching(rt, shared, first, layout, used)?;
+    let other = start_watching(rt, shared, second, layout, used)?;
+    let (one, one_saw_both) = one.join(rt);
+    let (other, other_saw_both) = other.join(rt);
+    meet_again(shared, one, other);
+    Ok(one_saw_both && other_saw_both)
+}
+
+/// Takes out the last of the parties.
+fn last_of(shared: &SharedBumpAllocator, parties: &mut Vec<BumpParty>) -> Option<BumpParty>
+    requires { All (λ party. party.allocator ≡ shared.now) parties.old.items }
+    ensures others { All (λ party. party.allocator ≡ shared.now) parties.new.items }
+    ensures own { IfSome result (λ party. party.allocator ≡ shared.now) }
+{
+    parties.pop()
+}
+
 /// Each of two threads watches for what the other takes, so threads that ran one after the other would fail.
 #[test]
 fn threads_really_at_once(rt: HostRuntime) -> Result<(), Fail> {
     let eight = Layout::from_size_align(8, 1)?;
-    let Ok((shared, mut parties)) = BumpAllocator::new(4096, 64).share(rt.alloc(), 2) else {
+    let Some((shared, mut parties)) = share_of(rt.alloc(), 64, 0, 2) else {
         return Err(Fail::from("share"));
     };
-    let second = parties.pop().unwrap();
-    let first = parties.pop().unwrap();
+    let Some(second) = last_of(&shared, &mut parties) else {
+        return Err(Fail::from("no second party"));
+    };
+    let Some(first) = last_of(&shared, &mut parties) else {
+        return Err(Fail::from("no first party"));
+    };
     let shared = Arc::new(rt.alloc(), shared)?;
-    let one = start_watching(&rt, &shared, first, eight, 16)?;
-    let other = start_watching(&rt, &shared, second, eight, 16)?;
-    let (mut one, one_saw_both) = one.join(&rt);
-    let (mut other, other_saw_both) = other.join(&rt);
-    assert!(rt; one_saw_both && other_saw_both);
-    shared.meet(&mut one, &mut other);
+    assert!(rt; both_watch(&rt, &shared, first, second, eight, 16)?);
     Ok(())
+}
+
+/// At how many bytes the last of these chunks of a bump at 4096 ends, or 0 where there is none.
+fn end_of_last(ends: &[(usize, usize)]) -> usize {
+    match ends.last() {
+        Some((_, end)) => end.saturating_sub(4096),
+        None => 0,
+    }
+}
+
+/// How many bytes are used of the bump of 4096 bytes at 4096 that all its parties hand back, where no thread has it any more.
+fn used_of_owner(
+    shared: Arc<SharedBumpAllocator, Global>,
+    parties: Vec<BumpParty>,
+    count: u32,
+) -> Option<usize>
+    requires parties { All (λ party. party.allocator ≡ arc_value shared) parties.items }
+    requires count { (arc_value shared).scene.parties ≡ count }
+{
+    match owner_by_all(Arc::try_unwrap(shared).ok()?, parties, count)? {
+        (4096, 4096, used) => Some(used),
+        _ => None,
+    }
 }
 
 /// So many threads take from a bump of 4096 bytes, and then all parties hand it back: how many bytes are used then, and at how
@@ -340,41 +452,47 @@ fn owner_of_all(
     parties: u32,
     layouts: &[Layout],
     times: u32,
-) -> Result<(usize, usize), Fail>
+) -> Result<Option<(usize, usize)>, AllocError>
     requires { 0 < length layouts.now }
 {
     let Some((shared, all)) = share_of(alloc, 4096, 0, parties) else {
-        return Err(Fail::from("share"));
+        return Ok(None);
     };
     let shared = Arc::new(alloc, shared)?;
     let all = take_in_threads(rt, alloc, &shared, all, layouts, times)?;
-    let greatest = match ends_of(alloc, &all)?.last() {
-        Some((_, end)) => end.saturating_sub(4096),
-        None => 0,
-    };
+    let greatest = end_of_last(&ends_of(alloc, &all)?);
     let all = parties_of(alloc, &shared, all)?;
-    let Ok(shared) = Arc::try_unwrap(shared) else {
-        return Err(Fail::from("a thread that was joined has the bump"));
+    let used = used_of_owner(shared, all, parties);
+    Ok(used.map(|used| (used, greatest)))
+}
+
+/// So many threads take ten bytes so many times each, and the bump that all parties hand back has used as many as they took.
+fn tens_are_used(
+    rt: &(impl Threads + Abort),
+    alloc: Global,
+    parties: u32,
+    times: u32,
+    used: usize,
+) {
+    let Ok(ten) = Layout::from_size_align(10, 1) else {
+        panic!(rt; "no such layout");
     };
-    match owner_by_all(shared, all, parties) {
-        Some((4096, 4096, used)) => Ok((used, greatest)),
-        _ => Err(Fail::from("another bump came back")),
-    }
+    let found = owner_of_all(rt, alloc, parties, &[ten], times).unwrap_or(None);
+    assert_eq!(rt; found, Some((used, used)));
 }
 
 /// What all parties hand back is used up to the end of the greatest chunk, whichever threads took it: four, one, and none.
 #[test]
 fn threads_bump_owner_of_all(rt: HostRuntime) -> Result<(), Fail> {
-    let ten = [Layout::from_size_align(10, 1)?];
-    for (parties, times, used) in [(4, 100, 4000), (4, 0, 0), (1, 100, 1000), (1, 0, 0)] {
-        let found = owner_of_all(&rt, rt.alloc(), parties, &ten, times)?;
-        assert_eq!(rt; found, (used, used));
-    }
+    tens_are_used(&rt, rt.alloc(), 4, 100, 4000);
+    tens_are_used(&rt, rt.alloc(), 4, 0, 0);
+    tens_are_used(&rt, rt.alloc(), 1, 100, 1000);
+    tens_are_used(&rt, rt.alloc(), 1, 0, 0);
     let mixed = [
         Layout::from_size_align(24, 16)?,
         Layout::from_size_align(5, 1)?,
     ];
-    let (used, greatest) = owner_of_all(&rt, rt.alloc(), 4, &mixed, 1000)?;
-    assert!(rt; used == greatest && greatest > 4000);
+    let found = owner_of_all(&rt, rt.alloc(), 4, &mixed, 1000)?;
+    assert!(rt; found.is_some_and(|(used, greatest)| used == greatest && used > 4000));
     Ok(())
 }

@@ -12,7 +12,6 @@ use std::process::Abort;
 use std::snapshot::Snapshot;
 use std::sync::Arc;
 use std::sync::atomic::{AtomicU64, Ordering};
-use std::test::Fail;
 use std::thread;
 use std::thread::{Promise, PromisedHandle, Threads};
 
@@ -157,22 +156,39 @@ fn start(
     Ok(handle)
 }
 
-/// A thread for each of these parties, all at once. The parties that they hand back, and what each counted, in order.
-fn work_in_threads(
+/// A promised handle of a thread that works.
+type Working = PromisedHandle<(PoolParty, u64), ComesBack>;
+
+/// A thread for each of these parties, all at once.
+fn start_all(
     rt: &impl Threads,
     alloc: Global,
     pool: &Arc<SharedPoolAllocator, Global>,
     parties: Vec<PoolParty>,
     job: Job,
-) -> Result<(Vec<PoolParty>, Vec<u64>), AllocError>
+) -> Result<Vec<Working>, AllocError>
     requires { All (λ party. party.allocator ≡ arc_value pool.now) parties.items }
-    ensures { IfOk result (λ done. All (λ party. party.allocator ≡ arc_value pool.now) done.0.items) }
+    ensures { IfOk result (λ all.
+        All (λ handle. handle.promise.0.value ≡ arc_value pool.now) all.items) }
 {
     let marks = Arc::new(alloc, no_marks())?;
     let mut threads = Vec::new(alloc);
     for party in parties {
         threads.push(start(rt, pool, &marks, party, job)?)?;
     }
+    Ok(threads)
+}
+
+/// The parties that these threads hand back, and what each counted, in order.
+fn join_all(
+    rt: &impl Threads,
+    alloc: Global,
+    pool: &Arc<SharedPoolAllocator, Global>,
+    threads: Vec<Working>,
+) -> Result<(Vec<PoolParty>, Vec<u64>), AllocError>
+    requires { All (λ handle. handle.promise.0.value ≡ arc_value pool.now) threads.items }
+    ensures { IfOk result (λ done. All (λ party. party.allocator ≡ arc_value pool.now) done.0.items) }
+{
     let (mut back, mut counts) = (Vec::new(alloc), Vec::new(alloc));
     for thread in threads {
         let (party, count) = thread.join(rt);
@@ -197,90 +213,152 @@ fn are_left(
     assert_eq!(rt; taken, Some(left));
 }
 
-/// Each of so many threads works on a pool over so many bytes. They count as `counts` says, and so many buckets are left.
-fn threads_count<R: Threads + Abort>(
-    rt: &R,
+/// What became of a pool in threads.
+#[derive(Drop)]
+struct Worked {
+    pool: Arc<SharedPoolAllocator, Global>,
+    parties: Vec<PoolParty>,
+    counts: Vec<u64>,
+}
+
+/// Each of these parties' threads does the job.
+fn work_all(
+    rt: &impl Threads,
     alloc: Global,
-    size: usize,
-    (work, request): (Work, Request),
-    counts: &[u64],
-    left: u32,
-) -> Result<(), Fail> {
-    let asked = Layout::from_size_align(48, 4)?;
-    let (pool, parties) = shared_over(alloc, 4096, size, u32::try_from(counts.len())?)?;
+    pool: SharedPoolAllocator,
+    parties: Vec<PoolParty>,
+    job: Job,
+) -> Result<Worked, AllocError>
+    requires { All (λ party. party.allocator ≡ pool) parties.items }
+    ensures { IfOk result (λ worked.
+        All (λ party. party.allocator ≡ arc_value worked.pool) worked.parties.items) }
+{
     let pool = Arc::new(alloc, pool)?;
+    let threads = start_all(rt, alloc, &pool, parties, job)?;
+    let (parties, counts) = join_all(rt, alloc, &pool, threads)?;
+    Ok(Worked {
+        pool,
+        parties,
+        counts,
+    })
+}
+
+/// What threads do with a pool, and what has to come of it.
+#[derive(Drop)]
+struct Trial {
+    /// How many bytes the pool has at 4096, of which 128 are a bucket.
+    size: usize,
+    threads: u32,
+    work: Work,
+    request: Request,
+    /// What each thread counts.
+    count: u64,
+    /// How many buckets are left.
+    left: u32,
+}
+
+/// Each thread counted as the trial says.
+fn counted(rt: &impl Abort, counts: &[u64], trial: &Trial) {
+    assert_eq!(rt; counts.len(), trial.threads as usize);
+    for count in counts {
+        assert_eq!(rt; *count, trial.count);
+    }
+}
+
+/// What a trial left is as it says.
+fn came_back(rt: &impl Abort, worked: Worked, trial: &Trial, asked: Layout)
+    requires { All (λ party. party.allocator ≡ arc_value worked.pool) worked.parties.items }
+{
+    let Worked {
+        pool,
+        parties,
+        counts,
+    } = worked;
+    counted(rt, &counts, trial);
+    are_left(rt, &pool, parties, asked, trial.left);
+}
+
+/// The trial ends as it says.
+fn holds(rt: &(impl Threads + Abort), alloc: Global, trial: Trial) -> Result<(), &'static str> {
+    let Ok(asked) = Layout::from_size_align(48, 4) else {
+        return Err("no such layout");
+    };
     let job = Job {
-        work,
-        request,
+        work: trial.work,
+        request: trial.request,
         asked,
     };
-    let (parties, found) = work_in_threads(rt, alloc, &pool, parties, job)?;
-    assert!(rt; found.as_slice() == counts);
-    are_left(rt, &pool, parties, asked, left);
+    let (pool, parties) = shared_over(alloc, 4096, trial.size, trial.threads)?;
+    match work_all(rt, alloc, pool, parties, job) {
+        Ok(worked) => came_back(rt, worked, &trial, asked),
+        Err(_) => return Err("memory was refused"),
+    }
     Ok(())
 }
 
 #[test]
-fn threads_pool_take_and_return(rt: HostRuntime) -> Result<(), Fail> {
-    let none = [0, 0, 0, 0];
-    threads_count(
-        &rt,
-        rt.alloc(),
-        1024,
-        (Work::TakeAndReturn, Request::Pass),
-        &none,
-        8,
-    )
+fn threads_pool_take_and_return(rt: HostRuntime) -> Result<(), &'static str> {
+    let trial = Trial {
+        size: 1024,
+        threads: 4,
+        work: Work::TakeAndReturn,
+        request: Request::Pass,
+        count: 0,
+        left: 8,
+    };
+    holds(&rt, rt.alloc(), trial)
 }
 
 #[test]
-fn threads_pool_dropped_tokens(rt: HostRuntime) -> Result<(), Fail> {
-    threads_count(
-        &rt,
-        rt.alloc(),
-        1024,
-        (Work::TakeAndDrop, Request::Pass),
-        &[1, 1],
-        6,
-    )
+fn threads_pool_dropped_tokens(rt: HostRuntime) -> Result<(), &'static str> {
+    let trial = Trial {
+        size: 1024,
+        threads: 2,
+        work: Work::TakeAndDrop,
+        request: Request::Pass,
+        count: 1,
+        left: 6,
+    };
+    holds(&rt, rt.alloc(), trial)
 }
 
 /// Each thread begins in its own part of the pool, and goes on where it has been last.
 #[test]
-fn threads_pool_near(rt: HostRuntime) -> Result<(), Fail> {
-    let none = [0, 0, 0, 0];
-    threads_count(
-        &rt,
-        rt.alloc(),
-        1024,
-        (Work::TakeAndReturn, Request::Near),
-        &none,
-        8,
-    )
+fn threads_pool_near(rt: HostRuntime) -> Result<(), &'static str> {
+    let trial = Trial {
+        size: 1024,
+        threads: 4,
+        work: Work::TakeAndReturn,
+        request: Request::Near,
+        count: 0,
+        left: 8,
+    };
+    holds(&rt, rt.alloc(), trial)
 }
 
 /// The same where there are fewer buckets than threads, so that they meet at each.
 #[test]
-fn threads_pool_near_few_buckets(rt: HostRuntime) -> Result<(), Fail> {
-    let none = [0, 0, 0, 0];
-    threads_count(
-        &rt,
-        rt.alloc(),
-        384,
-        (Work::TakeAndReturn, Request::Near),
-        &none,
-        3,
-    )
+fn threads_pool_near_few_buckets(rt: HostRuntime) -> Result<(), &'static str> {
+    let trial = Trial {
+        size: 384,
+        threads: 4,
+        work: Work::TakeAndReturn,
+        request: Request::Near,
+        count: 0,
+        left: 3,
+    };
+    holds(&rt, rt.alloc(), trial)
 }
 
 #[test]
-fn threads_pool_near_dropped_tokens(rt: HostRuntime) -> Result<(), Fail> {
-    threads_count(
-        &rt,
-        rt.alloc(),
-        1024,
-        (Work::TakeAndDrop, Request::Near),
-        &[1, 1, 1],
-        5,
-    )
+fn threads_pool_near_dropped_tokens(rt: HostRuntime) -> Result<(), &'static str> {
+    let trial = Trial {
+        size: 1024,
+        threads: 3,
+        work: Work::TakeAndDrop,
+        request: Request::Near,
+        count: 1,
+        left: 5,
+    };
+    holds(&rt, rt.alloc(), trial)
 }
