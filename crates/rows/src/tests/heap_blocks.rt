@@ -82,8 +82,8 @@ pub(super) fn answers(
     for (call, wanted, bytes) in table {
         let (next, given) = answered(heap, block, *call);
         block = next;
-        assert_eq!(rt; given, *wanted, "to {call:?}");
-        assert_eq!(rt; block.as_slice(), *bytes, "after {call:?}");
+        assert_eq!(rt; (*call, given), (*call, *wanted));
+        assert_eq!(rt; block.as_slice(), *bytes);
     }
 }
 

@@ -1,6 +1,6 @@
 //! The owner of an allocator, by whom a row's calls are made: each call behind a function that tells no more of it than its
 //! answer, so that a test's own proof carries none of the library's clauses.
-ghost use Rattle.std.specs.Prelude.{◌≡◌, ◌%◌, [], ℕ, List, Some, IfOk, slice_get, slice_set};
+ghost use Rattle.std.specs.Prelude.{◌≡◌, [], ℕ, List, Some, IfOk, slice_get, slice_set};
 ghost use Rattle.bb_memory_base.specs.Chunk.{Chunk};
 ghost use Rattle.bb_memory_base.specs.HeldBytes.{held_region};
 ghost use Rattle.bb_memory_base.specs.Region.{region_at};
@@ -237,61 +237,17 @@ impl<A: BaseAllocator + Drop> Owner<A> {
 }
 
 impl<A: Allocator + Drop> Owner<A> {
-    /// Gives the chunk at a position a larger size.
-    fn grow(&mut self, position: usize, old: Layout, new: Layout) -> Answer {
+    /// Resizes the chunk at a position.
+    fn resize(&mut self, position: usize, call: Call) -> Answer {
         let Some(chunk) = self.live.get(position).copied() else {
             return Answer::NotMade;
         };
-        if chunk.place() % old.align() != 0 {
-            return Answer::NotMade;
-        }
-        match self.allocator.grow(chunk.place(), old, new) {
-            Ok(grown) => {
-                self.live[position] = grown;
-                resized(chunk, grown)
+        match resize(&mut self.allocator, &mut self.region, chunk.place(), call) {
+            Ok(resized) => {
+                self.live[position] = resized;
+                answer_to_resize(chunk, resized)
             }
-            Err(error) => Answer::GrowRefused(error),
-        }
-    }
-
-    /// The same, with zeros behind the old size.
-    fn grow_zeroed(&mut self, position: usize, old: Layout, new: Layout) -> Answer {
-        let Some(chunk) = self.live.get(position).copied() else {
-            return Answer::NotMade;
-        };
-        if chunk.place() % old.align() != 0 {
-            return Answer::NotMade;
-        }
-        match grow_zeroed(
-            &mut self.allocator,
-            &mut self.region,
-            chunk.place(),
-            old,
-            new,
-        ) {
-            Ok(grown) => {
-                self.live[position] = grown;
-                resized(chunk, grown)
-            }
-            Err(error) => Answer::GrowRefused(error),
-        }
-    }
-
-    /// Gives the chunk at a position a smaller size.
-    fn shrink(&mut self, position: usize, old: Layout, new: Layout) -> Answer {
-        let Some(chunk) = self.live.get(position).copied() else {
-            return Answer::NotMade;
-        };
-        let place = chunk.place();
-        if place % old.align() != 0 || old.size() > self.allocator.reserved(place) {
-            return Answer::NotMade;
-        }
-        match self.allocator.shrink(place, old, new) {
-            Ok(shrunk) => {
-                self.live[position] = shrunk;
-                resized(chunk, shrunk)
-            }
-            Err(error) => Answer::ShrinkRefused(error),
+            Err(answer) => answer,
         }
     }
 
@@ -306,18 +262,9 @@ impl<A: Allocator + Drop> Owner<A> {
     /// Makes a call.
     pub(crate) fn answer(&mut self, call: Call) -> Answer {
         match call {
-            Call::Grow(position, old, new) => match layouts(old, new) {
-                Some((old, new)) => self.grow(position, old, new),
-                None => Answer::NotMade,
-            },
-            Call::GrowZeroed(position, old, new) => match layouts(old, new) {
-                Some((old, new)) => self.grow_zeroed(position, old, new),
-                None => Answer::NotMade,
-            },
-            Call::Shrink(position, old, new) => match layouts(old, new) {
-                Some((old, new)) => self.shrink(position, old, new),
-                None => Answer::NotMade,
-            },
+            Call::Grow(position, ..)
+            | Call::GrowZeroed(position, ..)
+            | Call::Shrink(position, ..) => self.resize(position, call),
             Call::Reserved(position) => self.reserved(position),
             call => self.answer_base(call),
         }
@@ -336,24 +283,46 @@ impl<A: Allocator + Drop> Owner<A> {
     }
 }
 
-/// Grows the chunk at a place, with zeros behind the old size.
-fn grow_zeroed<A: Allocator>(
+/// Resizes the live chunk at a place, where the call's conditions hold.
+fn resize<A: Allocator>(
     allocator: &mut A,
     region: &mut Region,
     place: usize,
-    old: Layout,
-    new: Layout,
-) -> Result<Chunk, AllocationGrowError>
+    call: Call,
+) -> Result<Chunk, Answer>
     requires live { A.may_release allocator.old place }
-    requires aligned { place % old.align ≡ 0 }
     requires same_region { held_region region.old ≡ A.region_of (A.geometry allocator.old) }
-    ensures resized { IfOk result (λ grown. (live : List Chunk) (position : ℕ) (chunk : Chunk)
+    ensures resized { IfOk result (λ resized. (live : List Chunk) (position : ℕ) (chunk : Chunk)
         → A.stands_for allocator.old live → slice_get live position ≡ Some chunk
-        → chunk.place ≡ place → A.stands_for allocator.new (slice_set live position grown)) }
+        → chunk.place ≡ place → A.stands_for allocator.new (slice_set live position resized)) }
     ensures still { allocator.new ≡ allocator.old }
     ensures region { held_region region.new ≡ held_region region.old }
 {
-    allocator.grow_zeroed(place, old, new, region)
+    let (Call::Grow(_, old, new) | Call::GrowZeroed(_, old, new) | Call::Shrink(_, old, new)) = call
+    else {
+        return Err(Answer::NotMade);
+    };
+    let Some((old, new)) = layouts(old, new) else {
+        return Err(Answer::NotMade);
+    };
+    if place % old.align() != 0 {
+        return Err(Answer::NotMade);
+    }
+    match call {
+        Call::Grow(..) => match allocator.grow(place, old, new) {
+            Ok(grown) => Ok(grown),
+            Err(error) => Err(Answer::GrowRefused(error)),
+        },
+        Call::GrowZeroed(..) => match allocator.grow_zeroed(place, old, new, region) {
+            Ok(grown) => Ok(grown),
+            Err(error) => Err(Answer::GrowRefused(error)),
+        },
+        _ if old.size() > allocator.reserved(place) => Err(Answer::NotMade),
+        _ => match allocator.shrink(place, old, new) {
+            Ok(shrunk) => Ok(shrunk),
+            Err(error) => Err(Answer::ShrinkRefused(error)),
+        },
+    }
 }
 
 /// An owner who has room for so many chunks, so that no call takes memory.
@@ -376,7 +345,7 @@ fn layouts(old: (usize, usize), new: (usize, usize)) -> Option<(Layout, Layout)>
 }
 
 /// The answer to a resize of a chunk.
-fn resized(chunk: Chunk, resized: Chunk) -> Answer {
+fn answer_to_resize(chunk: Chunk, resized: Chunk) -> Answer {
     if resized.place() == chunk.place() {
         Answer::InPlace(resized.len())
     } else {

@@ -16,46 +16,31 @@ pub(super) fn pool_outcome(world: &mut PoolWorld, step: PoolStep) -> PoolOutcome
 #[test]
 fn bump_worlds_of_many_parties(rt: HostRuntime) -> Result<(), Fail> {
     let layout = Layout::from_size_align(40, 1)?;
-    for last in [64, 99, 999] {
-        let mut world = BumpWorld::new(rt.alloc(), 4096, 64, last + 1)?;
-        let outcomes = [
-            bump_outcome(
-                &mut world,
-                BumpStep::Read {
-                    party: last,
-                    layout,
-                },
-            ),
-            bump_outcome(
-                &mut world,
-                BumpStep::Read {
-                    party: last + 1,
-                    layout,
-                },
-            ),
-        ];
-        assert_eq!(rt;
-            outcomes,
-            [BumpOutcome::Sees(0), BumpOutcome::Passed],
-            "{last}"
-        );
+    for parties in [65, 100, 1000] {
+        let world = BumpWorld::new(rt.alloc(), 4096, 64, parties);
+        let mut world = world.expect(&rt, "there is memory for the parties");
+        let last = BumpStep::Read {
+            party: parties - 1,
+            layout,
+        };
+        assert_eq!(rt; bump_outcome(&mut world, last), BumpOutcome::Sees(0));
+        let none = BumpStep::Read {
+            party: parties,
+            layout,
+        };
+        assert_eq!(rt; bump_outcome(&mut world, none), BumpOutcome::Passed);
     }
     Ok(())
 }
 
 #[test]
-fn pool_worlds_of_many_parties(rt: HostRuntime) -> Result<(), Fail> {
-    for last in [64, 99, 999] {
-        let mut world = PoolWorld::new(rt.alloc(), 2, last + 1)?;
-        let outcomes = [
-            pool_outcome(&mut world, PoolStep::Try { party: last }),
-            pool_outcome(&mut world, PoolStep::Try { party: last + 1 }),
-        ];
-        assert_eq!(rt;
-            outcomes,
-            [PoolOutcome::Takes(0), PoolOutcome::Passed],
-            "{last}"
-        );
+fn pool_worlds_of_many_parties(rt: HostRuntime) {
+    for parties in [65, 100, 1000] {
+        let world = PoolWorld::new(rt.alloc(), 2, parties);
+        let mut world = world.expect(&rt, "there is memory for the parties");
+        let last = PoolStep::Try { party: parties - 1 };
+        assert_eq!(rt; pool_outcome(&mut world, last), PoolOutcome::Takes(0));
+        let none = PoolStep::Try { party: parties };
+        assert_eq!(rt; pool_outcome(&mut world, none), PoolOutcome::Passed);
     }
-    Ok(())
 }

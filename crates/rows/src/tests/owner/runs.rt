@@ -48,6 +48,14 @@ impl Owner<PoolAllocator<Global>> {
         assert_eq!(rt; self.allocator.last_reads(), words);
     }
 
+    /// A held bucket is at one place, and none at another.
+    pub(crate) fn holds(&self, rt: &impl Abort, held: usize, other: usize) {
+        assert_eq!(rt;
+            (self.allocator.holds(held), self.allocator.holds(other)),
+            (true, false)
+        );
+    }
+
     /// Gives back the bucket at a position, by its place alone.
     pub(crate) fn gives_back(&mut self, rt: &impl Abort, position: usize) {
         assert_eq!(rt; self.deallocate_bucket(position), Answer::Done);
@@ -91,6 +99,14 @@ fn give_back_bucket(pool: &mut PoolAllocator<Global>, place: usize)
 }
 
 impl<const N: usize> Owner<FixedSizePoolAllocator<N>> {
+    /// A held bucket is at one place, and none at another.
+    pub(crate) fn holds(&self, rt: &impl Abort, held: usize, other: usize) {
+        assert_eq!(rt;
+            (self.allocator.holds(held), self.allocator.holds(other)),
+            (true, false)
+        );
+    }
+
     pub(crate) fn run_fixed_pool(
         &mut self,
         commands: &[Command],

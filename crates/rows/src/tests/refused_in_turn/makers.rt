@@ -15,24 +15,31 @@ use std::test::Fail;
 #[test]
 fn pool_odd_start_getters(rt: HostRuntime) -> Result<(), Fail> {
     let bucket = Layout::from_size_align(128, 8)?;
-    if !PoolAllocator::can_make(bucket, 4097, 1024) {
-        return Err(Fail::from("no pool can be made of that"));
-    }
-    let uninit = PoolAllocator::new_uninit(bucket, 4097, 1024);
-    let made = match uninit.init(rt.alloc()) {
-        Ok(pool) => Ok(pool),
-        Err((handed_back, error)) => {
-            assert_eq!(rt; error, AllocationError::OutOfMemory);
-            assert!(rt; some_was_refused(rt.alloc()));
-            handed_back.init(rt.alloc())
-        }
-    };
-    let Ok(pool) = made else {
-        return Err(Fail::from("init was refused with memory"));
-    };
+    let pool = initialised(&rt, rt.alloc(), bucket)?;
     has_figures(&rt, &pool, [4104, 7, 1024, 128, 8]);
     assert_eq!(rt; pool.last_reads(), 0);
     Ok(())
+}
+
+/// A pool over 1,024 bytes at 4097. Where memory was refused, the uninitialised one comes back, and is initialised once more.
+fn initialised(
+    rt: &impl Abort,
+    alloc: Global,
+    bucket: Layout,
+) -> Result<PoolAllocator<Global>, &'static str> {
+    if !PoolAllocator::can_make(bucket, 4097, 1024) {
+        return Err("no pool can be made of that");
+    }
+    let (handed_back, error) = match PoolAllocator::new_uninit(bucket, 4097, 1024).init(alloc) {
+        Ok(pool) => return Ok(pool),
+        Err(refused) => refused,
+    };
+    assert_eq!(rt; error, AllocationError::OutOfMemory);
+    assert!(rt; some_was_refused(alloc));
+    match handed_back.init(alloc) {
+        Ok(pool) => Ok(pool),
+        Err(_) => Err("init was refused with memory"),
+    }
 }
 
 /// Shares a bump whose used space is 48 between two parties. Where memory was refused it comes back as it was, with the text

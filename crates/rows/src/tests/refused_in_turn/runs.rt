@@ -123,7 +123,7 @@ fn pool_eight_buckets(rt: HostRuntime) -> Result<(), Fail> {
     Ok(())
 }
 
-/// The replies of the row: three refusals, the eight buckets, one more refusal, and the first bucket once more.
+/// The replies of the row: three refusals, the eight buckets in any order, one more refusal, and the first of them once more.
 fn are_of_eight_buckets(rt: &impl Abort, told: &[Reply]) {
     let refused = [
         Reply::Refused(AllocationError::SizeTooLarge),
@@ -134,21 +134,33 @@ fn are_of_eight_buckets(rt: &impl Abort, told: &[Reply]) {
         Reply::Refused(AllocationError::OutOfMemory),
         Reply::Released,
     ];
-    assert_eq!(rt; told.get(..3), Some(refused.as_slice()));
-    are_given_once(rt, told, 4096);
-    assert_eq!(rt; told.get(11..13), Some(full.as_slice()));
-    assert_eq!(rt; told.get(13), told.get(3));
     assert_eq!(rt; told.len(), 14);
+    are_from(rt, told, 0, &refused);
+    are_from(rt, told, 11, &full);
+    let mut places = [0; 8];
+    for (place, reply) in places.iter_mut().zip(told.iter().skip(3)) {
+        *place = place_of(*reply);
+    }
+    for reply in told.iter().skip(13) {
+        assert_eq!(rt; place_of(*reply), places[0]);
+    }
+    places.sort_unstable();
+    assert_eq!(rt; places, [4096, 4224, 4352, 4480, 4608, 4736, 4864, 4992]);
 }
 
-/// Each of the eight buckets from here on, 128 bytes apart, has exactly one chunk of 48 bytes among the fourth reply and the seven
-/// behind it.
-fn are_given_once(rt: &impl Abort, told: &[Reply], start: usize) {
-    for place in (start..).step_by(128).take(8) {
-        let bucket = Chunk::new(place, 48).map(Reply::Chunk);
-        let given = told.iter().skip(3).take(8);
-        assert_eq!(rt; given.filter(|reply| Some(**reply) == bucket).count(), 1);
+/// From this position on the replies are these.
+fn are_from(rt: &impl Abort, told: &[Reply], first: usize, wanted: &[Reply]) {
+    for (reply, wanted) in told.iter().skip(first).zip(wanted) {
+        assert_eq!(rt; *reply, *wanted);
     }
+}
+
+/// The place of a chunk of 48 bytes, or 0, which is no place.
+fn place_of(reply: Reply) -> usize {
+    let Reply::Chunk(chunk) = reply else {
+        return 0;
+    };
+    if chunk.len() == 48 { chunk.place() } else { 0 }
 }
 
 /// The replies of a run over a bump, which is fresh where memory was refused at first.
