@@ -9,13 +9,16 @@
 // asked for it meanwhile. A third mark between the two is refused exactly where nothing was given back since the first. Where
 // the program met the first two and ended well, the exit status is 98.
 //
-// Without REFUSE_MARKED the marks are granted and not counted, so a test that asks for them is run with ample memory, too.
+// In both ways a fourth mark, at any time, is refused exactly where a request that is no mark was refused before it.
+//
+// Without REFUSE_MARKED the first three marks are granted, so a test that asks for them is run with ample memory, too. No mark is
+// counted, neither as a request nor as given back.
 #define _GNU_SOURCE
 #include <stdlib.h>
 #include <sys/syscall.h>
 #include <unistd.h>
 
-enum { FIRST_MARK = 100003, SECOND_MARK = 100019, FREED_MARK = 100043 };
+enum { FIRST_MARK = 100003, SECOND_MARK = 100019, FREED_MARK = 100043, REFUSED_MARK = 100049 };
 
 extern void *__libc_malloc(size_t);
 extern void *__libc_calloc(size_t, size_t);
@@ -23,9 +26,10 @@ extern void *__libc_realloc(void *, size_t);
 extern void __libc_free(void *);
 
 static long asked, refuse_at, asked_between, freed_between;
-static int refused, between_marks, met_both;
+static int marked, refused, between_marks, met_both;
 
-static int marked;
+// A mark that was granted, until it is given back.
+static void *mark;
 
 // The status that the program ends with, where it asked for this one.
 static int told(int status) {
@@ -70,15 +74,23 @@ static int refuses_marked(size_t size) {
         between_marks = 0;
         return asked_between != 0;
     }
-    if (between_marks)
+    if (between_marks) {
         __atomic_add_fetch(&asked_between, 1, __ATOMIC_SEQ_CST);
+        refused = 1;
+    }
     return between_marks;
 }
 
+static int is_mark(size_t size) {
+    return size == FIRST_MARK || size == SECOND_MARK || size == FREED_MARK || size == REFUSED_MARK;
+}
+
 static int refuses(size_t size) {
+    if (size == REFUSED_MARK)
+        return refused;
     if (marked)
         return refuses_marked(size);
-    if (size == FIRST_MARK || size == SECOND_MARK || size == FREED_MARK)
+    if (is_mark(size))
         return 0;
     if (refuse_at && __atomic_add_fetch(&asked, 1, __ATOMIC_SEQ_CST) == refuse_at) {
         refused = 1;
@@ -87,14 +99,21 @@ static int refuses(size_t size) {
     return 0;
 }
 
-void *malloc(size_t size) { return refuses(size) ? NULL : __libc_malloc(size); }
+void *malloc(size_t size) {
+    void *block = refuses(size) ? NULL : __libc_malloc(size);
+    if (is_mark(size))
+        mark = block;
+    return block;
+}
 
 void *calloc(size_t count, size_t size) { return refuses(count * size) ? NULL : __libc_calloc(count, size); }
 
 void *realloc(void *block, size_t size) { return refuses(size) ? NULL : __libc_realloc(block, size); }
 
 void free(void *block) {
-    if (block && between_marks)
+    if (block && block == mark)
+        mark = NULL;
+    else if (block && between_marks)
         __atomic_add_fetch(&freed_between, 1, __ATOMIC_SEQ_CST);
     __libc_free(block);
 }

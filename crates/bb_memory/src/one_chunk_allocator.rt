@@ -6,7 +6,7 @@ ghost use Rattle.bb_memory_base.specs.Chunk.{Chunk, IsInside, chunk_end};
 ghost use Rattle.bb_memory_base.specs.FirstPlace.{first_place};
 ghost use Rattle.bb_memory_base.specs.HeldBytes.{held_region, part_behind, ZeroesOnly};
 ghost use Rattle.bb_memory_base.specs.LiveList.{IsSound};
-ghost use Rattle.bb_memory_base.specs.Run.{IsRun};
+ghost use Rattle.bb_memory_base.specs.Run.{IsRun, Step};
 ghost use Rattle.bb_memory_base.specs.ResizableObject.{ResizableStep};
 ghost use Rattle.bb_memory_base.specs.declared.layout.Layout.{Layout};
 ghost use Rattle.bb_memory_base.specs.declared.allocator.AllocationError.{AllocationError};
@@ -21,7 +21,7 @@ ghost use Rattle.bb_memory.specs.OneChunkObject.{LacksRoom, reserved_at, one_chu
 pub use crate::allocator::{
     AllocationError, AllocationGrowError, AllocationShrinkError, Allocator, BaseAllocator,
 };
-use crate::allocator::{Command, Reply, run_full};
+use crate::allocator::{Command, Reply, run_base, run_full};
 use crate::layout::Chunk;
 pub use crate::layout::Layout;
 use crate::region;
@@ -425,6 +425,26 @@ pub fn run_one_chunk(
         ((allocator.new ≡ allocator.old) × (live.new.items ≡ live.old.items)) }
 {
     run_full(allocator, live, commands)
+}
+
+/// The same without resizes, which are passed over, as [`run_base`] does. The allocator has to stand for the live list.
+/// `AllocError` comes only where memory was refused, and then the allocator and the list are as before.
+pub fn run_base_one_chunk(
+    allocator: &mut OneChunkAllocator,
+    live: &mut Vec<Chunk>,
+    commands: &[Command],
+) -> Result<Vec<Reply>, AllocError>
+    requires { StandsFor allocator.old live.old.items }
+    ensures run { IfOk result (λ replies.
+        IsRun (Step (one_chunk_object allocator.old.region).base)
+        live.old.items commands.now replies.items live.new.items) }
+    ensures stands { OnOk result (StandsFor allocator.new live.new.items) }
+    ensures sound { OnOk result (IsSound allocator.old.region live.new.items) }
+    ensures geometry { allocator.new.region ≡ allocator.old.region }
+    ensures kept { OnErr result
+        ((allocator.new ≡ allocator.old) × (live.new.items ≡ live.old.items)) }
+{
+    run_base(allocator, live, commands)
 }
 
 /// What the definition of the one-chunk object says of every region and every list of commands. There is exactly one answer
