@@ -1,4 +1,5 @@
 //! The places that a pool's replies name. Which free bucket is given is open, but no bucket is given twice.
+use super::table::line_and_rest;
 use std::alloc::{AllocError, Global};
 
 /// The buckets of a pool, and which of them were named.
@@ -52,11 +53,6 @@ impl Named {
             None
         }
     }
-}
-
-/// The first line of a text without its line feed, and the text behind it. Where there is none, both are empty.
-fn line_and_rest(text: &str) -> (&str, &str) {
-    text.split_once("\n").unwrap_or(("", ""))
 }
 
 /// What stands between these two in the line, or nothing where they don't stand there.

@@ -32,7 +32,7 @@ pub(super) fn answer(alloc: Global, script: &[u8]) -> (Status, Vec<u8>) {
 }
 
 /// A line of a text and what is behind it. Where there is no line feed, the text is one line.
-fn line_and_rest(text: &str) -> (&str, &str) {
+pub(super) fn line_and_rest(text: &str) -> (&str, &str) {
     text.split_once("\n").unwrap_or((text, ""))
 }
 
@@ -47,7 +47,7 @@ fn first_place(told: &str) -> &str {
     told.split(' ').next().unwrap_or("")
 }
 
-/// What a row says is written, where this is told: it can be only where the places are the row's.
+/// What a row has to write: where the first place that was told is one of the row's, it stands for `P`.
 fn wanted(alloc: Global, wrote: &str, places: &str, told: &[u8]) -> Result<Vec<u8>, AllocError> {
     let place = first_place(str::from_utf8(told).unwrap_or(""));
     if !places.split(' ').any(|any| any == place) {
