@@ -14,7 +14,7 @@ use bb_memory::layout::Layout;
 use bb_memory::pool_allocator::{FixedSizePoolAllocator, pool_count_law, pool_object_law};
 use bb_memory::region::Region;
 use bb_memory::shared_bump::{BumpParty, SharedBumpAllocator};
-use rows::{LineAnswer, LineCall, SlabAnswer, SlabCall, first_wrong};
+use rows::{LineAnswer, LineCall, LineRow, SlabAnswer, SlabCall, SlabRow, first_wrong};
 use std::alloc::Global;
 use std::sync::Arc;
 use std::test::Fail;
@@ -42,9 +42,14 @@ fn its_region(alloc: Global) -> Result<Region, Fail>
     Ok(Region::new(4096, vec![in alloc; 0; 1024]?))
 }
 
+/// The first row that a slab doesn't answer as it has it.
+fn first_wrong_of_slab(alloc: Global, rows: &[SlabRow<'_>]) -> Result<Option<usize>, Fail> {
+    let mut slab = Slab::new(alloc, eight_buckets()?, its_region(alloc)?);
+    Ok(first_wrong(&mut slab, rows))
+}
+
 #[test]
 fn slab_of_three_records(rt: HostRuntime) -> Result<(), Fail> {
-    let mut slab = Slab::new(rt.alloc(), eight_buckets()?, its_region(rt.alloc())?);
     let rows = [
         (SlabCall::Insert(&[1, 2, 3]), SlabAnswer::Done),
         (SlabCall::Insert(&[4, 5]), SlabAnswer::Done),
@@ -56,13 +61,18 @@ fn slab_of_three_records(rt: HostRuntime) -> Result<(), Fail> {
         (SlabCall::Read(0), SlabAnswer::Record(&[7, 8])),
         (SlabCall::Read(1), SlabAnswer::Record(&[6])),
     ];
-    assert_eq!(rt; first_wrong(&mut slab, &rows), None);
+    assert_eq!(rt; first_wrong_of_slab(rt.alloc(), &rows)?, None);
     Ok(())
+}
+
+/// The first row that a mailbox doesn't answer as it has it.
+fn first_wrong_of_mailbox(alloc: Global, rows: &[LineRow<'_>]) -> Result<Option<usize>, Fail> {
+    let mut mailbox = Mailbox::new(alloc, eight_buckets()?, its_region(alloc)?);
+    Ok(first_wrong(&mut mailbox, rows))
 }
 
 #[test]
 fn mailbox_in_order(rt: HostRuntime) -> Result<(), Fail> {
-    let mut mailbox = Mailbox::new(rt.alloc(), eight_buckets()?, its_region(rt.alloc())?);
     let rows = [
         (LineCall::Next, LineAnswer::Left(false)),
         (LineCall::Send(&[1, 2, 3]), LineAnswer::Sent),
@@ -72,14 +82,19 @@ fn mailbox_in_order(rt: HostRuntime) -> Result<(), Fail> {
         (LineCall::Front, LineAnswer::Message(&[4])),
         (LineCall::Waiting, LineAnswer::Waiting(1)),
     ];
-    assert_eq!(rt; first_wrong(&mut mailbox, &rows), None);
+    assert_eq!(rt; first_wrong_of_mailbox(rt.alloc(), &rows)?, None);
     Ok(())
+}
+
+/// The first row that a ring for two readers doesn't answer as it has it.
+fn first_wrong_of_ring(alloc: Global, rows: &[LineRow<'_>]) -> Result<Option<usize>, Fail> {
+    pool_object_law();
+    let mut ring = MessageRing::new(alloc, eight_buckets()?, its_region(alloc)?, 2);
+    Ok(first_wrong(&mut ring, rows))
 }
 
 #[test]
 fn ring_for_two_readers(rt: HostRuntime) -> Result<(), Fail> {
-    pool_object_law();
-    let mut ring = MessageRing::new(rt.alloc(), eight_buckets()?, its_region(rt.alloc())?, 2);
     let rows = [
         (LineCall::Send(&[1, 2]), LineAnswer::Sent),
         (LineCall::Send(&[3]), LineAnswer::Sent),
@@ -90,7 +105,7 @@ fn ring_for_two_readers(rt: HostRuntime) -> Result<(), Fail> {
         (LineCall::Front, LineAnswer::Message(&[3])),
         (LineCall::Waiting, LineAnswer::Waiting(1)),
     ];
-    assert_eq!(rt; first_wrong(&mut ring, &rows), None);
+    assert_eq!(rt; first_wrong_of_ring(rt.alloc(), &rows)?, None);
     Ok(())
 }
 

@@ -1,5 +1,6 @@
 //! A vector of bytes that lives at an offset of a region, and can move to another region with its bytes.
-ghost use Rattle.std.specs.Prelude.{◌≡◌, ◌+◌, ◌∷◌, ◌++◌, ◌<◌, ◌≤◌, ◌^◌, [], ℕ, List, Some, IsOk, IfOk, IfErr, OnOk, OnErr, Ok, length, slice_get, slice_index};
+ghost use Rattle.std.specs.Prelude.{◌≡◌, ◌+◌, ◌∷◌, ◌++◌, ◌<◌, ◌≤◌, ◌^◌, [], ℕ, List, Some, IsOk};
+ghost use Rattle.std.specs.Prelude.{IfOk, IfErr, OnOk, OnErr, Ok, length, slice_get, slice_index};
 ghost use Rattle.bb_memory_base.specs.Chunk.{Chunk, AreApart, IsInside};
 ghost use Rattle.bb_memory_base.specs.HeldBytes.{HeldBytes, held_region, bytes_in};
 ghost use Rattle.uses.specs.ByteVectors.{ByteVector, IsGrown, IsWhyFull, MayGrowByOne, contents};

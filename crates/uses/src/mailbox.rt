@@ -1,5 +1,6 @@
 //! Messages that wait, received in the order in which they were sent: a layer over the slab.
-ghost use Rattle.std.specs.Prelude.{◌≡◌, ◌∷◌, ◌++◌, ◌<◌, ◌↔◌, [], Some, IfSome, IfNone, IfErr, IsTrue, OnOk, OnErr, drop, length, slice_get};
+ghost use Rattle.std.specs.Prelude.{◌≡◌, ◌∷◌, ◌++◌, ◌<◌, ◌↔◌, [], Some, IfSome, IfNone, IfErr};
+ghost use Rattle.std.specs.Prelude.{IsTrue, OnOk, OnErr, drop, length, slice_get};
 ghost use Rattle.bb_memory_base.specs.HeldBytes.{held_region};
 ghost use Rattle.uses.specs.Requests.{HasOneMore, IsWhyNotStored};
 

@@ -26,7 +26,8 @@ pub fn take_one(pool: &SharedPoolAllocator, party: PoolParty, layout: Layout) ->
 }
 
 /// Four workers take a bucket each, all at once, and meet when they are back: one list of steps has all their logs and nothing
-/// else, and a flag is taken exactly where one of them holds the bucket. It is refused, with `OutOfMemory`, only where memory was.
+/// else, and a flag is taken exactly where one of them holds the bucket. It is refused, with `OutOfMemory`, where memory was, and
+/// for nothing else.
 #[tactic(auto, unfolding(bb_memory_base::specs::LeastPlace::least_place))]
 pub fn four_workers<R: Threads + Sync>(
     rt: &R,

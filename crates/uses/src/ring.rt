@@ -1,5 +1,7 @@
 //! Messages for several readers, each in a sample of a loan book.
-ghost use Rattle.std.specs.Prelude.{◌≡◌, ◌∷◌, ◌++◌, ◌<◌, ◌+◌, ◌-◌, ◌↔◌, [], Some, Ok, IfSome, IfNone, IfOk, IfErr, OnOk, OnErr, IsTrue, true, false, drop, get_or, length, slice_get, slice_set};
+ghost use Rattle.std.specs.Prelude.{◌≡◌, ◌∷◌, ◌++◌, ◌<◌, ◌+◌, ◌-◌, ◌↔◌, [], Some, Ok, IfSome};
+ghost use Rattle.std.specs.Prelude.{IfNone, IfOk, IfErr, OnOk, OnErr, IsTrue, true, false, drop};
+ghost use Rattle.std.specs.Prelude.{get_or, length, slice_get, slice_set};
 ghost use Rattle.bb_memory_base.specs.Chunk.{Chunk};
 ghost use Rattle.bb_memory_base.specs.LiveList.{IsSound};
 ghost use Rattle.bb_memory_base.specs.HeldBytes.{held_region};

@@ -1,5 +1,5 @@
 //! A job board, whose slots threads take.
-ghost use Rattle.std.specs.Prelude.{◌≡◌, All, IfOk};
+ghost use Rattle.std.specs.Prelude.{◌≡◌, IfOk};
 
 use bb_memory::layout::Layout;
 use bb_memory::pool_allocator::{AllocationError, pool_count_law};
@@ -9,14 +9,18 @@ use std::test::Fail;
 use std::thread::Threads;
 use uses::job_board::JobBoard;
 
-/// A board of four slots of 64 bytes, for two workers.
+/// A board of four slots of 64 bytes, and its two workers.
 #[tactic(auto, unfolding(bb_memory_base::specs::LeastPlace::least_place))]
-fn four_slots(alloc: Global) -> Result<(JobBoard, Vec<PoolParty>), Fail>
-    ensures { IfOk result (λ made. All (λ worker. worker.allocator ≡ made.0) made.1.items) }
+fn four_slots(alloc: Global) -> Result<(JobBoard, PoolParty, PoolParty), Fail>
+    ensures first { IfOk result (λ made. made.1.allocator ≡ made.0) }
+    ensures second { IfOk result (λ made. made.2.allocator ≡ made.0) }
 {
     pool_count_law();
     let job = Layout::from_size_align(64, 8)?;
-    Ok(JobBoard::new(alloc, job, 4096, 256, 2)?)
+    let (board, mut workers) = JobBoard::new(alloc, job, 4096, 256, 2)?;
+    let second = workers.pop().unwrap();
+    let first = workers.pop().unwrap();
+    Ok((board, first, second))
 }
 
 /// The numbers of the slots that two workers get at once.
@@ -44,10 +48,7 @@ fn refusal(board: &JobBoard, mut worker: PoolParty) -> Option<AllocationError>
 
 #[test]
 fn slots_have_one_holder(rt: HostRuntime) -> Result<(), Fail> {
-    let (board, mut workers) = four_slots(rt.alloc())?;
-    let (Some(mut there), Some(mut here)) = (workers.pop(), workers.pop()) else {
-        return Err(Fail::from("too few workers"));
-    };
+    let (board, mut here, mut there) = four_slots(rt.alloc())?;
     let (one, two) = two_slots(&rt, &board, &mut here, &mut there)?;
     let (three, four) = two_slots(&rt, &board, &mut here, &mut there)?;
     let mut numbers = [one, two, three, four];
@@ -70,10 +71,7 @@ fn taken_and_done(board: &JobBoard, worker: &mut PoolParty) -> Result<u32, Alloc
 
 #[test]
 fn slot_given_back(rt: HostRuntime) -> Result<(), Fail> {
-    let (board, mut workers) = four_slots(rt.alloc())?;
-    let Some(mut worker) = workers.pop() else {
-        return Err(Fail::from("too few workers"));
-    };
+    let (board, _, mut worker) = four_slots(rt.alloc())?;
     assert_eq!(rt; taken_and_done(&board, &mut worker)?, 0);
     assert_eq!(rt; taken_and_done(&board, &mut worker)?, 0);
     Ok(())

@@ -5,7 +5,6 @@ use super::eight_buckets;
 use super::rows::{Driven, first_wrong};
 use bb_memory::allocator::{AllocationError, Allocator, Command, Reply, run_full};
 use bb_memory::layout::{Chunk, Layout};
-use bb_memory::pool_allocator::FixedSizePoolAllocator;
 use std::alloc::Global;
 use std::marker::Model;
 use std::test::Fail;
@@ -39,20 +38,27 @@ enum Told {
     Resized(usize),
     Released,
     Refused(AllocationError),
+    /// So many bytes are reserved for the chunk.
+    Reserved(usize),
     Other,
 }
 
 impl Told {
     /// What is told of the reply to a command that resizes the chunk at this place, if there is one.
-    fn of(place: Option<usize>, reply: Option<Reply>) -> Told {
-        match (place, reply) {
-            (None, Some(Reply::Chunk(chunk))) => Told::Given(chunk.len()),
-            (Some(place), Some(Reply::Chunk(chunk))) if chunk.place() == place => {
-                Told::Resized(chunk.len())
-            }
-            (_, Some(Reply::Released)) => Told::Released,
-            (_, Some(Reply::Refused(error))) => Told::Refused(error),
+    fn of(place: Option<usize>, reply: Reply) -> Told {
+        match reply {
+            Reply::Chunk(chunk) => Told::of_chunk(place, chunk),
+            Reply::Released => Told::Released,
+            Reply::Refused(error) => Told::Refused(error),
             _ => Told::Other,
+        }
+    }
+
+    fn of_chunk(place: Option<usize>, chunk: Chunk) -> Told {
+        match place {
+            None => Told::Given(chunk.len()),
+            Some(place) if chunk.place() == place => Told::Resized(chunk.len()),
+            Some(_) => Told::Other,
         }
     }
 }
@@ -108,93 +114,144 @@ impl<A: Limited> Tried<A> {
     fn spent(&self) -> (usize, usize) {
         self.allocator.spent()
     }
-}
 
-/// A command, what is told of its reply, and what is spent then and may be.
-type BudgetRow = (Command, Told, (usize, usize));
-
-impl<A: Limited> Driven<BudgetRow> for Tried<A> {
-    fn keeps(&mut self, row: &BudgetRow) -> bool {
-        let place = self.place(row.0);
-        Told::of(place, self.reply(row.0)) == row.1 && self.spent() == row.2
+    /// What is told of what is answered. Nothing is where there is no such chunk, or memory was refused.
+    fn answer(&mut self, ask: Ask) -> Option<Told> {
+        if let Ask::Reserved(position) = ask {
+            return Some(Told::Reserved(self.reserved(position)?));
+        }
+        let command = ask.command()?;
+        let place = self.place(command);
+        Some(Told::of(place, self.reply(command)?))
     }
 }
 
-type Pool = FixedSizePoolAllocator<16>;
-
-fn chunks(alloc: Global, budget: usize) -> Result<Tried<ChunkBudget<Pool>>, Fail> {
-    Ok(Tried::new(alloc, ChunkBudget::new(eight_buckets()?, budget)))
+/// What is asked, of the chunk at a position of the live list where it isn't for a new one.
+#[derive(Clone, Copy)]
+enum Ask {
+    /// A chunk of so many bytes.
+    Allocate(usize),
+    Release(usize),
+    /// From so many bytes to so many.
+    Grow(usize, usize, usize),
+    Shrink(usize, usize, usize),
+    /// How many bytes are reserved for it.
+    Reserved(usize),
 }
 
-fn bytes(alloc: Global, budget: usize) -> Result<Tried<ByteBudget<Pool>>, Fail> {
-    Ok(Tried::new(alloc, ByteBudget::new(eight_buckets()?, budget)))
+impl Ask {
+    fn command(self) -> Option<Command> {
+        match self {
+            Ask::Allocate(size) => Some(Command::Allocate(of_bytes(size)?)),
+            Ask::Release(position) => Some(Command::Release(position)),
+            Ask::Grow(position, old, new) => {
+                Some(Command::Grow(position, of_bytes(old)?, of_bytes(new)?))
+            }
+            Ask::Shrink(position, old, new) => {
+                Some(Command::Shrink(position, of_bytes(old)?, of_bytes(new)?))
+            }
+            Ask::Reserved(_) => None,
+        }
+    }
+}
+
+/// The layout of so many bytes at any place.
+fn of_bytes(size: usize) -> Option<Layout> {
+    Layout::from_size_align(size, 1).ok()
+}
+
+/// What is asked, what is told of the reply, and what is spent then and may be.
+type BudgetRow = (Ask, Told, (usize, usize));
+
+impl<A: Limited> Driven<BudgetRow> for Tried<A> {
+    fn keeps(&mut self, row: &BudgetRow) -> bool {
+        self.answer(row.0) == Some(row.1) && self.spent() == row.2
+    }
+}
+
+/// The first row that a budget of so many chunks doesn't answer as it has it.
+fn first_wrong_of_chunks(
+    alloc: Global,
+    budget: usize,
+    rows: &[BudgetRow],
+) -> Result<Option<usize>, Fail> {
+    let mut tried = Tried::new(alloc, ChunkBudget::new(eight_buckets()?, budget));
+    Ok(first_wrong(&mut tried, rows))
+}
+
+/// The first row that a budget of so many bytes doesn't answer as it has it.
+fn first_wrong_of_bytes(
+    alloc: Global,
+    budget: usize,
+    rows: &[BudgetRow],
+) -> Result<Option<usize>, Fail> {
+    let mut tried = Tried::new(alloc, ByteBudget::new(eight_buckets()?, budget));
+    Ok(first_wrong(&mut tried, rows))
 }
 
 #[test]
 fn budget_of_two_chunks(rt: HostRuntime) -> Result<(), Fail> {
-    let ten = Layout::from_size_align(10, 1)?;
     let rows = [
-        (Command::Allocate(ten), Told::Given(10), (1, 2)),
-        (Command::Allocate(ten), Told::Given(10), (2, 2)),
-        (Command::Release(1), Told::Released, (1, 2)),
-        (Command::Allocate(ten), Told::Given(10), (2, 2)),
+        (Ask::Allocate(10), Told::Given(10), (1, 2)),
+        (Ask::Allocate(10), Told::Given(10), (2, 2)),
+        (Ask::Release(1), Told::Released, (1, 2)),
+        (Ask::Allocate(10), Told::Given(10), (2, 2)),
         (
-            Command::Allocate(ten),
+            Ask::Allocate(10),
             Told::Refused(AllocationError::OutOfMemory),
             (2, 2),
         ),
     ];
-    assert_eq!(rt; first_wrong(&mut chunks(rt.alloc(), 2)?, &rows), None);
+    assert_eq!(rt; first_wrong_of_chunks(rt.alloc(), 2, &rows)?, None);
     Ok(())
 }
 
 #[test]
 fn spent_budget_refuses_before_the_pool(rt: HostRuntime) -> Result<(), Fail> {
-    let large = Command::Allocate(Layout::from_size_align(129, 1)?);
-    let none = [(large, Told::Refused(AllocationError::OutOfMemory), (0, 0))];
-    assert_eq!(rt; first_wrong(&mut chunks(rt.alloc(), 0)?, &none), None);
-    let one = [(large, Told::Refused(AllocationError::SizeTooLarge), (0, 1))];
-    assert_eq!(rt; first_wrong(&mut chunks(rt.alloc(), 1)?, &one), None);
+    let none = [(
+        Ask::Allocate(129),
+        Told::Refused(AllocationError::OutOfMemory),
+        (0, 0),
+    )];
+    assert_eq!(rt; first_wrong_of_chunks(rt.alloc(), 0, &none)?, None);
+    let one = [(
+        Ask::Allocate(129),
+        Told::Refused(AllocationError::SizeTooLarge),
+        (0, 1),
+    )];
+    assert_eq!(rt; first_wrong_of_chunks(rt.alloc(), 1, &one)?, None);
     Ok(())
 }
 
 #[test]
 fn budget_of_300_bytes(rt: HostRuntime) -> Result<(), Fail> {
-    let ten = Layout::from_size_align(10, 1)?;
     let rows = [
-        (Command::Allocate(ten), Told::Given(10), (128, 300)),
-        (Command::Allocate(ten), Told::Given(10), (256, 300)),
-        (Command::Release(1), Told::Released, (128, 300)),
-        (Command::Allocate(ten), Told::Given(10), (256, 300)),
+        (Ask::Allocate(10), Told::Given(10), (128, 300)),
+        (Ask::Allocate(10), Told::Given(10), (256, 300)),
+        (Ask::Release(1), Told::Released, (128, 300)),
+        (Ask::Allocate(10), Told::Given(10), (256, 300)),
         (
-            Command::Allocate(ten),
+            Ask::Allocate(10),
             Told::Refused(AllocationError::OutOfMemory),
             (256, 300),
         ),
     ];
-    assert_eq!(rt; first_wrong(&mut bytes(rt.alloc(), 300)?, &rows), None);
+    assert_eq!(rt; first_wrong_of_bytes(rt.alloc(), 300, &rows)?, None);
     Ok(())
 }
 
 #[test]
 fn budgets_resize_what_is_out(rt: HostRuntime) -> Result<(), Fail> {
-    let ten = Layout::from_size_align(10, 1)?;
-    let twenty = Layout::from_size_align(20, 1)?;
     let one = [
-        (Command::Allocate(ten), Told::Given(10), (1, 1)),
-        (Command::Grow(0, ten, twenty), Told::Resized(20), (1, 1)),
+        (Ask::Allocate(10), Told::Given(10), (1, 1)),
+        (Ask::Grow(0, 10, 20), Told::Resized(20), (1, 1)),
     ];
-    assert_eq!(rt; first_wrong(&mut chunks(rt.alloc(), 1)?, &one), None);
+    assert_eq!(rt; first_wrong_of_chunks(rt.alloc(), 1, &one)?, None);
     let rows = [
-        (Command::Allocate(twenty), Told::Given(20), (128, 128)),
-        (
-            Command::Shrink(0, twenty, ten),
-            Told::Resized(10),
-            (128, 128),
-        ),
+        (Ask::Allocate(20), Told::Given(20), (128, 128)),
+        (Ask::Reserved(0), Told::Reserved(128), (128, 128)),
+        (Ask::Shrink(0, 20, 10), Told::Resized(10), (128, 128)),
     ];
-    let mut tried = bytes(rt.alloc(), 128)?;
-    assert_eq!(rt; first_wrong(&mut tried, &rows), None);
-    assert_eq!(rt; tried.reserved(0), Some(128));
+    assert_eq!(rt; first_wrong_of_bytes(rt.alloc(), 128, &rows)?, None);
     Ok(())
 }

@@ -102,25 +102,49 @@ impl<A: Allocator + Drop> Growing<A> {
     }
 }
 
+/// What is answered to each push in a bucket of four bytes, how many bytes the vector then has, and what the chunk has that it
+/// began with.
+fn pushed_in_fours(alloc: Global, bytes: &[u8]) -> Result<Pushed, Fail> {
+    let mut growing = Growing::new(buckets_of_four()?, its_region(alloc)?)?;
+    let answers = growing.pushes(alloc, bytes)?;
+    Ok(Pushed {
+        answers,
+        len: growing.bytes.len(),
+        held: growing.held().to_vec(alloc)?,
+    })
+}
+
+#[derive(Drop)]
+struct Pushed {
+    answers: Vec<Result<(), PushError>>,
+    len: usize,
+    held: Vec<u8>,
+}
+
 #[test]
 fn byte_vector_grows_in_its_bucket(rt: HostRuntime) -> Result<(), Fail> {
-    let mut growing = Growing::new(buckets_of_four()?, its_region(rt.alloc())?)?;
     let full = Err(PushError::Full(AllocationGrowError::OutOfMemory));
-    let answers = growing.pushes(rt.alloc(), &[1, 2, 3, 4, 5])?;
     let expected = [Ok(()), Ok(()), Ok(()), Ok(()), full];
-    assert_eq!(rt; answers.as_slice(), expected.as_slice());
-    assert_eq!(rt; growing.bytes.len(), 4);
-    assert_eq!(rt; growing.held(), [1, 2].as_slice());
+    let pushed = pushed_in_fours(rt.alloc(), &[1, 2, 3, 4, 5])?;
+    assert_eq!(rt; pushed.answers.as_slice(), expected.as_slice());
+    assert_eq!(rt; pushed.len, 4);
+    assert_eq!(rt; pushed.held.as_slice(), [1, 2].as_slice());
     Ok(())
+}
+
+/// How many bytes a copy of these has, and the first ten bytes of the region that it is in.
+fn copied(alloc: Global, bytes: &[u8]) -> Result<(Option<usize>, Vec<u8>), Fail> {
+    let mut growing = Growing::new(eight_buckets()?, its_region(alloc)?)?;
+    let mut other = another_region(alloc)?;
+    growing.pushes(alloc, bytes)?;
+    let len = growing.copied(&mut other);
+    Ok((len, other.bytes()[..10].to_vec(alloc)?))
 }
 
 #[test]
 fn byte_vector_copied(rt: HostRuntime) -> Result<(), Fail> {
-    let mut growing = Growing::new(eight_buckets()?, its_region(rt.alloc())?)?;
-    let mut other = another_region(rt.alloc())?;
-    growing.pushes(rt.alloc(), &[7, 8, 9])?;
-    assert_eq!(rt; growing.copied(&mut other), Some(3));
-    let held = [0, 0, 0, 0, 0, 7, 8, 9, 0, 0].as_slice();
-    assert_eq!(rt; &other.bytes()[..10], held);
+    let (len, held) = copied(rt.alloc(), &[7, 8, 9])?;
+    assert_eq!(rt; len, Some(3));
+    assert_eq!(rt; held.as_slice(), [0, 0, 0, 0, 0, 7, 8, 9, 0, 0].as_slice());
     Ok(())
 }

@@ -42,8 +42,10 @@ pub(super) enum SlabAnswer<'a> {
     Refused,
 }
 
-impl<'a, A: Allocator + Drop> Driven<(SlabCall<'a>, SlabAnswer<'a>)> for Slab<A> {
-    fn keeps(&mut self, row: &(SlabCall<'a>, SlabAnswer<'a>)) -> bool {
+pub(super) type SlabRow<'a> = (SlabCall<'a>, SlabAnswer<'a>);
+
+impl<'a, A: Allocator + Drop> Driven<SlabRow<'a>> for Slab<A> {
+    fn keeps(&mut self, row: &SlabRow<'a>) -> bool {
         slab_answer(self, &row.0) == row.1
     }
 }
@@ -90,8 +92,10 @@ pub(super) enum LineAnswer<'a> {
     Refused,
 }
 
-impl<'a, A: Allocator + Drop> Driven<(LineCall<'a>, LineAnswer<'a>)> for Mailbox<A> {
-    fn keeps(&mut self, row: &(LineCall<'a>, LineAnswer<'a>)) -> bool {
+pub(super) type LineRow<'a> = (LineCall<'a>, LineAnswer<'a>);
+
+impl<'a, A: Allocator + Drop> Driven<LineRow<'a>> for Mailbox<A> {
+    fn keeps(&mut self, row: &LineRow<'a>) -> bool {
         mailbox_answer(self, &row.0) == row.1
     }
 }
@@ -111,8 +115,8 @@ fn mailbox_answer<'m, A: Allocator + Drop>(
     }
 }
 
-impl<'a, A: Allocator + Drop> Driven<(LineCall<'a>, LineAnswer<'a>)> for MessageRing<A> {
-    fn keeps(&mut self, row: &(LineCall<'a>, LineAnswer<'a>)) -> bool {
+impl<'a, A: Allocator + Drop> Driven<LineRow<'a>> for MessageRing<A> {
+    fn keeps(&mut self, row: &LineRow<'a>) -> bool {
         ring_answer(self, &row.0) == row.1
     }
 }
