@@ -1,6 +1,6 @@
 -- Bytes that are sent, all or a beginning.
-use Rattle.std.proofs.Common.{◌≡◌, ℕ, ◌+◌, ◌-◌, ◌<◌, List, [], ◌++◌, length, take, drop, get_or, Option, Some, None}
-use Rattle.std.proofs.Common.{sym, ap, ◌∙◌, refl}
+use Rattle.std.proofs.Common.{◌≡◌, ℕ, ◌+◌, ◌-◌, ◌<◌, List, [], ◌++◌, length, take, drop, get_or, Option}
+use Rattle.std.proofs.Common.{sym, ap, ◌∙◌}
 use Rattle.std.specs.List.{flat_map}
 use Rattle.std.specs.Io.KnownBytes.{Appends}
 use Rattle.std.proofs.lemmas.List.{append_assoc, append-nil, take-append-drop, take_rest, drop_more}
@@ -11,10 +11,6 @@ use Rattle.script_runner.proofs.Appending.{appends_again}
 -- a text begins itself
 pub begins_all : (text : List ℕ) → Begins text text
 begins_all text = ([], sym (append-nil text))
-
--- and any longer one
-pub begins_longer : (text rest : List ℕ) → Begins text (text ++ rest)
-begins_longer text rest = (rest, refl)
 
 -- what begins a part begins the whole, behind what comes before the part
 pub begins_after : (front sent part rest : List ℕ) → Begins sent part → Begins (front ++ sent) (front ++ (part ++ rest))
@@ -27,11 +23,6 @@ pub sent_more : (bytes sent left rest : List ℕ) (count : ℕ) → bytes ≡ se
     rest ≡ take (length left - count) (drop count left) → bytes ≡ (sent ++ take count left) ++ rest
 sent_more bytes sent left rest count whole same =
     rw (same, take_rest left count, append_assoc sent (take count left) (drop count left), take-append-drop count left) whole
-
--- nothing of a text is a part of it
-pub part_none : (old : Option (List ℕ)) (text : List ℕ) → AppendsPart old old text
-part_none None text = ([], (text, refl), tt)
-part_none (Some bytes) text = ([], (text, refl), sym (append-nil bytes))
 
 -- after what came before, a part is a part of the whole
 pub part_after : (old mid new : Option (List ℕ)) (front part rest : List ℕ) → Appends old mid front → AppendsPart mid new part →
