@@ -41,6 +41,7 @@ pub(super) const NO_ROOM: Answer = Answer::Refused(AllocationError::OutOfMemory)
 /// The index of a party among those of the test, its call, and the answer that it has to have.
 pub(super) type Row = (usize, Call, Answer);
 
+/// A request for a chunk.
 fn take(shared: &SharedBumpAllocator, party: &mut BumpParty, size: usize, align: usize) -> Answer
     requires { party.old.allocator ≡ shared.now }
     ensures { party.new.allocator ≡ shared.now }

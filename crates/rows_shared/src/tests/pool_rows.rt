@@ -71,19 +71,23 @@ pub(super) const NONE_FREE: Answer = Answer::Refused(AllocationError::OutOfMemor
 /// The index of a party among those of the test, its call, and the answer that it has to have.
 pub(super) type Row = (usize, Call, Answer);
 
+/// The layout of a row, or none where there is no such.
 fn layout_of((size, align): Asked) -> Option<Layout> {
     Layout::from_size_align(size, align).ok()
 }
 
+/// What a token tells.
 fn bucket_of(bucket: &Bucket<'_>) -> Answer {
     let chunk = bucket.chunk();
     Answer::Bucket(bucket.number(), chunk.place(), chunk.len())
 }
 
+/// What a resize gave.
 fn chunk_of(chunk: Chunk) -> Answer {
     Answer::Chunk(chunk.place(), chunk.len())
 }
 
+/// A request, whose token is dropped.
 fn take<'a, P: SharedBuckets>(
     pool: &'a P,
     user: &mut User<'a>,
@@ -99,6 +103,7 @@ fn take<'a, P: SharedBuckets>(
     }
 }
 
+/// A request, whose token is kept in place of the one that was.
 fn keep<'a, P: SharedBuckets>(
     pool: &'a P,
     user: &mut User<'a>,
@@ -118,6 +123,7 @@ fn keep<'a, P: SharedBuckets>(
     }
 }
 
+/// The return by the token that is kept.
 fn give_back<'a, P: SharedBuckets>(pool: &'a P, user: &mut User<'a>) -> Answer
     requires { IsUser (P.shown pool.now) user.old.party user.old.kept }
     ensures { IsUser (P.shown pool.now) user.new.party user.new.kept }
@@ -131,6 +137,7 @@ fn give_back<'a, P: SharedBuckets>(pool: &'a P, user: &mut User<'a>) -> Answer
     }
 }
 
+/// Another token in place of the one that is kept, by the bucket's number.
 fn find_again<'a, P: SharedBuckets>(pool: &'a P, user: &mut User<'a>, len: usize) -> Answer
     requires { IsUser (P.shown pool.now) user.old.party user.old.kept }
     ensures { IsUser (P.shown pool.now) user.new.party user.new.kept }
@@ -148,6 +155,7 @@ fn find_again<'a, P: SharedBuckets>(pool: &'a P, user: &mut User<'a>, len: usize
     }
 }
 
+/// Resizes by the token that is kept.
 fn grow<'a, P: SharedBuckets>(pool: &'a P, user: &mut User<'a>, old: Layout, new: Layout) -> Answer
     requires { IsUser (P.shown pool.now) user.old.party user.old.kept }
     ensures { IsUser (P.shown pool.now) user.new.party user.new.kept }
@@ -162,6 +170,7 @@ fn grow<'a, P: SharedBuckets>(pool: &'a P, user: &mut User<'a>, old: Layout, new
     }
 }
 
+/// The same to a smaller size.
 fn shrink<'a, P: SharedBuckets>(
     pool: &'a P,
     user: &mut User<'a>,
@@ -181,6 +190,7 @@ fn shrink<'a, P: SharedBuckets>(
     }
 }
 
+/// The number of the bucket at a place.
 fn number_at<P: SharedBuckets>(pool: &P, place: usize) -> Answer {
     match pool.number_at(place) {
         Some(number) => Answer::Number(number),
@@ -188,6 +198,7 @@ fn number_at<P: SharedBuckets>(pool: &P, place: usize) -> Answer {
     }
 }
 
+/// What the token that is kept tells.
 fn token(user: &User<'_>) -> Answer {
     match &user.kept {
         Some(bucket) => bucket_of(bucket),

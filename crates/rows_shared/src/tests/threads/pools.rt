@@ -117,7 +117,9 @@ fn take_and_drop(
 /// What a thread does with its party.
 #[derive(Clone, Copy)]
 enum Work {
+    /// Takes a bucket and gives it back 1000 times, and counts clashes.
     TakeAndReturn,
+    /// Takes a bucket and drops its token, and counts what it took.
     TakeAndDrop,
 }
 
@@ -129,6 +131,7 @@ struct Job {
     asked: Layout,
 }
 
+/// What a thread hands back when its job is done.
 fn done(pool: &SharedPoolAllocator, party: PoolParty, marks: &Marks, job: Job) -> (PoolParty, u64)
     requires { party.allocator ≡ pool.now }
     ensures { result.0.allocator ≡ pool.entry.now }
