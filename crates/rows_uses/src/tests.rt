@@ -1,5 +1,5 @@
 //! Each layer, driven.
-ghost use Rattle.std.specs.Prelude.{◌≡◌, [], IfOk};
+ghost use Rattle.std.specs.Prelude.{◌≡◌, [], IfOk, length};
 ghost use Rattle.bb_memory_base.specs.HeldBytes.{held_region};
 ghost use Rattle.bb_memory.specs.Pool.{StandsFor};
 
@@ -15,7 +15,7 @@ use bb_memory::pool_allocator::{FixedSizePoolAllocator, pool_count_law, pool_obj
 use bb_memory::region::Region;
 use bb_memory::shared_bump::{BumpParty, SharedBumpAllocator};
 use rows::{LineAnswer, LineCall, LineRow, SlabAnswer, SlabCall, SlabRow, first_wrong};
-use std::alloc::Global;
+use std::alloc::{AllocError, Global};
 use std::sync::Arc;
 use std::test::Fail;
 use uses::mailbox::Mailbox;
@@ -39,7 +39,13 @@ fn eight_buckets() -> Result<FixedSizePoolAllocator<16>, Fail>
 fn its_region(alloc: Global) -> Result<Region, Fail>
     ensures { IfOk result (λ region. held_region region ≡ record { start = 4096; size = 1024 }) }
 {
-    Ok(Region::new(4096, vec![in alloc; 0; 1024]?))
+    Ok(Region::new(4096, zeros(alloc, 1024)?))
+}
+
+fn zeros(alloc: Global, len: usize) -> Result<Vec<u8>, AllocError>
+    ensures { IfOk result (λ bytes. length bytes.items ≡ len) }
+{
+    vec![in alloc; 0; len]
 }
 
 /// The first row that a slab doesn't answer as it has it.

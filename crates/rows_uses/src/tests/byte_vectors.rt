@@ -102,16 +102,24 @@ impl<A: Allocator + Drop> Growing<A> {
     }
 }
 
-/// What is answered to each push in a bucket of four bytes, how many bytes the vector then has, and what the chunk has that it
-/// began with.
-fn pushed_in_fours(alloc: Global, bytes: &[u8]) -> Result<Pushed, Fail> {
-    let mut growing = Growing::new(buckets_of_four()?, its_region(alloc)?)?;
+/// What is answered to each push, how many bytes the vector then has, and what the chunk has that it began with.
+fn after_pushes<A: Allocator + Drop>(
+    mut growing: Growing<A>,
+    alloc: Global,
+    bytes: &[u8],
+) -> Result<Pushed, Fail> {
     let answers = growing.pushes(alloc, bytes)?;
     Ok(Pushed {
         answers,
         len: growing.bytes.len(),
         held: growing.held().to_vec(alloc)?,
     })
+}
+
+/// The same, in a bucket of four bytes.
+fn pushed_in_fours(alloc: Global, bytes: &[u8]) -> Result<Pushed, Fail> {
+    let growing = Growing::new(buckets_of_four()?, its_region(alloc)?)?;
+    after_pushes(growing, alloc, bytes)
 }
 
 #[derive(Drop)]
