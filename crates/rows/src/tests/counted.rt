@@ -1,6 +1,4 @@
 //! An allocator that counts the requests that are made of it, where a test can read it.
-ghost use Rattle.std.specs.Prelude.{◌≡◌, []};
-
 use super::pools::pool_over;
 use bb_memory::allocator::{
     AllocationError, AllocationGrowError, AllocationShrinkError, Allocator, BaseAllocator,
