@@ -11,7 +11,6 @@ pub mod one_chunk;
 pub mod parties;
 pub mod pool;
 pub mod pool_plan;
-pub mod pool_run;
 pub mod pool_steps;
 
 use crate::engine::driven::Driven;

@@ -1,5 +1,5 @@
 -- Scripts that drive a pool.
-use Rattle.std.specs.Prelude.{ℕ, ◌≡◌, List, ◌++◌, codes, fold, nat_lt, nat_le, ◌&&◌, if◌then◌else◌}
+use Rattle.std.specs.Prelude.{ℕ, ◌≡◌, ◌≤◌, List, ◌++◌, codes}
 use Rattle.std.specs.Fmt.{decimal}
 use Rattle.bb_memory_base.specs.Chunk.{Chunk}
 use Rattle.bb_memory_base.specs.FirstPlace.{first_place}
@@ -8,9 +8,8 @@ use Rattle.bb_memory_base.specs.PoolObject.{pool_object}
 use Rattle.bb_memory_base.specs.ResizableObject.{ResizableStep}
 use Rattle.bb_memory_base.specs.Run.{IsRun}
 use Rattle.bb_memory_base.specs.declared.allocator.Command.{Command}
-use Rattle.bb_memory_base.specs.declared.allocator.Command.TheVariants.{Allocate, Release, Grow, Shrink}
 use Rattle.bb_memory_base.specs.declared.allocator.Reply.{Reply}
-use Rattle.bb_memory_base.specs.declared.layout.Layout.{Layout}
+use Rattle.bb_memory.specs.IndexWords.{index_words}
 use Rattle.bb_memory.specs.Pool.{Pool, StandsFor, fresh_pool, CountedPool, counted}
 use Rattle.script_runner.specs.kinds.PoolPlan.{PoolPlan, IsPoolPlan, pool_plan_text}
 use Rattle.script_runner.specs.kinds.Allocators.{AllocatorRules}
@@ -28,26 +27,11 @@ pub record PoolRuns (old : Pool) (live : List Chunk) (commands : List Command)
   pub geometry : new.geometry ≡ old.geometry
   pub stands : StandsFor new left
 
--- how many index words a request for the layout reads: one where a free bucket is looked for, and none where the size or the
--- alignment is refused, or where there is no bucket
-abbrev pub request_reads : PoolGeometry → Layout → ℕ
-request_reads geometry layout =
-    if nat_le layout.size geometry.bucket.size && nat_le layout.align geometry.bucket.align
-    && nat_lt 0 geometry.buckets
-    then 1 else 0
-
--- how many the last request has read after a command, of so many before it: only a request reads any
-abbrev pub reads_after : PoolGeometry → ℕ → Command → ℕ
-reads_after geometry before (Allocate layout) = request_reads geometry layout
-reads_after geometry before (Release position) = before
-reads_after geometry before (Grow position from to) = before
-reads_after geometry before (Shrink position from to) = before
-
--- the same, and the reads are those of the last request among the commands, or what they were where there is none
+-- the same, and the last request made at most as many reads as there are index words
 pub record CountedPoolRuns (old : CountedPool) (live : List Chunk) (commands : List Command)
     (replies : List Reply) (new : CountedPool) (left : List Chunk) : Type 0 where
   pub runs : PoolRuns old.pool live commands replies new.pool left
-  pub reads : new.reads ≡ fold (reads_after old.pool.geometry) old.reads commands
+  pub reads : new.reads ≤ index_words new.pool.geometry.buckets
 
 -- the figures that `show` writes of either pool with so many chunks live, and then the rest of the line
 abbrev pub pool_figures : PoolGeometry → ℕ → List ℕ → List ℕ

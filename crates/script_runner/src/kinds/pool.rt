@@ -5,10 +5,9 @@ ghost use Rattle.script_runner.specs.kinds.Pool.{BeginsPool};
 
 use crate::kinds::allocators::Scripted;
 use crate::kinds::pool_plan::PoolPlan;
-use crate::kinds::pool_run::run_counted;
 use bb_memory::allocator::{Command, Reply};
 use bb_memory::layout::Chunk;
-use bb_memory::pool_allocator::PoolAllocator;
+use bb_memory::pool_allocator::{PoolAllocator, run_pool};
 use std::alloc::{AllocError, Global};
 use std::io;
 use std::io::Write;
@@ -33,7 +32,10 @@ impl Scripted for PoolAllocator<Global> {
         live: &mut Vec<Chunk>,
         commands: &[Command],
     ) -> Result<Vec<Reply>, AllocError> {
-        run_counted(self, live, commands)
+        let replies = run_pool(self, live, commands)?;
+        // This bounds what `show` writes as the reads.
+        let _ = self.last_reads();
+        Ok(replies)
     }
 
     fn write_state<W: Write>(&self, live: usize, writer: &mut W) -> io::Result<()> {
