@@ -162,8 +162,8 @@ HaveAllNumbers count parties =
 abbrev pub IsHeldByOne : List PoolParty → ℕ → Type 0
 IsHeldByOne parties bucket = Any (λ party. IsHeldAfter party.log bucket) parties
 
--- There is a log for each of the pool's parties, with which these flags agree, and these parties' logs are among them. Where these
--- are all parties, each log is one of theirs, and a flag is taken exactly where one of them holds the bucket.
+-- There is a log for each of the pool's parties, with which these flags agree, and these parties' logs are among them. Where
+-- these are all parties, each log is one of theirs, and a flag is taken exactly where one of them holds the bucket.
 pub record AgreeWith (scene : PoolScene) (flags : List Bool) (parties : List PoolParty)
     : Type 0 where
   pub logs : List PoolLog

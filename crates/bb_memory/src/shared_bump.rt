@@ -191,10 +191,10 @@ impl SharedBumpAllocator {
         self.position.meet(&mut a.seat, &mut b.seat);
     }
 
-    /// All these parties meet: one interleaving has all their logs, and leaves the position that the meeting finds; where these are
-    /// all the bump's parties, it has no other steps, and the position is the greatest that one of them has seen. What it finds
-    /// raises the floor of each, and nothing else changes. It loads a word once, and two times more for each party but one, which is
-    /// in no log. The parties have to be this bump's.
+    /// All these parties meet: one interleaving has all their logs, and leaves the position that the meeting finds; where these
+    /// are all the bump's parties, it has no other steps, and the position is the greatest that one of them has seen. What it
+    /// finds raises the floor of each, and nothing else changes. It loads a word once, and two times more for each party but
+    /// one, which is in no log. The parties have to be this bump's.
     pub fn meet_all(&self, parties: &mut Vec<BumpParty>)
         requires parties { All (λ party. party.allocator ≡ self.now) parties.old.items }
         ensures met { HaveMet self.now.scene parties.old.items parties.new.items }

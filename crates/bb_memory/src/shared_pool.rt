@@ -39,9 +39,9 @@ use std::alloc::{AllocError, Global};
 /// Gives buckets of one layout to any number of threads. The pool is made for some number of parties, and each thread that
 /// takes or gives back buckets has one of them. No call waits for another, and none takes memory once the pool is made.
 ///
-/// Of the requests, `allocate_near` is the one to begin with: it tries the buckets from where its party has been last, so what is
-/// held elsewhere costs it nothing. `allocate` tries them from bucket 0 each time, `allocate_from` from a bucket that it names, and
-/// `allocate_at` tries one alone.
+/// Of the requests, `allocate_near` is the one to begin with: it tries the buckets from where its party has been last, so what
+/// is held elsewhere costs it nothing. `allocate` tries them from bucket 0 each time, `allocate_from` from a bucket that it
+/// names, and `allocate_at` tries one alone.
 ///
 /// What a call promises is told by the party's log: the list of the atomic steps that the party made, each with what it found.
 /// Some interleaving of each party's log with some logs of the others is always one that the pool machine allows. A user who has

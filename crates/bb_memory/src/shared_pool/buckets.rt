@@ -194,9 +194,9 @@ impl<const CAPPED: usize, const MOST: usize> SharedBucketPool<CAPPED, MOST> {
         self.flags.meet(&mut a.seat, &mut b.seat);
     }
 
-    /// All these parties meet: one interleaving has all their logs. Where these are all the pool's parties, it has no other steps,
-    /// and a flag is taken exactly where one of them holds the bucket. It loads a word once, and two times more for each party but
-    /// one, which is in no log, and changes nothing. The parties have to be this pool's.
+    /// All these parties meet: one interleaving has all their logs. Where these are all the pool's parties, it has no other
+    /// steps, and a flag is taken exactly where one of them holds the bucket. It loads a word once, and two times more for each
+    /// party but one, which is in no log, and changes nothing. The parties have to be this pool's.
     pub fn meet_all(&self, parties: &mut Vec<PoolParty>)
         requires parties { All (λ party. party.allocator ≡ self.now) parties.old.items }
         ensures kept { parties.new.items ≡ parties.old.items }

@@ -168,8 +168,9 @@ impl<const CAPPED: usize, const MOST: usize> SharedBucketPool<CAPPED, MOST> {
         }
     }
 
-    /// Takes a bucket for the party by a round, as `allocate_from` does, which begins where the party has been last: at the bucket
-    /// that it gave back, or behind the one that such a round took. Its first round begins in a part of the pool of its own.
+    /// Takes a bucket for the party by a round, as `allocate_from` does, which begins where the party has been last: at the
+    /// bucket that it gave back, or behind the one that such a round took. Its first round begins in a part of the pool of its
+    /// own.
     pub fn allocate_near(
         &self,
         party: &mut PoolParty,
