@@ -153,6 +153,12 @@ impl BaseAllocator for OneChunkAllocator {
 
     ghost may_release = { λ one place. one.kept ≡ Some place };
 
+    ghost Note = { Unit {0} };
+
+    ghost note = { λ _. tt };
+
+    ghost note_after = { λ _ _ note. note };
+
     /// A chunk at the least multiple of `layout.align()` from the region's start on, up to the region's end. It is
     /// refused, with `OutOfMemory`, exactly where a chunk is out, or where that place is at or behind the region's end,
     /// or less than `layout.size()` bytes are left there. A refusal leaves the allocator as it was.
