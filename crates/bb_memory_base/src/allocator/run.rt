@@ -77,8 +77,8 @@ fn apply_base<A: BaseAllocator>(allocator: &mut A, live: &mut Vec<Chunk>, comman
         → result ≡ Reply.Chunk chunk → Fits (A.region_of (A.geometry allocator.old)) layout chunk }
     ensures stands { A.stands_for allocator.new live.new.items }
     ensures geometry { A.geometry allocator.new ≡ A.geometry allocator.old }
-    ensures note { A.note allocator.new
-        ≡ note_after_command (A.note_after (A.geometry allocator.old)) (A.note allocator.old) command }
+    ensures note { A.note allocator.new ≡ note_after_command
+        (A.note_after (A.geometry allocator.old)) (A.note allocator.old) command }
     ensures len { vec_len live.new ≤ vec_len live.old + 1 }
     ensures capacity { vec_capacity live.old ≤ vec_capacity live.new }
 {
@@ -124,8 +124,8 @@ pub fn run_base<A: BaseAllocator>(
     ensures long_enough { IfOk result (λ replies.
         EachGiven (λ layout chunk. layout.size ≤ chunk.len) commands.now replies.items) }
     ensures geometry { A.geometry allocator.new ≡ A.geometry allocator.old }
-    ensures note { OnOk result (A.note allocator.new
-        ≡ note_after_run (A.note_after (A.geometry allocator.old)) (A.note allocator.old) commands.now) }
+    ensures note { OnOk result (A.note allocator.new ≡ note_after_run
+        (A.note_after (A.geometry allocator.old)) (A.note allocator.old) commands.now) }
     ensures kept { OnErr result
         ((allocator.new ≡ allocator.old) × (live.new.items ≡ live.old.items)) }
 {
@@ -217,8 +217,8 @@ fn apply_full<A: Allocator>(allocator: &mut A, live: &mut Vec<Chunk>, command: C
         → result ≡ Reply.Chunk chunk → Fits (A.region_of (A.geometry allocator.old)) layout chunk }
     ensures stands { A.stands_for allocator.new live.new.items }
     ensures geometry { A.geometry allocator.new ≡ A.geometry allocator.old }
-    ensures note { A.note allocator.new
-        ≡ note_after_command (A.note_after (A.geometry allocator.old)) (A.note allocator.old) command }
+    ensures note { A.note allocator.new ≡ note_after_command
+        (A.note_after (A.geometry allocator.old)) (A.note allocator.old) command }
     ensures len { vec_len live.new ≤ vec_len live.old + 1 }
     ensures capacity { vec_capacity live.old ≤ vec_capacity live.new }
 {
@@ -266,8 +266,8 @@ pub fn run_full<A: Allocator>(
     ensures long_enough { IfOk result (λ replies.
         EachGiven (λ layout chunk. layout.size ≤ chunk.len) commands.now replies.items) }
     ensures geometry { A.geometry allocator.new ≡ A.geometry allocator.old }
-    ensures note { OnOk result (A.note allocator.new
-        ≡ note_after_run (A.note_after (A.geometry allocator.old)) (A.note allocator.old) commands.now) }
+    ensures note { OnOk result (A.note allocator.new ≡ note_after_run
+        (A.note_after (A.geometry allocator.old)) (A.note allocator.old) commands.now) }
     ensures kept { OnErr result
         ((allocator.new ≡ allocator.old) × (live.new.items ≡ live.old.items)) }
 {
