@@ -25,7 +25,7 @@ use Rattle.bb_memory_base.proofs.Runs.{IsRun-keeps}
 use Rattle.bb_memory.specs.OneChunk.{OneChunk, HasByteAt, IsOneChunk, IsKept, StandsFor}
 use Rattle.bb_memory.specs.OneChunkLaws.{only_chunk}
 use Rattle.bb_memory_base.specs.FirstPlace.{first_place}
-use Rattle.bb_memory.specs.OneChunkObject.{reserved_at, rest_from, MayAllocate, MayGrow, MayShrink, one_chunk_object}
+use Rattle.bb_memory_base.specs.OneChunkObject.{reserved_at, rest_from, MayAllocate, MayGrow, MayShrink, one_chunk_object}
 
 abbrev one_of : Region → Option ℕ → OneChunk
 one_of region kept = record { region = region; kept = kept }

@@ -1,5 +1,6 @@
 -- A pool, as its contracts see it.
 use Rattle.std.specs.Prelude.{◌≡◌, ℕ, ◌-◌, ◌+◌, ◌≤◌, ◌<◌, ◌^◌, ◌⊎◌, Bool, true, false}
+use Rattle.std.specs.Prelude.{◌&&◌, if◌then◌else◌, nat_le}
 use Rattle.std.specs.Prelude.{List, All, length, min, replicate, slice_set, Result, Ok, Err}
 use Rattle.bb_memory_base.specs.Region.{Region, IsRegion}
 use Rattle.bb_memory_base.specs.Chunk.{Chunk}
@@ -8,7 +9,9 @@ use Rattle.bb_memory_base.specs.FirstPlace.{first_place}
 use Rattle.bb_memory_base.specs.ResizableObject.{PlacesDiffer}
 use Rattle.bb_memory_base.specs.PoolGeometry.{PoolGeometry, stride, bucket_place, IsCut, IsPoolGeometry}
 use Rattle.bb_memory_base.specs.PoolObject.{IsHeld, IsWithin, chunk_in}
+use Rattle.bb_memory_base.specs.Run.{note_after_run}
 use Rattle.bb_memory_base.specs.declared.layout.Layout.{Layout}
+use Rattle.bb_memory_base.specs.declared.allocator.Command.{Command}
 use Rattle.bb_memory_base.specs.declared.allocator.AllocationError.{AllocationError}
 use Rattle.bb_memory_base.specs.declared.allocator.AllocationError.TheVariants.{SizeIsZero, SizeTooLarge}
 use Rattle.bb_memory_base.specs.declared.allocator.AllocationError.TheVariants.{AlignmentFailure, OutOfMemory}
@@ -113,6 +116,11 @@ pub record IsCountedPool (counted : CountedPool) : Type 0 where
 
 -- how many words a request for the layout reads, of so many: one if there is one, and none where its size or its alignment is
 -- refused
-pub record Reads (bucket layout : Layout) (words reads : ℕ) : Type 0 where
-  pub searched : IsWithin bucket layout → reads ≡ min words 1
-  pub refused : ¬ IsWithin bucket layout → reads ≡ 0
+abbrev pub reads_of : Layout → ℕ → Layout → ℕ
+reads_of bucket words layout =
+    if nat_le layout.size bucket.size && nat_le layout.align bucket.align then min words 1 else 0
+
+-- how many the last request of these commands reads, or as many as before where they have none
+abbrev pub reads_after : Layout → ℕ → ℕ → List Command → ℕ
+reads_after bucket words before commands =
+    note_after_run (λ layout reads. reads_of bucket words layout) before commands

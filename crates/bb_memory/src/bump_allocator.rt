@@ -198,6 +198,12 @@ impl BaseAllocator for BumpAllocator {
 
     ghost may_release = { λ _ _. Unit {0} };
 
+    ghost Note = { Unit {0} };
+
+    ghost note = { λ _. tt };
+
+    ghost note_after = { λ _ _ note. note };
+
     /// A chunk of exactly `layout.size()` bytes, at the least multiple of `layout.align()` behind what is used. Size 0 is
     /// refused with `SizeIsZero`, and a chunk that would end behind the region with `OutOfMemory`. A refusal leaves the
     /// allocator as it was.

@@ -15,8 +15,8 @@ ghost use Rattle.bb_memory_base.specs.declared.allocator.AllocationShrinkError.{
 ghost use Rattle.bb_memory_base.specs.declared.allocator.Command.{Command};
 ghost use Rattle.bb_memory_base.specs.declared.allocator.Reply.{Reply};
 ghost use Rattle.bb_memory.specs.OneChunk.{OneChunk, IsOneChunk, one_chunk_of, StandsFor};
-ghost use Rattle.bb_memory.specs.OneChunkObject.{MayAllocate, MayGrow, MayShrink, HasRoom};
-ghost use Rattle.bb_memory.specs.OneChunkObject.{LacksRoom, reserved_at, one_chunk_object};
+ghost use Rattle.bb_memory_base.specs.OneChunkObject.{MayAllocate, MayGrow, MayShrink, HasRoom};
+ghost use Rattle.bb_memory_base.specs.OneChunkObject.{LacksRoom, reserved_at, one_chunk_object};
 
 pub use crate::allocator::{
     AllocationError, AllocationGrowError, AllocationShrinkError, Allocator, BaseAllocator,
@@ -135,7 +135,7 @@ impl BaseAllocator for OneChunkAllocator {
     ghost use Rattle.bb_memory_base.specs.Region.{Region};
     ghost use Rattle.bb_memory.specs.OneChunk.{StandsFor};
     ghost use Rattle.bb_memory.specs.OneChunkLaws.{only_chunk};
-    ghost use Rattle.bb_memory.specs.OneChunkObject.{MayAllocate};
+    ghost use Rattle.bb_memory_base.specs.OneChunkObject.{MayAllocate};
 
     const RELEASE_EMPTIES: bool = false;
 
@@ -152,6 +152,12 @@ impl BaseAllocator for OneChunkAllocator {
     ghost stands_for = { StandsFor };
 
     ghost may_release = { λ one place. one.kept ≡ Some place };
+
+    ghost Note = { Unit {0} };
+
+    ghost note = { λ _. tt };
+
+    ghost note_after = { λ _ _ note. note };
 
     /// A chunk at the least multiple of `layout.align()` from the region's start on, up to the region's end. It is
     /// refused, with `OutOfMemory`, exactly where a chunk is out, or where that place is at or behind the region's end,
@@ -269,7 +275,7 @@ impl Allocator for OneChunkAllocator {
     ghost use Rattle.std.specs.Prelude.{refl};
     ghost use Rattle.bb_memory_base.specs.Region.{Region};
     ghost use Rattle.bb_memory.specs.OneChunkLaws.{places_differ, covered, kept_is_live};
-    ghost use Rattle.bb_memory.specs.OneChunkObject.{MayGrow, MayShrink, reserved_at};
+    ghost use Rattle.bb_memory_base.specs.OneChunkObject.{MayGrow, MayShrink, reserved_at};
 
     ghost Figures = { Region };
 

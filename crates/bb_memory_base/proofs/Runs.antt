@@ -1,7 +1,8 @@
 -- Runs, one step longer, and what each step of one keeps.
-use Rattle.std.proofs.Common.{◌≡◌, zero, suc, List, [], ◌∷◌, ◌++◌, length, refl, sym, subst, arith}
+use Rattle.std.proofs.Common.{◌≡◌, zero, suc, List, [], ◌∷◌, ◌++◌, length, refl, sym, ap, ◌∙◌, subst, arith}
+use Rattle.std.proofs.lemmas.List.Sums.{fold_push}
 use Rattle.bb_memory_base.specs.Chunk.{Chunk}
-use Rattle.bb_memory_base.specs.Run.{IsRun, EachGiven}
+use Rattle.bb_memory_base.specs.Run.{IsRun, EachGiven, note_after_command, note_after_run}
 use Rattle.bb_memory_base.specs.declared.layout.Layout.{Layout}
 use Rattle.bb_memory_base.specs.declared.allocator.Command.{Command}
 use Rattle.bb_memory_base.specs.declared.allocator.Command.TheVariants.{Allocate}
@@ -29,6 +30,14 @@ IsRun-keeps step P keeps old new (c ∷ commands) (r ∷ replies) holds (then, f
     IsRun-keeps step P keeps then new commands replies (keeps old then c r holds first) rest
 IsRun-keeps step P keeps old new [] (r ∷ replies) holds none = absurd none
 IsRun-keeps step P keeps old new (c ∷ commands) [] holds none = absurd none
+
+-- what a run makes of a note, of one command more
+pub note-push : {Note : Type 0} (after : Layout → Note → Note) (old : Note) (commands : List Command) (mid new : Note)
+    (command : Command) → mid ≡ note_after_run after old commands → new ≡ note_after_command after mid command →
+    new ≡ note_after_run after old (commands ++ command ∷ [])
+note-push after old commands mid new command so_far last =
+    last ∙ ap (λ note. note_after_command after note command) so_far
+    ∙ sym (fold_push (note_after_command after) old commands command)
 
 -- what is said of each chunk that was given, of one command more
 pub EachGiven-push : (Suits : Layout → Chunk → Type 0) (commands : List Command) (replies : List Reply)

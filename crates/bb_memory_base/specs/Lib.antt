@@ -12,6 +12,7 @@ pub mod LeastPlace
 pub mod Lending
 pub mod LiveList
 pub mod Object
+pub mod OneChunkObject
 pub mod PoolCalls
 pub mod PoolGeometry
 pub mod PoolHistory

@@ -1,5 +1,5 @@
 -- Runs: commands applied one after the other to an object, with one reply each.
-use Rattle.std.specs.Prelude.{◌≡◌, ℕ, ◌≤◌, List, [], ◌∷◌, length, Some, Ok, Err, slice_get}
+use Rattle.std.specs.Prelude.{◌≡◌, ℕ, ◌≤◌, List, [], ◌∷◌, length, fold, Some, Ok, Err, slice_get}
 use Rattle.bb_memory_base.specs.Chunk.{Chunk}
 use Rattle.bb_memory_base.specs.Object.{Object, Allocates, Releases}
 use Rattle.bb_memory_base.specs.declared.layout.Layout.{Layout}
@@ -36,3 +36,12 @@ abbrev pub EachGiven : (Layout → Chunk → Type 0) → List Command → List R
 EachGiven Suits commands replies =
     (i : ℕ) (layout : Layout) (chunk : Chunk) → slice_get commands i ≡ Some (Allocate layout) →
     slice_get replies i ≡ Some (reply.Chunk chunk) → Suits layout chunk
+
+-- What a command makes of an allocator's note, where a request makes `after` of it: no other command changes it.
+abbrev pub note_after_command : {Note : Type 0} → (Layout → Note → Note) → Note → Command → Note
+note_after_command after note (Allocate layout) = after layout note
+note_after_command after note other = note
+
+-- what these commands make of it, one after the other
+abbrev pub note_after_run : {Note : Type 0} → (Layout → Note → Note) → Note → List Command → Note
+note_after_run after note commands = fold (note_after_command after) note commands

@@ -122,6 +122,15 @@ pub trait BaseAllocator {
     /// The chunk at this place may be given back.
     ghost may_release: { Self → ℕ → Type 0 };
 
+    /// What an allocator keeps of the requests that were made of it, beside the chunks that are out. One that promises nothing
+    /// of the kind has `Unit {0}` here.
+    ghost Note: { Type 0 };
+
+    ghost note: { Self → Note };
+
+    /// What a request for a layout makes of the note, whatever is answered to it.
+    ghost note_after: { Geometry → Layout → Note → Note };
+
     /// Asks for a chunk of at least `layout.size()` bytes, at a place that is a multiple of `layout.align()`. After a
     /// refusal the allocator stands for the lists for which it stood before.
     fn allocate(&mut self, layout: Layout) -> Result<Chunk, AllocationError>
@@ -135,7 +144,8 @@ pub trait BaseAllocator {
         ensures inside { IfOk result (IsInside (region_of (geometry self.old))) }
         ensures aligned { IfOk result (λ chunk. chunk.place % layout.align ≡ 0) }
         ensures long_enough { IfOk result (λ chunk. layout.size ≤ chunk.len) }
-        ensures geometry { geometry self.new ≡ geometry self.old };
+        ensures geometry { geometry self.new ≡ geometry self.old }
+        ensures note { note self.new ≡ note_after (geometry self.old) layout (note self.old) };
 
     /// Gives back the chunk at this place, or all chunks where `RELEASE_EMPTIES` is true. A chunk that is out has to begin at
     /// the place (a bump asks for nothing). The layout decides nothing.
@@ -144,7 +154,8 @@ pub trait BaseAllocator {
         ensures released { (live : List Chunk) (position : ℕ) (chunk : Chunk)
             → stands_for self.old live → slice_get live position ≡ Some chunk → chunk.place ≡ place
             → stands_for self.new (released RELEASE_EMPTIES live position) }
-        ensures geometry { geometry self.new ≡ geometry self.old };
+        ensures geometry { geometry self.new ≡ geometry self.old }
+        ensures note { note self.new ≡ note self.old };
 
     /// Asks for a chunk as `allocate` does, and makes its bytes zero. Every other byte of the region stays, and after a
     /// refusal all do. The region's start and size have to be those of the allocator's maker.
@@ -165,6 +176,7 @@ pub trait BaseAllocator {
         ensures aligned { IfOk result (λ chunk. chunk.place % layout.align ≡ 0) }
         ensures long_enough { IfOk result (λ chunk. layout.size ≤ chunk.len) }
         ensures geometry { geometry self.new ≡ geometry self.old }
+        ensures note { note self.new ≡ note_after (geometry self.old) layout (note self.old) }
 
         ensures zeroed { IfOk result (λ chunk. ZeroesOnly region.old region.new chunk) }
         ensures bytes_kept { OnErr result (region.new ≡ region.old) }

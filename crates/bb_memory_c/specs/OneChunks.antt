@@ -7,7 +7,7 @@ use Rattle.bb_memory_base.specs.declared.layout.Layout.{Layout}
 use Rattle.bb_memory_base.specs.declared.allocator.AllocationError.{AllocationError}
 use Rattle.bb_memory_base.specs.declared.allocator.AllocationError.TheVariants.{OutOfMemory}
 use Rattle.bb_memory.specs.OneChunk.{OneChunk}
-use Rattle.bb_memory.specs.OneChunkObject.{HasRoom, LacksRoom}
+use Rattle.bb_memory_base.specs.OneChunkObject.{HasRoom, LacksRoom}
 use Rattle.bb_memory_c.specs.declared.answer.Answer.{Answer}
 use Rattle.bb_memory_c.specs.Answers.{answer_of}
 

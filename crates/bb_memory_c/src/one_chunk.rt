@@ -4,7 +4,7 @@ ghost use Rattle.std.specs.Align.{IsLayout};
 ghost use Rattle.bb_memory_base.specs.Region.{IsRegion, region_at};
 ghost use Rattle.bb_memory_base.specs.declared.layout.Layout.{Layout as Asked};
 ghost use Rattle.bb_memory.specs.OneChunk.{OneChunk, one_chunk_of};
-ghost use Rattle.bb_memory.specs.OneChunkObject.{MayGrow, MayShrink, reserved_at};
+ghost use Rattle.bb_memory_base.specs.OneChunkObject.{MayGrow, MayShrink, reserved_at};
 ghost use Rattle.bb_memory_c.specs.Answers.{TellsGrow, TellsShrink, figure_of, no_figure, refused};
 ghost use Rattle.bb_memory_c.specs.Codes.{already_made, cannot_make, done, not_a_layout, not_held, not_made, out_of_memory};
 ghost use Rattle.bb_memory_c.specs.Layouts.{IsOf};

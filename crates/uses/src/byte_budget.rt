@@ -87,6 +87,12 @@ impl<A: Allocator + Drop> BaseAllocator for ByteBudget<A> {
 
     ghost may_release = { λ b. A.may_release b.inner };
 
+    ghost Note = { Unit {0} };
+
+    ghost note = { λ _. tt };
+
+    ghost note_after = { λ _ _ note. note };
+
     /// As the allocator below answers, but `OutOfMemory` where more is reserved for its chunk than is left of the budget.
     fn allocate(&mut self, layout: Layout) -> Result<Chunk, AllocationError> {
         let chunk = self.inner.allocate(layout)?;

@@ -85,6 +85,12 @@ impl<A: BaseAllocator + Drop> BaseAllocator for ChunkBudget<A> {
         × A.stands_for b.inner live × (length live ≡ b.out)
         × (slice_get live position ≡ Some chunk) × (chunk.place ≡ place) };
 
+    ghost Note = { Unit {0} };
+
+    ghost note = { λ _. tt };
+
+    ghost note_after = { λ _ _ note. note };
+
     /// As the allocator below answers, but `OutOfMemory` where the budget is spent.
     fn allocate(&mut self, layout: Layout) -> Result<Chunk, AllocationError> {
         if self.out == self.budget {

@@ -8,7 +8,7 @@ ghost use Rattle.bb_memory_base.specs.Run.{IsRun, Step};
 ghost use Rattle.bb_memory_base.specs.ResizableObject.{ResizableStep};
 ghost use Rattle.bb_memory_base.specs.PoolObject.{MayAllocate, MayGrow, MayShrink, IsWithin, pool_object};
 ghost use Rattle.bb_memory.specs.NumberSet.{Lacks};
-ghost use Rattle.bb_memory.specs.Pool.{AreAStrideApart, Frees, HoldsPlace, Reads, StandsFor, Takes};
+ghost use Rattle.bb_memory.specs.Pool.{AreAStrideApart, Frees, HoldsPlace, StandsFor, Takes, reads_after, reads_of};
 
 use super::buckets::Buckets;
 use super::held_set::HeldSet;
@@ -95,10 +95,10 @@ impl<S: HeldSet> BucketPool<S> {
 }
 
 impl<S: HeldSet> BaseAllocator for BucketPool<S> {
-    ghost use Rattle.std.specs.Prelude.{false};
+    ghost use Rattle.std.specs.Prelude.{ℕ, false};
     ghost use Rattle.bb_memory_base.specs.PoolGeometry.{PoolGeometry};
     ghost use Rattle.bb_memory_base.specs.PoolObject.{MayAllocate};
-    ghost use Rattle.bb_memory.specs.Pool.{StandsFor, HoldsPlace};
+    ghost use Rattle.bb_memory.specs.Pool.{StandsFor, HoldsPlace, reads_of};
     ghost use Rattle.bb_memory.specs.PoolLaws.{held_place};
 
     const RELEASE_EMPTIES: bool = false;
@@ -116,6 +116,13 @@ impl<S: HeldSet> BaseAllocator for BucketPool<S> {
     ghost stands_for = { λ pool. StandsFor (S.pool pool) };
 
     ghost may_release = { λ pool. HoldsPlace (S.pool pool) };
+
+    ghost Note = { ℕ };
+
+    ghost note = { S.reads };
+
+    ghost note_after = { λ geometry layout before.
+        reads_of geometry.bucket (S.words geometry.buckets) layout };
 
     /// A chunk of `layout.size()` bytes in a bucket that isn't held; which one is left open. It is refused in this order: with
     /// `SizeTooLarge` where the size is greater than the bucket's, with `AlignmentFailure` where the alignment is greater than
@@ -147,8 +154,8 @@ impl<S: HeldSet> BaseAllocator for BucketPool<S> {
             → HoldsPlace (S.pool self.old) place → HoldsPlace (S.pool self.new) place }
         ensures bucket_aligned { IfOk result
             (λ chunk. chunk.place % (S.pool self.old).geometry.bucket.align ≡ 0) }
-        ensures reads { Reads (S.pool self.old).geometry.bucket layout
-            (S.words (S.pool self.old).geometry.buckets) (S.reads self.new) }
+        ensures reads { S.reads self.new ≡ reads_of (S.pool self.old).geometry.bucket
+            (S.words (S.pool self.old).geometry.buckets) layout }
         ensures one_read { IsWithin (S.pool self.old).geometry.bucket layout
             → 0 < (S.pool self.old).geometry.buckets → S.reads self.new ≡ S.one_search }
     {
@@ -208,8 +215,8 @@ impl<S: HeldSet> BaseAllocator for BucketPool<S> {
             → HoldsPlace (S.pool self.old) place → HoldsPlace (S.pool self.new) place }
         ensures bucket_aligned { IfOk result
             (λ chunk. chunk.place % (S.pool self.old).geometry.bucket.align ≡ 0) }
-        ensures reads { Reads (S.pool self.old).geometry.bucket layout
-            (S.words (S.pool self.old).geometry.buckets) (S.reads self.new) }
+        ensures reads { S.reads self.new ≡ reads_of (S.pool self.old).geometry.bucket
+            (S.words (S.pool self.old).geometry.buckets) layout }
         ensures one_read { IsWithin (S.pool self.old).geometry.bucket layout
             → 0 < (S.pool self.old).geometry.buckets → S.reads self.new ≡ S.one_search }
 
@@ -371,6 +378,9 @@ pub fn run_pool<S: HeldSet>(
     ensures stands { OnOk result (StandsFor (S.pool allocator.new) live.new.items) }
     ensures sound { OnOk result (IsSound (S.pool allocator.old).geometry.region live.new.items) }
     ensures geometry { (S.pool allocator.new).geometry ≡ (S.pool allocator.old).geometry }
+    ensures reads { OnOk result (S.reads allocator.new ≡ reads_after
+        (S.pool allocator.old).geometry.bucket (S.words (S.pool allocator.old).geometry.buckets)
+        (S.reads allocator.old) commands.now) }
     ensures kept { OnErr result
         ((allocator.new ≡ allocator.old) × (live.new.items ≡ live.old.items)) }
 {
@@ -391,6 +401,9 @@ pub fn run_base_pool<S: HeldSet>(
     ensures stands { OnOk result (StandsFor (S.pool allocator.new) live.new.items) }
     ensures sound { OnOk result (IsSound (S.pool allocator.old).geometry.region live.new.items) }
     ensures geometry { (S.pool allocator.new).geometry ≡ (S.pool allocator.old).geometry }
+    ensures reads { OnOk result (S.reads allocator.new ≡ reads_after
+        (S.pool allocator.old).geometry.bucket (S.words (S.pool allocator.old).geometry.buckets)
+        (S.reads allocator.old) commands.now) }
     ensures kept { OnErr result
         ((allocator.new ≡ allocator.old) × (live.new.items ≡ live.old.items)) }
 {

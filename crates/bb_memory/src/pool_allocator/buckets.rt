@@ -3,7 +3,7 @@ ghost use Rattle.std.specs.Prelude.{◌≡◌, ℕ, ◌≤◌, ◌↔◌, length
 ghost use Rattle.bb_memory_base.specs.FirstPlace.{first_place};
 ghost use Rattle.bb_memory_base.specs.PoolGeometry.{bucket_place};
 ghost use Rattle.bb_memory_base.specs.PoolObject.{MayGrow, MayShrink};
-ghost use Rattle.bb_memory.specs.Pool.{Frees, HoldsPlace, Reads, Takes, pool_of};
+ghost use Rattle.bb_memory.specs.Pool.{Frees, HoldsPlace, Takes, pool_of, reads_of};
 
 use super::geometry::Geometry;
 use crate::allocator::{AllocationError, AllocationGrowError, AllocationShrinkError};
@@ -74,8 +74,8 @@ impl<S: IndexSet> Buckets<S> {
     pub fn take(&mut self, layout: Layout, counter: &mut Counter) -> Result<Chunk, AllocationError>
         requires { counter.old ≡ 0 }
         ensures taken { Takes self.old layout result self.new }
-        ensures reads { Reads self.old.geometry.bucket layout
-            (S.words self.old.geometry.buckets) counter.new }
+        ensures reads { counter.new ≡ reads_of self.old.geometry.bucket
+            (S.words self.old.geometry.buckets) layout }
     {
         if layout.size() > self.bucket().size() {
             return Err(AllocationError::SizeTooLarge);

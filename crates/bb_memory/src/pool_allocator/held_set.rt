@@ -8,9 +8,8 @@ use std::marker::Model;
 
 /// A set of held buckets, and what contracts see of a pool over it.
 pub trait HeldSet: IndexSet {
-    ghost use Rattle.std.specs.Prelude.{◌≡◌, ◌<◌, ℕ, min};
-    ghost use Rattle.bb_memory_base.specs.declared.layout.Layout.{Layout};
-    ghost use Rattle.bb_memory.specs.Pool.{Pool, Reads};
+    ghost use Rattle.std.specs.Prelude.{◌≡◌, ◌<◌, ◌≤◌, ℕ, min};
+    ghost use Rattle.bb_memory.specs.Pool.{Pool};
 
     /// What contracts see of a pool.
     type Seen;
@@ -33,10 +32,9 @@ pub trait HeldSet: IndexSet {
     /// How many words each search reads where there is a bucket.
     ghost one_search: { ℕ };
 
-    /// What is kept of a search that read through this counter.
+    /// What is kept of a search that read through this counter, at most as many words as there are.
     fn kept(counter: Counter) -> Self::LastSearch
-        ensures { (bucket layout : Layout) (count : ℕ) → Reads bucket layout (Self.words count) counter
-            → Reads bucket layout (Self.words count) (last_reads result) };
+        ensures { (count : ℕ) → counter ≤ Self.words count → last_reads result ≡ counter };
 
     ghost pool_seen: { (it : Pool) (last : Self.LastSearch) → pool (seen it last) ≡ it };
 

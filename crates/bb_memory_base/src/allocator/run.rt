@@ -3,7 +3,7 @@ ghost use Rattle.std.specs.Prelude.{◌≡◌, ◌+◌, ◌<◌, ◌≤◌, ◌%
 ghost use Rattle.bb_memory_base.specs.Chunk.{Chunk, IsInside};
 ghost use Rattle.bb_memory_base.specs.LiveList.{IsSound};
 ghost use Rattle.bb_memory_base.specs.Object.{object_of};
-ghost use Rattle.bb_memory_base.specs.Run.{Step, IsRun, EachGiven};
+ghost use Rattle.bb_memory_base.specs.Run.{Step, IsRun, EachGiven, note_after_command, note_after_run};
 ghost use Rattle.bb_memory_base.specs.declared.layout.Layout.{Layout};
 ghost use Rattle.bb_memory_base.specs.Fitting.{Fits};
 ghost use Rattle.bb_memory_base.specs.ResizableObject.{ResizableStep, resizable_object_of};
@@ -26,6 +26,8 @@ fn apply_allocate<A: BaseAllocator>(
         → Fits (A.region_of (A.geometry allocator.old)) layout chunk }
     ensures stands { A.stands_for allocator.new live.new.items }
     ensures geometry { A.geometry allocator.new ≡ A.geometry allocator.old }
+    ensures note { A.note allocator.new
+        ≡ A.note_after (A.geometry allocator.old) layout (A.note allocator.old) }
     ensures len { vec_len live.new ≤ vec_len live.old + 1 }
     ensures capacity { vec_capacity live.old ≤ vec_capacity live.new }
 {
@@ -49,6 +51,7 @@ fn apply_release<A: BaseAllocator>(
         live.old.items (Command.Release position) result live.new.items }
     ensures stands { A.stands_for allocator.new live.new.items }
     ensures geometry { A.geometry allocator.new ≡ A.geometry allocator.old }
+    ensures note { A.note allocator.new ≡ A.note allocator.old }
     ensures len { vec_len live.new ≤ vec_len live.old }
     ensures capacity { vec_capacity live.old ≤ vec_capacity live.new }
 {
@@ -74,6 +77,8 @@ fn apply_base<A: BaseAllocator>(allocator: &mut A, live: &mut Vec<Chunk>, comman
         → result ≡ Reply.Chunk chunk → Fits (A.region_of (A.geometry allocator.old)) layout chunk }
     ensures stands { A.stands_for allocator.new live.new.items }
     ensures geometry { A.geometry allocator.new ≡ A.geometry allocator.old }
+    ensures note { A.note allocator.new ≡ note_after_command
+        (A.note_after (A.geometry allocator.old)) (A.note allocator.old) command }
     ensures len { vec_len live.new ≤ vec_len live.old + 1 }
     ensures capacity { vec_capacity live.old ≤ vec_capacity live.new }
 {
@@ -119,6 +124,8 @@ pub fn run_base<A: BaseAllocator>(
     ensures long_enough { IfOk result (λ replies.
         EachGiven (λ layout chunk. layout.size ≤ chunk.len) commands.now replies.items) }
     ensures geometry { A.geometry allocator.new ≡ A.geometry allocator.old }
+    ensures note { OnOk result (A.note allocator.new ≡ note_after_run
+        (A.note_after (A.geometry allocator.old)) (A.note allocator.old) commands.now) }
     ensures kept { OnErr result
         ((allocator.new ≡ allocator.old) × (live.new.items ≡ live.old.items)) }
 {
@@ -210,6 +217,8 @@ fn apply_full<A: Allocator>(allocator: &mut A, live: &mut Vec<Chunk>, command: C
         → result ≡ Reply.Chunk chunk → Fits (A.region_of (A.geometry allocator.old)) layout chunk }
     ensures stands { A.stands_for allocator.new live.new.items }
     ensures geometry { A.geometry allocator.new ≡ A.geometry allocator.old }
+    ensures note { A.note allocator.new ≡ note_after_command
+        (A.note_after (A.geometry allocator.old)) (A.note allocator.old) command }
     ensures len { vec_len live.new ≤ vec_len live.old + 1 }
     ensures capacity { vec_capacity live.old ≤ vec_capacity live.new }
 {
@@ -257,6 +266,8 @@ pub fn run_full<A: Allocator>(
     ensures long_enough { IfOk result (λ replies.
         EachGiven (λ layout chunk. layout.size ≤ chunk.len) commands.now replies.items) }
     ensures geometry { A.geometry allocator.new ≡ A.geometry allocator.old }
+    ensures note { OnOk result (A.note allocator.new ≡ note_after_run
+        (A.note_after (A.geometry allocator.old)) (A.note allocator.old) commands.now) }
     ensures kept { OnErr result
         ((allocator.new ≡ allocator.old) × (live.new.items ≡ live.old.items)) }
 {

@@ -46,6 +46,12 @@ impl<A: Allocator + Drop> BaseAllocator for Counted<A> {
 
     ghost may_release = { λ c. A.may_release c.inner };
 
+    ghost Note = { A.Note };
+
+    ghost note = { λ c. A.note c.inner };
+
+    ghost note_after = { A.note_after };
+
     fn allocate(&mut self, layout: Layout) -> Result<Chunk, AllocationError> {
         self.requests.set(self.requests.get().saturating_add(1));
         self.inner.allocate(layout)

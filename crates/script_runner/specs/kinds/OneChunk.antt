@@ -8,7 +8,7 @@ use Rattle.bb_memory_base.specs.ResizableObject.{ResizableStep}
 use Rattle.bb_memory_base.specs.declared.allocator.Command.{Command}
 use Rattle.bb_memory_base.specs.declared.allocator.Reply.{Reply}
 use Rattle.bb_memory.specs.OneChunk.{OneChunk, StandsFor}
-use Rattle.bb_memory.specs.OneChunkObject.{one_chunk_object}
+use Rattle.bb_memory_base.specs.OneChunkObject.{one_chunk_object}
 use Rattle.script_runner.specs.kinds.Bounds.{region_text}
 use Rattle.script_runner.specs.kinds.Allocators.{AllocatorRules}
 

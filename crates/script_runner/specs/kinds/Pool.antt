@@ -1,5 +1,5 @@
 -- Scripts that drive a pool.
-use Rattle.std.specs.Prelude.{ℕ, ◌≡◌, ◌≤◌, List, ◌++◌, codes}
+use Rattle.std.specs.Prelude.{ℕ, ◌≡◌, List, ◌++◌, codes}
 use Rattle.std.specs.Fmt.{decimal}
 use Rattle.bb_memory_base.specs.Chunk.{Chunk}
 use Rattle.bb_memory_base.specs.FirstPlace.{first_place}
@@ -10,7 +10,7 @@ use Rattle.bb_memory_base.specs.Run.{IsRun}
 use Rattle.bb_memory_base.specs.declared.allocator.Command.{Command}
 use Rattle.bb_memory_base.specs.declared.allocator.Reply.{Reply}
 use Rattle.bb_memory.specs.IndexWords.{index_words}
-use Rattle.bb_memory.specs.Pool.{Pool, StandsFor, fresh_pool, CountedPool, counted}
+use Rattle.bb_memory.specs.Pool.{Pool, StandsFor, fresh_pool, CountedPool, counted, reads_after}
 use Rattle.script_runner.specs.kinds.PoolPlan.{PoolPlan, IsPoolPlan, pool_plan_text}
 use Rattle.script_runner.specs.kinds.Allocators.{AllocatorRules}
 
@@ -27,11 +27,12 @@ pub record PoolRuns (old : Pool) (live : List Chunk) (commands : List Command)
   pub geometry : new.geometry ≡ old.geometry
   pub stands : StandsFor new left
 
--- the same, and the last request made at most as many reads as there are index words
+-- the same, and what was read is what the last request among the commands reads, or what it was before where they have none
 pub record CountedPoolRuns (old : CountedPool) (live : List Chunk) (commands : List Command)
     (replies : List Reply) (new : CountedPool) (left : List Chunk) : Type 0 where
   pub runs : PoolRuns old.pool live commands replies new.pool left
-  pub reads : new.reads ≤ index_words new.pool.geometry.buckets
+  pub reads : new.reads
+      ≡ reads_after old.pool.geometry.bucket (index_words old.pool.geometry.buckets) old.reads commands
 
 -- the figures that `show` writes of either pool with so many chunks live, and then the rest of the line
 abbrev pub pool_figures : PoolGeometry → ℕ → List ℕ → List ℕ

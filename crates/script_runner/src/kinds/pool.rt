@@ -32,10 +32,7 @@ impl Scripted for PoolAllocator<Global> {
         live: &mut Vec<Chunk>,
         commands: &[Command],
     ) -> Result<Vec<Reply>, AllocError> {
-        let replies = run_pool(self, live, commands)?;
-        // This bounds what `show` writes as the reads.
-        let _ = self.last_reads();
-        Ok(replies)
+        run_pool(self, live, commands)
     }
 
     fn write_state<W: Write>(&self, live: usize, writer: &mut W) -> io::Result<()> {

@@ -1,5 +1,5 @@
 use Rattle.std.proofs.Common.{rules, ◌≡◌, Some, subst}
-use Rattle.bb_memory.specs.OneChunkObject.{MayShrink, reserved_at}
+use Rattle.bb_memory_base.specs.OneChunkObject.{MayShrink, reserved_at}
 use Rattle.bb_memory_c.specs.Answers.{TellsShrink}
 use Rattle.bb_memory_c.proofs.one_chunk.bb_one_chunk_shrink.Goals as goal
 

@@ -3,9 +3,9 @@ use Rattle.std.proofs.lemmas.List.{take_more, take_all, length-take-le}
 use Rattle.bb_memory_base.specs.declared.layout.Layout.{Layout}
 use Rattle.bb_memory_base.specs.Chunk.{Chunk}
 use Rattle.bb_memory_base.specs.Object.{object_of}
-use Rattle.bb_memory_base.specs.Run.{Step}
+use Rattle.bb_memory_base.specs.Run.{Step, note_after_command}
 use Rattle.bb_memory_base.specs.Fitting.{Fits}
-use Rattle.bb_memory_base.proofs.Runs.{IsRun-push, EachGiven-push}
+use Rattle.bb_memory_base.proofs.Runs.{IsRun-push, EachGiven-push, note-push}
 use Rattle.bb_memory_base.proofs.allocator.run.run_base.Goals as goal
 
 pub loop-command-preserved : goal.loop-command-preserved
@@ -32,6 +32,11 @@ loop-command-preserved g c =
           c.loop-command.invariant.geometry (c.apply_base-reply.ensures.fits layout chunk asked given)));
       stands = c.apply_base-reply.ensures.stands;
       geometry = c.apply_base-reply.ensures.geometry ∙ c.loop-command.invariant.geometry;
+      note = rw done (note-push (A.note_after (A.geometry c.args.allocator.now)) (A.note c.args.allocator.now) (take i commands)
+          (A.note c.loop-command.allocator) (A.note c.apply_base-reply.new.allocator) command c.loop-command.invariant.note
+          (subst (λ (geometry : A.Geometry). A.note c.apply_base-reply.new.allocator ≡
+          note_after_command (A.note_after geometry) (A.note c.loop-command.allocator) command)
+          c.loop-command.invariant.geometry c.apply_base-reply.ensures.note));
       room = omega arith;
       told = omega arith;
       space = omega arith;

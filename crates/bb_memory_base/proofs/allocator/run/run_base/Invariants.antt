@@ -1,6 +1,6 @@
 use Rattle.std.proofs.Common.{◌≡◌, ◌+◌, ◌≤◌, take, length, vec_len, vec_capacity}
 use Rattle.bb_memory_base.specs.Object.{object_of}
-use Rattle.bb_memory_base.specs.Run.{Step, IsRun, EachGiven}
+use Rattle.bb_memory_base.specs.Run.{Step, IsRun, EachGiven, note_after_run}
 use Rattle.bb_memory_base.specs.Fitting.{Fits}
 use Rattle.bb_memory_base.proofs.allocator.run.run_base.Given as goal
 
@@ -14,6 +14,8 @@ invariant-loop-command g l =
       fits : EachGiven (Fits (A.region_of (A.geometry l.fn.allocator))) (take l.command-index l.commands) l.replies.items;
       stands : A.stands_for l.allocator l.live.items;
       geometry : A.geometry l.allocator ≡ A.geometry l.fn.allocator;
+      note : A.note l.allocator
+          ≡ note_after_run (A.note_after (A.geometry l.fn.allocator)) (A.note l.fn.allocator) (take l.command-index l.commands);
       room : vec_len l.live + length l.commands ≤ vec_capacity l.live + l.command-index;
       told : vec_len l.replies ≡ l.command-index;
       space : length l.commands ≤ vec_capacity l.replies;

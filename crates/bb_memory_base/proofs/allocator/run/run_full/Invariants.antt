@@ -1,5 +1,5 @@
 use Rattle.std.proofs.Common.{◌≡◌, ◌+◌, ◌≤◌, take, length, vec_len, vec_capacity}
-use Rattle.bb_memory_base.specs.Run.{IsRun, EachGiven}
+use Rattle.bb_memory_base.specs.Run.{IsRun, EachGiven, note_after_run}
 use Rattle.bb_memory_base.specs.ResizableObject.{ResizableStep, resizable_object_of}
 use Rattle.bb_memory_base.specs.Fitting.{Fits}
 use Rattle.bb_memory_base.proofs.allocator.run.run_full.Given as goal
@@ -17,6 +17,8 @@ invariant-loop-command g l =
       fits : EachGiven (Fits (A.region_of (A.geometry l.fn.allocator))) (take l.command-index l.commands) l.replies.items;
       stands : A.stands_for l.allocator l.live.items;
       geometry : A.geometry l.allocator ≡ A.geometry l.fn.allocator;
+      note : A.note l.allocator
+          ≡ note_after_run (A.note_after (A.geometry l.fn.allocator)) (A.note l.fn.allocator) (take l.command-index l.commands);
       room : vec_len l.live + length l.commands ≤ vec_capacity l.live + l.command-index;
       told : vec_len l.replies ≡ l.command-index;
       space : length l.commands ≤ vec_capacity l.replies;
