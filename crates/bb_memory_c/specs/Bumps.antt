@@ -29,12 +29,3 @@ pub record Allocates (bump : Bump) (layout : Layout)
       → MayAllocate bump.region live layout answer
   pub appended : IfOk answer (λ chunk. (live : List Chunk) → StandsFor bump.region bump.used live
       → StandsFor after.region after.used (live ++ chunk ∷ []))
-
--- C is told what the bump answers
-abbrev pub Tells : Bump → Layout → Answer → Bump → Type 0
-Tells bump layout told after = (answer : Result Chunk AllocationError)
-    × (told ≡ answer_of answer) × Allocates bump layout answer after
-
--- C is told what the bump answers, and the handle stands for what the bump is then
-abbrev pub Gives : Bump → Layout → Answer → Option Bump → Type 0
-Gives bump layout told new = (after : Bump) × (new ≡ Some after) × Tells bump layout told after

@@ -23,12 +23,3 @@ pub record Allocates (one : OneChunk) (layout : Layout)
   pub keeps : IfOk answer (λ chunk. after.kept ≡ Some chunk.place)
   pub region : after.region ≡ one.region
   pub still : OnErr answer (after ≡ one)
-
--- C is told what the allocator answers
-abbrev pub Tells : OneChunk → Layout → Answer → OneChunk → Type 0
-Tells one layout told after = (answer : Result Chunk AllocationError)
-    × (told ≡ answer_of answer) × Allocates one layout answer after
-
--- C is told what the allocator answers, and the handle stands for what it is then
-abbrev pub Gives : OneChunk → Layout → Answer → Option OneChunk → Type 0
-Gives one layout told new = (after : OneChunk) × (new ≡ Some after) × Tells one layout told after

@@ -18,27 +18,3 @@ MakesPool region bucket new = (geometry : PoolGeometry)
 abbrev pub MakesFixedPool : Region → Layout → Option Pool → Type 0
 MakesFixedPool region bucket new = (whole : PoolGeometry)
     × IsCut region bucket whole × (new ≡ Some (fresh_pool (at_most 512 whole)))
-
--- C is told what a pool answers to a request, by which it becomes another
-pub record Tells (pool : Pool) (layout : Layout) (told : Answer) (after : Pool) : Type 0 where
-  pub answer : Result Chunk AllocationError
-  pub says : told ≡ answer_of answer
-  pub taken : Takes pool layout answer after
-
--- the same, and the handle stands for what the pool is then
-abbrev pub Gives : CountedPool → Layout → Answer → Option CountedPool → Type 0
-Gives pool layout told new =
-    (after : CountedPool) × (new ≡ Some after) × Tells pool.pool layout told after.pool
-
-abbrev pub GivesFixed : Pool → Layout → Answer → Option Pool → Type 0
-GivesFixed pool layout told new =
-    (after : Pool) × (new ≡ Some after) × Tells pool layout told after
-
--- the held bucket at the place is freed, and no other
-abbrev pub GivesBack : CountedPool → ℕ → Option CountedPool → Type 0
-GivesBack pool place new =
-    (after : CountedPool) × (new ≡ Some after) × Frees pool.pool place after.pool
-
-abbrev pub GivesBackFixed : Pool → ℕ → Option Pool → Type 0
-GivesBackFixed pool place new =
-    (after : Pool) × (new ≡ Some after) × Frees pool place after

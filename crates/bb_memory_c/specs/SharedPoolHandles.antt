@@ -15,23 +15,6 @@ MakesSharedPool region bucket parties new =
     (pool : SharedPool) × IsSharedPoolOver region bucket parties pool
     × (new ≡ Some (pool_seats pool parties))
 
--- C is told what the party's request is answered, by which the party becomes another
-pub record Tells (party : PoolParty) (layout : Layout) (told : Answer) (after : PoolParty)
-    : Type 0 where
-  pub answer : Result Chunk AllocationError
-  pub says : told ≡ answer_of answer
-  pub given : Gives party layout answer after
-
--- the same, and the handle stands for what the party is then
-abbrev pub AnswersSeat : PoolParty → Layout → Answer → Option PoolParty → Type 0
-AnswersSeat party layout told new =
-    (after : PoolParty) × (new ≡ Some after) × Tells party layout told after
-
--- the bucket at the place was given back, and the handle stands for what the party is then
-abbrev pub GivesBackSeat : PoolParty → ℕ → Option PoolParty → Type 0
-GivesBackSeat party place new =
-    (after : PoolParty) × (new ≡ Some after) × GivesBack party place after
-
 -- the last party without a seat has one, behind this other handle
 abbrev pub SeatsOne : PoolSeats → Option PoolSeats → Option PoolParty → Type 0
 SeatsOne seats new seated =

@@ -25,10 +25,12 @@
 mod answer;
 mod bump;
 mod bump_seat;
+mod call;
 mod code;
 mod fixed_pool;
 mod handle;
 mod held;
+mod kind;
 mod layout;
 mod loose;
 mod one_chunk;
