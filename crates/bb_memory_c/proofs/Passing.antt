@@ -18,7 +18,7 @@ use contract.Running.{Running, tables}
 use denote.Exit.{Last, left, yes}
 use denote.Param.Mute.{blank}
 use denote.RattleType.{RattleType, owns}
-use denote.Signature.{Signature, types_at, plain}
+use denote.Signature.{types_at, plain}
 use denote.Steps.{nothing}
 use denote.Triple.Clauses.{Ended, Clauses, closing}
 use denote.Triple.Spec.{Meets}

@@ -1,6 +1,6 @@
 -- What a call of a handle promises. `old` and `new` are what is behind the handle before and after the call, and `told` is what
 -- C is told; behind an empty handle is `None`.
-use Rattle.std.specs.Prelude.{◌≡◌, ◌≢◌, ◌≤◌, ◌↔◌, ℕ, Option, Some, None, Result, IfSome}
+use Rattle.std.specs.Prelude.{◌≡◌, ◌≢◌, ◌+◌, ◌↔◌, ℕ, Option, Some, None, Result, Err, IfSome, IfOk, IfErr}
 use Rattle.std.specs.Align.{IsLayout}
 use Rattle.bb_memory_base.specs.Chunk.{Chunk}
 use Rattle.bb_memory_base.specs.declared.layout.Layout.{Layout}
@@ -128,3 +128,9 @@ pub record GivesSeat {X Y : Type 0} (old new : Option X) (old_seat new_seat : Op
   pub none_left : IfSome old (λ made. (code ≡ no_seat) ↔ ((old_seat ≡ None) × (left made ≡ 0)))
   pub else_memory : code ≢ done → code ≢ already_made → code ≢ not_made → code ≢ no_seat → code ≡ out_of_memory
   pub kept : code ≢ done → (new ≡ old) × (new_seat ≡ old_seat)
+
+-- A seat is made for the last party that has none, if one is left and memory isn't refused.
+pub record TakesSeat {Y : Type 0} (old_left new_left : ℕ) (told : Result Y ℕ) : Type 0 where
+  pub seated : IfOk told (λ _. old_left ≡ new_left + 1)
+  pub none_left : (told ≡ Err no_seat) ↔ (old_left ≡ 0)
+  pub else_memory : IfErr told (λ code. code ≢ no_seat → code ≡ out_of_memory)

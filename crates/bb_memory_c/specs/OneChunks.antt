@@ -1,5 +1,5 @@
 -- A one-chunk allocator behind a handle, and what its requests are answered.
-use Rattle.std.specs.Prelude.{◌≡◌, ◌⊎◌, ◌↔◌, Option, Some, None, Result, Err, IsOk, IsSome, IfOk, OnErr}
+use Rattle.std.specs.Prelude.{◌≡◌, ◌⊎◌, ◌↔◌, Some, None, Result, Err, IsOk, IsSome, IfOk, OnErr}
 use Rattle.bb_memory_base.specs.Region.{region_end}
 use Rattle.bb_memory_base.specs.Chunk.{Chunk, chunk_end}
 use Rattle.bb_memory_base.specs.FirstPlace.{first_place}
@@ -8,8 +8,6 @@ use Rattle.bb_memory_base.specs.declared.allocator.AllocationError.{AllocationEr
 use Rattle.bb_memory_base.specs.declared.allocator.AllocationError.TheVariants.{OutOfMemory}
 use Rattle.bb_memory.specs.OneChunk.{OneChunk}
 use Rattle.bb_memory.specs.OneChunkObject.{HasRoom, LacksRoom}
-use Rattle.bb_memory_c.specs.declared.answer.Answer.{Answer}
-use Rattle.bb_memory_c.specs.Answers.{answer_of}
 
 -- What the allocator answers to a request, and what it is then.
 pub record Allocates (one : OneChunk) (layout : Layout)

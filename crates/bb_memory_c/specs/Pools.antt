@@ -1,13 +1,9 @@
 -- A pool behind a handle, and what its requests are answered.
-use Rattle.std.specs.Prelude.{◌≡◌, ℕ, Option, Some, Result}
+use Rattle.std.specs.Prelude.{◌≡◌, Option, Some}
 use Rattle.bb_memory_base.specs.Region.{Region}
-use Rattle.bb_memory_base.specs.Chunk.{Chunk}
 use Rattle.bb_memory_base.specs.PoolGeometry.{PoolGeometry, IsCut, at_most}
 use Rattle.bb_memory_base.specs.declared.layout.Layout.{Layout}
-use Rattle.bb_memory_base.specs.declared.allocator.AllocationError.{AllocationError}
-use Rattle.bb_memory.specs.Pool.{CountedPool, Pool, Frees, Takes, counted, fresh_pool}
-use Rattle.bb_memory_c.specs.declared.answer.Answer.{Answer}
-use Rattle.bb_memory_c.specs.Answers.{answer_of}
+use Rattle.bb_memory.specs.Pool.{CountedPool, Pool, counted, fresh_pool}
 
 -- a fresh pool over the region, cut into buckets of the layout
 abbrev pub MakesPool : Region → Layout → Option CountedPool → Type 0

@@ -1,11 +1,7 @@
 -- A shared bump and its seats behind handles, and what C is told.
-use Rattle.std.specs.Prelude.{◌≡◌, ◌+◌, ◌-◌, ◌≤◌, ℕ, Option, Some, None, IfSome}
+use Rattle.std.specs.Prelude.{◌≡◌, ◌+◌, ◌≤◌, ℕ, Option, Some, None, IfSome}
 use Rattle.bb_memory_base.specs.Region.{Region, IsRegion}
-use Rattle.bb_memory_base.specs.Chunk.{Chunk}
-use Rattle.bb_memory_base.specs.declared.layout.Layout.{Layout}
-use Rattle.bb_memory_base.specs.declared.allocator.AllocationError.{AllocationError}
-use Rattle.bb_memory.specs.SharedBump.{BumpParty, MayTake, SharedBump, fresh_party, load_entry, seen_by, with_entries}
-use Rattle.bb_memory_c.specs.declared.answer.Answer.{Answer}
+use Rattle.bb_memory.specs.SharedBump.{BumpParty, SharedBump, fresh_party, load_entry, seen_by, with_entries}
 use Rattle.bb_memory_c.specs.declared.answer.Figure.{Figure}
 use Rattle.bb_memory_c.specs.Answers.{figure_of, no_figure}
 use Rattle.bb_memory_c.specs.Codes.{not_made}
@@ -35,7 +31,7 @@ pub record TellsLoad (old new : Option BumpParty) (told : Figure) (figure : Bump
   pub empty : old ≡ None → (told ≡ no_figure not_made) × (new ≡ old)
 
 -- the last party without a seat has one, behind this other handle
-abbrev pub SeatsOne : BumpSeats → Option BumpSeats → Option BumpParty → Type 0
-SeatsOne seats new seated =
+abbrev pub SeatsBumpParty : BumpSeats → Option BumpSeats → Option BumpParty → Type 0
+SeatsBumpParty seats new seated =
     (left : ℕ) × (seats.left ≡ left + 1) × (new ≡ Some (bump_seats seats.bump left))
     × (seated ≡ Some (fresh_party seats.bump left))

@@ -2,9 +2,8 @@
 ghost use Rattle.std.specs.Prelude.{◌≡◌, ◌≢◌, ◌+◌, ◌-◌, ◌<◌, ◌↔◌, Err, IfOk, IfErr, OnErr};
 ghost use Rattle.bb_memory_base.specs.Region.{region_at};
 ghost use Rattle.bb_memory.specs.SharedBump.{MayTake, fresh_party};
-ghost use Rattle.bb_memory_c.specs.Calls.{AnswersMake, AnswersRequest, Frees, GivesSeat, TellsFigure};
-ghost use Rattle.bb_memory_c.specs.Codes.{no_seat, out_of_memory};
-ghost use Rattle.bb_memory_c.specs.SharedBumpHandles.{IsShareable, MakesSharedBump, SeatsOne, TellsLoad};
+ghost use Rattle.bb_memory_c.specs.Calls.{AnswersMake, AnswersRequest, Frees, GivesSeat, TakesSeat, TellsFigure};
+ghost use Rattle.bb_memory_c.specs.SharedBumpHandles.{IsShareable, MakesSharedBump, SeatsBumpParty, TellsLoad};
 
 use crate::answer::{Answer, Figure};
 use crate::bump_seat::{BumpSeat, BumpSeats};
@@ -17,12 +16,10 @@ use std::sync::Arc;
 
 /// A seat for the last party that has none, in memory of its own.
 fn next_seat(seats: &mut BumpSeats, alloc: Global) -> Result<Box<BumpSeat>, u32>
-    ensures seated { IfOk result (λ seat. seats.old.left ≡ seats.new.left + 1) }
+    ensures seated { TakesSeat seats.old.left seats.new.left result }
     ensures bump { seats.new.bump ≡ seats.old.bump }
     ensures party { IfOk result (λ seat.
         seat.value ≡ fresh_party seats.old.bump seats.new.left) }
-    ensures no_seat { (result ≡ Err no_seat) ↔ (seats.old.left ≡ 0) }
-    ensures refused { IfErr result (λ code. code ≢ no_seat → code ≡ out_of_memory) }
     ensures kept { OnErr result (seats.new ≡ seats.old) }
 {
     if seats.parties.is_empty() {
@@ -93,7 +90,7 @@ pub extern "C" fn bb_shared_bump_seat(
     seat: &mut BumpSeatHandle,
 ) -> u32
     ensures { GivesSeat handle.old.value handle.new.value seat.old.value seat.new.value result
-        (λ seats. seats.left) SeatsOne }
+        (λ seats. seats.left) SeatsBumpParty }
 {
     if is_made(seat, alloc) {
         return code::ALREADY_MADE;

@@ -5,11 +5,10 @@ ghost use Rattle.bb_memory_base.specs.PoolObject.{MayGrow, MayShrink};
 ghost use Rattle.bb_memory_base.specs.Region.{region_at};
 ghost use Rattle.bb_memory.specs.SharedPool.{fresh_party};
 ghost use Rattle.bb_memory_c.specs.Calls.{AnswersGrow, AnswersPoolMake, AnswersRequest, AnswersReturn, AnswersShrink, Frees};
-ghost use Rattle.bb_memory_c.specs.Calls.{GivesSeat, TellsFigure, TellsOfHeld, TellsWhether, resize};
-ghost use Rattle.bb_memory_c.specs.Codes.{no_seat, out_of_memory};
+ghost use Rattle.bb_memory_c.specs.Calls.{GivesSeat, TakesSeat, TellsFigure, TellsOfHeld, TellsWhether, resize};
 ghost use Rattle.bb_memory_c.specs.Layouts.{MayBeShared};
 ghost use Rattle.bb_memory_c.specs.SharedPools.{Gives, GivesBack, HoldsPlace};
-ghost use Rattle.bb_memory_c.specs.SharedPoolHandles.{MakesSharedPool, SeatsOne};
+ghost use Rattle.bb_memory_c.specs.SharedPoolHandles.{MakesSharedPool, SeatsPoolParty};
 
 use crate::answer::{Answer, Figure};
 use crate::call::{free, give_back, grow, holds, is_made, keep, request, reserved, shrink, tell};
@@ -22,12 +21,10 @@ use std::sync::Arc;
 
 /// A seat for the last party that has none, in memory of its own.
 fn next_seat(seats: &mut PoolSeats, alloc: Global) -> Result<Box<PoolSeat>, u32>
-    ensures seated { IfOk result (λ seat. seats.old.left ≡ seats.new.left + 1) }
+    ensures seated { TakesSeat seats.old.left seats.new.left result }
     ensures pool { seats.new.pool ≡ seats.old.pool }
     ensures party { IfOk result (λ seat.
         seat.value ≡ fresh_party seats.old.pool seats.new.left) }
-    ensures no_seat { (result ≡ Err no_seat) ↔ (seats.old.left ≡ 0) }
-    ensures refused { IfErr result (λ code. code ≢ no_seat → code ≡ out_of_memory) }
     ensures kept { OnErr result (seats.new ≡ seats.old) }
 {
     if seats.parties.is_empty() {
@@ -107,7 +104,7 @@ pub extern "C" fn bb_shared_pool_seat(
     seat: &mut PoolSeatHandle,
 ) -> u32
     ensures { GivesSeat handle.old.value handle.new.value seat.old.value seat.new.value result
-        (λ seats. seats.left) SeatsOne }
+        (λ seats. seats.left) SeatsPoolParty }
 {
     if is_made(seat, alloc) {
         return code::ALREADY_MADE;

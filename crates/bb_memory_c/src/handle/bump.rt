@@ -40,9 +40,7 @@ impl Handle for BumpHandle {
         }
     }
 
-    fn into_held(self) -> Held<BumpAllocator>
-        ensures { result.value ≡ self.value }
-    {
+    fn into_held(self) -> Held<BumpAllocator> {
         let BumpHandle { at, made } = self;
         Held {
             at: at as *mut BumpAllocator,

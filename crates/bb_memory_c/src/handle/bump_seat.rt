@@ -40,9 +40,7 @@ impl Handle for BumpSeatHandle {
         }
     }
 
-    fn into_held(self) -> Held<BumpSeat>
-        ensures { result.value ≡ self.value }
-    {
+    fn into_held(self) -> Held<BumpSeat> {
         let BumpSeatHandle { at, made } = self;
         Held {
             at: at as *mut BumpSeat,

@@ -40,9 +40,7 @@ impl Handle for FixedPoolHandle {
         }
     }
 
-    fn into_held(self) -> Held<FixedSizePoolAllocator<512>>
-        ensures { result.value ≡ self.value }
-    {
+    fn into_held(self) -> Held<FixedSizePoolAllocator<512>> {
         let FixedPoolHandle { at, made } = self;
         Held {
             at: at as *mut FixedSizePoolAllocator<512>,

@@ -40,9 +40,7 @@ impl Handle for OneChunkHandle {
         }
     }
 
-    fn into_held(self) -> Held<OneChunkAllocator>
-        ensures { result.value ≡ self.value }
-    {
+    fn into_held(self) -> Held<OneChunkAllocator> {
         let OneChunkHandle { at, made } = self;
         Held {
             at: at as *mut OneChunkAllocator,

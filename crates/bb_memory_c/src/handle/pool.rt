@@ -41,9 +41,7 @@ impl Handle for PoolHandle {
         }
     }
 
-    fn into_held(self) -> Held<PoolAllocator<Global>>
-        ensures { result.value ≡ self.value }
-    {
+    fn into_held(self) -> Held<PoolAllocator<Global>> {
         let PoolHandle { at, made } = self;
         Held {
             at: at as *mut PoolAllocator<Global>,

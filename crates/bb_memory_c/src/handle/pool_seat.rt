@@ -40,9 +40,7 @@ impl Handle for PoolSeatHandle {
         }
     }
 
-    fn into_held(self) -> Held<PoolSeat>
-        ensures { result.value ≡ self.value }
-    {
+    fn into_held(self) -> Held<PoolSeat> {
         let PoolSeatHandle { at, made } = self;
         Held {
             at: at as *mut PoolSeat,

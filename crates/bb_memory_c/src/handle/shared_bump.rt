@@ -40,9 +40,7 @@ impl Handle for SharedBumpHandle {
         }
     }
 
-    fn into_held(self) -> Held<BumpSeats>
-        ensures { result.value ≡ self.value }
-    {
+    fn into_held(self) -> Held<BumpSeats> {
         let SharedBumpHandle { at, made } = self;
         Held {
             at: at as *mut BumpSeats,

@@ -40,9 +40,7 @@ impl Handle for SharedPoolHandle {
         }
     }
 
-    fn into_held(self) -> Held<PoolSeats>
-        ensures { result.value ≡ self.value }
-    {
+    fn into_held(self) -> Held<PoolSeats> {
         let SharedPoolHandle { at, made } = self;
         Held {
             at: at as *mut PoolSeats,

@@ -1,6 +1,5 @@
 use Rattle.std.proofs.Common.{rules, ap, Err}
-use Rattle.bb_memory_base.specs.Region.{region_at}
-use Rattle.bb_memory_c.proofs.Layouts.{cut-or-not, same_Err}
+use Rattle.bb_memory_c.proofs.Layouts.{same_Err}
 use Rattle.bb_memory_c.proofs.pool.bb_pool_make.Goals as goal
 
 pub returns-in-Err : goal.returns-in-Err
