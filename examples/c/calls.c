@@ -3,6 +3,7 @@
 #include <stdint.h>
 #include <stdio.h>
 #include <stdlib.h>
+#include <string.h>
 
 #include "bb_memory.h"
 
@@ -34,6 +35,13 @@ static int refused(bb_answer answer, uint32_t code) { return answer.code == code
 static int is(bb_figure figure, size_t number) { return figure.code == BB_DONE && figure.number == number; }
 
 static int has_none(bb_figure figure, uint32_t code) { return figure.code == code && figure.number == 0; }
+
+// The version's text and its numbers are one version.
+static void run_version(void) {
+    char text[sizeof BB_VERSION];
+    EXPECT(snprintf(text, sizeof text, "%d.%d.%d", BB_VERSION_MAJOR, BB_VERSION_MINOR, BB_VERSION_PATCH) == sizeof text - 1);
+    EXPECT(strcmp(text, BB_VERSION) == 0);
+}
 
 static void run_bump(void) {
     bb_bump bump = BB_EMPTY;
@@ -273,6 +281,7 @@ static void run_makers(void) {
 }
 
 int main(void) {
+    run_version();
     run_bump();
     run_one_chunk();
     run_bb_pool();
