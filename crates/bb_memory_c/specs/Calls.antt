@@ -114,7 +114,7 @@ pub record AnswersPoolMake {X : Type 0} (old new : Option X) (size align : ℕ) 
   pub kept : code ≢ done → new ≡ old
 
 -- the handle is empty then, and C is told whether it was
-pub record Frees {X : Type 0} (old new : Option X) (code : ℕ) : Type 0 where
+pub record AnswersFree {X : Type 0} (old new : Option X) (code : ℕ) : Type 0 where
   pub freed : old ≢ None → code ≡ done
   pub was_empty : old ≡ None → code ≡ not_made
   pub empty : new ≡ None

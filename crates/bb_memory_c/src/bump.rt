@@ -3,7 +3,7 @@ ghost use Rattle.std.specs.Prelude.{◌≡◌, ◌-◌, None, Some, IfSome};
 ghost use Rattle.bb_memory_base.specs.Region.{IsRegion, region_at};
 ghost use Rattle.bb_memory.specs.Bump.{bump_of};
 ghost use Rattle.bb_memory_c.specs.Bumps.{Allocates};
-ghost use Rattle.bb_memory_c.specs.Calls.{AnswersMake, AnswersRequest, Frees, TellsFigure};
+ghost use Rattle.bb_memory_c.specs.Calls.{AnswersFree, AnswersMake, AnswersRequest, TellsFigure};
 ghost use Rattle.bb_memory_c.specs.Codes.{done, not_made};
 
 use crate::answer::{Answer, Figure};
@@ -43,7 +43,7 @@ pub extern "C" fn bb_bump_make(
 /// C guarantees of the handle what the crate's page says.
 #[unsafe(no_mangle)]
 pub extern "C" fn bb_bump_free(alloc: Global, handle: &mut BumpHandle) -> u32
-    ensures { Frees handle.old.value handle.new.value result }
+    ensures { AnswersFree handle.old.value handle.new.value result }
 {
     free(handle, alloc)
 }
@@ -59,7 +59,7 @@ pub extern "C" fn bb_bump_allocate(
     align: usize,
 ) -> Answer
     ensures { AnswersRequest handle.old.value handle.new.value size align result
-        (Allocates) }
+        Allocates }
 {
     request(handle, alloc, size, align)
 }

@@ -6,7 +6,7 @@ ghost use Rattle.bb_memory_base.specs.Chunk.{Chunk};
 ghost use Rattle.bb_memory_base.specs.declared.layout.Layout.{Layout as Asked};
 ghost use Rattle.bb_memory_base.specs.declared.allocator.AllocationError.{AllocationError};
 ghost use Rattle.bb_memory_c.specs.Answers.{TellsGrow, TellsShrink, answer_of, figure_of, no_figure, refused};
-ghost use Rattle.bb_memory_c.specs.Calls.{AnswersGrow, AnswersRequest, AnswersReturn, AnswersShrink, Frees};
+ghost use Rattle.bb_memory_c.specs.Calls.{AnswersFree, AnswersGrow, AnswersRequest, AnswersReturn, AnswersShrink};
 ghost use Rattle.bb_memory_c.specs.Calls.{TellsOfHeld, TellsWhether, resize};
 ghost use Rattle.bb_memory_c.specs.Codes.{done, not_a_layout, not_held, not_made, out_of_memory};
 ghost use Rattle.bb_memory_c.specs.Layouts.{IsOf};
@@ -14,7 +14,7 @@ ghost use Rattle.bb_memory_c.specs.Layouts.{IsOf};
 use crate::answer::{Answer, Figure};
 use crate::code;
 use crate::handle::Handle;
-use crate::kind::{Gives, Holds};
+use crate::kind::{Gives, Keeps};
 use crate::layout::{layout_of, layouts_of};
 use bb_memory::layout::Layout;
 use std::alloc::Global;
@@ -49,7 +49,7 @@ pub(crate) fn keep<H: Handle>(handle: &mut H, alloc: Global, made: H::Made) -> u
 
 /// Frees what is behind the handle, which is empty then.
 pub(crate) fn free<H: Handle>(handle: &mut H, alloc: Global) -> u32
-    ensures { Frees (H.made handle.old) (H.made handle.new) result }
+    ensures { AnswersFree (H.made handle.old) (H.made handle.new) result }
 {
     match handle.take(alloc) {
         Some(made) => {
@@ -116,7 +116,7 @@ where
 }
 
 /// Gives back the chunk at this place, if one is held there.
-fn release<M: Holds>(made: &mut M, place: usize) -> u32
+fn release<M: Keeps>(made: &mut M, place: usize) -> u32
     ensures freed { M.holds made.old place → (result ≡ done) × M.frees made.old place made.new }
     ensures not_held { ¬ M.holds made.old place → (result ≡ not_held) × (made.new ≡ made.old) }
 {
@@ -130,7 +130,7 @@ fn release<M: Holds>(made: &mut M, place: usize) -> u32
 /// Gives back the chunk at this place, if one is held there.
 pub(crate) fn give_back<H: Handle>(handle: &mut H, alloc: Global, place: usize) -> u32
 where
-    H::Made: Holds,
+    H::Made: Keeps,
     ensures { AnswersReturn (H.made handle.old) (H.made handle.new) result
         (λ made. H.Made.holds made place) (λ made after. H.Made.frees made place after) }
 {
@@ -145,7 +145,7 @@ where
 /// Whether a chunk is held at this place: 1 or 0.
 pub(crate) fn holds<H: Handle>(handle: &mut H, alloc: Global, place: usize) -> Figure
 where
-    H::Made: Holds,
+    H::Made: Keeps,
     ensures { TellsWhether (H.made handle.old) (H.made handle.new) result
         (λ made. H.Made.holds made place) }
 {
@@ -160,7 +160,7 @@ where
 /// How many bytes are reserved for the chunk at this place, if one is held there.
 pub(crate) fn reserved<H: Handle>(handle: &mut H, alloc: Global, place: usize) -> Figure
 where
-    H::Made: Holds,
+    H::Made: Keeps,
     ensures { TellsOfHeld (H.made handle.old) (H.made handle.new) result
         (λ made. H.Made.holds made place) (λ made. H.Made.bytes made place) }
 {
@@ -177,7 +177,7 @@ where
 }
 
 /// Whether the chunk at this place may have the old layout, and what it is then answered that is to grow.
-fn grow_one<M: Holds>(made: &mut M, place: usize, layouts: Option<(Layout, Layout)>) -> Answer
+fn grow_one<M: Keeps>(made: &mut M, place: usize, layouts: Option<(Layout, Layout)>) -> Answer
     ensures answer { (from to : Asked) → layouts ≡ Some (from, to)
         → TellsGrow (M.holds made.old place) place from (M.may_grow made.old place from to) result }
     ensures not_a_layout { layouts ≡ None → result ≡ refused not_a_layout }
@@ -206,7 +206,7 @@ pub(crate) fn grow<H: Handle>(
     new_align: usize,
 ) -> Answer
 where
-    H::Made: Holds,
+    H::Made: Keeps,
     ensures { AnswersGrow (H.made handle.old) (H.made handle.new) place
         (resize old_size old_align new_size new_align) result
         (λ made. H.Made.holds made place) (λ made. H.Made.may_grow made place) }
@@ -221,7 +221,7 @@ where
 }
 
 /// Whether the chunk at this place may have the old layout, and what it is then answered that is to shrink.
-fn shrink_one<M: Holds>(made: &mut M, place: usize, layouts: Option<(Layout, Layout)>) -> Answer
+fn shrink_one<M: Keeps>(made: &mut M, place: usize, layouts: Option<(Layout, Layout)>) -> Answer
     ensures answer { (from to : Asked) → layouts ≡ Some (from, to)
         → TellsShrink (M.holds made.old place) place (M.bytes made.old place) from
         (M.may_shrink made.old place from to) result }
@@ -251,7 +251,7 @@ pub(crate) fn shrink<H: Handle>(
     new_align: usize,
 ) -> Answer
 where
-    H::Made: Holds,
+    H::Made: Keeps,
     ensures { AnswersShrink (H.made handle.old) (H.made handle.new) place
         (resize old_size old_align new_size new_align) result
         (λ made. H.Made.holds made place) (λ made. H.Made.bytes made place)

@@ -2,8 +2,8 @@
 ghost use Rattle.std.specs.Prelude.{◌≡◌};
 ghost use Rattle.bb_memory_base.specs.PoolObject.{MayGrow, MayShrink};
 ghost use Rattle.bb_memory_base.specs.Region.{region_at};
-ghost use Rattle.bb_memory.specs.Pool.{Frees as FreesBucket, HoldsPlace, MayBeCut, Takes};
-ghost use Rattle.bb_memory_c.specs.Calls.{AnswersGrow, AnswersPoolMake, AnswersRequest, AnswersReturn, AnswersShrink, Frees};
+ghost use Rattle.bb_memory.specs.Pool.{Frees, HoldsPlace, MayBeCut, Takes};
+ghost use Rattle.bb_memory_c.specs.Calls.{AnswersFree, AnswersGrow, AnswersPoolMake, AnswersRequest, AnswersReturn, AnswersShrink};
 ghost use Rattle.bb_memory_c.specs.Calls.{TellsFigure, TellsOfHeld, TellsWhether, resize};
 ghost use Rattle.bb_memory_c.specs.Pools.{MakesFixedPool};
 
@@ -11,7 +11,7 @@ use crate::answer::{Answer, Figure};
 use crate::call::{free, give_back, grow, holds, is_made, keep, request, reserved, shrink, tell};
 use crate::code;
 use crate::handle::FixedPoolHandle;
-use crate::kind::{Gives, Holds};
+use crate::kind::{Gives, Keeps};
 use crate::layout::cut_into;
 use bb_memory::layout::{Chunk, Layout};
 use bb_memory::pool_allocator::{
@@ -55,7 +55,7 @@ pub extern "C" fn bb_fixed_pool_make(
 /// C guarantees of the handle what the crate's page says.
 #[unsafe(no_mangle)]
 pub extern "C" fn bb_fixed_pool_free(alloc: Global, handle: &mut FixedPoolHandle) -> u32
-    ensures { Frees handle.old.value handle.new.value result }
+    ensures { AnswersFree handle.old.value handle.new.value result }
 {
     free(handle, alloc)
 }
@@ -87,7 +87,7 @@ pub extern "C" fn bb_fixed_pool_deallocate(
     place: usize,
 ) -> u32
     ensures { AnswersReturn handle.old.value handle.new.value result
-        (λ pool. HoldsPlace pool place) (λ pool after. FreesBucket pool place after) }
+        (λ pool. HoldsPlace pool place) (λ pool after. Frees pool place after) }
 {
     give_back(handle, alloc, place)
 }
@@ -227,10 +227,10 @@ impl Gives for FixedSizePoolAllocator<512> {
     }
 }
 
-impl Holds for FixedSizePoolAllocator<512> {
+impl Keeps for FixedSizePoolAllocator<512> {
     ghost holds = { λ pool place. HoldsPlace pool place };
 
-    ghost frees = { λ pool place after. FreesBucket pool place after };
+    ghost frees = { λ pool place after. Frees pool place after };
 
     ghost bytes = { λ pool place. pool.geometry.bucket.size };
 

@@ -20,7 +20,7 @@ pub(crate) trait Gives: Drop {
 }
 
 /// What gives chunks, and knows them by their places.
-pub(crate) trait Holds: Gives {
+pub(crate) trait Keeps: Gives {
     /// A chunk is held at this place.
     ghost holds: { Self → ℕ → Type 0 };
 

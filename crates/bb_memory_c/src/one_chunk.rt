@@ -3,7 +3,7 @@ ghost use Rattle.std.specs.Prelude.{◌≡◌, None, Some};
 ghost use Rattle.bb_memory_base.specs.Region.{IsRegion, region_at};
 ghost use Rattle.bb_memory.specs.OneChunk.{one_chunk_of};
 ghost use Rattle.bb_memory.specs.OneChunkObject.{MayGrow, MayShrink, reserved_at};
-ghost use Rattle.bb_memory_c.specs.Calls.{AnswersGrow, AnswersMake, AnswersRequest, AnswersReturn, AnswersShrink, Frees};
+ghost use Rattle.bb_memory_c.specs.Calls.{AnswersFree, AnswersGrow, AnswersMake, AnswersRequest, AnswersReturn, AnswersShrink};
 ghost use Rattle.bb_memory_c.specs.Calls.{TellsFigure, TellsOfHeld, TellsWhether, resize};
 ghost use Rattle.bb_memory_c.specs.OneChunks.{Allocates};
 
@@ -11,7 +11,7 @@ use crate::answer::{Answer, Figure};
 use crate::call::{free, give_back, grow, holds, is_made, keep, request, reserved, shrink, tell};
 use crate::code;
 use crate::handle::OneChunkHandle;
-use crate::kind::{Gives, Holds};
+use crate::kind::{Gives, Keeps};
 use bb_memory::allocator::{AllocationGrowError, AllocationShrinkError};
 use bb_memory::layout::{Chunk, Layout};
 use bb_memory::one_chunk_allocator::{
@@ -47,7 +47,7 @@ pub extern "C" fn bb_one_chunk_make(
 /// C guarantees of the handle what the crate's page says.
 #[unsafe(no_mangle)]
 pub extern "C" fn bb_one_chunk_free(alloc: Global, handle: &mut OneChunkHandle) -> u32
-    ensures { Frees handle.old.value handle.new.value result }
+    ensures { AnswersFree handle.old.value handle.new.value result }
 {
     free(handle, alloc)
 }
@@ -63,7 +63,7 @@ pub extern "C" fn bb_one_chunk_allocate(
     align: usize,
 ) -> Answer
     ensures { AnswersRequest handle.old.value handle.new.value size align result
-        (Allocates) }
+        Allocates }
 {
     request(handle, alloc, size, align)
 }
@@ -207,7 +207,7 @@ impl Gives for OneChunkAllocator {
     }
 }
 
-impl Holds for OneChunkAllocator {
+impl Keeps for OneChunkAllocator {
     ghost holds = { λ one place. one.kept ≡ Some place };
 
     ghost frees = { λ one place after. after ≡ record one { kept = None } };

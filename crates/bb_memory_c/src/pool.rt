@@ -3,8 +3,8 @@ ghost use Rattle.std.specs.Prelude.{◌≡◌};
 ghost use Rattle.bb_memory_base.specs.FirstPlace.{first_place};
 ghost use Rattle.bb_memory_base.specs.PoolObject.{MayGrow, MayShrink};
 ghost use Rattle.bb_memory_base.specs.Region.{region_at};
-ghost use Rattle.bb_memory.specs.Pool.{Frees as FreesBucket, HoldsPlace, MayBeCut, Takes};
-ghost use Rattle.bb_memory_c.specs.Calls.{AnswersGrow, AnswersPoolMake, AnswersRequest, AnswersReturn, AnswersShrink, Frees};
+ghost use Rattle.bb_memory.specs.Pool.{Frees, HoldsPlace, MayBeCut, Takes};
+ghost use Rattle.bb_memory_c.specs.Calls.{AnswersFree, AnswersGrow, AnswersPoolMake, AnswersRequest, AnswersReturn, AnswersShrink};
 ghost use Rattle.bb_memory_c.specs.Calls.{TellsFigure, TellsOfHeld, TellsWhether, resize};
 ghost use Rattle.bb_memory_c.specs.Pools.{MakesPool};
 
@@ -12,7 +12,7 @@ use crate::answer::{Answer, Figure};
 use crate::call::{free, give_back, grow, holds, is_made, keep, request, reserved, shrink, tell};
 use crate::code;
 use crate::handle::PoolHandle;
-use crate::kind::{Gives, Holds};
+use crate::kind::{Gives, Keeps};
 use crate::layout::cut_into;
 use bb_memory::layout::{Chunk, Layout};
 use bb_memory::pool_allocator::{
@@ -55,7 +55,7 @@ pub extern "C" fn bb_pool_make(
 /// C guarantees of the handle what the crate's page says.
 #[unsafe(no_mangle)]
 pub extern "C" fn bb_pool_free(alloc: Global, handle: &mut PoolHandle) -> u32
-    ensures { Frees handle.old.value handle.new.value result }
+    ensures { AnswersFree handle.old.value handle.new.value result }
 {
     free(handle, alloc)
 }
@@ -83,7 +83,7 @@ pub extern "C" fn bb_pool_allocate(
 #[unsafe(no_mangle)]
 pub extern "C" fn bb_pool_deallocate(alloc: Global, handle: &mut PoolHandle, place: usize) -> u32
     ensures { AnswersReturn handle.old.value handle.new.value result
-        (λ pool. HoldsPlace pool.pool place) (λ pool after. FreesBucket pool.pool place after.pool) }
+        (λ pool. HoldsPlace pool.pool place) (λ pool after. Frees pool.pool place after.pool) }
 {
     give_back(handle, alloc, place)
 }
@@ -224,10 +224,10 @@ impl Gives for PoolAllocator<Global> {
     }
 }
 
-impl Holds for PoolAllocator<Global> {
+impl Keeps for PoolAllocator<Global> {
     ghost holds = { λ pool place. HoldsPlace pool.pool place };
 
-    ghost frees = { λ pool place after. FreesBucket pool.pool place after.pool };
+    ghost frees = { λ pool place after. Frees pool.pool place after.pool };
 
     ghost bytes = { λ pool place. pool.pool.geometry.bucket.size };
 

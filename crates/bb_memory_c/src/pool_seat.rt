@@ -5,9 +5,9 @@ ghost use Rattle.std.specs.Arc.{arc_value};
 ghost use Rattle.bb_memory_base.specs.Region.{region_at};
 ghost use Rattle.bb_memory_base.specs.PoolObject.{MayGrow, MayShrink};
 ghost use Rattle.bb_memory.specs.Pool.{MayBeCut};
-ghost use Rattle.bb_memory_c.specs.SharedPools.{Gives as GivesChunk, GivesBack, HoldsAt, HoldsPlace, IsSharedPoolOver};
+ghost use Rattle.bb_memory_c.specs.SharedPools.{GivesChunk, GivesBack, HoldsAt, HoldsPlace, IsSharedPoolOver};
 
-use crate::kind::{Gives, Holds};
+use crate::kind::{Gives, Keeps};
 use bb_memory::allocator::{AllocationGrowError, AllocationShrinkError};
 use bb_memory::layout::{Chunk, Layout};
 use bb_memory::pool_allocator::AllocationError;
@@ -88,7 +88,7 @@ impl Gives for PoolSeat {
     }
 }
 
-impl Holds for PoolSeat {
+impl Keeps for PoolSeat {
     ghost holds = { HoldsPlace };
 
     ghost frees = { GivesBack };

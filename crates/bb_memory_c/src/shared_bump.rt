@@ -2,7 +2,7 @@
 ghost use Rattle.std.specs.Prelude.{◌≡◌, ◌≢◌, ◌+◌, ◌-◌, ◌<◌, ◌↔◌, Err, IfOk, IfErr, OnErr};
 ghost use Rattle.bb_memory_base.specs.Region.{region_at};
 ghost use Rattle.bb_memory.specs.SharedBump.{MayTake, fresh_party};
-ghost use Rattle.bb_memory_c.specs.Calls.{AnswersMake, AnswersRequest, Frees, GivesSeat, TakesSeat, TellsFigure};
+ghost use Rattle.bb_memory_c.specs.Calls.{AnswersFree, AnswersMake, AnswersRequest, GivesSeat, TakesSeat, TellsFigure};
 ghost use Rattle.bb_memory_c.specs.SharedBumpHandles.{IsShareable, MakesSharedBump, SeatsBumpParty, TellsLoad};
 
 use crate::answer::{Answer, Figure};
@@ -75,7 +75,7 @@ pub extern "C" fn bb_shared_bump_make(
 /// C guarantees of the handle what the crate's page says.
 #[unsafe(no_mangle)]
 pub extern "C" fn bb_shared_bump_free(alloc: Global, handle: &mut SharedBumpHandle) -> u32
-    ensures { Frees handle.old.value handle.new.value result }
+    ensures { AnswersFree handle.old.value handle.new.value result }
 {
     free(handle, alloc)
 }
@@ -115,7 +115,7 @@ pub extern "C" fn bb_shared_bump_seat(
 /// C guarantees of the handle what the crate's page says.
 #[unsafe(no_mangle)]
 pub extern "C" fn bb_bump_seat_free(alloc: Global, handle: &mut BumpSeatHandle) -> u32
-    ensures { Frees handle.old.value handle.new.value result }
+    ensures { AnswersFree handle.old.value handle.new.value result }
 {
     free(handle, alloc)
 }
@@ -131,7 +131,7 @@ pub extern "C" fn bb_bump_seat_allocate(
     align: usize,
 ) -> Answer
     ensures { AnswersRequest handle.old.value handle.new.value size align result
-        (MayTake) }
+        MayTake }
 {
     request(handle, alloc, size, align)
 }

@@ -4,10 +4,10 @@ ghost use Rattle.bb_memory_base.specs.FirstPlace.{first_place};
 ghost use Rattle.bb_memory_base.specs.PoolObject.{MayGrow, MayShrink};
 ghost use Rattle.bb_memory_base.specs.Region.{region_at};
 ghost use Rattle.bb_memory.specs.SharedPool.{fresh_party};
-ghost use Rattle.bb_memory_c.specs.Calls.{AnswersGrow, AnswersPoolMake, AnswersRequest, AnswersReturn, AnswersShrink, Frees};
+ghost use Rattle.bb_memory_c.specs.Calls.{AnswersFree, AnswersGrow, AnswersPoolMake, AnswersRequest, AnswersReturn, AnswersShrink};
 ghost use Rattle.bb_memory_c.specs.Calls.{GivesSeat, TakesSeat, TellsFigure, TellsOfHeld, TellsWhether, resize};
 ghost use Rattle.bb_memory_c.specs.Layouts.{MayBeShared};
-ghost use Rattle.bb_memory_c.specs.SharedPools.{Gives, GivesBack, HoldsPlace};
+ghost use Rattle.bb_memory_c.specs.SharedPools.{GivesChunk, GivesBack, HoldsPlace};
 ghost use Rattle.bb_memory_c.specs.SharedPoolHandles.{MakesSharedPool, SeatsPoolParty};
 
 use crate::answer::{Answer, Figure};
@@ -89,7 +89,7 @@ pub extern "C" fn bb_shared_pool_make(
 /// C guarantees of the handle what the crate's page says.
 #[unsafe(no_mangle)]
 pub extern "C" fn bb_shared_pool_free(alloc: Global, handle: &mut SharedPoolHandle) -> u32
-    ensures { Frees handle.old.value handle.new.value result }
+    ensures { AnswersFree handle.old.value handle.new.value result }
 {
     free(handle, alloc)
 }
@@ -129,7 +129,7 @@ pub extern "C" fn bb_shared_pool_seat(
 /// C guarantees of the handle what the crate's page says.
 #[unsafe(no_mangle)]
 pub extern "C" fn bb_pool_seat_free(alloc: Global, handle: &mut PoolSeatHandle) -> u32
-    ensures { Frees handle.old.value handle.new.value result }
+    ensures { AnswersFree handle.old.value handle.new.value result }
 {
     free(handle, alloc)
 }
@@ -145,7 +145,7 @@ pub extern "C" fn bb_pool_seat_allocate(
     align: usize,
 ) -> Answer
     ensures { AnswersRequest handle.old.value handle.new.value size align result
-        (Gives) }
+        GivesChunk }
 {
     request(handle, alloc, size, align)
 }

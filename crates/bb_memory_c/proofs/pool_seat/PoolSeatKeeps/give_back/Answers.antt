@@ -3,7 +3,7 @@ use Rattle.std.specs.Arc.{arc_value}
 use Rattle.bb_memory.specs.SharedPool.{TakenBucket, return_entry, with_entries}
 use Rattle.bb_memory_c.specs.SharedPools.{HoldsAt}
 use Rattle.bb_memory_c.proofs.HeldFlags.{returned-seat}
-use Rattle.bb_memory_c.proofs.pool_seat.PoolSeatHolds.give_back.Goals as goal
+use Rattle.bb_memory_c.proofs.pool_seat.PoolSeatKeeps.give_back.Goals as goal
 
 pub invariant_of-self : goal.invariant_of-self
 invariant_of-self c =
