@@ -89,8 +89,9 @@ fn give<M: Gives>(made: &mut M, layout: Layout) -> Answer
 
 /// What is answered to a request for a chunk of so many bytes at a multiple of `align`.
 fn ask<M: Gives>(made: &mut M, size: usize, align: usize) -> Answer
-    ensures answer { (layout : Asked) → IsOf size align layout → (answer : Result Chunk AllocationError)
-        × (result ≡ answer_of answer) × M.may_give made.old layout answer made.new }
+    ensures answer { (layout : Asked) → IsOf size align layout
+        → (answer : Result Chunk AllocationError) × (result ≡ answer_of answer)
+        × M.may_give made.old layout answer made.new }
     ensures not_a_layout { ¬ IsLayout size align
         → (result ≡ refused not_a_layout) × (made.new ≡ made.old) }
 {

@@ -4,8 +4,8 @@ ghost use Rattle.bb_memory_base.specs.FirstPlace.{first_place};
 ghost use Rattle.bb_memory_base.specs.PoolObject.{MayGrow, MayShrink};
 ghost use Rattle.bb_memory_base.specs.Region.{region_at};
 ghost use Rattle.bb_memory.specs.SharedPool.{fresh_party};
-ghost use Rattle.bb_memory_c.specs.Calls.{AnswersFree, AnswersGrow, AnswersPoolMake, AnswersRequest, AnswersReturn, AnswersShrink};
-ghost use Rattle.bb_memory_c.specs.Calls.{GivesSeat, TakesSeat, TellsFigure, TellsOfHeld, TellsWhether, resize};
+ghost use Rattle.bb_memory_c.specs.Calls.{AnswersFree, AnswersGrow, AnswersPoolMake, AnswersRequest, AnswersReturn};
+ghost use Rattle.bb_memory_c.specs.Calls.{AnswersShrink, GivesSeat, TakesSeat, TellsFigure, TellsOfHeld, TellsWhether, resize};
 ghost use Rattle.bb_memory_c.specs.Layouts.{MayBeShared};
 ghost use Rattle.bb_memory_c.specs.SharedPools.{GivesChunk, GivesBack, HoldsPlace};
 ghost use Rattle.bb_memory_c.specs.SharedPoolHandles.{MakesSharedPool, SeatsPoolParty};
@@ -253,7 +253,8 @@ pub extern "C" fn bb_pool_seat_size(alloc: Global, handle: &mut PoolSeatHandle) 
 #[unsafe(no_mangle)]
 pub extern "C" fn bb_pool_seat_start_address(alloc: Global, handle: &mut PoolSeatHandle) -> Figure
     ensures { TellsFigure handle.old.value handle.new.value result
-        (λ party. first_place party.allocator.scene.geometry.region party.allocator.scene.geometry.bucket) }
+        (λ party. first_place party.allocator.scene.geometry.region
+        party.allocator.scene.geometry.bucket) }
 {
     tell(
         handle,
