@@ -56,6 +56,12 @@ enum {
     BB_NOT_THE_OLD = 13,       // the place isn't a multiple of the old alignment, or more bytes are to be shrunk than reserved
 };
 
+// The version of this library, as text and by its numbers.
+#define BB_VERSION "0.2.0"
+#define BB_VERSION_MAJOR 0
+#define BB_VERSION_MINOR 2
+#define BB_VERSION_PATCH 0
+
 #define BB_EMPTY {0, false}
 
 // Handles, a type for each kind. `at` and `made` are not for the host.
@@ -178,8 +184,8 @@ bb_figure bb_fixed_pool_max_alignment(bb_fixed_pool *);
 bb_figure bb_fixed_pool_size(bb_fixed_pool *);
 
 // A bump that threads share. It is made for some number of parties; `bb_shared_bump_seat` gives the last party without a
-// seat one, behind a handle of its own. Each thread that allocates has a seat, and no call waits for another. It takes nothing
-// back: to begin anew, free all its handles and make another.
+// seat one, behind a handle of its own. Each thread that allocates has a seat, and no call waits for another. What a seat does
+// is named for the seat. It takes nothing back: to begin anew, free all its handles and make another.
 
 // Over the region of `size` bytes at `start`. BB_CANNOT_MAKE where the start is 0, start plus size exceeds SIZE_MAX, or
 // there is no party. No call but the maker and `bb_shared_bump_seat` takes memory.
@@ -190,14 +196,14 @@ uint32_t bb_shared_bump_free(bb_shared_bump *);
 uint32_t bb_shared_bump_seat(bb_shared_bump *, bb_bump_seat *);
 uint32_t bb_bump_seat_free(bb_bump_seat *);
 // A chunk of exactly `size` bytes at the least multiple of `align` behind what is used.
-bb_answer bb_shared_bump_allocate(bb_bump_seat *, size_t size, size_t align);
+bb_answer bb_bump_seat_allocate(bb_bump_seat *, size_t size, size_t align);
 // What one look found; the start is the region's.
-bb_figure bb_shared_bump_used_space(bb_bump_seat *);
-bb_figure bb_shared_bump_free_space(bb_bump_seat *);
-bb_figure bb_shared_bump_total_space(bb_bump_seat *);
-bb_figure bb_shared_bump_start_address(bb_bump_seat *);
+bb_figure bb_bump_seat_used_space(bb_bump_seat *);
+bb_figure bb_bump_seat_free_space(bb_bump_seat *);
+bb_figure bb_bump_seat_total_space(bb_bump_seat *);
+bb_figure bb_bump_seat_start_address(bb_bump_seat *);
 // The party's number, from 0.
-bb_figure bb_shared_bump_party(bb_bump_seat *);
+bb_figure bb_bump_seat_party(bb_bump_seat *);
 
 // A pool that threads share, in the same way. A bucket is given back through the seat that took it. A return comes before the
 // next taking of that bucket (the steps are sequentially consistent), so its bytes need no further lock. ThreadSanitizer can't
@@ -214,25 +220,47 @@ uint32_t bb_shared_pool_seat(bb_shared_pool *, bb_pool_seat *);
 uint32_t bb_pool_seat_free(bb_pool_seat *);
 // A chunk of `size` bytes in a bucket that isn't held, found by one pass over the buckets. BB_OUT_OF_MEMORY where each was
 // held when the pass looked at it; while other threads step, that need not have been at one moment.
-bb_answer bb_shared_pool_allocate(bb_pool_seat *, size_t size, size_t align);
+bb_answer bb_pool_seat_allocate(bb_pool_seat *, size_t size, size_t align);
 // Gives back the bucket at this place; BB_NOT_HELD where it isn't that of a bucket which this seat holds.
-uint32_t bb_shared_pool_deallocate(bb_pool_seat *, size_t place);
+uint32_t bb_pool_seat_deallocate(bb_pool_seat *, size_t place);
 // 1 where this is the place of a bucket which this seat holds, else 0.
-bb_figure bb_shared_pool_holds(bb_pool_seat *, size_t place);
+bb_figure bb_pool_seat_holds(bb_pool_seat *, size_t place);
 // As of a pool with one owner, of a bucket which this seat holds.
-bb_answer bb_shared_pool_grow(bb_pool_seat *, size_t place, size_t old_size, size_t old_align, size_t new_size,
+bb_answer bb_pool_seat_grow(bb_pool_seat *, size_t place, size_t old_size, size_t old_align, size_t new_size,
+                            size_t new_align);
+bb_answer bb_pool_seat_shrink(bb_pool_seat *, size_t place, size_t old_size, size_t old_align, size_t new_size,
                               size_t new_align);
-bb_answer bb_shared_pool_shrink(bb_pool_seat *, size_t place, size_t old_size, size_t old_align, size_t new_size,
-                                size_t new_align);
-bb_figure bb_shared_pool_reserved(bb_pool_seat *, size_t place);
+bb_figure bb_pool_seat_reserved(bb_pool_seat *, size_t place);
 // The figures as of a pool with one owner.
-bb_figure bb_shared_pool_number_of_buckets(bb_pool_seat *);
-bb_figure bb_shared_pool_bucket_size(bb_pool_seat *);
-bb_figure bb_shared_pool_max_alignment(bb_pool_seat *);
-bb_figure bb_shared_pool_size(bb_pool_seat *);
-bb_figure bb_shared_pool_start_address(bb_pool_seat *);
+bb_figure bb_pool_seat_number_of_buckets(bb_pool_seat *);
+bb_figure bb_pool_seat_bucket_size(bb_pool_seat *);
+bb_figure bb_pool_seat_max_alignment(bb_pool_seat *);
+bb_figure bb_pool_seat_size(bb_pool_seat *);
+bb_figure bb_pool_seat_start_address(bb_pool_seat *);
 // The party's number, from 0.
-bb_figure bb_shared_pool_party(bb_pool_seat *);
+bb_figure bb_pool_seat_party(bb_pool_seat *);
+
+// The names that calls of a seat had before 0.2.0. With BB_NO_OLD_NAMES defined above the header they are gone.
+#ifndef BB_NO_OLD_NAMES
+#define bb_shared_bump_allocate bb_bump_seat_allocate
+#define bb_shared_bump_used_space bb_bump_seat_used_space
+#define bb_shared_bump_free_space bb_bump_seat_free_space
+#define bb_shared_bump_total_space bb_bump_seat_total_space
+#define bb_shared_bump_start_address bb_bump_seat_start_address
+#define bb_shared_bump_party bb_bump_seat_party
+#define bb_shared_pool_allocate bb_pool_seat_allocate
+#define bb_shared_pool_deallocate bb_pool_seat_deallocate
+#define bb_shared_pool_holds bb_pool_seat_holds
+#define bb_shared_pool_grow bb_pool_seat_grow
+#define bb_shared_pool_shrink bb_pool_seat_shrink
+#define bb_shared_pool_reserved bb_pool_seat_reserved
+#define bb_shared_pool_number_of_buckets bb_pool_seat_number_of_buckets
+#define bb_shared_pool_bucket_size bb_pool_seat_bucket_size
+#define bb_shared_pool_max_alignment bb_pool_seat_max_alignment
+#define bb_shared_pool_size bb_pool_seat_size
+#define bb_shared_pool_start_address bb_pool_seat_start_address
+#define bb_shared_pool_party bb_pool_seat_party
+#endif
 
 #ifdef __cplusplus
 }

@@ -3,6 +3,7 @@
 #include <stdint.h>
 #include <stdio.h>
 #include <stdlib.h>
+#include <string.h>
 
 #include "bb_memory.h"
 
@@ -34,6 +35,13 @@ static int refused(bb_answer answer, uint32_t code) { return answer.code == code
 static int is(bb_figure figure, size_t number) { return figure.code == BB_DONE && figure.number == number; }
 
 static int has_none(bb_figure figure, uint32_t code) { return figure.code == code && figure.number == 0; }
+
+// The version's text and its numbers are one version.
+static void run_version(void) {
+    char text[sizeof BB_VERSION];
+    EXPECT(snprintf(text, sizeof text, "%d.%d.%d", BB_VERSION_MAJOR, BB_VERSION_MINOR, BB_VERSION_PATCH) == sizeof text - 1);
+    EXPECT(strcmp(text, BB_VERSION) == 0);
+}
 
 static void run_bump(void) {
     bb_bump bump = BB_EMPTY;
@@ -140,7 +148,7 @@ static void run_starts(void) {
     bb_shared_pool shared = BB_EMPTY;
     bb_pool_seat seat = BB_EMPTY;
     EXPECT(bb_shared_pool_make(&shared, 128, 64, 4097, 1024, 1) == BB_DONE && bb_shared_pool_seat(&shared, &seat) == BB_DONE);
-    EXPECT(is(bb_shared_pool_start_address(&seat), 4160) && is(bb_shared_pool_size(&seat), 1024));
+    EXPECT(is(bb_pool_seat_start_address(&seat), 4160) && is(bb_pool_seat_size(&seat), 1024));
     EXPECT(bb_pool_free(&unaligned) == BB_DONE && bb_pool_free(&empty) == BB_DONE);
     EXPECT(bb_shared_pool_free(&shared) == BB_DONE && bb_pool_seat_free(&seat) == BB_DONE);
 }
@@ -151,15 +159,15 @@ static void run_freed_pool_seat(void) {
     bb_pool_seat freed = BB_EMPTY, other = BB_EMPTY;
     EXPECT(bb_shared_pool_make(&pool, 64, 8, 4096, 128, 2) == BB_DONE);
     EXPECT(bb_shared_pool_seat(&pool, &freed) == BB_DONE && bb_shared_pool_seat(&pool, &other) == BB_DONE);
-    bb_answer kept = bb_shared_pool_allocate(&freed, 64, 8);
+    bb_answer kept = bb_pool_seat_allocate(&freed, 64, 8);
     EXPECT(kept.code == BB_DONE && kept.len == 64 && (kept.place == 4096 || kept.place == 4160));
     EXPECT(bb_pool_seat_free(&freed) == BB_DONE && bb_shared_pool_seat(&pool, &freed) == BB_NO_SEAT);
     size_t place = kept.place == 4096 ? 4160 : 4096;
-    EXPECT(given(bb_shared_pool_allocate(&other, 64, 8), place, 64));
-    EXPECT(refused(bb_shared_pool_allocate(&other, 64, 8), BB_OUT_OF_MEMORY));
-    EXPECT(bb_shared_pool_deallocate(&other, kept.place) == BB_NOT_HELD);
-    EXPECT(bb_shared_pool_free(&pool) == BB_DONE && bb_shared_pool_deallocate(&other, place) == BB_DONE);
-    EXPECT(given(bb_shared_pool_allocate(&other, 48, 8), place, 48));
+    EXPECT(given(bb_pool_seat_allocate(&other, 64, 8), place, 64));
+    EXPECT(refused(bb_pool_seat_allocate(&other, 64, 8), BB_OUT_OF_MEMORY));
+    EXPECT(bb_pool_seat_deallocate(&other, kept.place) == BB_NOT_HELD);
+    EXPECT(bb_shared_pool_free(&pool) == BB_DONE && bb_pool_seat_deallocate(&other, place) == BB_DONE);
+    EXPECT(given(bb_pool_seat_allocate(&other, 48, 8), place, 48));
     EXPECT(bb_pool_seat_free(&other) == BB_DONE && bb_pool_seat_free(&freed) == BB_NOT_MADE);
 }
 
@@ -169,11 +177,11 @@ static void run_freed_bump_seat(void) {
     bb_bump_seat freed = BB_EMPTY, other = BB_EMPTY;
     EXPECT(bb_shared_bump_make(&bump, 4096, 64, 2) == BB_DONE);
     EXPECT(bb_shared_bump_seat(&bump, &freed) == BB_DONE && bb_shared_bump_seat(&bump, &other) == BB_DONE);
-    EXPECT(given(bb_shared_bump_allocate(&freed, 40, 8), 4096, 40));
+    EXPECT(given(bb_bump_seat_allocate(&freed, 40, 8), 4096, 40));
     EXPECT(bb_bump_seat_free(&freed) == BB_DONE && bb_shared_bump_seat(&bump, &freed) == BB_NO_SEAT);
-    EXPECT(bb_shared_bump_free(&bump) == BB_DONE && is(bb_shared_bump_used_space(&other), 40));
-    EXPECT(given(bb_shared_bump_allocate(&other, 24, 8), 4136, 24));
-    EXPECT(refused(bb_shared_bump_allocate(&other, 1, 1), BB_OUT_OF_MEMORY));
+    EXPECT(bb_shared_bump_free(&bump) == BB_DONE && is(bb_bump_seat_used_space(&other), 40));
+    EXPECT(given(bb_bump_seat_allocate(&other, 24, 8), 4136, 24));
+    EXPECT(refused(bb_bump_seat_allocate(&other, 1, 1), BB_OUT_OF_MEMORY));
     EXPECT(bb_bump_seat_free(&other) == BB_DONE && bb_bump_seat_free(&freed) == BB_NOT_MADE);
 }
 
@@ -198,9 +206,9 @@ static void run_many_seats(void) {
     bb_pool_seat none = BB_EMPTY;
     EXPECT(bb_shared_pool_make(&pool, 64, 8, 4096, 4096 * 64, 100) == BB_DONE);
     for (size_t at = 0; at < 100; at++) {
-        EXPECT(bb_shared_pool_seat(&pool, &seats[at]) == BB_DONE && is(bb_shared_pool_party(&seats[at]), 99 - at));
-        EXPECT(is(bb_shared_pool_number_of_buckets(&seats[at]), 4096));
-        EXPECT(bb_shared_pool_allocate(&seats[at], 64, 8).code == BB_DONE);
+        EXPECT(bb_shared_pool_seat(&pool, &seats[at]) == BB_DONE && is(bb_pool_seat_party(&seats[at]), 99 - at));
+        EXPECT(is(bb_pool_seat_number_of_buckets(&seats[at]), 4096));
+        EXPECT(bb_pool_seat_allocate(&seats[at], 64, 8).code == BB_DONE);
     }
     EXPECT(bb_shared_pool_seat(&pool, &none) == BB_NO_SEAT && bb_shared_pool_free(&pool) == BB_DONE);
     for (size_t at = 0; at < 100; at++)
@@ -243,26 +251,26 @@ static void run_makers(void) {
         WITH_EACH_REFUSED(bb_bump_seat_free(&bump_seats[at]), bb_shared_bump_seat(&shared_bump, &bump_seats[at]));
         WITH_EACH_REFUSED(bb_pool_seat_free(&pool_seats[at]), bb_shared_pool_seat(&shared_pool, &pool_seats[at]));
         // A refused seat loses no party.
-        EXPECT(is(bb_shared_bump_party(&bump_seats[at]), 1 - at) && is(bb_shared_pool_party(&pool_seats[at]), 1 - at));
+        EXPECT(is(bb_bump_seat_party(&bump_seats[at]), 1 - at) && is(bb_pool_seat_party(&pool_seats[at]), 1 - at));
     }
     bb_bump_seat no_bump_seat = BB_EMPTY;
     EXPECT(bb_shared_bump_seat(&shared_bump, &no_bump_seat) == BB_NO_SEAT);
     // No other call takes memory.
     requests = 0;
-    EXPECT(given(bb_shared_bump_allocate(&bump_seats[0], 40, 1), 4096, 40));
-    EXPECT(is(bb_shared_bump_used_space(&bump_seats[1]), 40) && is(bb_shared_bump_free_space(&bump_seats[1]), 984));
-    EXPECT(given(bb_shared_pool_allocate(&pool_seats[0], 48, 4), 4096, 48));
-    EXPECT(given(bb_shared_pool_grow(&pool_seats[0], 4096, 48, 4, 64, 4), 4096, 64));
-    EXPECT(refused(bb_shared_pool_grow(&pool_seats[0], 4096, 64, 4, 129, 8), BB_OUT_OF_MEMORY));
-    EXPECT(refused(bb_shared_pool_grow(&pool_seats[0], 4096, 48, 8192, 64, 4), BB_NOT_THE_OLD));
-    EXPECT(refused(bb_shared_pool_grow(&pool_seats[1], 4096, 48, 4, 64, 4), BB_NOT_HELD));
-    EXPECT(given(bb_shared_pool_shrink(&pool_seats[0], 4096, 64, 4, 32, 4), 4096, 32));
-    EXPECT(refused(bb_shared_pool_shrink(&pool_seats[0], 4096, 129, 4, 32, 4), BB_NOT_THE_OLD));
-    EXPECT(refused(bb_shared_pool_shrink(&pool_seats[0], 4096, 32, 4, 16, 3), BB_NOT_A_LAYOUT));
-    EXPECT(is(bb_shared_pool_reserved(&pool_seats[0], 4096), 128));
-    EXPECT(has_none(bb_shared_pool_reserved(&pool_seats[1], 4096), BB_NOT_HELD));
-    EXPECT(bb_shared_pool_deallocate(&pool_seats[1], 4096) == BB_NOT_HELD);
-    EXPECT(bb_shared_pool_deallocate(&pool_seats[0], 4096) == BB_DONE);
+    EXPECT(given(bb_bump_seat_allocate(&bump_seats[0], 40, 1), 4096, 40));
+    EXPECT(is(bb_bump_seat_used_space(&bump_seats[1]), 40) && is(bb_bump_seat_free_space(&bump_seats[1]), 984));
+    EXPECT(given(bb_pool_seat_allocate(&pool_seats[0], 48, 4), 4096, 48));
+    EXPECT(given(bb_pool_seat_grow(&pool_seats[0], 4096, 48, 4, 64, 4), 4096, 64));
+    EXPECT(refused(bb_pool_seat_grow(&pool_seats[0], 4096, 64, 4, 129, 8), BB_OUT_OF_MEMORY));
+    EXPECT(refused(bb_pool_seat_grow(&pool_seats[0], 4096, 48, 8192, 64, 4), BB_NOT_THE_OLD));
+    EXPECT(refused(bb_pool_seat_grow(&pool_seats[1], 4096, 48, 4, 64, 4), BB_NOT_HELD));
+    EXPECT(given(bb_pool_seat_shrink(&pool_seats[0], 4096, 64, 4, 32, 4), 4096, 32));
+    EXPECT(refused(bb_pool_seat_shrink(&pool_seats[0], 4096, 129, 4, 32, 4), BB_NOT_THE_OLD));
+    EXPECT(refused(bb_pool_seat_shrink(&pool_seats[0], 4096, 32, 4, 16, 3), BB_NOT_A_LAYOUT));
+    EXPECT(is(bb_pool_seat_reserved(&pool_seats[0], 4096), 128));
+    EXPECT(has_none(bb_pool_seat_reserved(&pool_seats[1], 4096), BB_NOT_HELD));
+    EXPECT(bb_pool_seat_deallocate(&pool_seats[1], 4096) == BB_NOT_HELD);
+    EXPECT(bb_pool_seat_deallocate(&pool_seats[0], 4096) == BB_DONE);
     EXPECT(bb_pool_allocate(&pool, 48, 4).code == BB_DONE && bb_bump_allocate(&bump, 48, 4).code == BB_DONE);
     EXPECT(requests == 0);
     EXPECT(bb_bump_free(&bump) == BB_DONE && bb_one_chunk_free(&one) == BB_DONE);
@@ -273,6 +281,7 @@ static void run_makers(void) {
 }
 
 int main(void) {
+    run_version();
     run_bump();
     run_one_chunk();
     run_bb_pool();

@@ -76,11 +76,11 @@ static void use_pool(worker *self) {
     size_t places[HELD], held = 0;
     uint64_t patterns[HELD];
     while (self->taken < ROUNDS) {
-        bb_answer given = bb_shared_pool_allocate(&self->pool, SHARE, 8);
+        bb_answer given = bb_pool_seat_allocate(&self->pool, SHARE, 8);
         expect(given.code == BB_DONE || given.code == BB_OUT_OF_MEMORY, "a bucket is given, or none is free");
         if (given.code == BB_DONE) {
             expect(given.len == SHARE && given.place % 8 == 0, "a chunk is as it was asked for");
-            expect(bb_shared_pool_holds(&self->pool, given.place).number == 1, "a seat holds what it took");
+            expect(bb_pool_seat_holds(&self->pool, given.place).number == 1, "a seat holds what it took");
             tell_taking(given.place);
             places[held] = given.place;
             patterns[held] = pattern_of(self, self->taken);
@@ -93,28 +93,28 @@ static void use_pool(worker *self) {
         if (held == HELD || (given.code == BB_OUT_OF_MEMORY && held > 0)) {
             held--;
             expect_filled(places[held], SHARE, patterns[held]);
-            expect(bb_shared_pool_deallocate(&self->pool, places[held] + 1) == BB_NOT_HELD, "a wild return is refused");
+            expect(bb_pool_seat_deallocate(&self->pool, places[held] + 1) == BB_NOT_HELD, "a wild return is refused");
             tell_return(places[held]);
-            expect(bb_shared_pool_deallocate(&self->pool, places[held]) == BB_DONE, "a bucket is given back");
-            expect(bb_shared_pool_deallocate(&self->pool, places[held]) == BB_NOT_HELD, "a second return is refused");
+            expect(bb_pool_seat_deallocate(&self->pool, places[held]) == BB_DONE, "a bucket is given back");
+            expect(bb_pool_seat_deallocate(&self->pool, places[held]) == BB_NOT_HELD, "a second return is refused");
         }
     }
     while (held > 0) {
         held--;
         expect_filled(places[held], SHARE, patterns[held]);
         tell_return(places[held]);
-        expect(bb_shared_pool_deallocate(&self->pool, places[held]) == BB_DONE, "a bucket is given back");
+        expect(bb_pool_seat_deallocate(&self->pool, places[held]) == BB_DONE, "a bucket is given back");
     }
 }
 
 static void use_bump(worker *self) {
     size_t seen = 0;
     for (size_t chunk = 0; chunk < CHUNKS; chunk++) {
-        bb_answer given = bb_shared_bump_allocate(&self->bump, CHUNK, 8);
+        bb_answer given = bb_bump_seat_allocate(&self->bump, CHUNK, 8);
         expect(given.code == BB_DONE && given.len == CHUNK && given.place % 8 == 0, "the bump has room for all");
         self->places[chunk] = given.place;
         fill(given.place, CHUNK, pattern_of(self, chunk));
-        bb_figure used = bb_shared_bump_used_space(&self->bump);
+        bb_figure used = bb_bump_seat_used_space(&self->bump);
         expect(used.code == BB_DONE && used.number >= seen + CHUNK && used.number <= sizeof bump_words, "what is used grows");
         seen = used.number;
     }
@@ -155,50 +155,50 @@ static void make(bb_shared_pool *pool, bb_shared_bump *bump) {
         expect(bb_shared_pool_seat(pool, &workers[number].pool) == BB_DONE, "a party has a seat");
         expect(bb_shared_pool_seat(pool, &workers[number].pool) == BB_ALREADY_MADE, "a handle holds one seat");
         expect(bb_shared_bump_seat(bump, &workers[number].bump) == BB_DONE, "a party has a seat");
-        seats |= 1u << bb_shared_pool_party(&workers[number].pool).number;
+        seats |= 1u << bb_pool_seat_party(&workers[number].pool).number;
     }
     expect(seats == 15, "each party has one seat");
     bb_pool_seat none = BB_EMPTY;
     expect(bb_shared_pool_seat(pool, &none) == BB_NO_SEAT, "no party is left");
     bb_shared_pool no_pool = BB_EMPTY;
     expect(bb_shared_pool_seat(&no_pool, &none) == BB_NOT_MADE, "an empty handle has no seats");
-    expect(bb_shared_pool_allocate(&none, 8, 8).code == BB_NOT_MADE, "an empty handle has no seat");
+    expect(bb_pool_seat_allocate(&none, 8, 8).code == BB_NOT_MADE, "an empty handle has no seat");
     bb_bump_seat no_seat = BB_EMPTY;
-    expect(bb_shared_bump_allocate(&no_seat, 8, 8).code == BB_NOT_MADE, "an empty handle has no seat");
+    expect(bb_bump_seat_allocate(&no_seat, 8, 8).code == BB_NOT_MADE, "an empty handle has no seat");
 }
 
 // What one seat holds is not another's.
 static void one_by_one(void) {
     bb_pool_seat *mine = &workers[0].pool, *other = &workers[1].pool;
-    expect(bb_shared_pool_number_of_buckets(mine).number == BUCKETS, "eight buckets");
-    expect(bb_shared_pool_bucket_size(mine).number == BUCKET_SIZE, "of 64 bytes");
-    expect(bb_shared_pool_max_alignment(mine).number == 8, "at multiples of 8");
-    expect(bb_shared_pool_size(mine).number == sizeof pool_words, "over the region");
-    expect(bb_shared_pool_start_address(mine).number == (size_t)(uintptr_t)pool_words, "from its start");
-    expect(bb_shared_pool_allocate(mine, BUCKET_SIZE + 1, 16).code == BB_SIZE_TOO_LARGE, "65 bytes are too many");
-    expect(bb_shared_pool_allocate(mine, 1, 16).code == BB_ALIGNMENT_FAILURE, "16 is too wide");
-    expect(bb_shared_pool_allocate(mine, 1, 3).code == BB_NOT_A_LAYOUT, "3 is no power of two");
+    expect(bb_pool_seat_number_of_buckets(mine).number == BUCKETS, "eight buckets");
+    expect(bb_pool_seat_bucket_size(mine).number == BUCKET_SIZE, "of 64 bytes");
+    expect(bb_pool_seat_max_alignment(mine).number == 8, "at multiples of 8");
+    expect(bb_pool_seat_size(mine).number == sizeof pool_words, "over the region");
+    expect(bb_pool_seat_start_address(mine).number == (size_t)(uintptr_t)pool_words, "from its start");
+    expect(bb_pool_seat_allocate(mine, BUCKET_SIZE + 1, 16).code == BB_SIZE_TOO_LARGE, "65 bytes are too many");
+    expect(bb_pool_seat_allocate(mine, 1, 16).code == BB_ALIGNMENT_FAILURE, "16 is too wide");
+    expect(bb_pool_seat_allocate(mine, 1, 3).code == BB_NOT_A_LAYOUT, "3 is no power of two");
     size_t places[BUCKETS];
     for (size_t bucket = 0; bucket < BUCKETS; bucket++) {
-        bb_answer given = bb_shared_pool_allocate(mine, SHARE, 8);
+        bb_answer given = bb_pool_seat_allocate(mine, SHARE, 8);
         expect(given.code == BB_DONE && given.len == SHARE, "a bucket is given");
         places[bucket] = given.place;
         for (size_t before = 0; before < bucket; before++)
             expect(places[before] != given.place, "each bucket is given once");
     }
-    expect(bb_shared_pool_allocate(other, 1, 1).code == BB_OUT_OF_MEMORY, "no bucket is free");
-    expect(bb_shared_pool_deallocate(other, places[0]) == BB_NOT_HELD, "another seat's bucket isn't given back");
-    expect(bb_shared_pool_holds(other, places[0]).number == 0, "another seat's bucket isn't held");
+    expect(bb_pool_seat_allocate(other, 1, 1).code == BB_OUT_OF_MEMORY, "no bucket is free");
+    expect(bb_pool_seat_deallocate(other, places[0]) == BB_NOT_HELD, "another seat's bucket isn't given back");
+    expect(bb_pool_seat_holds(other, places[0]).number == 0, "another seat's bucket isn't held");
     for (size_t bucket = 0; bucket < BUCKETS; bucket++)
-        expect(bb_shared_pool_deallocate(mine, places[bucket]) == BB_DONE, "a bucket is given back");
+        expect(bb_pool_seat_deallocate(mine, places[bucket]) == BB_DONE, "a bucket is given back");
     bb_bump_seat *bump = &workers[0].bump;
-    expect(bb_shared_bump_allocate(bump, 0, 1).code == BB_SIZE_IS_ZERO, "no chunk has no byte");
-    expect(bb_shared_bump_used_space(bump).number == 0, "nothing is used");
-    expect(bb_shared_bump_free_space(bump).number == sizeof bump_words, "all is free");
-    expect(bb_shared_bump_total_space(bump).number == sizeof bump_words, "all of the region");
-    expect(bb_shared_bump_start_address(bump).number == (size_t)(uintptr_t)bump_words, "from its start");
-    expect(bb_shared_bump_party(bump).number < THREADS, "a party has a number");
-    expect(bb_shared_bump_allocate(bump, sizeof bump_words + 1, 1).code == BB_OUT_OF_MEMORY, "it has no room for more");
+    expect(bb_bump_seat_allocate(bump, 0, 1).code == BB_SIZE_IS_ZERO, "no chunk has no byte");
+    expect(bb_bump_seat_used_space(bump).number == 0, "nothing is used");
+    expect(bb_bump_seat_free_space(bump).number == sizeof bump_words, "all is free");
+    expect(bb_bump_seat_total_space(bump).number == sizeof bump_words, "all of the region");
+    expect(bb_bump_seat_start_address(bump).number == (size_t)(uintptr_t)bump_words, "from its start");
+    expect(bb_bump_seat_party(bump).number < THREADS, "a party has a number");
+    expect(bb_bump_seat_allocate(bump, sizeof bump_words + 1, 1).code == BB_OUT_OF_MEMORY, "it has no room for more");
 }
 
 int main(void) {
@@ -220,8 +220,8 @@ int main(void) {
         for (size_t chunk = 0; chunk < CHUNKS; chunk++)
             expect_filled(workers[number].places[chunk], CHUNK, pattern_of(&workers[number], chunk));
     }
-    expect(bb_shared_bump_free_space(&workers[0].bump).number == 0, "all of the bump is used");
-    expect(bb_shared_bump_allocate(&workers[0].bump, 1, 1).code == BB_OUT_OF_MEMORY, "the bump is full");
+    expect(bb_bump_seat_free_space(&workers[0].bump).number == 0, "all of the bump is used");
+    expect(bb_bump_seat_allocate(&workers[0].bump, 1, 1).code == BB_OUT_OF_MEMORY, "the bump is full");
     for (size_t number = 0; number < THREADS; number++) {
         expect(bb_pool_seat_free(&workers[number].pool) == BB_DONE, "a seat is freed");
         expect(bb_bump_seat_free(&workers[number].bump) == BB_DONE, "a seat is freed");

@@ -1,21 +1,22 @@
 -- Handles go to other threads: what they own may.
+use mathlib.Core.List.{[], ◌∷◌}
 use mathlib.Core.Bool.{Bool, true, false}
 use mir.Raw.{raw}
 use base.Fraction.{full_share}
 use base.Shift.{Keyless}
-use denote.Exit.{Exit, unchanged, leaves, hidden, under}
 use denote.Memory.{lone}
 use denote.RattleType.{RattleType}
 use denote.RawPtr.{Ptr, block_ptr, null_ptr, lies_at}
-use denote.Param.Send.{IsSend, Quiet, part_keyless}
+use denote.Builtin.{RawPtr, bool}
+use denote.Param.Send.{AllSend, IsSend, part_keyless, sendable}
 use Rattle.std.specs.Prelude.{Option, Some, None}
 use Rattle.std.specs.declared.alloc.Global.{Global}
 use Rattle.std.proofs.Crossing.{frees}
 use Rattle.bb_memory_c.specs.Handles.{owns_if}
 
-pub quiet : {D X : Type 0} (to : D → X) (e : Exit X) → Quiet e → Quiet (hidden (under to e))
-quiet to unchanged q = λ x w. tt
-quiet to (leaves L l S s r₀) q = λ d. q (to d)
+-- the two fields of a handle may
+pub two_send : AllSend (RawPtr ∷ bool ∷ [])
+two_send = let at : IsSend RawPtr = search sendable in let made : IsSend bool = search sendable in (at, (made, tt))
 
 lies : (R : RattleType) → IsSend R → (p : Ptr) (x : R.Denot) → Keyless (lies_at R full_share p x)
 lies R s (block_ptr b o) x = part_keyless R s full_share x b o

@@ -9,7 +9,7 @@ use mathlib.Core.HLevel.{is_prop→PathP}
 use Rattle.bb_memory_base.specs.declared.layout.Layout.{Layout}
 use Rattle.bb_memory_base.specs.Region.{Region}
 use Rattle.bb_memory.specs.Pool.{MayBeCut}
-use Rattle.bb_memory_c.specs.Layouts.{CannotCut, CannotShare, IsCuttable, IsOf}
+use Rattle.bb_memory_c.specs.Layouts.{CannotCut, FailsOf, IsCuttable, IsOf, MayBeShared}
 
 -- layouts of the same numbers are the same
 pub same_layout : (a b : Layout) → a.size ≡ b.size → a.align ≡ b.align → a ≡ b
@@ -52,23 +52,23 @@ is_layout size align layout of = rw (sym of.0, sym of.1) layout.valid
 pub cut-or-not : {X : Type 0} (size align : ℕ) (region : Region) (bucket : Layout) → IsCuttable size align region bucket →
     CannotCut size align region → X
 cut-or-not size align region bucket is not =
-    let same = same_layout bucket not.0 (is.layout.0 ∙ sym not.1.layout.0) (is.layout.1 ∙ sym not.1.layout.1) in
-    absurd (not.1.not (subst (λ (b : Layout). MayBeCut region b) same is.may))
+    let same = same_layout bucket not.0 (is.layout.0 ∙ sym not.1.0) (is.layout.1 ∙ sym not.1.1) in
+    absurd (not.2 (subst (λ (b : Layout). MayBeCut region b) same is.may))
 
 -- what can't be cut can't be shared
 pub cut-share : (size align : ℕ) (region : Region) (parties : ℕ) → CannotCut size align region →
-    CannotShare size align region parties
-cut-share size align region parties not = (not.0, not.1.layout, λ _. not.1.not)
+    FailsOf size align (MayBeShared region parties)
+cut-share size align region parties not = (not.0, not.1, λ both. not.2 both.1)
 
 -- what can be cut can be shared by a party
 pub share-or-not : {X : Type 0} (size align : ℕ) (region : Region) (parties : ℕ) (bucket : Layout) →
-    IsCuttable size align region bucket → 1 ≤ parties → CannotShare size align region parties → X
+    IsCuttable size align region bucket → 1 ≤ parties → FailsOf size align (MayBeShared region parties) → X
 share-or-not size align region parties bucket is one not =
     let same = same_layout bucket not.0 (is.layout.0 ∙ sym not.1.0) (is.layout.1 ∙ sym not.1.1) in
-    absurd (not.2 one (subst (λ (b : Layout). MayBeCut region b) same is.may))
+    absurd (not.2 (one, subst (λ (b : Layout). MayBeCut region b) same is.may))
 
 -- what can't be shared has a layout
-pub share-layout : (size align : ℕ) (region : Region) (parties : ℕ) → CannotShare size align region parties →
+pub share-layout : (size align : ℕ) (region : Region) (parties : ℕ) → FailsOf size align (MayBeShared region parties) →
     IsLayout size align
 share-layout size align region parties not = is_layout size align not.0 not.1
 

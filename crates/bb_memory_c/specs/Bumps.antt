@@ -1,5 +1,5 @@
 -- A bump behind a handle, and what its requests are answered.
-use Rattle.std.specs.Prelude.{◌≡◌, ◌+◌, ◌<◌, ◌≤◌, ◌↔◌, ◌++◌, ◌∷◌, [], List, Option, Some, Result, Err, IsOk, IfOk, OnErr}
+use Rattle.std.specs.Prelude.{◌≡◌, ◌+◌, ◌<◌, ◌≤◌, ◌↔◌, ◌++◌, ◌∷◌, [], List, Result, Err, IsOk, IfOk, OnErr}
 use Rattle.bb_memory_base.specs.Region.{region_end}
 use Rattle.bb_memory_base.specs.Chunk.{Chunk, chunk_end}
 use Rattle.bb_memory_base.specs.BumpObject.{MayAllocate, StandsFor, chunk_at_or_after}
@@ -7,8 +7,6 @@ use Rattle.bb_memory_base.specs.declared.layout.Layout.{Layout}
 use Rattle.bb_memory_base.specs.declared.allocator.AllocationError.{AllocationError}
 use Rattle.bb_memory_base.specs.declared.allocator.AllocationError.TheVariants.{SizeIsZero}
 use Rattle.bb_memory.specs.Bump.{Bump}
-use Rattle.bb_memory_c.specs.declared.answer.Answer.{Answer}
-use Rattle.bb_memory_c.specs.Answers.{answer_of}
 
 -- What the bump answers to a request, and what it is then.
 pub record Allocates (bump : Bump) (layout : Layout)
@@ -29,12 +27,3 @@ pub record Allocates (bump : Bump) (layout : Layout)
       → MayAllocate bump.region live layout answer
   pub appended : IfOk answer (λ chunk. (live : List Chunk) → StandsFor bump.region bump.used live
       → StandsFor after.region after.used (live ++ chunk ∷ []))
-
--- C is told what the bump answers
-abbrev pub Tells : Bump → Layout → Answer → Bump → Type 0
-Tells bump layout told after = (answer : Result Chunk AllocationError)
-    × (told ≡ answer_of answer) × Allocates bump layout answer after
-
--- C is told what the bump answers, and the handle stands for what the bump is then
-abbrev pub Gives : Bump → Layout → Answer → Option Bump → Type 0
-Gives bump layout told new = (after : Bump) × (new ≡ Some after) × Tells bump layout told after

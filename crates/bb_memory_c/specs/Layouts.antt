@@ -13,16 +13,14 @@ pub record IsCuttable (size align : ℕ) (region : Region) (bucket : Layout) : T
   pub layout : IsOf size align bucket
   pub may : MayBeCut region bucket
 
--- the layout of these numbers, into buckets of which the region may not be cut
-pub record IsUncuttable (size align : ℕ) (region : Region) (bucket : Layout) : Type 0 where
-  pub layout : IsOf size align bucket
-  pub not : ¬ MayBeCut region bucket
+-- there is a layout of these numbers, of which this isn't so
+abbrev pub FailsOf : ℕ → ℕ → (Layout → Type 0) → Type 0
+FailsOf size align may = (bucket : Layout) × IsOf size align bucket × (¬ may bucket)
 
--- there is such a layout, and the region may not be cut so
+-- there is one by which the region may not be cut
 abbrev pub CannotCut : ℕ → ℕ → Region → Type 0
-CannotCut size align region = (bucket : Layout) × IsUncuttable size align region bucket
+CannotCut size align region = FailsOf size align (MayBeCut region)
 
--- there is such a layout, and the region may not be cut so, or there is no party
-abbrev pub CannotShare : ℕ → ℕ → Region → ℕ → Type 0
-CannotShare size align region parties =
-    (bucket : Layout) × IsOf size align bucket × ((1 ≤ parties) → ¬ MayBeCut region bucket)
+-- there is at least one party, and the region may be cut so
+abbrev pub MayBeShared : Region → ℕ → Layout → Type 0
+MayBeShared region parties bucket = (1 ≤ parties) × MayBeCut region bucket

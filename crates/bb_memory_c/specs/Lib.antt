@@ -1,5 +1,6 @@
 pub mod Answers
 pub mod Bumps
+pub mod Calls
 pub mod Codes
 pub mod Handles
 pub mod Layouts

@@ -1,5 +1,5 @@
 -- A one-chunk allocator behind a handle, and what its requests are answered.
-use Rattle.std.specs.Prelude.{◌≡◌, ◌⊎◌, ◌↔◌, Option, Some, None, Result, Err, IsOk, IsSome, IfOk, OnErr}
+use Rattle.std.specs.Prelude.{◌≡◌, ◌⊎◌, ◌↔◌, Some, None, Result, Err, IsOk, IsSome, IfOk, OnErr}
 use Rattle.bb_memory_base.specs.Region.{region_end}
 use Rattle.bb_memory_base.specs.Chunk.{Chunk, chunk_end}
 use Rattle.bb_memory_base.specs.FirstPlace.{first_place}
@@ -8,8 +8,6 @@ use Rattle.bb_memory_base.specs.declared.allocator.AllocationError.{AllocationEr
 use Rattle.bb_memory_base.specs.declared.allocator.AllocationError.TheVariants.{OutOfMemory}
 use Rattle.bb_memory.specs.OneChunk.{OneChunk}
 use Rattle.bb_memory_base.specs.OneChunkObject.{HasRoom, LacksRoom}
-use Rattle.bb_memory_c.specs.declared.answer.Answer.{Answer}
-use Rattle.bb_memory_c.specs.Answers.{answer_of}
 
 -- What the allocator answers to a request, and what it is then.
 pub record Allocates (one : OneChunk) (layout : Layout)
@@ -23,12 +21,3 @@ pub record Allocates (one : OneChunk) (layout : Layout)
   pub keeps : IfOk answer (λ chunk. after.kept ≡ Some chunk.place)
   pub region : after.region ≡ one.region
   pub still : OnErr answer (after ≡ one)
-
--- C is told what the allocator answers
-abbrev pub Tells : OneChunk → Layout → Answer → OneChunk → Type 0
-Tells one layout told after = (answer : Result Chunk AllocationError)
-    × (told ≡ answer_of answer) × Allocates one layout answer after
-
--- C is told what the allocator answers, and the handle stands for what it is then
-abbrev pub Gives : OneChunk → Layout → Answer → Option OneChunk → Type 0
-Gives one layout told new = (after : OneChunk) × (new ≡ Some after) × Tells one layout told after

@@ -1,13 +1,9 @@
 -- A pool behind a handle, and what its requests are answered.
-use Rattle.std.specs.Prelude.{◌≡◌, ℕ, Option, Some, Result}
+use Rattle.std.specs.Prelude.{◌≡◌, Option, Some}
 use Rattle.bb_memory_base.specs.Region.{Region}
-use Rattle.bb_memory_base.specs.Chunk.{Chunk}
 use Rattle.bb_memory_base.specs.PoolGeometry.{PoolGeometry, IsCut, at_most}
 use Rattle.bb_memory_base.specs.declared.layout.Layout.{Layout}
-use Rattle.bb_memory_base.specs.declared.allocator.AllocationError.{AllocationError}
-use Rattle.bb_memory.specs.Pool.{CountedPool, Pool, Frees, Takes, counted, fresh_pool}
-use Rattle.bb_memory_c.specs.declared.answer.Answer.{Answer}
-use Rattle.bb_memory_c.specs.Answers.{answer_of}
+use Rattle.bb_memory.specs.Pool.{CountedPool, Pool, counted, fresh_pool}
 
 -- a fresh pool over the region, cut into buckets of the layout
 abbrev pub MakesPool : Region → Layout → Option CountedPool → Type 0
@@ -18,27 +14,3 @@ MakesPool region bucket new = (geometry : PoolGeometry)
 abbrev pub MakesFixedPool : Region → Layout → Option Pool → Type 0
 MakesFixedPool region bucket new = (whole : PoolGeometry)
     × IsCut region bucket whole × (new ≡ Some (fresh_pool (at_most 512 whole)))
-
--- C is told what a pool answers to a request, by which it becomes another
-pub record Tells (pool : Pool) (layout : Layout) (told : Answer) (after : Pool) : Type 0 where
-  pub answer : Result Chunk AllocationError
-  pub says : told ≡ answer_of answer
-  pub taken : Takes pool layout answer after
-
--- the same, and the handle stands for what the pool is then
-abbrev pub Gives : CountedPool → Layout → Answer → Option CountedPool → Type 0
-Gives pool layout told new =
-    (after : CountedPool) × (new ≡ Some after) × Tells pool.pool layout told after.pool
-
-abbrev pub GivesFixed : Pool → Layout → Answer → Option Pool → Type 0
-GivesFixed pool layout told new =
-    (after : Pool) × (new ≡ Some after) × Tells pool layout told after
-
--- the held bucket at the place is freed, and no other
-abbrev pub GivesBack : CountedPool → ℕ → Option CountedPool → Type 0
-GivesBack pool place new =
-    (after : CountedPool) × (new ≡ Some after) × Frees pool.pool place after.pool
-
-abbrev pub GivesBackFixed : Pool → ℕ → Option Pool → Type 0
-GivesBackFixed pool place new =
-    (after : Pool) × (new ≡ Some after) × Frees pool place after

@@ -1,13 +1,10 @@
 -- A shared bump and its seats behind handles, and what C is told.
-use Rattle.std.specs.Prelude.{◌≡◌, ◌+◌, ◌-◌, ◌≤◌, ℕ, Option, Some, Result}
+use Rattle.std.specs.Prelude.{◌≡◌, ◌+◌, ◌≤◌, ℕ, Option, Some, None, IfSome}
 use Rattle.bb_memory_base.specs.Region.{Region, IsRegion}
-use Rattle.bb_memory_base.specs.Chunk.{Chunk}
-use Rattle.bb_memory_base.specs.declared.layout.Layout.{Layout}
-use Rattle.bb_memory_base.specs.declared.allocator.AllocationError.{AllocationError}
-use Rattle.bb_memory.specs.SharedBump.{BumpParty, MayTake, SharedBump, fresh_party, load_entry, seen_by, with_entries}
-use Rattle.bb_memory_c.specs.declared.answer.Answer.{Answer}
+use Rattle.bb_memory.specs.SharedBump.{BumpParty, SharedBump, fresh_party, load_entry, seen_by, with_entries}
 use Rattle.bb_memory_c.specs.declared.answer.Figure.{Figure}
-use Rattle.bb_memory_c.specs.Answers.{answer_of, figure_of}
+use Rattle.bb_memory_c.specs.Answers.{figure_of, no_figure}
+use Rattle.bb_memory_c.specs.Codes.{not_made}
 use Rattle.bb_memory_c.specs.SharedBumps.{BumpSeats, IsSharedBumpOver, bump_seats}
 
 -- a region, and at least one party
@@ -21,38 +18,20 @@ MakesSharedBump region parties new =
     (bump : SharedBump) × IsSharedBumpOver region parties bump
     × (new ≡ Some (bump_seats bump parties))
 
--- C is told what the party's request is answered, by which the party becomes another
-pub record Tells (party : BumpParty) (layout : Layout) (told : Answer) (after : BumpParty)
-    : Type 0 where
-  pub answer : Result Chunk AllocationError
-  pub says : told ≡ answer_of answer
-  pub given : MayTake party layout answer after
-
--- the same, and the handle stands for what the party is then
-abbrev pub AnswersSeat : BumpParty → Layout → Answer → Option BumpParty → Type 0
-AnswersSeat party layout told new =
-    (after : BumpParty) × (new ≡ Some after) × Tells party layout told after
-
 -- the party has made one load, which found this many bytes used: at least what it has seen, and at most the region's size
 pub record Loads (party : BumpParty) (used : ℕ) (after : BumpParty) : Type 0 where
   pub logged : after ≡ with_entries party (load_entry party.number used)
   pub seen : seen_by party ≤ used
   pub within : used ≤ party.allocator.scene.region.size
 
--- C is told how much one load found to be used, and the handle stands for what the party is then
-abbrev pub TellsUsed : BumpParty → Figure → Option BumpParty → Type 0
-TellsUsed party told new =
-    (used : ℕ) × (after : BumpParty) × (told ≡ figure_of used)
-    × Loads party used after × (new ≡ Some after)
-
--- the same of what is free
-abbrev pub TellsFree : BumpParty → Figure → Option BumpParty → Type 0
-TellsFree party told new =
-    (used : ℕ) × (after : BumpParty) × (told ≡ figure_of (party.allocator.scene.region.size - used))
-    × Loads party used after × (new ≡ Some after)
+-- C is told a figure of what one load found to be used, and the handle stands for what the party is then
+pub record TellsLoad (old new : Option BumpParty) (told : Figure) (figure : BumpParty → ℕ → ℕ) : Type 0 where
+  pub found : IfSome old (λ party. (used : ℕ) × (after : BumpParty) × (told ≡ figure_of (figure party used))
+      × Loads party used after × (new ≡ Some after))
+  pub empty : old ≡ None → (told ≡ no_figure not_made) × (new ≡ old)
 
 -- the last party without a seat has one, behind this other handle
-abbrev pub SeatsOne : BumpSeats → Option BumpSeats → Option BumpParty → Type 0
-SeatsOne seats new seated =
+abbrev pub SeatsBumpParty : BumpSeats → Option BumpSeats → Option BumpParty → Type 0
+SeatsBumpParty seats new seated =
     (left : ℕ) × (seats.left ≡ left + 1) × (new ≡ Some (bump_seats seats.bump left))
     × (seated ≡ Some (fresh_party seats.bump left))

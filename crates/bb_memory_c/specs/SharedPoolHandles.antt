@@ -1,13 +1,9 @@
 -- A shared pool and its seats behind handles, and what C is told.
-use Rattle.std.specs.Prelude.{◌≡◌, ◌+◌, ℕ, Option, Some, Result}
+use Rattle.std.specs.Prelude.{◌≡◌, ◌+◌, ℕ, Option, Some}
 use Rattle.bb_memory_base.specs.Region.{Region}
-use Rattle.bb_memory_base.specs.Chunk.{Chunk}
 use Rattle.bb_memory_base.specs.declared.layout.Layout.{Layout}
-use Rattle.bb_memory_base.specs.declared.allocator.AllocationError.{AllocationError}
 use Rattle.bb_memory.specs.SharedPool.{PoolParty, SharedPool, fresh_party}
-use Rattle.bb_memory_c.specs.declared.answer.Answer.{Answer}
-use Rattle.bb_memory_c.specs.Answers.{answer_of}
-use Rattle.bb_memory_c.specs.SharedPools.{Gives, GivesBack, IsSharedPoolOver, PoolSeats, pool_seats}
+use Rattle.bb_memory_c.specs.SharedPools.{IsSharedPoolOver, PoolSeats, pool_seats}
 
 -- a fresh pool over the region, cut into buckets of the layout, of so many parties, which have no seat yet
 abbrev pub MakesSharedPool : Region → Layout → ℕ → Option PoolSeats → Type 0
@@ -15,25 +11,8 @@ MakesSharedPool region bucket parties new =
     (pool : SharedPool) × IsSharedPoolOver region bucket parties pool
     × (new ≡ Some (pool_seats pool parties))
 
--- C is told what the party's request is answered, by which the party becomes another
-pub record Tells (party : PoolParty) (layout : Layout) (told : Answer) (after : PoolParty)
-    : Type 0 where
-  pub answer : Result Chunk AllocationError
-  pub says : told ≡ answer_of answer
-  pub given : Gives party layout answer after
-
--- the same, and the handle stands for what the party is then
-abbrev pub AnswersSeat : PoolParty → Layout → Answer → Option PoolParty → Type 0
-AnswersSeat party layout told new =
-    (after : PoolParty) × (new ≡ Some after) × Tells party layout told after
-
--- the bucket at the place was given back, and the handle stands for what the party is then
-abbrev pub GivesBackSeat : PoolParty → ℕ → Option PoolParty → Type 0
-GivesBackSeat party place new =
-    (after : PoolParty) × (new ≡ Some after) × GivesBack party place after
-
 -- the last party without a seat has one, behind this other handle
-abbrev pub SeatsOne : PoolSeats → Option PoolSeats → Option PoolParty → Type 0
-SeatsOne seats new seated =
+abbrev pub SeatsPoolParty : PoolSeats → Option PoolSeats → Option PoolParty → Type 0
+SeatsPoolParty seats new seated =
     (left : ℕ) × (seats.left ≡ left + 1) × (new ≡ Some (pool_seats seats.pool left))
     × (seated ≡ Some (fresh_party seats.pool left))

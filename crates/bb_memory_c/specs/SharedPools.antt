@@ -55,8 +55,8 @@ chunk_in (Ok bucket) = Ok (chunk_of bucket)
 chunk_in (Err error) = Err error
 
 -- a request is answered the chunk in the bucket that the party took, or why it took none
-abbrev pub Gives : PoolParty → Layout → Result Chunk AllocationError → PoolParty → Type 0
-Gives party layout answer after =
+abbrev pub GivesChunk : PoolParty → Layout → Result Chunk AllocationError → PoolParty → Type 0
+GivesChunk party layout answer after =
     (taken : Result TakenBucket AllocationError) × (answer ≡ chunk_in taken)
     × MayTake party layout taken after
 

@@ -1,5 +1,5 @@
 //! What C sees of an answer.
-ghost use Rattle.std.specs.Prelude.{◌≡◌};
+ghost use Rattle.std.specs.Prelude.{◌≡◌, if◌then◌else◌};
 ghost use Rattle.bb_memory_c.specs.Answers.{answer_of, figure_of, grow_answer, no_figure, refused, shrink_answer};
 
 use crate::code;
@@ -100,6 +100,13 @@ impl Figure {
             code: code::DONE,
             number,
         }
+    }
+
+    /// Whether it is so: 1 or 0.
+    pub(crate) fn whether(is: bool) -> Figure
+        ensures { result ≡ figure_of (if is then 1 else 0) }
+    {
+        Figure::of(if is { 1 } else { 0 })
     }
 
     /// No number, for the cause of this code.

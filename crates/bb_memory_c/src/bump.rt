@@ -1,20 +1,18 @@
 //! A bump behind a handle.
-ghost use Rattle.std.specs.Prelude.{◌≡◌, ◌≢◌, ◌-◌, ◌↔◌, None, Some};
-ghost use Rattle.std.specs.Align.{IsLayout};
+ghost use Rattle.std.specs.Prelude.{◌≡◌, ◌-◌, None, Some, IfSome};
 ghost use Rattle.bb_memory_base.specs.Region.{IsRegion, region_at};
-ghost use Rattle.bb_memory_base.specs.declared.layout.Layout.{Layout as Asked};
-ghost use Rattle.bb_memory.specs.Bump.{Bump, bump_of};
-ghost use Rattle.bb_memory_c.specs.Answers.{figure_of, no_figure, refused};
-ghost use Rattle.bb_memory_c.specs.Bumps.{Gives, Tells};
-ghost use Rattle.bb_memory_c.specs.Layouts.{IsOf};
-ghost use Rattle.bb_memory_c.specs.Codes.{already_made, cannot_make, done, not_a_layout, not_made, out_of_memory};
+ghost use Rattle.bb_memory.specs.Bump.{bump_of};
+ghost use Rattle.bb_memory_c.specs.Bumps.{Allocates};
+ghost use Rattle.bb_memory_c.specs.Calls.{AnswersFree, AnswersMake, AnswersRequest, TellsFigure};
+ghost use Rattle.bb_memory_c.specs.Codes.{done, not_made};
 
 use crate::answer::{Answer, Figure};
+use crate::call::{free, is_made, keep, request, tell};
 use crate::code;
-use crate::handle::{BumpHandle, free};
-use crate::layout::layout_of;
-use bb_memory::bump_allocator::{BaseAllocator, BumpAllocator};
-use bb_memory::layout::Layout;
+use crate::handle::{BumpHandle, Handle};
+use crate::kind::Gives;
+use bb_memory::bump_allocator::{AllocationError, BaseAllocator, BumpAllocator};
+use bb_memory::layout::{Chunk, Layout};
 use std::alloc::Global;
 
 /// Makes a bump over the region of `size` bytes at `start`, behind a handle that has to be empty. The start has to be greater
@@ -28,26 +26,16 @@ pub extern "C" fn bb_bump_make(
     start: usize,
     size: usize,
 ) -> u32
-    ensures made { result ≡ done → handle.new.value ≡ Some (bump_of start size 0) }
-    ensures already_made { (result ≡ already_made) ↔ (handle.old.value ≢ None) }
-    ensures cannot_make { (result ≡ cannot_make)
-        ↔ ((handle.old.value ≡ None) × (¬ IsRegion (region_at start size))) }
-    ensures else_memory { result ≢ done → result ≢ already_made → result ≢ cannot_make
-        → result ≡ out_of_memory }
-    ensures kept { result ≢ done → handle.new.value ≡ handle.old.value }
+    ensures { AnswersMake handle.old.value handle.new.value result
+        (IsRegion (region_at start size)) (λ new. new ≡ Some (bump_of start size 0)) }
 {
-    if let Some(made) = handle.take(alloc) {
-        handle.put(made);
+    if is_made(handle, alloc) {
         return code::ALREADY_MADE;
     }
     if !BumpAllocator::can_make(start, size) {
         return code::CANNOT_MAKE;
     }
-    let Ok(made) = Box::new(alloc, BumpAllocator::new(start, size)) else {
-        return code::OUT_OF_MEMORY;
-    };
-    handle.put(made);
-    code::DONE
+    keep(handle, alloc, BumpAllocator::new(start, size))
 }
 
 /// Frees the bump, whose handle is empty then. The answer is 0, or `BB_NOT_MADE` where it was empty already.
@@ -55,31 +43,9 @@ pub extern "C" fn bb_bump_make(
 /// C guarantees of the handle what the crate's page says.
 #[unsafe(no_mangle)]
 pub extern "C" fn bb_bump_free(alloc: Global, handle: &mut BumpHandle) -> u32
-    ensures freed { handle.old.value ≢ None → result ≡ done }
-    ensures not_made { handle.old.value ≡ None → result ≡ not_made }
-    ensures empty { handle.new.value ≡ None }
+    ensures { AnswersFree handle.old.value handle.new.value result }
 {
-    free(handle.take(alloc))
-}
-
-/// What the bump answers to a request for this layout.
-fn give(bump: &mut BumpAllocator, layout: Layout) -> Answer
-    ensures { Tells bump.old layout result bump.new }
-{
-    Answer::of(bump.allocate(layout))
-}
-
-/// What the bump answers to a request for so many bytes at a multiple of `align`.
-fn request(bump: &mut BumpAllocator, size: usize, align: usize) -> Answer
-    ensures answer { (layout : Asked) → IsOf size align layout
-        → Tells bump.old layout result bump.new }
-    ensures not_a_layout { ¬ IsLayout size align
-        → (result ≡ refused not_a_layout) × (bump.new ≡ bump.old) }
-{
-    match layout_of(size, align) {
-        Some(layout) => give(bump, layout),
-        None => Answer::refusal(code::NOT_A_LAYOUT),
-    }
+    free(handle, alloc)
 }
 
 /// Asks for a chunk of exactly `size` bytes at a multiple of `align`.
@@ -92,19 +58,10 @@ pub extern "C" fn bb_bump_allocate(
     size: usize,
     align: usize,
 ) -> Answer
-    ensures answer { (bump : Bump) (layout : Asked) → handle.old.value ≡ Some bump
-        → IsOf size align layout → Gives bump layout result handle.new.value }
-    ensures not_a_layout { (bump : Bump) → handle.old.value ≡ Some bump → ¬ IsLayout size align
-        → (result ≡ refused not_a_layout) × (handle.new.value ≡ handle.old.value) }
-    ensures not_made { handle.old.value ≡ None
-        → (result ≡ refused not_made) × (handle.new.value ≡ handle.old.value) }
+    ensures { AnswersRequest handle.old.value handle.new.value size align result
+        Allocates }
 {
-    let Some(mut bump) = handle.take(alloc) else {
-        return Answer::refusal(code::NOT_MADE);
-    };
-    let answer = request(&mut bump, size, align);
-    handle.put(bump);
-    answer
+    request(handle, alloc, size, align)
 }
 
 /// Gives back all chunks.
@@ -112,9 +69,8 @@ pub extern "C" fn bb_bump_allocate(
 /// C guarantees of the handle what the crate's page says.
 #[unsafe(no_mangle)]
 pub extern "C" fn bb_bump_deallocate(alloc: Global, handle: &mut BumpHandle) -> u32
-    ensures emptied { (bump : Bump) → handle.old.value ≡ Some bump
-        → (result ≡ done)
-        × (handle.new.value ≡ Some (bump_of bump.region.start bump.region.size 0)) }
+    ensures emptied { IfSome handle.old.value (λ bump. (result ≡ done)
+        × (handle.new.value ≡ Some (bump_of bump.region.start bump.region.size 0))) }
     ensures not_made { handle.old.value ≡ None
         → (result ≡ not_made) × (handle.new.value ≡ handle.old.value) }
 {
@@ -131,16 +87,9 @@ pub extern "C" fn bb_bump_deallocate(alloc: Global, handle: &mut BumpHandle) -> 
 /// C guarantees of the handle what the crate's page says.
 #[unsafe(no_mangle)]
 pub extern "C" fn bb_bump_used_space(alloc: Global, handle: &mut BumpHandle) -> Figure
-    ensures value { (bump : Bump) → handle.old.value ≡ Some bump → result ≡ figure_of bump.used }
-    ensures not_made { handle.old.value ≡ None → result ≡ no_figure not_made }
-    ensures kept { handle.new.value ≡ handle.old.value }
+    ensures { TellsFigure handle.old.value handle.new.value result (λ bump. bump.used) }
 {
-    let Some(bump) = handle.take(alloc) else {
-        return Figure::refusal(code::NOT_MADE);
-    };
-    let figure = Figure::of(bump.used_space());
-    handle.put(bump);
-    figure
+    tell(handle, alloc, |bump| Figure::of(bump.used_space()))
 }
 
 /// How many bytes are behind the last chunk.
@@ -148,17 +97,10 @@ pub extern "C" fn bb_bump_used_space(alloc: Global, handle: &mut BumpHandle) -> 
 /// C guarantees of the handle what the crate's page says.
 #[unsafe(no_mangle)]
 pub extern "C" fn bb_bump_free_space(alloc: Global, handle: &mut BumpHandle) -> Figure
-    ensures value { (bump : Bump) → handle.old.value ≡ Some bump
-        → result ≡ figure_of (bump.region.size - bump.used) }
-    ensures not_made { handle.old.value ≡ None → result ≡ no_figure not_made }
-    ensures kept { handle.new.value ≡ handle.old.value }
+    ensures { TellsFigure handle.old.value handle.new.value result
+        (λ bump. bump.region.size - bump.used) }
 {
-    let Some(bump) = handle.take(alloc) else {
-        return Figure::refusal(code::NOT_MADE);
-    };
-    let figure = Figure::of(bump.free_space());
-    handle.put(bump);
-    figure
+    tell(handle, alloc, |bump| Figure::of(bump.free_space()))
 }
 
 /// How many bytes the region has.
@@ -166,17 +108,9 @@ pub extern "C" fn bb_bump_free_space(alloc: Global, handle: &mut BumpHandle) -> 
 /// C guarantees of the handle what the crate's page says.
 #[unsafe(no_mangle)]
 pub extern "C" fn bb_bump_total_space(alloc: Global, handle: &mut BumpHandle) -> Figure
-    ensures value { (bump : Bump) → handle.old.value ≡ Some bump
-        → result ≡ figure_of bump.region.size }
-    ensures not_made { handle.old.value ≡ None → result ≡ no_figure not_made }
-    ensures kept { handle.new.value ≡ handle.old.value }
+    ensures { TellsFigure handle.old.value handle.new.value result (λ bump. bump.region.size) }
 {
-    let Some(bump) = handle.take(alloc) else {
-        return Figure::refusal(code::NOT_MADE);
-    };
-    let figure = Figure::of(bump.total_space());
-    handle.put(bump);
-    figure
+    tell(handle, alloc, |bump| Figure::of(bump.total_space()))
 }
 
 /// Where the region starts.
@@ -184,15 +118,15 @@ pub extern "C" fn bb_bump_total_space(alloc: Global, handle: &mut BumpHandle) ->
 /// C guarantees of the handle what the crate's page says.
 #[unsafe(no_mangle)]
 pub extern "C" fn bb_bump_start_address(alloc: Global, handle: &mut BumpHandle) -> Figure
-    ensures value { (bump : Bump) → handle.old.value ≡ Some bump
-        → result ≡ figure_of bump.region.start }
-    ensures not_made { handle.old.value ≡ None → result ≡ no_figure not_made }
-    ensures kept { handle.new.value ≡ handle.old.value }
+    ensures { TellsFigure handle.old.value handle.new.value result (λ bump. bump.region.start) }
 {
-    let Some(bump) = handle.take(alloc) else {
-        return Figure::refusal(code::NOT_MADE);
-    };
-    let figure = Figure::of(bump.start_address());
-    handle.put(bump);
-    figure
+    tell(handle, alloc, |bump| Figure::of(bump.start_address()))
+}
+
+impl Gives for BumpAllocator {
+    ghost may_give = { Allocates };
+
+    fn give(&mut self, layout: Layout) -> Result<Chunk, AllocationError> {
+        self.allocate(layout)
+    }
 }

@@ -1,9 +1,12 @@
 //! The seats at a shared bump: a party each.
 ghost use Rattle.std.specs.Prelude.{◌≡◌, ◌≤◌, IfSome};
 ghost use Rattle.bb_memory_base.specs.Region.{IsRegion, region_at};
+ghost use Rattle.bb_memory.specs.SharedBump.{MayTake};
 ghost use Rattle.bb_memory_c.specs.SharedBumps.{IsSharedBumpOver};
 
-use bb_memory::bump_allocator::BumpAllocator;
+use crate::kind::Gives;
+use bb_memory::bump_allocator::{AllocationError, BumpAllocator};
+use bb_memory::layout::{Chunk, Layout};
 use bb_memory::shared_bump::{BumpParty, SharedBumpAllocator};
 use std::alloc::Global;
 use std::marker::Model;
@@ -42,6 +45,14 @@ impl BumpSeat {
         ensures { result.now ≡ self.now.allocator }
     {
         &self.bump
+    }
+}
+
+impl Gives for BumpSeat {
+    ghost may_give = { MayTake };
+
+    fn give(&mut self, layout: Layout) -> Result<Chunk, AllocationError> {
+        self.bump.allocate(&mut self.party, layout)
     }
 }
 

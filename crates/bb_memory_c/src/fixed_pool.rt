@@ -1,22 +1,23 @@
 //! A pool of at most 512 buckets behind a handle.
-ghost use Rattle.std.specs.Prelude.{◌≡◌, ◌≢◌, ◌↔◌, None, Some};
-ghost use Rattle.std.specs.Align.{IsLayout};
-ghost use Rattle.bb_memory_base.specs.Region.{region_at};
-ghost use Rattle.bb_memory_base.specs.declared.layout.Layout.{Layout as Asked};
+ghost use Rattle.std.specs.Prelude.{◌≡◌};
 ghost use Rattle.bb_memory_base.specs.PoolObject.{MayGrow, MayShrink};
-ghost use Rattle.bb_memory.specs.Pool.{Pool, Frees, HoldsPlace};
-ghost use Rattle.bb_memory_c.specs.Answers.{TellsGrow, TellsShrink, figure_of, no_figure, refused};
-ghost use Rattle.bb_memory_c.specs.Codes.{already_made, cannot_make, done, not_a_layout, not_held, not_made, out_of_memory};
-ghost use Rattle.bb_memory_c.specs.Layouts.{CannotCut, IsCuttable, IsOf};
-ghost use Rattle.bb_memory_c.specs.Pools.{GivesBackFixed, GivesFixed, Tells};
+ghost use Rattle.bb_memory_base.specs.Region.{region_at};
+ghost use Rattle.bb_memory.specs.Pool.{Frees, HoldsPlace, MayBeCut, Takes};
+ghost use Rattle.bb_memory_c.specs.Calls.{AnswersFree, AnswersGrow, AnswersPoolMake, AnswersRequest, AnswersReturn};
+ghost use Rattle.bb_memory_c.specs.Calls.{AnswersShrink, TellsFigure, TellsOfHeld, TellsWhether, resize};
 ghost use Rattle.bb_memory_c.specs.Pools.{MakesFixedPool};
 
 use crate::answer::{Answer, Figure};
+use crate::call::{free, give_back, grow, holds, is_made, keep, request, reserved, shrink, tell};
 use crate::code;
-use crate::handle::{FixedPoolHandle, free};
-use crate::layout::{cut_into, layout_of, layouts_of};
-use bb_memory::layout::Layout;
-use bb_memory::pool_allocator::{Allocator, BaseAllocator, FixedSizePoolAllocator};
+use crate::handle::FixedPoolHandle;
+use crate::kind::{Gives, Keeps};
+use crate::layout::cut_into;
+use bb_memory::layout::{Chunk, Layout};
+use bb_memory::pool_allocator::{
+    AllocationError, AllocationGrowError, AllocationShrinkError, Allocator, BaseAllocator,
+    FixedSizePoolAllocator,
+};
 use std::alloc::Global;
 
 /// Makes a pool over the region of `size` bytes at `start`, behind a handle that has to be empty. The region is cut into
@@ -32,32 +33,21 @@ pub extern "C" fn bb_fixed_pool_make(
     start: usize,
     size: usize,
 ) -> u32
-    ensures made { result ≡ done → (bucket : Asked)
-        × IsCuttable bucket_size bucket_align (region_at start size) bucket
-        × MakesFixedPool (region_at start size) bucket handle.new.value }
-    ensures already_made { (result ≡ already_made) ↔ (handle.old.value ≢ None) }
-    ensures not_a_layout { (result ≡ not_a_layout)
-        ↔ ((handle.old.value ≡ None) × (¬ IsLayout bucket_size bucket_align)) }
-    ensures cannot_make { (result ≡ cannot_make) ↔ ((handle.old.value ≡ None)
-        × CannotCut bucket_size bucket_align (region_at start size)) }
-    ensures else_memory { result ≢ done → result ≢ already_made → result ≢ not_a_layout
-        → result ≢ cannot_make → result ≡ out_of_memory }
-    ensures kept { result ≢ done → handle.new.value ≡ handle.old.value }
+    ensures { AnswersPoolMake handle.old.value handle.new.value bucket_size bucket_align result
+        (MayBeCut (region_at start size)) (MakesFixedPool (region_at start size)) }
 {
-    if let Some(made) = handle.take(alloc) {
-        handle.put(made);
+    if is_made(handle, alloc) {
         return code::ALREADY_MADE;
     }
     let bucket = match cut_into(bucket_size, bucket_align, start, size) {
         Ok(bucket) => bucket,
         Err(code) => return code,
     };
-    let pool = FixedSizePoolAllocator::<512>::new(bucket, start, size);
-    let Ok(made) = Box::new(alloc, pool) else {
-        return code::OUT_OF_MEMORY;
-    };
-    handle.put(made);
-    code::DONE
+    keep(
+        handle,
+        alloc,
+        FixedSizePoolAllocator::<512>::new(bucket, start, size),
+    )
 }
 
 /// Frees the pool, whose handle is empty then. The answer is 0, or `BB_NOT_MADE` where it was empty already.
@@ -65,31 +55,9 @@ pub extern "C" fn bb_fixed_pool_make(
 /// C guarantees of the handle what the crate's page says.
 #[unsafe(no_mangle)]
 pub extern "C" fn bb_fixed_pool_free(alloc: Global, handle: &mut FixedPoolHandle) -> u32
-    ensures freed { handle.old.value ≢ None → result ≡ done }
-    ensures not_made { handle.old.value ≡ None → result ≡ not_made }
-    ensures empty { handle.new.value ≡ None }
+    ensures { AnswersFree handle.old.value handle.new.value result }
 {
-    free(handle.take(alloc))
-}
-
-/// What the pool answers to a request for this layout.
-fn give(pool: &mut FixedSizePoolAllocator<512>, layout: Layout) -> Answer
-    ensures { Tells pool.old layout result pool.new }
-{
-    Answer::of(pool.allocate(layout))
-}
-
-/// What the pool answers to a request for so many bytes at a multiple of `align`.
-fn request(pool: &mut FixedSizePoolAllocator<512>, size: usize, align: usize) -> Answer
-    ensures answer { (layout : Asked) → IsOf size align layout
-        → Tells pool.old layout result pool.new }
-    ensures not_a_layout { ¬ IsLayout size align
-        → (result ≡ refused not_a_layout) × (pool.new ≡ pool.old) }
-{
-    match layout_of(size, align) {
-        Some(layout) => give(pool, layout),
-        None => Answer::refusal(code::NOT_A_LAYOUT),
-    }
+    free(handle, alloc)
 }
 
 /// Asks for a chunk of `size` bytes at a multiple of `align`, in a bucket that isn't held.
@@ -102,32 +70,10 @@ pub extern "C" fn bb_fixed_pool_allocate(
     size: usize,
     align: usize,
 ) -> Answer
-    ensures answer { (pool : Pool) (layout : Asked) → handle.old.value ≡ Some pool
-        → IsOf size align layout → GivesFixed pool layout result handle.new.value }
-    ensures not_a_layout { (pool : Pool) → handle.old.value ≡ Some pool → ¬ IsLayout size align
-        → (result ≡ refused not_a_layout) × (handle.new.value ≡ handle.old.value) }
-    ensures not_made { handle.old.value ≡ None
-        → (result ≡ refused not_made) × (handle.new.value ≡ handle.old.value) }
+    ensures { AnswersRequest handle.old.value handle.new.value size align result
+        (λ pool layout answer after. Takes pool layout answer after) }
 {
-    let Some(mut pool) = handle.take(alloc) else {
-        return Answer::refusal(code::NOT_MADE);
-    };
-    let answer = request(&mut pool, size, align);
-    handle.put(pool);
-    answer
-}
-
-/// Gives back the bucket at this place, if it is held.
-fn give_back(pool: &mut FixedSizePoolAllocator<512>, place: usize) -> u32
-    ensures freed { HoldsPlace pool.old place
-        → (result ≡ done) × Frees pool.old place pool.new }
-    ensures not_held { ¬ HoldsPlace pool.old place → (result ≡ not_held) × (pool.new ≡ pool.old) }
-{
-    if !pool.holds(place) {
-        return code::NOT_HELD;
-    }
-    pool.deallocate(place, Layout::empty());
-    code::DONE
+    request(handle, alloc, size, align)
 }
 
 /// Gives back the bucket at this place. A place that isn't a held bucket's is refused and changes nothing: a wild place, and a
@@ -140,19 +86,10 @@ pub extern "C" fn bb_fixed_pool_deallocate(
     handle: &mut FixedPoolHandle,
     place: usize,
 ) -> u32
-    ensures freed { (pool : Pool) → handle.old.value ≡ Some pool → HoldsPlace pool place
-        → (result ≡ done) × GivesBackFixed pool place handle.new.value }
-    ensures not_held { (pool : Pool) → handle.old.value ≡ Some pool → ¬ HoldsPlace pool place
-        → (result ≡ not_held) × (handle.new.value ≡ handle.old.value) }
-    ensures not_made { handle.old.value ≡ None
-        → (result ≡ not_made) × (handle.new.value ≡ handle.old.value) }
+    ensures { AnswersReturn handle.old.value handle.new.value result
+        (λ pool. HoldsPlace pool place) (λ pool after. Frees pool place after) }
 {
-    let Some(mut pool) = handle.take(alloc) else {
-        return code::NOT_MADE;
-    };
-    let code = give_back(&mut pool, place);
-    handle.put(pool);
-    code
+    give_back(handle, alloc, place)
 }
 
 /// Whether this is the place of a held bucket: 1 or 0.
@@ -164,19 +101,10 @@ pub extern "C" fn bb_fixed_pool_holds(
     handle: &mut FixedPoolHandle,
     place: usize,
 ) -> Figure
-    ensures held { (pool : Pool) → handle.old.value ≡ Some pool → HoldsPlace pool place
-        → result ≡ figure_of 1 }
-    ensures not_held { (pool : Pool) → handle.old.value ≡ Some pool → ¬ HoldsPlace pool place
-        → result ≡ figure_of 0 }
-    ensures not_made { handle.old.value ≡ None → result ≡ no_figure not_made }
-    ensures kept { handle.new.value ≡ handle.old.value }
+    ensures { TellsWhether handle.old.value handle.new.value result
+        (λ pool. HoldsPlace pool place) }
 {
-    let Some(pool) = handle.take(alloc) else {
-        return Figure::refusal(code::NOT_MADE);
-    };
-    let figure = Figure::of(if pool.holds(place) { 1 } else { 0 });
-    handle.put(pool);
-    figure
+    holds(handle, alloc, place)
 }
 
 /// How many buckets there are.
@@ -187,17 +115,13 @@ pub extern "C" fn bb_fixed_pool_number_of_buckets(
     alloc: Global,
     handle: &mut FixedPoolHandle,
 ) -> Figure
-    ensures value { (pool : Pool) → handle.old.value ≡ Some pool
-        → result ≡ figure_of pool.geometry.buckets }
-    ensures not_made { handle.old.value ≡ None → result ≡ no_figure not_made }
-    ensures kept { handle.new.value ≡ handle.old.value }
+    ensures { TellsFigure handle.old.value handle.new.value result (λ pool. pool.geometry.buckets) }
 {
-    let Some(pool) = handle.take(alloc) else {
-        return Figure::refusal(code::NOT_MADE);
-    };
-    let figure = Figure::of(pool.number_of_buckets() as usize);
-    handle.put(pool);
-    figure
+    tell(
+        handle,
+        alloc,
+        |pool| Figure::of(pool.number_of_buckets() as usize),
+    )
 }
 
 /// The size of a bucket in bytes, as it was asked for.
@@ -205,17 +129,10 @@ pub extern "C" fn bb_fixed_pool_number_of_buckets(
 /// C guarantees of the handle what the crate's page says.
 #[unsafe(no_mangle)]
 pub extern "C" fn bb_fixed_pool_bucket_size(alloc: Global, handle: &mut FixedPoolHandle) -> Figure
-    ensures value { (pool : Pool) → handle.old.value ≡ Some pool
-        → result ≡ figure_of pool.geometry.bucket.size }
-    ensures not_made { handle.old.value ≡ None → result ≡ no_figure not_made }
-    ensures kept { handle.new.value ≡ handle.old.value }
+    ensures { TellsFigure handle.old.value handle.new.value result
+        (λ pool. pool.geometry.bucket.size) }
 {
-    let Some(pool) = handle.take(alloc) else {
-        return Figure::refusal(code::NOT_MADE);
-    };
-    let figure = Figure::of(pool.bucket_size());
-    handle.put(pool);
-    figure
+    tell(handle, alloc, |pool| Figure::of(pool.bucket_size()))
 }
 
 /// The greatest alignment that a request may have.
@@ -223,17 +140,10 @@ pub extern "C" fn bb_fixed_pool_bucket_size(alloc: Global, handle: &mut FixedPoo
 /// C guarantees of the handle what the crate's page says.
 #[unsafe(no_mangle)]
 pub extern "C" fn bb_fixed_pool_max_alignment(alloc: Global, handle: &mut FixedPoolHandle) -> Figure
-    ensures value { (pool : Pool) → handle.old.value ≡ Some pool
-        → result ≡ figure_of pool.geometry.bucket.align }
-    ensures not_made { handle.old.value ≡ None → result ≡ no_figure not_made }
-    ensures kept { handle.new.value ≡ handle.old.value }
+    ensures { TellsFigure handle.old.value handle.new.value result
+        (λ pool. pool.geometry.bucket.align) }
 {
-    let Some(pool) = handle.take(alloc) else {
-        return Figure::refusal(code::NOT_MADE);
-    };
-    let figure = Figure::of(pool.max_alignment());
-    handle.put(pool);
-    figure
+    tell(handle, alloc, |pool| Figure::of(pool.max_alignment()))
 }
 
 /// How many bytes the region has, as it was handed in.
@@ -241,41 +151,10 @@ pub extern "C" fn bb_fixed_pool_max_alignment(alloc: Global, handle: &mut FixedP
 /// C guarantees of the handle what the crate's page says.
 #[unsafe(no_mangle)]
 pub extern "C" fn bb_fixed_pool_size(alloc: Global, handle: &mut FixedPoolHandle) -> Figure
-    ensures value { (pool : Pool) → handle.old.value ≡ Some pool
-        → result ≡ figure_of pool.geometry.region.size }
-    ensures not_made { handle.old.value ≡ None → result ≡ no_figure not_made }
-    ensures kept { handle.new.value ≡ handle.old.value }
+    ensures { TellsFigure handle.old.value handle.new.value result
+        (λ pool. pool.geometry.region.size) }
 {
-    let Some(pool) = handle.take(alloc) else {
-        return Figure::refusal(code::NOT_MADE);
-    };
-    let figure = Figure::of(pool.size());
-    handle.put(pool);
-    figure
-}
-
-/// Whether the chunk at this place may have the old layout, and what it is then answered that is to grow.
-fn grow(
-    pool: &mut FixedSizePoolAllocator<512>,
-    place: usize,
-    layouts: Option<(Layout, Layout)>,
-) -> Answer
-    ensures answer { (old new : Asked) → layouts ≡ Some (old, new)
-        → TellsGrow (HoldsPlace pool.old place) place old
-        (MayGrow pool.old.geometry.bucket place old new) result }
-    ensures not_a_layout { layouts ≡ None → result ≡ refused not_a_layout }
-    ensures still { pool.new ≡ pool.old }
-{
-    let Some((old, new)) = layouts else {
-        return Answer::refusal(code::NOT_A_LAYOUT);
-    };
-    if !pool.holds(place) {
-        return Answer::refusal(code::NOT_HELD);
-    }
-    if place % old.align() != 0 {
-        return Answer::refusal(code::NOT_THE_OLD);
-    }
-    Answer::of_grow(pool.grow(place, old, new))
+    tell(handle, alloc, |pool| Figure::of(pool.size()))
 }
 
 /// Gives the chunk at this place the new size, in its bucket.
@@ -291,47 +170,14 @@ pub extern "C" fn bb_fixed_pool_grow(
     new_size: usize,
     new_align: usize,
 ) -> Answer
-    ensures answer { (pool : Pool) (old new : Asked) → handle.old.value ≡ Some pool
-        → IsOf old_size old_align old → IsOf new_size new_align new
-        → TellsGrow (HoldsPlace pool place) place old (MayGrow pool.geometry.bucket place old new)
-        result }
-    ensures not_a_layout { (pool : Pool) → handle.old.value ≡ Some pool
-        → ¬ (IsLayout old_size old_align × IsLayout new_size new_align)
-        → result ≡ refused not_a_layout }
-    ensures not_made { handle.old.value ≡ None → result ≡ refused not_made }
-    ensures kept { handle.new.value ≡ handle.old.value }
+    ensures { AnswersGrow handle.old.value handle.new.value place
+        (resize old_size old_align new_size new_align) result
+        (λ pool. HoldsPlace pool place)
+        (λ pool. MayGrow pool.geometry.bucket place) }
 {
-    let layouts = layouts_of(old_size, old_align, new_size, new_align);
-    let Some(mut pool) = handle.take(alloc) else {
-        return Answer::refusal(code::NOT_MADE);
-    };
-    let answer = grow(&mut pool, place, layouts);
-    handle.put(pool);
-    answer
-}
-
-/// Whether the chunk at this place may have the old layout, and what it is then answered that is to shrink.
-fn shrink(
-    pool: &mut FixedSizePoolAllocator<512>,
-    place: usize,
-    layouts: Option<(Layout, Layout)>,
-) -> Answer
-    ensures answer { (old new : Asked) → layouts ≡ Some (old, new)
-        → TellsShrink (HoldsPlace pool.old place) place (pool.old.geometry.bucket.size) old
-        (MayShrink pool.old.geometry.bucket place old new) result }
-    ensures not_a_layout { layouts ≡ None → result ≡ refused not_a_layout }
-    ensures still { pool.new ≡ pool.old }
-{
-    let Some((old, new)) = layouts else {
-        return Answer::refusal(code::NOT_A_LAYOUT);
-    };
-    if !pool.holds(place) {
-        return Answer::refusal(code::NOT_HELD);
-    }
-    if place % old.align() != 0 || old.size() > pool.reserved(place) {
-        return Answer::refusal(code::NOT_THE_OLD);
-    }
-    Answer::of_shrink(pool.shrink(place, old, new))
+    grow(
+        handle, alloc, place, old_size, old_align, new_size, new_align,
+    )
 }
 
 /// Gives the chunk at this place exactly the new size.
@@ -347,34 +193,15 @@ pub extern "C" fn bb_fixed_pool_shrink(
     new_size: usize,
     new_align: usize,
 ) -> Answer
-    ensures answer { (pool : Pool) (old new : Asked) → handle.old.value ≡ Some pool
-        → IsOf old_size old_align old → IsOf new_size new_align new
-        → TellsShrink (HoldsPlace pool place) place (pool.geometry.bucket.size) old
-        (MayShrink pool.geometry.bucket place old new) result }
-    ensures not_a_layout { (pool : Pool) → handle.old.value ≡ Some pool
-        → ¬ (IsLayout old_size old_align × IsLayout new_size new_align)
-        → result ≡ refused not_a_layout }
-    ensures not_made { handle.old.value ≡ None → result ≡ refused not_made }
-    ensures kept { handle.new.value ≡ handle.old.value }
+    ensures { AnswersShrink handle.old.value handle.new.value place
+        (resize old_size old_align new_size new_align) result
+        (λ pool. HoldsPlace pool place)
+        (λ pool. pool.geometry.bucket.size)
+        (λ pool. MayShrink pool.geometry.bucket place) }
 {
-    let layouts = layouts_of(old_size, old_align, new_size, new_align);
-    let Some(mut pool) = handle.take(alloc) else {
-        return Answer::refusal(code::NOT_MADE);
-    };
-    let answer = shrink(&mut pool, place, layouts);
-    handle.put(pool);
-    answer
-}
-
-/// How many bytes are reserved for the chunk at this place, if one is held there.
-fn reserved(pool: &FixedSizePoolAllocator<512>, place: usize) -> Figure
-    ensures value { HoldsPlace pool.now place → result ≡ figure_of (pool.now.geometry.bucket.size) }
-    ensures not_held { ¬ (HoldsPlace pool.now place) → result ≡ no_figure not_held }
-{
-    if !pool.holds(place) {
-        return Figure::refusal(code::NOT_HELD);
-    }
-    Figure::of(pool.reserved(place))
+    shrink(
+        handle, alloc, place, old_size, old_align, new_size, new_align,
+    )
 }
 
 /// How many bytes are reserved for the chunk at this place: the bucket's size.
@@ -386,17 +213,58 @@ pub extern "C" fn bb_fixed_pool_reserved(
     handle: &mut FixedPoolHandle,
     place: usize,
 ) -> Figure
-    ensures value { (pool : Pool) → handle.old.value ≡ Some pool → HoldsPlace pool place
-        → result ≡ figure_of (pool.geometry.bucket.size) }
-    ensures not_held { (pool : Pool) → handle.old.value ≡ Some pool → ¬ (HoldsPlace pool place)
-        → result ≡ no_figure not_held }
-    ensures not_made { handle.old.value ≡ None → result ≡ no_figure not_made }
-    ensures kept { handle.new.value ≡ handle.old.value }
+    ensures { TellsOfHeld handle.old.value handle.new.value result
+        (λ pool. HoldsPlace pool place) (λ pool. pool.geometry.bucket.size) }
 {
-    let Some(pool) = handle.take(alloc) else {
-        return Figure::refusal(code::NOT_MADE);
-    };
-    let figure = reserved(&pool, place);
-    handle.put(pool);
-    figure
+    reserved(handle, alloc, place)
+}
+
+impl Gives for FixedSizePoolAllocator<512> {
+    ghost may_give = { Takes };
+
+    fn give(&mut self, layout: Layout) -> Result<Chunk, AllocationError> {
+        self.allocate(layout)
+    }
+}
+
+impl Keeps for FixedSizePoolAllocator<512> {
+    ghost holds = { λ pool place. HoldsPlace pool place };
+
+    ghost frees = { λ pool place after. Frees pool place after };
+
+    ghost bytes = { λ pool place. pool.geometry.bucket.size };
+
+    ghost may_grow = { λ pool. MayGrow pool.geometry.bucket };
+
+    ghost may_shrink = { λ pool. MayShrink pool.geometry.bucket };
+
+    fn is_held(&self, place: usize) -> bool {
+        self.holds(place)
+    }
+
+    fn give_back(&mut self, place: usize) {
+        self.deallocate(place, Layout::empty());
+    }
+
+    fn reserved_at(&self, place: usize) -> usize {
+        self.reserved(place)
+    }
+
+    fn grow_at(
+        &mut self,
+        place: usize,
+        old: Layout,
+        new: Layout,
+    ) -> Result<Chunk, AllocationGrowError> {
+        self.grow(place, old, new)
+    }
+
+    fn shrink_at(
+        &mut self,
+        place: usize,
+        old: Layout,
+        new: Layout,
+    ) -> Result<Chunk, AllocationShrinkError> {
+        self.shrink(place, old, new)
+    }
 }

@@ -1,8 +1,7 @@
 //! What the host holds of an allocator: a pointer that owns it. There is a type for each kind, since no type with parameters
 //! is passed to C; all have the same two fields. The host holds a handle in a variable of its own, and passes that by its
 //! address. An empty one has both fields zero. It may be moved, and then the old one isn't used.
-ghost use Rattle.std.specs.Prelude.{◌≡◌, ◌≢◌, None};
-ghost use Rattle.bb_memory_c.specs.Codes.{done, not_made};
+ghost use Rattle.std.specs.Prelude.{◌≡◌, Option, Some, None, MatchOption};
 
 mod bump;
 mod bump_seat;
@@ -13,7 +12,7 @@ mod pool_seat;
 mod shared_bump;
 mod shared_pool;
 
-use crate::code;
+use crate::held::Held;
 pub use bump::BumpHandle;
 pub use bump_seat::BumpSeatHandle;
 pub use fixed_pool::FixedPoolHandle;
@@ -22,17 +21,41 @@ pub use pool::PoolHandle;
 pub use pool_seat::PoolSeatHandle;
 pub use shared_bump::SharedBumpHandle;
 pub use shared_pool::SharedPoolHandle;
+use std::alloc::Global;
+use std::mem;
 
-/// Frees what was taken from a handle. The answer is 0, or `BB_NOT_MADE` where it was empty already.
-pub(crate) fn free<T: Drop>(taken: Option<Box<T>>) -> u32
-    ensures freed { taken ≢ None → result ≡ done }
-    ensures not_made { taken ≡ None → result ≡ not_made }
-{
-    match taken {
-        Some(made) => {
-            drop(made);
-            code::DONE
-        }
-        None => code::NOT_MADE,
+/// What the host holds.
+pub(crate) trait Handle: Drop {
+    /// What is made behind it.
+    type Made: Drop;
+
+    /// What was made, if the handle isn't empty.
+    ghost made: { Self → Option Self.Made };
+
+    /// The handle of what is held.
+    fn of(held: Held<Self::Made>) -> Self
+        ensures { made result ≡ held.value };
+
+    /// What it owns.
+    fn into_held(self) -> Held<Self::Made>
+        ensures { result.value ≡ made self };
+
+    /// Owns this from now on. What it owned before is forgotten, so it has to be empty.
+    final fn put(&mut self, fresh: Box<Self::Made>)
+        requires { made self.old ≡ None }
+        ensures { made self.new ≡ Some fresh.value }
+    {
+        *self = Self::of(Held::of(fresh));
+    }
+
+    /// What it owned, if it wasn't empty. It is empty then.
+    final fn take(&mut self, alloc: Global) -> Option<Box<Self::Made>>
+        ensures empty { made self.new ≡ None }
+        ensures value { MatchOption result (made self.old ≡ None)
+            (λ taken. made self.old ≡ Some taken.value) }
+    {
+        mem::replace(self, Self::of(Held::nothing(alloc)))
+            .into_held()
+            .into_box(alloc)
     }
 }

@@ -4,14 +4,11 @@ ghost use Rattle.std.specs.Prelude.{IsTrue, vec_len};
 ghost use Rattle.std.specs.Arc.{arc_value};
 ghost use Rattle.bb_memory_base.specs.Region.{region_at};
 ghost use Rattle.bb_memory_base.specs.PoolObject.{MayGrow, MayShrink};
-ghost use Rattle.bb_memory_base.specs.declared.layout.Layout.{Layout as Asked};
 ghost use Rattle.bb_memory.specs.Pool.{MayBeCut};
-ghost use Rattle.bb_memory_c.specs.Answers.{TellsGrow, TellsShrink, refused};
-ghost use Rattle.bb_memory_c.specs.Codes.{done, not_a_layout, not_held};
-ghost use Rattle.bb_memory_c.specs.SharedPools.{Gives, GivesBack, HoldsAt, HoldsPlace, IsSharedPoolOver};
+ghost use Rattle.bb_memory_c.specs.SharedPools.{GivesChunk, GivesBack, HoldsAt, HoldsPlace, IsSharedPoolOver};
 
-use crate::answer::Answer;
-use crate::code;
+use crate::kind::{Gives, Keeps};
+use bb_memory::allocator::{AllocationGrowError, AllocationShrinkError};
 use bb_memory::layout::{Chunk, Layout};
 use bb_memory::pool_allocator::AllocationError;
 use bb_memory::shared_pool::{PoolParty, SharedPoolAllocator};
@@ -40,16 +37,6 @@ impl Model for PoolSeat {
 }
 
 impl PoolSeat {
-    /// What the pool answers to the party's request for this layout.
-    pub(crate) fn allocate(&mut self, layout: Layout) -> Result<Chunk, AllocationError>
-        ensures { Gives self.old layout result self.new }
-    {
-        let bucket = self.pool.allocate(&mut self.party, layout)?;
-        let (number, chunk) = (bucket.number(), bucket.chunk());
-        self.held[number as usize] = true;
-        Ok(chunk)
-    }
-
     /// The number of the bucket at this place, if the party holds it.
     fn held_at(&self, place: usize) -> Option<u32>
         ensures held { IfSome result (HoldsAt self.now place) }
@@ -61,70 +48,6 @@ impl PoolSeat {
         } else {
             None
         }
-    }
-
-    /// Whether this is the place of a bucket that the party holds.
-    pub(crate) fn holds(&self, place: usize) -> bool
-        ensures { IsTrue result ↔ HoldsPlace self.now place }
-    {
-        self.held_at(place).is_some()
-    }
-
-    /// Gives back the bucket at this place, if the party holds it.
-    pub(crate) fn give_back(&mut self, place: usize) -> u32
-        ensures freed { HoldsPlace self.old place
-            → (result ≡ done) × GivesBack self.old place self.new }
-        ensures not_held { ¬ HoldsPlace self.old place
-            → (result ≡ not_held) × (self.new ≡ self.old) }
-    {
-        let Some(number) = self.held_at(place) else {
-            return code::NOT_HELD;
-        };
-        let bucket = self.pool.bucket(&self.party, number, 0);
-        self.pool.deallocate_bucket(&mut self.party, bucket);
-        self.held[number as usize] = false;
-        code::DONE
-    }
-
-    /// What a grow of the chunk at this place is answered, where the party holds its bucket.
-    pub(crate) fn grow(&self, place: usize, layouts: Option<(Layout, Layout)>) -> Answer
-        ensures answer { (old new : Asked) → layouts ≡ Some (old, new)
-            → TellsGrow (HoldsPlace self.now place) place old
-            (MayGrow self.now.allocator.scene.geometry.bucket place old new) result }
-        ensures not_a_layout { layouts ≡ None → result ≡ refused not_a_layout }
-    {
-        let Some((old, new)) = layouts else {
-            return Answer::refusal(code::NOT_A_LAYOUT);
-        };
-        let Some(number) = self.held_at(place) else {
-            return Answer::refusal(code::NOT_HELD);
-        };
-        if place % old.align() != 0 {
-            return Answer::refusal(code::NOT_THE_OLD);
-        }
-        let mut bucket = self.pool.bucket(&self.party, number, 0);
-        Answer::of_grow(self.pool.grow(&mut bucket, old, new))
-    }
-
-    /// What a shrink of the chunk at this place is answered, where the party holds its bucket.
-    pub(crate) fn shrink(&self, place: usize, layouts: Option<(Layout, Layout)>) -> Answer
-        ensures answer { (old new : Asked) → layouts ≡ Some (old, new)
-            → TellsShrink (HoldsPlace self.now place) place
-            self.now.allocator.scene.geometry.bucket.size old
-            (MayShrink self.now.allocator.scene.geometry.bucket place old new) result }
-        ensures not_a_layout { layouts ≡ None → result ≡ refused not_a_layout }
-    {
-        let Some((old, new)) = layouts else {
-            return Answer::refusal(code::NOT_A_LAYOUT);
-        };
-        let Some(number) = self.held_at(place) else {
-            return Answer::refusal(code::NOT_HELD);
-        };
-        if place % old.align() != 0 || old.size() > self.pool.bucket_size() {
-            return Answer::refusal(code::NOT_THE_OLD);
-        }
-        let mut bucket = self.pool.bucket(&self.party, number, 0);
-        Answer::of_shrink(self.pool.shrink(&mut bucket, old, new))
     }
 
     /// The party, without its seat.
@@ -151,6 +74,66 @@ impl PoolSeat {
         ensures { result.now ≡ self.now.allocator }
     {
         &self.pool
+    }
+}
+
+impl Gives for PoolSeat {
+    ghost may_give = { GivesChunk };
+
+    fn give(&mut self, layout: Layout) -> Result<Chunk, AllocationError> {
+        let bucket = self.pool.allocate(&mut self.party, layout)?;
+        let (number, chunk) = (bucket.number(), bucket.chunk());
+        self.held[number as usize] = true;
+        Ok(chunk)
+    }
+}
+
+impl Keeps for PoolSeat {
+    ghost holds = { HoldsPlace };
+
+    ghost frees = { GivesBack };
+
+    ghost bytes = { λ party place. party.allocator.scene.geometry.bucket.size };
+
+    ghost may_grow = { λ party. MayGrow party.allocator.scene.geometry.bucket };
+
+    ghost may_shrink = { λ party. MayShrink party.allocator.scene.geometry.bucket };
+
+    fn is_held(&self, place: usize) -> bool {
+        self.held_at(place).is_some()
+    }
+
+    fn give_back(&mut self, place: usize) {
+        let number = self.held_at(place).unwrap();
+        let bucket = self.pool.bucket(&self.party, number, 0);
+        self.pool.deallocate_bucket(&mut self.party, bucket);
+        self.held[number as usize] = false;
+    }
+
+    fn reserved_at(&self, _place: usize) -> usize {
+        self.pool.bucket_size()
+    }
+
+    fn grow_at(
+        &mut self,
+        place: usize,
+        old: Layout,
+        new: Layout,
+    ) -> Result<Chunk, AllocationGrowError> {
+        let number = self.held_at(place).unwrap();
+        let mut bucket = self.pool.bucket(&self.party, number, 0);
+        self.pool.grow(&mut bucket, old, new)
+    }
+
+    fn shrink_at(
+        &mut self,
+        place: usize,
+        old: Layout,
+        new: Layout,
+    ) -> Result<Chunk, AllocationShrinkError> {
+        let number = self.held_at(place).unwrap();
+        let mut bucket = self.pool.bucket(&self.party, number, 0);
+        self.pool.shrink(&mut bucket, old, new)
     }
 }
 

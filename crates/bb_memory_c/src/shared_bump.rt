@@ -1,34 +1,25 @@
 //! A shared bump behind handles: one for the bump, and one for the seat of each party.
-ghost use Rattle.std.specs.Prelude.{◌≡◌, ◌≢◌, ◌+◌, ◌<◌, ◌↔◌, None, Some, Err, IfOk, IfErr, OnErr};
-ghost use Rattle.std.specs.Align.{IsLayout};
+ghost use Rattle.std.specs.Prelude.{◌≡◌, ◌≢◌, ◌+◌, ◌-◌, ◌<◌, ◌↔◌, Err, IfOk, IfErr, OnErr};
 ghost use Rattle.bb_memory_base.specs.Region.{region_at};
-ghost use Rattle.bb_memory_base.specs.declared.layout.Layout.{Layout as Asked};
-ghost use Rattle.bb_memory.specs.SharedBump.{BumpParty as Party, fresh_party};
-ghost use Rattle.bb_memory_c.specs.Answers.{figure_of, no_figure, refused};
-ghost use Rattle.bb_memory_c.specs.Codes.{already_made, cannot_make, done, no_seat, not_a_layout, not_made, out_of_memory};
-ghost use Rattle.bb_memory_c.specs.Layouts.{IsOf};
-ghost use Rattle.bb_memory_c.specs.SharedBumps.{BumpSeats as Seats};
-ghost use Rattle.bb_memory_c.specs.SharedBumpHandles.{AnswersSeat, IsShareable};
-ghost use Rattle.bb_memory_c.specs.SharedBumpHandles.{MakesSharedBump, SeatsOne, Tells, TellsFree, TellsUsed};
+ghost use Rattle.bb_memory.specs.SharedBump.{MayTake, fresh_party};
+ghost use Rattle.bb_memory_c.specs.Calls.{AnswersFree, AnswersMake, AnswersRequest, GivesSeat, TakesSeat, TellsFigure};
+ghost use Rattle.bb_memory_c.specs.SharedBumpHandles.{IsShareable, MakesSharedBump, SeatsBumpParty, TellsLoad};
 
 use crate::answer::{Answer, Figure};
 use crate::bump_seat::{BumpSeat, BumpSeats};
+use crate::call::{free, is_made, keep, request, tell};
 use crate::code;
-use crate::handle::{BumpSeatHandle, SharedBumpHandle, free};
-use crate::layout::layout_of;
+use crate::handle::{BumpSeatHandle, Handle, SharedBumpHandle};
 use bb_memory::bump_allocator::BumpAllocator;
-use bb_memory::layout::Layout;
 use std::alloc::Global;
 use std::sync::Arc;
 
 /// A seat for the last party that has none, in memory of its own.
 fn next_seat(seats: &mut BumpSeats, alloc: Global) -> Result<Box<BumpSeat>, u32>
-    ensures seated { IfOk result (λ seat. seats.old.left ≡ seats.new.left + 1) }
+    ensures seated { TakesSeat seats.old.left seats.new.left result }
     ensures bump { seats.new.bump ≡ seats.old.bump }
     ensures party { IfOk result (λ seat.
         seat.value ≡ fresh_party seats.old.bump seats.new.left) }
-    ensures no_seat { (result ≡ Err no_seat) ↔ (seats.old.left ≡ 0) }
-    ensures refused { IfErr result (λ code. code ≢ no_seat → code ≡ out_of_memory) }
     ensures kept { OnErr result (seats.new ≡ seats.old) }
 {
     if seats.parties.is_empty() {
@@ -62,17 +53,11 @@ pub extern "C" fn bb_shared_bump_make(
     size: usize,
     parties: u32,
 ) -> u32
-    ensures made { result ≡ done → IsShareable (region_at start size) parties
-        × MakesSharedBump (region_at start size) parties handle.new.value }
-    ensures already_made { (result ≡ already_made) ↔ (handle.old.value ≢ None) }
-    ensures cannot_make { (result ≡ cannot_make) ↔ ((handle.old.value ≡ None)
-        × (¬ IsShareable (region_at start size) parties)) }
-    ensures else_memory { result ≢ done → result ≢ already_made → result ≢ cannot_make
-        → result ≡ out_of_memory }
-    ensures kept { result ≢ done → handle.new.value ≡ handle.old.value }
+    ensures { AnswersMake handle.old.value handle.new.value result
+        (IsShareable (region_at start size) parties)
+        (MakesSharedBump (region_at start size) parties) }
 {
-    if let Some(made) = handle.take(alloc) {
-        handle.put(made);
+    if is_made(handle, alloc) {
         return code::ALREADY_MADE;
     }
     if parties == 0 || !BumpAllocator::can_make(start, size) {
@@ -81,11 +66,7 @@ pub extern "C" fn bb_shared_bump_make(
     let Some(seats) = BumpSeats::new(alloc, start, size, parties) else {
         return code::OUT_OF_MEMORY;
     };
-    let Ok(made) = Box::new(alloc, seats) else {
-        return code::OUT_OF_MEMORY;
-    };
-    handle.put(made);
-    code::DONE
+    keep(handle, alloc, seats)
 }
 
 /// Frees the handle of a shared bump, which is empty then. The bump stays as long as a seat at it does. The
@@ -94,11 +75,9 @@ pub extern "C" fn bb_shared_bump_make(
 /// C guarantees of the handle what the crate's page says.
 #[unsafe(no_mangle)]
 pub extern "C" fn bb_shared_bump_free(alloc: Global, handle: &mut SharedBumpHandle) -> u32
-    ensures freed { handle.old.value ≢ None → result ≡ done }
-    ensures not_made { handle.old.value ≡ None → result ≡ not_made }
-    ensures empty { handle.new.value ≡ None }
+    ensures { AnswersFree handle.old.value handle.new.value result }
 {
-    free(handle.take(alloc))
+    free(handle, alloc)
 }
 
 /// Gives a seat to the last party that has none, behind a handle that has to be empty.
@@ -110,20 +89,10 @@ pub extern "C" fn bb_shared_bump_seat(
     handle: &mut SharedBumpHandle,
     seat: &mut BumpSeatHandle,
 ) -> u32
-    ensures seated { (seats : Seats) → handle.old.value ≡ Some seats → result ≡ done
-        → SeatsOne seats handle.new.value seat.new.value }
-    ensures already_made { (result ≡ already_made) ↔ (seat.old.value ≢ None) }
-    ensures not_made { (result ≡ not_made)
-        ↔ ((seat.old.value ≡ None) × (handle.old.value ≡ None)) }
-    ensures no_seat { (seats : Seats) → handle.old.value ≡ Some seats
-        → ((result ≡ no_seat) ↔ ((seat.old.value ≡ None) × (seats.left ≡ 0))) }
-    ensures else_memory { result ≢ done → result ≢ already_made → result ≢ not_made
-        → result ≢ no_seat → result ≡ out_of_memory }
-    ensures kept { result ≢ done → (handle.new.value ≡ handle.old.value)
-        × (seat.new.value ≡ seat.old.value) }
+    ensures { GivesSeat handle.old.value handle.new.value seat.old.value seat.new.value result
+        (λ seats. seats.left) SeatsBumpParty }
 {
-    if let Some(made) = seat.take(alloc) {
-        seat.put(made);
+    if is_made(seat, alloc) {
         return code::ALREADY_MADE;
     }
     let Some(mut seats) = handle.take(alloc) else {
@@ -146,57 +115,25 @@ pub extern "C" fn bb_shared_bump_seat(
 /// C guarantees of the handle what the crate's page says.
 #[unsafe(no_mangle)]
 pub extern "C" fn bb_bump_seat_free(alloc: Global, handle: &mut BumpSeatHandle) -> u32
-    ensures freed { handle.old.value ≢ None → result ≡ done }
-    ensures not_made { handle.old.value ≡ None → result ≡ not_made }
-    ensures empty { handle.new.value ≡ None }
+    ensures { AnswersFree handle.old.value handle.new.value result }
 {
-    free(handle.take(alloc))
-}
-
-/// What the party of a seat is told of its request for so many bytes at a multiple of `align`.
-fn request(seat: &mut BumpSeat, size: usize, align: usize) -> Answer
-    ensures answer { (layout : Asked) → IsOf size align layout
-        → Tells seat.old layout result seat.new }
-    ensures not_a_layout { ¬ IsLayout size align
-        → (result ≡ refused not_a_layout) × (seat.new ≡ seat.old) }
-{
-    match layout_of(size, align) {
-        Some(layout) => give(seat, layout),
-        None => Answer::refusal(code::NOT_A_LAYOUT),
-    }
-}
-
-/// What the party of a seat is told of its request for this layout.
-fn give(seat: &mut BumpSeat, layout: Layout) -> Answer
-    ensures { Tells seat.old layout result seat.new }
-{
-    Answer::of(seat.bump.allocate(&mut seat.party, layout))
+    free(handle, alloc)
 }
 
 /// Asks for a chunk of exactly `size` bytes at a multiple of `align`.
 ///
 /// C guarantees of the handle what the crate's page says.
 #[unsafe(no_mangle)]
-pub extern "C" fn bb_shared_bump_allocate(
+pub extern "C" fn bb_bump_seat_allocate(
     alloc: Global,
     handle: &mut BumpSeatHandle,
     size: usize,
     align: usize,
 ) -> Answer
-    ensures answer { (party : Party) (layout : Asked) → handle.old.value ≡ Some party
-        → IsOf size align layout → AnswersSeat party layout result handle.new.value }
-    ensures not_a_layout { (party : Party) → handle.old.value ≡ Some party
-        → ¬ IsLayout size align
-        → (result ≡ refused not_a_layout) × (handle.new.value ≡ handle.old.value) }
-    ensures not_made { handle.old.value ≡ None
-        → (result ≡ refused not_made) × (handle.new.value ≡ handle.old.value) }
+    ensures { AnswersRequest handle.old.value handle.new.value size align result
+        MayTake }
 {
-    let Some(mut seat) = handle.take(alloc) else {
-        return Answer::refusal(code::NOT_MADE);
-    };
-    let answer = request(&mut seat, size, align);
-    handle.put(seat);
-    answer
+    request(handle, alloc, size, align)
 }
 
 /// How many bytes are used, as one load found: those from the region's start to the end of the last chunk, padding
@@ -204,11 +141,9 @@ pub extern "C" fn bb_shared_bump_allocate(
 ///
 /// C guarantees of the handle what the crate's page says.
 #[unsafe(no_mangle)]
-pub extern "C" fn bb_shared_bump_used_space(alloc: Global, handle: &mut BumpSeatHandle) -> Figure
-    ensures value { (party : Party) → handle.old.value ≡ Some party
-        → TellsUsed party result handle.new.value }
-    ensures not_made { handle.old.value ≡ None
-        → (result ≡ no_figure not_made) × (handle.new.value ≡ handle.old.value) }
+pub extern "C" fn bb_bump_seat_used_space(alloc: Global, handle: &mut BumpSeatHandle) -> Figure
+    ensures { TellsLoad handle.old.value handle.new.value result
+        (λ party used. used) }
 {
     let Some(mut taken) = handle.take(alloc) else {
         return Figure::refusal(code::NOT_MADE);
@@ -223,11 +158,9 @@ pub extern "C" fn bb_shared_bump_used_space(alloc: Global, handle: &mut BumpSeat
 ///
 /// C guarantees of the handle what the crate's page says.
 #[unsafe(no_mangle)]
-pub extern "C" fn bb_shared_bump_free_space(alloc: Global, handle: &mut BumpSeatHandle) -> Figure
-    ensures value { (party : Party) → handle.old.value ≡ Some party
-        → TellsFree party result handle.new.value }
-    ensures not_made { handle.old.value ≡ None
-        → (result ≡ no_figure not_made) × (handle.new.value ≡ handle.old.value) }
+pub extern "C" fn bb_bump_seat_free_space(alloc: Global, handle: &mut BumpSeatHandle) -> Figure
+    ensures { TellsLoad handle.old.value handle.new.value result
+        (λ party used. party.allocator.scene.region.size - used) }
 {
     let Some(mut taken) = handle.take(alloc) else {
         return Figure::refusal(code::NOT_MADE);
@@ -242,52 +175,38 @@ pub extern "C" fn bb_shared_bump_free_space(alloc: Global, handle: &mut BumpSeat
 ///
 /// C guarantees of the handle what the crate's page says.
 #[unsafe(no_mangle)]
-pub extern "C" fn bb_shared_bump_party(alloc: Global, handle: &mut BumpSeatHandle) -> Figure
-    ensures value { (party : Party) → handle.old.value ≡ Some party
-        → result ≡ figure_of party.number }
-    ensures not_made { handle.old.value ≡ None → result ≡ no_figure not_made }
-    ensures kept { handle.new.value ≡ handle.old.value }
+pub extern "C" fn bb_bump_seat_party(alloc: Global, handle: &mut BumpSeatHandle) -> Figure
+    ensures { TellsFigure handle.old.value handle.new.value result (λ party. party.number) }
 {
-    let Some(seat) = handle.take(alloc) else {
-        return Figure::refusal(code::NOT_MADE);
-    };
-    let figure = Figure::of(seat.party.number() as usize);
-    handle.put(seat);
-    figure
+    tell(
+        handle,
+        alloc,
+        |seat| Figure::of(seat.party.number() as usize),
+    )
 }
 
 /// How many bytes the region has.
 ///
 /// C guarantees of the handle what the crate's page says.
 #[unsafe(no_mangle)]
-pub extern "C" fn bb_shared_bump_total_space(alloc: Global, handle: &mut BumpSeatHandle) -> Figure
-    ensures value { (party : Party) → handle.old.value ≡ Some party
-        → result ≡ figure_of party.allocator.scene.region.size }
-    ensures not_made { handle.old.value ≡ None → result ≡ no_figure not_made }
-    ensures kept { handle.new.value ≡ handle.old.value }
+pub extern "C" fn bb_bump_seat_total_space(alloc: Global, handle: &mut BumpSeatHandle) -> Figure
+    ensures { TellsFigure handle.old.value handle.new.value result
+        (λ party. party.allocator.scene.region.size) }
 {
-    let Some(seat) = handle.take(alloc) else {
-        return Figure::refusal(code::NOT_MADE);
-    };
-    let figure = Figure::of(seat.bump().total_space());
-    handle.put(seat);
-    figure
+    tell(handle, alloc, |seat| Figure::of(seat.bump().total_space()))
 }
 
 /// Where the region starts.
 ///
 /// C guarantees of the handle what the crate's page says.
 #[unsafe(no_mangle)]
-pub extern "C" fn bb_shared_bump_start_address(alloc: Global, handle: &mut BumpSeatHandle) -> Figure
-    ensures value { (party : Party) → handle.old.value ≡ Some party
-        → result ≡ figure_of party.allocator.scene.region.start }
-    ensures not_made { handle.old.value ≡ None → result ≡ no_figure not_made }
-    ensures kept { handle.new.value ≡ handle.old.value }
+pub extern "C" fn bb_bump_seat_start_address(alloc: Global, handle: &mut BumpSeatHandle) -> Figure
+    ensures { TellsFigure handle.old.value handle.new.value result
+        (λ party. party.allocator.scene.region.start) }
 {
-    let Some(seat) = handle.take(alloc) else {
-        return Figure::refusal(code::NOT_MADE);
-    };
-    let figure = Figure::of(seat.bump().start_address());
-    handle.put(seat);
-    figure
+    tell(
+        handle,
+        alloc,
+        |seat| Figure::of(seat.bump().start_address()),
+    )
 }

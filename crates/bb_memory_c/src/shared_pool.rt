@@ -1,36 +1,30 @@
 //! A shared pool behind handles: one for the pool, and one for the seat of each party.
-ghost use Rattle.std.specs.Prelude.{◌≡◌, ◌≢◌, ◌+◌, ◌<◌, ◌≤◌, ◌↔◌, None, Some, Err, IfOk, IfErr, OnErr};
-ghost use Rattle.std.specs.Align.{IsLayout};
+ghost use Rattle.std.specs.Prelude.{◌≡◌, ◌≢◌, ◌+◌, ◌<◌, ◌↔◌, Err, IfOk, IfErr, OnErr};
 ghost use Rattle.bb_memory_base.specs.FirstPlace.{first_place};
-ghost use Rattle.bb_memory_base.specs.Region.{region_at};
-ghost use Rattle.bb_memory_base.specs.declared.layout.Layout.{Layout as Asked};
 ghost use Rattle.bb_memory_base.specs.PoolObject.{MayGrow, MayShrink};
-ghost use Rattle.bb_memory.specs.SharedPool.{PoolParty as Party, fresh_party};
-ghost use Rattle.bb_memory_c.specs.Answers.{TellsGrow, TellsShrink, figure_of, no_figure, refused};
-ghost use Rattle.bb_memory_c.specs.Codes.{already_made, cannot_make, done, no_seat, not_a_layout, not_held, not_made};
-ghost use Rattle.bb_memory_c.specs.Codes.{out_of_memory};
-ghost use Rattle.bb_memory_c.specs.Layouts.{CannotShare, IsCuttable, IsOf};
-ghost use Rattle.bb_memory_c.specs.SharedPools.{HoldsPlace, PoolSeats as Seats};
-ghost use Rattle.bb_memory_c.specs.SharedPoolHandles.{AnswersSeat, GivesBackSeat};
-ghost use Rattle.bb_memory_c.specs.SharedPoolHandles.{MakesSharedPool, SeatsOne, Tells};
+ghost use Rattle.bb_memory_base.specs.Region.{region_at};
+ghost use Rattle.bb_memory.specs.SharedPool.{fresh_party};
+ghost use Rattle.bb_memory_c.specs.Calls.{AnswersFree, AnswersGrow, AnswersPoolMake, AnswersRequest, AnswersReturn};
+ghost use Rattle.bb_memory_c.specs.Calls.{AnswersShrink, GivesSeat, TakesSeat, TellsFigure, TellsOfHeld, TellsWhether, resize};
+ghost use Rattle.bb_memory_c.specs.Layouts.{MayBeShared};
+ghost use Rattle.bb_memory_c.specs.SharedPools.{GivesChunk, GivesBack, HoldsPlace};
+ghost use Rattle.bb_memory_c.specs.SharedPoolHandles.{MakesSharedPool, SeatsPoolParty};
 
 use crate::answer::{Answer, Figure};
+use crate::call::{free, give_back, grow, holds, is_made, keep, request, reserved, shrink, tell};
 use crate::code;
-use crate::handle::{PoolSeatHandle, SharedPoolHandle, free};
-use crate::layout::{cut_into, layout_of, layouts_of};
+use crate::handle::{Handle, PoolSeatHandle, SharedPoolHandle};
+use crate::layout::cut_into;
 use crate::pool_seat::{PoolSeat, PoolSeats};
-use bb_memory::layout::Layout;
 use std::alloc::Global;
 use std::sync::Arc;
 
 /// A seat for the last party that has none, in memory of its own.
 fn next_seat(seats: &mut PoolSeats, alloc: Global) -> Result<Box<PoolSeat>, u32>
-    ensures seated { IfOk result (λ seat. seats.old.left ≡ seats.new.left + 1) }
+    ensures seated { TakesSeat seats.old.left seats.new.left result }
     ensures pool { seats.new.pool ≡ seats.old.pool }
     ensures party { IfOk result (λ seat.
         seat.value ≡ fresh_party seats.old.pool seats.new.left) }
-    ensures no_seat { (result ≡ Err no_seat) ↔ (seats.old.left ≡ 0) }
-    ensures refused { IfErr result (λ code. code ≢ no_seat → code ≡ out_of_memory) }
     ensures kept { OnErr result (seats.new ≡ seats.old) }
 {
     if seats.parties.is_empty() {
@@ -69,20 +63,11 @@ pub extern "C" fn bb_shared_pool_make(
     size: usize,
     parties: u32,
 ) -> u32
-    ensures made { result ≡ done → (bucket : Asked)
-        × IsCuttable bucket_size bucket_align (region_at start size) bucket × (1 ≤ parties)
-        × MakesSharedPool (region_at start size) bucket parties handle.new.value }
-    ensures already_made { (result ≡ already_made) ↔ (handle.old.value ≢ None) }
-    ensures not_a_layout { (result ≡ not_a_layout)
-        ↔ ((handle.old.value ≡ None) × (¬ IsLayout bucket_size bucket_align)) }
-    ensures cannot_make { (result ≡ cannot_make) ↔ ((handle.old.value ≡ None)
-        × CannotShare bucket_size bucket_align (region_at start size) parties) }
-    ensures else_memory { result ≢ done → result ≢ already_made → result ≢ not_a_layout
-        → result ≢ cannot_make → result ≡ out_of_memory }
-    ensures kept { result ≢ done → handle.new.value ≡ handle.old.value }
+    ensures { AnswersPoolMake handle.old.value handle.new.value bucket_size bucket_align result
+        (MayBeShared (region_at start size) parties)
+        (λ bucket. MakesSharedPool (region_at start size) bucket parties) }
 {
-    if let Some(made) = handle.take(alloc) {
-        handle.put(made);
+    if is_made(handle, alloc) {
         return code::ALREADY_MADE;
     }
     let bucket = match cut_into(bucket_size, bucket_align, start, size) {
@@ -95,11 +80,7 @@ pub extern "C" fn bb_shared_pool_make(
     let Some(seats) = PoolSeats::new(alloc, bucket, start, size, parties) else {
         return code::OUT_OF_MEMORY;
     };
-    let Ok(made) = Box::new(alloc, seats) else {
-        return code::OUT_OF_MEMORY;
-    };
-    handle.put(made);
-    code::DONE
+    keep(handle, alloc, seats)
 }
 
 /// Frees the handle of a shared pool, which is empty then. The pool stays as long as a seat at it does. The
@@ -108,11 +89,9 @@ pub extern "C" fn bb_shared_pool_make(
 /// C guarantees of the handle what the crate's page says.
 #[unsafe(no_mangle)]
 pub extern "C" fn bb_shared_pool_free(alloc: Global, handle: &mut SharedPoolHandle) -> u32
-    ensures freed { handle.old.value ≢ None → result ≡ done }
-    ensures not_made { handle.old.value ≡ None → result ≡ not_made }
-    ensures empty { handle.new.value ≡ None }
+    ensures { AnswersFree handle.old.value handle.new.value result }
 {
-    free(handle.take(alloc))
+    free(handle, alloc)
 }
 
 /// Gives a seat to the last party that has none, behind a handle that has to be empty.
@@ -124,20 +103,10 @@ pub extern "C" fn bb_shared_pool_seat(
     handle: &mut SharedPoolHandle,
     seat: &mut PoolSeatHandle,
 ) -> u32
-    ensures seated { (seats : Seats) → handle.old.value ≡ Some seats → result ≡ done
-        → SeatsOne seats handle.new.value seat.new.value }
-    ensures already_made { (result ≡ already_made) ↔ (seat.old.value ≢ None) }
-    ensures not_made { (result ≡ not_made)
-        ↔ ((seat.old.value ≡ None) × (handle.old.value ≡ None)) }
-    ensures no_seat { (seats : Seats) → handle.old.value ≡ Some seats
-        → ((result ≡ no_seat) ↔ ((seat.old.value ≡ None) × (seats.left ≡ 0))) }
-    ensures else_memory { result ≢ done → result ≢ already_made → result ≢ not_made
-        → result ≢ no_seat → result ≡ out_of_memory }
-    ensures kept { result ≢ done → (handle.new.value ≡ handle.old.value)
-        × (seat.new.value ≡ seat.old.value) }
+    ensures { GivesSeat handle.old.value handle.new.value seat.old.value seat.new.value result
+        (λ seats. seats.left) SeatsPoolParty }
 {
-    if let Some(made) = seat.take(alloc) {
-        seat.put(made);
+    if is_made(seat, alloc) {
         return code::ALREADY_MADE;
     }
     let Some(mut seats) = handle.take(alloc) else {
@@ -160,57 +129,25 @@ pub extern "C" fn bb_shared_pool_seat(
 /// C guarantees of the handle what the crate's page says.
 #[unsafe(no_mangle)]
 pub extern "C" fn bb_pool_seat_free(alloc: Global, handle: &mut PoolSeatHandle) -> u32
-    ensures freed { handle.old.value ≢ None → result ≡ done }
-    ensures not_made { handle.old.value ≡ None → result ≡ not_made }
-    ensures empty { handle.new.value ≡ None }
+    ensures { AnswersFree handle.old.value handle.new.value result }
 {
-    free(handle.take(alloc))
-}
-
-/// What the party of a seat is told of its request for so many bytes at a multiple of `align`.
-fn request(seat: &mut PoolSeat, size: usize, align: usize) -> Answer
-    ensures answer { (layout : Asked) → IsOf size align layout
-        → Tells seat.old layout result seat.new }
-    ensures not_a_layout { ¬ IsLayout size align
-        → (result ≡ refused not_a_layout) × (seat.new ≡ seat.old) }
-{
-    match layout_of(size, align) {
-        Some(layout) => give(seat, layout),
-        None => Answer::refusal(code::NOT_A_LAYOUT),
-    }
-}
-
-/// What the party of a seat is told of its request for this layout.
-fn give(seat: &mut PoolSeat, layout: Layout) -> Answer
-    ensures { Tells seat.old layout result seat.new }
-{
-    Answer::of(seat.allocate(layout))
+    free(handle, alloc)
 }
 
 /// Asks for a chunk of `size` bytes at a multiple of `align`, in a bucket that isn't held.
 ///
 /// C guarantees of the handle what the crate's page says.
 #[unsafe(no_mangle)]
-pub extern "C" fn bb_shared_pool_allocate(
+pub extern "C" fn bb_pool_seat_allocate(
     alloc: Global,
     handle: &mut PoolSeatHandle,
     size: usize,
     align: usize,
 ) -> Answer
-    ensures answer { (party : Party) (layout : Asked) → handle.old.value ≡ Some party
-        → IsOf size align layout → AnswersSeat party layout result handle.new.value }
-    ensures not_a_layout { (party : Party) → handle.old.value ≡ Some party
-        → ¬ IsLayout size align
-        → (result ≡ refused not_a_layout) × (handle.new.value ≡ handle.old.value) }
-    ensures not_made { handle.old.value ≡ None
-        → (result ≡ refused not_made) × (handle.new.value ≡ handle.old.value) }
+    ensures { AnswersRequest handle.old.value handle.new.value size align result
+        GivesChunk }
 {
-    let Some(mut seat) = handle.take(alloc) else {
-        return Answer::refusal(code::NOT_MADE);
-    };
-    let answer = request(&mut seat, size, align);
-    handle.put(seat);
-    answer
+    request(handle, alloc, size, align)
 }
 
 /// Gives back the bucket at this place. A place that isn't that of a bucket which this seat holds is refused and changes
@@ -219,168 +156,118 @@ pub extern "C" fn bb_shared_pool_allocate(
 ///
 /// C guarantees of the handle what the crate's page says.
 #[unsafe(no_mangle)]
-pub extern "C" fn bb_shared_pool_deallocate(
+pub extern "C" fn bb_pool_seat_deallocate(
     alloc: Global,
     handle: &mut PoolSeatHandle,
     place: usize,
 ) -> u32
-    ensures freed { (party : Party) → handle.old.value ≡ Some party → HoldsPlace party place
-        → (result ≡ done) × GivesBackSeat party place handle.new.value }
-    ensures not_held { (party : Party) → handle.old.value ≡ Some party
-        → ¬ HoldsPlace party place
-        → (result ≡ not_held) × (handle.new.value ≡ handle.old.value) }
-    ensures not_made { handle.old.value ≡ None
-        → (result ≡ not_made) × (handle.new.value ≡ handle.old.value) }
+    ensures { AnswersReturn handle.old.value handle.new.value result
+        (λ party. HoldsPlace party place) (λ party. GivesBack party place) }
 {
-    let Some(mut seat) = handle.take(alloc) else {
-        return code::NOT_MADE;
-    };
-    let code = seat.give_back(place);
-    handle.put(seat);
-    code
+    give_back(handle, alloc, place)
 }
 
 /// Whether this is the place of a bucket that this seat holds: 1 or 0.
 ///
 /// C guarantees of the handle what the crate's page says.
 #[unsafe(no_mangle)]
-pub extern "C" fn bb_shared_pool_holds(
+pub extern "C" fn bb_pool_seat_holds(
     alloc: Global,
     handle: &mut PoolSeatHandle,
     place: usize,
 ) -> Figure
-    ensures held { (party : Party) → handle.old.value ≡ Some party → HoldsPlace party place
-        → result ≡ figure_of 1 }
-    ensures not_held { (party : Party) → handle.old.value ≡ Some party
-        → ¬ HoldsPlace party place → result ≡ figure_of 0 }
-    ensures not_made { handle.old.value ≡ None → result ≡ no_figure not_made }
-    ensures kept { handle.new.value ≡ handle.old.value }
+    ensures { TellsWhether handle.old.value handle.new.value result
+        (λ party. HoldsPlace party place) }
 {
-    let Some(seat) = handle.take(alloc) else {
-        return Figure::refusal(code::NOT_MADE);
-    };
-    let figure = Figure::of(if seat.holds(place) { 1 } else { 0 });
-    handle.put(seat);
-    figure
+    holds(handle, alloc, place)
 }
 
 /// The number of this seat's party, from 0.
 ///
 /// C guarantees of the handle what the crate's page says.
 #[unsafe(no_mangle)]
-pub extern "C" fn bb_shared_pool_party(alloc: Global, handle: &mut PoolSeatHandle) -> Figure
-    ensures value { (party : Party) → handle.old.value ≡ Some party
-        → result ≡ figure_of party.number }
-    ensures not_made { handle.old.value ≡ None → result ≡ no_figure not_made }
-    ensures kept { handle.new.value ≡ handle.old.value }
+pub extern "C" fn bb_pool_seat_party(alloc: Global, handle: &mut PoolSeatHandle) -> Figure
+    ensures { TellsFigure handle.old.value handle.new.value result (λ party. party.number) }
 {
-    let Some(seat) = handle.take(alloc) else {
-        return Figure::refusal(code::NOT_MADE);
-    };
-    let figure = Figure::of(seat.number() as usize);
-    handle.put(seat);
-    figure
+    tell(handle, alloc, |seat| Figure::of(seat.number() as usize))
 }
 
 /// How many buckets the pool has.
 ///
 /// C guarantees of the handle what the crate's page says.
 #[unsafe(no_mangle)]
-pub extern "C" fn bb_shared_pool_number_of_buckets(
+pub extern "C" fn bb_pool_seat_number_of_buckets(
     alloc: Global,
     handle: &mut PoolSeatHandle,
 ) -> Figure
-    ensures value { (party : Party) → handle.old.value ≡ Some party
-        → result ≡ figure_of party.allocator.scene.geometry.buckets }
-    ensures not_made { handle.old.value ≡ None → result ≡ no_figure not_made }
-    ensures kept { handle.new.value ≡ handle.old.value }
+    ensures { TellsFigure handle.old.value handle.new.value result
+        (λ party. party.allocator.scene.geometry.buckets) }
 {
-    let Some(seat) = handle.take(alloc) else {
-        return Figure::refusal(code::NOT_MADE);
-    };
-    let figure = Figure::of(seat.pool().number_of_buckets() as usize);
-    handle.put(seat);
-    figure
+    tell(
+        handle,
+        alloc,
+        |seat| Figure::of(seat.pool().number_of_buckets() as usize),
+    )
 }
 
 /// The size of a bucket in bytes, as it was asked for.
 ///
 /// C guarantees of the handle what the crate's page says.
 #[unsafe(no_mangle)]
-pub extern "C" fn bb_shared_pool_bucket_size(alloc: Global, handle: &mut PoolSeatHandle) -> Figure
-    ensures value { (party : Party) → handle.old.value ≡ Some party
-        → result ≡ figure_of party.allocator.scene.geometry.bucket.size }
-    ensures not_made { handle.old.value ≡ None → result ≡ no_figure not_made }
-    ensures kept { handle.new.value ≡ handle.old.value }
+pub extern "C" fn bb_pool_seat_bucket_size(alloc: Global, handle: &mut PoolSeatHandle) -> Figure
+    ensures { TellsFigure handle.old.value handle.new.value result
+        (λ party. party.allocator.scene.geometry.bucket.size) }
 {
-    let Some(seat) = handle.take(alloc) else {
-        return Figure::refusal(code::NOT_MADE);
-    };
-    let figure = Figure::of(seat.pool().bucket_size());
-    handle.put(seat);
-    figure
+    tell(handle, alloc, |seat| Figure::of(seat.pool().bucket_size()))
 }
 
 /// The greatest alignment that a request may have.
 ///
 /// C guarantees of the handle what the crate's page says.
 #[unsafe(no_mangle)]
-pub extern "C" fn bb_shared_pool_max_alignment(alloc: Global, handle: &mut PoolSeatHandle) -> Figure
-    ensures value { (party : Party) → handle.old.value ≡ Some party
-        → result ≡ figure_of party.allocator.scene.geometry.bucket.align }
-    ensures not_made { handle.old.value ≡ None → result ≡ no_figure not_made }
-    ensures kept { handle.new.value ≡ handle.old.value }
+pub extern "C" fn bb_pool_seat_max_alignment(alloc: Global, handle: &mut PoolSeatHandle) -> Figure
+    ensures { TellsFigure handle.old.value handle.new.value result
+        (λ party. party.allocator.scene.geometry.bucket.align) }
 {
-    let Some(seat) = handle.take(alloc) else {
-        return Figure::refusal(code::NOT_MADE);
-    };
-    let figure = Figure::of(seat.pool().max_alignment());
-    handle.put(seat);
-    figure
+    tell(
+        handle,
+        alloc,
+        |seat| Figure::of(seat.pool().max_alignment()),
+    )
 }
 
 /// How many bytes the region has, as it was handed in.
 ///
 /// C guarantees of the handle what the crate's page says.
 #[unsafe(no_mangle)]
-pub extern "C" fn bb_shared_pool_size(alloc: Global, handle: &mut PoolSeatHandle) -> Figure
-    ensures value { (party : Party) → handle.old.value ≡ Some party
-        → result ≡ figure_of party.allocator.scene.geometry.region.size }
-    ensures not_made { handle.old.value ≡ None → result ≡ no_figure not_made }
-    ensures kept { handle.new.value ≡ handle.old.value }
+pub extern "C" fn bb_pool_seat_size(alloc: Global, handle: &mut PoolSeatHandle) -> Figure
+    ensures { TellsFigure handle.old.value handle.new.value result
+        (λ party. party.allocator.scene.geometry.region.size) }
 {
-    let Some(seat) = handle.take(alloc) else {
-        return Figure::refusal(code::NOT_MADE);
-    };
-    let figure = Figure::of(seat.pool().size());
-    handle.put(seat);
-    figure
+    tell(handle, alloc, |seat| Figure::of(seat.pool().size()))
 }
 
 /// Where the first bucket is: the region's start, rounded up to the bucket's alignment.
 ///
 /// C guarantees of the handle what the crate's page says.
 #[unsafe(no_mangle)]
-pub extern "C" fn bb_shared_pool_start_address(alloc: Global, handle: &mut PoolSeatHandle) -> Figure
-    ensures value { (party : Party) → handle.old.value ≡ Some party
-        → result ≡ figure_of (first_place party.allocator.scene.geometry.region
+pub extern "C" fn bb_pool_seat_start_address(alloc: Global, handle: &mut PoolSeatHandle) -> Figure
+    ensures { TellsFigure handle.old.value handle.new.value result
+        (λ party. first_place party.allocator.scene.geometry.region
         party.allocator.scene.geometry.bucket) }
-    ensures not_made { handle.old.value ≡ None → result ≡ no_figure not_made }
-    ensures kept { handle.new.value ≡ handle.old.value }
 {
-    let Some(seat) = handle.take(alloc) else {
-        return Figure::refusal(code::NOT_MADE);
-    };
-    let figure = Figure::of(seat.pool().start_address());
-    handle.put(seat);
-    figure
+    tell(
+        handle,
+        alloc,
+        |seat| Figure::of(seat.pool().start_address()),
+    )
 }
 
 /// Gives the chunk at this place the new size, in its bucket, which this seat has to hold.
 ///
 /// C guarantees of the handle what the crate's page says.
 #[unsafe(no_mangle)]
-pub extern "C" fn bb_shared_pool_grow(
+pub extern "C" fn bb_pool_seat_grow(
     alloc: Global,
     handle: &mut PoolSeatHandle,
     place: usize,
@@ -389,30 +276,21 @@ pub extern "C" fn bb_shared_pool_grow(
     new_size: usize,
     new_align: usize,
 ) -> Answer
-    ensures answer { (party : Party) (old new : Asked) → handle.old.value ≡ Some party
-        → IsOf old_size old_align old → IsOf new_size new_align new
-        → TellsGrow (HoldsPlace party place) place old
-        (MayGrow party.allocator.scene.geometry.bucket place old new) result }
-    ensures not_a_layout { (party : Party) → handle.old.value ≡ Some party
-        → ¬ (IsLayout old_size old_align × IsLayout new_size new_align)
-        → result ≡ refused not_a_layout }
-    ensures not_made { handle.old.value ≡ None → result ≡ refused not_made }
-    ensures kept { handle.new.value ≡ handle.old.value }
+    ensures { AnswersGrow handle.old.value handle.new.value place
+        (resize old_size old_align new_size new_align) result
+        (λ party. HoldsPlace party place)
+        (λ party. MayGrow party.allocator.scene.geometry.bucket place) }
 {
-    let layouts = layouts_of(old_size, old_align, new_size, new_align);
-    let Some(seat) = handle.take(alloc) else {
-        return Answer::refusal(code::NOT_MADE);
-    };
-    let answer = seat.grow(place, layouts);
-    handle.put(seat);
-    answer
+    grow(
+        handle, alloc, place, old_size, old_align, new_size, new_align,
+    )
 }
 
 /// Gives the chunk at this place exactly the new size. This seat has to hold its bucket.
 ///
 /// C guarantees of the handle what the crate's page says.
 #[unsafe(no_mangle)]
-pub extern "C" fn bb_shared_pool_shrink(
+pub extern "C" fn bb_pool_seat_shrink(
     alloc: Global,
     handle: &mut PoolSeatHandle,
     place: usize,
@@ -421,58 +299,28 @@ pub extern "C" fn bb_shared_pool_shrink(
     new_size: usize,
     new_align: usize,
 ) -> Answer
-    ensures answer { (party : Party) (old new : Asked) → handle.old.value ≡ Some party
-        → IsOf old_size old_align old → IsOf new_size new_align new
-        → TellsShrink (HoldsPlace party place) place
-        party.allocator.scene.geometry.bucket.size old
-        (MayShrink party.allocator.scene.geometry.bucket place old new) result }
-    ensures not_a_layout { (party : Party) → handle.old.value ≡ Some party
-        → ¬ (IsLayout old_size old_align × IsLayout new_size new_align)
-        → result ≡ refused not_a_layout }
-    ensures not_made { handle.old.value ≡ None → result ≡ refused not_made }
-    ensures kept { handle.new.value ≡ handle.old.value }
+    ensures { AnswersShrink handle.old.value handle.new.value place
+        (resize old_size old_align new_size new_align) result
+        (λ party. HoldsPlace party place)
+        (λ party. party.allocator.scene.geometry.bucket.size)
+        (λ party. MayShrink party.allocator.scene.geometry.bucket place) }
 {
-    let layouts = layouts_of(old_size, old_align, new_size, new_align);
-    let Some(seat) = handle.take(alloc) else {
-        return Answer::refusal(code::NOT_MADE);
-    };
-    let answer = seat.shrink(place, layouts);
-    handle.put(seat);
-    answer
-}
-
-/// How many bytes are reserved for the chunk at this place, if the seat holds its bucket.
-fn reserved(seat: &PoolSeat, place: usize) -> Figure
-    ensures value { HoldsPlace seat.now place
-        → result ≡ figure_of seat.now.allocator.scene.geometry.bucket.size }
-    ensures not_held { ¬ HoldsPlace seat.now place → result ≡ no_figure not_held }
-{
-    if !seat.holds(place) {
-        return Figure::refusal(code::NOT_HELD);
-    }
-    Figure::of(seat.pool().bucket_size())
+    shrink(
+        handle, alloc, place, old_size, old_align, new_size, new_align,
+    )
 }
 
 /// How many bytes are reserved for the chunk at this place, whose bucket this seat has to hold: the bucket's size.
 ///
 /// C guarantees of the handle what the crate's page says.
 #[unsafe(no_mangle)]
-pub extern "C" fn bb_shared_pool_reserved(
+pub extern "C" fn bb_pool_seat_reserved(
     alloc: Global,
     handle: &mut PoolSeatHandle,
     place: usize,
 ) -> Figure
-    ensures value { (party : Party) → handle.old.value ≡ Some party → HoldsPlace party place
-        → result ≡ figure_of party.allocator.scene.geometry.bucket.size }
-    ensures not_held { (party : Party) → handle.old.value ≡ Some party
-        → ¬ HoldsPlace party place → result ≡ no_figure not_held }
-    ensures not_made { handle.old.value ≡ None → result ≡ no_figure not_made }
-    ensures kept { handle.new.value ≡ handle.old.value }
+    ensures { TellsOfHeld handle.old.value handle.new.value result
+        (λ party. HoldsPlace party place) (λ party. party.allocator.scene.geometry.bucket.size) }
 {
-    let Some(seat) = handle.take(alloc) else {
-        return Figure::refusal(code::NOT_MADE);
-    };
-    let figure = reserved(&seat, place);
-    handle.put(seat);
-    figure
+    reserved(handle, alloc, place)
 }

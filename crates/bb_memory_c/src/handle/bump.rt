@@ -1,13 +1,12 @@
 //! The handle of a bump.
-ghost use Rattle.std.specs.Prelude.{◌≡◌, Option, Some, None, MatchOption};
+ghost use Rattle.std.specs.Prelude.{◌≡◌, Option};
 ghost use Rattle.std.specs.declared.alloc.Global.{Global as Heap};
 ghost use Rattle.bb_memory.specs.Bump.{Bump};
 
+use crate::handle::Handle;
 use crate::held::Held;
 use bb_memory::bump_allocator::BumpAllocator;
-use std::alloc::Global;
 use std::marker::Model;
-use std::mem;
 
 /// Empty, or the owner of a bump.
 #[repr(C)]
@@ -26,8 +25,11 @@ impl Model for BumpHandle {
     ghost also_owns = { λ h. owns_if the_row h.heap h.made h.at h.value };
 }
 
-impl BumpHandle {
-    /// The handle of what is held.
+impl Handle for BumpHandle {
+    type Made = BumpAllocator;
+
+    ghost made = { λ h. h.value };
+
     fn of(held: Held<BumpAllocator>) -> BumpHandle
         ensures { result.value ≡ held.value }
     {
@@ -38,34 +40,12 @@ impl BumpHandle {
         }
     }
 
-    /// What it owns.
-    fn into_held(self) -> Held<BumpAllocator>
-        ensures { result.value ≡ self.value }
-    {
+    fn into_held(self) -> Held<BumpAllocator> {
         let BumpHandle { at, made } = self;
         Held {
             at: at as *mut BumpAllocator,
             made,
         }
-    }
-
-    /// Owns this from now on. What it owned before is forgotten, so it has to be empty.
-    pub(crate) fn put(&mut self, made: Box<BumpAllocator>)
-        requires { self.old.value ≡ None }
-        ensures { self.new.value ≡ Some made.value }
-    {
-        *self = BumpHandle::of(Held::of(made));
-    }
-
-    /// What it owned, if it wasn't empty. It is empty then.
-    pub(crate) fn take(&mut self, alloc: Global) -> Option<Box<BumpAllocator>>
-        ensures empty { self.new.value ≡ None }
-        ensures value { MatchOption result (self.old.value ≡ None)
-            (λ made. self.old.value ≡ Some made.value) }
-    {
-        mem::replace(self, BumpHandle::of(Held::nothing(alloc)))
-            .into_held()
-            .into_box(alloc)
     }
 }
 

@@ -1,13 +1,12 @@
 //! The handle of a pool of at most 512 buckets.
-ghost use Rattle.std.specs.Prelude.{◌≡◌, Option, Some, None, MatchOption};
+ghost use Rattle.std.specs.Prelude.{◌≡◌, Option};
 ghost use Rattle.std.specs.declared.alloc.Global.{Global as Heap};
 ghost use Rattle.bb_memory.specs.Pool.{Pool};
 
+use crate::handle::Handle;
 use crate::held::Held;
 use bb_memory::pool_allocator::FixedSizePoolAllocator;
-use std::alloc::Global;
 use std::marker::Model;
-use std::mem;
 
 /// Empty, or the owner of a pool of at most 512 buckets.
 #[repr(C)]
@@ -26,8 +25,11 @@ impl Model for FixedPoolHandle {
     ghost also_owns = { λ h. owns_if the_row h.heap h.made h.at h.value };
 }
 
-impl FixedPoolHandle {
-    /// The handle of what is held.
+impl Handle for FixedPoolHandle {
+    type Made = FixedSizePoolAllocator<512>;
+
+    ghost made = { λ h. h.value };
+
     fn of(held: Held<FixedSizePoolAllocator<512>>) -> FixedPoolHandle
         ensures { result.value ≡ held.value }
     {
@@ -38,34 +40,12 @@ impl FixedPoolHandle {
         }
     }
 
-    /// What it owns.
-    fn into_held(self) -> Held<FixedSizePoolAllocator<512>>
-        ensures { result.value ≡ self.value }
-    {
+    fn into_held(self) -> Held<FixedSizePoolAllocator<512>> {
         let FixedPoolHandle { at, made } = self;
         Held {
             at: at as *mut FixedSizePoolAllocator<512>,
             made,
         }
-    }
-
-    /// Owns this from now on. What it owned before is forgotten, so it has to be empty.
-    pub(crate) fn put(&mut self, made: Box<FixedSizePoolAllocator<512>>)
-        requires { self.old.value ≡ None }
-        ensures { self.new.value ≡ Some made.value }
-    {
-        *self = FixedPoolHandle::of(Held::of(made));
-    }
-
-    /// What it owned, if it wasn't empty. It is empty then.
-    pub(crate) fn take(&mut self, alloc: Global) -> Option<Box<FixedSizePoolAllocator<512>>>
-        ensures empty { self.new.value ≡ None }
-        ensures value { MatchOption result (self.old.value ≡ None)
-            (λ made. self.old.value ≡ Some made.value) }
-    {
-        mem::replace(self, FixedPoolHandle::of(Held::nothing(alloc)))
-            .into_held()
-            .into_box(alloc)
     }
 }
 

@@ -1,13 +1,13 @@
 //! The handle of a pool.
-ghost use Rattle.std.specs.Prelude.{◌≡◌, Option, Some, None, MatchOption};
+ghost use Rattle.std.specs.Prelude.{◌≡◌, Option};
 ghost use Rattle.std.specs.declared.alloc.Global.{Global as Heap};
 ghost use Rattle.bb_memory.specs.Pool.{CountedPool};
 
+use crate::handle::Handle;
 use crate::held::Held;
 use bb_memory::pool_allocator::PoolAllocator;
 use std::alloc::Global;
 use std::marker::Model;
-use std::mem;
 
 /// Empty, or the owner of a pool.
 #[repr(C)]
@@ -26,8 +26,11 @@ impl Model for PoolHandle {
     ghost also_owns = { λ h. owns_if the_row h.heap h.made h.at h.value };
 }
 
-impl PoolHandle {
-    /// The handle of what is held.
+impl Handle for PoolHandle {
+    type Made = PoolAllocator<Global>;
+
+    ghost made = { λ h. h.value };
+
     fn of(held: Held<PoolAllocator<Global>>) -> PoolHandle
         ensures { result.value ≡ held.value }
     {
@@ -38,34 +41,12 @@ impl PoolHandle {
         }
     }
 
-    /// What it owns.
-    fn into_held(self) -> Held<PoolAllocator<Global>>
-        ensures { result.value ≡ self.value }
-    {
+    fn into_held(self) -> Held<PoolAllocator<Global>> {
         let PoolHandle { at, made } = self;
         Held {
             at: at as *mut PoolAllocator<Global>,
             made,
         }
-    }
-
-    /// Owns this from now on. What it owned before is forgotten, so it has to be empty.
-    pub(crate) fn put(&mut self, made: Box<PoolAllocator<Global>>)
-        requires { self.old.value ≡ None }
-        ensures { self.new.value ≡ Some made.value }
-    {
-        *self = PoolHandle::of(Held::of(made));
-    }
-
-    /// What it owned, if it wasn't empty. It is empty then.
-    pub(crate) fn take(&mut self, alloc: Global) -> Option<Box<PoolAllocator<Global>>>
-        ensures empty { self.new.value ≡ None }
-        ensures value { MatchOption result (self.old.value ≡ None)
-            (λ made. self.old.value ≡ Some made.value) }
-    {
-        mem::replace(self, PoolHandle::of(Held::nothing(alloc)))
-            .into_held()
-            .into_box(alloc)
     }
 }
 

@@ -1,13 +1,12 @@
 //! The handle of a seat at a shared pool.
-ghost use Rattle.std.specs.Prelude.{◌≡◌, Option, Some, None, MatchOption};
+ghost use Rattle.std.specs.Prelude.{◌≡◌, Option};
 ghost use Rattle.std.specs.declared.alloc.Global.{Global as Heap};
 ghost use Rattle.bb_memory.specs.SharedPool.{PoolParty as Party};
 
+use crate::handle::Handle;
 use crate::held::Held;
 use crate::pool_seat::PoolSeat;
-use std::alloc::Global;
 use std::marker::Model;
-use std::mem;
 
 /// Empty, or the owner of a seat at a shared pool.
 #[repr(C)]
@@ -26,8 +25,11 @@ impl Model for PoolSeatHandle {
     ghost also_owns = { λ h. owns_if the_row h.heap h.made h.at h.value };
 }
 
-impl PoolSeatHandle {
-    /// The handle of what is held.
+impl Handle for PoolSeatHandle {
+    type Made = PoolSeat;
+
+    ghost made = { λ h. h.value };
+
     fn of(held: Held<PoolSeat>) -> PoolSeatHandle
         ensures { result.value ≡ held.value }
     {
@@ -38,34 +40,12 @@ impl PoolSeatHandle {
         }
     }
 
-    /// What it owns.
-    fn into_held(self) -> Held<PoolSeat>
-        ensures { result.value ≡ self.value }
-    {
+    fn into_held(self) -> Held<PoolSeat> {
         let PoolSeatHandle { at, made } = self;
         Held {
             at: at as *mut PoolSeat,
             made,
         }
-    }
-
-    /// Owns this from now on. What it owned before is forgotten, so it has to be empty.
-    pub(crate) fn put(&mut self, made: Box<PoolSeat>)
-        requires { self.old.value ≡ None }
-        ensures { self.new.value ≡ Some made.value }
-    {
-        *self = PoolSeatHandle::of(Held::of(made));
-    }
-
-    /// What it owned, if it wasn't empty. It is empty then.
-    pub(crate) fn take(&mut self, alloc: Global) -> Option<Box<PoolSeat>>
-        ensures empty { self.new.value ≡ None }
-        ensures value { MatchOption result (self.old.value ≡ None)
-            (λ made. self.old.value ≡ Some made.value) }
-    {
-        mem::replace(self, PoolSeatHandle::of(Held::nothing(alloc)))
-            .into_held()
-            .into_box(alloc)
     }
 }
 

@@ -1,13 +1,12 @@
 //! The handle of a shared bump.
-ghost use Rattle.std.specs.Prelude.{◌≡◌, Option, Some, None, MatchOption};
+ghost use Rattle.std.specs.Prelude.{◌≡◌, Option};
 ghost use Rattle.std.specs.declared.alloc.Global.{Global as Heap};
 ghost use Rattle.bb_memory_c.specs.SharedBumps.{BumpSeats as Seats};
 
 use crate::bump_seat::BumpSeats;
+use crate::handle::Handle;
 use crate::held::Held;
-use std::alloc::Global;
 use std::marker::Model;
-use std::mem;
 
 /// Empty, or the owner of a shared bump.
 #[repr(C)]
@@ -26,8 +25,11 @@ impl Model for SharedBumpHandle {
     ghost also_owns = { λ h. owns_if the_row h.heap h.made h.at h.value };
 }
 
-impl SharedBumpHandle {
-    /// The handle of what is held.
+impl Handle for SharedBumpHandle {
+    type Made = BumpSeats;
+
+    ghost made = { λ h. h.value };
+
     fn of(held: Held<BumpSeats>) -> SharedBumpHandle
         ensures { result.value ≡ held.value }
     {
@@ -38,34 +40,12 @@ impl SharedBumpHandle {
         }
     }
 
-    /// What it owns.
-    fn into_held(self) -> Held<BumpSeats>
-        ensures { result.value ≡ self.value }
-    {
+    fn into_held(self) -> Held<BumpSeats> {
         let SharedBumpHandle { at, made } = self;
         Held {
             at: at as *mut BumpSeats,
             made,
         }
-    }
-
-    /// Owns this from now on. What it owned before is forgotten, so it has to be empty.
-    pub(crate) fn put(&mut self, made: Box<BumpSeats>)
-        requires { self.old.value ≡ None }
-        ensures { self.new.value ≡ Some made.value }
-    {
-        *self = SharedBumpHandle::of(Held::of(made));
-    }
-
-    /// What it owned, if it wasn't empty. It is empty then.
-    pub(crate) fn take(&mut self, alloc: Global) -> Option<Box<BumpSeats>>
-        ensures empty { self.new.value ≡ None }
-        ensures value { MatchOption result (self.old.value ≡ None)
-            (λ made. self.old.value ≡ Some made.value) }
-    {
-        mem::replace(self, SharedBumpHandle::of(Held::nothing(alloc)))
-            .into_held()
-            .into_box(alloc)
     }
 }
 

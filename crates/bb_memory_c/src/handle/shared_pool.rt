@@ -1,13 +1,12 @@
 //! The handle of a shared pool.
-ghost use Rattle.std.specs.Prelude.{◌≡◌, Option, Some, None, MatchOption};
+ghost use Rattle.std.specs.Prelude.{◌≡◌, Option};
 ghost use Rattle.std.specs.declared.alloc.Global.{Global as Heap};
 ghost use Rattle.bb_memory_c.specs.SharedPools.{PoolSeats as Seats};
 
+use crate::handle::Handle;
 use crate::held::Held;
 use crate::pool_seat::PoolSeats;
-use std::alloc::Global;
 use std::marker::Model;
-use std::mem;
 
 /// Empty, or the owner of a shared pool.
 #[repr(C)]
@@ -26,8 +25,11 @@ impl Model for SharedPoolHandle {
     ghost also_owns = { λ h. owns_if the_row h.heap h.made h.at h.value };
 }
 
-impl SharedPoolHandle {
-    /// The handle of what is held.
+impl Handle for SharedPoolHandle {
+    type Made = PoolSeats;
+
+    ghost made = { λ h. h.value };
+
     fn of(held: Held<PoolSeats>) -> SharedPoolHandle
         ensures { result.value ≡ held.value }
     {
@@ -38,34 +40,12 @@ impl SharedPoolHandle {
         }
     }
 
-    /// What it owns.
-    fn into_held(self) -> Held<PoolSeats>
-        ensures { result.value ≡ self.value }
-    {
+    fn into_held(self) -> Held<PoolSeats> {
         let SharedPoolHandle { at, made } = self;
         Held {
             at: at as *mut PoolSeats,
             made,
         }
-    }
-
-    /// Owns this from now on. What it owned before is forgotten, so it has to be empty.
-    pub(crate) fn put(&mut self, made: Box<PoolSeats>)
-        requires { self.old.value ≡ None }
-        ensures { self.new.value ≡ Some made.value }
-    {
-        *self = SharedPoolHandle::of(Held::of(made));
-    }
-
-    /// What it owned, if it wasn't empty. It is empty then.
-    pub(crate) fn take(&mut self, alloc: Global) -> Option<Box<PoolSeats>>
-        ensures empty { self.new.value ≡ None }
-        ensures value { MatchOption result (self.old.value ≡ None)
-            (λ made. self.old.value ≡ Some made.value) }
-    {
-        mem::replace(self, SharedPoolHandle::of(Held::nothing(alloc)))
-            .into_held()
-            .into_box(alloc)
     }
 }
 

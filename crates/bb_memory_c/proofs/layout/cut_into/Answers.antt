@@ -5,7 +5,7 @@ use Rattle.bb_memory_c.proofs.layout.cut_into.Goals as goal
 
 pub returns-then-not-can_make-clause-cannot_make : goal.returns-then-not-can_make-clause-cannot_make
 returns-then-not-can_make-clause-cannot_make c =
-    (λ _. (c.in-Some.bucket, record { layout = c.in-Some.ensures.of; not = search rules }), λ _. refl)
+    (λ _. (c.in-Some.bucket, c.in-Some.ensures.of, search rules), λ _. refl)
 
 pub returns-clause-cannot_make : goal.returns-clause-cannot_make
 returns-clause-cannot_make c = (

@@ -4,47 +4,66 @@ use Rattle.bb_memory_c.specs.SharedPools.{pool_seats}
 use Rattle.bb_memory_c.proofs.Layouts.{cut-share, share-layout, share-or-not}
 use Rattle.bb_memory_c.proofs.shared_pool.bb_shared_pool_make.Goals as goal
 
-pub returns-in-Err-clause-cannot_make : goal.returns-in-Err-clause-cannot_make
-returns-in-Err-clause-cannot_make c = let region = region_at c.args.start c.args.size in (
-  λ is. (search rules, cut-share c.args.bucket_size c.args.bucket_align region c.args.parties (c.in-Err.ensures.cannot_make.0 (ap Err is))),
-  λ not. c.in-Err.ensures.others (λ is. c.in-Err.ensures.not_a_layout.0 (ap Err is)
-      (share-layout c.args.bucket_size c.args.bucket_align region c.args.parties not.1)),
-)
+pub returns-in-Err : goal.returns-in-Err
+returns-in-Err c = let region = region_at c.args.start c.args.size in record {
+  made = search rules;
+  held_one = search rules;
+  no_layout = search rules;
+  cannot = (
+    λ is. (search rules, cut-share c.args.bucket_size c.args.bucket_align region c.args.parties (c.in-Err.ensures.cannot_make.0 (ap Err is))),
+    λ not. c.in-Err.ensures.others (λ is. c.in-Err.ensures.not_a_layout.0 (ap Err is)
+        (share-layout c.args.bucket_size c.args.bucket_align region c.args.parties not.1)),
+  );
+  else_memory = search rules;
+  kept = search rules;
+}
 
-pub returns-then-parties-eq0-clause-cannot_make : goal.returns-then-parties-eq0-clause-cannot_make
-returns-then-parties-eq0-clause-cannot_make c =
-    (λ _. (search rules, (c.in-Ok.bucket, c.in-Ok.ensures.cut.layout, λ some. absurd (omega (arith, c.if-parties-eq0.true, some)))), λ _. refl)
+pub returns-then-parties-eq0 : goal.returns-then-parties-eq0
+returns-then-parties-eq0 c = record {
+  made = search rules;
+  held_one = search rules;
+  no_layout = search rules;
+  cannot = (
+    λ _. (search rules, (c.in-Ok.bucket, c.in-Ok.ensures.cut.layout, λ both. absurd (omega (arith, c.if-parties-eq0.true, both.0)))),
+    λ _. refl,
+  );
+  else_memory = search rules;
+  kept = search rules;
+}
 
-pub returns-in_default-new-clause-cannot_make : goal.returns-in_default-new-clause-cannot_make
-returns-in_default-new-clause-cannot_make c = (
-  λ wrong. absurd (cc),
-  λ not. share-or-not c.args.bucket_size c.args.bucket_align (region_at c.args.start c.args.size)
-      c.args.parties c.in-Ok.bucket c.in-Ok.ensures.cut (search rules) not.1,
-)
+pub returns-in_default : goal.returns-in_default
+returns-in_default c = record {
+  made = search rules;
+  held_one = search rules;
+  no_layout = search rules;
+  cannot = (
+    λ wrong. absurd (cc),
+    λ not. share-or-not c.args.bucket_size c.args.bucket_align (region_at c.args.start c.args.size)
+        c.args.parties c.in-Ok.bucket c.in-Ok.ensures.cut (search rules) not.1,
+  );
+  else_memory = search rules;
+  kept = search rules;
+}
 
-pub returns-in_default-new-2-clause-cannot_make : goal.returns-in_default-new-2-clause-cannot_make
-returns-in_default-new-2-clause-cannot_make c = (
-  λ wrong. absurd (cc),
-  λ not. share-or-not c.args.bucket_size c.args.bucket_align (region_at c.args.start c.args.size)
-      c.args.parties c.in-Ok.bucket c.in-Ok.ensures.cut (search rules) not.1,
-)
-
-pub returns-clause-made : goal.returns-clause-made
-returns-clause-made c = λ _. (
-  c.in-Ok.bucket,
-  c.in-Ok.ensures.cut,
-  search rules,
-  (
-    c.in-Some-new.seats.pool,
-    c.in-Some-new.ensures.pool,
-    c.put-2.ensures ∙ ap Some (c.in-Ok-new.ensures.ok
-        ∙ ap (pool_seats c.in-Some-new.seats.pool) c.in-Some-new.ensures.left),
-  ),
-)
-
-pub returns-clause-cannot_make : goal.returns-clause-cannot_make
-returns-clause-cannot_make c = (
-  λ wrong. absurd (cc),
-  λ not. share-or-not c.args.bucket_size c.args.bucket_align (region_at c.args.start c.args.size)
-      c.args.parties c.in-Ok.bucket c.in-Ok.ensures.cut (search rules) not.1,
-)
+pub returns : goal.returns
+returns c = record {
+  made = λ is. (
+    c.in-Ok.bucket,
+    c.in-Ok.ensures.cut.layout,
+    (search rules, c.in-Ok.ensures.cut.may),
+    (
+      c.in-Some.seats.pool,
+      c.in-Some.ensures.pool,
+      c.keep.ensures.done is ∙ ap (λ n. Some (pool_seats c.in-Some.seats.pool n)) c.in-Some.ensures.left,
+    ),
+  );
+  held_one = search rules;
+  no_layout = search rules;
+  cannot = (
+    λ wrong. search rules,
+    λ not. share-or-not c.args.bucket_size c.args.bucket_align (region_at c.args.start c.args.size)
+        c.args.parties c.in-Ok.bucket c.in-Ok.ensures.cut (search rules) not.1,
+  );
+  else_memory = search rules;
+  kept = search rules;
+}

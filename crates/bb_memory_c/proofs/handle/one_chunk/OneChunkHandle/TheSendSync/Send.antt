@@ -1,14 +1,10 @@
 -- The handle may go to another thread.
-use denote.Param.Send.{IsSend, owning_send, struct_send, sendable}
-use denote.Builtin.{RawPtr, bool}
-use denote.Struct.Struct.{exits_of}
-use denote.Struct.Owning.{shape, fields, to}
+use denote.Param.Send.{IsSend, owning_send}
 use Rattle.bb_memory_c.specs.Rows.{one_chunk_row as made_row}
 use Rattle.bb_memory.proofs.one_chunk_allocator.OneChunkAllocator.TheSendSync.{the_send}
-use Rattle.bb_memory_c.proofs.Crossing.{owned, quiet}
+use Rattle.bb_memory_c.proofs.Crossing.{owned, two_send}
 use Rattle.bb_memory_c.specs.contracts.handle.one_chunk.OneChunkHandle.{the_row, the_type}
 
 pub send : IsSend the_row
-send = let ps : IsSend RawPtr = search sendable in let bs : IsSend bool = search sendable in let made : IsSend made_row = the_send in
-    owning_send the_type (ps, (bs, tt)) (λ d. owned made_row made d.heap d.made d.at d.value)
-    (λ k. quiet (to the_type) (exits_of k (fields the_type)) ((struct_send (shape the_type) (ps, (bs, tt))).leaving k))
+send = let made : IsSend made_row = the_send in
+    owning_send the_type two_send (λ d. owned made_row made d.heap d.made d.at d.value) (λ k x w. tt)
