@@ -10,7 +10,6 @@ use bb_memory::layout::Layout;
 use bb_memory::shared_bump::{BumpParty, SharedBumpAllocator};
 use std::alloc::Global;
 use std::process::Abort;
-use std::test::Fail;
 
 /// The calls of row `share-two-parties` on a bump of 64 bytes at 4096, with its two parties.
 const TWO_PARTIES: [Row; 6] = [
@@ -107,25 +106,23 @@ fn into_owner_of_the_last_of_three(rt: HostRuntime) {
     shared_answers(&rt, rt.alloc(), 0, 3, &rows, 40);
 }
 
-/// A bump that has no room for a byte refuses it to its owner.
-fn is_full(rt: &impl Abort, mut bump: BumpAllocator) -> Result<(), Fail> {
-    let byte = Layout::from_size_align(1, 1)?;
-    assert_eq!(rt; bump.allocate(byte), Err(AllocationError::OutOfMemory));
-    Ok(())
+/// Whether a bump that has no room for a byte refuses it to its owner.
+fn is_full(mut bump: BumpAllocator) -> bool {
+    match Layout::from_size_align(1, 1) {
+        Ok(byte) => bump.allocate(byte) == Err(AllocationError::OutOfMemory),
+        Err(_) => false,
+    }
 }
 
 #[test]
-fn share_of_one_party(rt: HostRuntime) -> Result<(), Fail> {
+fn share_of_one_party(rt: HostRuntime) {
     let Some((shared, mut parties)) = share_of(rt.alloc(), 64, 0, 1) else {
-        return Err(Fail::from("share"));
+        panic!(&rt; "share");
     };
     assert_eq!(rt; parties.len(), 1);
     let rows = [(0, Call::Take(64, 1), Answer::Chunk(4096, 64))];
     hold(&rt, &shared, &mut parties, &rows);
-    match owner_by_last(shared, parties) {
-        Some(bump) => is_full(&rt, bump),
-        None => Err(Fail::from("no party came back")),
-    }
+    assert!(rt; owner_by_last(shared, parties).is_some_and(is_full));
 }
 
 /// As many parties as asked, numbered from 0, of which the last one takes the first byte.
