@@ -1,7 +1,7 @@
 //! The bump of one owner, each row by its name.
 use super::errors::has_text;
 use super::layouts::{chunk, layout};
-use super::owner::kinds::{Run, runs};
+use super::owner::kinds::runs;
 use super::owner::{Answer, Call, Owner, Step, all_keep, sevens};
 use bb_memory::allocator::{AllocationError, Command, Reply};
 use bb_memory::bump_allocator::{BaseAllocator, BumpAllocator};
@@ -72,9 +72,6 @@ fn a_run_over_a_bump(rt: HostRuntime) {
         Reply::Passed,
         Reply::Released,
     ];
-    let table = [
-        (Run::Base, replies.as_slice()),
-        (Run::BaseByName, replies.as_slice()),
-    ];
-    runs(&rt, bump_owner(rt.alloc(), 4096, 8), &commands, &table);
+    let made = bump_owner(rt.alloc(), 4096, 8);
+    runs(&rt, made, &commands, &replies, &replies);
 }

@@ -42,10 +42,15 @@ pub(super) fn fixed_owner<const N: usize>(
     Ok(Owner::new(alloc, pool, region))
 }
 
-/// Each of these steps of a fixed pool over 1,024 bytes at 4096 is as it has to be. The figures are the number of buckets, the
-/// region's size, and the bucket's size and alignment.
-fn fixed_keeps<const N: usize>(rt: &impl Abort, alloc: Global, steps: &[Step<'_>]) {
-    all_keep(rt, fixed_owner::<N>(alloc, (128, 8), 4096, 1024), steps);
+/// Each of these steps of a fixed pool of at most four buckets, over 1,024 bytes at 4096, is as it has to be. The figures are the
+/// number of buckets, the region's size, and the bucket's size and alignment.
+fn four_keep(rt: &impl Abort, alloc: Global, steps: &[Step<'_>]) {
+    all_keep(rt, fixed_owner::<4>(alloc, (128, 8), 4096, 1024), steps);
+}
+
+/// The same of one of at most 512 buckets, of which it has eight.
+fn eight_keep(rt: &impl Abort, alloc: Global, steps: &[Step<'_>]) {
+    all_keep(rt, fixed_owner::<512>(alloc, (128, 8), 4096, 1024), steps);
 }
 
 /// Calls that no row makes.
@@ -58,7 +63,7 @@ fn a_fixed_pool_call_by_call(rt: HostRuntime) {
         Step::Call(Call::Reserved(0), Answer::Reserved(128)),
         Step::Laws,
     ];
-    fixed_keeps::<4>(&rt, rt.alloc(), &steps);
+    four_keep(&rt, rt.alloc(), &steps);
 }
 
 #[test]
@@ -74,7 +79,7 @@ fn fixed_constant_four(rt: HostRuntime) {
         Step::Call(Call::Allocate(0, 1), refused),
         Step::At(4096, 128, 4),
     ];
-    fixed_keeps::<4>(&rt, rt.alloc(), &steps);
+    four_keep(&rt, rt.alloc(), &steps);
 }
 
 #[test]
@@ -86,7 +91,7 @@ fn fixed_doc_example(rt: HostRuntime) {
         Step::ZerosIn(0, 48, 16),
         Step::Call(Call::Deallocate(0), Answer::Done),
     ];
-    fixed_keeps::<512>(&rt, rt.alloc(), &steps);
+    eight_keep(&rt, rt.alloc(), &steps);
 }
 
 #[test]
@@ -97,7 +102,7 @@ fn fixed_grow_zeroed_refused(rt: HostRuntime) {
         Step::Call(Call::GrowZeroed(0, (48, 4), (129, 4)), refused),
         Step::Zeros(4096, 0),
     ];
-    fixed_keeps::<512>(&rt, rt.alloc(), &steps);
+    eight_keep(&rt, rt.alloc(), &steps);
 }
 
 /// A request that a full pool refuses leaves the text of derived Debug as it was.

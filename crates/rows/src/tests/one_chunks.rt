@@ -1,6 +1,6 @@
 //! The one chunk, each row by its name.
 use super::layouts::{chunk, layout};
-use super::owner::kinds::{Run, runs};
+use super::owner::kinds::runs;
 use super::owner::{Answer, Call, Owner, Step, all_keep, sevens};
 use bb_memory::allocator::{AllocationError, Command, Reply};
 use bb_memory::one_chunk_allocator::OneChunkAllocator;
@@ -61,9 +61,11 @@ fn runs_over_a_one_chunk(rt: HostRuntime) {
     let refused = Reply::Refused(AllocationError::OutOfMemory);
     let full = [given, shrunk, refused, Reply::Released];
     let base = [given, Reply::Passed, refused, Reply::Released];
-    let table = [
-        (Run::FullByName, full.as_slice()),
-        (Run::BaseByName, base.as_slice()),
-    ];
-    runs(&rt, one_owner(rt.alloc(), 4097, 1024), &commands, &table);
+    runs(
+        &rt,
+        one_owner(rt.alloc(), 4097, 1024),
+        &commands,
+        &full,
+        &base,
+    );
 }

@@ -4,7 +4,7 @@ ghost use Rattle.bb_memory_base.specs.Region.{region_at};
 ghost use Rattle.bb_memory.specs.Pool.{StandsFor};
 
 use super::layouts::{chunk, layout, layout_of};
-use super::owner::kinds::{Kind, Run, runs};
+use super::owner::kinds::{Kind, runs};
 use super::owner::{Answer, Call, Owner, Step, all_keep, keeps, sevens};
 use bb_memory::allocator::{Command, Reply};
 use bb_memory::layout::Layout;
@@ -228,17 +228,13 @@ pub(super) fn resized_and_refused(rt: &impl Abort, resizes: bool) -> [Reply; 4] 
     ]
 }
 
-/// Such runs over a pool, by their names.
+/// Such runs over a pool.
 pub(super) fn resize_runs<A: Kind>(rt: &impl Abort, made: Result<Owner<A>, &'static str>) {
     let (full, base) = (
         resized_and_refused(rt, true),
         resized_and_refused(rt, false),
     );
-    let table = [
-        (Run::FullByName, full.as_slice()),
-        (Run::BaseByName, base.as_slice()),
-    ];
-    runs(rt, made, &resize_and_refusal(rt), &table);
+    runs(rt, made, &resize_and_refusal(rt), &full, &base);
 }
 
 /// A resize is carried out by the run with resizes, and passed over by the other.

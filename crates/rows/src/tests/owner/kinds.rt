@@ -233,19 +233,25 @@ pub(crate) fn replies_are(rt: &impl Abort, told: Result<Vec<Reply>, AllocError>,
     }
 }
 
-/// The runs of these commands, one behind the other, are replied so, and each leaves no chunk out.
+/// These commands are replied so where resizes are carried out, and so where they are passed over: by the run over any allocator
+/// and by that of the allocator's name, one behind the other. Each leaves no chunk out.
 pub(crate) fn runs<A: Kind>(
     rt: &impl Abort,
     made: Result<Owner<A>, &'static str>,
     commands: &[Command],
-    table: &[(Run, &[Reply])],
+    full: &[Reply],
+    base: &[Reply],
 ) {
     let mut owner = match made {
         Ok(owner) => owner,
         Err(cause) => panic!(rt; "{cause}"),
     };
-    for (run, replies) in table {
-        replies_are(rt, A::run(&mut owner, *run, commands), replies);
+    for run in [Run::Full, Run::FullByName] {
+        replies_are(rt, A::run(&mut owner, run, commands), full);
+        assert_eq!(rt; owner.live.len(), 0);
+    }
+    for run in [Run::Base, Run::BaseByName] {
+        replies_are(rt, A::run(&mut owner, run, commands), base);
         assert_eq!(rt; owner.live.len(), 0);
     }
 }
