@@ -75,17 +75,17 @@ fn a_pool_call_by_call(rt: HostRuntime) {
     pool_keeps(&rt, rt.alloc(), (128, 8), (4096, 1024), &steps);
 }
 
-/// How many bytes the lists of a pool take.
-pub(super) fn memory_size(bucket: Layout, size: usize) -> usize {
-    if bucket.size() == 0 {
-        return 0;
+/// How many bytes are enough for a pool's index words, where the call's conditions hold.
+pub(super) fn memory_size(bucket: Layout, size: usize) -> Option<usize> {
+    if bucket.size() == 0 || size / bucket.size() > u32::MAX as usize {
+        return None;
     }
-    PoolAllocator::memory_size(bucket, size)
+    Some(PoolAllocator::memory_size(bucket, size))
 }
 
 #[test]
 fn pool_rounded_stride(rt: HostRuntime) {
-    assert_eq!(rt; memory_size(layout(&rt, 12, 8), 64), 40);
+    assert_eq!(rt; memory_size(layout(&rt, 12, 8), 64), Some(40));
     let twelve = Step::Call(Call::Allocate(12, 8), Answer::Somewhere(12));
     let steps = [
         Step::Figures([4096, 4, 64, 12, 8]),
@@ -102,9 +102,9 @@ fn pool_rounded_stride(rt: HostRuntime) {
 #[test]
 fn memory_sizes(rt: HostRuntime) {
     let wide = layout(&rt, 128, 8);
-    assert_eq!(rt; memory_size(wide, 1024), 64);
-    assert_eq!(rt; memory_size(layout(&rt, 12, 8), 64), 40);
-    assert_eq!(rt; memory_size(wide, 100), 0);
+    assert_eq!(rt; memory_size(wide, 1024), Some(64));
+    assert_eq!(rt; memory_size(layout(&rt, 12, 8), 64), Some(40));
+    assert_eq!(rt; memory_size(wide, 100), Some(0));
 }
 
 #[test]
