@@ -56,11 +56,19 @@ fn runs_over_a_one_chunk(rt: HostRuntime) {
         Command::Allocate(of_48),
         Command::Release(0),
     ];
-    let given = Reply::Chunk(chunk(&rt, 4100, 1021));
-    let shrunk = Reply::Chunk(chunk(&rt, 4100, 32));
-    let refused = Reply::Refused(AllocationError::OutOfMemory);
-    let full = [given, shrunk, refused, Reply::Released];
-    let base = [given, Reply::Passed, refused, Reply::Released];
+    let given = chunk(&rt, 4100, 1021);
+    let full = [
+        Reply::Chunk(given),
+        Reply::Chunk(chunk(&rt, 4100, 32)),
+        Reply::Refused(AllocationError::OutOfMemory),
+        Reply::Released,
+    ];
+    let base = [
+        Reply::Chunk(given),
+        Reply::Passed,
+        Reply::Refused(AllocationError::OutOfMemory),
+        Reply::Released,
+    ];
     runs(
         &rt,
         one_owner(rt.alloc(), 4097, 1024),

@@ -109,15 +109,15 @@ fn resizes(rt: &impl Abort) -> [Command; 8] {
 #[test]
 fn one_resizes(rt: HostRuntime) {
     let commands = resizes(&rt);
-    let whole = Reply::Chunk(chunk(&rt, 4100, 1021));
+    let whole = chunk(&rt, 4100, 1021);
     let replies = [
-        whole,
+        Reply::Chunk(whole),
         Reply::Chunk(chunk(&rt, 4100, 32)),
-        whole,
+        Reply::Chunk(whole),
         Reply::GrowRefused(AllocationGrowError::GrowWouldShrink),
         Reply::GrowRefused(AllocationGrowError::AlignmentFailure),
         Reply::GrowRefused(AllocationGrowError::OutOfMemory),
-        whole,
+        Reply::Chunk(whole),
         Reply::Passed,
     ];
     let row = Row {
