@@ -1,5 +1,5 @@
 //! Each layer, driven.
-ghost use Rattle.std.specs.Prelude.{◌≡◌, [], All, IfSome};
+ghost use Rattle.std.specs.Prelude.{◌≡◌, [], IfSome};
 ghost use Rattle.bb_memory_base.specs.HeldBytes.{held_region};
 ghost use Rattle.bb_memory.specs.Pool.{StandsFor};
 
@@ -136,12 +136,12 @@ fn taken_at_once(
     rt: &impl Threads,
     alloc: Global,
     shared: SharedBumpAllocator,
-    mut parties: Vec<BumpParty>,
+    here: BumpParty,
+    there: BumpParty,
 ) -> Option<(u64, usize)>
-    requires { All (λ party. party.allocator ≡ shared) parties.items }
+    requires here { here.allocator ≡ shared }
+    requires there { there.allocator ≡ shared }
 {
-    let there = parties.pop()?;
-    let here = parties.pop()?;
     let shared = Arc::new(alloc, shared).ok()?;
     let of_100 = Layout::from_size_align(100, 4).unwrap();
     let (here, there, taken) = two_workers(rt, &shared, here, there, of_100).ok()?;
@@ -151,8 +151,10 @@ fn taken_at_once(
 #[test]
 fn workers_share_a_region(rt: HostRuntime) {
     match BumpAllocator::new(4096, 1024).share(rt.alloc(), 2) {
-        Ok((shared, parties)) => {
-            let found = taken_at_once(&rt, rt.alloc(), shared, parties);
+        Ok((shared, mut parties)) => {
+            let there = parties.pop().unwrap();
+            let here = parties.pop().unwrap();
+            let found = taken_at_once(&rt, rt.alloc(), shared, here, there);
             assert_eq!(rt; found, Some((4, 400)));
         }
         Err(_) => panic!(&rt; "{REFUSED}"),
