@@ -1,5 +1,5 @@
 //! Each layer, driven.
-ghost use Rattle.std.specs.Prelude.{◌≡◌, [], IfOk, length};
+ghost use Rattle.std.specs.Prelude.{◌≡◌, [], IfSome};
 ghost use Rattle.bb_memory_base.specs.HeldBytes.{held_region};
 ghost use Rattle.bb_memory.specs.Pool.{StandsFor};
 
@@ -14,48 +14,50 @@ use bb_memory::layout::Layout;
 use bb_memory::pool_allocator::{FixedSizePoolAllocator, pool_count_law, pool_object_law};
 use bb_memory::region::Region;
 use bb_memory::shared_bump::{BumpParty, SharedBumpAllocator};
-use rows::{LineAnswer, LineCall, LineRow, SlabAnswer, SlabCall, SlabRow, first_wrong};
-use std::alloc::{AllocError, Global};
+use rows::{LineAnswer, LineCall, LineRow, SlabAnswer, SlabCall, SlabRow, all_kept};
+use std::alloc::Global;
+use std::process::Abort;
 use std::sync::Arc;
-use std::test::Fail;
+use std::thread::Threads;
 use uses::mailbox::Mailbox;
 use uses::ring::MessageRing;
 use uses::slab::Slab;
 use uses::workers::two_workers;
 
+/// Memory for what a test makes was refused.
+const REFUSED: &str = "memory was refused";
+
 /// A pool of 8 buckets of 128 bytes, of which none is out.
 #[tactic(auto, unfolding(bb_memory_base::specs::LeastPlace::least_place))]
-fn eight_buckets() -> Result<FixedSizePoolAllocator<16>, Fail>
-    ensures fresh { IfOk result (λ pool. StandsFor pool []) }
-    ensures start { IfOk result (λ pool. pool.geometry.region.start ≡ 4096) }
-    ensures size { IfOk result (λ pool. pool.geometry.region.size ≡ 1024) }
+fn eight_buckets() -> FixedSizePoolAllocator<16>
+    ensures fresh { StandsFor result [] }
+    ensures start { result.geometry.region.start ≡ 4096 }
+    ensures size { result.geometry.region.size ≡ 1024 }
 {
     pool_count_law();
-    let bucket = Layout::from_size_align(128, 8)?;
-    Ok(FixedSizePoolAllocator::new(bucket, 4096, 1024))
+    FixedSizePoolAllocator::new(Layout::from_size_align(128, 8).unwrap(), 4096, 1024)
 }
 
-/// Its region.
-fn its_region(alloc: Global) -> Result<Region, Fail>
-    ensures { IfOk result (λ region. held_region region ≡ record { start = 4096; size = 1024 }) }
+/// Its region, or none where memory was refused.
+fn its_region(alloc: Global) -> Option<Region>
+    ensures { IfSome result (λ region. held_region region ≡ record { start = 4096; size = 1024 }) }
 {
-    Ok(Region::new(4096, zeros(alloc, 1024)?))
+    match vec![in alloc; 0; 1024] {
+        Ok(bytes) => Some(Region::new(4096, bytes)),
+        Err(_) => None,
+    }
 }
 
-fn zeros(alloc: Global, len: usize) -> Result<Vec<u8>, AllocError>
-    ensures { IfOk result (λ bytes. length bytes.items ≡ len) }
-{
-    vec![in alloc; 0; len]
-}
-
-/// The first row that a slab doesn't answer as it has it.
-fn first_wrong_of_slab(alloc: Global, rows: &[SlabRow<'_>]) -> Result<Option<usize>, Fail> {
-    let mut slab = Slab::new(alloc, eight_buckets()?, its_region(alloc)?);
-    Ok(first_wrong(&mut slab, rows))
+/// A slab keeps each row.
+fn slab_keeps(rt: &impl Abort, alloc: Global, rows: &[SlabRow<'_>]) {
+    match its_region(alloc) {
+        Some(region) => all_kept(rt, Slab::new(alloc, eight_buckets(), region), rows),
+        None => panic!(rt; "{REFUSED}"),
+    }
 }
 
 #[test]
-fn slab_of_three_records(rt: HostRuntime) -> Result<(), Fail> {
+fn slab_of_three_records(rt: HostRuntime) {
     let rows = [
         (SlabCall::Insert(&[1, 2, 3]), SlabAnswer::Done),
         (SlabCall::Insert(&[4, 5]), SlabAnswer::Done),
@@ -67,18 +69,19 @@ fn slab_of_three_records(rt: HostRuntime) -> Result<(), Fail> {
         (SlabCall::Read(0), SlabAnswer::Record(&[7, 8])),
         (SlabCall::Read(1), SlabAnswer::Record(&[6])),
     ];
-    assert_eq!(rt; first_wrong_of_slab(rt.alloc(), &rows)?, None);
-    Ok(())
+    slab_keeps(&rt, rt.alloc(), &rows);
 }
 
-/// The first row that a mailbox doesn't answer as it has it.
-fn first_wrong_of_mailbox(alloc: Global, rows: &[LineRow<'_>]) -> Result<Option<usize>, Fail> {
-    let mut mailbox = Mailbox::new(alloc, eight_buckets()?, its_region(alloc)?);
-    Ok(first_wrong(&mut mailbox, rows))
+/// A mailbox keeps each row.
+fn mailbox_keeps(rt: &impl Abort, alloc: Global, rows: &[LineRow<'_>]) {
+    match its_region(alloc) {
+        Some(region) => all_kept(rt, Mailbox::new(alloc, eight_buckets(), region), rows),
+        None => panic!(rt; "{REFUSED}"),
+    }
 }
 
 #[test]
-fn mailbox_in_order(rt: HostRuntime) -> Result<(), Fail> {
+fn mailbox_in_order(rt: HostRuntime) {
     let rows = [
         (LineCall::Next, LineAnswer::Left(false)),
         (LineCall::Send(&[1, 2, 3]), LineAnswer::Sent),
@@ -88,19 +91,24 @@ fn mailbox_in_order(rt: HostRuntime) -> Result<(), Fail> {
         (LineCall::Front, LineAnswer::Message(&[4])),
         (LineCall::Waiting, LineAnswer::Waiting(1)),
     ];
-    assert_eq!(rt; first_wrong_of_mailbox(rt.alloc(), &rows)?, None);
-    Ok(())
+    mailbox_keeps(&rt, rt.alloc(), &rows);
 }
 
-/// The first row that a ring for two readers doesn't answer as it has it.
-fn first_wrong_of_ring(alloc: Global, rows: &[LineRow<'_>]) -> Result<Option<usize>, Fail> {
+/// A ring for two readers keeps each row.
+fn ring_keeps(rt: &impl Abort, alloc: Global, rows: &[LineRow<'_>]) {
     pool_object_law();
-    let mut ring = MessageRing::new(alloc, eight_buckets()?, its_region(alloc)?, 2);
-    Ok(first_wrong(&mut ring, rows))
+    match its_region(alloc) {
+        Some(region) => all_kept(
+            rt,
+            MessageRing::new(alloc, eight_buckets(), region, 2),
+            rows,
+        ),
+        None => panic!(rt; "{REFUSED}"),
+    }
 }
 
 #[test]
-fn ring_for_two_readers(rt: HostRuntime) -> Result<(), Fail> {
+fn ring_for_two_readers(rt: HostRuntime) {
     let rows = [
         (LineCall::Send(&[1, 2]), LineAnswer::Sent),
         (LineCall::Send(&[3]), LineAnswer::Sent),
@@ -111,8 +119,7 @@ fn ring_for_two_readers(rt: HostRuntime) -> Result<(), Fail> {
         (LineCall::Front, LineAnswer::Message(&[3])),
         (LineCall::Waiting, LineAnswer::Waiting(1)),
     ];
-    assert_eq!(rt; first_wrong_of_ring(rt.alloc(), &rows)?, None);
-    Ok(())
+    ring_keeps(&rt, rt.alloc(), &rows);
 }
 
 /// How much is used, as one of two parties finds that have met.
@@ -124,22 +131,32 @@ fn used_where_met(shared: &SharedBumpAllocator, mut here: BumpParty, mut there: 
     shared.used_space(&mut here)
 }
 
+/// How many chunks two threads take at once from a shared region, and how much is used then. None is where memory was refused.
+fn taken_at_once(
+    rt: &impl Threads,
+    alloc: Global,
+    shared: SharedBumpAllocator,
+    here: BumpParty,
+    there: BumpParty,
+) -> Option<(u64, usize)>
+    requires here { here.allocator ≡ shared }
+    requires there { there.allocator ≡ shared }
+{
+    let shared = Arc::new(alloc, shared).ok()?;
+    let of_100 = Layout::from_size_align(100, 4).unwrap();
+    let (here, there, taken) = two_workers(rt, &shared, here, there, of_100).ok()?;
+    Some((taken, used_where_met(&shared, here, there)))
+}
+
 #[test]
-fn workers_share_a_region(rt: HostRuntime) -> Result<(), Fail> {
-    let Ok((shared, mut parties)) = BumpAllocator::new(4096, 1024).share(rt.alloc(), 2) else {
-        return Err(Fail::from("share"));
-    };
-    let there = parties.pop().unwrap();
-    let here = parties.pop().unwrap();
-    let shared = Arc::new(rt.alloc(), shared)?;
-    let (here, there, taken) = two_workers(
-        &rt,
-        &shared,
-        here,
-        there,
-        Layout::from_size_align(100, 4)?,
-    )?;
-    assert_eq!(rt; taken, 4);
-    assert_eq!(rt; used_where_met(&shared, here, there), 400);
-    Ok(())
+fn workers_share_a_region(rt: HostRuntime) {
+    match BumpAllocator::new(4096, 1024).share(rt.alloc(), 2) {
+        Ok((shared, mut parties)) => {
+            let there = parties.pop().unwrap();
+            let here = parties.pop().unwrap();
+            let found = taken_at_once(&rt, rt.alloc(), shared, here, there);
+            assert_eq!(rt; found, Some((4, 400)));
+        }
+        Err(_) => panic!(&rt; "{REFUSED}"),
+    }
 }

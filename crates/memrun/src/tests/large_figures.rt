@@ -1,7 +1,6 @@
 //! Scripts with figures of 1 MiB, 4 GiB and 1 TiB. Those of thousands of lines and of many buckets, `.ci/run-memrun` has.
 use super::table::check_rows;
 use script_runner::Status;
-use std::test::Fail;
 
 const MANY_BYTES: &str = "\
 a bump of 1 TiB
@@ -37,7 +36,6 @@ loan 4294967296
 SizeTooLarge; loan 0 4096 1099511627776; OutOfMemory; returned; loan 1 4096 4294967296";
 
 #[test]
-fn figures_of_many_bytes(rt: HostRuntime) -> Result<(), Fail> {
-    assert_eq!(rt; check_rows(&rt, rt.alloc(), Status::Done, MANY_BYTES)?, 6);
-    Ok(())
+fn figures_of_many_bytes(rt: HostRuntime) {
+    check_rows(&rt, rt.alloc(), Status::Done, MANY_BYTES, 6);
 }

@@ -1,7 +1,6 @@
 //! Scripts that loan samples from a pool, each row by its name.
 use super::table::check_rows;
 use script_runner::Status;
-use std::test::Fail;
 
 const LOANS: &str = "\
 loan-pool-two-readers
@@ -24,9 +23,8 @@ a first line alone
 loan-pool 4096 128 128 8";
 
 #[test]
-fn loan_scripts(rt: HostRuntime) -> Result<(), Fail> {
-    assert_eq!(rt; check_rows(&rt, rt.alloc(), Status::Done, LOANS)?, 4);
-    Ok(())
+fn loan_scripts(rt: HostRuntime) {
+    check_rows(&rt, rt.alloc(), Status::Done, LOANS, 4);
 }
 
 const UNREADABLE: &str = "\
@@ -51,10 +49,6 @@ loan-pool 4096 128 128 8; alloc 1 1
 line 2: refused";
 
 #[test]
-fn unreadable_loan_scripts(rt: HostRuntime) -> Result<(), Fail> {
-    assert_eq!(rt;
-        check_rows(&rt, rt.alloc(), Status::Unreadable, UNREADABLE)?,
-        5
-    );
-    Ok(())
+fn unreadable_loan_scripts(rt: HostRuntime) {
+    check_rows(&rt, rt.alloc(), Status::Unreadable, UNREADABLE, 5);
 }

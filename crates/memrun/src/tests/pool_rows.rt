@@ -2,8 +2,8 @@
 use super::buckets::{Named, behind_chunks};
 use super::table::{answer, check_rows, lines};
 use script_runner::Status;
-use std::alloc::{AllocError, Global};
-use std::test::Fail;
+use std::alloc::Global;
+use std::process::Abort;
 
 const POOLS: &str = "\
 pool-huge-alignment
@@ -42,47 +42,50 @@ fixed size 1024 bucket 128 align 8 buckets 8 live 0
 4096 4224 4352 4480 4608 4736 4864 4992";
 
 #[test]
-fn pool_scripts(rt: HostRuntime) -> Result<(), Fail> {
-    assert_eq!(rt; check_rows(&rt, rt.alloc(), Status::Done, POOLS)?, 6);
-    Ok(())
+fn pool_scripts(rt: HostRuntime) {
+    check_rows(&rt, rt.alloc(), Status::Done, POOLS, 6);
 }
 
-/// The buckets of a pool of 128 bytes each, in a region of 1024 bytes at 4096.
-fn eight_buckets(alloc: Global) -> Result<Named, AllocError> {
-    Named::new(alloc, 4096, 128, 8)
+/// What a script writes, which has to be done.
+fn told_of(rt: &impl Abort, alloc: Global, script: &str) -> Vec<u8> {
+    let script = lines(alloc, script).expect(rt, "there is memory for a script");
+    let (status, told) = answer(alloc, &script);
+    assert_eq!(rt; status, Status::Done);
+    told
+}
+
+/// What stands behind the first lines of a text, of which so many each tell a chunk of 48 bytes in another bucket: of a pool of
+/// eight of 128 bytes each, in a region of 1024 bytes at 4096.
+fn behind_eight_buckets<'a>(alloc: Global, text: &'a str, chunks: usize) -> Option<&'a str> {
+    let mut named = Named::new(alloc, 4096, 128, 8).ok()?;
+    behind_chunks(&mut named, text, chunks, " 48")
 }
 
 #[test]
-fn pool_eight_buckets(rt: HostRuntime) -> Result<(), Fail> {
-    let script = lines(
+fn pool_eight_buckets(rt: HostRuntime) {
+    let told = told_of(
+        &rt,
         rt.alloc(),
         "pool 4096 1024 128 8; alloc 129 8; alloc 129 16; alloc 48 16; alloc 48 4; alloc 48 4; alloc 48 4; \
          alloc 48 4; alloc 48 4; alloc 48 4; alloc 48 4; alloc 48 4; alloc 48 4; free 0; alloc 48 4",
-    )?;
-    let (status, told) = answer(rt.alloc(), &script);
-    assert_eq!(rt; status, Status::Done);
+    );
     let told = str::from_utf8(&told).unwrap_or("");
     let refused = "SizeTooLarge\nSizeTooLarge\nAlignmentFailure\n";
     let given = told.strip_prefix(refused).unwrap_or("");
     let first = given.get(..14).unwrap_or("no first chunk");
-    let mut named = eight_buckets(rt.alloc())?;
-    let behind = behind_chunks(&mut named, given, 8, " 48").unwrap_or("");
+    let behind = behind_eight_buckets(rt.alloc(), given, 8).unwrap_or("");
     let again = behind.strip_prefix("OutOfMemory\nreleased\n");
     assert_eq!(rt; again, Some(first));
-    Ok(())
 }
 
 #[test]
-fn pool_passed_commands(rt: HostRuntime) -> Result<(), Fail> {
-    let script = lines(
+fn pool_passed_commands(rt: HostRuntime) {
+    let told = told_of(
+        &rt,
         rt.alloc(),
         "pool 4096 1024 128 8; alloc 48 4; alloc 48 4; free 5; shrink 0 200 8 100 8",
-    )?;
-    let (status, told) = answer(rt.alloc(), &script);
-    assert_eq!(rt; status, Status::Done);
+    );
     let told = str::from_utf8(&told).unwrap_or("");
-    let mut named = eight_buckets(rt.alloc())?;
-    let behind = behind_chunks(&mut named, told, 2, " 48");
+    let behind = behind_eight_buckets(rt.alloc(), told, 2);
     assert_eq!(rt; behind, Some("passed\npassed\n"));
-    Ok(())
 }

@@ -2,7 +2,6 @@
 use super::table::{answer, check_rows};
 use script_runner::{Status, equality_law, lines_law};
 use std::alloc::Global;
-use std::test::Fail;
 
 const BUMP: &str = "\
 bump-first-path
@@ -45,9 +44,8 @@ a first line alone
 bump 4096 8";
 
 #[test]
-fn bump_scripts(rt: HostRuntime) -> Result<(), Fail> {
-    assert_eq!(rt; check_rows(&rt, rt.alloc(), Status::Done, BUMP)?, 9);
-    Ok(())
+fn bump_scripts(rt: HostRuntime) {
+    check_rows(&rt, rt.alloc(), Status::Done, BUMP, 9);
 }
 
 const ONE_CHUNK: &str = "\
@@ -86,9 +84,8 @@ one 4096 0; alloc 0 1
 OutOfMemory";
 
 #[test]
-fn one_chunk_scripts(rt: HostRuntime) -> Result<(), Fail> {
-    assert_eq!(rt; check_rows(&rt, rt.alloc(), Status::Done, ONE_CHUNK)?, 8);
-    Ok(())
+fn one_chunk_scripts(rt: HostRuntime) {
+    check_rows(&rt, rt.alloc(), Status::Done, ONE_CHUNK, 8);
 }
 
 const BUMP_STEPS: &str = "\
@@ -113,9 +110,8 @@ steps-bump 18446744073709551600 15; read 0 8 16; read 1 1 16; exchange 0; exchan
 sees 0; sees 0; wins 18446744073709551600 8; loses 8 refused OutOfMemory";
 
 #[test]
-fn bump_step_scripts(rt: HostRuntime) -> Result<(), Fail> {
-    assert_eq!(rt; check_rows(&rt, rt.alloc(), Status::Done, BUMP_STEPS)?, 5);
-    Ok(())
+fn bump_step_scripts(rt: HostRuntime) {
+    check_rows(&rt, rt.alloc(), Status::Done, BUMP_STEPS, 5);
 }
 
 const POOL_STEPS: &str = "\
@@ -132,9 +128,8 @@ steps-pool 0; try 0; show
 passed; held";
 
 #[test]
-fn pool_step_scripts(rt: HostRuntime) -> Result<(), Fail> {
-    assert_eq!(rt; check_rows(&rt, rt.alloc(), Status::Done, POOL_STEPS)?, 3);
-    Ok(())
+fn pool_step_scripts(rt: HostRuntime) {
+    check_rows(&rt, rt.alloc(), Status::Done, POOL_STEPS, 3);
 }
 
 #[test]
@@ -247,12 +242,8 @@ bump 4096 8; bad; worse
 line 2: refused";
 
 #[test]
-fn unreadable_scripts(rt: HostRuntime) -> Result<(), Fail> {
-    assert_eq!(rt;
-        check_rows(&rt, rt.alloc(), Status::Unreadable, UNREADABLE)?,
-        25
-    );
-    Ok(())
+fn unreadable_scripts(rt: HostRuntime) {
+    check_rows(&rt, rt.alloc(), Status::Unreadable, UNREADABLE, 25);
 }
 
 /// Whether this is told of the script's first unreadable line, and no more.

@@ -4,7 +4,6 @@
 use script_runner::{Status, run};
 use std::alloc::{AllocError, Global};
 use std::process::Abort;
-use std::test::Fail;
 
 /// The text with a line feed for each semicolon and the space behind it, and one at the end.
 pub(super) fn lines(alloc: Global, text: &str) -> Result<Vec<u8>, AllocError> {
@@ -58,29 +57,23 @@ fn wanted(alloc: Global, wrote: &str, places: &str, told: &[u8]) -> Result<Vec<u
     lines(alloc, &wrote.replace(alloc, "Q", other)?)
 }
 
-/// Runs the script of a row, which has to end so, and to write just what the row says.
-fn check_row(rt: &impl Abort, alloc: Global, ends: Status, row: &str) -> Result<(), Fail> {
-    let (name, row) = line_and_rest(row);
+/// Whether the script of a row ends so, and writes just what the row says.
+fn keeps_row(alloc: Global, ends: Status, row: &str) -> Result<bool, AllocError> {
     let (script, row) = line_and_rest(row);
     let (wrote, places) = line_and_rest(row);
-    let (status, told) = answer(alloc, &lines(alloc, script)?);
-    assert_eq!(rt; status, ends, "{name}");
+    let script = lines(alloc, script)?;
+    let (status, told) = answer(alloc, &script);
     let wanted = wanted(alloc, wrote, places, &told)?;
-    assert_eq!(rt; told, wanted, "{name}");
-    Ok(())
+    Ok(status == ends && told == wanted)
 }
 
-/// Runs the script of each row, which has to end so, and answers how many there are.
-pub(super) fn check_rows(
-    rt: &impl Abort,
-    alloc: Global,
-    ends: Status,
-    table: &str,
-) -> Result<usize, Fail> {
+/// Runs the script of each of so many rows, which has to end so, and to write just what the row says.
+pub(super) fn check_rows(rt: &impl Abort, alloc: Global, ends: Status, table: &str, count: usize) {
     let mut rows: usize = 0;
     for row in table.split("\n\n") {
-        check_row(rt, alloc, ends, row)?;
+        let (name, row) = line_and_rest(row);
+        assert!(rt; keeps_row(alloc, ends, row) == Ok(true), "{name}");
         rows = rows.saturating_add(1);
     }
-    Ok(rows)
+    assert_eq!(rt; rows, count);
 }

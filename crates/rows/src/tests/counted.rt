@@ -1,4 +1,5 @@
 //! An allocator that counts the requests that are made of it, where a test can read it.
+use super::layouts::layout_of;
 use super::pools::pool_over;
 use bb_memory::allocator::{
     AllocationError, AllocationGrowError, AllocationShrinkError, Allocator, BaseAllocator,
@@ -22,11 +23,13 @@ pub(super) fn counted_book(
     alloc: Global,
     requests: Rc<Cell<usize>>,
 ) -> Result<LoanBook<Counted<PoolAllocator<Global>>>, &'static str> {
-    let Ok(bucket) = Layout::from_size_align(64, 8) else {
+    let Some(bucket) = layout_of(64, 8) else {
         return Err("the bucket has no layout");
     };
-    let inner = pool_over(alloc, bucket, 4096, 1024)?;
-    Ok(LoanBook::new(alloc, Counted { inner, requests }))
+    match pool_over(alloc, bucket, 4096, 1024) {
+        Ok(inner) => Ok(LoanBook::new(alloc, Counted { inner, requests })),
+        Err(cause) => Err(cause),
+    }
 }
 
 impl<A: Allocator + Drop> BaseAllocator for Counted<A> {

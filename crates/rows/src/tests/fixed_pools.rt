@@ -4,16 +4,13 @@ ghost use Rattle.std.specs.Prelude.{◌≡◌, [], IfOk};
 ghost use Rattle.bb_memory_base.specs.Region.{region_at};
 ghost use Rattle.bb_memory.specs.Pool.{StandsFor};
 
-use super::owner::runs::replies_are;
-use super::owner::{Answer, Call, Owner, sevens};
-use bb_memory::allocator::{Command, Reply};
-use bb_memory::layout::{Chunk, Layout};
-use bb_memory::pool_allocator::{
-    AllocationError, AllocationGrowError, BaseAllocator, FixedSizePoolAllocator,
-};
+use super::layouts::{layout, layout_of};
+use super::owner::{Answer, Call, Owner, Step, all_keep, keeps, sevens};
+use super::pools::resize_runs;
+use bb_memory::layout::Layout;
+use bb_memory::pool_allocator::{AllocationError, AllocationGrowError, FixedSizePoolAllocator};
 use std::alloc::Global;
 use std::process::Abort;
-use std::test::Fail;
 
 /// A fixed pool over a region.
 pub(super) fn fixed_over<const N: usize>(
@@ -37,101 +34,96 @@ pub(super) fn fixed_owner<const N: usize>(
     start: usize,
     size: usize,
 ) -> Result<Owner<FixedSizePoolAllocator<N>>, &'static str> {
-    let Ok(bucket) = Layout::from_size_align(bucket.0, bucket.1) else {
+    let Some(bucket) = layout_of(bucket.0, bucket.1) else {
         return Err("the bucket has no layout");
     };
-    let pool = fixed_over::<N>(bucket, start, size)?;
     let region = sevens(alloc, start, size)?;
+    let pool = fixed_over::<N>(bucket, start, size)?;
     Ok(Owner::new(alloc, pool, region))
 }
 
-/// The getters answer these: the number of buckets, the region's size, and the bucket's size and alignment.
-pub(super) fn has_figures(rt: &impl Abort, pool: &FixedSizePoolAllocator<4>, wanted: [usize; 4]) {
-    let figures = [
-        pool.number_of_buckets() as usize,
-        pool.size(),
-        pool.bucket_size(),
-        pool.max_alignment(),
-    ];
-    assert_eq!(rt; figures, wanted);
+/// Each of these steps of a fixed pool of at most four buckets, over 1,024 bytes at 4096, is as it has to be. The figures are the
+/// number of buckets, the region's size, and the bucket's size and alignment.
+fn four_keep(rt: &impl Abort, alloc: Global, steps: &[Step<'_>]) {
+    all_keep(rt, fixed_owner::<4>(alloc, (128, 8), 4096, 1024), steps);
+}
+
+/// The same of one of at most 512 buckets, of which it has eight.
+fn eight_keep(rt: &impl Abort, alloc: Global, steps: &[Step<'_>]) {
+    all_keep(rt, fixed_owner::<512>(alloc, (128, 8), 4096, 1024), steps);
 }
 
 /// Calls that no row makes.
 #[test]
-fn a_fixed_pool_call_by_call(rt: HostRuntime) -> Result<(), Fail> {
-    let bucket = Layout::from_size_align(128, 8)?;
+fn a_fixed_pool_call_by_call(rt: HostRuntime) {
+    let bucket = layout(&rt, 128, 8);
     assert!(rt; !FixedSizePoolAllocator::<4>::can_make(bucket, 4096, usize::MAX));
-    let mut fixed = fixed_owner::<4>(rt.alloc(), (128, 8), 4096, 1024)?;
-    let table = [
-        (Call::Allocate(128, 8), Answer::Somewhere(128)),
-        (Call::Reserved(0), Answer::Reserved(128)),
+    let steps = [
+        Step::Call(Call::Allocate(128, 8), Answer::Somewhere(128)),
+        Step::Call(Call::Reserved(0), Answer::Reserved(128)),
+        Step::Laws,
     ];
-    fixed.answers(&rt, &table);
-    fixed.laws();
-    Ok(())
+    four_keep(&rt, rt.alloc(), &steps);
 }
 
 #[test]
-fn fixed_constant_four(rt: HostRuntime) -> Result<(), Fail> {
-    let mut pool = fixed_owner::<4>(rt.alloc(), (128, 8), 4096, 1024)?;
-    has_figures(&rt, pool.allocator(), [4, 1024, 128, 8]);
-    let table = [
-        (Call::Allocate(0, 1), Answer::Somewhere(0)),
-        (Call::Allocate(0, 1), Answer::Somewhere(0)),
-        (Call::Allocate(0, 1), Answer::Somewhere(0)),
-        (Call::Allocate(0, 1), Answer::Somewhere(0)),
-        (
-            Call::Allocate(0, 1),
-            Answer::Refused(AllocationError::OutOfMemory),
-        ),
-    ];
-    pool.answers(&rt, &table);
-    pool.is_at(&rt, 4096, 128, 4);
-    Ok(())
-}
-
-#[test]
-fn fixed_doc_example(rt: HostRuntime) -> Result<(), Fail> {
-    let mut pool = fixed_owner::<512>(rt.alloc(), (128, 8), 4096, 1024)?;
-    let table = [
-        (Call::Allocate(48, 4), Answer::Somewhere(48)),
-        (Call::GrowZeroed(0, (48, 4), (64, 4)), Answer::InPlace(64)),
-        (Call::Shrink(0, (64, 4), (32, 4)), Answer::InPlace(32)),
-    ];
-    pool.answers(&rt, &table);
-    pool.has_zeros_in(&rt, 0, 48, 16);
-    let release = [(Call::Deallocate(0), Answer::Done)];
-    pool.answers(&rt, &release);
-    Ok(())
-}
-
-#[test]
-fn fixed_grow_zeroed_refused(rt: HostRuntime) -> Result<(), Fail> {
-    let mut pool = fixed_owner::<512>(rt.alloc(), (128, 8), 4096, 1024)?;
-    let table = [
-        (Call::Allocate(48, 4), Answer::Somewhere(48)),
-        (
-            Call::GrowZeroed(0, (48, 4), (129, 4)),
-            Answer::GrowRefused(AllocationGrowError::OutOfMemory),
-        ),
-    ];
-    pool.answers(&rt, &table);
-    pool.has_zeros(&rt, 4096, 0);
-    Ok(())
-}
-
-/// A refused request leaves the text of derived Debug as it was.
-#[test]
-fn a_refusal_shows_nothing(rt: HostRuntime) -> Result<(), Fail> {
-    let mut pool = fixed_owner::<4>(rt.alloc(), (8, 8), 4096, 64)?;
-    let table = [(Call::Allocate(8, 8), Answer::Somewhere(8)); 4];
-    pool.answers(&rt, &table);
-    let before = text_of(&rt, rt.alloc(), pool.allocator());
+fn fixed_constant_four(rt: HostRuntime) {
+    let empty = Step::Call(Call::Allocate(0, 1), Answer::Somewhere(0));
     let refused = Answer::Refused(AllocationError::OutOfMemory);
-    pool.answers(&rt, &[(Call::Allocate(8, 8), refused)]);
-    let after = text_of(&rt, rt.alloc(), pool.allocator());
-    assert_eq!(rt; before.as_str(), after.as_str());
-    Ok(())
+    let steps = [
+        Step::Figures([4, 1024, 128, 8, 0]),
+        empty,
+        empty,
+        empty,
+        empty,
+        Step::Call(Call::Allocate(0, 1), refused),
+        Step::At(4096, 128, 4),
+    ];
+    four_keep(&rt, rt.alloc(), &steps);
+}
+
+#[test]
+fn fixed_doc_example(rt: HostRuntime) {
+    let steps = [
+        Step::Call(Call::Allocate(48, 4), Answer::Somewhere(48)),
+        Step::Call(Call::GrowZeroed(0, (48, 4), (64, 4)), Answer::InPlace(64)),
+        Step::Call(Call::Shrink(0, (64, 4), (32, 4)), Answer::InPlace(32)),
+        Step::ZerosIn(0, 48, 16),
+        Step::Call(Call::Deallocate(0), Answer::Done),
+    ];
+    eight_keep(&rt, rt.alloc(), &steps);
+}
+
+#[test]
+fn fixed_grow_zeroed_refused(rt: HostRuntime) {
+    let refused = Answer::GrowRefused(AllocationGrowError::OutOfMemory);
+    let steps = [
+        Step::Call(Call::Allocate(48, 4), Answer::Somewhere(48)),
+        Step::Call(Call::GrowZeroed(0, (48, 4), (129, 4)), refused),
+        Step::Zeros(4096, 0),
+    ];
+    eight_keep(&rt, rt.alloc(), &steps);
+}
+
+/// A request that a full pool refuses leaves the text of derived Debug as it was.
+fn shows_no_refusal(rt: &impl Abort, alloc: Global, pool: &mut Owner<FixedSizePoolAllocator<4>>) {
+    let before = text_of(rt, alloc, pool.allocator());
+    let refused = Answer::Refused(AllocationError::OutOfMemory);
+    keeps(rt, pool, &[Step::Call(Call::Allocate(8, 8), refused)]);
+    let after = text_of(rt, alloc, pool.allocator());
+    assert!(rt; before == after);
+}
+
+#[test]
+fn a_refusal_shows_nothing(rt: HostRuntime) {
+    let made = fixed_owner::<4>(rt.alloc(), (8, 8), 4096, 64);
+    let mut pool = made.expect(&rt, "a pool can be made");
+    keeps(
+        &rt,
+        &mut pool,
+        &[Step::Call(Call::Allocate(8, 8), Answer::Somewhere(8)); 4],
+    );
+    shows_no_refusal(&rt, rt.alloc(), &mut pool);
 }
 
 /// A pool's text.
@@ -141,22 +133,6 @@ fn text_of(rt: &impl Abort, alloc: Global, pool: &FixedSizePoolAllocator<4>) -> 
 
 /// A resize is carried out by the run with resizes, and passed over by the other.
 #[test]
-fn runs_over_a_fixed_pool(rt: HostRuntime) -> Result<(), Fail> {
-    let bucket = Layout::from_size_align(16, 8)?;
-    let half = Layout::from_size_align(8, 8)?;
-    let commands = [
-        Command::Allocate(half),
-        Command::Grow(0, half, bucket),
-        Command::Allocate(half),
-        Command::Release(0),
-    ];
-    let given = Reply::Chunk(Chunk::new(4096, 8).unwrap());
-    let refused = Reply::Refused(AllocationError::OutOfMemory);
-    let grown = Reply::Chunk(Chunk::new(4096, 16).unwrap());
-    let full = [given, grown, refused, Reply::Released];
-    let base = [given, Reply::Passed, refused, Reply::Released];
-    let mut pool = fixed_owner::<1>(rt.alloc(), (16, 8), 4096, 64)?;
-    replies_are(&rt, pool.run_fixed_pool(&commands)?, &full);
-    replies_are(&rt, pool.run_base_fixed_pool(&commands)?, &base);
-    Ok(())
+fn runs_over_a_fixed_pool(rt: HostRuntime) {
+    resize_runs(&rt, fixed_owner::<1>(rt.alloc(), (16, 8), 4096, 64));
 }

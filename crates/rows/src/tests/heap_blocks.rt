@@ -1,12 +1,12 @@
 //! Heap blocks, each row by its name.
+use super::layouts::{layout, layout_of};
 use bb_memory::allocator::{AllocationGrowError, AllocationShrinkError};
 use bb_memory::heap_allocator::{AllocationError, HeapAllocator, HeapBlock};
 use bb_memory::layout::Layout;
 use std::process::Abort;
-use std::test::Fail;
 
 /// What is done with a block, to a new size and alignment, or from a first byte.
-#[derive(Debug, Clone, Copy, PartialEq, Eq)]
+#[derive(Clone, Copy)]
 pub(super) enum BlockCall {
     Grow(usize, usize),
     GrowZeroed(usize, usize),
@@ -16,7 +16,7 @@ pub(super) enum BlockCall {
 }
 
 /// What is answered.
-#[derive(Debug, Clone, Copy, PartialEq, Eq)]
+#[derive(Clone, Copy, PartialEq, Eq)]
 pub(super) enum BlockAnswer {
     Done,
     GrowRefused(AllocationGrowError),
@@ -31,24 +31,34 @@ pub(super) fn answered(
     block: HeapBlock,
     call: BlockCall,
 ) -> (HeapBlock, BlockAnswer) {
+    let (size, align) = match call {
+        BlockCall::Grow(size, align)
+        | BlockCall::GrowZeroed(size, align)
+        | BlockCall::Shrink(size, align) => (size, align),
+        BlockCall::Count(_) => (0, 1),
+    };
+    match layout_of(size, align) {
+        Some(new) => to_layout(heap, block, call, new),
+        None => (block, BlockAnswer::NotMade),
+    }
+}
+
+/// The same, to this layout.
+fn to_layout(
+    heap: &HeapAllocator,
+    block: HeapBlock,
+    call: BlockCall,
+    new: Layout,
+) -> (HeapBlock, BlockAnswer) {
     let Ok(old) = Layout::from_size_align(block.len(), 1) else {
         return (block, BlockAnswer::NotMade);
     };
     match call {
-        BlockCall::Grow(size, align) => match Layout::from_size_align(size, align) {
-            Ok(new) => grown(heap.grow(block, old, new)),
-            Err(_) => (block, BlockAnswer::NotMade),
-        },
-        BlockCall::GrowZeroed(size, align) => match Layout::from_size_align(size, align) {
-            Ok(new) => grown(heap.grow_zeroed(block, old, new)),
-            Err(_) => (block, BlockAnswer::NotMade),
-        },
-        BlockCall::Shrink(size, align) => match Layout::from_size_align(size, align) {
-            Ok(new) => match heap.shrink(block, old, new) {
-                Ok(block) => (block, BlockAnswer::Done),
-                Err((block, error)) => (block, BlockAnswer::ShrinkRefused(error)),
-            },
-            Err(_) => (block, BlockAnswer::NotMade),
+        BlockCall::Grow(..) => grown(heap.grow(block, old, new)),
+        BlockCall::GrowZeroed(..) => grown(heap.grow_zeroed(block, old, new)),
+        BlockCall::Shrink(..) => match heap.shrink(block, old, new) {
+            Ok(block) => (block, BlockAnswer::Done),
+            Err((block, error)) => (block, BlockAnswer::ShrinkRefused(error)),
         },
         BlockCall::Count(first) => (counted(block, first), BlockAnswer::Done),
     }
@@ -63,10 +73,11 @@ fn grown(answer: Result<HeapBlock, (HeapBlock, AllocationGrowError)>) -> (HeapBl
 }
 
 /// The block whose bytes count from this one.
-fn counted(block: HeapBlock, first: u8) -> HeapBlock {
-    let mut block = block;
-    for (byte, number) in block.as_mut_slice().iter_mut().zip(first..=255) {
+fn counted(mut block: HeapBlock, first: u8) -> HeapBlock {
+    let mut number = first;
+    for byte in block.as_mut_slice() {
         *byte = number;
+        number = number.saturating_add(1);
     }
     block
 }
@@ -82,44 +93,52 @@ pub(super) fn answers(
     for (call, wanted, bytes) in table {
         let (next, given) = answered(heap, block, *call);
         block = next;
-        assert_eq!(rt; (*call, given), (*call, *wanted));
+        assert!(rt; given == *wanted);
         assert_eq!(rt; block.as_slice(), *bytes);
     }
 }
 
 /// A block has so many bytes, all zero.
-fn has_zeros(rt: &impl Abort, block: &HeapBlock, size: usize) {
-    assert_eq!(rt; block.len(), size);
+fn has_zeros(block: &HeapBlock, size: usize) -> bool {
     for byte in block.as_slice() {
-        assert_eq!(rt; *byte, 0);
+        if *byte != 0 {
+            return false;
+        }
     }
+    block.len() == size
 }
 
 /// A block of so many bytes, or why there is none.
 pub(super) fn block_of(heap: &HeapAllocator, size: usize) -> Result<HeapBlock, AllocationError> {
-    match Layout::from_size_align(size, 1) {
-        Ok(layout) => heap.allocate(layout),
-        Err(_) => Err(AllocationError::AlignmentFailure),
+    match layout_of(size, 1) {
+        Some(layout) => heap.allocate(layout),
+        None => Err(AllocationError::AlignmentFailure),
     }
 }
 
 /// The same, by the call for zeros.
 pub(super) fn zeros_of(heap: &HeapAllocator, size: usize) -> Result<HeapBlock, AllocationError> {
-    match Layout::from_size_align(size, 1) {
-        Ok(layout) => heap.allocate_zeroed(layout),
-        Err(_) => Err(AllocationError::AlignmentFailure),
+    match layout_of(size, 1) {
+        Some(layout) => heap.allocate_zeroed(layout),
+        None => Err(AllocationError::AlignmentFailure),
+    }
+}
+
+/// The block that was made, without which no test goes on.
+pub(super) fn made(rt: &impl Abort, block: Result<HeapBlock, AllocationError>) -> HeapBlock {
+    match block {
+        Ok(block) => block,
+        Err(error) => panic!(rt; "{error}"),
     }
 }
 
 /// Row `heap-grow-and-shrink`.
 #[test]
-fn heap_grow_and_shrink(rt: HostRuntime) -> Result<(), Fail> {
-    let none = Layout::from_size_align(0, 1)?;
+fn heap_grow_and_shrink(rt: HostRuntime) {
     let heap = HeapAllocator::new(rt.alloc());
-    assert!(rt;
-        heap.allocate(none)
-            .is_err_and(|error| error == AllocationError::SizeIsZero)
-    );
+    let none = layout(&rt, 0, 1);
+    let refusal = heap.allocate(none).err();
+    assert_eq!(rt; refusal, Some(AllocationError::SizeIsZero));
     let no_size = BlockAnswer::ShrinkRefused(AllocationShrinkError::SizeIsZero);
     let table = [
         (
@@ -139,18 +158,16 @@ fn heap_grow_and_shrink(rt: HostRuntime) -> Result<(), Fail> {
         ),
         (BlockCall::Shrink(0, 1), no_size, [1, 2].as_slice()),
     ];
-    let block = block_of(&heap, 4)?;
-    answers(&rt, &heap, block, &table);
-    heap.deallocate(block_of(&heap, 4)?, none);
-    Ok(())
+    answers(&rt, &heap, made(&rt, block_of(&heap, 4)), &table);
+    heap.deallocate(made(&rt, block_of(&heap, 4)), none);
 }
 
 /// Row `heap-zeroed-and-refused`.
 #[test]
-fn heap_zeroed_and_refused(rt: HostRuntime) -> Result<(), Fail> {
+fn heap_zeroed_and_refused(rt: HostRuntime) {
     let heap = HeapAllocator::new(rt.alloc());
-    let block = zeros_of(&heap, 3)?;
-    has_zeros(&rt, &block, 3);
+    let block = made(&rt, zeros_of(&heap, 3));
+    assert!(rt; has_zeros(&block, 3));
     let shrinks = BlockAnswer::GrowRefused(AllocationGrowError::GrowWouldShrink);
     let grows = BlockAnswer::ShrinkRefused(AllocationShrinkError::ShrinkWouldGrow);
     let table = [
@@ -165,47 +182,55 @@ fn heap_zeroed_and_refused(rt: HostRuntime) -> Result<(), Fail> {
         (BlockCall::Shrink(1, 1), BlockAnswer::Done, [5].as_slice()),
     ];
     answers(&rt, &heap, block, &table);
-    Ok(())
+}
+
+/// A block that is resized so has so many bytes then.
+fn resized(
+    rt: &impl Abort,
+    heap: &HeapAllocator,
+    block: HeapBlock,
+    call: BlockCall,
+    size: usize,
+) -> HeapBlock {
+    let (block, answer) = answered(heap, block, call);
+    assert!(rt; answer == BlockAnswer::Done && block.len() == size);
+    block
 }
 
 /// Alignments decide nothing, and a block may be of a mebibyte as of a byte.
 #[test]
-fn heap_of_any_alignment_and_size(rt: HostRuntime) -> Result<(), Fail> {
-    let page = Layout::from_size_align(4, 4096)?;
+fn heap_of_any_alignment_and_size(rt: HostRuntime) {
     let heap = HeapAllocator::new(rt.alloc());
-    let block = heap.allocate(page)?;
-    has_zeros(&rt, &block, 4);
-    let (block, answer) = answered(&heap, block, BlockCall::Grow(1 << 20, 1 << 62));
-    assert_eq!(rt; (answer, block.len()), (BlockAnswer::Done, 1048576));
-    let (block, answer) = answered(&heap, block, BlockCall::Shrink(4, 4096));
-    assert_eq!(rt; (answer, block.len()), (BlockAnswer::Done, 4));
-    Ok(())
+    let block = made(&rt, heap.allocate(layout(&rt, 4, 4096)));
+    assert!(rt; has_zeros(&block, 4));
+    let block = resized(
+        &rt,
+        &heap,
+        block,
+        BlockCall::Grow(1 << 20, 1 << 62),
+        1048576,
+    );
+    resized(&rt, &heap, block, BlockCall::Shrink(4, 4096), 4);
 }
 
-/// With ample memory a block of any size is made, plainly and of zeros, and one of a byte grows to it by both calls.
+/// With ample memory a block of this size is made, plainly and of zeros, and one of a byte grows to it by both calls.
+fn is_made(rt: &impl Abort, heap: &HeapAllocator, size: usize) {
+    assert!(rt; has_zeros(&made(rt, block_of(heap, size)), size));
+    assert!(rt; has_zeros(&made(rt, zeros_of(heap, size)), size));
+    assert!(rt; grows(rt, heap, BlockCall::Grow(size, 1), size));
+    assert!(rt; grows(rt, heap, BlockCall::GrowZeroed(size, 1), size));
+}
+
 #[test]
-fn heap_of_many_sizes(rt: HostRuntime) -> Result<(), Fail> {
+fn heap_of_many_sizes(rt: HostRuntime) {
     let heap = HeapAllocator::new(rt.alloc());
-    for size in [5, 6, 7, 64, 1024, 4096, 65536, 1048575, 1048576] {
-        has_zeros(&rt, &block_of(&heap, size)?, size);
-        has_zeros(&rt, &zeros_of(&heap, size)?, size);
-        has_zeros(&rt, &grown_to(&rt, &heap, BlockCall::Grow(size, 1))?, size);
-        has_zeros(
-            &rt,
-            &grown_to(&rt, &heap, BlockCall::GrowZeroed(size, 1))?,
-            size,
-        );
+    for size in &[5, 6, 7, 64, 1024, 4096, 65536, 1048575, 1048576] {
+        is_made(&rt, &heap, *size);
     }
-    Ok(())
 }
 
-/// A block of a byte, once it has grown by this call.
-fn grown_to(
-    rt: &impl Abort,
-    heap: &HeapAllocator,
-    call: BlockCall,
-) -> Result<HeapBlock, AllocationError> {
-    let (block, answer) = answered(heap, block_of(heap, 1)?, call);
-    assert_eq!(rt; answer, BlockAnswer::Done);
-    Ok(block)
+/// Whether a block of a byte, once it has grown by this call, has so many bytes, all zero.
+fn grows(rt: &impl Abort, heap: &HeapAllocator, call: BlockCall, size: usize) -> bool {
+    let block = made(rt, block_of(heap, 1));
+    has_zeros(&resized(rt, heap, block, call, size), size)
 }

@@ -1,15 +1,14 @@
 //! Loan books over the allocators, each row by its name.
+use super::errors::have_texts;
+use super::layouts::{chunk, layout_of};
 use super::pools::pool_over;
 use bb_memory::allocator::{AllocationError, Allocator};
-use bb_memory::layout::{Chunk, Layout};
 use bb_memory::one_chunk_allocator::OneChunkAllocator;
 use bb_memory::pool_allocator::PoolAllocator;
 use loan_book::{LoanBook, LoanCall, LoanError, LoanReply, run_loans};
 use std::alloc::{AllocError, Global};
-use std::fmt::Write;
 use std::ops::Range;
 use std::process::Abort;
-use std::test::Fail;
 
 /// A book over a pool, whose buckets have this size and this alignment.
 pub(super) fn pool_book(
@@ -18,11 +17,13 @@ pub(super) fn pool_book(
     start: usize,
     size: usize,
 ) -> Result<LoanBook<PoolAllocator<Global>>, &'static str> {
-    let Ok(bucket) = Layout::from_size_align(bucket.0, bucket.1) else {
+    let Some(bucket) = layout_of(bucket.0, bucket.1) else {
         return Err("the bucket has no layout");
     };
-    let pool = pool_over(alloc, bucket, start, size)?;
-    Ok(LoanBook::new(alloc, pool))
+    match pool_over(alloc, bucket, start, size) {
+        Ok(pool) => Ok(LoanBook::new(alloc, pool)),
+        Err(cause) => Err(cause),
+    }
 }
 
 /// A book over a one chunk of 64 bytes at 4096.
@@ -78,31 +79,35 @@ pub(super) fn id_of(reply: LoanReply) -> Option<u64> {
     }
 }
 
-/// The place of its chunk.
-fn place_of(reply: LoanReply) -> Option<usize> {
-    match reply {
-        LoanReply::Loaned(_, chunk) => Some(chunk.place()),
-        _ => None,
+/// A reply to a loan: the sample of this number, with a chunk.
+fn loaned(rt: &impl Abort, id: u64, place: usize, len: usize) -> LoanReply {
+    LoanReply::Loaned(id, chunk(rt, place, len))
+}
+
+/// The book that was made, without which no test goes on.
+fn book_of<A: Allocator>(rt: &impl Abort, made: Result<LoanBook<A>, &'static str>) -> LoanBook<A> {
+    match made {
+        Ok(book) => book,
+        Err(cause) => panic!(rt; "{cause}"),
     }
 }
 
-/// Row `loan-pool-two-readers`. The two chunks are at 4096 and 4224, in one of the two orders.
-#[test]
-fn loan_pool_two_readers(rt: HostRuntime) -> Result<(), Fail> {
-    let low = Chunk::new(4096, 48).unwrap();
-    let high = Chunk::new(4224, 48).unwrap();
-    let mut book = pool_book(rt.alloc(), (128, 8), 4096, 256)?;
+/// What a loan is refused with where its allocator is full.
+const FULL: LoanReply = LoanReply::Refused(LoanError::Allocation(AllocationError::OutOfMemory));
+
+/// The calls of row `loan-pool-two-readers`, where one of two chunks is given first and the other one then.
+fn has_two_readers<A: Allocator + Drop>(rt: &impl Abort, made: Result<LoanBook<A>, &'static str>) {
+    let mut book = book_of(rt, made);
     let first = reply_to(&mut book, LoanCall::Loan(48));
-    let (one, other, again) = if place_of(first) == Some(4096) {
-        (low, high, Chunk::new(4096, 10).unwrap())
+    let (one, other) = if first == loaned(rt, 0, 4096, 48) {
+        (4096, 4224)
     } else {
-        (high, low, Chunk::new(4224, 10).unwrap())
+        (4224, 4096)
     };
-    assert_eq!(rt; first, LoanReply::Loaned(0, one));
-    let full = LoanError::Allocation(AllocationError::OutOfMemory);
+    assert_eq!(rt; first, loaned(rt, 0, one, 48));
     let table = [
-        (LoanCall::Loan(48), LoanReply::Loaned(1, other)),
-        (LoanCall::Loan(48), LoanReply::Refused(full)),
+        (LoanCall::Loan(48), loaned(rt, 1, other, 48)),
+        (LoanCall::Loan(48), FULL),
         (LoanCall::Publish(0, 2), LoanReply::Published),
         (LoanCall::GiveBack(0), LoanReply::Kept),
         (LoanCall::IsOut(0), LoanReply::Out(true)),
@@ -112,16 +117,36 @@ fn loan_pool_two_readers(rt: HostRuntime) -> Result<(), Fail> {
             LoanCall::GiveBack(0),
             LoanReply::Refused(LoanError::UnknownSample),
         ),
-        (LoanCall::Loan(10), LoanReply::Loaned(2, again)),
+        (LoanCall::Loan(10), loaned(rt, 2, one, 10)),
     ];
-    answers(&rt, &mut book, &table);
+    answers(rt, &mut book, &table);
     book.law();
-    Ok(())
+}
+
+/// Row `loan-pool-two-readers`. The two chunks are at 4096 and 4224, in one of the two orders.
+#[test]
+fn loan_pool_two_readers(rt: HostRuntime) {
+    has_two_readers(&rt, pool_book(rt.alloc(), (128, 8), 4096, 256));
+}
+
+/// These calls, as one list, are replied so.
+fn is_told<A: Allocator + Drop>(
+    rt: &impl Abort,
+    alloc: Global,
+    made: Result<LoanBook<A>, &'static str>,
+    calls: &[LoanCall],
+    replies: &[LoanReply],
+) {
+    let mut book = book_of(rt, made);
+    match told(alloc, &mut book, calls) {
+        Ok(told) => assert_eq!(rt; told.as_slice(), replies),
+        Err(_) => panic!(rt; "memory was refused"),
+    }
 }
 
 /// Row `loan-pool-refusals`, as one list of calls.
 #[test]
-fn loan_pool_refusals(rt: HostRuntime) -> Result<(), Fail> {
+fn loan_pool_refusals(rt: HostRuntime) {
     let calls = [
         LoanCall::Loan(9223372036854775808),
         LoanCall::Loan(200),
@@ -138,48 +163,48 @@ fn loan_pool_refusals(rt: HostRuntime) -> Result<(), Fail> {
     let replies = [
         LoanReply::Refused(LoanError::Size),
         LoanReply::Refused(LoanError::Allocation(AllocationError::SizeTooLarge)),
-        LoanReply::Loaned(0, Chunk::new(4096, 0).unwrap()),
-        LoanReply::Refused(LoanError::Allocation(AllocationError::OutOfMemory)),
+        loaned(&rt, 0, 4096, 0),
+        FULL,
         LoanReply::Refused(LoanError::NoReaders),
         LoanReply::Published,
         LoanReply::Refused(LoanError::AlreadyPublished),
         LoanReply::Refused(LoanError::UnknownSample),
         LoanReply::Returned,
         LoanReply::Out(false),
-        LoanReply::Loaned(1, Chunk::new(4096, 1).unwrap()),
+        loaned(&rt, 1, 4096, 1),
     ];
-    let mut book = pool_book(rt.alloc(), (128, 8), 4096, 128)?;
-    let told = told(rt.alloc(), &mut book, &calls)?;
-    assert_eq!(rt; told.as_slice(), replies.as_slice());
-    Ok(())
+    let made = pool_book(rt.alloc(), (128, 8), 4096, 128);
+    is_told(&rt, rt.alloc(), made, &calls, &replies);
 }
 
 /// Row `loan-over-one-chunk`.
 #[test]
 fn loan_over_one_chunk(rt: HostRuntime) {
-    let whole = Chunk::new(4096, 64).unwrap();
-    let full = LoanError::Allocation(AllocationError::OutOfMemory);
     let table = [
-        (LoanCall::Loan(64), LoanReply::Loaned(0, whole)),
-        (LoanCall::Loan(1), LoanReply::Refused(full)),
+        (LoanCall::Loan(64), loaned(&rt, 0, 4096, 64)),
+        (LoanCall::Loan(1), FULL),
         (LoanCall::GiveBack(0), LoanReply::Returned),
-        (LoanCall::Loan(1), LoanReply::Loaned(1, whole)),
+        (LoanCall::Loan(1), loaned(&rt, 1, 4096, 64)),
     ];
     let mut book = one_book(rt.alloc());
     answers(&rt, &mut book, &table);
 }
 
+/// Sixteen samples, of which some go back, some are published, and others take their buckets.
+fn go_back<A: Allocator + Drop>(rt: &impl Abort, made: Result<LoanBook<A>, &'static str>) {
+    let mut book = book_of(rt, made);
+    are_loaned(rt, &mut book, 0..16);
+    leave(rt, &mut book, &[7, 0, 15, 8, 1, 14]);
+    are_published(rt, &mut book, &[2, 3, 4, 5, 6, 9, 10, 11, 12, 13]);
+    are_loaned(rt, &mut book, 16..22);
+    answers(rt, &mut book, &[(LoanCall::GiveBack(9), LoanReply::Kept)]);
+    leave(rt, &mut book, &[9]);
+}
+
 /// Samples that go back in another order than they were loaned in.
 #[test]
-fn samples_go_back_in_any_order(rt: HostRuntime) -> Result<(), Fail> {
-    let mut book = pool_book(rt.alloc(), (64, 8), 4096, 1024)?;
-    are_loaned(&rt, &mut book, 0..16);
-    leave(&rt, &mut book, &[7, 0, 15, 8, 1, 14]);
-    are_published(&rt, &mut book, &[2, 3, 4, 5, 6, 9, 10, 11, 12, 13]);
-    are_loaned(&rt, &mut book, 16..22);
-    answers(&rt, &mut book, &[(LoanCall::GiveBack(9), LoanReply::Kept)]);
-    leave(&rt, &mut book, &[9]);
-    Ok(())
+fn samples_go_back_in_any_order(rt: HostRuntime) {
+    go_back(&rt, pool_book(rt.alloc(), (64, 8), 4096, 1024));
 }
 
 /// The samples that are loaned next have these ids.
@@ -212,8 +237,8 @@ fn are_published<A: Allocator>(rt: &impl Abort, book: &mut LoanBook<A>, ids: &[u
 }
 
 #[test]
-fn texts_of_loan_errors(rt: HostRuntime) -> Result<(), Fail> {
-    for (error, text) in [
+fn texts_of_loan_errors(rt: HostRuntime) {
+    let table = [
         (LoanError::Size, "the sample size is too large"),
         (LoanError::IdsExhausted, "there are no more sample numbers"),
         (
@@ -230,10 +255,6 @@ fn texts_of_loan_errors(rt: HostRuntime) -> Result<(), Fail> {
             "the sample was already published",
         ),
         (LoanError::NoReaders, "the number of readers is zero"),
-    ] {
-        let mut told = String::new(rt.alloc());
-        write!(told, "{error}")?;
-        assert_eq!(rt; told.as_str(), text);
-    }
-    Ok(())
+    ];
+    have_texts(&rt, rt.alloc(), &table);
 }

@@ -1,11 +1,11 @@
 //! The one chunk, each row by its name.
-use super::owner::runs::replies_are;
-use super::owner::{Answer, Call, Owner, sevens};
-use bb_memory::allocator::{AllocationError, BaseAllocator, Command, Reply};
-use bb_memory::layout::{Chunk, Layout};
+use super::layouts::{chunk, layout};
+use super::owner::kinds::runs;
+use super::owner::{Answer, Call, Owner, Step, all_keep, sevens};
+use bb_memory::allocator::{AllocationError, Command, Reply};
 use bb_memory::one_chunk_allocator::OneChunkAllocator;
 use std::alloc::Global;
-use std::test::Fail;
+use std::process::Abort;
 
 /// The owner of a one chunk over a region.
 pub(super) fn one_owner(
@@ -20,43 +20,60 @@ pub(super) fn one_owner(
     Ok(Owner::new(alloc, OneChunkAllocator::new(start, size), region))
 }
 
+/// Each of these steps of a one chunk over a region is as it has to be. The figures are the start, the size, and 1 where a chunk
+/// is available.
+pub(super) fn one_keeps(
+    rt: &impl Abort,
+    alloc: Global,
+    (start, size): (usize, usize),
+    steps: &[Step<'_>],
+) {
+    all_keep(rt, one_owner(alloc, start, size), steps);
+}
+
 #[test]
-fn a_one_chunk_call_by_call(rt: HostRuntime) -> Result<(), Fail> {
-    let mut owner = one_owner(rt.alloc(), 4097, 1024)?;
-    let request = [
-        (Call::Allocate(48, 4), Answer::Chunk(4100, 1021)),
-        (Call::Reserved(0), Answer::Reserved(1021)),
+fn a_one_chunk_call_by_call(rt: HostRuntime) {
+    let steps = [
+        Step::Call(Call::Allocate(48, 4), Answer::Chunk(4100, 1021)),
+        Step::Call(Call::Reserved(0), Answer::Reserved(1021)),
+        Step::Figures([4097, 1024, 0, 0, 0]),
+        Step::Laws,
+        Step::Call(Call::Deallocate(0), Answer::Done),
+        Step::Figures([4097, 1024, 1, 0, 0]),
     ];
-    owner.answers(&rt, &request);
-    let one = owner.allocator();
-    assert_eq!(rt; (one.start_address(), one.size()), (4097, 1024));
-    assert!(rt; !one.has_chunk_available());
-    one.stands_for_some_list();
-    let release = [(Call::Deallocate(0), Answer::Done)];
-    owner.answers(&rt, &release);
-    assert!(rt; owner.allocator().has_chunk_available());
+    one_keeps(&rt, rt.alloc(), (4097, 1024), &steps);
     assert!(rt; OneChunkAllocator::can_make(1, usize::MAX - 1));
     assert!(rt; !OneChunkAllocator::can_make(1, usize::MAX));
-    Ok(())
 }
 
 /// A resize is carried out by the run with resizes, and passed over by the other.
 #[test]
-fn runs_over_a_one_chunk(rt: HostRuntime) -> Result<(), Fail> {
-    let of_48 = Layout::from_size_align(48, 4)?;
+fn runs_over_a_one_chunk(rt: HostRuntime) {
+    let of_48 = layout(&rt, 48, 4);
     let commands = [
         Command::Allocate(of_48),
-        Command::Shrink(0, of_48, Layout::from_size_align(32, 4)?),
+        Command::Shrink(0, of_48, layout(&rt, 32, 4)),
         Command::Allocate(of_48),
         Command::Release(0),
     ];
-    let given = Reply::Chunk(Chunk::new(4100, 1021).unwrap());
-    let shrunk = Reply::Chunk(Chunk::new(4100, 32).unwrap());
-    let refused = Reply::Refused(AllocationError::OutOfMemory);
-    let full = [given, shrunk, refused, Reply::Released];
-    let base = [given, Reply::Passed, refused, Reply::Released];
-    let mut owner = one_owner(rt.alloc(), 4097, 1024)?;
-    replies_are(&rt, owner.run_one_chunk(&commands)?, &full);
-    replies_are(&rt, owner.run_base_one_chunk(&commands)?, &base);
-    Ok(())
+    let given = chunk(&rt, 4100, 1021);
+    let full = [
+        Reply::Chunk(given),
+        Reply::Chunk(chunk(&rt, 4100, 32)),
+        Reply::Refused(AllocationError::OutOfMemory),
+        Reply::Released,
+    ];
+    let base = [
+        Reply::Chunk(given),
+        Reply::Passed,
+        Reply::Refused(AllocationError::OutOfMemory),
+        Reply::Released,
+    ];
+    runs(
+        &rt,
+        one_owner(rt.alloc(), 4097, 1024),
+        &commands,
+        &full,
+        &base,
+    );
 }

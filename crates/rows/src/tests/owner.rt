@@ -1,10 +1,12 @@
 //! The owner of an allocator, by whom a row's calls are made: each call behind a function that tells no more of it than its
 //! answer, so that a test's own proof carries none of the library's clauses.
-ghost use Rattle.std.specs.Prelude.{◌≡◌, [], ℕ, List, Some, IfOk, slice_get, slice_set};
+ghost use Rattle.std.specs.Prelude.{◌≡◌, [], ℕ, List, Some, IfOk, IfSome, slice_get, slice_set};
 ghost use Rattle.bb_memory_base.specs.Chunk.{Chunk};
 ghost use Rattle.bb_memory_base.specs.HeldBytes.{held_region};
 ghost use Rattle.bb_memory_base.specs.Region.{region_at};
 
+use self::kinds::{Figures, Kind};
+use super::layouts::layout_of;
 use bb_memory::allocator::{
     AllocationError, AllocationGrowError, AllocationShrinkError, Allocator, BaseAllocator, Command,
     Reply, run_base, run_full,
@@ -15,7 +17,7 @@ use std::alloc::{AllocError, Global};
 use std::marker::Model;
 use std::process::Abort;
 
-pub(crate) mod runs;
+pub(crate) mod kinds;
 
 /// The region of so many bytes at a place, each of which is a 7.
 pub(crate) fn sevens(alloc: Global, start: usize, size: usize) -> Result<Region, &'static str>
@@ -32,11 +34,13 @@ pub(crate) fn sevens(alloc: Global, start: usize, size: usize) -> Result<Region,
 
 /// What is asked of an allocator. A layout is a size and an alignment, and a chunk is named by its position among those that are
 /// out.
-#[derive(Debug, Clone, Copy, PartialEq, Eq)]
+#[derive(Clone, Copy)]
 pub(crate) enum Call {
     Allocate(usize, usize),
     AllocateZeroed(usize, usize),
     Deallocate(usize),
+    /// The return of a pool's bucket by its place alone.
+    DeallocateBucket(usize),
     Grow(usize, (usize, usize), (usize, usize)),
     GrowZeroed(usize, (usize, usize), (usize, usize)),
     Shrink(usize, (usize, usize), (usize, usize)),
@@ -44,7 +48,7 @@ pub(crate) enum Call {
 }
 
 /// What is answered to a call.
-#[derive(Debug, Clone, Copy, PartialEq, Eq)]
+#[derive(Clone, Copy, PartialEq, Eq)]
 pub(crate) enum Answer {
     /// A chunk at this place, of so many bytes.
     Chunk(usize, usize),
@@ -62,11 +66,35 @@ pub(crate) enum Answer {
 }
 
 /// The answer that was given to a call is what a row wants.
-fn is_allowed(rt: &impl Abort, call: Call, given: Answer, wanted: Answer) {
+fn is_allowed(given: Answer, wanted: Answer) -> bool {
     match (given, wanted) {
-        (Answer::Chunk(_, len), Answer::Somewhere(wanted)) => assert_eq!(rt; len, wanted),
-        _ => assert_eq!(rt; given, wanted, "to {call:?}"),
+        (Answer::Chunk(_, len), Answer::Somewhere(wanted)) => len == wanted,
+        _ => given == wanted,
     }
+}
+
+/// What a row does with an allocator, or asks of it.
+#[derive(Clone, Copy)]
+pub(crate) enum Step<'a> {
+    /// The call is answered so.
+    Call(Call, Answer),
+    /// The getters answer these.
+    Figures(Figures),
+    /// The last request read so many index words.
+    Reads(u32),
+    /// A chunk or a bucket is held at the first place, and none at the second.
+    Holds(usize, usize),
+    /// The chunks that are out are at these places and of so many bytes, in the order in which they were given.
+    Out(&'a [(usize, usize)]),
+    /// The chunks that are out are at just so many places, of which the first number is the first, and each other is the second
+    /// number behind the one before.
+    At(usize, usize, usize),
+    /// So many bytes from a place on are zero, and every other byte is a 7.
+    Zeros(usize, usize),
+    /// The same of the chunk at a position, from one of its bytes on.
+    ZerosIn(usize, usize, usize),
+    /// The calls that do nothing: they are proofs.
+    Laws,
 }
 
 /// The owner of an allocator and of its region's bytes, with the chunks that are out.
@@ -108,59 +136,57 @@ impl<A: BaseAllocator + Drop> Owner<A> {
         &self.allocator
     }
 
-    /// The chunks that are out.
-    pub(crate) fn live(&self) -> &[Chunk] {
-        self.live.as_slice()
+    /// The position of the chunk at a place.
+    pub(crate) fn position_of(&self, place: usize) -> Option<usize> {
+        for position in 0..self.live.len() {
+            if self.live[position].place() == place {
+                return Some(position);
+            }
+        }
+        None
     }
 
-    /// The position of the chunk at a place, which has to be out.
-    pub(crate) fn position_of(&self, rt: &impl Abort, place: usize) -> usize {
-        let position = self.live.iter().position(|chunk| chunk.place() == place);
-        position.expect(rt, "a chunk is at the place")
-    }
-
-    /// The chunks that are out are at just so many places, of which this is the first and each other is so many bytes behind the
-    /// one before.
-    pub(crate) fn is_at(&self, rt: &impl Abort, start: usize, stride: usize, count: usize) {
-        assert_eq!(rt; self.live.len(), count);
+    fn is_at(&self, start: usize, stride: usize, count: usize) -> bool {
         let mut place = start;
         for _ in 0..count {
-            self.position_of(rt, place);
+            if self.position_of(place).is_none() {
+                return false;
+            }
             place = place.saturating_add(stride);
         }
+        self.live.len() == count
     }
 
-    /// So many bytes at a place are zero, and every other byte is a 7.
-    pub(crate) fn has_zeros(&self, rt: &impl Abort, start: usize, count: usize) {
-        for (byte, place) in self
-            .region
-            .bytes()
-            .iter()
-            .zip(self.region.start_address()..)
-        {
-            let is_zero = start <= place && place - start < count;
-            assert_eq!(rt; *byte, if is_zero { 0 } else { 7 }, "at {place}");
+    fn is_out(&self, chunks: &[(usize, usize)]) -> bool {
+        for position in 0..self.live.len() {
+            let chunk = self.live[position];
+            if chunks.get(position) != Some(&(chunk.place(), chunk.len())) {
+                return false;
+            }
         }
+        self.live.len() == chunks.len()
     }
 
-    /// So many bytes of the chunk at a position are zero, from this one on, and every other byte is a 7.
-    pub(crate) fn has_zeros_in(
-        &self,
-        rt: &impl Abort,
-        position: usize,
-        first: usize,
-        count: usize,
-    ) {
-        let chunk = self
-            .live
-            .get(position)
-            .copied()
-            .expect(rt, "a chunk is at the position");
-        self.has_zeros(rt, chunk.place().saturating_add(first), count);
+    fn has_zeros(&self, start: usize, count: usize) -> bool {
+        let mut place = self.region.start_address();
+        for byte in self.region.bytes() {
+            if *byte != byte_at(place, start, count) {
+                return false;
+            }
+            place = place.saturating_add(1);
+        }
+        true
+    }
+
+    fn has_zeros_in(&self, position: usize, first: usize, count: usize) -> bool {
+        match chunk_at(&self.live, position) {
+            Some(chunk) => self.has_zeros(chunk.place().saturating_add(first), count),
+            None => false,
+        }
     }
 
     /// Does nothing: these calls are proofs.
-    pub(crate) fn laws(&self) {
+    fn laws(&self) {
         self.allocator.stands_for_some_list();
         self.allocator.answers_fit();
     }
@@ -195,7 +221,7 @@ impl<A: BaseAllocator + Drop> Owner<A> {
 
     /// Gives back the chunk at a position.
     fn deallocate(&mut self, position: usize) -> Answer {
-        let Some(chunk) = self.live.get(position).copied() else {
+        let Some(chunk) = chunk_at(&self.live, position) else {
             return Answer::NotMade;
         };
         self.allocator.deallocate(chunk.place(), Layout::empty());
@@ -210,28 +236,21 @@ impl<A: BaseAllocator + Drop> Owner<A> {
     /// Makes a call that any allocator has.
     fn answer_base(&mut self, call: Call) -> Answer {
         match call {
-            Call::Allocate(size, align) => match Layout::from_size_align(size, align) {
-                Ok(layout) => self.allocate(layout),
-                Err(_) => Answer::NotMade,
+            Call::Allocate(size, align) => match layout_of(size, align) {
+                Some(layout) => self.allocate(layout),
+                None => Answer::NotMade,
             },
-            Call::AllocateZeroed(size, align) => match Layout::from_size_align(size, align) {
-                Ok(layout) => self.allocate_zeroed(layout),
-                Err(_) => Answer::NotMade,
+            Call::AllocateZeroed(size, align) => match layout_of(size, align) {
+                Some(layout) => self.allocate_zeroed(layout),
+                None => Answer::NotMade,
             },
             Call::Deallocate(position) => self.deallocate(position),
             _ => Answer::NotMade,
         }
     }
 
-    /// Makes the calls of a table in turn, resizes not. Each has to be answered as the table has it.
-    pub(crate) fn answers_base(&mut self, rt: &impl Abort, table: &[(Call, Answer)]) {
-        for (call, wanted) in table {
-            is_allowed(rt, *call, self.answer_base(*call), *wanted);
-        }
-    }
-
     /// The commands' replies, by the run without resizes.
-    pub(crate) fn run_base(&mut self, commands: &[Command]) -> Result<Vec<Reply>, AllocError> {
+    fn run_base(&mut self, commands: &[Command]) -> Result<Vec<Reply>, AllocError> {
         run_base(&mut self.allocator, &mut self.live, commands)
     }
 }
@@ -239,7 +258,7 @@ impl<A: BaseAllocator + Drop> Owner<A> {
 impl<A: Allocator + Drop> Owner<A> {
     /// Resizes the chunk at a position.
     fn resize(&mut self, position: usize, call: Call) -> Answer {
-        let Some(chunk) = self.live.get(position).copied() else {
+        let Some(chunk) = chunk_at(&self.live, position) else {
             return Answer::NotMade;
         };
         match resize(&mut self.allocator, &mut self.region, chunk.place(), call) {
@@ -253,14 +272,14 @@ impl<A: Allocator + Drop> Owner<A> {
 
     /// How many bytes are reserved for the chunk at a position.
     fn reserved(&self, position: usize) -> Answer {
-        match self.live.get(position) {
+        match chunk_at(&self.live, position) {
             Some(chunk) => Answer::Reserved(self.allocator.reserved(chunk.place())),
             None => Answer::NotMade,
         }
     }
 
     /// Makes a call.
-    pub(crate) fn answer(&mut self, call: Call) -> Answer {
+    fn answer_full(&mut self, call: Call) -> Answer {
         match call {
             Call::Grow(position, ..)
             | Call::GrowZeroed(position, ..)
@@ -270,15 +289,8 @@ impl<A: Allocator + Drop> Owner<A> {
         }
     }
 
-    /// Makes the calls of a table in turn. Each has to be answered as the table has it.
-    pub(crate) fn answers(&mut self, rt: &impl Abort, table: &[(Call, Answer)]) {
-        for (call, wanted) in table {
-            is_allowed(rt, *call, self.answer(*call), *wanted);
-        }
-    }
-
     /// The commands' replies, by the run with resizes.
-    pub(crate) fn run(&mut self, commands: &[Command]) -> Result<Vec<Reply>, AllocError> {
+    fn run_full(&mut self, commands: &[Command]) -> Result<Vec<Reply>, AllocError> {
         run_full(&mut self.allocator, &mut self.live, commands)
     }
 }
@@ -339,9 +351,26 @@ pub(crate) fn with_room<A: BaseAllocator + Drop>(
 
 /// The two layouts of a resize.
 fn layouts(old: (usize, usize), new: (usize, usize)) -> Option<(Layout, Layout)> {
-    let old = Layout::from_size_align(old.0, old.1).ok()?;
-    let new = Layout::from_size_align(new.0, new.1).ok()?;
-    Some((old, new))
+    match (layout_of(old.0, old.1), layout_of(new.0, new.1)) {
+        (Some(old), Some(new)) => Some((old, new)),
+        _ => None,
+    }
+}
+
+/// The chunk at a position.
+fn chunk_at(live: &Vec<Chunk>, position: usize) -> Option<Chunk>
+    ensures { IfSome result (λ chunk. slice_get live.now.items position ≡ Some chunk) }
+{
+    live.get(position).copied()
+}
+
+/// What a byte is at a place, where so many from `start` on are zero.
+fn byte_at(place: usize, start: usize, count: usize) -> u8 {
+    if start <= place && place - start < count {
+        0
+    } else {
+        7
+    }
 }
 
 /// The answer to a resize of a chunk.
@@ -350,5 +379,46 @@ fn answer_to_resize(chunk: Chunk, resized: Chunk) -> Answer {
         Answer::InPlace(resized.len())
     } else {
         Answer::Chunk(resized.place(), resized.len())
+    }
+}
+
+impl<A: Kind> Owner<A> {
+    /// Whether a step is as it has to be.
+    fn keeps(&mut self, step: Step<'_>) -> bool {
+        match step {
+            Step::Call(call, wanted) => is_allowed(A::answer(self, call), wanted),
+            Step::Figures(wanted) => self.allocator.figures() == wanted,
+            Step::Reads(words) => self.allocator.reads() == Some(words),
+            Step::Holds(held, other) => {
+                self.allocator.holds_at(held) && !self.allocator.holds_at(other)
+            }
+            Step::Out(chunks) => self.is_out(chunks),
+            Step::At(start, stride, count) => self.is_at(start, stride, count),
+            Step::Zeros(start, count) => self.has_zeros(start, count),
+            Step::ZerosIn(position, first, count) => self.has_zeros_in(position, first, count),
+            Step::Laws => {
+                self.laws();
+                true
+            }
+        }
+    }
+}
+
+/// Each of these steps, taken in turn, is as it has to be.
+pub(crate) fn keeps<A: Kind>(rt: &impl Abort, owner: &mut Owner<A>, steps: &[Step<'_>]) {
+    for (number, step) in steps.iter().enumerate() {
+        assert!(rt; owner.keeps(*step), "step {number}");
+    }
+}
+
+/// The same of an owner who is made for it.
+pub(crate) fn all_keep<A: Kind>(
+    rt: &impl Abort,
+    made: Result<Owner<A>, &'static str>,
+    steps: &[Step<'_>],
+) {
+    match made {
+        Ok(mut owner) => keeps(rt, &mut owner, steps),
+        Err(cause) => panic!(rt; "{cause}"),
     }
 }

@@ -3,14 +3,14 @@ ghost use Rattle.std.specs.Prelude.{◌≡◌, [], IfOk};
 ghost use Rattle.bb_memory_base.specs.Region.{region_at};
 ghost use Rattle.bb_memory.specs.Pool.{StandsFor};
 
-use super::owner::runs::replies_are;
-use super::owner::{Answer, Call, Owner, sevens};
+use super::layouts::{chunk, layout, layout_of};
+use super::owner::kinds::{Kind, runs};
+use super::owner::{Answer, Call, Owner, Step, all_keep, keeps, sevens};
 use bb_memory::allocator::{Command, Reply};
-use bb_memory::layout::{Chunk, Layout};
-use bb_memory::pool_allocator::{AllocationError, BaseAllocator, PoolAllocator};
+use bb_memory::layout::Layout;
+use bb_memory::pool_allocator::{AllocationError, PoolAllocator};
 use std::alloc::Global;
 use std::process::Abort;
-use std::test::Fail;
 
 /// A pool over a region.
 pub(super) fn pool_over(
@@ -38,154 +38,207 @@ pub(super) fn pool_owner(
     start: usize,
     size: usize,
 ) -> Result<Owner<PoolAllocator<Global>>, &'static str> {
-    let Ok(bucket) = Layout::from_size_align(bucket.0, bucket.1) else {
+    let Some(bucket) = layout_of(bucket.0, bucket.1) else {
         return Err("the bucket has no layout");
     };
-    let pool = pool_over(alloc, bucket, start, size)?;
     let region = sevens(alloc, start, size)?;
+    let pool = pool_over(alloc, bucket, start, size)?;
     Ok(Owner::new(alloc, pool, region))
 }
 
-/// The getters answer these: the start, the number of buckets, the region's size, and the bucket's size and alignment.
-pub(super) fn has_figures(rt: &impl Abort, pool: &PoolAllocator<Global>, wanted: [usize; 5]) {
-    let figures = [
-        pool.start_address(),
-        pool.number_of_buckets() as usize,
-        pool.size(),
-        pool.bucket_size(),
-        pool.max_alignment(),
-    ];
-    assert_eq!(rt; figures, wanted);
+/// Each of these steps of a pool over a region is as it has to be. The figures are the first place, the number of buckets, the
+/// region's size, and the bucket's size and alignment.
+pub(super) fn pool_keeps(
+    rt: &impl Abort,
+    alloc: Global,
+    bucket: (usize, usize),
+    (start, size): (usize, usize),
+    steps: &[Step<'_>],
+) {
+    all_keep(rt, pool_owner(alloc, bucket, start, size), steps);
+}
+
+/// Whether a pool can be made.
+fn can_make(bucket: Layout, start: usize, size: usize) -> bool {
+    PoolAllocator::can_make(bucket, start, size)
 }
 
 /// Calls that no row makes.
 #[test]
-fn a_pool_call_by_call(rt: HostRuntime) -> Result<(), Fail> {
-    assert!(rt; !PoolAllocator::can_make(Layout::from_size_align(128, 8)?, 0, 8));
-    let mut pool = pool_owner(rt.alloc(), (128, 8), 4096, 1024)?;
-    let table = [
-        (Call::Allocate(128, 8), Answer::Somewhere(128)),
-        (Call::Reserved(0), Answer::Reserved(128)),
+fn a_pool_call_by_call(rt: HostRuntime) {
+    assert!(rt; !can_make(layout(&rt, 128, 8), 0, 8));
+    let steps = [
+        Step::Call(Call::Allocate(128, 8), Answer::Somewhere(128)),
+        Step::Call(Call::Reserved(0), Answer::Reserved(128)),
+        Step::Laws,
     ];
-    pool.answers(&rt, &table);
-    pool.laws();
-    Ok(())
+    pool_keeps(&rt, rt.alloc(), (128, 8), (4096, 1024), &steps);
+}
+
+/// How many bytes are enough for a pool's index words, where the call's conditions hold.
+pub(super) fn memory_size(bucket: Layout, size: usize) -> Option<usize> {
+    if bucket.size() == 0 || size / bucket.size() > u32::MAX as usize {
+        return None;
+    }
+    Some(PoolAllocator::memory_size(bucket, size))
 }
 
 #[test]
-fn pool_rounded_stride(rt: HostRuntime) -> Result<(), Fail> {
-    let bucket = Layout::from_size_align(12, 8)?;
-    assert_eq!(rt; PoolAllocator::memory_size(bucket, 64), 40);
-    let mut pool = pool_owner(rt.alloc(), (12, 8), 4096, 64)?;
-    has_figures(&rt, pool.allocator(), [4096, 4, 64, 12, 8]);
-    let table = [(Call::Allocate(12, 8), Answer::Somewhere(12)); 4];
-    pool.answers(&rt, &table);
-    pool.is_at(&rt, 4096, 16, 4);
-    Ok(())
+fn pool_rounded_stride(rt: HostRuntime) {
+    assert_eq!(rt; memory_size(layout(&rt, 12, 8), 64), Some(40));
+    let twelve = Step::Call(Call::Allocate(12, 8), Answer::Somewhere(12));
+    let steps = [
+        Step::Figures([4096, 4, 64, 12, 8]),
+        twelve,
+        twelve,
+        twelve,
+        twelve,
+        Step::At(4096, 16, 4),
+    ];
+    pool_keeps(&rt, rt.alloc(), (12, 8), (4096, 64), &steps);
 }
 
 /// Rows `memory-size-eight-buckets`, `memory-size-unrounded` and `memory-size-below-one-bucket`: the last has no bucket.
 #[test]
-fn memory_sizes(rt: HostRuntime) -> Result<(), Fail> {
-    let wide = Layout::from_size_align(128, 8)?;
-    let odd = Layout::from_size_align(12, 8)?;
-    assert_eq!(rt; PoolAllocator::memory_size(wide, 1024), 64);
-    assert_eq!(rt; PoolAllocator::memory_size(odd, 64), 40);
-    assert_eq!(rt; PoolAllocator::memory_size(wide, 100), 0);
-    Ok(())
+fn memory_sizes(rt: HostRuntime) {
+    let wide = layout(&rt, 128, 8);
+    assert_eq!(rt; memory_size(wide, 1024), Some(64));
+    assert_eq!(rt; memory_size(layout(&rt, 12, 8), 64), Some(40));
+    assert_eq!(rt; memory_size(wide, 100), Some(0));
 }
 
 #[test]
-fn pool_odd_start_getters(rt: HostRuntime) -> Result<(), Fail> {
-    let pool = pool_owner(rt.alloc(), (128, 8), 4097, 1024)?;
-    has_figures(&rt, pool.allocator(), [4104, 7, 1024, 128, 8]);
-    Ok(())
+fn pool_odd_start_getters(rt: HostRuntime) {
+    let steps = [Step::Figures([4104, 7, 1024, 128, 8])];
+    pool_keeps(&rt, rt.alloc(), (128, 8), (4097, 1024), &steps);
 }
 
 const BYTE: Call = Call::Allocate(1, 1);
 
-const FULL: Answer = Answer::Refused(AllocationError::OutOfMemory);
+const FULL: Step<'_> = Step::Call(BYTE, Answer::Refused(AllocationError::OutOfMemory));
 
-/// The owner of a pool of so many buckets of one byte at 4096, all of which are taken, each by one read.
-fn all_taken(
-    rt: &impl Abort,
-    alloc: Global,
-    buckets: usize,
-) -> Result<Owner<PoolAllocator<Global>>, &'static str> {
-    let mut pool = pool_owner(alloc, (1, 1), 4096, buckets)?;
+/// Each bucket of a pool of so many of one byte at 4096 is taken, by one read, and then the pool is full.
+fn are_all_taken<A: Kind>(rt: &impl Abort, pool: &mut Owner<A>, buckets: usize) {
     for _ in 0..buckets {
-        pool.answers(rt, &[(BYTE, Answer::Somewhere(1))]);
-        pool.has_read(rt, 1);
+        keeps(
+            rt,
+            pool,
+            &[Step::Call(BYTE, Answer::Somewhere(1)), Step::Reads(1)],
+        );
     }
-    pool.is_at(rt, 4096, 1, buckets);
-    pool.answers(rt, &[(BYTE, FULL)]);
-    Ok(pool)
+    keeps(rt, pool, &[Step::At(4096, 1, buckets), FULL]);
 }
 
-#[test]
-fn pool_sixty_five_buckets(rt: HostRuntime) -> Result<(), Fail> {
-    let mut pool = all_taken(&rt, rt.alloc(), 65)?;
-    pool.has_read(&rt, 1);
-    let last = pool.position_of(&rt, 4160);
-    pool.gives_back(&rt, last);
-    pool.answers(&rt, &[(BYTE, Answer::Chunk(4160, 1))]);
-    pool.has_read(&rt, 1);
-    Ok(())
-}
-
-#[test]
-fn pool_two_full_words(rt: HostRuntime) -> Result<(), Fail> {
-    let mut pool = all_taken(&rt, rt.alloc(), 128)?;
-    let fifth = pool.position_of(&rt, 4100);
-    let table = [
-        (Call::Deallocate(fifth), Answer::Done),
-        (BYTE, Answer::Chunk(4100, 1)),
-        (BYTE, FULL),
+/// A bucket of a full pool goes back by such a call, and is the one that is given next.
+fn is_given_again<A: Kind>(rt: &impl Abort, pool: &mut Owner<A>, place: usize, by_place: bool) {
+    let position = pool
+        .position_of(place)
+        .expect(rt, "a chunk is at the place");
+    let back = if by_place {
+        Call::DeallocateBucket(position)
+    } else {
+        Call::Deallocate(position)
+    };
+    let steps = [
+        Step::Call(back, Answer::Done),
+        Step::Call(BYTE, Answer::Chunk(place, 1)),
+        Step::Reads(1),
     ];
-    pool.answers(&rt, &table);
-    Ok(())
+    keeps(rt, pool, &steps);
+}
+
+/// All of a pool's buckets are taken; a refusal reads so many words, and then one bucket goes back and is given again.
+fn fills<A: Kind>(
+    rt: &impl Abort,
+    made: Result<Owner<A>, &'static str>,
+    buckets: usize,
+    place: usize,
+    by_place: bool,
+) {
+    let mut pool = match made {
+        Ok(pool) => pool,
+        Err(cause) => panic!(rt; "{cause}"),
+    };
+    are_all_taken(rt, &mut pool, buckets);
+    keeps(rt, &mut pool, &[Step::Reads(1)]);
+    is_given_again(rt, &mut pool, place, by_place);
+    keeps(rt, &mut pool, &[FULL]);
+}
+
+/// The same of a pool of so many buckets of one byte at 4096.
+fn pool_fills(rt: &impl Abort, alloc: Global, buckets: usize, place: usize, by_place: bool) {
+    fills(
+        rt,
+        pool_owner(alloc, (1, 1), 4096, buckets),
+        buckets,
+        place,
+        by_place,
+    );
+}
+
+#[test]
+fn pool_sixty_five_buckets(rt: HostRuntime) {
+    pool_fills(&rt, rt.alloc(), 65, 4160, true);
+}
+
+#[test]
+fn pool_two_full_words(rt: HostRuntime) {
+    pool_fills(&rt, rt.alloc(), 128, 4100, false);
 }
 
 /// A pool whose buckets are all held is found so by one read, and so is a bucket that is given back.
 #[test]
-fn one_read_where_all_are_held(rt: HostRuntime) -> Result<(), Fail> {
-    let mut pool = all_taken(&rt, rt.alloc(), 320)?;
-    pool.has_read(&rt, 1);
-    let found = pool.position_of(&rt, 4300);
-    pool.gives_back(&rt, found);
-    pool.answers(&rt, &[(BYTE, Answer::Chunk(4300, 1))]);
-    pool.has_read(&rt, 1);
-    Ok(())
+fn one_read_where_all_are_held(rt: HostRuntime) {
+    pool_fills(&rt, rt.alloc(), 320, 4300, true);
 }
 
 #[test]
-fn pool_zeroed(rt: HostRuntime) -> Result<(), Fail> {
-    let mut pool = pool_owner(rt.alloc(), (128, 8), 4096, 1024)?;
-    let table = [(Call::AllocateZeroed(48, 4), Answer::Somewhere(48))];
-    pool.answers(&rt, &table);
-    pool.has_read(&rt, 1);
-    pool.has_zeros_in(&rt, 0, 0, 48);
-    Ok(())
+fn pool_zeroed(rt: HostRuntime) {
+    let steps = [
+        Step::Call(Call::AllocateZeroed(48, 4), Answer::Somewhere(48)),
+        Step::Reads(1),
+        Step::ZerosIn(0, 0, 48),
+    ];
+    pool_keeps(&rt, rt.alloc(), (128, 8), (4096, 1024), &steps);
+}
+
+/// The commands of a run over a pool of one bucket of 16 bytes: a resize, and a request that finds no bucket.
+pub(super) fn resize_and_refusal(rt: &impl Abort) -> [Command; 4] {
+    let half = layout(rt, 8, 8);
+    [
+        Command::Allocate(half),
+        Command::Grow(0, half, layout(rt, 16, 8)),
+        Command::Allocate(half),
+        Command::Release(0),
+    ]
+}
+
+/// Their replies, where the resize is carried out and where it is passed over.
+pub(super) fn resized_and_refused(rt: &impl Abort, resizes: bool) -> [Reply; 4] {
+    let resized = if resizes {
+        Reply::Chunk(chunk(rt, 4096, 16))
+    } else {
+        Reply::Passed
+    };
+    [
+        Reply::Chunk(chunk(rt, 4096, 8)),
+        resized,
+        Reply::Refused(AllocationError::OutOfMemory),
+        Reply::Released,
+    ]
+}
+
+/// Such runs over a pool.
+pub(super) fn resize_runs<A: Kind>(rt: &impl Abort, made: Result<Owner<A>, &'static str>) {
+    let (full, base) = (
+        resized_and_refused(rt, true),
+        resized_and_refused(rt, false),
+    );
+    runs(rt, made, &resize_and_refusal(rt), &full, &base);
 }
 
 /// A resize is carried out by the run with resizes, and passed over by the other.
 #[test]
-fn runs_over_a_pool(rt: HostRuntime) -> Result<(), Fail> {
-    let bucket = Layout::from_size_align(16, 8)?;
-    let half = Layout::from_size_align(8, 8)?;
-    let commands = [
-        Command::Allocate(half),
-        Command::Grow(0, half, bucket),
-        Command::Allocate(half),
-        Command::Release(0),
-    ];
-    let given = Reply::Chunk(Chunk::new(4096, 8).unwrap());
-    let refused = Reply::Refused(AllocationError::OutOfMemory);
-    let grown = Reply::Chunk(Chunk::new(4096, 16).unwrap());
-    let full = [given, grown, refused, Reply::Released];
-    let base = [given, Reply::Passed, refused, Reply::Released];
-    let mut pool = pool_owner(rt.alloc(), (16, 8), 4096, 16)?;
-    replies_are(&rt, pool.run_pool(&commands)?, &full);
-    replies_are(&rt, pool.run_base_pool(&commands)?, &base);
-    Ok(())
+fn runs_over_a_pool(rt: HostRuntime) {
+    resize_runs(&rt, pool_owner(rt.alloc(), (16, 8), 4096, 16));
 }

@@ -1,7 +1,6 @@
 //! Worlds of more parties than a script has: the last party of each is there, and none behind it.
-use bb_memory::layout::Layout;
+use super::layouts::layout;
 use bb_memory::steps::{BumpOutcome, BumpStep, BumpWorld, PoolOutcome, PoolStep, PoolWorld};
-use std::test::Fail;
 
 /// What a step finds in a bump's world.
 pub(super) fn bump_outcome(world: &mut BumpWorld, step: BumpStep) -> BumpOutcome {
@@ -14,8 +13,8 @@ pub(super) fn pool_outcome(world: &mut PoolWorld, step: PoolStep) -> PoolOutcome
 }
 
 #[test]
-fn bump_worlds_of_many_parties(rt: HostRuntime) -> Result<(), Fail> {
-    let layout = Layout::from_size_align(40, 1)?;
+fn bump_worlds_of_many_parties(rt: HostRuntime) {
+    let layout = layout(&rt, 40, 1);
     for parties in [65, 100, 1000] {
         let world = BumpWorld::new(rt.alloc(), 4096, 64, parties);
         let mut world = world.expect(&rt, "there is memory for the parties");
@@ -30,7 +29,6 @@ fn bump_worlds_of_many_parties(rt: HostRuntime) -> Result<(), Fail> {
         };
         assert_eq!(rt; bump_outcome(&mut world, none), BumpOutcome::Passed);
     }
-    Ok(())
 }
 
 #[test]

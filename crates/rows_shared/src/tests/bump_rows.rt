@@ -9,7 +9,7 @@ use std::alloc::{AllocError, Global};
 use std::process::Abort;
 
 /// What a party calls.
-#[derive(Debug, Clone, Copy)]
+#[derive(Clone, Copy)]
 pub(super) enum Call {
     /// A request for so many bytes at an alignment.
     Take(usize, usize),
@@ -22,7 +22,7 @@ pub(super) enum Call {
 }
 
 /// What a call is answered.
-#[derive(Debug, Clone, Copy, PartialEq, Eq)]
+#[derive(Clone, Copy, PartialEq, Eq)]
 pub(super) enum Answer {
     /// A chunk at a place, of so many bytes.
     Chunk(usize, usize),
@@ -85,9 +85,9 @@ fn answer_of(
     }
 }
 
-/// The call of a row was answered as the row says.
-fn matches(rt: &impl Abort, (index, call, expected): &Row, found: Answer) {
-    assert_eq!(rt; found, *expected, "{call:?} of {index}");
+/// The call of a row, which has this number, was answered as the row says.
+fn matches(rt: &impl Abort, number: usize, row: &Row, found: Answer) {
+    assert!(rt; found == row.2, "row {number}");
 }
 
 /// Each row, in turn, is answered as it says.
@@ -100,9 +100,11 @@ pub(super) fn hold(
     requires { All (λ party. party.allocator ≡ shared.now) parties.old.items }
     ensures { All (λ party. party.allocator ≡ shared.now) parties.new.items }
 {
+    let mut number: usize = 0;
     for row in rows {
         let found = answer_of(shared, parties, row.0, row.1);
-        matches(rt, row, found);
+        matches(rt, number, row, found);
+        number = number.saturating_add(1);
     }
 }
 

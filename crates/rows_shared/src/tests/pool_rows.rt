@@ -22,7 +22,7 @@ pub(super) struct User<'a> {
 type Asked = (usize, usize);
 
 /// What a party calls.
-#[derive(Debug, Clone, Copy)]
+#[derive(Clone, Copy)]
 pub(super) enum Call {
     /// A request, whose token is dropped.
     Take(Request, Asked),
@@ -45,7 +45,7 @@ pub(super) enum Call {
 }
 
 /// What a call is answered.
-#[derive(Debug, Clone, Copy, PartialEq, Eq)]
+#[derive(Clone, Copy, PartialEq, Eq)]
 pub(super) enum Answer {
     /// The bucket of a number, and in it a chunk at a place, of so many bytes.
     Bucket(u32, usize, usize),
@@ -270,9 +270,9 @@ fn answer_of<'a, P: SharedBuckets>(
     }
 }
 
-/// The call of a row was answered as the row says.
-fn matches(rt: &impl Abort, (index, call, expected): &Row, found: Answer) {
-    assert_eq!(rt; found, *expected, "{call:?} of {index}");
+/// The call of a row, which has this number, was answered as the row says.
+fn matches(rt: &impl Abort, number: usize, row: &Row, found: Answer) {
+    assert!(rt; found == row.2, "row {number}");
 }
 
 /// Each row, in turn, is answered as it says.
@@ -285,9 +285,11 @@ pub(super) fn hold<'a, P: SharedBuckets>(
     requires { All (λ user. IsUser (P.shown pool.now) user.party user.kept) users.old.items }
     ensures { All (λ user. IsUser (P.shown pool.now) user.party user.kept) users.new.items }
 {
+    let mut number: usize = 0;
     for row in rows {
         let found = answer_of(pool, users, row.0, row.1);
-        matches(rt, row, found);
+        matches(rt, number, row, found);
+        number = number.saturating_add(1);
     }
 }
 

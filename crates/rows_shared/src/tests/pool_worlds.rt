@@ -3,7 +3,6 @@ use bb_memory::steps::PoolOutcome::{Gives, Loses, Misses, Passed, RefusedAtLoss,
 use bb_memory::steps::{PoolOutcome, PoolStep, PoolWorld};
 use std::alloc::Global;
 use std::process::Abort;
-use std::test::Fail;
 
 /// A step, what it finds, and who holds buckets 0 and 1 then.
 type Row = (PoolStep, PoolOutcome, [Option<u32>; 2]);
@@ -18,24 +17,26 @@ fn give_back(party: u32, bucket: u32) -> PoolStep {
 
 /// The world takes the step of a row as it says.
 fn step_finds(rt: &impl Abort, world: &mut PoolWorld, (step, outcome, holders): &Row) {
-    assert_eq!(rt; world.step(*step), *outcome, "{step:?}");
-    assert_eq!(rt; [world.holder(0), world.holder(1)], *holders, "{step:?}");
+    assert!(rt; world.step(*step) == *outcome, "{step:?}");
+    assert!(rt;
+        world.holder(0) == holders[0] && world.holder(1) == holders[1],
+        "{step:?}"
+    );
 }
 
 /// A world of two buckets and two parties takes each step as its row says.
-fn steps_find(rt: &impl Abort, alloc: Global, rows: &[Row]) -> Result<(), &'static str> {
+fn steps_find(rt: &impl Abort, alloc: Global, rows: &[Row]) {
     let Ok(mut world) = PoolWorld::new(alloc, 2, 2) else {
-        return Err("memory was refused");
+        panic!(rt; "memory was refused");
     };
     for row in rows {
         step_finds(rt, &mut world, row);
     }
-    Ok(())
 }
 
 /// A party in no pass takes a free flag, and misses a held one, whoever holds it, which changes nothing.
 #[test]
-fn pool_world_at_a_bucket(rt: HostRuntime) -> Result<(), Fail> {
+fn pool_world_at_a_bucket(rt: HostRuntime) {
     let rows = [
         (try_at(0, 1), Takes(1), [None, Some(0)]),
         (try_at(0, 1), Misses(1), [None, Some(0)]),
@@ -44,23 +45,23 @@ fn pool_world_at_a_bucket(rt: HostRuntime) -> Result<(), Fail> {
         (give_back(0, 1), Gives(1), [Some(1), None]),
         (try_at(1, 1), Takes(1), [Some(1), Some(1)]),
     ];
-    Ok(steps_find(&rt, rt.alloc(), &rows)?)
+    steps_find(&rt, rt.alloc(), &rows);
 }
 
 /// A miss leaves its party in no pass: its next pass begins at bucket 0.
 #[test]
-fn pool_world_pass_behind_a_miss(rt: HostRuntime) -> Result<(), Fail> {
+fn pool_world_pass_behind_a_miss(rt: HostRuntime) {
     let rows = [
         (try_at(0, 1), Takes(1), [None, Some(0)]),
         (try_at(1, 1), Misses(1), [None, Some(0)]),
         (PoolStep::Try { party: 1 }, Takes(0), [Some(1), Some(0)]),
     ];
-    Ok(steps_find(&rt, rt.alloc(), &rows)?)
+    steps_find(&rt, rt.alloc(), &rows);
 }
 
 /// A party in a pass may not try a bucket of its choice, and its pass stays where it is.
 #[test]
-fn pool_world_at_a_bucket_in_a_pass(rt: HostRuntime) -> Result<(), Fail> {
+fn pool_world_at_a_bucket_in_a_pass(rt: HostRuntime) {
     let rows = [
         (PoolStep::Try { party: 0 }, Takes(0), [Some(0), None]),
         (PoolStep::Try { party: 1 }, Loses(0), [Some(0), None]),
@@ -74,12 +75,12 @@ fn pool_world_at_a_bucket_in_a_pass(rt: HostRuntime) -> Result<(), Fail> {
         ),
         (try_at(1, 0), Misses(0), [Some(0), Some(0)]),
     ];
-    Ok(steps_find(&rt, rt.alloc(), &rows)?)
+    steps_find(&rt, rt.alloc(), &rows);
 }
 
 /// A step that names no bucket or no party changes nothing.
 #[test]
-fn pool_world_at_no_bucket(rt: HostRuntime) -> Result<(), Fail> {
+fn pool_world_at_no_bucket(rt: HostRuntime) {
     let most = u32::MAX;
     let rows = [
         (try_at(0, 2), Passed, [None, None]),
@@ -89,5 +90,5 @@ fn pool_world_at_no_bucket(rt: HostRuntime) -> Result<(), Fail> {
         (try_at(1, 1), Takes(1), [None, Some(1)]),
         (try_at(2, 1), Passed, [None, Some(1)]),
     ];
-    Ok(steps_find(&rt, rt.alloc(), &rows)?)
+    steps_find(&rt, rt.alloc(), &rows);
 }

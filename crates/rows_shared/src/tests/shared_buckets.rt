@@ -10,7 +10,7 @@ use bb_memory::shared_pool::{
 };
 
 /// Where a request looks for a bucket.
-#[derive(Debug, Clone, Copy)]
+#[derive(Clone, Copy)]
 pub(super) enum Request {
     /// From bucket 0 up.
     Pass,
@@ -23,7 +23,7 @@ pub(super) enum Request {
 }
 
 /// A pool's figures.
-#[derive(Debug, Clone, Copy, PartialEq, Eq)]
+#[derive(Clone, Copy, PartialEq, Eq)]
 pub(super) struct Figures {
     /// Where the first bucket is, which a pool of at most a constant of buckets doesn't tell.
     pub(super) start: Option<usize>,

@@ -10,7 +10,6 @@ use bb_memory::layout::Layout;
 use bb_memory::shared_bump::{BumpParty, SharedBumpAllocator};
 use std::alloc::Global;
 use std::process::Abort;
-use std::test::Fail;
 
 /// The calls of row `share-two-parties` on a bump of 64 bytes at 4096, with its two parties.
 const TWO_PARTIES: [Row; 6] = [
@@ -74,9 +73,9 @@ fn share_two_parties(rt: HostRuntime) {
 
 /// Two parties can meet, which changes nothing.
 #[test]
-fn parties_of_a_bump_meet(rt: HostRuntime) -> Result<(), &'static str> {
+fn parties_of_a_bump_meet(rt: HostRuntime) {
     let Some((shared, mut parties)) = share_of(rt.alloc(), 64, 0, 2) else {
-        return Err("share");
+        panic!(&rt; "share");
     };
     let before = [(0, Call::Take(40, 1), Answer::Chunk(4096, 40))];
     hold(&rt, &shared, &mut parties, &before);
@@ -87,7 +86,6 @@ fn parties_of_a_bump_meet(rt: HostRuntime) -> Result<(), &'static str> {
         (1, Call::UsedSpace, Answer::Bytes(40)),
     ];
     answers(&rt, shared, parties, &after, 40);
-    Ok(())
 }
 
 #[test]
@@ -107,48 +105,45 @@ fn into_owner_of_the_last_of_three(rt: HostRuntime) {
     shared_answers(&rt, rt.alloc(), 0, 3, &rows, 40);
 }
 
-/// A bump that has no room for a byte refuses it to its owner.
-fn is_full(rt: &impl Abort, mut bump: BumpAllocator) -> Result<(), Fail> {
-    let byte = Layout::from_size_align(1, 1)?;
-    assert_eq!(rt; bump.allocate(byte), Err(AllocationError::OutOfMemory));
-    Ok(())
+/// Whether a bump that has no room for a byte refuses it to its owner.
+fn is_full(mut bump: BumpAllocator) -> bool {
+    match Layout::from_size_align(1, 1) {
+        Ok(byte) => bump.allocate(byte) == Err(AllocationError::OutOfMemory),
+        Err(_) => false,
+    }
 }
 
 #[test]
-fn share_of_one_party(rt: HostRuntime) -> Result<(), Fail> {
+fn share_of_one_party(rt: HostRuntime) {
     let Some((shared, mut parties)) = share_of(rt.alloc(), 64, 0, 1) else {
-        return Err(Fail::from("share"));
+        panic!(&rt; "share");
     };
     assert_eq!(rt; parties.len(), 1);
     let rows = [(0, Call::Take(64, 1), Answer::Chunk(4096, 64))];
     hold(&rt, &shared, &mut parties, &rows);
-    match owner_by_last(shared, parties) {
-        Some(bump) => is_full(&rt, bump),
-        None => Err(Fail::from("no party came back")),
-    }
+    assert!(rt; owner_by_last(shared, parties).is_some_and(is_full));
 }
 
 /// As many parties as asked, numbered from 0, of which the last one takes the first byte.
-fn many_parties(rt: &impl Abort, alloc: Global, count: u32) -> Result<(), &'static str> {
+fn many_parties(rt: &impl Abort, alloc: Global, count: u32) {
     let Some((shared, mut parties)) = share_of(alloc, 64, 0, count) else {
-        return Err("share");
+        panic!(rt; "share");
     };
     assert_eq!(rt; parties.len(), count as usize);
     assert!(rt; are_numbered(&parties));
     let last = parties.len().saturating_sub(1);
     let rows = [(last, Call::Take(1, 1), Answer::Chunk(4096, 1))];
     hold(rt, &shared, &mut parties, &rows);
-    Ok(())
 }
 
 #[test]
-fn share_of_64_parties(rt: HostRuntime) -> Result<(), &'static str> {
-    many_parties(&rt, rt.alloc(), 64)
+fn share_of_64_parties(rt: HostRuntime) {
+    many_parties(&rt, rt.alloc(), 64);
 }
 
 #[test]
-fn share_of_1000_parties(rt: HostRuntime) -> Result<(), &'static str> {
-    many_parties(&rt, rt.alloc(), 1000)
+fn share_of_1000_parties(rt: HostRuntime) {
+    many_parties(&rt, rt.alloc(), 1000);
 }
 
 /// What three parties take before some of them meet: 27 bytes are used then, padding included.
@@ -173,23 +168,21 @@ const AFTER_THE_MEETING: [Row; 10] = [
 ];
 
 /// Three parties take, so many of them meet, and all take again.
-fn some_meet(rt: &impl Abort, alloc: Global, count: usize) -> Result<(), &'static str> {
+fn some_meet(rt: &impl Abort, alloc: Global, count: usize) {
     let Some((shared, mut parties)) = share_of(alloc, 64, 0, 3) else {
-        return Err("share");
+        panic!(rt; "share");
     };
     hold(rt, &shared, &mut parties, &BEFORE_THE_MEETING);
     if last_ones_meet(alloc, &shared, &mut parties, count).is_err() {
-        return Err("memory was refused");
+        panic!(rt; "memory was refused");
     }
     answers(rt, shared, parties, &AFTER_THE_MEETING, 64);
-    Ok(())
 }
 
 /// None, one, some and all parties of a bump meet.
 #[test]
-fn all_parties_of_a_bump_meet(rt: HostRuntime) -> Result<(), &'static str> {
+fn all_parties_of_a_bump_meet(rt: HostRuntime) {
     for count in [0, 1, 2, 3] {
-        some_meet(&rt, rt.alloc(), count)?;
+        some_meet(&rt, rt.alloc(), count);
     }
-    Ok(())
 }

@@ -162,11 +162,11 @@ fn no_bucket<P: SharedBuckets>(
     pool: &P,
     parties: Vec<PoolParty>,
     start: Option<usize>,
-) -> Result<(), &'static str>
+)
     requires { All (λ party. party.allocator ≡ P.shown pool.now) parties.items }
 {
     let Ok(mut users) = users_of(alloc, pool, parties) else {
-        return Err(REFUSED);
+        panic!(rt; "{REFUSED}");
     };
     assert!(rt; last_meets(pool, &mut users, 0));
     let none = Figures {
@@ -181,14 +181,15 @@ fn no_bucket<P: SharedBuckets>(
         (0, Take(Pass, (128, 8)), NONE_FREE),
     ];
     hold(rt, pool, &mut users, &rows);
-    Ok(())
 }
 
 /// A pool without buckets refuses at once, and its parties can meet.
 #[test]
-fn shared_fixed_of_no_bucket(rt: HostRuntime) -> Result<(), &'static str> {
-    let (pool, parties) = shared_fixed_over::<4>(rt.alloc(), 4096, 127, 2)?;
-    no_bucket(&rt, rt.alloc(), &pool, parties, None)
+fn shared_fixed_of_no_bucket(rt: HostRuntime) {
+    match shared_fixed_over::<4>(rt.alloc(), 4096, 127, 2) {
+        Ok((pool, parties)) => no_bucket(&rt, rt.alloc(), &pool, parties, None),
+        Err(cause) => panic!(&rt; "{cause}"),
+    }
 }
 
 /// As many parties as asked, numbered from 0, of which the last one takes bucket 0.
@@ -198,11 +199,11 @@ fn many_parties<P: SharedBuckets>(
     pool: &P,
     parties: Vec<PoolParty>,
     count: usize,
-) -> Result<(), &'static str>
+)
     requires { All (λ party. party.allocator ≡ P.shown pool.now) parties.items }
 {
     let Ok(mut users) = users_of(alloc, pool, parties) else {
-        return Err(REFUSED);
+        panic!(rt; "{REFUSED}");
     };
     assert_eq!(rt; users.len(), count);
     assert!(rt; are_numbered(&users));
@@ -212,25 +213,40 @@ fn many_parties<P: SharedBuckets>(
         Bucket(0, 4096, 128),
     )];
     hold(rt, pool, &mut users, &rows);
-    Ok(())
+}
+
+/// So many parties of a pool of at most four buckets.
+fn shared_fixed_of_parties(rt: &impl Abort, alloc: Global, count: u32) {
+    match shared_fixed_over::<4>(alloc, 4096, 1024, count) {
+        Ok((pool, parties)) => many_parties(rt, alloc, &pool, parties, count as usize),
+        Err(cause) => panic!(rt; "{cause}"),
+    }
+}
+
+/// The same of a pool of eight buckets at 4096.
+fn shared_of_parties(rt: &impl Abort, alloc: Global, count: u32) {
+    match shared_over(alloc, 4096, 1024, count) {
+        Ok((pool, parties)) => {
+            assert_eq!(rt; pool.start_address(), 4096);
+            many_parties(rt, alloc, &pool, parties, count as usize);
+        }
+        Err(cause) => panic!(rt; "{cause}"),
+    }
 }
 
 #[test]
-fn shared_fixed_of_64_parties(rt: HostRuntime) -> Result<(), &'static str> {
-    let (pool, parties) = shared_fixed_over::<4>(rt.alloc(), 4096, 1024, 64)?;
-    many_parties(&rt, rt.alloc(), &pool, parties, 64)
+fn shared_fixed_of_64_parties(rt: HostRuntime) {
+    shared_fixed_of_parties(&rt, rt.alloc(), 64);
 }
 
 #[test]
-fn shared_fixed_of_1000_parties(rt: HostRuntime) -> Result<(), &'static str> {
-    let (pool, parties) = shared_fixed_over::<4>(rt.alloc(), 4096, 1024, 1000)?;
-    many_parties(&rt, rt.alloc(), &pool, parties, 1000)
+fn shared_fixed_of_1000_parties(rt: HostRuntime) {
+    shared_fixed_of_parties(&rt, rt.alloc(), 1000);
 }
 
 /// Where the constant is 512, a pool has as many buckets, and no more.
 #[test]
-fn shared_fixed_of_512_buckets(rt: HostRuntime) -> Result<(), &'static str> {
-    let (pool, parties) = shared_fixed_over::<512>(rt.alloc(), 4096, 128 * 600, 1)?;
+fn shared_fixed_of_512_buckets(rt: HostRuntime) {
     let figures = Figures {
         start: None,
         buckets: 512,
@@ -243,8 +259,10 @@ fn shared_fixed_of_512_buckets(rt: HostRuntime) -> Result<(), &'static str> {
         (0, Take(At(511), ASKED), Bucket(511, 69504, 48)),
         (0, Take(At(512), ASKED), NONE_FREE),
     ];
-    answers(&rt, rt.alloc(), &pool, parties, &rows);
-    Ok(())
+    match shared_fixed_over::<512>(rt.alloc(), 4096, 128 * 600, 1) {
+        Ok((pool, parties)) => answers(&rt, rt.alloc(), &pool, parties, &rows),
+        Err(cause) => panic!(&rt; "{cause}"),
+    }
 }
 
 /// A party that was refused looks again, and finds the bucket that was given back meanwhile.
@@ -292,22 +310,21 @@ fn shared_fixed_bucket_by_number(rt: HostRuntime) {
 
 /// A pool without buckets refuses at once, and its parties can meet.
 #[test]
-fn shared_pool_of_no_bucket(rt: HostRuntime) -> Result<(), &'static str> {
-    let (pool, parties) = shared_over(rt.alloc(), 4096, 127, 2)?;
-    no_bucket(&rt, rt.alloc(), &pool, parties, Some(4096))
+fn shared_pool_of_no_bucket(rt: HostRuntime) {
+    match shared_over(rt.alloc(), 4096, 127, 2) {
+        Ok((pool, parties)) => no_bucket(&rt, rt.alloc(), &pool, parties, Some(4096)),
+        Err(cause) => panic!(&rt; "{cause}"),
+    }
 }
 
 #[test]
-fn shared_pool_of_64_parties(rt: HostRuntime) -> Result<(), &'static str> {
-    let (pool, parties) = shared_over(rt.alloc(), 4096, 1024, 64)?;
-    assert_eq!(rt; pool.start_address(), 4096);
-    many_parties(&rt, rt.alloc(), &pool, parties, 64)
+fn shared_pool_of_64_parties(rt: HostRuntime) {
+    shared_of_parties(&rt, rt.alloc(), 64);
 }
 
 #[test]
-fn shared_pool_of_1000_parties(rt: HostRuntime) -> Result<(), &'static str> {
-    let (pool, parties) = shared_over(rt.alloc(), 4096, 1024, 1000)?;
-    many_parties(&rt, rt.alloc(), &pool, parties, 1000)
+fn shared_pool_of_1000_parties(rt: HostRuntime) {
+    shared_of_parties(&rt, rt.alloc(), 1000);
 }
 
 /// What three parties take before some of them meet.
@@ -336,33 +353,44 @@ fn some_meet<P: SharedBuckets>(
     pool: &P,
     parties: Vec<PoolParty>,
     count: usize,
-) -> Result<(), &'static str>
+)
     requires { All (λ party. party.allocator ≡ P.shown pool.now) parties.items }
 {
     let Ok(mut users) = users_of(alloc, pool, parties) else {
-        return Err(REFUSED);
+        panic!(rt; "{REFUSED}");
     };
     hold(rt, pool, &mut users, &BEFORE_THE_MEETING);
     assert!(rt; last_ones_meet(alloc, pool, &mut users, count));
     hold(rt, pool, &mut users, &AFTER_THE_MEETING);
-    Ok(())
 }
 
-/// None, one, some and all parties of a pool of four buckets meet.
-#[test]
-fn all_parties_of_a_shared_pool_meet(rt: HostRuntime) -> Result<(), &'static str> {
-    for count in [0, 1, 2, 3] {
-        let (pool, parties) = shared_over(rt.alloc(), 4096, 512, 3)?;
-        some_meet(&rt, rt.alloc(), &pool, parties, count)?;
+/// So many parties of a pool of four buckets meet.
+fn shared_some_meet(rt: &impl Abort, alloc: Global, count: usize) {
+    match shared_over(alloc, 4096, 512, 3) {
+        Ok((pool, parties)) => some_meet(rt, alloc, &pool, parties, count),
+        Err(cause) => panic!(rt; "{cause}"),
     }
-    Ok(())
+}
+
+/// None, one, some and all parties meet.
+#[test]
+fn all_parties_of_a_shared_pool_meet(rt: HostRuntime) {
+    for count in [0, 1, 2, 3] {
+        shared_some_meet(&rt, rt.alloc(), count);
+    }
+}
+
+/// So many parties of a pool of at most four buckets meet.
+fn shared_fixed_some_meet(rt: &impl Abort, alloc: Global, count: usize) {
+    match shared_fixed_over::<4>(alloc, 4096, 1024, 3) {
+        Ok((pool, parties)) => some_meet(rt, alloc, &pool, parties, count),
+        Err(cause) => panic!(rt; "{cause}"),
+    }
 }
 
 #[test]
-fn all_parties_of_a_shared_fixed_pool_meet(rt: HostRuntime) -> Result<(), &'static str> {
+fn all_parties_of_a_shared_fixed_pool_meet(rt: HostRuntime) {
     for count in [0, 1, 2, 3] {
-        let (pool, parties) = shared_fixed_over::<4>(rt.alloc(), 4096, 1024, 3)?;
-        some_meet(&rt, rt.alloc(), &pool, parties, count)?;
+        shared_fixed_some_meet(&rt, rt.alloc(), count);
     }
-    Ok(())
 }

@@ -1,26 +1,27 @@
 //! A job board, whose slots threads take.
-ghost use Rattle.std.specs.Prelude.{◌≡◌, IfOk};
+ghost use Rattle.std.specs.Prelude.{◌≡◌, IfSome};
 
 use bb_memory::layout::Layout;
 use bb_memory::pool_allocator::{AllocationError, pool_count_law};
 use bb_memory::shared_pool::PoolParty;
 use std::alloc::Global;
-use std::test::Fail;
 use std::thread::Threads;
 use uses::job_board::JobBoard;
 
-/// A board of four slots of 64 bytes, and its two workers.
+/// A board of four slots of 64 bytes, and its two workers, or none where memory was refused.
 #[tactic(auto, unfolding(bb_memory_base::specs::LeastPlace::least_place))]
-fn four_slots(alloc: Global) -> Result<(JobBoard, PoolParty, PoolParty), Fail>
-    ensures first { IfOk result (λ made. made.1.allocator ≡ made.0) }
-    ensures second { IfOk result (λ made. made.2.allocator ≡ made.0) }
+fn four_slots(alloc: Global) -> Option<(JobBoard, PoolParty, PoolParty)>
+    ensures first { IfSome result (λ made. made.1.allocator ≡ made.0) }
+    ensures second { IfSome result (λ made. made.2.allocator ≡ made.0) }
 {
     pool_count_law();
-    let job = Layout::from_size_align(64, 8)?;
-    let (board, mut workers) = JobBoard::new(alloc, job, 4096, 256, 2)?;
+    let job = Layout::from_size_align(64, 8).unwrap();
+    let Ok((board, mut workers)) = JobBoard::new(alloc, job, 4096, 256, 2) else {
+        return None;
+    };
     let second = workers.pop().unwrap();
     let first = workers.pop().unwrap();
-    Ok((board, first, second))
+    Some((board, first, second))
 }
 
 /// The numbers of the slots that two workers get at once.
@@ -46,16 +47,30 @@ fn refusal(board: &JobBoard, mut worker: PoolParty) -> Option<AllocationError>
     board.take(&mut worker).err()
 }
 
-#[test]
-fn slots_have_one_holder(rt: HostRuntime) -> Result<(), Fail> {
-    let (board, mut here, mut there) = four_slots(rt.alloc())?;
-    let (one, two) = two_slots(&rt, &board, &mut here, &mut there)?;
-    let (three, four) = two_slots(&rt, &board, &mut here, &mut there)?;
+/// The numbers of the four slots that two workers get, two at once, and for which cause one of them gets no more.
+fn four_and_refusal(
+    rt: &(impl Threads + Sync),
+    board: &JobBoard,
+    mut here: PoolParty,
+    mut there: PoolParty,
+) -> Result<([u32; 4], Option<AllocationError>), AllocationError>
+    requires here { here.allocator ≡ board.now }
+    requires there { there.allocator ≡ board.now }
+{
+    let (one, two) = two_slots(rt, board, &mut here, &mut there)?;
+    let (three, four) = two_slots(rt, board, &mut here, &mut there)?;
     let mut numbers = [one, two, three, four];
     numbers.sort_unstable();
-    assert_eq!(rt; numbers, [0, 1, 2, 3]);
-    assert_eq!(rt; refusal(&board, here), Some(AllocationError::OutOfMemory));
-    Ok(())
+    Ok((numbers, refusal(board, here)))
+}
+
+#[test]
+fn slots_have_one_holder(rt: HostRuntime) {
+    let Some((board, here, there)) = four_slots(rt.alloc()) else {
+        panic!(&rt; "memory was refused");
+    };
+    let found = four_and_refusal(&rt, &board, here, there);
+    assert!(rt; found == Ok(([0, 1, 2, 3], Some(AllocationError::OutOfMemory))));
 }
 
 /// The number of the slot that a worker gets and gives back.
@@ -70,9 +85,10 @@ fn taken_and_done(board: &JobBoard, worker: &mut PoolParty) -> Result<u32, Alloc
 }
 
 #[test]
-fn slot_given_back(rt: HostRuntime) -> Result<(), Fail> {
-    let (board, _, mut worker) = four_slots(rt.alloc())?;
-    assert_eq!(rt; taken_and_done(&board, &mut worker)?, 0);
-    assert_eq!(rt; taken_and_done(&board, &mut worker)?, 0);
-    Ok(())
+fn slot_given_back(rt: HostRuntime) {
+    let Some((board, _, mut worker)) = four_slots(rt.alloc()) else {
+        panic!(&rt; "memory was refused");
+    };
+    assert_eq!(rt; taken_and_done(&board, &mut worker), Ok(0));
+    assert_eq!(rt; taken_and_done(&board, &mut worker), Ok(0));
 }

@@ -2,12 +2,12 @@
 ghost use Rattle.std.specs.Prelude.{[]};
 
 use super::eight_buckets;
-use super::rows::{Driven, first_wrong};
+use super::rows::{Driven, all_kept};
 use bb_memory::allocator::{AllocationError, Allocator, Command, Reply, run_full};
 use bb_memory::layout::{Chunk, Layout};
 use std::alloc::Global;
 use std::marker::Model;
-use std::test::Fail;
+use std::process::Abort;
 use uses::byte_budget::ByteBudget;
 use uses::chunk_budget::ChunkBudget;
 
@@ -169,28 +169,26 @@ impl<A: Limited> Driven<BudgetRow> for Tried<A> {
     }
 }
 
-/// The first row that a budget of so many chunks doesn't answer as it has it.
-fn first_wrong_of_chunks(
-    alloc: Global,
-    budget: usize,
-    rows: &[BudgetRow],
-) -> Result<Option<usize>, Fail> {
-    let mut tried = Tried::new(alloc, ChunkBudget::new(eight_buckets()?, budget));
-    Ok(first_wrong(&mut tried, rows))
+/// A budget of so many chunks keeps each row.
+fn chunks_keep(rt: &impl Abort, alloc: Global, budget: usize, rows: &[BudgetRow]) {
+    all_kept(
+        rt,
+        Tried::new(alloc, ChunkBudget::new(eight_buckets(), budget)),
+        rows,
+    );
 }
 
-/// The first row that a budget of so many bytes doesn't answer as it has it.
-fn first_wrong_of_bytes(
-    alloc: Global,
-    budget: usize,
-    rows: &[BudgetRow],
-) -> Result<Option<usize>, Fail> {
-    let mut tried = Tried::new(alloc, ByteBudget::new(eight_buckets()?, budget));
-    Ok(first_wrong(&mut tried, rows))
+/// A budget of so many bytes keeps each row.
+fn bytes_keep(rt: &impl Abort, alloc: Global, budget: usize, rows: &[BudgetRow]) {
+    all_kept(
+        rt,
+        Tried::new(alloc, ByteBudget::new(eight_buckets(), budget)),
+        rows,
+    );
 }
 
 #[test]
-fn budget_of_two_chunks(rt: HostRuntime) -> Result<(), Fail> {
+fn budget_of_two_chunks(rt: HostRuntime) {
     let rows = [
         (Ask::Allocate(10), Told::Given(10), (1, 2)),
         (Ask::Allocate(10), Told::Given(10), (2, 2)),
@@ -202,29 +200,27 @@ fn budget_of_two_chunks(rt: HostRuntime) -> Result<(), Fail> {
             (2, 2),
         ),
     ];
-    assert_eq!(rt; first_wrong_of_chunks(rt.alloc(), 2, &rows)?, None);
-    Ok(())
+    chunks_keep(&rt, rt.alloc(), 2, &rows);
 }
 
 #[test]
-fn spent_budget_refuses_before_the_pool(rt: HostRuntime) -> Result<(), Fail> {
+fn spent_budget_refuses_before_the_pool(rt: HostRuntime) {
     let none = [(
         Ask::Allocate(129),
         Told::Refused(AllocationError::OutOfMemory),
         (0, 0),
     )];
-    assert_eq!(rt; first_wrong_of_chunks(rt.alloc(), 0, &none)?, None);
+    chunks_keep(&rt, rt.alloc(), 0, &none);
     let one = [(
         Ask::Allocate(129),
         Told::Refused(AllocationError::SizeTooLarge),
         (0, 1),
     )];
-    assert_eq!(rt; first_wrong_of_chunks(rt.alloc(), 1, &one)?, None);
-    Ok(())
+    chunks_keep(&rt, rt.alloc(), 1, &one);
 }
 
 #[test]
-fn budget_of_300_bytes(rt: HostRuntime) -> Result<(), Fail> {
+fn budget_of_300_bytes(rt: HostRuntime) {
     let rows = [
         (Ask::Allocate(10), Told::Given(10), (128, 300)),
         (Ask::Allocate(10), Told::Given(10), (256, 300)),
@@ -236,22 +232,20 @@ fn budget_of_300_bytes(rt: HostRuntime) -> Result<(), Fail> {
             (256, 300),
         ),
     ];
-    assert_eq!(rt; first_wrong_of_bytes(rt.alloc(), 300, &rows)?, None);
-    Ok(())
+    bytes_keep(&rt, rt.alloc(), 300, &rows);
 }
 
 #[test]
-fn budgets_resize_what_is_out(rt: HostRuntime) -> Result<(), Fail> {
+fn budgets_resize_what_is_out(rt: HostRuntime) {
     let one = [
         (Ask::Allocate(10), Told::Given(10), (1, 1)),
         (Ask::Grow(0, 10, 20), Told::Resized(20), (1, 1)),
     ];
-    assert_eq!(rt; first_wrong_of_chunks(rt.alloc(), 1, &one)?, None);
+    chunks_keep(&rt, rt.alloc(), 1, &one);
     let rows = [
         (Ask::Allocate(20), Told::Given(20), (128, 128)),
         (Ask::Reserved(0), Told::Reserved(128), (128, 128)),
         (Ask::Shrink(0, 20, 10), Told::Resized(10), (128, 128)),
     ];
-    assert_eq!(rt; first_wrong_of_bytes(rt.alloc(), 128, &rows)?, None);
-    Ok(())
+    bytes_keep(&rt, rt.alloc(), 128, &rows);
 }

@@ -1,5 +1,5 @@
 //! Vectors of bytes: grown in place, refused, and copied.
-ghost use Rattle.std.specs.Prelude.{◌≡◌, ◌+◌, ◌≤◌, IfOk, length};
+ghost use Rattle.std.specs.Prelude.{◌≡◌, ◌+◌, ◌≤◌, IfSome, length};
 ghost use Rattle.bb_memory_base.specs.HeldBytes.{held_region};
 
 use super::{eight_buckets, its_region};
@@ -10,25 +10,27 @@ use bb_memory::pool_allocator::{
 use bb_memory::region::Region;
 use std::alloc::Global;
 use std::marker::Model;
-use std::test::Fail;
+use std::process::Abort;
 use uses::byte_vector::{ByteVec, PushError};
 
-/// Another region, of 64 bytes.
-fn another_region(alloc: Global) -> Result<Region, Fail>
-    ensures { IfOk result (λ region. held_region region ≡ record { start = 9000; size = 64 }) }
+/// Another region, of 64 bytes, or none where memory was refused.
+fn another_region(alloc: Global) -> Option<Region>
+    ensures { IfSome result (λ region. held_region region ≡ record { start = 9000; size = 64 }) }
 {
-    Ok(Region::new(9000, vec![in alloc; 0; 64]?))
+    match vec![in alloc; 0; 64] {
+        Ok(bytes) => Some(Region::new(9000, bytes)),
+        Err(_) => None,
+    }
 }
 
 /// A pool of buckets of four bytes.
 #[tactic(auto, unfolding(bb_memory_base::specs::LeastPlace::least_place))]
-fn buckets_of_four() -> Result<FixedSizePoolAllocator<16>, Fail>
-    ensures start { IfOk result (λ pool. pool.geometry.region.start ≡ 4096) }
-    ensures size { IfOk result (λ pool. pool.geometry.region.size ≡ 1024) }
+fn buckets_of_four() -> FixedSizePoolAllocator<16>
+    ensures start { result.geometry.region.start ≡ 4096 }
+    ensures size { result.geometry.region.size ≡ 1024 }
 {
     pool_count_law();
-    let bucket = Layout::from_size_align(4, 1)?;
-    Ok(FixedSizePoolAllocator::new(bucket, 4096, 1024))
+    FixedSizePoolAllocator::new(Layout::from_size_align(4, 1).unwrap(), 4096, 1024)
 }
 
 /// A vector in a chunk of its own, with its allocator and region.
@@ -57,13 +59,15 @@ impl<A: Allocator + Drop> Model for Growing<A> {
 }
 
 impl<A: Allocator + Drop> Growing<A> {
-    /// No bytes, in a chunk of two.
-    fn new(mut allocator: A, region: Region) -> Result<Self, Fail>
+    /// No bytes, in a chunk of two, or none where that was refused.
+    fn new(mut allocator: A, region: Region) -> Option<Self>
         requires { held_region region ≡ A.region_of (A.geometry allocator) }
     {
-        let chunk = allocator.allocate(Layout::from_size_align(2, 1)?)?;
+        let Ok(chunk) = allocator.allocate(Layout::from_size_align(2, 1).unwrap()) else {
+            return None;
+        };
         let bytes = ByteVec::new(&region, chunk);
-        Ok(Growing {
+        Some(Growing {
             allocator,
             region,
             chunk,
@@ -75,13 +79,14 @@ impl<A: Allocator + Drop> Growing<A> {
         self.bytes.push(&mut self.allocator, &mut self.region, byte)
     }
 
-    /// What is answered to each push.
-    fn pushes(&mut self, alloc: Global, bytes: &[u8]) -> Result<Vec<Result<(), PushError>>, Fail> {
-        let mut answers = Vec::new(alloc);
-        for byte in bytes {
-            answers.push(self.push(*byte))?;
+    /// Whether each push of these bytes is answered so.
+    fn pushes(&mut self, bytes: &[u8], answers: &[Result<(), PushError>]) -> bool {
+        for (byte, answer) in bytes.iter().zip(answers) {
+            if self.push(*byte) != *answer {
+                return false;
+            }
         }
-        Ok(answers)
+        bytes.len() == answers.len()
     }
 
     /// What the chunk has that the vector began with.
@@ -102,57 +107,50 @@ impl<A: Allocator + Drop> Growing<A> {
     }
 }
 
-/// What is answered to each push, how many bytes the vector then has, and what the chunk has that it began with.
-fn after_pushes<A: Allocator + Drop>(
-    mut growing: Growing<A>,
-    alloc: Global,
-    bytes: &[u8],
-) -> Result<Pushed, Fail> {
-    let answers = growing.pushes(alloc, bytes)?;
-    Ok(Pushed {
-        answers,
-        len: growing.bytes.len(),
-        held: growing.held().to_vec(alloc)?,
-    })
+/// What is answered where a byte is pushed, and where the bucket is full.
+const PUSHED: Result<(), PushError> = Ok(());
+
+const FULL: Result<(), PushError> = Err(PushError::Full(AllocationGrowError::OutOfMemory));
+
+/// Four bytes fit a vector, a fifth one doesn't, and the chunk that it began with has the first two.
+fn holds_four<A: Allocator + Drop>(rt: &impl Abort, made: Option<Growing<A>>) {
+    let Some(mut growing) = made else {
+        panic!(rt; "memory was refused");
+    };
+    let answers = [PUSHED, PUSHED, PUSHED, PUSHED, FULL];
+    assert!(rt; growing.pushes(&[1, 2, 3, 4, 5], &answers));
+    assert_eq!(rt; growing.bytes.len(), 4);
+    assert_eq!(rt; growing.held(), [1, 2].as_slice());
 }
 
-/// The same, in a bucket of four bytes.
-fn pushed_in_fours(alloc: Global, bytes: &[u8]) -> Result<Pushed, Fail> {
-    let growing = Growing::new(buckets_of_four()?, its_region(alloc)?)?;
-    after_pushes(growing, alloc, bytes)
-}
-
-#[derive(Drop)]
-struct Pushed {
-    answers: Vec<Result<(), PushError>>,
-    len: usize,
-    held: Vec<u8>,
+/// A vector in a bucket of four bytes.
+fn growing_in_four(alloc: Global) -> Option<Growing<FixedSizePoolAllocator<16>>> {
+    Growing::new(buckets_of_four(), its_region(alloc)?)
 }
 
 #[test]
-fn byte_vector_grows_in_its_bucket(rt: HostRuntime) -> Result<(), Fail> {
-    let full = Err(PushError::Full(AllocationGrowError::OutOfMemory));
-    let expected = [Ok(()), Ok(()), Ok(()), Ok(()), full];
-    let pushed = pushed_in_fours(rt.alloc(), &[1, 2, 3, 4, 5])?;
-    assert_eq!(rt; pushed.answers.as_slice(), expected.as_slice());
-    assert_eq!(rt; pushed.len, 4);
-    assert_eq!(rt; pushed.held.as_slice(), [1, 2].as_slice());
-    Ok(())
+fn byte_vector_grows_in_its_bucket(rt: HostRuntime) {
+    holds_four(&rt, growing_in_four(rt.alloc()));
 }
 
-/// How many bytes a copy of these has, and the first ten bytes of the region that it is in.
-fn copied(alloc: Global, bytes: &[u8]) -> Result<(Option<usize>, Vec<u8>), Fail> {
-    let mut growing = Growing::new(eight_buckets()?, its_region(alloc)?)?;
-    let mut other = another_region(alloc)?;
-    growing.pushes(alloc, bytes)?;
-    let len = growing.copied(&mut other);
-    Ok((len, other.bytes()[..10].to_vec(alloc)?))
+/// A vector in a bucket of 128 bytes.
+fn growing_in_many(alloc: Global) -> Option<Growing<FixedSizePoolAllocator<16>>> {
+    Growing::new(eight_buckets(), its_region(alloc)?)
+}
+
+/// Three bytes are copied to a chunk of another region.
+fn copies<A: Allocator + Drop>(rt: &impl Abort, made: Option<Growing<A>>, there: Option<Region>)
+    requires { IfSome there (λ region. held_region region ≡ record { start = 9000; size = 64 }) }
+{
+    let (Some(mut growing), Some(mut other)) = (made, there) else {
+        panic!(rt; "memory was refused");
+    };
+    assert!(rt; growing.pushes(&[7, 8, 9], &[PUSHED; 3]));
+    assert_eq!(rt; growing.copied(&mut other), Some(3));
+    assert!(rt; other.bytes().starts_with(&[0, 0, 0, 0, 0, 7, 8, 9, 0, 0]));
 }
 
 #[test]
-fn byte_vector_copied(rt: HostRuntime) -> Result<(), Fail> {
-    let (len, held) = copied(rt.alloc(), &[7, 8, 9])?;
-    assert_eq!(rt; len, Some(3));
-    assert_eq!(rt; held.as_slice(), [0, 0, 0, 0, 0, 7, 8, 9, 0, 0].as_slice());
-    Ok(())
+fn byte_vector_copied(rt: HostRuntime) {
+    copies(&rt, growing_in_many(rt.alloc()), another_region(rt.alloc()));
 }

@@ -21,7 +21,6 @@ fn errors_go_through(rt: HostRuntime) -> Result<(), Fail> {
 }
 
 #[test]
-fn heap_block_grows(rt: HostRuntime) -> Result<(), Fail> {
-    grown(rt.alloc())?;
-    Ok(())
+fn heap_block_grows(rt: HostRuntime) {
+    assert!(rt; grown(rt.alloc()).is_ok());
 }

@@ -2,6 +2,7 @@
 ghost use Rattle.std.specs.Prelude.{◌≡◌, ℕ, List, Some, IsTrue, length, slice_get};
 
 use bb_memory::allocator::Allocator;
+use std::process::Abort;
 use uses::mailbox::Mailbox;
 use uses::ring::MessageRing;
 use uses::slab::Slab;
@@ -12,14 +13,13 @@ pub(super) trait Driven<R> {
     fn keeps(&mut self, row: &R) -> bool;
 }
 
-/// The first row that wasn't answered as it has it.
-pub(super) fn first_wrong<R, D: Driven<R>>(driven: &mut D, rows: &[R]) -> Option<usize> {
-    for (position, row) in rows.iter().enumerate() {
-        if !driven.keeps(row) {
-            return Some(position);
-        }
+/// Each row, in turn, is answered as it has it.
+pub(super) fn all_kept<R, D: Driven<R> + Drop>(rt: &impl Abort, mut driven: D, rows: &[R]) {
+    let mut number: usize = 0;
+    for row in rows {
+        assert!(rt; driven.keeps(row), "row {number}");
+        number = number.saturating_add(1);
     }
-    None
 }
 
 /// A call of a slab.

@@ -1,11 +1,12 @@
 //! A refused block isn't made, and a refused growth hands its block back as it was.
 use crate::marks::some_was_refused;
-use crate::tests::heap_blocks::{BlockAnswer, BlockCall, answered, answers, block_of, zeros_of};
+use crate::tests::heap_blocks::{
+    BlockAnswer, BlockCall, answered, answers, block_of, made, zeros_of,
+};
 use bb_memory::allocator::AllocationGrowError;
 use bb_memory::heap_allocator::{AllocationError, HeapAllocator, HeapBlock};
 use std::alloc::Global;
 use std::process::Abort;
-use std::test::Fail;
 
 /// Grows a block of these bytes, for a second time where memory was refused at the first.
 fn grown(
@@ -21,22 +22,29 @@ fn grown(
         return block;
     }
     let refused = BlockAnswer::GrowRefused(AllocationGrowError::OutOfMemory);
-    assert_eq!(rt; (answer, some_was_refused(alloc)), (refused, true));
+    assert!(rt; answer == refused && some_was_refused(alloc));
     assert_eq!(rt; block.as_slice(), bytes);
     let (block, answer) = answered(&heap, block, call);
-    assert_eq!(rt; answer, BlockAnswer::Done);
+    assert!(rt; answer == BlockAnswer::Done);
     block
 }
 
+/// A block of four bytes, where memory was refused at a second trial.
+fn four_bytes(rt: &impl Abort, alloc: Global) -> HeapBlock {
+    let heap = HeapAllocator::new(alloc);
+    match block_of(&heap, 4) {
+        Err(AllocationError::OutOfMemory) if some_was_refused(alloc) => {
+            made(rt, block_of(&heap, 4))
+        }
+        block => made(rt, block),
+    }
+}
+
 #[test]
-fn heap_grow_and_shrink(rt: HostRuntime) -> Result<(), Fail> {
+fn heap_grow_and_shrink(rt: HostRuntime) {
     let heap = HeapAllocator::new(rt.alloc());
-    let made = match block_of(&heap, 4) {
-        Err(AllocationError::OutOfMemory) if some_was_refused(rt.alloc()) => block_of(&heap, 4),
-        made => made,
-    };
     let bytes = [1, 2, 3, 4].as_slice();
-    let (block, _) = answered(&heap, made?, BlockCall::Count(1));
+    let (block, _) = answered(&heap, four_bytes(&rt, rt.alloc()), BlockCall::Count(1));
     let block = grown(&rt, rt.alloc(), block, BlockCall::Grow(6, 1), bytes);
     assert_eq!(rt; block.as_slice(), [1, 2, 3, 4, 0, 0].as_slice());
     let table = [(
@@ -45,21 +53,26 @@ fn heap_grow_and_shrink(rt: HostRuntime) -> Result<(), Fail> {
         [1, 2].as_slice(),
     )];
     answers(&rt, &heap, block, &table);
-    Ok(())
+}
+
+/// A block of three zeros, where memory was refused at a second trial.
+fn three_zeros(rt: &impl Abort, alloc: Global) -> HeapBlock {
+    let heap = HeapAllocator::new(alloc);
+    match zeros_of(&heap, 3) {
+        Err(AllocationError::OutOfMemory) if some_was_refused(alloc) => {
+            made(rt, zeros_of(&heap, 3))
+        }
+        block => made(rt, block),
+    }
 }
 
 #[test]
-fn heap_zeroed_and_refused(rt: HostRuntime) -> Result<(), Fail> {
+fn heap_zeroed_and_refused(rt: HostRuntime) {
     let heap = HeapAllocator::new(rt.alloc());
-    let made = match zeros_of(&heap, 3) {
-        Err(AllocationError::OutOfMemory) if some_was_refused(rt.alloc()) => zeros_of(&heap, 3),
-        made => made,
-    };
-    let made = made?;
-    assert_eq!(rt; made.as_slice(), [0, 0, 0].as_slice());
-    let (block, _) = answered(&heap, made, BlockCall::Count(5));
+    let block = three_zeros(&rt, rt.alloc());
+    assert_eq!(rt; block.as_slice(), [0, 0, 0].as_slice());
+    let (block, _) = answered(&heap, block, BlockCall::Count(5));
     let bytes = [5, 6, 7].as_slice();
     let block = grown(&rt, rt.alloc(), block, BlockCall::GrowZeroed(5, 1), bytes);
     assert_eq!(rt; block.as_slice(), [5, 6, 7, 0, 0].as_slice());
-    Ok(())
 }

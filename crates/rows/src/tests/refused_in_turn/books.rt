@@ -10,17 +10,24 @@ use std::alloc::Global;
 use std::cell::Cell;
 use std::process::Abort;
 use std::rc::Rc;
-use std::test::Fail;
 
 #[test]
-fn each_loan_keeps_the_book(rt: HostRuntime) -> Result<(), Fail> {
-    let Ok(mut book) = pool_book(rt.alloc(), (64, 8), 4096, 1024) else {
-        return ends_unmade(&rt, rt.alloc());
+fn each_loan_keeps_the_book(rt: HostRuntime) {
+    are_loaned(&rt, rt.alloc(), pool_book(rt.alloc(), (64, 8), 4096, 1024));
+}
+
+/// Sixteen samples are loaned, where the book was made.
+fn are_loaned<A: Allocator + Drop>(
+    rt: &impl Abort,
+    alloc: Global,
+    made: Result<LoanBook<A>, &'static str>,
+) {
+    let Ok(mut book) = made else {
+        return ends_unmade(rt, alloc);
     };
     for id in 0..16 {
-        is_loaned(&rt, rt.alloc(), &mut book, id);
+        is_loaned(rt, alloc, &mut book, id);
     }
-    Ok(())
 }
 
 /// The next sample that is loaned has this id, where memory was refused at a second trial. The refusal leaves just the samples
@@ -43,17 +50,34 @@ fn is_loaned<A: Allocator>(rt: &impl Abort, alloc: Global, book: &mut LoanBook<A
 
 /// A loan that is refused for its record's memory hasn't asked the allocator, and one that is made has asked it once.
 #[test]
-fn a_loan_asks_for_its_record_first(rt: HostRuntime) -> Result<(), Fail> {
+fn a_loan_asks_for_its_record_first(rt: HostRuntime) {
     let Ok(requests) = Rc::new(rt.alloc(), Cell::new(0)) else {
         return ends_unmade(&rt, rt.alloc());
     };
-    let Ok(mut book) = counted_book(rt.alloc(), requests.clone()?) else {
+    let Ok(its_own) = requests.clone() else {
         return ends_unmade(&rt, rt.alloc());
     };
+    each_asks_once(
+        &rt,
+        rt.alloc(),
+        &requests,
+        counted_book(rt.alloc(), its_own),
+    );
+}
+
+/// Each of sixteen loans asks once, where the book was made.
+fn each_asks_once<A: Allocator + Drop>(
+    rt: &impl Abort,
+    alloc: Global,
+    requests: &Cell<usize>,
+    made: Result<LoanBook<A>, &'static str>,
+) {
+    let Ok(mut book) = made else {
+        return ends_unmade(rt, alloc);
+    };
     for _ in 0..16 {
-        asks_once(&rt, rt.alloc(), &requests, &mut book);
+        asks_once(rt, alloc, requests, &mut book);
     }
-    Ok(())
 }
 
 /// A loan makes no request of the allocator where it is refused for its record's memory, and else one.

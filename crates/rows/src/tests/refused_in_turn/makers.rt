@@ -1,24 +1,29 @@
 //! A refused `init` or `share` hands back what it was called on, as it was.
-ghost use Rattle.std.specs.Prelude.{◌≡◌, All, IfOk, length};
+ghost use Rattle.std.specs.Prelude.{◌≡◌, All, IfOk};
 
 use crate::marks::some_was_refused;
 use crate::tests::errors::has_text;
-use crate::tests::pools::has_figures;
+use crate::tests::layouts::layout;
+use crate::tests::owner::kinds::{Figures, Kind};
 use bb_memory::bump_allocator::{AllocationError, BaseAllocator, BumpAllocator};
 use bb_memory::layout::Layout;
 use bb_memory::pool_allocator::PoolAllocator;
 use bb_memory::shared_bump::{BumpParty, SharedBumpAllocator};
 use std::alloc::Global;
 use std::process::Abort;
-use std::test::Fail;
 
 #[test]
-fn pool_odd_start_getters(rt: HostRuntime) -> Result<(), Fail> {
-    let bucket = Layout::from_size_align(128, 8)?;
-    let pool = initialised(&rt, rt.alloc(), bucket)?;
-    has_figures(&rt, &pool, [4104, 7, 1024, 128, 8]);
-    assert_eq!(rt; pool.last_reads(), 0);
-    Ok(())
+fn pool_odd_start_getters(rt: HostRuntime) {
+    let made = initialised(&rt, rt.alloc(), layout(&rt, 128, 8));
+    assert_eq!(rt; told_of(made), Ok(([4104, 7, 1024, 128, 8], Some(0))));
+}
+
+/// What a pool tells: its getters' answers, and how many index words its last request read.
+fn told_of<A: Kind>(made: Result<A, &'static str>) -> Result<(Figures, Option<u32>), &'static str> {
+    match made {
+        Ok(pool) => Ok((pool.figures(), pool.reads())),
+        Err(cause) => Err(cause),
+    }
 }
 
 /// A pool over 1,024 bytes at 4097. Where memory was refused, the uninitialised one comes back, and is initialised once more.
@@ -48,9 +53,8 @@ fn shared_by_two(
     rt: &impl Abort,
     alloc: Global,
     bump: BumpAllocator,
-) -> Result<(SharedBumpAllocator, Vec<BumpParty>), Fail>
+) -> Result<(SharedBumpAllocator, Vec<BumpParty>), &'static str>
     ensures theirs { IfOk result (λ made. All (λ party. party.allocator ≡ made.0) made.1.items) }
-    ensures as_many { IfOk result (λ made. length made.1.items ≡ 2) }
 {
     let (handed_back, error) = match bump.share(alloc, 2) {
         Ok(shared) => return Ok(shared),
@@ -60,19 +64,27 @@ fn shared_by_two(
     assert!(rt; some_was_refused(alloc));
     assert_eq!(rt; handed_back.used_space(), 48);
     let text = "BumpAllocator { start: 4096, size: 1024, current_position: 48 }";
-    has_text(rt, alloc, &handed_back, text)?;
+    has_text(rt, alloc, &handed_back, text);
     match handed_back.share(alloc, 2) {
         Ok(shared) => Ok(shared),
-        Err(_) => Err(Fail::from("share was refused with memory")),
+        Err(_) => Err("share was refused with memory"),
     }
 }
 
+/// The last of two parties has number 1, and finds so much used.
+fn used_by_last(shared: &SharedBumpAllocator, mut parties: Vec<BumpParty>) -> Option<(u32, usize)>
+    requires { All (λ party. party.allocator ≡ shared.now) parties.items }
+{
+    let mut last = parties.pop()?;
+    Some((last.number(), shared.used_space(&mut last)))
+}
+
 #[test]
-fn share_hands_the_bump_back(rt: HostRuntime) -> Result<(), Fail> {
+fn share_hands_the_bump_back(rt: HostRuntime) {
     let mut bump = BumpAllocator::new(4096, 1024);
-    bump.allocate(Layout::from_size_align(48, 4)?)?;
-    let (shared, mut parties) = shared_by_two(&rt, rt.alloc(), bump)?;
-    let mut last = parties.pop().unwrap();
-    assert_eq!(rt; (last.number(), shared.used_space(&mut last)), (1, 48));
-    Ok(())
+    assert!(rt; bump.allocate(layout(&rt, 48, 4)).is_ok());
+    match shared_by_two(&rt, rt.alloc(), bump) {
+        Ok((shared, parties)) => assert_eq!(rt; used_by_last(&shared, parties), Some((1, 48))),
+        Err(cause) => panic!(&rt; "{cause}"),
+    }
 }

@@ -2,84 +2,117 @@
 use super::ends_unmade;
 use crate::marks::some_was_refused;
 use crate::tests::bumps::bump_owner;
+use crate::tests::layouts::{chunk, layout};
 use crate::tests::one_chunks::one_owner;
-use crate::tests::owner::Owner;
-use crate::tests::owner::runs::replies_are;
+use crate::tests::owner::kinds::{Figures, Kind, Run, replies_are};
+use crate::tests::owner::{Owner, Step, keeps};
 use crate::tests::pools::pool_owner;
 use bb_memory::allocator::{AllocationError, AllocationGrowError, Command, Reply};
-use bb_memory::bump_allocator::BumpAllocator;
-use bb_memory::layout::{Chunk, Layout};
-use bb_memory::one_chunk_allocator::OneChunkAllocator;
-use bb_memory::pool_allocator::PoolAllocator;
-use std::alloc::Global;
+use std::alloc::{AllocError, Global};
 use std::process::Abort;
-use std::test::Fail;
 
-/// The commands of row `bump-first-path`, up to its second `show`, as one batch.
-fn first_path() -> Option<[Command; 4]> {
-    Some([
-        Command::Allocate(Layout::from_size_align(48, 4).ok()?),
-        Command::Allocate(Layout::from_size_align(10, 32).ok()?),
-        Command::Allocate(Layout::from_size_align(950, 1).ok()?),
-        Command::Allocate(Layout::from_size_align(1, 1).ok()?),
-    ])
+/// The replies of a run. Where memory was refused at first, the owner's getters still answer as of a fresh one, and nothing
+/// is out.
+fn told<A: Kind>(
+    rt: &impl Abort,
+    alloc: Global,
+    owner: &mut Owner<A>,
+    run: Run,
+    commands: &[Command],
+    fresh: Figures,
+) -> Result<Vec<Reply>, AllocError> {
+    if let Ok(told) = A::run(owner, run, commands) {
+        return Ok(told);
+    }
+    assert!(rt; some_was_refused(alloc));
+    keeps(rt, owner, &[Step::Figures(fresh), Step::Out(&[])]);
+    A::run(owner, run, commands)
 }
 
+/// A run, what it is replied, and the getters' answers before it.
+#[derive(Clone, Copy)]
+struct Row<'a> {
+    run: Run,
+    commands: &'a [Command],
+    replies: &'a [Reply],
+    fresh: Figures,
+}
+
+/// A run is replied so, and then these steps are as they have to be. Without memory for the owner the test ends.
+fn is_told<A: Kind>(
+    rt: &impl Abort,
+    alloc: Global,
+    made: Result<Owner<A>, &'static str>,
+    row: &Row<'_>,
+    steps: &[Step<'_>],
+) {
+    match made {
+        Ok(mut owner) => {
+            let told = told(rt, alloc, &mut owner, row.run, row.commands, row.fresh);
+            replies_are(rt, told, row.replies);
+            keeps(rt, &mut owner, steps);
+        }
+        Err(_) => ends_unmade(rt, alloc),
+    }
+}
+
+/// The commands of row `bump-first-path`, up to its second `show`, as one batch.
 #[test]
-fn bump_first_path(rt: HostRuntime) -> Result<(), Fail> {
-    let Some(commands) = first_path() else {
-        return Err(Fail::from("a layout was refused"));
-    };
+fn bump_first_path(rt: HostRuntime) {
+    let commands = [
+        Command::Allocate(layout(&rt, 48, 4)),
+        Command::Allocate(layout(&rt, 10, 32)),
+        Command::Allocate(layout(&rt, 950, 1)),
+        Command::Allocate(layout(&rt, 1, 1)),
+    ];
     let replies = [
-        Reply::Chunk(Chunk::new(4096, 48).unwrap()),
-        Reply::Chunk(Chunk::new(4160, 10).unwrap()),
-        Reply::Chunk(Chunk::new(4170, 950).unwrap()),
+        Reply::Chunk(chunk(&rt, 4096, 48)),
+        Reply::Chunk(chunk(&rt, 4160, 10)),
+        Reply::Chunk(chunk(&rt, 4170, 950)),
         Reply::Refused(AllocationError::OutOfMemory),
     ];
-    let Ok(mut bump) = bump_owner(rt.alloc(), 4096, 1024) else {
-        return ends_unmade(&rt, rt.alloc());
+    let row = Row {
+        run: Run::Base,
+        commands: &commands,
+        replies: &replies,
+        fresh: [4096, 0, 1024, 1024, 0],
     };
-    replies_are(
+    let steps = [
+        Step::Figures([4096, 1024, 0, 1024, 0]),
+        Step::Out(&[(4096, 48), (4160, 10), (4170, 950)]),
+    ];
+    is_told(
         &rt,
-        told_by_bump(&rt, rt.alloc(), &mut bump, &commands),
-        &replies,
+        rt.alloc(),
+        bump_owner(rt.alloc(), 4096, 1024),
+        &row,
+        &steps,
     );
-    assert_eq!(rt;
-        (bump.allocator().used_space(), bump.live().len()),
-        (1024, 3)
-    );
-    Ok(())
 }
 
 /// The commands of row `one-resizes`.
-fn resizes() -> Option<[Command; 8]> {
-    let of_48 = Layout::from_size_align(48, 4).ok()?;
-    let of_64 = Layout::from_size_align(64, 4).ok()?;
-    Some([
+fn resizes(rt: &impl Abort) -> [Command; 8] {
+    let of_48 = layout(rt, 48, 4);
+    let of_64 = layout(rt, 64, 4);
+    [
         Command::Allocate(of_48),
-        Command::Shrink(0, of_64, Layout::from_size_align(32, 4).ok()?),
+        Command::Shrink(0, of_64, layout(rt, 32, 4)),
         Command::Grow(0, of_48, of_64),
         Command::Grow(0, of_64, of_64),
-        Command::Grow(0, of_48, Layout::from_size_align(64, 8).ok()?),
-        Command::Grow(0, of_48, Layout::from_size_align(1022, 4).ok()?),
-        Command::Grow(0, of_48, Layout::from_size_align(1021, 4).ok()?),
-        Command::Grow(
-            0,
-            Layout::from_size_align(48, 16).ok()?,
-            Layout::from_size_align(64, 16).ok()?,
-        ),
-    ])
+        Command::Grow(0, of_48, layout(rt, 64, 8)),
+        Command::Grow(0, of_48, layout(rt, 1022, 4)),
+        Command::Grow(0, of_48, layout(rt, 1021, 4)),
+        Command::Grow(0, layout(rt, 48, 16), layout(rt, 64, 16)),
+    ]
 }
 
 #[test]
-fn one_resizes(rt: HostRuntime) -> Result<(), Fail> {
-    let Some(commands) = resizes() else {
-        return Err(Fail::from("a layout was refused"));
-    };
-    let whole = Chunk::new(4100, 1021).unwrap();
+fn one_resizes(rt: HostRuntime) {
+    let commands = resizes(&rt);
+    let whole = chunk(&rt, 4100, 1021);
     let replies = [
         Reply::Chunk(whole),
-        Reply::Chunk(Chunk::new(4100, 32).unwrap()),
+        Reply::Chunk(chunk(&rt, 4100, 32)),
         Reply::Chunk(whole),
         Reply::GrowRefused(AllocationGrowError::GrowWouldShrink),
         Reply::GrowRefused(AllocationGrowError::AlignmentFailure),
@@ -87,40 +120,56 @@ fn one_resizes(rt: HostRuntime) -> Result<(), Fail> {
         Reply::Chunk(whole),
         Reply::Passed,
     ];
-    let Ok(mut one) = one_owner(rt.alloc(), 4097, 1024) else {
-        return ends_unmade(&rt, rt.alloc());
+    let row = Row {
+        run: Run::Full,
+        commands: &commands,
+        replies: &replies,
+        fresh: [4097, 1024, 1, 0, 0],
     };
-    replies_are(
+    let steps = [Step::Out(&[(4100, 1021)])];
+    is_told(
         &rt,
-        told_by_one(&rt, rt.alloc(), &mut one, &commands),
-        &replies,
+        rt.alloc(),
+        one_owner(rt.alloc(), 4097, 1024),
+        &row,
+        &steps,
     );
-    assert_eq!(rt; one.live(), [whole].as_slice());
-    Ok(())
 }
 
 /// The commands of row `pool-eight-buckets`.
-fn eight_buckets() -> Option<[Command; 14]> {
-    let mut commands = [Command::Allocate(Layout::from_size_align(48, 4).ok()?); 14];
-    commands[0] = Command::Allocate(Layout::from_size_align(129, 8).ok()?);
-    commands[1] = Command::Allocate(Layout::from_size_align(129, 16).ok()?);
-    commands[2] = Command::Allocate(Layout::from_size_align(48, 16).ok()?);
+fn eight_buckets(rt: &impl Abort) -> [Command; 14] {
+    let mut commands = [Command::Allocate(layout(rt, 48, 4)); 14];
+    commands[0] = Command::Allocate(layout(rt, 129, 8));
+    commands[1] = Command::Allocate(layout(rt, 129, 16));
+    commands[2] = Command::Allocate(layout(rt, 48, 16));
     commands[12] = Command::Release(0);
-    Some(commands)
+    commands
+}
+
+/// The row is replied as it has to be, and eight chunks are out then.
+fn has_eight_buckets<A: Kind>(
+    rt: &impl Abort,
+    alloc: Global,
+    made: Result<Owner<A>, &'static str>,
+) {
+    match made {
+        Ok(mut pool) => {
+            let (commands, fresh) = (eight_buckets(rt), [4096, 8, 1024, 128, 8]);
+            let told = told(rt, alloc, &mut pool, Run::FullByName, &commands, fresh);
+            are_of_eight_buckets(rt, &told.expect(rt, "there is memory again"));
+            keeps(rt, &mut pool, &[Step::At(4096, 128, 8)]);
+        }
+        Err(_) => ends_unmade(rt, alloc),
+    }
 }
 
 #[test]
-fn pool_eight_buckets(rt: HostRuntime) -> Result<(), Fail> {
-    let Some(commands) = eight_buckets() else {
-        return Err(Fail::from("a layout was refused"));
-    };
-    let Ok(mut pool) = pool_owner(rt.alloc(), (128, 8), 4096, 1024) else {
-        return ends_unmade(&rt, rt.alloc());
-    };
-    let told = told_by_pool(&rt, rt.alloc(), &mut pool, &commands);
-    are_of_eight_buckets(&rt, &told);
-    assert_eq!(rt; pool.live().len(), 8);
-    Ok(())
+fn pool_eight_buckets(rt: HostRuntime) {
+    has_eight_buckets(
+        &rt,
+        rt.alloc(),
+        pool_owner(rt.alloc(), (128, 8), 4096, 1024),
+    );
 }
 
 /// The replies of the row: three refusals, the eight buckets in any order, one more refusal, and the first of them once more.
@@ -161,52 +210,4 @@ fn place_of(reply: Reply) -> usize {
         return 0;
     };
     if chunk.len() == 48 { chunk.place() } else { 0 }
-}
-
-/// The replies of a run over a bump, which is fresh where memory was refused at first.
-fn told_by_bump(
-    rt: &impl Abort,
-    alloc: Global,
-    bump: &mut Owner<BumpAllocator>,
-    commands: &[Command],
-) -> Vec<Reply> {
-    if let Ok(told) = bump.run_base(commands) {
-        return told;
-    }
-    assert!(rt; some_was_refused(alloc));
-    assert_eq!(rt; (bump.allocator().used_space(), bump.live().len()), (0, 0));
-    bump.run_base(commands).expect(rt, "there is memory again")
-}
-
-/// The same over a one chunk.
-fn told_by_one(
-    rt: &impl Abort,
-    alloc: Global,
-    one: &mut Owner<OneChunkAllocator>,
-    commands: &[Command],
-) -> Vec<Reply> {
-    if let Ok(told) = one.run(commands) {
-        return told;
-    }
-    assert!(rt; some_was_refused(alloc));
-    assert_eq!(rt;
-        (one.allocator().has_chunk_available(), one.live().len()),
-        (true, 0)
-    );
-    one.run(commands).expect(rt, "there is memory again")
-}
-
-/// The same over a pool.
-fn told_by_pool(
-    rt: &impl Abort,
-    alloc: Global,
-    pool: &mut Owner<PoolAllocator<Global>>,
-    commands: &[Command],
-) -> Vec<Reply> {
-    if let Ok(told) = pool.run_pool(commands) {
-        return told;
-    }
-    assert!(rt; some_was_refused(alloc));
-    assert_eq!(rt; pool.live().len(), 0);
-    pool.run_pool(commands).expect(rt, "there is memory again")
 }

@@ -1,11 +1,10 @@
 //! A refused world isn't made, and a refused replay leaves its world as it was.
 use crate::marks::some_was_refused;
+use crate::tests::layouts::{chunk, layout};
 use crate::tests::worlds::{bump_outcome, pool_outcome};
-use bb_memory::layout::{Chunk, Layout};
 use bb_memory::steps::{BumpOutcome, BumpStep, BumpWorld, PoolOutcome, PoolStep, PoolWorld};
 use std::alloc::Global;
 use std::process::Abort;
-use std::test::Fail;
 
 /// A world of a bump at 4096 of 64 bytes with 64 parties, where memory was refused at a second trial.
 fn bump_world(rt: &impl Abort, alloc: Global) -> BumpWorld {
@@ -33,8 +32,8 @@ fn replayed_by_bump(
 }
 
 #[test]
-fn steps_bump_race(rt: HostRuntime) -> Result<(), Fail> {
-    let layout = Layout::from_size_align(40, 1)?;
+fn steps_bump_race(rt: HostRuntime) {
+    let layout = layout(&rt, 40, 1);
     let steps = [
         BumpStep::Read { party: 0, layout },
         BumpStep::Read { party: 1, layout },
@@ -44,14 +43,13 @@ fn steps_bump_race(rt: HostRuntime) -> Result<(), Fail> {
     let outcomes = [
         BumpOutcome::Sees(0),
         BumpOutcome::Sees(0),
-        BumpOutcome::Wins(Chunk::new(4096, 40).unwrap()),
+        BumpOutcome::Wins(chunk(&rt, 4096, 40)),
         BumpOutcome::RefusedAtLoss(40),
     ];
     let mut world = bump_world(&rt, rt.alloc());
     let told = replayed_by_bump(&rt, rt.alloc(), &mut world, &steps);
     assert_eq!(rt; told.as_slice(), outcomes.as_slice());
     assert_eq!(rt; world.used_space(), 40);
-    Ok(())
 }
 
 /// A world of a pool of two buckets with 64 parties, where memory was refused at a second trial.

@@ -18,16 +18,15 @@ use bb_memory::shared_pool::PoolParty;
 use rows::marks::{none_was_asked, refuse_memory};
 use std::alloc::Global;
 use std::process::Abort;
-use std::test::Fail;
 
 /// What a test makes for itself was refused.
 const REFUSED: &str = "memory was refused";
 
 #[test]
-fn a_shared_bump(rt: HostRuntime) -> Result<(), Fail> {
+fn a_shared_bump(rt: HostRuntime) {
     let Some((shared, mut parties)) = bump_rows::share_of(rt.alloc(), 64, 0, 2) else {
         was_refused(&rt, rt.alloc(), REFUSED);
-        return Ok(());
+        return;
     };
     refuse_memory(rt.alloc());
     let rows = [
@@ -43,20 +42,18 @@ fn a_shared_bump(rt: HostRuntime) -> Result<(), Fail> {
     all_meet(&shared, &mut parties);
     two_parties(&rt, shared, parties);
     assert!(rt; none_was_asked(rt.alloc()));
-    Ok(())
 }
 
 /// A bump that is handed back by all its parties.
 #[test]
-fn an_owner_of_all(rt: HostRuntime) -> Result<(), Fail> {
+fn an_owner_of_all(rt: HostRuntime) {
     let Some((shared, parties)) = bump_rows::share_of(rt.alloc(), 64, 40, 4) else {
         was_refused(&rt, rt.alloc(), REFUSED);
-        return Ok(());
+        return;
     };
     refuse_memory(rt.alloc());
     assert_eq!(rt; owner_by_all(shared, parties, 4), Some((4096, 64, 40)));
     assert!(rt; none_was_asked(rt.alloc()));
-    Ok(())
 }
 
 /// These rows hold of a pool without a request for memory. Where it has several parties, the last one meets the first before.

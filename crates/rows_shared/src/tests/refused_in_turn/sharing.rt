@@ -2,6 +2,7 @@
 ghost use Rattle.std.specs.Prelude.{◌≡◌, All, IfOk};
 
 use super::was_refused;
+use crate::tests::bump_rows::figures_of;
 use crate::tests::pool_rows::{Row, hold, users_of};
 use crate::tests::shared_buckets::SharedBuckets;
 use crate::tests::shared_bumps::two_parties;
@@ -12,7 +13,6 @@ use bb_memory::shared_pool::{PoolParty, SharedFixedSizePoolAllocator, SharedPool
 use rows::marks::some_was_refused;
 use std::alloc::Global;
 use std::process::Abort;
-use std::test::Fail;
 
 /// A bump of 64 bytes at 4096, shared by two. Where memory was refused it comes back as it was, and is shared once more.
 fn shared_by_two(
@@ -27,11 +27,7 @@ fn shared_by_two(
     };
     assert!(rt; some_was_refused(alloc));
     assert_eq!(rt; cause, AllocationError::OutOfMemory);
-    assert_eq!(rt;
-        (handed_back.start_address(), handed_back.total_space()),
-        (4096, 64)
-    );
-    assert_eq!(rt; handed_back.used_space(), 0);
+    assert_eq!(rt; figures_of(&handed_back), (4096, 64, 0));
     match handed_back.share(alloc, 2) {
         Ok(shared) => Ok(shared),
         Err(_) => Err("share was refused with memory"),
@@ -39,10 +35,11 @@ fn shared_by_two(
 }
 
 #[test]
-fn share_two_parties(rt: HostRuntime) -> Result<(), Fail> {
-    let (shared, parties) = shared_by_two(&rt, rt.alloc())?;
-    two_parties(&rt, shared, parties);
-    Ok(())
+fn share_two_parties(rt: HostRuntime) {
+    match shared_by_two(&rt, rt.alloc()) {
+        Ok((shared, parties)) => two_parties(&rt, shared, parties),
+        Err(cause) => panic!(&rt; "{cause}"),
+    }
 }
 
 /// These rows hold of a pool, where memory for the test itself isn't refused.
@@ -78,10 +75,11 @@ fn two_buckets(
 }
 
 #[test]
-fn shared_pool_dropped_bucket(rt: HostRuntime) -> Result<(), Fail> {
-    let (pool, parties) = two_buckets(&rt, rt.alloc())?;
-    answers(&rt, rt.alloc(), &pool, parties, &DROPPED_BUCKET);
-    Ok(())
+fn shared_pool_dropped_bucket(rt: HostRuntime) {
+    match two_buckets(&rt, rt.alloc()) {
+        Ok((pool, parties)) => answers(&rt, rt.alloc(), &pool, parties, &DROPPED_BUCKET),
+        Err(cause) => panic!(&rt; "{cause}"),
+    }
 }
 
 /// A pool of at most four buckets with one party. Where memory was refused it is made once more.
@@ -101,8 +99,9 @@ fn four_buckets(
 }
 
 #[test]
-fn shared_fixed_four_buckets(rt: HostRuntime) -> Result<(), Fail> {
-    let (pool, parties) = four_buckets(&rt, rt.alloc())?;
-    answers(&rt, rt.alloc(), &pool, parties, &FOUR_BUCKETS);
-    Ok(())
+fn shared_fixed_four_buckets(rt: HostRuntime) {
+    match four_buckets(&rt, rt.alloc()) {
+        Ok((pool, parties)) => answers(&rt, rt.alloc(), &pool, parties, &FOUR_BUCKETS),
+        Err(cause) => panic!(&rt; "{cause}"),
+    }
 }

@@ -11,7 +11,6 @@ use std::alloc::{AllocError, Global};
 use std::process::Abort;
 use std::snapshot::Snapshot;
 use std::sync::Arc;
-use std::test::Fail;
 use std::thread;
 use std::thread::{Promise, PromisedHandle, Threads};
 
@@ -40,6 +39,13 @@ impl Promise<Taken> for ComesBack {
 
 impl Promise<(BumpParty, bool)> for ComesBack {
     ghost kept_by = { λ promise answer. answer.0.allocator ≡ promise.0.value };
+}
+
+/// The layout of this size and alignment, which has to be one.
+fn layout(rt: &impl Abort, size: usize, align: usize) -> Layout {
+    Layout::from_size_align(size, align)
+        .ok()
+        .expect(rt, "there is such a layout")
 }
 
 /// Asks so many times, or until it is refused, and looks at the used space after each request.
@@ -237,21 +243,35 @@ const BEHIND_4000_BYTES: [Row; 6] = [
     (3, Call::Take(96, 1), Answer::Chunk(8096, 96)),
 ];
 
-#[test]
-fn threads_bump_exact_places(rt: HostRuntime) -> Result<(), Fail> {
-    let (shared, all) = four_take_ten(&rt, rt.alloc())?;
-    were_given(&rt, &all, 4, 100);
-    are_in_a_row(&rt, &ends_of(rt.alloc(), &all)?, 400);
-    let mut parties = parties_of(rt.alloc(), &shared, all)?;
-    hold(&rt, &shared, &mut parties, &BEHIND_4000_BYTES);
-    Ok(())
+/// What four threads took lies in a row, and their parties find just that.
+fn are_exact(rt: &impl Abort, alloc: Global, shared: &SharedBumpAllocator, all: Vec<Taken>)
+    requires { All (λ taken. taken.party.allocator ≡ shared.now) all.items }
+{
+    were_given(rt, &all, 4, 100);
+    match ends_of(alloc, &all) {
+        Ok(ends) => are_in_a_row(rt, &ends, 400),
+        Err(_) => panic!(rt; "{REFUSED}"),
+    }
+    match parties_of(alloc, shared, all) {
+        Ok(mut parties) => hold(rt, shared, &mut parties, &BEHIND_4000_BYTES),
+        Err(_) => panic!(rt; "{REFUSED}"),
+    }
 }
 
 #[test]
-fn threads_used_space_seen(rt: HostRuntime) -> Result<(), &'static str> {
-    let (_, all) = four_take_ten(&rt, rt.alloc())?;
-    were_given(&rt, &all, 4, 100);
-    Ok(())
+fn threads_bump_exact_places(rt: HostRuntime) {
+    match four_take_ten(&rt, rt.alloc()) {
+        Ok((shared, all)) => are_exact(&rt, rt.alloc(), &shared, all),
+        Err(cause) => panic!(&rt; "{cause}"),
+    }
+}
+
+#[test]
+fn threads_used_space_seen(rt: HostRuntime) {
+    match four_take_ten(&rt, rt.alloc()) {
+        Ok((_, all)) => were_given(&rt, &all, 4, 100),
+        Err(cause) => panic!(&rt; "{cause}"),
+    }
 }
 
 /// A thread was given chunks of this layout, until it was refused.
@@ -304,14 +324,9 @@ fn take_layouts(
 }
 
 #[test]
-fn threads_bump_mixed_layouts(rt: HostRuntime) -> Result<(), Fail> {
-    let layouts = [
-        Layout::from_size_align(24, 16)?,
-        Layout::from_size_align(5, 1)?,
-        Layout::from_size_align(8, 8)?,
-    ];
-    assert!(rt; take_layouts(&rt, rt.alloc(), &layouts)?);
-    Ok(())
+fn threads_bump_mixed_layouts(rt: HostRuntime) {
+    let layouts = [layout(&rt, 24, 16), layout(&rt, 5, 1), layout(&rt, 8, 8)];
+    assert!(rt; take_layouts(&rt, rt.alloc(), &layouts).unwrap_or(false));
 }
 
 /// Each of these, from a place to an end, lies behind the one before, and all from `start` to `end`.
@@ -403,22 +418,33 @@ fn last_of(shared: &SharedBumpAllocator, parties: &mut Vec<BumpParty>) -> Option
     parties.pop()
 }
 
+/// Whether each of the two parties' threads finds eight bytes of its own and of the other one used. None is where a party is
+/// missing or memory was refused.
+fn watch_at_once(
+    rt: &impl Threads,
+    alloc: Global,
+    shared: SharedBumpAllocator,
+    mut parties: Vec<BumpParty>,
+    eight: Layout,
+) -> Option<bool>
+    requires { All (λ party. party.allocator ≡ shared) parties.items }
+{
+    let second = last_of(&shared, &mut parties)?;
+    let first = last_of(&shared, &mut parties)?;
+    let shared = Arc::new(alloc, shared).ok()?;
+    both_watch(rt, &shared, first, second, eight, 16).ok()
+}
+
 /// Each of two threads watches for what the other takes, so threads that ran one after the other would fail.
 #[test]
-fn threads_really_at_once(rt: HostRuntime) -> Result<(), Fail> {
-    let eight = Layout::from_size_align(8, 1)?;
-    let Some((shared, mut parties)) = share_of(rt.alloc(), 64, 0, 2) else {
-        return Err(Fail::from("share"));
-    };
-    let Some(second) = last_of(&shared, &mut parties) else {
-        return Err(Fail::from("no second party"));
-    };
-    let Some(first) = last_of(&shared, &mut parties) else {
-        return Err(Fail::from("no first party"));
-    };
-    let shared = Arc::new(rt.alloc(), shared)?;
-    assert!(rt; both_watch(&rt, &shared, first, second, eight, 16)?);
-    Ok(())
+fn threads_really_at_once(rt: HostRuntime) {
+    match share_of(rt.alloc(), 64, 0, 2) {
+        Some((shared, parties)) => {
+            let found = watch_at_once(&rt, rt.alloc(), shared, parties, layout(&rt, 8, 1));
+            assert_eq!(rt; found, Some(true));
+        }
+        None => panic!(&rt; "share"),
+    }
 }
 
 /// At how many bytes the last of these chunks of a bump at 4096 ends, or 0 where there is none.
@@ -474,25 +500,18 @@ fn tens_are_used(
     times: u32,
     used: usize,
 ) {
-    let Ok(ten) = Layout::from_size_align(10, 1) else {
-        panic!(rt; "no such layout");
-    };
-    let found = owner_of_all(rt, alloc, parties, &[ten], times).unwrap_or(None);
+    let found = owner_of_all(rt, alloc, parties, &[layout(rt, 10, 1)], times).unwrap_or(None);
     assert_eq!(rt; found, Some((used, used)));
 }
 
 /// What all parties hand back is used up to the end of the greatest chunk, whichever threads took it: four, one, and none.
 #[test]
-fn threads_bump_owner_of_all(rt: HostRuntime) -> Result<(), Fail> {
+fn threads_bump_owner_of_all(rt: HostRuntime) {
     tens_are_used(&rt, rt.alloc(), 4, 100, 4000);
     tens_are_used(&rt, rt.alloc(), 4, 0, 0);
     tens_are_used(&rt, rt.alloc(), 1, 100, 1000);
     tens_are_used(&rt, rt.alloc(), 1, 0, 0);
-    let mixed = [
-        Layout::from_size_align(24, 16)?,
-        Layout::from_size_align(5, 1)?,
-    ];
-    let found = owner_of_all(&rt, rt.alloc(), 4, &mixed, 1000)?;
+    let mixed = [layout(&rt, 24, 16), layout(&rt, 5, 1)];
+    let found = owner_of_all(&rt, rt.alloc(), 4, &mixed, 1000).unwrap_or(None);
     assert!(rt; found.is_some_and(|(used, greatest)| used == greatest && used > 4000));
-    Ok(())
 }

@@ -282,25 +282,27 @@ fn came_back(rt: &impl Abort, worked: Worked, trial: &Trial, asked: Layout)
 }
 
 /// The trial ends as it says.
-fn holds(rt: &(impl Threads + Abort), alloc: Global, trial: Trial) -> Result<(), &'static str> {
+fn holds(rt: &(impl Threads + Abort), alloc: Global, trial: Trial) {
     let Ok(asked) = Layout::from_size_align(48, 4) else {
-        return Err("no such layout");
+        panic!(rt; "no such layout");
     };
     let job = Job {
         work: trial.work,
         request: trial.request,
         asked,
     };
-    let (pool, parties) = shared_over(alloc, 4096, trial.size, trial.threads)?;
+    let (pool, parties) = match shared_over(alloc, 4096, trial.size, trial.threads) {
+        Ok(made) => made,
+        Err(cause) => panic!(rt; "{cause}"),
+    };
     match work_all(rt, alloc, pool, parties, job) {
         Ok(worked) => came_back(rt, worked, &trial, asked),
-        Err(_) => return Err("memory was refused"),
+        Err(_) => panic!(rt; "memory was refused"),
     }
-    Ok(())
 }
 
 #[test]
-fn threads_pool_take_and_return(rt: HostRuntime) -> Result<(), &'static str> {
+fn threads_pool_take_and_return(rt: HostRuntime) {
     let trial = Trial {
         size: 1024,
         threads: 4,
@@ -309,11 +311,11 @@ fn threads_pool_take_and_return(rt: HostRuntime) -> Result<(), &'static str> {
         count: 0,
         left: 8,
     };
-    holds(&rt, rt.alloc(), trial)
+    holds(&rt, rt.alloc(), trial);
 }
 
 #[test]
-fn threads_pool_dropped_tokens(rt: HostRuntime) -> Result<(), &'static str> {
+fn threads_pool_dropped_tokens(rt: HostRuntime) {
     let trial = Trial {
         size: 1024,
         threads: 2,
@@ -322,12 +324,12 @@ fn threads_pool_dropped_tokens(rt: HostRuntime) -> Result<(), &'static str> {
         count: 1,
         left: 6,
     };
-    holds(&rt, rt.alloc(), trial)
+    holds(&rt, rt.alloc(), trial);
 }
 
 /// Each thread begins in its own part of the pool, and goes on where it has been last.
 #[test]
-fn threads_pool_near(rt: HostRuntime) -> Result<(), &'static str> {
+fn threads_pool_near(rt: HostRuntime) {
     let trial = Trial {
         size: 1024,
         threads: 4,
@@ -336,12 +338,12 @@ fn threads_pool_near(rt: HostRuntime) -> Result<(), &'static str> {
         count: 0,
         left: 8,
     };
-    holds(&rt, rt.alloc(), trial)
+    holds(&rt, rt.alloc(), trial);
 }
 
 /// The same where there are fewer buckets than threads, so that they meet at each.
 #[test]
-fn threads_pool_near_few_buckets(rt: HostRuntime) -> Result<(), &'static str> {
+fn threads_pool_near_few_buckets(rt: HostRuntime) {
     let trial = Trial {
         size: 384,
         threads: 4,
@@ -350,11 +352,11 @@ fn threads_pool_near_few_buckets(rt: HostRuntime) -> Result<(), &'static str> {
         count: 0,
         left: 3,
     };
-    holds(&rt, rt.alloc(), trial)
+    holds(&rt, rt.alloc(), trial);
 }
 
 #[test]
-fn threads_pool_near_dropped_tokens(rt: HostRuntime) -> Result<(), &'static str> {
+fn threads_pool_near_dropped_tokens(rt: HostRuntime) {
     let trial = Trial {
         size: 1024,
         threads: 3,
@@ -363,5 +365,5 @@ fn threads_pool_near_dropped_tokens(rt: HostRuntime) -> Result<(), &'static str>
         count: 1,
         left: 5,
     };
-    holds(&rt, rt.alloc(), trial)
+    holds(&rt, rt.alloc(), trial);
 }

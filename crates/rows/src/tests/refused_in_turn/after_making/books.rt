@@ -1,15 +1,14 @@
 //! Loan books: `loan` alone takes memory, and it asks for its record's before it asks its allocator.
-use super::super::ends_unmade;
+use super::ends_unmade;
 use crate::marks::{none_was_asked, refuse_memory, some_was_refused};
 use crate::tests::loans::{answers, id_of, one_book, pool_book, reply_to};
 use bb_memory::allocator::{AllocationError, Allocator};
 use loan_book::{LoanBook, LoanCall, LoanError, LoanReply};
 use std::alloc::Global;
 use std::process::Abort;
-use std::test::Fail;
 
 #[test]
-fn a_loan_book(rt: HostRuntime) -> Result<(), Fail> {
+fn a_loan_book(rt: HostRuntime) {
     let mut book = one_book(rt.alloc());
     if id_of(reply_to(&mut book, LoanCall::Loan(64))).is_none() {
         return ends_unmade(&rt, rt.alloc());
@@ -34,23 +33,30 @@ fn a_loan_book(rt: HostRuntime) -> Result<(), Fail> {
         &[(LoanCall::IsOut(0), LoanReply::Out(false))],
     );
     assert!(rt; none_was_asked(rt.alloc()));
-    Ok(())
 }
 
 /// All buckets of the pool are out, and the book has room for no more samples than these. Without memory a further loan is
 /// refused for its record's, before the pool is asked; with memory it is refused by the pool.
 #[test]
-fn a_loan_of_a_full_pool(rt: HostRuntime) -> Result<(), Fail> {
-    let Ok(mut book) = pool_book(rt.alloc(), (64, 8), 4096, 1024) else {
-        return ends_unmade(&rt, rt.alloc());
+fn a_loan_of_a_full_pool(rt: HostRuntime) {
+    fills(&rt, rt.alloc(), pool_book(rt.alloc(), (64, 8), 4096, 1024));
+}
+
+/// Loans sixteen samples, and one that is refused. Where one of them isn't made for want of memory, the test ends.
+fn fills<A: Allocator + Drop>(
+    rt: &impl Abort,
+    alloc: Global,
+    made: Result<LoanBook<A>, &'static str>,
+) {
+    let Ok(mut book) = made else {
+        return ends_unmade(rt, alloc);
     };
     for _ in 0..16 {
         if id_of(reply_to(&mut book, LoanCall::Loan(64))).is_none() {
-            return ends_unmade(&rt, rt.alloc());
+            return ends_unmade(rt, alloc);
         }
     }
-    is_refused(&rt, rt.alloc(), &mut book);
-    Ok(())
+    is_refused(rt, alloc, &mut book);
 }
 
 /// A loan that finds no bucket is refused for its record's memory, where that was refused, and else by the allocator.
