@@ -1,7 +1,7 @@
 //! Rows of a shared pool: which party calls what, and what it has to be answered. The calls go to the library through
 //! [`SharedBuckets`], so that a test is its rows alone.
 ghost use Rattle.std.specs.Prelude.{All, IfOk, ◌≡◌};
-ghost use Rattle.rows_shared.specs.Users.{IsUser};
+ghost use Rattle.shared_tests.specs.Users.{IsUser};
 
 use crate::tests::shared_buckets::{Figures, Request, SharedBuckets};
 use bb_memory::layout::{Chunk, Layout};

@@ -1,7 +1,7 @@
 //! Calls that hold with any one request for memory refused. `.ci/refuse-in-turn` runs each test with its first request refused,
 //! then with its second, and so on, until none is left to refuse. What a test makes for itself may be refused, too: then it
 //! ends. Want of memory is accepted only where memory was refused.
-use rows::marks::some_was_refused;
+use allocator_tests::marks::some_was_refused;
 use std::alloc::Global;
 use std::process::Abort;
 

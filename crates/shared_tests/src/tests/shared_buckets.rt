@@ -1,7 +1,7 @@
 //! What the two shared pools have in common, as far as the rows need it: a test carries no more of a call than what is told here.
 ghost use Rattle.std.specs.Prelude.{◌≡◌, ℕ, All, IfOk, IfSome};
 ghost use Rattle.bb_memory_base.specs.PoolLogs.{IsHeldAfter};
-ghost use Rattle.rows_shared.specs.Users.{IsKeptBy};
+ghost use Rattle.shared_tests.specs.Users.{IsKeptBy};
 
 use bb_memory::layout::{Chunk, Layout};
 use bb_memory::shared_pool::{

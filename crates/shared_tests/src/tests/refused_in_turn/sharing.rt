@@ -10,7 +10,7 @@ use crate::tests::shared_pools::{DROPPED_BUCKET, FOUR_BUCKETS, shared_fixed_over
 use bb_memory::bump_allocator::{AllocationError, BumpAllocator};
 use bb_memory::shared_bump::{BumpParty, SharedBumpAllocator};
 use bb_memory::shared_pool::{PoolParty, SharedFixedSizePoolAllocator, SharedPoolAllocator};
-use rows::marks::some_was_refused;
+use allocator_tests::marks::some_was_refused;
 use std::alloc::Global;
 use std::process::Abort;
 

@@ -1,6 +1,6 @@
 use Rattle.std.proofs.Common.{◌≡◌, All}
 use Rattle.bb_memory.specs.SharedBump.{BumpParty}
-use Rattle.rows_shared.proofs.tests.bump_rows.go.Given as goal
+use Rattle.shared_tests.proofs.tests.bump_rows.go.Given as goal
 
 -- all stay this allocator's
 abbrev pub invariant-loop : goal.invariant-loop

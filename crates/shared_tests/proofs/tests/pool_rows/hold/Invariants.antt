@@ -1,6 +1,6 @@
 use Rattle.std.proofs.Common.{All}
-use Rattle.rows_shared.specs.Users.{IsUser}
-use Rattle.rows_shared.proofs.tests.pool_rows.hold.Given as goal
+use Rattle.shared_tests.specs.Users.{IsUser}
+use Rattle.shared_tests.proofs.tests.pool_rows.hold.Given as goal
 
 -- the users stay this pool's
 abbrev pub invariant-loop-row : goal.invariant-loop-row

@@ -1,7 +1,7 @@
 use Rattle.std.proofs.Common.{◌≡◌, All}
 use Rattle.bb_memory.specs.SharedPool.{PoolParty}
-use Rattle.rows_shared.specs.Users.{IsUser}
-use Rattle.rows_shared.proofs.tests.pool_rows.last_ones_meet.Given as goal
+use Rattle.shared_tests.specs.Users.{IsUser}
+use Rattle.shared_tests.proofs.tests.pool_rows.last_ones_meet.Given as goal
 
 -- all stay this pool's, those that leave
 abbrev pub invariant-loop : goal.invariant-loop

@@ -1,8 +1,8 @@
 use Rattle.std.proofs.Common.{◌≡◌, All, vec_items}
 use Rattle.std.specs.Vec.Iter.{into_iter_items}
 use Rattle.bb_memory.specs.SharedPool.{PoolParty}
-use Rattle.rows_shared.specs.Users.{IsUser}
-use Rattle.rows_shared.proofs.tests.pool_rows.users_of.Given as goal
+use Rattle.shared_tests.specs.Users.{IsUser}
+use Rattle.shared_tests.proofs.tests.pool_rows.users_of.Given as goal
 
 -- each party that is left is the pool's, and so is each user
 abbrev pub invariant-loop-party : goal.invariant-loop-party

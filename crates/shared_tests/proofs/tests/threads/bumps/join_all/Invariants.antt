@@ -1,7 +1,7 @@
 use Rattle.std.proofs.Common.{◌≡◌, All, vec_items}
 use Rattle.std.specs.Arc.{arc_value}
 use Rattle.std.specs.Vec.Iter.{into_iter_items}
-use Rattle.rows_shared.proofs.tests.threads.bumps.join_all.Given as goal
+use Rattle.shared_tests.proofs.tests.threads.bumps.join_all.Given as goal
 
 -- each thread that is left has promised the allocator's party, and each that came back is one
 abbrev pub invariant-loop-thread : goal.invariant-loop-thread

@@ -1,5 +1,5 @@
 use Rattle.std.proofs.Common.{rules, arith, ◌+◌}
-use Rattle.rows_shared.proofs.tests.threads.bumps.parties_of.Goals as goal
+use Rattle.shared_tests.proofs.tests.threads.bumps.parties_of.Goals as goal
 
 -- what is taken stood first among the rest
 pub loop-taken-preserved : goal.loop-taken-preserved

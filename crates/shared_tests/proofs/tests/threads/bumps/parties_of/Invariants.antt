@@ -1,7 +1,7 @@
 use Rattle.std.proofs.Common.{◌≡◌, All, vec_items}
 use Rattle.std.specs.Vec.Iter.{into_iter_items}
 use Rattle.bb_memory.specs.SharedBump.{BumpParty}
-use Rattle.rows_shared.proofs.tests.threads.bumps.parties_of.Given as goal
+use Rattle.shared_tests.proofs.tests.threads.bumps.parties_of.Given as goal
 
 -- each party that is left is the allocator's, and so is each that was taken out
 abbrev pub invariant-loop-taken : goal.invariant-loop-taken

@@ -1,5 +1,5 @@
 use Rattle.std.proofs.Common.{◌≡◌}
-use Rattle.rows_shared.proofs.tests.threads.bumps.take.Given as goal
+use Rattle.shared_tests.proofs.tests.threads.bumps.take.Given as goal
 
 -- the party stays this allocator's
 abbrev pub invariant-loop : goal.invariant-loop

@@ -2,7 +2,7 @@ use Rattle.std.proofs.Common.{◌≡◌, All, vec_items}
 use Rattle.std.specs.Arc.{arc_value}
 use Rattle.std.specs.Vec.Iter.{into_iter_items}
 use Rattle.bb_memory.specs.SharedPool.{PoolParty}
-use Rattle.rows_shared.proofs.tests.threads.pools.join_all.Given as goal
+use Rattle.shared_tests.proofs.tests.threads.pools.join_all.Given as goal
 
 -- each thread that is left has promised the pool's party, and each that came back is one
 abbrev pub invariant-loop-thread : goal.invariant-loop-thread

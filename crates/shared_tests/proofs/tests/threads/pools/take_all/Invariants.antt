@@ -1,5 +1,5 @@
 use Rattle.std.proofs.Common.{◌≡◌}
-use Rattle.rows_shared.proofs.tests.threads.pools.take_all.Given as goal
+use Rattle.shared_tests.proofs.tests.threads.pools.take_all.Given as goal
 
 -- the party stays this pool's
 abbrev pub invariant-loop-number : goal.invariant-loop-number

@@ -2,7 +2,7 @@ use Rattle.std.proofs.Common.{List, sym, ap, ◌∙◌, subst}
 use Rattle.bb_memory_base.specs.Chunk.{Chunk}
 use Rattle.bb_memory_base.specs.PoolGeometry.{PoolGeometry}
 use Rattle.bb_memory.specs.Pool.{StandsFor}
-use Rattle.rows.proofs.tests.owner.kinds.Owner+PoolAllocator+Global.deallocate_bucket.Goals as goal
+use Rattle.allocator_tests.proofs.tests.owner.kinds.Owner+PoolAllocator+Global.deallocate_bucket.Goals as goal
 
 -- the bucket leaves the list at its position, and the region stays the pool's
 pub invariant_of-self : goal.invariant_of-self
