@@ -1,8 +1,0 @@
-//! Tests of what the libraries answer one owner, with memory and without: worked rows, each by its name. They stand above the
-//! libraries in a crate of their own, so that a change in them proves no program again. `rows_shared` beside it has those of
-//! the forms that threads share, and `rows_uses` those of the layers in `uses`.
-#![tactic(auto)]
-
-pub mod marks;
-#[cfg(test)]
-mod tests;

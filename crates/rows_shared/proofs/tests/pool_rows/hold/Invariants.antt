@@ -1,8 +1,0 @@
-use Rattle.std.proofs.Common.{All}
-use Rattle.rows_shared.specs.Users.{IsUser}
-use Rattle.rows_shared.proofs.tests.pool_rows.hold.Given as goal
-
--- the users stay this pool's
-abbrev pub invariant-loop-row : goal.invariant-loop-row
-invariant-loop-row g l =
-    All (λ u. IsUser (g.P.SharedBuckets.shown l.pool) u.party u.kept) l.users.items

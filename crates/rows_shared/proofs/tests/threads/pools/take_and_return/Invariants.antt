@@ -1,6 +1,0 @@
-use Rattle.std.proofs.Common.{◌≡◌}
-use Rattle.rows_shared.proofs.tests.threads.pools.take_and_return.Given as goal
-
--- the party stays this pool's
-abbrev pub invariant-loop : goal.invariant-loop
-invariant-loop l = l.party.allocator ≡ l.pool

@@ -1,0 +1,398 @@
+//! Rows of a shared pool: which party calls what, and what it has to be answered. The calls go to the library through
+//! [`SharedBuckets`], so that a test is its rows alone.
+ghost use Rattle.std.specs.Prelude.{All, IfOk, ◌≡◌};
+ghost use Rattle.shared_tests.specs.Users.{IsUser};
+
+use crate::tests::shared_buckets::{Figures, Request, SharedBuckets};
+use bb_memory::layout::{Chunk, Layout};
+use bb_memory::shared_pool::{
+    AllocationError, AllocationGrowError, AllocationShrinkError, Bucket, PoolParty,
+};
+use std::alloc::{AllocError, Global};
+use std::process::Abort;
+
+/// A party, and the token that it keeps.
+#[derive(Drop)]
+pub(super) struct User<'a> {
+    pub(super) party: PoolParty,
+    pub(super) kept: Option<Bucket<'a>>,
+}
+
+/// A size in bytes and an alignment.
+type Asked = (usize, usize);
+
+/// What a party calls.
+#[derive(Clone, Copy)]
+pub(super) enum Call {
+    /// A request, whose token is dropped.
+    Take(Request, Asked),
+    /// A request, whose token is kept in place of the one that was.
+    Keep(Request, Asked),
+    /// The return of the bucket whose token is kept.
+    GiveBack,
+    /// The token that is kept is dropped for another, by the bucket's number and with a chunk of so many bytes.
+    FindAgain(usize),
+    /// A resize by the token that is kept, from one layout to another.
+    Grow(Asked, Asked),
+    Shrink(Asked, Asked),
+    /// What the token that is kept tells.
+    Token,
+    /// The party's own number.
+    Number,
+    /// The number of the bucket at a place.
+    NumberAt(usize),
+    Figures,
+}
+
+/// What a call is answered.
+#[derive(Clone, Copy, PartialEq, Eq)]
+pub(super) enum Answer {
+    /// The bucket of a number, and in it a chunk at a place, of so many bytes.
+    Bucket(u32, usize, usize),
+    /// A chunk at a place, of so many bytes.
+    Chunk(usize, usize),
+    Refused(AllocationError),
+    GrowRefused(AllocationGrowError),
+    ShrinkRefused(AllocationShrinkError),
+    Number(u32),
+    Figures(Figures),
+    /// A return, which answers nothing; and a place where no bucket begins.
+    Nothing,
+    /// The row is wrong: there is no such party, token or layout, or the call may not be made with it.
+    WrongRow,
+}
+
+/// What the tests mostly ask for: 48 bytes, at a multiple of 4.
+pub(super) const ASKED: Asked = (48, 4);
+
+/// Want of a free bucket.
+pub(super) const NONE_FREE: Answer = Answer::Refused(AllocationError::OutOfMemory);
+
+/// The index of a party among those of the test, its call, and the answer that it has to have.
+pub(super) type Row = (usize, Call, Answer);
+
+/// The layout of a row, or none where there is no such.
+fn layout_of((size, align): Asked) -> Option<Layout> {
+    Layout::from_size_align(size, align).ok()
+}
+
+/// What a token tells.
+fn bucket_of(bucket: &Bucket<'_>) -> Answer {
+    let chunk = bucket.chunk();
+    Answer::Bucket(bucket.number(), chunk.place(), chunk.len())
+}
+
+/// What a resize gave.
+fn chunk_of(chunk: Chunk) -> Answer {
+    Answer::Chunk(chunk.place(), chunk.len())
+}
+
+/// A request, whose token is dropped.
+fn take<'a, P: SharedBuckets>(
+    pool: &'a P,
+    user: &mut User<'a>,
+    request: Request,
+    asked: Layout,
+) -> Answer
+    requires { IsUser (P.shown pool.now) user.old.party user.old.kept }
+    ensures { IsUser (P.shown pool.now) user.new.party user.new.kept }
+{
+    match pool.ask(&mut user.party, request, asked) {
+        Ok(bucket) => bucket_of(&bucket),
+        Err(error) => Answer::Refused(error),
+    }
+}
+
+/// A request, whose token is kept in place of the one that was.
+fn keep<'a, P: SharedBuckets>(
+    pool: &'a P,
+    user: &mut User<'a>,
+    request: Request,
+    asked: Layout,
+) -> Answer
+    requires { IsUser (P.shown pool.now) user.old.party user.old.kept }
+    ensures { IsUser (P.shown pool.now) user.new.party user.new.kept }
+{
+    match pool.ask(&mut user.party, request, asked) {
+        Ok(bucket) => {
+            let answer = bucket_of(&bucket);
+            user.kept = Some(bucket);
+            answer
+        }
+        Err(error) => Answer::Refused(error),
+    }
+}
+
+/// The return by the token that is kept.
+fn give_back<'a, P: SharedBuckets>(pool: &'a P, user: &mut User<'a>) -> Answer
+    requires { IsUser (P.shown pool.now) user.old.party user.old.kept }
+    ensures { IsUser (P.shown pool.now) user.new.party user.new.kept }
+{
+    match user.kept.take() {
+        Some(bucket) => {
+            pool.give_back(&mut user.party, bucket);
+            Answer::Nothing
+        }
+        None => Answer::WrongRow,
+    }
+}
+
+/// Another token in place of the one that is kept, by the bucket's number.
+fn find_again<'a, P: SharedBuckets>(pool: &'a P, user: &mut User<'a>, len: usize) -> Answer
+    requires { IsUser (P.shown pool.now) user.old.party user.old.kept }
+    ensures { IsUser (P.shown pool.now) user.new.party user.new.kept }
+{
+    let Some(bucket) = user.kept.take() else {
+        return Answer::WrongRow;
+    };
+    match pool.again(&user.party, bucket, len) {
+        Some(again) => {
+            let answer = bucket_of(&again);
+            user.kept = Some(again);
+            answer
+        }
+        None => Answer::WrongRow,
+    }
+}
+
+/// Resizes by the token that is kept.
+fn grow<'a, P: SharedBuckets>(pool: &'a P, user: &mut User<'a>, old: Layout, new: Layout) -> Answer
+    requires { IsUser (P.shown pool.now) user.old.party user.old.kept }
+    ensures { IsUser (P.shown pool.now) user.new.party user.new.kept }
+{
+    let Some(bucket) = &mut user.kept else {
+        return Answer::WrongRow;
+    };
+    match pool.grow(bucket, old, new) {
+        Some(Ok(chunk)) => chunk_of(chunk),
+        Some(Err(error)) => Answer::GrowRefused(error),
+        None => Answer::WrongRow,
+    }
+}
+
+/// The same to a smaller size.
+fn shrink<'a, P: SharedBuckets>(
+    pool: &'a P,
+    user: &mut User<'a>,
+    old: Layout,
+    new: Layout,
+) -> Answer
+    requires { IsUser (P.shown pool.now) user.old.party user.old.kept }
+    ensures { IsUser (P.shown pool.now) user.new.party user.new.kept }
+{
+    let Some(bucket) = &mut user.kept else {
+        return Answer::WrongRow;
+    };
+    match pool.shrink(bucket, old, new) {
+        Some(Ok(chunk)) => chunk_of(chunk),
+        Some(Err(error)) => Answer::ShrinkRefused(error),
+        None => Answer::WrongRow,
+    }
+}
+
+/// The number of the bucket at a place.
+fn number_at<P: SharedBuckets>(pool: &P, place: usize) -> Answer {
+    match pool.number_at(place) {
+        Some(number) => Answer::Number(number),
+        None => Answer::Nothing,
+    }
+}
+
+/// What the token that is kept tells.
+fn token(user: &User<'_>) -> Answer {
+    match &user.kept {
+        Some(bucket) => bucket_of(bucket),
+        None => Answer::WrongRow,
+    }
+}
+
+/// What the call of a user is answered.
+fn answered<'a, P: SharedBuckets>(pool: &'a P, user: &mut User<'a>, call: Call) -> Answer
+    requires { IsUser (P.shown pool.now) user.old.party user.old.kept }
+    ensures { IsUser (P.shown pool.now) user.new.party user.new.kept }
+{
+    match call {
+        Call::Take(request, asked) => match layout_of(asked) {
+            Some(asked) => take(pool, user, request, asked),
+            None => Answer::WrongRow,
+        },
+        Call::Keep(request, asked) => match layout_of(asked) {
+            Some(asked) => keep(pool, user, request, asked),
+            None => Answer::WrongRow,
+        },
+        Call::GiveBack => give_back(pool, user),
+        Call::FindAgain(len) => find_again(pool, user, len),
+        Call::Grow(old, new) => match (layout_of(old), layout_of(new)) {
+            (Some(old), Some(new)) => grow(pool, user, old, new),
+            _ => Answer::WrongRow,
+        },
+        Call::Shrink(old, new) => match (layout_of(old), layout_of(new)) {
+            (Some(old), Some(new)) => shrink(pool, user, old, new),
+            _ => Answer::WrongRow,
+        },
+        Call::Token => token(user),
+        Call::Number => Answer::Number(user.party.number()),
+        Call::NumberAt(place) => number_at(pool, place),
+        Call::Figures => Answer::Figures(pool.figures()),
+    }
+}
+
+/// The parties as users that keep nothing.
+pub(super) fn users_of<'a, P: SharedBuckets>(
+    alloc: Global,
+    pool: &'a P,
+    parties: Vec<PoolParty>,
+) -> Result<Vec<User<'a>>, AllocError>
+    requires { All (λ party. party.allocator ≡ P.shown pool.now) parties.items }
+    ensures { IfOk result (λ users.
+        All (λ user. IsUser (P.shown pool.now) user.party user.kept) users.items) }
+{
+    let mut users = Vec::with_capacity(alloc, parties.len())?;
+    for party in parties {
+        users.push(User { party, kept: None })?;
+    }
+    Ok(users)
+}
+
+/// The user of this number among those of a test calls.
+fn answer_of<'a, P: SharedBuckets>(
+    pool: &'a P,
+    users: &mut Vec<User<'a>>,
+    index: usize,
+    call: Call,
+) -> Answer
+    requires { All (λ user. IsUser (P.shown pool.now) user.party user.kept) users.old.items }
+    ensures { All (λ user. IsUser (P.shown pool.now) user.party user.kept) users.new.items }
+{
+    match users.get_mut(index) {
+        Some(user) => answered(pool, user, call),
+        None => Answer::WrongRow,
+    }
+}
+
+/// The call of a row, which has this number, was answered as the row says.
+fn matches(rt: &impl Abort, number: usize, row: &Row, found: Answer) {
+    assert!(rt; found == row.2, "row {number}");
+}
+
+/// Each row, in turn, is answered as it says.
+pub(super) fn hold<'a, P: SharedBuckets>(
+    rt: &impl Abort,
+    pool: &'a P,
+    users: &mut Vec<User<'a>>,
+    rows: &[Row],
+)
+    requires { All (λ user. IsUser (P.shown pool.now) user.party user.kept) users.old.items }
+    ensures { All (λ user. IsUser (P.shown pool.now) user.party user.kept) users.new.items }
+{
+    let mut number: usize = 0;
+    for row in rows {
+        let found = answer_of(pool, users, row.0, row.1);
+        matches(rt, number, row, found);
+        number = number.saturating_add(1);
+    }
+}
+
+/// One of these users meets another one.
+fn meets<'a, P: SharedBuckets>(
+    pool: &'a P,
+    users: &mut Vec<User<'a>>,
+    index: usize,
+    party: &mut PoolParty,
+) -> bool
+    requires users { All (λ user. IsUser (P.shown pool.now) user.party user.kept) users.old.items }
+    requires party { party.old.allocator ≡ P.shown pool.now }
+    ensures users { All (λ user. IsUser (P.shown pool.now) user.party user.kept) users.new.items }
+    ensures party { party.new ≡ party.old }
+{
+    match users.get_mut(index) {
+        Some(user) => {
+            pool.meet(&mut user.party, party);
+            true
+        }
+        None => false,
+    }
+}
+
+/// The last of these users lets its token go and meets another one.
+pub(super) fn last_meets<'a, P: SharedBuckets>(
+    pool: &'a P,
+    users: &mut Vec<User<'a>>,
+    index: usize,
+) -> bool
+    requires { All (λ user. IsUser (P.shown pool.now) user.party user.kept) users.old.items }
+    ensures { All (λ user. IsUser (P.shown pool.now) user.party user.kept) users.new.items }
+{
+    let Some(last) = users.pop() else {
+        return false;
+    };
+    let mut party = last.party;
+    meets(pool, users, index, &mut party) && users.push(User { party, kept: None }).is_ok()
+}
+
+/// The last of these users lets its token go and leaves as a party.
+fn one_leaves<'a, P: SharedBuckets>(
+    pool: &'a P,
+    users: &mut Vec<User<'a>>,
+    parties: &mut Vec<PoolParty>,
+) -> bool
+    requires users { All (λ user. IsUser (P.shown pool.now) user.party user.kept) users.old.items }
+    requires parties { All (λ party. party.allocator ≡ P.shown pool.now) parties.old.items }
+    ensures users { All (λ user. IsUser (P.shown pool.now) user.party user.kept) users.new.items }
+    ensures parties { All (λ party. party.allocator ≡ P.shown pool.now) parties.new.items }
+{
+    match users.pop() {
+        Some(user) => parties.push(user.party).is_ok(),
+        None => false,
+    }
+}
+
+/// The last of these parties comes back as a user.
+fn one_comes_back<'a, P: SharedBuckets>(
+    pool: &'a P,
+    users: &mut Vec<User<'a>>,
+    parties: &mut Vec<PoolParty>,
+) -> bool
+    requires users { All (λ user. IsUser (P.shown pool.now) user.party user.kept) users.old.items }
+    requires parties { All (λ party. party.allocator ≡ P.shown pool.now) parties.old.items }
+    ensures users { All (λ user. IsUser (P.shown pool.now) user.party user.kept) users.new.items }
+    ensures parties { All (λ party. party.allocator ≡ P.shown pool.now) parties.new.items }
+{
+    match parties.pop() {
+        Some(party) => users.push(User { party, kept: None }).is_ok(),
+        None => false,
+    }
+}
+
+/// So many of these users meet, from the last one on, and let their tokens go.
+pub(super) fn last_ones_meet<'a, P: SharedBuckets>(
+    alloc: Global,
+    pool: &'a P,
+    users: &mut Vec<User<'a>>,
+    count: usize,
+) -> bool
+    requires { All (λ user. IsUser (P.shown pool.now) user.party user.kept) users.old.items }
+    ensures { All (λ user. IsUser (P.shown pool.now) user.party user.kept) users.new.items }
+{
+    let mut parties = Vec::new(alloc);
+    for _ in 0..count {
+        if !one_leaves(pool, users, &mut parties) {
+            return false;
+        }
+    }
+    pool.meet_all(&mut parties);
+    for _ in 0..count {
+        if !one_comes_back(pool, users, &mut parties) {
+            return false;
+        }
+    }
+    true
+}
+
+/// The parties of these users are numbered from 0.
+pub(super) fn are_numbered(users: &[User<'_>]) -> bool {
+    users
+        .iter()
+        .enumerate()
+        .all(|(index, user)| user.party.number() as usize == index)
+}
