@@ -14,8 +14,8 @@ use crate::tests::shared_buckets::Request::{Near, Pass};
 use crate::tests::shared_buckets::{Figures, SharedBuckets};
 use crate::tests::shared_bumps::two_parties;
 use crate::tests::shared_pools::{DROPPED_BUCKET, FOUR_BUCKETS, shared_fixed_over, shared_over};
-use bb_memory::shared_pool::PoolParty;
 use allocator_tests::marks::{none_was_asked, refuse_memory};
+use bb_memory::shared_pool::PoolParty;
 use std::alloc::Global;
 use std::process::Abort;
 

@@ -7,10 +7,10 @@ use crate::tests::pool_rows::{Row, hold, users_of};
 use crate::tests::shared_buckets::SharedBuckets;
 use crate::tests::shared_bumps::two_parties;
 use crate::tests::shared_pools::{DROPPED_BUCKET, FOUR_BUCKETS, shared_fixed_over, shared_over};
+use allocator_tests::marks::some_was_refused;
 use bb_memory::bump_allocator::{AllocationError, BumpAllocator};
 use bb_memory::shared_bump::{BumpParty, SharedBumpAllocator};
 use bb_memory::shared_pool::{PoolParty, SharedFixedSizePoolAllocator, SharedPoolAllocator};
-use allocator_tests::marks::some_was_refused;
 use std::alloc::Global;
 use std::process::Abort;
 
