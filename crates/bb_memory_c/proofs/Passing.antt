@@ -64,7 +64,11 @@ module _ {R In Out : RattleType} (I : Owner R In) (O : Owner R Out) where
   }
 
   abbrev pub same : {M : Type 1} (𝓤 : Ura M) → Clauses 𝓤 passed
-  same 𝓤 = λ κs a. record { ghost = Unit {0}; requires = λ _. emp 𝓤; ensures = λ _ r _. fact 𝓤 ((O.held r).value ≡ (I.held a.0).value) }
+  same 𝓤 = λ κs a. record {
+    ghost = Unit {0};
+    requires = λ _. emp 𝓤;
+    ensures = λ _ r _. fact 𝓤 ((O.held r).value ≡ (I.held a.0).value);
+  }
 
   pub passes : {M : Type 1} (𝓤 : Ura M) (𝓛 : Logic 𝓤) (𝓜 : Model 𝓤 𝓛.H) (𝓡 : Running 𝓤 𝓛.H 𝓜)
       → (k : Callee) (from to : Sym)
@@ -74,15 +78,26 @@ module _ {R In Out : RattleType} (I : Owner R In) (O : Owner R Out) where
       let H = 𝓛.H in let 𝓣 = tables 𝓤 H 𝓜 𝓡 𝓡.env in let fn : Fn = passing from to in let c : Clauses 𝓤 passed = same 𝓤 in
       let hs : Stays passed.signature.params passed.kept = (stay_dropped (plain (λ _. In)) yes, tt) in
       proved_at 𝓛 passed hs c 𝓜 𝓡 (Goes-blank 𝓛 0 (plain (λ _. In)) yes (λ κs. I.blanks), tt) k fn closed (λ z are.
-      let κs = z.0.0 in let v = z.0.3.0 in let d : (Held R).Denot = I.held v in let w : Val = word d.at d.made in let r : Out.Denot = O.back d in let kept : (O.held r).value ≡ d.value = ap (λ (h : (Held R).Denot). h.value) (O.again d) in
-      let Post : Val → SProp 𝓤 = (walk_of 𝓛 passed hs c).post z in let Run : List Val → SProp 𝓤 = λ ws. WpFn 𝓤 H 𝓣.C 𝓣.Λ fn ws Post in
-      qed 𝓛 ((‵ ftrue ⊛ ‵ (owns (types_at passed.signature.params κs) z.0.3 z.0.4)) ∷ raw ((c κs z.0.3).requires z.1) ∷ []) ∵ split ! $ move ! (1 ∷ []) $ fsplit ! $
+      let κs = z.0.0 in
+      let v = z.0.3.0 in
+      let d : (Held R).Denot = I.held v in
+      let w : Val = word d.at d.made in
+      let r : Out.Denot = O.back d in
+      let kept : (O.held r).value ≡ d.value = ap (λ (h : (Held R).Denot). h.value) (O.again d) in
+      let Post : Val → SProp 𝓤 = (walk_of 𝓛 passed hs c).post z in
+      let Run : List Val → SProp 𝓤 = λ ws. WpFn 𝓤 H 𝓣.C 𝓣.Λ fn ws Post in
+      qed 𝓛 ((‵ ftrue ⊛ ‵ (owns (types_at passed.signature.params κs) z.0.3 z.0.4)) ∷ raw ((c κs z.0.3).requires z.1) ∷ [])
+      ∵ split ! $ move ! (1 ∷ []) $ fsplit ! $
       rewrite ! 0 ‵ (I.owns v z.0.4.0) refl $ held_out R ! d z.0.4.0 (λ ws.
-      suffices ! (Run (w ∷ [])) (subst (λ (us : List Val). ent 𝓤 (Run (w ∷ [])) (Run us)) (sym (λ i. ws i ++ [])) (id⊢ 𝓤 (Run (w ∷ [])))) $
+      suffices ! (Run (w ∷ []))
+      (subst (λ (us : List Val). ent 𝓤 (Run (w ∷ [])) (Run us)) (sym (λ i. ws i ++ [])) (id⊢ 𝓤 (Run (w ∷ [])))) $
       enter ! 𝓣.C 𝓣.Λ fn (w ∷ []) Post $ alloc_all ! (λ l. pass_all ! refl (word_good R d.at d.made, tt) $
       sets ! (of_opd ! (get_in ! (fld ! refl (stop !)) (sub ! 0 refl (whole !)))) refl (ptr_good d.at) $
-      sets ! (of_opd ! (get_in ! (fld ! refl (stop !)) (sub ! 1 refl (whole !)))) refl (tt, tt) $ sets ! (of_opd ! (get ! refl)) refl (ptr_good d.at) $
+      sets ! (of_opd ! (get_in ! (fld ! refl (stop !)) (sub ! 1 refl (whole !)))) refl (tt, tt) $
+      sets ! (of_opd ! (get ! refl)) refl (ptr_good d.at) $
       sets ! (agg ! (and_then ! (get ! refl) (and_then ! (get ! refl) (no_more !)))) refl (word_good R d.at d.made) $
       held_in R ! d $ rewrite ! 0 ‵ (sym (O.owned d (w ∷ []))) refl $
-      use0 𝓛 (raw (fact 𝓤 ((O.held r).value ≡ d.value))) (fact_i 𝓤 ((O.held r).value ≡ d.value) (emp 𝓤) kept) $ nothing ! $ nothing ! $ fjoin ! $
-      returns ! (look_at ! 0 refl) $ free_all ! refl $ keep ! (5 ∷ 0 ∷ 2 ∷ 1 ∷ []) $ by ! (leaves 𝓛 passed hs c z w r (I.last v, tt) (tt, tt)))))
+      use0 𝓛 (raw (fact 𝓤 ((O.held r).value ≡ d.value))) (fact_i 𝓤 ((O.held r).value ≡ d.value) (emp 𝓤) kept) $
+      nothing ! $ nothing ! $ fjoin ! $
+      returns ! (look_at ! 0 refl) $ free_all ! refl $ keep ! (5 ∷ 0 ∷ 2 ∷ 1 ∷ []) $
+      by ! (leaves 𝓛 passed hs c z w r (I.last v, tt) (tt, tt)))))

@@ -10,7 +10,10 @@ returns-in-Err c = let region = region_at c.args.start c.args.size in record {
   held_one = search rules;
   no_layout = search rules;
   cannot = (
-    λ is. (search rules, cut-share c.args.bucket_size c.args.bucket_align region c.args.parties (c.in-Err.ensures.cannot_make.0 (ap Err is))),
+    λ is. (
+      search rules,
+      cut-share c.args.bucket_size c.args.bucket_align region c.args.parties (c.in-Err.ensures.cannot_make.0 (ap Err is)),
+    ),
     λ not. c.in-Err.ensures.others (λ is. c.in-Err.ensures.not_a_layout.0 (ap Err is)
         (share-layout c.args.bucket_size c.args.bucket_align region c.args.parties not.1)),
   );
@@ -24,7 +27,10 @@ returns-then-parties-eq0 c = record {
   held_one = search rules;
   no_layout = search rules;
   cannot = (
-    λ _. (search rules, (c.in-Ok.bucket, c.in-Ok.ensures.cut.layout, λ both. absurd (omega (arith, c.if-parties-eq0.true, both.0)))),
+    λ _. (
+      search rules,
+      (c.in-Ok.bucket, c.in-Ok.ensures.cut.layout, λ both. absurd (omega (arith, c.if-parties-eq0.true, both.0))),
+    ),
     λ _. refl,
   );
   else_memory = search rules;

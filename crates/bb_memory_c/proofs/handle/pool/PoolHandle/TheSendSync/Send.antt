@@ -14,5 +14,8 @@ use Rattle.bb_memory_c.proofs.Crossing.{owned, two_send}
 use Rattle.bb_memory_c.specs.contracts.handle.pool.PoolHandle.{the_row, the_type}
 
 pub send : IsSend the_row
-send = let made : IsSend made_row = the_send _ counted_view.the_row _ (held_words.ghosts heap.the_row ghosts dict dict) _ (words.the_send heap.the_row ghosts global.the_send frees) counter.the_send in
+send =
+    let set = held_words.ghosts heap.the_row ghosts dict dict in
+    let made : IsSend made_row =
+    the_send _ counted_view.the_row _ set _ (words.the_send heap.the_row ghosts global.the_send frees) counter.the_send in
     owning_send the_type two_send (λ d. owned made_row made d.heap d.made d.at d.value) (λ k x w. tt)
