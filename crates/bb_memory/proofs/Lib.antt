@@ -1,3 +1,4 @@
+mod Contained
 mod Cuts
 mod Geometries
 mod Listings
@@ -17,12 +18,14 @@ mod SharedBumpAnswers
 mod SharedBumpClosings
 mod SharedBumpFloors
 mod SharedBumpGatherings
+mod SharedBumpHistories
 mod SharedBumpKeeps
 mod SharedBumpMeetings
 mod SharedBumpParties
 mod SharedBumpRequests
 mod SharedBumpSeats
 mod SharedBumpTries
+mod SharedBumpWholes
 mod SharedLogs
 mod SharedPoolGatherings
 mod SharedPoolKeeps
@@ -33,3 +36,4 @@ mod SharedPoolPasses
 mod SharedPoolRounds
 mod SharedPoolSeats
 mod SharedPoolTries
+mod SharedPoolWholes

@@ -15,6 +15,7 @@ use Rattle.bb_memory_base.specs.declared.allocator.AllocationError.{AllocationEr
 use Rattle.bb_memory_base.specs.declared.allocator.AllocationError.TheVariants.{SizeIsZero, SizeTooLarge}
 use Rattle.bb_memory_base.specs.declared.allocator.AllocationError.TheVariants.{AlignmentFailure, OutOfMemory}
 use Rattle.bb_memory_base.specs.declared.steps.pool.PoolStep.TheVariants.{Try, GiveBack}
+use Rattle.bb_memory_base.specs.declared.steps.pool.PoolOutcome.{PoolOutcome}
 use Rattle.bb_memory_base.specs.declared.steps.pool.PoolOutcome.TheVariants.{Takes, Gives}
 
 -- a shared pool: which one it is, and where its machine began: its buckets, and how many parties it has
@@ -161,6 +162,15 @@ HaveAllNumbers count parties =
 -- one of these parties holds the bucket
 abbrev pub IsHeldByOne : List PoolParty → ℕ → Type 0
 IsHeldByOne parties bucket = Any (λ party. IsHeldAfter party.log bucket) parties
+
+-- the step took a bucket
+abbrev pub IsTaking : PoolOutcome → Type 0
+IsTaking (Takes bucket) = Unit {0}
+IsTaking _ = ⊥
+
+-- no step of the log took a bucket
+abbrev pub HasTakenNone : PoolLog → Type 0
+HasTakenNone log = All (λ entry. ¬ IsTaking entry.outcome) log
 
 -- There is a log for each of the pool's parties, with which these flags agree, and these parties' logs are among them. Where
 -- these are all parties, each log is one of theirs, and a flag is taken exactly where one of them holds the bucket.

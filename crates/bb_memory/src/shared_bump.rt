@@ -14,6 +14,7 @@ ghost use Rattle.bb_memory.specs.SharedBump.{floor_of, fresh_party, greatest_see
 ghost use Rattle.bb_memory.specs.SharedBump.{with_entries};
 ghost use Rattle.bb_memory.specs.SharedBumpRule.{all_parties};
 
+mod all_parties;
 mod meeting;
 mod party;
 mod position;
@@ -23,6 +24,7 @@ mod rule;
 pub use crate::allocator::AllocationError;
 use crate::bump_allocator::BumpAllocator;
 use crate::layout::{Chunk, Layout};
+pub use all_parties::shared_bump_meeting_law;
 use atomic_table::Seat;
 pub use party::BumpParty;
 use position::Position;

@@ -17,6 +17,7 @@ ghost use Rattle.bb_memory.specs.SharedPool.{IsParty, PoolParty, TakenBucket, ch
 ghost use Rattle.bb_memory.specs.SharedPool.{refused_pass};
 ghost use Rattle.bb_memory.specs.SharedPoolRounds.{HasMissedAll, refused_round};
 
+mod all_parties;
 mod bucket;
 mod buckets;
 mod by_number;
@@ -30,6 +31,7 @@ mod rule;
 pub use crate::allocator::{AllocationError, AllocationGrowError, AllocationShrinkError};
 use crate::layout::Layout;
 use crate::pool_allocator::geometry::Geometry;
+pub use all_parties::shared_pool_meeting_law;
 pub use bucket::Bucket;
 use buckets::SharedBucketPool;
 pub use fixed_size::SharedFixedSizePoolAllocator;

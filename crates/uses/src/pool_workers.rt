@@ -50,6 +50,40 @@ pub fn four_workers<R: Threads + Sync>(
     Ok((pool, back))
 }
 
+/// A party asks for a bucket once, and comes back with whether it was given one.
+pub fn ask_once(pool: &SharedPoolAllocator, party: PoolParty, layout: Layout) -> (PoolParty, bool)
+    requires pool { party.allocator ≡ pool.now }
+    requires fresh { party.log ≡ [] }
+    requires buckets { 0 < pool.now.scene.geometry.buckets }
+    requires within { IsWithin pool.now.scene.geometry.bucket layout }
+    ensures pool { result.0.allocator ≡ pool.entry.now }
+    ensures asked { result.0.log ≢ [] }
+    ensures refused { result.1 ≡ false → HasTakenNone result.0.log }
+{
+    let mut party = party;
+    let served = pool.allocate(&mut party, layout).is_ok();
+    shared_pool_meeting_law();
+    (party, served)
+}
+
+/// Three parties of a pool that has a bucket ask for one each, once, and meet: at least one of them was served. It can't be that
+/// each was refused by what somebody else held, since there was nobody else.
+pub fn one_of_three_is_served(
+    pool: &SharedPoolAllocator,
+    parties: &mut Vec<PoolParty>,
+    served: bool,
+) -> bool
+    requires parties { All (λ party. party.allocator ≡ pool.now) parties.old.items }
+    requires all { length parties.old.items ≡ pool.now.scene.parties }
+    requires asked { All (λ party. party.log ≢ []) parties.old.items }
+    requires refused { served ≡ false → All (λ party. HasTakenNone party.log) parties.old.items }
+    ensures { result ≡ true }
+{
+    pool.meet_all(parties);
+    shared_pool_meeting_law();
+    served
+}
+
 /// What is known where all parties of a pool have met. It does nothing: its contract is the law.
 pub fn all_met_law()
     // Each number below theirs is that of one of them.

@@ -1,0 +1,158 @@
+-- What all parties of a pool have who met.
+use Rattle.std.proofs.Common.{◌≡◌, ◌≢◌, ℕ, zero, suc, ◌+◌, ◌<◌, ◌≤◌, ◌++◌, List, [], ◌∷◌, length, refl, sym, ap, ◌∙◌, subst, arith}
+use Rattle.std.proofs.Common.{Some, true, inl, inr, ◌⊎◌}
+use Rattle.std.specs.Prelude.{◌↔◌, Any, Contains, map, nat_lt, slice_get, if◌then◌else◌, Bool, false}
+use Rattle.std.specs.List.{All}
+use Rattle.std.proofs.lemmas.Bool.{cases_lt}
+use Rattle.std.proofs.lemmas.List.Elements.{All-append, All-cons, All-contains, All-contains_itself, All-nil, All-weaker}
+use Rattle.bb_memory_base.specs.Chunk.{Chunk}
+use Rattle.bb_memory_base.specs.LiveList.{IsSound}
+use Rattle.bb_memory_base.specs.PoolObject.{IsHeld}
+use Rattle.bb_memory_base.specs.PoolMachine.{PoolScene, left_by, opening_state, pool_step}
+use Rattle.bb_memory_base.specs.PoolCalls.{AreAsked, IsPoolRun}
+use Rattle.bb_memory_base.specs.PoolHistory.{PoolEntry, PoolLog, entries_by, entry_of, history_of, is_by, log_of, pool_history}
+use Rattle.bb_memory_base.specs.PoolLogs.{AllAllowed, HasLog, loss_at}
+use Rattle.bb_memory_base.specs.declared.layout.Layout.{Layout}
+use Rattle.bb_memory_base.specs.declared.steps.pool.PoolStep.{PoolStep}
+use Rattle.bb_memory_base.specs.declared.steps.pool.PoolStep.TheVariants.{Try, GiveBack, TryAt}
+use Rattle.bb_memory_base.specs.declared.steps.pool.PoolOutcome.{PoolOutcome}
+use Rattle.bb_memory_base.specs.declared.steps.pool.PoolOutcome.TheVariants.{Takes, Loses, RefusedAtLoss}
+use Rattle.bb_memory_base.proofs.PoolLogFacts.{first_takes, nobody_else}
+use Rattle.bb_memory_base.proofs.PoolLogRuns.{flags_run}
+use Rattle.bb_memory_base.proofs.PoolRuns.{pool_run, run_is_sound, taken_is_held}
+use Rattle.bb_memory_base.proofs.PoolFlags.{taken_from_flag, flag_from_taken}
+use Rattle.bb_memory_base.proofs.PoolSteps.{test_same}
+use Rattle.bb_memory.specs.SharedPool.{HasTakenNone, HaveMet, IsHeldByOne, IsSharedScene, IsTaking, PoolParty, losses, refused_pass}
+use Rattle.bb_memory.proofs.Contained.{any_contained, contains-filter, contains-first, contains-none, one_of_figure}
+
+module _ (scene : PoolScene) (parties : List PoolParty) (met : HaveMet scene parties) where
+  abbrev steps : List PoolStep
+  steps = met.1.agree.steps
+
+  abbrev history : PoolLog
+  history = history_of scene steps
+
+  pub met_run : (layouts : List Layout) → IsSharedScene scene → AreAsked scene.geometry steps layouts →
+      (live : List Chunk) × IsPoolRun scene steps layouts live
+  met_run layouts shared asked = pool_run scene steps layouts shared.geometry asked
+
+  pub met_sound : (layouts : List Layout) (live : List Chunk) → IsSharedScene scene → IsPoolRun scene steps layouts live →
+      IsSound scene.geometry.region live
+  met_sound layouts live shared run = run_is_sound scene steps layouts live shared.geometry run
+
+  -- the flags that the meeting found are the buckets held in the list that the run leaves
+  pub met_flags : (layouts : List Layout) (live : List Chunk) (bucket : ℕ) → IsSharedScene scene →
+      IsPoolRun scene steps layouts live → bucket < scene.geometry.buckets →
+      (slice_get met.0 bucket ≡ Some true) ↔ IsHeld scene.geometry live bucket
+  met_flags layouts live bucket shared run below =
+      let same = taken_is_held scene steps layouts live bucket shared.geometry run below in
+      let state = left_by scene steps in (
+        λ (flag : slice_get met.0 bucket ≡ Some true).
+            same.0 (taken_from_flag state met.0 bucket met.1.agree.leaves flag),
+        λ held. let taken = same.1 held in flag_from_taken state met.0 bucket taken.0 met.1.agree.leaves taken.1,
+      )
+
+  pub met_held : (layouts : List Layout) (live : List Chunk) (bucket : ℕ) → IsSharedScene scene →
+      length parties ≡ scene.parties → IsPoolRun scene steps layouts live → bucket < scene.geometry.buckets →
+      IsHeld scene.geometry live bucket ↔ IsHeldByOne parties bucket
+  met_held layouts live bucket shared all run below =
+      let flags = met_flags layouts live bucket shared run below in
+      let whole = (met.1.whole all).1 bucket in
+      (λ held. whole.0 (flags.1 held), λ one. flags.0 (whole.1 one))
+
+  pub met_logged : All (λ party. log_of scene steps party.number ≡ party.log) parties
+  met_logged k d below =
+      met.1.agree.each _ _ (met.1.theirs k d below)
+
+  -- an entry whose step is that of a number stands in the log of the party with this number
+  numbered : (entry : PoolEntry) (number : ℕ) → length parties ≡ scene.parties → Contains history entry →
+      is_by number entry.step ≡ true → Any (λ party. Contains party.log entry) parties
+  numbered entry number all there by =
+      let kept = contains-filter (λ (other : PoolEntry). is_by number other.step) history entry there by in
+      elim (cases_lt number scene.parties) [
+        | inl below ↦
+            let one = one_of_figure (λ (party : PoolParty). party.number) parties number ((met.1.whole all).0 number below) in
+            let logged = All-contains (λ (party : PoolParty). log_of scene steps party.number ≡ party.log) parties one.one
+            met_logged one.there in
+            let log : log_of scene steps number ≡ one.one.log = ap (log_of scene steps) (sym one.its) ∙ logged in
+            any_contained (λ (party : PoolParty). Contains party.log entry) parties one.one one.there
+            (subst (λ (l : PoolLog). Contains l entry) log kept)
+        | inr past ↦
+            let none = nobody_else scene steps number (omega arith) met.1.agree.allowed in
+            absurd (contains-none entry (subst (λ (l : PoolLog). Contains l entry) none kept))
+      ]
+
+  owned : (step : PoolStep) (outcome : PoolOutcome) → length parties ≡ scene.parties →
+      Contains history (entry_of step outcome) → Any (λ party. Contains party.log (entry_of step outcome)) parties
+  owned (Try party) outcome all there = numbered (entry_of (Try party) outcome) party all there (test_same party party refl)
+  owned (GiveBack party bucket) outcome all there =
+      numbered (entry_of (GiveBack party bucket) outcome) party all there (test_same party party refl)
+  owned (TryAt party bucket) outcome all there =
+      numbered (entry_of (TryAt party bucket) outcome) party all there (test_same party party refl)
+
+  -- each step is in the log of one that met
+  pub met_nobody_else : length parties ≡ scene.parties → All (λ entry. Any (λ party. Contains party.log entry) parties) history
+  met_nobody_else all =
+      All-weaker (Contains history) (λ entry. Any (λ party. Contains party.log entry) parties)
+      (λ entry there. owned entry.step entry.outcome all there) history (All-contains_itself history)
+
+-- WHERE NONE HAS TAKEN
+
+-- it isn't so that one of them has this entry, which took a bucket
+not_taken : (parties : List PoolParty) (entry : PoolEntry) → IsTaking entry.outcome →
+    All (λ party. HasTakenNone party.log) parties → Any (λ party. Contains party.log entry) parties → ⊥
+not_taken parties entry takes none one =
+    let its = All-contains (λ (party : PoolParty). HasTakenNone party.log) parties one.1 none (one.0, one.2, one.3) in
+    All-contains (λ (other : PoolEntry). ¬ IsTaking other.outcome) one.1.log entry its one.4 takes
+
+-- a log in an empty list of steps is empty
+no_steps : (scene : PoolScene) (parties : List PoolParty) (met : HaveMet scene parties) (one : PoolParty) →
+    met.1.agree.steps ≡ [] → Contains parties one → one.log ≡ []
+no_steps scene parties met one is there =
+    let logged = All-contains (λ (party : PoolParty). log_of scene met.1.agree.steps party.number ≡ party.log) parties one
+    (met_logged scene parties met) there in
+    sym logged ∙ ap (λ (s : List PoolStep). log_of scene s one.number) is
+
+-- the first of the steps took a bucket
+first_took : (scene : PoolScene) (parties : List PoolParty) (met : HaveMet scene parties) (step : PoolStep)
+    (steps : List PoolStep) → met.1.agree.steps ≡ step ∷ steps → length parties ≡ scene.parties →
+    All (λ party. HasTakenNone party.log) parties → ⊥
+first_took scene parties met step steps is all none =
+    let history_is = ap (history_of scene) is in
+    let allowed = subst AllAllowed history_is met.1.agree.allowed in
+    let first = first_takes scene step steps allowed in
+    let outcome = (pool_step (opening_state scene) step).outcome in
+    let entry = entry_of step outcome in
+    let rest = pool_history (pool_step (opening_state scene) step).state steps in
+    let there = subst (λ (l : PoolLog). Contains l entry) (sym history_is) (contains-first entry entry rest refl) in
+    not_taken parties entry (subst IsTaking (sym first.3) tt) none (owned scene parties met step outcome all there)
+
+took_by_steps : (scene : PoolScene) (parties : List PoolParty) (met : HaveMet scene parties) (one : PoolParty)
+    (steps : List PoolStep) → met.1.agree.steps ≡ steps → length parties ≡ scene.parties → Contains parties one →
+    one.log ≢ [] → All (λ party. HasTakenNone party.log) parties → ⊥
+took_by_steps scene parties met one [] is all there made none = made (no_steps scene parties met one is there)
+took_by_steps scene parties met one (step ∷ steps) is all there made none =
+    first_took scene parties met step steps is all none
+
+-- where one has made a step, one has taken a bucket
+pub one_has_taken : (scene : PoolScene) (parties : List PoolParty) (one : PoolParty) → HaveMet scene parties →
+    length parties ≡ scene.parties → Contains parties one → one.log ≢ [] → ¬ All (λ party. HasTakenNone party.log) parties
+one_has_taken scene parties one met all there made none =
+    took_by_steps scene parties met one met.1.agree.steps refl all there made none
+
+-- REFUSED PASSES
+
+loss_takes_none : (buckets bucket : ℕ) (more : Bool) → ¬ IsTaking (if more then Loses bucket else RefusedAtLoss bucket)
+loss_takes_none buckets bucket true takes = absurd takes
+loss_takes_none buckets bucket false takes = absurd takes
+
+losses_take_none : (buckets number count : ℕ) → HasTakenNone (losses buckets number count)
+losses_take_none buckets number zero = All-nil (λ (entry : PoolEntry). ¬ IsTaking entry.outcome)
+losses_take_none buckets number (suc bucket) =
+    let TakesNone : PoolEntry → Type 0 = λ entry. ¬ IsTaking entry.outcome in
+    let entry = entry_of (Try number) (loss_at buckets bucket) in
+    All-append TakesNone (losses buckets number bucket) (entry ∷ []) (losses_take_none buckets number bucket)
+    (All-cons TakesNone entry [] (loss_takes_none buckets bucket (nat_lt (bucket + 1) buckets)) (All-nil TakesNone))
+
+pub refused_takes_none : (buckets number : ℕ) → HasTakenNone (refused_pass buckets number)
+refused_takes_none buckets number = losses_take_none buckets number buckets

@@ -1,0 +1,27 @@
+use Rattle.bb_memory.proofs.SharedPoolWholes.{met_flags, met_held, met_logged, met_nobody_else, met_run, met_sound}
+use Rattle.bb_memory.proofs.SharedPoolWholes.{one_has_taken, refused_takes_none}
+use Rattle.bb_memory.proofs.shared_pool.all_parties.shared_pool_meeting_law.Goals as goal
+
+pub returns-clause-run : goal.returns-clause-run
+returns-clause-run c = met_run
+
+pub returns-clause-sound : goal.returns-clause-sound
+returns-clause-sound c = met_sound
+
+pub returns-clause-flags : goal.returns-clause-flags
+returns-clause-flags c = met_flags
+
+pub returns-clause-held : goal.returns-clause-held
+returns-clause-held c = met_held
+
+pub returns-clause-logged : goal.returns-clause-logged
+returns-clause-logged c = met_logged
+
+pub returns-clause-nobody_else : goal.returns-clause-nobody_else
+returns-clause-nobody_else c = met_nobody_else
+
+pub returns-clause-one_has_taken : goal.returns-clause-one_has_taken
+returns-clause-one_has_taken c = one_has_taken
+
+pub returns-clause-refused_takes_none : goal.returns-clause-refused_takes_none
+returns-clause-refused_takes_none c = refused_takes_none

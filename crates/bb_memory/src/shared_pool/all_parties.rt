@@ -1,0 +1,63 @@
+//! What a user has who met all parties of a shared pool.
+ghost use Rattle.std.specs.Prelude.{◌≡◌, ◌≢◌, ◌↔◌, ◌<◌, ℕ, All, Any, Contains, List};
+ghost use Rattle.std.specs.Prelude.{Some, [], length, slice_get, true};
+ghost use Rattle.bb_memory_base.specs.Chunk.{Chunk};
+ghost use Rattle.bb_memory_base.specs.LiveList.{IsSound};
+ghost use Rattle.bb_memory_base.specs.PoolObject.{IsHeld};
+ghost use Rattle.bb_memory_base.specs.PoolMachine.{PoolScene};
+ghost use Rattle.bb_memory_base.specs.PoolCalls.{AreAsked, IsPoolRun};
+ghost use Rattle.bb_memory_base.specs.PoolHistory.{history_of, log_of};
+ghost use Rattle.bb_memory_base.specs.declared.layout.Layout.{Layout};
+ghost use Rattle.bb_memory.specs.SharedPool.{HasTakenNone, HaveMet, IsHeldByOne, IsSharedScene, PoolParty, refused_pass};
+
+/// What a user of a shared pool has of parties that met ([`meet_all`](super::SharedPoolAllocator::meet_all)), and above all of
+/// all its parties, whatever the threads did. It does nothing: its contract is the law.
+///
+/// A meeting has one list of steps from the opening, each of which the machine allows (`met.1.agree.steps`), in which the steps of
+/// each party that met are exactly its log. Where as many parties met as the pool has, it has no other steps.
+pub fn shared_pool_meeting_law()
+    // The takings and returns in that list are a run of the pool object from the empty list,
+    // whichever layouts within the bucket's size and alignment were asked for.
+    ensures run { (scene : PoolScene) (parties : List PoolParty) (met : HaveMet scene parties)
+        (layouts : List Layout) → let steps = met.1.agree.steps in
+        IsSharedScene scene → AreAsked scene.geometry steps layouts
+        → (live : List Chunk) × IsPoolRun scene steps layouts live }
+
+    // The list of chunks that the run leaves is sound: they are inside the region, and no two overlap.
+    ensures sound { (scene : PoolScene) (parties : List PoolParty) (met : HaveMet scene parties)
+        (layouts : List Layout) (live : List Chunk) → IsSharedScene scene
+        → IsPoolRun scene met.1.agree.steps layouts live → IsSound scene.geometry.region live }
+
+    // It holds a bucket exactly where the bucket's flag was taken when they met.
+    ensures flags { (scene : PoolScene) (parties : List PoolParty) (met : HaveMet scene parties)
+        (layouts : List Layout) (live : List Chunk) (bucket : ℕ) → IsSharedScene scene
+        → IsPoolRun scene met.1.agree.steps layouts live → bucket < scene.geometry.buckets
+        → (slice_get met.0 bucket ≡ Some true ↔ IsHeld scene.geometry live bucket) }
+
+    // Where all have met, it holds a bucket exactly where one of them does.
+    ensures held { (scene : PoolScene) (parties : List PoolParty) (met : HaveMet scene parties)
+        (layouts : List Layout) (live : List Chunk) (bucket : ℕ) → IsSharedScene scene
+        → length parties ≡ scene.parties
+        → IsPoolRun scene met.1.agree.steps layouts live → bucket < scene.geometry.buckets
+        → (IsHeld scene.geometry live bucket ↔ IsHeldByOne parties bucket) }
+
+    // Each party's steps in the list of steps are its log.
+    ensures logged { (scene : PoolScene) (parties : List PoolParty) (met : HaveMet scene parties)
+        → All (λ party. log_of scene met.1.agree.steps party.number ≡ party.log) parties }
+
+    // Where all have met, each step stands in the log of one of them: it was nobody else's.
+    ensures nobody_else { (scene : PoolScene) (parties : List PoolParty)
+        (met : HaveMet scene parties) → length parties ≡ scene.parties
+        → All (λ entry. Any (λ party. Contains party.log entry) parties)
+        (history_of scene met.1.agree.steps) }
+
+    // And where one of them has made a step, one has taken a bucket: parties that were all refused
+    // are not all parties.
+    ensures one_has_taken { (scene : PoolScene) (parties : List PoolParty) (one : PoolParty)
+        → HaveMet scene parties → length parties ≡ scene.parties → Contains parties one
+        → one.log ≢ [] → ¬ All (λ party. HasTakenNone party.log) parties }
+
+    // A pass that is refused takes none.
+    ensures refused_takes_none { (buckets number : ℕ)
+        → HasTakenNone (refused_pass buckets number) }
+{}
