@@ -1,5 +1,5 @@
 -- What stands in a list: behind others, in what is kept of it, and by a figure of its own.
-use Rattle.std.proofs.Common.{◌≡◌, ℕ, zero, suc, ◌<◌, Bool, true, false, List, [], ◌∷◌, length, refl, sym, ap, ◌∙◌, arith}
+use Rattle.std.proofs.Common.{◌≡◌, ℕ, zero, suc, Bool, true, false, List, [], ◌∷◌, refl, ap, ◌∙◌, arith}
 use Rattle.std.specs.Prelude.{Any, Contains, filter, if◌then◌else◌, map}
 
 module _ {X : Type 0} where

@@ -1,5 +1,5 @@
 -- What all parties of a bump have who met.
-use Rattle.std.proofs.Common.{◌≡◌, ℕ, ◌<◌, ◌≤◌, ◌++◌, List, [], ◌∷◌, length, refl, sym, ap, ◌∙◌, subst, arith, true, inl, inr}
+use Rattle.std.proofs.Common.{◌≡◌, ℕ, List, [], ◌∷◌, length, refl, sym, ap, ◌∙◌, subst, arith, true, inl, inr}
 use Rattle.std.specs.Prelude.{Any, Contains}
 use Rattle.std.specs.List.{All, AllByRecursion}
 use Rattle.std.proofs.lemmas.Bool.{cases_lt}
@@ -10,15 +10,13 @@ use Rattle.bb_memory_base.specs.Chunk.{Chunk}
 use Rattle.bb_memory_base.specs.BumpObject.{StandsFor}
 use Rattle.bb_memory_base.specs.BumpMachine.{BumpScene, BumpState, bump_step, opening_state}
 use Rattle.bb_memory_base.specs.BumpHistory.{BumpEntry, BumpLog, bump_history, chunks_won, history_of, is_by, log_of}
-use Rattle.bb_memory_base.specs.BumpCalls.{IsCallRun, OpensWith, calls_of, live_after}
+use Rattle.bb_memory_base.specs.BumpCalls.{OpensWith, live_after}
 use Rattle.bb_memory_base.specs.BumpLogs.{AllAllowed, Interleaving}
 use Rattle.bb_memory_base.specs.declared.steps.bump.BumpStep.{BumpStep}
 use Rattle.bb_memory_base.proofs.BumpAllowed.{first_allowed, nobody_else, rest_allowed}
 use Rattle.bb_memory_base.proofs.BumpPositions.{interleaving_stands}
-use Rattle.bb_memory_base.proofs.BumpRuns.{calls_run}
 use Rattle.bb_memory_base.proofs.BumpSteps.{step_view}
 use Rattle.bb_memory_base.proofs.BumpWholes.{owner_of}
-use Rattle.bb_memory_base.proofs.OwnChunks.{agreed_since}
 use Rattle.bb_memory.specs.SharedBump.{AgreeAt, BumpParty}
 use Rattle.bb_memory.proofs.Contained.{any_contained, contains-filter, contains-none, one_of_figure}
 use Rattle.bb_memory.proofs.SharedBumpHistories.{held_in_list}

@@ -1,28 +1,28 @@
 -- What all parties of a pool have who met.
-use Rattle.std.proofs.Common.{◌≡◌, ◌≢◌, ℕ, zero, suc, ◌+◌, ◌<◌, ◌≤◌, ◌++◌, List, [], ◌∷◌, length, refl, sym, ap, ◌∙◌, subst, arith}
-use Rattle.std.proofs.Common.{Some, true, inl, inr, ◌⊎◌}
-use Rattle.std.specs.Prelude.{◌↔◌, Any, Contains, map, nat_lt, slice_get, if◌then◌else◌, Bool, false}
+use Rattle.std.proofs.Common.{◌≡◌, ◌≢◌, ℕ, zero, suc, ◌≤◌, ◌+◌, ◌<◌, List, [], ◌∷◌, length, refl, sym, ap, ◌∙◌, subst, arith}
+use Rattle.std.proofs.Common.{Some, true, inl, inr}
+use Rattle.std.specs.Prelude.{◌↔◌, Any, Contains, nat_lt, slice_get, if◌then◌else◌, Bool, false}
 use Rattle.std.specs.List.{All}
 use Rattle.std.proofs.lemmas.Bool.{cases_lt}
+use Rattle.std.proofs.lemmas.Option.{slice_get_within}
 use Rattle.std.proofs.lemmas.List.Elements.{All-append, All-cons, All-contains, All-contains_itself, All-nil, All-weaker}
 use Rattle.bb_memory_base.specs.Chunk.{Chunk}
 use Rattle.bb_memory_base.specs.LiveList.{IsSound}
 use Rattle.bb_memory_base.specs.PoolObject.{IsHeld}
 use Rattle.bb_memory_base.specs.PoolMachine.{PoolScene, left_by, opening_state, pool_step}
 use Rattle.bb_memory_base.specs.PoolCalls.{AreAsked, IsPoolRun}
-use Rattle.bb_memory_base.specs.PoolHistory.{PoolEntry, PoolLog, entries_by, entry_of, history_of, is_by, log_of, pool_history}
+use Rattle.bb_memory_base.specs.PoolHistory.{PoolEntry, PoolLog, entry_of, history_of, is_by, log_of, pool_history}
 use Rattle.bb_memory_base.specs.PoolLogs.{AllAllowed, HasLog, loss_at}
 use Rattle.bb_memory_base.specs.declared.layout.Layout.{Layout}
 use Rattle.bb_memory_base.specs.declared.steps.pool.PoolStep.{PoolStep}
 use Rattle.bb_memory_base.specs.declared.steps.pool.PoolStep.TheVariants.{Try, GiveBack, TryAt}
 use Rattle.bb_memory_base.specs.declared.steps.pool.PoolOutcome.{PoolOutcome}
-use Rattle.bb_memory_base.specs.declared.steps.pool.PoolOutcome.TheVariants.{Takes, Loses, RefusedAtLoss}
+use Rattle.bb_memory_base.specs.declared.steps.pool.PoolOutcome.TheVariants.{Loses, RefusedAtLoss}
 use Rattle.bb_memory_base.proofs.PoolLogFacts.{first_takes, nobody_else}
-use Rattle.bb_memory_base.proofs.PoolLogRuns.{flags_run}
 use Rattle.bb_memory_base.proofs.PoolRuns.{pool_run, run_is_sound, taken_is_held}
 use Rattle.bb_memory_base.proofs.PoolFlags.{taken_from_flag, flag_from_taken}
 use Rattle.bb_memory_base.proofs.PoolSteps.{test_same}
-use Rattle.bb_memory.specs.SharedPool.{HasTakenNone, HaveMet, IsHeldByOne, IsSharedScene, IsTaking, PoolParty, losses, refused_pass}
+use Rattle.bb_memory.specs.SharedPool.{HasTaker, HaveMet, IsHeldByOne, IsSharedScene, IsTaking, PoolParty, TookOne, losses, refused_pass}
 use Rattle.bb_memory.proofs.Contained.{any_contained, contains-filter, contains-first, contains-none, one_of_figure}
 
 module _ (scene : PoolScene) (parties : List PoolParty) (met : HaveMet scene parties) where
@@ -96,14 +96,21 @@ module _ (scene : PoolScene) (parties : List PoolParty) (met : HaveMet scene par
       All-weaker (Contains history) (λ entry. Any (λ party. Contains party.log entry) parties)
       (λ entry there. owned entry.step entry.outcome all there) history (All-contains_itself history)
 
--- WHERE NONE HAS TAKEN
+-- WHO TOOK A BUCKET
 
--- it isn't so that one of them has this entry, which took a bucket
-not_taken : (parties : List PoolParty) (entry : PoolEntry) → IsTaking entry.outcome →
-    All (λ party. HasTakenNone party.log) parties → Any (λ party. Contains party.log entry) parties → ⊥
-not_taken parties entry takes none one =
-    let its = All-contains (λ (party : PoolParty). HasTakenNone party.log) parties one.1 none (one.0, one.2, one.3) in
-    All-contains (λ (other : PoolEntry). ¬ IsTaking other.outcome) one.1.log entry its one.4 takes
+-- one that has this entry, which took a bucket, took one
+took_by_entry : (scene : PoolScene) (parties : List PoolParty) (met : HaveMet scene parties) (entry : PoolEntry) →
+    IsTaking entry.outcome → Any (λ party. Contains party.log entry) parties → HasTaker scene parties
+took_by_entry scene parties met entry takes one =
+    let there : Contains parties one.1 = (one.0, one.2, one.3) in
+    let log = All-contains (λ (party : PoolParty). HasLog met.1.logs party.number party.log) parties one.1 met.1.theirs there in
+    let within = slice_get_within met.1.logs one.1.number one.1.log log in
+    record {
+      taker = one.1;
+      number = omega (arith, within, met.1.one_a_party);
+      there = there;
+      took = any_contained (λ (other : PoolEntry). IsTaking other.outcome) one.1.log entry one.4 takes;
+    }
 
 -- a log in an empty list of steps is empty
 no_steps : (scene : PoolScene) (parties : List PoolParty) (met : HaveMet scene parties) (one : PoolParty) →
@@ -116,8 +123,8 @@ no_steps scene parties met one is there =
 -- the first of the steps took a bucket
 first_took : (scene : PoolScene) (parties : List PoolParty) (met : HaveMet scene parties) (step : PoolStep)
     (steps : List PoolStep) → met.1.agree.steps ≡ step ∷ steps → length parties ≡ scene.parties →
-    All (λ party. HasTakenNone party.log) parties → ⊥
-first_took scene parties met step steps is all none =
+    HasTaker scene parties
+first_took scene parties met step steps is all =
     let history_is = ap (history_of scene) is in
     let allowed = subst AllAllowed history_is met.1.agree.allowed in
     let first = first_takes scene step steps allowed in
@@ -125,34 +132,46 @@ first_took scene parties met step steps is all none =
     let entry = entry_of step outcome in
     let rest = pool_history (pool_step (opening_state scene) step).state steps in
     let there = subst (λ (l : PoolLog). Contains l entry) (sym history_is) (contains-first entry entry rest refl) in
-    not_taken parties entry (subst IsTaking (sym first.3) tt) none (owned scene parties met step outcome all there)
+    took_by_entry scene parties met entry (subst IsTaking (sym first.3) tt) (owned scene parties met step outcome all there)
 
 took_by_steps : (scene : PoolScene) (parties : List PoolParty) (met : HaveMet scene parties) (one : PoolParty)
     (steps : List PoolStep) → met.1.agree.steps ≡ steps → length parties ≡ scene.parties → Contains parties one →
-    one.log ≢ [] → All (λ party. HasTakenNone party.log) parties → ⊥
-took_by_steps scene parties met one [] is all there made none = made (no_steps scene parties met one is there)
-took_by_steps scene parties met one (step ∷ steps) is all there made none =
-    first_took scene parties met step steps is all none
+    one.log ≢ [] → HasTaker scene parties
+took_by_steps scene parties met one [] is all there made = absurd (made (no_steps scene parties met one is there))
+took_by_steps scene parties met one (step ∷ steps) is all there made = first_took scene parties met step steps is all
 
 -- where one has made a step, one has taken a bucket
-pub one_has_taken : (scene : PoolScene) (parties : List PoolParty) (one : PoolParty) → HaveMet scene parties →
-    length parties ≡ scene.parties → Contains parties one → one.log ≢ [] → ¬ All (λ party. HasTakenNone party.log) parties
-one_has_taken scene parties one met all there made none =
-    took_by_steps scene parties met one met.1.agree.steps refl all there made none
+pub one_took : (scene : PoolScene) (parties : List PoolParty) (one : PoolParty) → HaveMet scene parties →
+    length parties ≡ scene.parties → Contains parties one → one.log ≢ [] → HasTaker scene parties
+one_took scene parties one met all there made = took_by_steps scene parties met one met.1.agree.steps refl all there made
+
+some_party : (parties : List PoolParty) → 1 ≤ length parties → (party : PoolParty) × Contains parties party
+some_party [] some = absurd (omega arith)
+some_party (party ∷ parties) some = (party, contains-first party party parties refl)
+
+pub one_served : (scene : PoolScene) (parties : List PoolParty) → IsSharedScene scene → HaveMet scene parties →
+    length parties ≡ scene.parties → All (λ party. party.log ≢ []) parties → HasTaker scene parties
+one_served scene parties shared met all made =
+    let some = shared.parties in
+    let one = some_party parties (omega (arith, some, all)) in
+    one_took scene parties one.0 met all one.1
+    (All-contains (λ (party : PoolParty). party.log ≢ []) parties one.0 made one.1)
 
 -- REFUSED PASSES
 
-loss_takes_none : (buckets bucket : ℕ) (more : Bool) → ¬ IsTaking (if more then Loses bucket else RefusedAtLoss bucket)
-loss_takes_none buckets bucket true takes = absurd takes
-loss_takes_none buckets bucket false takes = absurd takes
+loss_takes_none : (bucket : ℕ) (more : Bool) → ¬ IsTaking (if more then Loses bucket else RefusedAtLoss bucket)
+loss_takes_none bucket true takes = absurd takes
+loss_takes_none bucket false takes = absurd takes
 
-losses_take_none : (buckets number count : ℕ) → HasTakenNone (losses buckets number count)
+losses_take_none : (buckets number count : ℕ) → All (λ entry. ¬ IsTaking entry.outcome) (losses buckets number count)
 losses_take_none buckets number zero = All-nil (λ (entry : PoolEntry). ¬ IsTaking entry.outcome)
 losses_take_none buckets number (suc bucket) =
     let TakesNone : PoolEntry → Type 0 = λ entry. ¬ IsTaking entry.outcome in
     let entry = entry_of (Try number) (loss_at buckets bucket) in
     All-append TakesNone (losses buckets number bucket) (entry ∷ []) (losses_take_none buckets number bucket)
-    (All-cons TakesNone entry [] (loss_takes_none buckets bucket (nat_lt (bucket + 1) buckets)) (All-nil TakesNone))
+    (All-cons TakesNone entry [] (loss_takes_none bucket (nat_lt (bucket + 1) buckets)) (All-nil TakesNone))
 
-pub refused_takes_none : (buckets number : ℕ) → HasTakenNone (refused_pass buckets number)
-refused_takes_none buckets number = losses_take_none buckets number buckets
+pub refused_took_none : (buckets number : ℕ) → ¬ TookOne (refused_pass buckets number)
+refused_took_none buckets number one =
+    All-contains (λ (entry : PoolEntry). ¬ IsTaking entry.outcome) (refused_pass buckets number) one.1
+    (losses_take_none buckets number buckets) (one.0, one.2, one.3) one.4

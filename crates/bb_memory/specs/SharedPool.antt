@@ -168,9 +168,16 @@ abbrev pub IsTaking : PoolOutcome → Type 0
 IsTaking (Takes bucket) = Unit {0}
 IsTaking _ = ⊥
 
--- no step of the log took a bucket
-abbrev pub HasTakenNone : PoolLog → Type 0
-HasTakenNone log = All (λ entry. ¬ IsTaking entry.outcome) log
+-- some step of the log took a bucket
+abbrev pub TookOne : PoolLog → Type 0
+TookOne log = Any (λ entry. IsTaking entry.outcome) log
+
+-- one of these parties of the pool took a bucket
+pub record HasTaker (scene : PoolScene) (parties : List PoolParty) : Type 0 where
+  pub taker : PoolParty
+  pub number : taker.number < scene.parties
+  pub there : Contains parties taker
+  pub took : TookOne taker.log
 
 -- There is a log for each of the pool's parties, with which these flags agree, and these parties' logs are among them. Where
 -- these are all parties, each log is one of theirs, and a flag is taken exactly where one of them holds the bucket.

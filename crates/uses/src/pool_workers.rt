@@ -1,14 +1,15 @@
 //! Threads that take buckets of one pool, and what is known once all of them are back.
-ghost use Rattle.std.specs.Prelude.{◌≡◌, ◌↔◌, ℕ, All, IfOk, List, Some, true, length, slice_get};
+ghost use Rattle.std.specs.Prelude.{◌≡◌, ◌≢◌, ◌↔◌, ◌<◌, [], ℕ, All, IfOk, List, Some, false, true, length, slice_get};
 ghost use Rattle.bb_memory_base.specs.PoolMachine.{PoolScene};
+ghost use Rattle.bb_memory_base.specs.PoolObject.{IsWithin};
 ghost use Rattle.bb_memory_base.specs.PoolLogs.{IsHeldAfter};
-ghost use Rattle.bb_memory.specs.SharedPool.{HaveAllNumbers, HaveMet, IsHeldByOne, PoolParty};
+ghost use Rattle.bb_memory.specs.SharedPool.{HasTaker, HaveAllNumbers, HaveMet, IsHeldByOne, PoolParty};
 
 use bb_memory::allocator::AllocationError;
 use bb_memory::layout::Layout;
 use bb_memory::pool_allocator::pool_count_law;
 use bb_memory::shared_pool::{PoolParty, SharedPoolAllocator};
-use std::alloc::Global;
+use std::alloc::{AllocError, Global};
 use std::thread;
 use std::thread::Threads;
 
@@ -50,38 +51,43 @@ pub fn four_workers<R: Threads + Sync>(
     Ok((pool, back))
 }
 
-/// A party asks for a bucket once, and comes back with whether it was given one.
-pub fn ask_once(pool: &SharedPoolAllocator, party: PoolParty, layout: Layout) -> (PoolParty, bool)
+/// A party asks for a bucket once, and comes back. Its log is then not empty.
+pub fn ask_once(pool: &SharedPoolAllocator, party: PoolParty, layout: Layout) -> PoolParty
     requires pool { party.allocator ≡ pool.now }
     requires fresh { party.log ≡ [] }
     requires buckets { 0 < pool.now.scene.geometry.buckets }
     requires within { IsWithin pool.now.scene.geometry.bucket layout }
-    ensures pool { result.0.allocator ≡ pool.entry.now }
-    ensures asked { result.0.log ≢ [] }
-    ensures refused { result.1 ≡ false → HasTakenNone result.0.log }
+    ensures pool { result.allocator ≡ pool.entry.now }
+    ensures asked { result.log ≢ [] }
 {
     let mut party = party;
-    let served = pool.allocate(&mut party, layout).is_ok();
-    shared_pool_meeting_law();
-    (party, served)
+    let _ = pool.allocate(&mut party, layout);
+    party
 }
 
-/// Three parties of a pool that has a bucket ask for one each, once, and meet: at least one of them was served. It can't be that
-/// each was refused by what somebody else held, since there was nobody else.
-pub fn one_of_three_is_served(
+/// All parties of a pool ask for a bucket once each, in threads of their own, and meet: one of them was given one, whatever the
+/// order of their steps. It can't be that each was refused by what somebody else held, since there was nobody else. It is refused
+/// where memory was, and for nothing else.
+pub fn one_is_served<R: Threads + Sync>(
+    rt: &R,
     pool: &SharedPoolAllocator,
-    parties: &mut Vec<PoolParty>,
-    served: bool,
-) -> bool
-    requires parties { All (λ party. party.allocator ≡ pool.now) parties.old.items }
-    requires all { length parties.old.items ≡ pool.now.scene.parties }
-    requires asked { All (λ party. party.log ≢ []) parties.old.items }
-    requires refused { served ≡ false → All (λ party. HasTakenNone party.log) parties.old.items }
-    ensures { result ≡ true }
+    parties: Vec<PoolParty>,
+    layout: Layout,
+) -> Result<Vec<PoolParty>, AllocError>
+    requires all { length parties.items ≡ pool.now.scene.parties }
+    requires theirs { All (λ party. party.allocator ≡ pool.now) parties.items }
+    requires fresh { All (λ party. party.log ≡ []) parties.items }
+    requires buckets { 0 < pool.now.scene.geometry.buckets }
+    requires within { IsWithin pool.now.scene.geometry.bucket layout }
+    ensures one { IfOk result (λ back. HasTaker pool.now.scene back.items) }
 {
-    pool.meet_all(parties);
-    shared_pool_meeting_law();
-    served
+    let back = thread::map_vec(rt, parties, &|party| ask_once(pool, party, layout));
+    let Ok(mut back) = back else {
+        return Err(AllocError);
+    };
+    pool.meet_all(&mut back);
+    pool.one_took(&back);
+    Ok(back)
 }
 
 /// What is known where all parties of a pool have met. It does nothing: its contract is the law.

@@ -8,7 +8,10 @@ ghost use Rattle.bb_memory_base.specs.PoolMachine.{PoolScene};
 ghost use Rattle.bb_memory_base.specs.PoolCalls.{AreAsked, IsPoolRun};
 ghost use Rattle.bb_memory_base.specs.PoolHistory.{history_of, log_of};
 ghost use Rattle.bb_memory_base.specs.declared.layout.Layout.{Layout};
-ghost use Rattle.bb_memory.specs.SharedPool.{HasTakenNone, HaveMet, IsHeldByOne, IsSharedScene, PoolParty, refused_pass};
+ghost use Rattle.bb_memory.specs.SharedPool.{HasTaker, HaveMet, IsHeldByOne, IsSharedScene, PoolParty, TookOne, refused_pass};
+
+use super::buckets::SharedBucketPool;
+use super::party::PoolParty;
 
 /// What a user of a shared pool has of parties that met ([`meet_all`](super::SharedPoolAllocator::meet_all)), and above all of
 /// all its parties, whatever the threads did. It does nothing: its contract is the law.
@@ -51,13 +54,25 @@ pub fn shared_pool_meeting_law()
         → All (λ entry. Any (λ party. Contains party.log entry) parties)
         (history_of scene met.1.agree.steps) }
 
-    // And where one of them has made a step, one has taken a bucket: parties that were all refused
-    // are not all parties.
-    ensures one_has_taken { (scene : PoolScene) (parties : List PoolParty) (one : PoolParty)
+    // Where one of them has made a step, one of them has taken a bucket.
+    ensures one_took { (scene : PoolScene) (parties : List PoolParty) (one : PoolParty)
         → HaveMet scene parties → length parties ≡ scene.parties → Contains parties one
-        → one.log ≢ [] → ¬ All (λ party. HasTakenNone party.log) parties }
+        → one.log ≢ [] → HasTaker scene parties }
 
-    // A pass that is refused takes none.
-    ensures refused_takes_none { (buckets number : ℕ)
-        → HasTakenNone (refused_pass buckets number) }
+    // A pass that is refused takes no bucket.
+    ensures refused_took_none { (buckets number : ℕ) → ¬ TookOne (refused_pass buckets number) }
 {}
+
+impl<const CAPPED: usize, const MOST: usize> SharedBucketPool<CAPPED, MOST> {
+    /// Does nothing. It is the proof that of all parties of the pool, which have each made steps and met, one has taken a bucket:
+    /// it can't be that each was refused by what somebody else held, since there is nobody else.
+    pub fn one_took(&self, parties: &Vec<PoolParty>)
+        requires all { length parties.now.items ≡ self.now.scene.parties }
+        requires met { HaveMet self.now.scene parties.now.items }
+        requires stepped { All (λ party. party.log ≢ []) parties.now.items }
+        ensures { HasTaker self.now.scene parties.now.items }
+    {
+        let _ = parties;
+        let _ = self.number_of_buckets();
+    }
+}

@@ -1,5 +1,5 @@
 use Rattle.bb_memory.proofs.SharedPoolWholes.{met_flags, met_held, met_logged, met_nobody_else, met_run, met_sound}
-use Rattle.bb_memory.proofs.SharedPoolWholes.{one_has_taken, refused_takes_none}
+use Rattle.bb_memory.proofs.SharedPoolWholes.{one_took, refused_took_none}
 use Rattle.bb_memory.proofs.shared_pool.all_parties.shared_pool_meeting_law.Goals as goal
 
 pub returns-clause-run : goal.returns-clause-run
@@ -20,8 +20,8 @@ returns-clause-logged c = met_logged
 pub returns-clause-nobody_else : goal.returns-clause-nobody_else
 returns-clause-nobody_else c = met_nobody_else
 
-pub returns-clause-one_has_taken : goal.returns-clause-one_has_taken
-returns-clause-one_has_taken c = one_has_taken
+pub returns-clause-one_took : goal.returns-clause-one_took
+returns-clause-one_took c = one_took
 
-pub returns-clause-refused_takes_none : goal.returns-clause-refused_takes_none
-returns-clause-refused_takes_none c = refused_takes_none
+pub returns-clause-refused_took_none : goal.returns-clause-refused_took_none
+returns-clause-refused_took_none c = refused_took_none
