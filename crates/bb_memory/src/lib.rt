@@ -16,8 +16,9 @@
 //! - `shared_bump`: the bump that threads share.
 //!   - `position`: its word, and the only calls that touch it. `rule`: what each step on it has to keep, and tells.
 //!   - `party`: one user's right to step. `request`: the loop of a request. `meeting`: any number of parties at one seat.
+//!   - `all_parties`: what a user has who met all of them.
 //! - `shared_pool`: pools that threads share.
-//!   - `flags`, `rule`, `party` and `meeting`: as those of the bump, with a word for each bucket.
+//!   - `flags`, `rule`, `party`, `meeting` and `all_parties`: as those of the bump, with a word for each bucket.
 //!   - `buckets`: the pool itself, and a request by a pass. `rounds`: requests that begin elsewhere than at bucket 0.
 //!   - `bucket`: what a request answers. `by_number`: buckets by number and by place.
 //!   - `fixed_size`: the pool of at most a constant of buckets.

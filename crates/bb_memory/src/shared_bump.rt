@@ -37,8 +37,8 @@ use std::marker::{Brand, Model};
 ///
 /// A party's log has its own atomic steps on the position, in order, each with what it found. Whatever the threads do, word
 /// and logs agree: the steps of all parties together are one list that the bump machine allows, which leaves the word. A user
-/// who has all parties is told so by [`meet_all`](SharedBumpAllocator::meet_all), and then has what `bump_log_theorem` says of
-/// logs; [`shared_bump_law`] says what a user has of one party, and of two that met.
+/// who has all parties is told so by [`meet_all`](SharedBumpAllocator::meet_all), and then has [`shared_bump_meeting_law`];
+/// [`shared_bump_law`] says what a user has of one party, and of two that met.
 ///
 /// ```
 /// let Ok((shared, mut parties)) = BumpAllocator::new(4096, 64).share(alloc, 1) else {

@@ -47,7 +47,8 @@ use std::alloc::{AllocError, Global};
 ///
 /// What a call promises is told by the party's log: the list of the atomic steps that the party made, each with what it found.
 /// Some interleaving of each party's log with some logs of the others is always one that the pool machine allows. A user who has
-/// all parties is told by `meet_all` that one interleaving has all their logs and no other steps.
+/// all parties is told by `meet_all` that one interleaving has all their logs and no other steps; what follows is
+/// [`shared_pool_meeting_law`].
 ///
 /// ```
 /// pool_count_law();

@@ -7,8 +7,8 @@ use bb_memory::pool_allocator::{
     pool_count_law, pool_geometry_law, pool_held_law, pool_object_law,
 };
 use bb_memory::region::{live_bytes_law, region_law, split_bytes_law};
-use bb_memory::shared_bump::shared_bump_law;
-use bb_memory::shared_pool::shared_pool_law;
+use bb_memory::shared_bump::{shared_bump_law, shared_bump_meeting_law};
+use bb_memory::shared_pool::{shared_pool_law, shared_pool_meeting_law};
 use bb_memory::steps::{bump_log_theorem, bump_theorem, pool_log_theorem, pool_theorem};
 use loan_book::one_answer_law;
 
@@ -32,7 +32,9 @@ fn laws_do_nothing(_rt: HostRuntime) {
     pool_theorem();
     pool_log_theorem();
     shared_bump_law();
+    shared_bump_meeting_law();
     shared_pool_law();
+    shared_pool_meeting_law();
     one_answer_law();
     bb_memory_base::equality::equality_law();
     loan_book::equality_law();
