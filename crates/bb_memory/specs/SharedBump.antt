@@ -1,6 +1,6 @@
 -- A shared bump and its parties, as their contracts see them, and what each call adds to its party's log.
 use Rattle.std.specs.Prelude.{◌≡◌, ℕ, ◌+◌, ◌<◌, ◌≤◌, true, false, List, [], ◌∷◌, ◌++◌, None, Result, Ok, Err, All}
-use Rattle.std.specs.Prelude.{Contains, length, map, max}
+use Rattle.std.specs.Prelude.{Contains, Some, length, map, max, slice_get}
 use Rattle.atomic_table.specs.Seated.{TableId}
 use Rattle.bb_memory_base.specs.Region.{Region}
 use Rattle.bb_memory_base.specs.Chunk.{Chunk, AreApart, chunk_end}
@@ -41,6 +41,13 @@ pub record BumpParty : Type 0 where
 abbrev pub fresh_party : SharedBump → ℕ → BumpParty
 fresh_party allocator number =
     record { allocator = allocator; number = number; log = []; met = 0 }
+
+-- these are all parties of a bump that has so many, numbered from 0, and none has made a step
+pub record AreFresh (allocator : SharedBump) (count : ℕ) (parties : List BumpParty) : Type 0 where
+  pub so_many : allocator.scene.parties ≡ count
+  pub as_many : length parties ≡ count
+  pub fresh : (number : ℕ) → number < count → slice_get parties number ≡ Some (fresh_party allocator number)
+  pub theirs : All (λ party. party.allocator ≡ allocator) parties
 
 -- the party with these more entries in its log
 abbrev pub with_entries : BumpParty → BumpLog → BumpParty

@@ -40,6 +40,13 @@ pub record PoolParty : Type 0 where
 abbrev pub fresh_party : SharedPool → ℕ → PoolParty
 fresh_party allocator number = record { allocator = allocator; number = number; log = [] }
 
+-- these are all parties of a pool that has so many, numbered from 0, and none has made a step
+pub record AreFresh (allocator : SharedPool) (count : ℕ) (parties : List PoolParty) : Type 0 where
+  pub so_many : allocator.scene.parties ≡ count
+  pub as_many : length parties ≡ count
+  pub fresh : (number : ℕ) → number < count → slice_get parties number ≡ Some (fresh_party allocator number)
+  pub theirs : All (λ party. party.allocator ≡ allocator) parties
+
 -- the party with these more entries in its log
 abbrev pub with_entries : PoolParty → PoolLog → PoolParty
 with_entries party entries =

@@ -1,6 +1,6 @@
 //! The bump that threads share: its word is the position, and each thread steps with a party of its own.
-ghost use Rattle.std.specs.Prelude.{◌≡◌, ◌≢◌, ◌+◌, ◌-◌, ◌<◌, ◌≤◌, ◌%◌, ◌∷◌, ◌++◌, [], ℕ, List, All, IfOk};
-ghost use Rattle.std.specs.Prelude.{OnErr, Some, length, slice_get, vec_len, vec_capacity, Contains};
+ghost use Rattle.std.specs.Prelude.{◌≡◌, ◌≢◌, ◌+◌, ◌-◌, ◌≤◌, ◌%◌, ◌∷◌, ◌++◌, [], List, All, IfOk};
+ghost use Rattle.std.specs.Prelude.{OnErr, length, vec_len, vec_capacity, Contains};
 ghost use Rattle.bb_memory_base.specs.Region.{IsRegion, region_at};
 ghost use Rattle.bb_memory_base.specs.Chunk.{AreApart, Chunk, IsInside};
 ghost use Rattle.bb_memory_base.specs.LiveList.{IsSound};
@@ -8,11 +8,12 @@ ghost use Rattle.bb_memory_base.specs.BumpObject.{StandsFor};
 ghost use Rattle.bb_memory_base.specs.BumpHistory.{BumpLog, chunks_won, history_of, losses_in};
 ghost use Rattle.bb_memory_base.specs.BumpCalls.{IsCallRun, OpensWith, calls_of, live_after};
 ghost use Rattle.bb_memory_base.specs.BumpLogs.{CommonInterleaving, Interleaving};
-ghost use Rattle.bb_memory.specs.SharedBump.{AgreeAt, AreInterleaved, BumpParty, HasChunksWithin, HaveChunksApart};
+ghost use Rattle.bb_memory.specs.Seats.{HasRoomFor};
+ghost use Rattle.bb_memory.specs.SharedBump.{AgreeAt, AreFresh, AreInterleaved, BumpParty, HasChunksWithin, HaveChunksApart};
 ghost use Rattle.bb_memory.specs.SharedBump.{HaveMet, IsAnsweredAt, IsFoundBy, IsInterleaved, IsParty, IsSharedScene, MayTake};
-ghost use Rattle.bb_memory.specs.SharedBump.{floor_of, fresh_party, greatest_seen, load_entry, meeting_at, scene_at, seen_by};
+ghost use Rattle.bb_memory.specs.SharedBump.{floor_of, greatest_seen, load_entry, meeting_at, scene_at, seen_by};
 ghost use Rattle.bb_memory.specs.SharedBump.{with_entries};
-ghost use Rattle.bb_memory.specs.SharedBumpRule.{all_parties};
+ghost use Rattle.bb_memory.specs.SharedBumpRule.{StandsForAll};
 
 mod meeting;
 mod party;
@@ -85,12 +86,7 @@ impl SharedBumpAllocator {
         requires parties { 1 ≤ parties }
         ensures scene { IfOk result (λ made.
             made.0.scene ≡ scene_at (region_at start size) position parties) }
-        ensures parties { IfOk result (λ made. made.0.scene.parties ≡ parties) }
-        ensures as_many { IfOk result (λ made. length made.1.items ≡ parties) }
-        ensures fresh { IfOk result (λ made. (number : ℕ) → number < parties
-            → slice_get made.1.items number ≡ Some (fresh_party made.0 number)) }
-        ensures theirs { IfOk result (λ made.
-            All (λ party. party.allocator ≡ made.0) made.1.items) }
+        ensures parties { IfOk result (λ made. AreFresh made.0 parties made.1.items) }
     {
         let mut all = Vec::with_capacity(alloc, parties as usize)?;
         let scene = Scene {
@@ -316,15 +312,9 @@ impl SharedBumpAllocator {
 
     /// Gives each party a seat of its own.
     fn seat_parties(&self, mut rest: Seat<u8, View>, parties: u32, all: &mut Vec<BumpParty>)
-        requires table { rest.table_id ≡ self.now.table }
-        requires seat { rest.me ≡ (all_parties self.now.scene, []) }
-        requires parties { parties ≡ self.now.scene.parties }
-        requires empty { all.old.items ≡ [] }
-        requires room { (vec_len all.old ≡ 0) × (parties ≤ vec_capacity all.old) }
-        ensures as_many { length all.new.items ≡ parties }
-        ensures fresh { (number : ℕ) → number < parties
-            → slice_get all.new.items number ≡ Some (fresh_party self.now number) }
-        ensures theirs { All (λ party. party.allocator ≡ self.now) all.new.items }
+        requires seat { StandsForAll self.now parties rest.table_id rest.me }
+        requires room { HasRoomFor parties all.old.items (vec_len all.old) (vec_capacity all.old) }
+        ensures { AreFresh self.now parties all.new.items }
     {
         for number in 0..parties {
             let seat = self.position.deal(&mut rest);

@@ -1,14 +1,14 @@
 //! What the shared pools are: buckets with a flag each, on which any number of threads step.
-ghost use Rattle.std.specs.Prelude.{◌≡◌, ◌≢◌, ℕ, ◌<◌, ◌≤◌, ◌↔◌, ◌%◌, [], All, Some, None, IsErr, IfOk};
-ghost use Rattle.std.specs.Prelude.{MatchOption, OnErr, length, slice_get, vec_capacity, vec_len};
+ghost use Rattle.std.specs.Prelude.{◌≡◌, ◌≢◌, ℕ, ◌≤◌, ◌↔◌, ◌%◌, All, IsErr, IfOk};
+ghost use Rattle.std.specs.Prelude.{MatchOption, OnErr, vec_capacity, vec_len};
 ghost use Rattle.bb_memory_base.specs.Region.{IsRegion};
 ghost use Rattle.bb_memory_base.specs.Chunk.{Chunk, IsInside};
 ghost use Rattle.bb_memory_base.specs.PoolObject.{IsWithin, MayGrow, MayShrink};
 ghost use Rattle.bb_memory_base.specs.PoolLogs.{IsHeldAfter};
-ghost use Rattle.bb_memory.specs.Seats.{number_of, view_log};
-ghost use Rattle.bb_memory.specs.SharedPool.{AreAllHeldAfter, AreInterleaved, HaveMet, IsInterleaved, IsParty, IsSharedScene};
-ghost use Rattle.bb_memory.specs.SharedPool.{MayTake, chunk_of, fresh_party, resized, return_entry, with_entries};
-ghost use Rattle.bb_memory.specs.SharedPoolRule.{IsSeatOfIdle, all_parties};
+ghost use Rattle.bb_memory.specs.Seats.{HasRoomFor, Stays, number_of, view_log};
+ghost use Rattle.bb_memory.specs.SharedPool.{AreAllHeldAfter, AreFresh, AreInterleaved, HaveMet, IsInterleaved, IsParty};
+ghost use Rattle.bb_memory.specs.SharedPool.{IsSharedScene, MayTake, chunk_of, resized, return_entry, with_entries};
+ghost use Rattle.bb_memory.specs.SharedPoolRule.{IsIdleAt, StandsForAll};
 ghost use Rattle.bb_memory.specs.SharedPoolSteps.{HasRefused, HasTaken};
 
 use super::bucket::Bucket;
@@ -54,12 +54,7 @@ impl<const CAPPED: usize, const MOST: usize> SharedBucketPool<CAPPED, MOST> {
     ) -> Result<(Self, Vec<PoolParty>), AllocError>
         requires parties { 1 ≤ parties }
         ensures geometry { IfOk result (λ made. made.0.scene.geometry ≡ geometry) }
-        ensures parties { IfOk result (λ made. made.0.scene.parties ≡ parties) }
-        ensures as_many { IfOk result (λ made. length made.1.items ≡ parties) }
-        ensures fresh { IfOk result (λ made. (number : ℕ) → number < parties
-            → slice_get made.1.items number ≡ Some (fresh_party made.0 number)) }
-        ensures theirs { IfOk result (λ made.
-            All (λ party. party.allocator ≡ made.0) made.1.items) }
+        ensures parties { IfOk result (λ made. AreFresh made.0 parties made.1.items) }
     {
         let mut all = Vec::with_capacity(alloc, parties as usize)?;
         let scene = Scene { geometry, parties };
@@ -71,15 +66,9 @@ impl<const CAPPED: usize, const MOST: usize> SharedBucketPool<CAPPED, MOST> {
 
     /// Gives each party a seat of its own.
     fn seat_parties(&self, mut rest: Seat<u8, View>, parties: u32, all: &mut Vec<PoolParty>)
-        requires table { rest.table_id ≡ self.now.table }
-        requires seat { rest.me ≡ (all_parties self.now.scene, []) }
-        requires parties { parties ≡ self.now.scene.parties }
-        requires empty { all.old.items ≡ [] }
-        requires room { (vec_len all.old ≡ 0) × (parties ≤ vec_capacity all.old) }
-        ensures as_many { length all.new.items ≡ parties }
-        ensures fresh { (number : ℕ) → number < parties
-            → slice_get all.new.items number ≡ Some (fresh_party self.now number) }
-        ensures theirs { All (λ party. party.allocator ≡ self.now) all.new.items }
+        requires seat { StandsForAll self.now parties rest.table_id rest.me }
+        requires room { HasRoomFor parties all.old.items (vec_len all.old) (vec_capacity all.old) }
+        ensures { AreFresh self.now parties all.new.items }
     {
         for number in 0..parties {
             let seat = self.flags.deal(&mut rest);
@@ -90,15 +79,12 @@ impl<const CAPPED: usize, const MOST: usize> SharedBucketPool<CAPPED, MOST> {
 
     /// One whole pass: an exchange on each flag from bucket 0 up, until one is taken.
     fn pass(&self, seat: &mut Seat<u8, View>) -> Option<u32>
-        requires table { seat.old.table_id ≡ self.now.table }
-        requires seat { IsSeatOfIdle self.now.scene (number_of seat.old.me.0)
-            (view_log seat.old.me.0) seat.old.me }
-        ensures table { seat.new.table_id ≡ seat.old.table_id }
-        ensures pass { MatchOption result
+        requires { IsIdleAt self.now seat.old.table_id seat.old.me }
+        ensures { Stays seat.old.table_id seat.new.table_id (MatchOption result
             (HasRefused self.now.scene (number_of seat.old.me.0) (view_log seat.old.me.0)
             seat.new.me)
             (HasTaken self.now.scene (number_of seat.old.me.0) (view_log seat.old.me.0)
-            seat.new.me) }
+            seat.new.me)) }
     {
         for bucket in 0..self.number_of_buckets() {
             if self.flags.try_flag(seat, bucket) {

@@ -3,10 +3,10 @@ ghost use Rattle.std.specs.Prelude.{◌≡◌, ℕ, ◌<◌, ◌↔◌, ◌%◌,
 ghost use Rattle.bb_memory_base.specs.Chunk.{IsInside};
 ghost use Rattle.bb_memory_base.specs.PoolObject.{IsWithin};
 ghost use Rattle.bb_memory_base.specs.PoolLogs.{IsHeldAfter};
-ghost use Rattle.bb_memory.specs.Seats.{number_of, view_log};
+ghost use Rattle.bb_memory.specs.Seats.{Stays, number_of, view_log};
 ghost use Rattle.bb_memory.specs.SharedPool.{AreAllHeldAfter, IsInterleaved, IsParty, chunk_of};
 ghost use Rattle.bb_memory.specs.SharedPoolRounds.{MayTakeAt, MayTakeFrom, at_turn};
-ghost use Rattle.bb_memory.specs.SharedPoolRule.{IsSeatOfIdle};
+ghost use Rattle.bb_memory.specs.SharedPoolRule.{IsIdleAt};
 ghost use Rattle.bb_memory.specs.SharedPoolSteps.{HasRefusedFrom, HasTakenFrom};
 
 use super::bucket::Bucket;
@@ -43,15 +43,12 @@ fn at_turn(buckets: u32, first: u32, turn: u32) -> u32
 impl<const CAPPED: usize, const MOST: usize> SharedBucketPool<CAPPED, MOST> {
     /// One whole round: an exchange on each flag from bucket `first` up, and then on those below it, until one is taken.
     fn round(&self, seat: &mut Seat<u8, View>, first: u32) -> Option<u32>
-        requires table { seat.old.table_id ≡ self.now.table }
-        requires seat { IsSeatOfIdle self.now.scene (number_of seat.old.me.0)
-            (view_log seat.old.me.0) seat.old.me }
-        ensures table { seat.new.table_id ≡ seat.old.table_id }
-        ensures round { MatchOption result
+        requires { IsIdleAt self.now seat.old.table_id seat.old.me }
+        ensures { Stays seat.old.table_id seat.new.table_id (MatchOption result
             (HasRefusedFrom self.now.scene (number_of seat.old.me.0) (view_log seat.old.me.0)
             first seat.new.me)
             (HasTakenFrom self.now.scene (number_of seat.old.me.0) (view_log seat.old.me.0)
-            first seat.new.me) }
+            first seat.new.me)) }
     {
         let count = self.number_of_buckets();
         for turn in 0..count {

@@ -11,7 +11,7 @@ use Rattle.bb_memory.proofs.SharedBumpParties.{party_seat}
 use Rattle.bb_memory.proofs.shared_bump.SharedBumpAllocator.seat_parties.Goals as goal
 
 pub deal-seat-requires : goal.deal-seat-requires
-deal-seat-requires c = record { table = c.loop-number.invariant.table ∙ sym (ap (λ (b : SharedBump). b.table) c.self.view_is) }
+deal-seat-requires c = c.loop-number.invariant.table ∙ sym (ap (λ (b : SharedBump). b.table) c.self.view_is)
 
 pub invariant_of-push_reserved : goal.invariant_of-push_reserved
 invariant_of-push_reserved c =
@@ -25,7 +25,7 @@ invariant_of-push_reserved c =
       seat = record { is = seated ∙ λ i. (alone (sight scene (met_by (sym seated i).0)) number [], []); interleaved = record { steps = []; allowed = none_allowed; leaves = refl; logged = refl } };
       idle = refl;
     }
-    (omega (arith, c.requires.parties))
+    (omega (arith, c.requires.seat.parties))
     (subst IsSharedScene (ap (λ (b : SharedBump). b.scene) c.self.view_is) c.self.invariant.shared)
     (omega (arith, ap (λ (m : Me ℕ SeatView). met_by m.0) seated))
 

@@ -14,14 +14,14 @@ returns-in-Some-clause-still_held g c other held =
     let before = rw (← c.party.view_is) at held in
     let me = c.party.inside.seat.me in
     still_held_from c.args.self.now.scene (number_of me.0) (view_log me.0) c.args.first c.round.new.seat.me c.round.result other
-    c.round.ensures.round before
+    c.round.ensures.step before
 
 pub returns-in-None-clause-still_held : goal.returns-in-None-clause-still_held
 returns-in-None-clause-still_held g c other held =
     let before = rw (← c.party.view_is) at held in
     let me = c.party.inside.seat.me in
     still_held_from c.args.self.now.scene (number_of me.0) (view_log me.0) c.args.first c.round.new.seat.me c.round.result other
-    c.round.ensures.round before
+    c.round.ensures.step before
 
 pub returns-in-Some-clause-inside : goal.returns-in-Some-clause-inside
 returns-in-Some-clause-inside g c =
@@ -32,7 +32,7 @@ returns-in-Some-clause-inside g c =
     ∙ ap (λ (p : SharedPool). p.scene.geometry.bucket) c.self.view_is in
     let size = ap (λ (l : Layout). l.size) bucket in
     rw c.self.view_is
-    (bucket-inside scene.geometry c.in-Some.number c.size-in-Some.result geometry c.in-Some.ensures.round.below (omega arith))
+    (bucket-inside scene.geometry c.in-Some.number c.size-in-Some.result geometry c.in-Some.ensures.step.below (omega arith))
 
 pub returns-in-Some-clause-aligned : goal.returns-in-Some-clause-aligned
 returns-in-Some-clause-aligned g c =

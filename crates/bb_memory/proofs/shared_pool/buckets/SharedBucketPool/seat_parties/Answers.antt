@@ -10,7 +10,7 @@ use Rattle.bb_memory.proofs.SharedPoolParties.{no_step, party_seat}
 use Rattle.bb_memory.proofs.shared_pool.buckets.SharedBucketPool.seat_parties.Goals as goal
 
 pub deal-seat-requires : goal.deal-seat-requires
-deal-seat-requires g c = record { table = c.loop-number.invariant.table ∙ sym (ap (λ (p : SharedPool). p.table) c.self.view_is) }
+deal-seat-requires g c = c.loop-number.invariant.table ∙ sym (ap (λ (p : SharedPool). p.table) c.self.view_is)
 
 pub invariant_of-push_reserved : goal.invariant_of-push_reserved
 invariant_of-push_reserved g c =
@@ -20,7 +20,7 @@ invariant_of-push_reserved g c =
     ∙ ap (λ (parties : List NumberedLog). (standing_for scene parties, [])) (fresh_more number c.args.parties (omega arith)) in
     let seated = c.deal-seat.ensures.first ∙ ap (λ (m : Me ℕ SeatView). (first_of m.0, [])) is in
     party_seat scene number [] c.deal-seat.result.me (no_step scene number c.deal-seat.result.me seated)
-    (omega (arith, c.requires.parties))
+    (omega (arith, c.requires.seat.parties))
     (subst (λ (p : SharedPool). IsSharedScene p.scene) c.self.view_is c.self.invariant.shared)
 
 pub loop-number-preserved : goal.loop-number-preserved
