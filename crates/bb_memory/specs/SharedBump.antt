@@ -159,6 +159,22 @@ pub record IsParty (party : BumpParty) : Type 0 where
   pub interleaved : IsInterleaved party
   pub met : party.met ≤ party.allocator.scene.region.size
 
+-- a party before a call and after it: it has its number still, and what holds of every party holds of it
+pub record IsSameParty (old new : BumpParty) : Type 0 where
+  pub number : new.number ≡ old.number
+  pub is_party : IsParty new
+
+-- One load of the party's found this position: it is at least what the party had seen, and its floor, and at most the size; and
+-- exactly what it had seen where it is the only one.
+pub record HasLoaded (bump : SharedBump) (old : BumpParty) (found : ℕ) (new : BumpParty) : Type 0 where
+  pub logged : new ≡ with_entries old (load_entry old.number found)
+  pub number : new.number ≡ old.number
+  pub is_party : IsParty new
+  pub seen : seen_by old ≤ found
+  pub floor : floor_of old ≤ found
+  pub within : found ≤ bump.scene.region.size
+  pub alone : bump.scene.parties ≡ 1 → found ≡ seen_by old
+
 -- one interleaving has the logs of both parties
 abbrev pub AreInterleaved : BumpParty → BumpParty → Type 0
 AreInterleaved a b =

@@ -10,8 +10,8 @@ ghost use Rattle.bb_memory_base.specs.BumpCalls.{IsCallRun, OpensWith, calls_of,
 ghost use Rattle.bb_memory_base.specs.BumpLogs.{CommonInterleaving, Interleaving};
 ghost use Rattle.bb_memory.specs.Seats.{HasRoomFor};
 ghost use Rattle.bb_memory.specs.SharedBump.{AgreeAt, AreFresh, AreInterleaved, BumpParty, HasChunksWithin, HaveChunksApart};
-ghost use Rattle.bb_memory.specs.SharedBump.{HaveMet, IsAnsweredAt, IsFoundBy, IsInterleaved, IsParty, IsSharedScene, MayTake};
-ghost use Rattle.bb_memory.specs.SharedBump.{floor_of, greatest_seen, load_entry, meeting_at, scene_at, seen_by};
+ghost use Rattle.bb_memory.specs.SharedBump.{HasLoaded, HaveMet, IsAnsweredAt, IsFoundBy, IsParty, IsSameParty, IsSharedScene, MayTake};
+ghost use Rattle.bb_memory.specs.SharedBump.{floor_of, greatest_seen, meeting_at, scene_at, seen_by};
 ghost use Rattle.bb_memory.specs.SharedBump.{with_entries};
 ghost use Rattle.bb_memory.specs.SharedBumpRule.{StandsForAll};
 
@@ -121,9 +121,7 @@ impl SharedBumpAllocator {
         // The party stays this allocator's, and some interleaving has its log. So what `shared_bump_law`
         // says holds of it.
         ensures party { party.new.allocator ≡ self.now }
-        ensures number { party.new.number ≡ party.old.number }
-        ensures interleaved { IsInterleaved party.new }
-        ensures is_party { IsParty party.new }
+        ensures is_party { IsSameParty party.old party.new }
 
         // The chunk is the one that the log has won since; a refusal wins none.
         ensures won { IfOk result (λ chunk.
@@ -215,15 +213,8 @@ impl SharedBumpAllocator {
     /// one load found. The party has to be this bump's.
     pub fn used_space(&self, party: &mut BumpParty) -> usize
         requires party { party.old.allocator ≡ self.now }
-        ensures logged { party.new ≡ with_entries party.old (load_entry party.old.number result) }
         ensures party { party.new.allocator ≡ self.now }
-        ensures number { party.new.number ≡ party.old.number }
-        ensures interleaved { IsInterleaved party.new }
-        ensures is_party { IsParty party.new }
-        ensures seen { seen_by party.old ≤ result }
-        ensures floor { floor_of party.old ≤ result }
-        ensures within { result ≤ self.now.scene.region.size }
-        ensures alone { self.now.scene.parties ≡ 1 → result ≡ seen_by party.old }
+        ensures loaded { HasLoaded self.now party.old result party.new }
     {
         self.position.load(&mut party.seat)
     }
@@ -231,17 +222,10 @@ impl SharedBumpAllocator {
     /// How many bytes are behind the last chunk: the total less what one load found to be used. The party has to be this bump's.
     pub fn free_space(&self, party: &mut BumpParty) -> usize
         requires party { party.old.allocator ≡ self.now }
-        ensures logged { let used = self.now.scene.region.size - result in
-            party.new ≡ with_entries party.old (load_entry party.old.number used) }
         ensures party { party.new.allocator ≡ self.now }
-        ensures number { party.new.number ≡ party.old.number }
-        ensures interleaved { IsInterleaved party.new }
-        ensures is_party { IsParty party.new }
-        ensures seen { seen_by party.old ≤ self.now.scene.region.size - result }
-        ensures floor { floor_of party.old ≤ self.now.scene.region.size - result }
+        ensures loaded { let used = self.now.scene.region.size - result in
+            HasLoaded self.now party.old used party.new }
         ensures within { result ≤ self.now.scene.region.size }
-        ensures alone { self.now.scene.parties ≡ 1
-            → self.now.scene.region.size - result ≡ seen_by party.old }
     {
         self.size - self.used_space(party)
     }

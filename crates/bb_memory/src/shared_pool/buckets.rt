@@ -1,13 +1,13 @@
 //! What the shared pools are: buckets with a flag each, on which any number of threads step.
 ghost use Rattle.std.specs.Prelude.{◌≡◌, ◌≢◌, ℕ, ◌≤◌, ◌↔◌, ◌%◌, All, IsErr, IfOk};
-ghost use Rattle.std.specs.Prelude.{MatchOption, OnErr, vec_capacity, vec_len};
+ghost use Rattle.std.specs.Prelude.{MatchOption, vec_capacity, vec_len};
 ghost use Rattle.bb_memory_base.specs.Region.{IsRegion};
 ghost use Rattle.bb_memory_base.specs.Chunk.{Chunk, IsInside};
 ghost use Rattle.bb_memory_base.specs.PoolObject.{IsWithin, MayGrow, MayShrink};
 ghost use Rattle.bb_memory_base.specs.PoolLogs.{IsHeldAfter};
 ghost use Rattle.bb_memory.specs.Seats.{HasRoomFor, Stays, number_of, view_log};
-ghost use Rattle.bb_memory.specs.SharedPool.{AreAllHeldAfter, AreFresh, AreInterleaved, HaveMet, IsInterleaved, IsParty};
-ghost use Rattle.bb_memory.specs.SharedPool.{IsSharedScene, MayTake, chunk_of, resized, return_entry, with_entries};
+ghost use Rattle.bb_memory.specs.SharedPool.{AreAllHeldAfter, AreFresh, AreInterleaved, HaveMet, IsResizedTo};
+ghost use Rattle.bb_memory.specs.SharedPool.{IsSameParty, IsSharedScene, MayTake, chunk_of, return_entry, with_entries};
 ghost use Rattle.bb_memory.specs.SharedPoolRule.{IsIdleAt, StandsForAll};
 ghost use Rattle.bb_memory.specs.SharedPoolSteps.{HasRefused, HasTaken};
 
@@ -107,10 +107,8 @@ impl<const CAPPED: usize, const MOST: usize> SharedBucketPool<CAPPED, MOST> {
         requires party { party.old.allocator ≡ self.now }
         ensures answer { MayTake party.old layout result party.new }
         ensures party { party.new.allocator ≡ self.now }
-        ensures number { party.new.number ≡ party.old.number }
+        ensures is_party { IsSameParty party.old party.new }
         ensures bucket { IfOk result (λ bucket. bucket.allocator ≡ self.now) }
-        ensures interleaved { IsInterleaved party.new }
-        ensures is_party { IsParty party.new }
 
         // What is held after the party's log.
         ensures held { IfOk result (λ bucket. IsHeldAfter party.new.log bucket.number) }
@@ -153,9 +151,7 @@ impl<const CAPPED: usize, const MOST: usize> SharedBucketPool<CAPPED, MOST> {
         ensures logged { party.new
             ≡ with_entries party.old (return_entry party.old.number bucket.entry.number) }
         ensures party { party.new.allocator ≡ self.now }
-        ensures number { party.new.number ≡ party.old.number }
-        ensures interleaved { IsInterleaved party.new }
-        ensures is_party { IsParty party.new }
+        ensures is_party { IsSameParty party.old party.new }
         ensures given_back { ¬ IsHeldAfter party.new.log bucket.entry.number }
         ensures still_held { (other : ℕ) → other ≢ bucket.entry.number
             → IsHeldAfter party.old.log other → IsHeldAfter party.new.log other }
@@ -216,10 +212,7 @@ impl<const CAPPED: usize, const MOST: usize> SharedBucketPool<CAPPED, MOST> {
         requires aligned { (chunk_of bucket.old).place % old.align ≡ 0 }
         ensures answer { MayGrow self.now.scene.geometry.bucket (chunk_of bucket.old).place
             old new result }
-        ensures resized { IfOk result (λ grown. bucket.new ≡ resized bucket.old grown.len) }
-        ensures chunk { IfOk result (λ grown. chunk_of bucket.new ≡ grown) }
-        ensures inside { IfOk result (IsInside self.now.scene.geometry.region) }
-        ensures kept { OnErr result (bucket.new ≡ bucket.old) }
+        ensures resized { IsResizedTo self.now bucket.old result bucket.new }
     {
         let place = bucket.chunk().place();
         let grown = self.flags.geometry().grow(place, old, new)?;
@@ -243,10 +236,7 @@ impl<const CAPPED: usize, const MOST: usize> SharedBucketPool<CAPPED, MOST> {
         requires reserved { old.size ≤ self.now.scene.geometry.bucket.size }
         ensures answer { MayShrink self.now.scene.geometry.bucket (chunk_of bucket.old).place
             old new result }
-        ensures resized { IfOk result (λ shrunk. bucket.new ≡ resized bucket.old shrunk.len) }
-        ensures chunk { IfOk result (λ shrunk. chunk_of bucket.new ≡ shrunk) }
-        ensures inside { IfOk result (IsInside self.now.scene.geometry.region) }
-        ensures kept { OnErr result (bucket.new ≡ bucket.old) }
+        ensures resized { IsResizedTo self.now bucket.old result bucket.new }
     {
         let place = bucket.chunk().place();
         let shrunk = self.flags.geometry().shrink(place, old, new)?;

@@ -1,10 +1,9 @@
 //! Takings that don't begin at bucket 0: of a bucket of the caller's choice, and of the first free one from a bucket on.
-ghost use Rattle.std.specs.Prelude.{◌≡◌, ℕ, ◌<◌, ◌↔◌, ◌%◌, IsErr, IfOk, MatchOption};
-ghost use Rattle.bb_memory_base.specs.Chunk.{IsInside};
+ghost use Rattle.std.specs.Prelude.{◌≡◌, ℕ, ◌<◌, ◌↔◌, IsErr, IfOk, MatchOption};
 ghost use Rattle.bb_memory_base.specs.PoolObject.{IsWithin};
 ghost use Rattle.bb_memory_base.specs.PoolLogs.{IsHeldAfter};
 ghost use Rattle.bb_memory.specs.Seats.{Stays, number_of, view_log};
-ghost use Rattle.bb_memory.specs.SharedPool.{AreAllHeldAfter, IsInterleaved, IsParty, chunk_of};
+ghost use Rattle.bb_memory.specs.SharedPool.{Serves, ServesRound};
 ghost use Rattle.bb_memory.specs.SharedPoolRounds.{MayTakeAt, MayTakeFrom, at_turn};
 ghost use Rattle.bb_memory.specs.SharedPoolRule.{IsIdleAt};
 ghost use Rattle.bb_memory.specs.SharedPoolSteps.{HasRefusedFrom, HasTakenFrom};
@@ -73,24 +72,11 @@ impl<const CAPPED: usize, const MOST: usize> SharedBucketPool<CAPPED, MOST> {
         requires party { party.old.allocator ≡ self.now }
         ensures answer { MayTakeAt number party.old layout result party.new }
         ensures party { party.new.allocator ≡ self.now }
-        ensures number { party.new.number ≡ party.old.number }
         ensures bucket { IfOk result (λ bucket. bucket.allocator ≡ self.now) }
-        ensures interleaved { IsInterleaved party.new }
-        ensures is_party { IsParty party.new }
-
-        // What is held after the party's log.
-        ensures held { IfOk result (λ bucket. IsHeldAfter party.new.log bucket.number) }
-        ensures still_held { (other : ℕ) → IsHeldAfter party.old.log other
-            → IsHeldAfter party.new.log other }
+        ensures serves { Serves self.now party.old layout result party.new }
         ensures alone { self.now.scene.parties ≡ 1 → IsWithin self.now.scene.geometry.bucket layout
             → number < self.now.scene.geometry.buckets
             → (IsErr result ↔ IsHeldAfter party.old.log number) }
-
-        // The chunk in the bucket.
-        ensures inside { IfOk result (λ bucket.
-            IsInside self.now.scene.geometry.region (chunk_of bucket)) }
-        ensures aligned { IfOk result (λ bucket. (chunk_of bucket).place % layout.align ≡ 0) }
-        ensures exact_size { IfOk result (λ bucket. (chunk_of bucket).len ≡ layout.size) }
     {
         // What holds of the party is known from here on, also where no step is made.
         let _ = &party.number;
@@ -125,23 +111,8 @@ impl<const CAPPED: usize, const MOST: usize> SharedBucketPool<CAPPED, MOST> {
         requires party { party.old.allocator ≡ self.now }
         ensures answer { MayTakeFrom first party.old layout result party.new }
         ensures party { party.new.allocator ≡ self.now }
-        ensures number { party.new.number ≡ party.old.number }
         ensures bucket { IfOk result (λ bucket. bucket.allocator ≡ self.now) }
-        ensures interleaved { IsInterleaved party.new }
-        ensures is_party { IsParty party.new }
-
-        // What is held after the party's log.
-        ensures held { IfOk result (λ bucket. IsHeldAfter party.new.log bucket.number) }
-        ensures still_held { (other : ℕ) → IsHeldAfter party.old.log other
-            → IsHeldAfter party.new.log other }
-        ensures alone { self.now.scene.parties ≡ 1 → IsWithin self.now.scene.geometry.bucket layout
-            → (IsErr result ↔ AreAllHeldAfter party.old.log self.now.scene.geometry.buckets) }
-
-        // The chunk in the bucket.
-        ensures inside { IfOk result (λ bucket.
-            IsInside self.now.scene.geometry.region (chunk_of bucket)) }
-        ensures aligned { IfOk result (λ bucket. (chunk_of bucket).place % layout.align ≡ 0) }
-        ensures exact_size { IfOk result (λ bucket. (chunk_of bucket).len ≡ layout.size) }
+        ensures serves { ServesRound self.now party.old layout result party.new }
     {
         // What holds of the party is known from here on, also where no step is made.
         let _ = &party.number;
@@ -176,23 +147,8 @@ impl<const CAPPED: usize, const MOST: usize> SharedBucketPool<CAPPED, MOST> {
         requires party { party.old.allocator ≡ self.now }
         ensures answer { (first : ℕ) × MayTakeFrom first party.old layout result party.new }
         ensures party { party.new.allocator ≡ self.now }
-        ensures number { party.new.number ≡ party.old.number }
         ensures bucket { IfOk result (λ bucket. bucket.allocator ≡ self.now) }
-        ensures interleaved { IsInterleaved party.new }
-        ensures is_party { IsParty party.new }
-
-        // What is held after the party's log.
-        ensures held { IfOk result (λ bucket. IsHeldAfter party.new.log bucket.number) }
-        ensures still_held { (other : ℕ) → IsHeldAfter party.old.log other
-            → IsHeldAfter party.new.log other }
-        ensures alone { self.now.scene.parties ≡ 1 → IsWithin self.now.scene.geometry.bucket layout
-            → (IsErr result ↔ AreAllHeldAfter party.old.log self.now.scene.geometry.buckets) }
-
-        // The chunk in the bucket.
-        ensures inside { IfOk result (λ bucket.
-            IsInside self.now.scene.geometry.region (chunk_of bucket)) }
-        ensures aligned { IfOk result (λ bucket. (chunk_of bucket).place % layout.align ≡ 0) }
-        ensures exact_size { IfOk result (λ bucket. (chunk_of bucket).len ≡ layout.size) }
+        ensures serves { ServesRound self.now party.old layout result party.new }
     {
         let first = party.near;
         self.allocate_from(party, layout, first)
