@@ -1,5 +1,6 @@
 -- Seats of a table that threads share: which parties each stands for, with their logs, and that each party stands in one.
-use Rattle.std.specs.Prelude.{◌≡◌, ℕ, zero, suc, ◌+◌, ◌<◌, ◌≤◌, ◌==◌, Bool, true, false, List, [], ◌∷◌, ◌++◌, Some, slice_get}
+use Rattle.std.specs.Prelude.{◌≡◌, ℕ, zero, suc, ◌+◌, ◌<◌, ◌≤◌, ◌==◌, Bool, true, false, List, [], ◌∷◌, ◌++◌, Some, slice_get, vec_len, vec_capacity}
+use Rattle.std.specs.declared.vec.Vec.{Vec}
 use mathlib.Core.Option.{some}
 use lib.ListN.{get_elem?}
 use Rattle.atomic_table.specs.Seated.{TableId}
@@ -122,6 +123,12 @@ pub record MayGather {V : Type 0} (whose here there : TableId) (other : Me ℕ V
   pub guest : other.1 ≡ []
 
 -- a vector is empty, and has room for so many elements
-pub record HasRoomFor {T : Type 0} (count : ℕ) (items : List T) (len capacity : ℕ) : Type 0 where
-  pub empty : items ≡ []
-  pub room : (len ≡ 0) × (count ≤ capacity)
+pub record HasRoomFor {T Z : Type 0} (count : ℕ) (all : Vec T Z) : Type 0 where
+  pub empty : all.items ≡ []
+  pub room : (vec_len all ≡ 0) × (count ≤ vec_capacity all)
+
+-- a vector has these elements now, as many as before, and its room
+pub record HasNow {T Z : Type 0} (elements : List T) (old new : Vec T Z) : Type 0 where
+  pub items : new.items ≡ elements
+  pub len : vec_len new ≡ vec_len old
+  pub capacity : vec_capacity new ≡ vec_capacity old

@@ -1,5 +1,5 @@
 -- A shared bump and its parties, as their contracts see them, and what each call adds to its party's log.
-use Rattle.std.specs.Prelude.{◌≡◌, ℕ, ◌+◌, ◌<◌, ◌≤◌, true, false, List, [], ◌∷◌, ◌++◌, None, Result, Ok, Err, All}
+use Rattle.std.specs.Prelude.{◌≡◌, ◌≢◌, ℕ, ◌+◌, ◌<◌, ◌≤◌, true, false, List, [], ◌∷◌, ◌++◌, None, Result, Ok, Err, All}
 use Rattle.std.specs.Prelude.{Contains, Some, length, map, max, slice_get}
 use Rattle.atomic_table.specs.Seated.{TableId}
 use Rattle.bb_memory_base.specs.Region.{Region}
@@ -175,10 +175,24 @@ pub record HasLoaded (bump : SharedBump) (old : BumpParty) (found : ℕ) (new : 
   pub within : found ≤ bump.scene.region.size
   pub alone : bump.scene.parties ≡ 1 → found ≡ seen_by old
 
+-- both parties are this bump's
+pub record AreBothOf (allocator : SharedBump) (one other : BumpParty) : Type 0 where
+  pub a : one.allocator ≡ allocator
+  pub b : other.allocator ≡ allocator
+
 -- one interleaving has the logs of both parties
 abbrev pub AreInterleaved : BumpParty → BumpParty → Type 0
 AreInterleaved a b =
     (position : ℕ) × CommonInterleaving a.allocator.scene a.number a.log b.number b.log position
+
+-- Two parties met where this position was found: it is at least what either knew, at most the size, and what an interleaving of
+-- both logs leaves.
+pub record MeetAt (bump : SharedBump) (a b : BumpParty) (found : ℕ) : Type 0 where
+  pub differ : a.number ≢ b.number
+  pub interleaved : AreInterleaved a b
+  pub risen : (floor_of a ≤ found) × (floor_of b ≤ found)
+  pub within : found ≤ bump.scene.region.size
+  pub leaves : CommonInterleaving bump.scene a.number a.log b.number b.log found
 
 -- no chunk that was won in the one log overlaps one of the other
 abbrev pub HaveChunksApart : BumpLog → BumpLog → Type 0

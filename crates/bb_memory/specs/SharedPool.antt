@@ -151,6 +151,7 @@ pub record IsSameParty (old new : PoolParty) : Type 0 where
 -- the bucket lies.
 pub record Serves (pool : SharedPool) (old : PoolParty) (layout : Layout) (answer : Result TakenBucket AllocationError)
     (new : PoolParty) : Type 0 where
+  pub bucket : IfOk answer (λ bucket. bucket.allocator ≡ pool)
   pub number : new.number ≡ old.number
   pub is_party : IsParty new
   pub held : IfOk answer (λ bucket. IsHeldAfter new.log bucket.number)
@@ -165,6 +166,11 @@ pub record ServesRound (pool : SharedPool) (old : PoolParty) (layout : Layout) (
   pub serves : Serves pool old layout answer new
   pub alone : pool.scene.parties ≡ 1 → IsWithin pool.scene.geometry.bucket layout →
       (IsErr answer ↔ AreAllHeldAfter old.log pool.scene.geometry.buckets)
+
+-- a bucket of this pool, at a multiple of the layout's alignment
+pub record IsAlignedTo (pool : SharedPool) (layout : Layout) (bucket : TakenBucket) : Type 0 where
+  pub allocator : bucket.allocator ≡ pool
+  pub aligned : (chunk_of bucket).place % layout.align ≡ 0
 
 -- what a resize of a bucket's chunk says of the bucket
 pub record IsResizedTo {E : Type 0} (pool : SharedPool) (old : TakenBucket) (answer : Result Chunk E) (new : TakenBucket)
@@ -185,6 +191,11 @@ pub record HasFoundAllHeld (party : PoolParty) (is : IsParty party) (beginning :
       IsRefusedAt history party.number last
   pub found : (bucket : ℕ) → bucket < party.allocator.scene.geometry.buckets →
       FoundHeld party.allocator.scene is.interleaved.steps party.number last bucket
+
+-- both parties are this pool's
+pub record AreBothOf (allocator : SharedPool) (one other : PoolParty) : Type 0 where
+  pub a : one.allocator ≡ allocator
+  pub b : other.allocator ≡ allocator
 
 -- one interleaving has the logs of both parties
 abbrev pub AreInterleaved : PoolParty → PoolParty → Type 0

@@ -1,16 +1,16 @@
 //! The bump that threads share: its word is the position, and each thread steps with a party of its own.
 ghost use Rattle.std.specs.Prelude.{◌≡◌, ◌≢◌, ◌+◌, ◌-◌, ◌≤◌, ◌%◌, ◌∷◌, ◌++◌, [], List, All, IfOk};
-ghost use Rattle.std.specs.Prelude.{OnErr, length, vec_len, vec_capacity, Contains};
+ghost use Rattle.std.specs.Prelude.{OnErr, length, Contains};
 ghost use Rattle.bb_memory_base.specs.Region.{IsRegion, region_at};
 ghost use Rattle.bb_memory_base.specs.Chunk.{AreApart, Chunk, IsInside};
 ghost use Rattle.bb_memory_base.specs.LiveList.{IsSound};
 ghost use Rattle.bb_memory_base.specs.BumpObject.{StandsFor};
 ghost use Rattle.bb_memory_base.specs.BumpHistory.{BumpLog, chunks_won, history_of, losses_in};
 ghost use Rattle.bb_memory_base.specs.BumpCalls.{IsCallRun, OpensWith, calls_of, live_after};
-ghost use Rattle.bb_memory_base.specs.BumpLogs.{CommonInterleaving, Interleaving};
+ghost use Rattle.bb_memory_base.specs.BumpLogs.{Interleaving};
 ghost use Rattle.bb_memory.specs.Seats.{HasRoomFor};
-ghost use Rattle.bb_memory.specs.SharedBump.{AgreeAt, AreFresh, AreInterleaved, BumpParty, HasChunksWithin, HaveChunksApart};
-ghost use Rattle.bb_memory.specs.SharedBump.{HasLoaded, HaveMet, IsAnsweredAt, IsFoundBy, IsParty, IsSameParty, IsSharedScene, MayTake};
+ghost use Rattle.bb_memory.specs.SharedBump.{AgreeAt, AreBothOf, AreFresh, AreInterleaved, BumpParty, HasChunksWithin, HaveChunksApart};
+ghost use Rattle.bb_memory.specs.SharedBump.{HasLoaded, HaveMet, IsAnsweredAt, IsFoundBy, IsParty, IsSameParty, IsSharedScene, MayTake, MeetAt};
 ghost use Rattle.bb_memory.specs.SharedBump.{floor_of, greatest_seen, meeting_at, scene_at, seen_by};
 ghost use Rattle.bb_memory.specs.SharedBump.{with_entries};
 ghost use Rattle.bb_memory.specs.SharedBumpRule.{StandsForAll};
@@ -82,8 +82,7 @@ impl SharedBumpAllocator {
         parties: u32,
     ) -> Result<(SharedBumpAllocator, Vec<BumpParty>), AllocError>
         requires region { IsRegion (region_at start size) }
-        requires position { position ≤ size }
-        requires parties { 1 ≤ parties }
+        requires scene { IsSharedScene (scene_at (region_at start size) position parties) }
         ensures scene { IfOk result (λ made.
             made.0.scene ≡ scene_at (region_at start size) position parties) }
         ensures parties { IfOk result (λ made. AreFresh made.0 parties made.1.items) }
@@ -162,21 +161,14 @@ impl SharedBumpAllocator {
     /// Two parties meet: no chunk of the one overlaps one of the other. It loads a word four times, which is in no log. What it
     /// finds raises the floor of both, and nothing else changes. The parties have to be this bump's.
     pub fn meet(&self, a: &mut BumpParty, b: &mut BumpParty)
-        requires a { a.old.allocator ≡ self.now }
-        requires b { b.old.allocator ≡ self.now }
+        requires parties { AreBothOf self.now a.old b.old }
         ensures kept { (a.new ≡ meeting_at a.new.met a.old) × (b.new ≡ meeting_at a.new.met b.old) }
-        ensures a { a.new.allocator ≡ self.now }
-        ensures b { b.new.allocator ≡ self.now }
-        ensures differ { a.old.number ≢ b.old.number }
+        ensures parties { AreBothOf self.now a.new b.new }
         ensures apart { HaveChunksApart a.old.log b.old.log }
-        ensures interleaved { AreInterleaved a.old b.old }
 
         // What it found is at least what either knew, at most the size, and what an interleaving of
         // both logs leaves.
-        ensures risen { (floor_of a.old ≤ a.new.met) × (floor_of b.old ≤ a.new.met) }
-        ensures within { a.new.met ≤ self.now.scene.region.size }
-        ensures leaves { CommonInterleaving self.now.scene
-            a.old.number a.old.log b.old.number b.old.log a.new.met }
+        ensures met { MeetAt self.now a.old b.old a.new.met }
 
         // Each chunk of either ends there or before.
         ensures behind { let region = self.now.scene.region in
@@ -297,7 +289,7 @@ impl SharedBumpAllocator {
     /// Gives each party a seat of its own.
     fn seat_parties(&self, mut rest: Seat<u8, View>, parties: u32, all: &mut Vec<BumpParty>)
         requires seat { StandsForAll self.now parties rest.table_id rest.me }
-        requires room { HasRoomFor parties all.old.items (vec_len all.old) (vec_capacity all.old) }
+        requires room { HasRoomFor parties all.old }
         ensures { AreFresh self.now parties all.new.items }
     {
         for number in 0..parties {

@@ -1,6 +1,6 @@
 //! Any number of parties at one seat.
-ghost use Rattle.std.specs.Prelude.{◌≡◌, ◌≤◌, ◌++◌, [], All, map, vec_len, vec_capacity};
-ghost use Rattle.bb_memory.specs.Seats.{Stays, standing_for};
+ghost use Rattle.std.specs.Prelude.{◌≡◌, ◌≤◌, ◌++◌, [], All, map};
+ghost use Rattle.bb_memory.specs.Seats.{HasNow, Stays, standing_for};
 ghost use Rattle.bb_memory.specs.SharedBump.{meeting_at};
 ghost use Rattle.bb_memory.specs.SharedBumpRule.{StandsAt, met_by, numbered_of, sight};
 ghost use Rattle.bb_memory.specs.SharedBumpSteps.{HasFound};
@@ -17,9 +17,7 @@ impl SharedBumpAllocator {
         ensures found { HasFound self.now.scene
             (map numbered_of rest.old.items ++ seat.old.me.0.parties)
             seat.old.table_id seat.old.me result seat.new.table_id seat.new.me }
-        ensures rest { rest.new.items ≡ map (meeting_at result) rest.old.items }
-        ensures room { (vec_len rest.new ≡ vec_len rest.old)
-            × (vec_capacity rest.new ≡ vec_capacity rest.old) }
+        ensures rest { HasNow (map (meeting_at result) rest.old.items) rest.old rest.new }
         ensures risen { All (λ party. party.met ≤ result) rest.old.items }
     {
         let Some(party) = rest.pop() else {

@@ -1,13 +1,13 @@
 //! What the shared pools are: buckets with a flag each, on which any number of threads step.
 ghost use Rattle.std.specs.Prelude.{◌≡◌, ◌≢◌, ℕ, ◌≤◌, ◌↔◌, ◌%◌, All, IsErr, IfOk};
-ghost use Rattle.std.specs.Prelude.{MatchOption, vec_capacity, vec_len};
+ghost use Rattle.std.specs.Prelude.{MatchOption};
 ghost use Rattle.bb_memory_base.specs.Region.{IsRegion};
 ghost use Rattle.bb_memory_base.specs.Chunk.{Chunk, IsInside};
 ghost use Rattle.bb_memory_base.specs.PoolObject.{IsWithin, MayGrow, MayShrink};
 ghost use Rattle.bb_memory_base.specs.PoolLogs.{IsHeldAfter};
 ghost use Rattle.bb_memory.specs.Seats.{HasRoomFor, Stays, number_of, view_log};
-ghost use Rattle.bb_memory.specs.SharedPool.{AreAllHeldAfter, AreFresh, AreInterleaved, HaveMet, IsResizedTo};
-ghost use Rattle.bb_memory.specs.SharedPool.{IsSameParty, IsSharedScene, MayTake, chunk_of, return_entry, with_entries};
+ghost use Rattle.bb_memory.specs.SharedPool.{AreAllHeldAfter, AreBothOf, AreFresh, AreInterleaved, HaveMet, IsAlignedTo};
+ghost use Rattle.bb_memory.specs.SharedPool.{IsResizedTo, IsSameParty, IsSharedScene, MayTake, chunk_of, return_entry, with_entries};
 ghost use Rattle.bb_memory.specs.SharedPoolRule.{IsIdleAt, StandsForAll};
 ghost use Rattle.bb_memory.specs.SharedPoolSteps.{HasRefused, HasTaken};
 
@@ -67,7 +67,7 @@ impl<const CAPPED: usize, const MOST: usize> SharedBucketPool<CAPPED, MOST> {
     /// Gives each party a seat of its own.
     fn seat_parties(&self, mut rest: Seat<u8, View>, parties: u32, all: &mut Vec<PoolParty>)
         requires seat { StandsForAll self.now parties rest.table_id rest.me }
-        requires room { HasRoomFor parties all.old.items (vec_len all.old) (vec_capacity all.old) }
+        requires room { HasRoomFor parties all.old }
         ensures { AreFresh self.now parties all.new.items }
     {
         for number in 0..parties {
@@ -163,11 +163,9 @@ impl<const CAPPED: usize, const MOST: usize> SharedBucketPool<CAPPED, MOST> {
     /// Two parties meet: no bucket is held by both. It loads a word four times, which is in no log, and changes nothing. The
     /// parties have to be this pool's.
     pub fn meet(&self, a: &mut PoolParty, b: &mut PoolParty)
-        requires a { a.old.allocator ≡ self.now }
-        requires b { b.old.allocator ≡ self.now }
+        requires parties { AreBothOf self.now a.old b.old }
         ensures kept { (a.new ≡ a.old) × (b.new ≡ b.old) }
-        ensures a { a.new.allocator ≡ self.now }
-        ensures b { b.new.allocator ≡ self.now }
+        ensures parties { AreBothOf self.now a.new b.new }
         ensures differ { a.old.number ≢ b.old.number }
         ensures apart { (bucket : ℕ) → IsHeldAfter a.old.log bucket
             → ¬ IsHeldAfter b.old.log bucket }
@@ -208,8 +206,7 @@ impl<const CAPPED: usize, const MOST: usize> SharedBucketPool<CAPPED, MOST> {
         old: Layout,
         new: Layout,
     ) -> Result<Chunk, AllocationGrowError>
-        requires bucket { bucket.old.allocator ≡ self.now }
-        requires aligned { (chunk_of bucket.old).place % old.align ≡ 0 }
+        requires bucket { IsAlignedTo self.now old bucket.old }
         ensures answer { MayGrow self.now.scene.geometry.bucket (chunk_of bucket.old).place
             old new result }
         ensures resized { IsResizedTo self.now bucket.old result bucket.new }
@@ -231,8 +228,7 @@ impl<const CAPPED: usize, const MOST: usize> SharedBucketPool<CAPPED, MOST> {
         old: Layout,
         new: Layout,
     ) -> Result<Chunk, AllocationShrinkError>
-        requires bucket { bucket.old.allocator ≡ self.now }
-        requires aligned { (chunk_of bucket.old).place % old.align ≡ 0 }
+        requires bucket { IsAlignedTo self.now old bucket.old }
         requires reserved { old.size ≤ self.now.scene.geometry.bucket.size }
         ensures answer { MayShrink self.now.scene.geometry.bucket (chunk_of bucket.old).place
             old new result }

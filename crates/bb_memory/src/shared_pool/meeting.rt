@@ -1,5 +1,6 @@
 //! Any number of parties at one seat.
-ghost use Rattle.std.specs.Prelude.{◌≡◌, ◌++◌, All, map, vec_len, vec_capacity};
+ghost use Rattle.std.specs.Prelude.{◌≡◌, ◌++◌, All, map};
+ghost use Rattle.bb_memory.specs.Seats.{HasNow};
 ghost use Rattle.bb_memory.specs.SharedPoolRule.{StandsAt, numbered_of};
 ghost use Rattle.bb_memory.specs.SharedPoolSteps.{HasFound};
 
@@ -16,9 +17,7 @@ impl Flags {
         ensures found { HasFound self.now.scene
             (map numbered_of rest.old.items ++ seat.old.me.0.parties)
             seat.old.table_id seat.old.me seat.new.table_id seat.new.me }
-        ensures rest { rest.new.items ≡ rest.old.items }
-        ensures room { (vec_len rest.new ≡ vec_len rest.old)
-            × (vec_capacity rest.new ≡ vec_capacity rest.old) }
+        ensures rest { HasNow rest.old.items rest.old rest.new }
     {
         let Some(party) = rest.pop() else {
             self.find(seat);

@@ -1,5 +1,5 @@
 //! Takings that don't begin at bucket 0: of a bucket of the caller's choice, and of the first free one from a bucket on.
-ghost use Rattle.std.specs.Prelude.{◌≡◌, ℕ, ◌<◌, ◌↔◌, IsErr, IfOk, MatchOption};
+ghost use Rattle.std.specs.Prelude.{◌≡◌, ℕ, ◌<◌, ◌↔◌, IsErr, MatchOption};
 ghost use Rattle.bb_memory_base.specs.PoolObject.{IsWithin};
 ghost use Rattle.bb_memory_base.specs.PoolLogs.{IsHeldAfter};
 ghost use Rattle.bb_memory.specs.Seats.{Stays, number_of, view_log};
@@ -72,7 +72,6 @@ impl<const CAPPED: usize, const MOST: usize> SharedBucketPool<CAPPED, MOST> {
         requires party { party.old.allocator ≡ self.now }
         ensures answer { MayTakeAt number party.old layout result party.new }
         ensures party { party.new.allocator ≡ self.now }
-        ensures bucket { IfOk result (λ bucket. bucket.allocator ≡ self.now) }
         ensures serves { Serves self.now party.old layout result party.new }
         ensures alone { self.now.scene.parties ≡ 1 → IsWithin self.now.scene.geometry.bucket layout
             → number < self.now.scene.geometry.buckets
@@ -111,7 +110,6 @@ impl<const CAPPED: usize, const MOST: usize> SharedBucketPool<CAPPED, MOST> {
         requires party { party.old.allocator ≡ self.now }
         ensures answer { MayTakeFrom first party.old layout result party.new }
         ensures party { party.new.allocator ≡ self.now }
-        ensures bucket { IfOk result (λ bucket. bucket.allocator ≡ self.now) }
         ensures serves { ServesRound self.now party.old layout result party.new }
     {
         // What holds of the party is known from here on, also where no step is made.
@@ -147,7 +145,6 @@ impl<const CAPPED: usize, const MOST: usize> SharedBucketPool<CAPPED, MOST> {
         requires party { party.old.allocator ≡ self.now }
         ensures answer { (first : ℕ) × MayTakeFrom first party.old layout result party.new }
         ensures party { party.new.allocator ≡ self.now }
-        ensures bucket { IfOk result (λ bucket. bucket.allocator ≡ self.now) }
         ensures serves { ServesRound self.now party.old layout result party.new }
     {
         let first = party.near;

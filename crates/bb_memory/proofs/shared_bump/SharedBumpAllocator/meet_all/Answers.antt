@@ -29,7 +29,7 @@ returns-in-Some-clause-met c =
     have_met bump items c.push_reserved.new.self.items (met_by me.0) found
     (subst IsSharedScene (ap (λ (b : SharedBump). b.scene) c.self.view_is) c.self.invariant.shared) c.requires.parties told mets
     (c.push_reserved.ensures.items
-    ∙ (λ i. c.meet_rest.ensures.rest i ++ back i ∷ [])
+    ∙ (λ i. c.meet_rest.ensures.rest.items i ++ back i ∷ [])
     ∙ sym (map-append (meeting_at found) rest (party ∷ [])) ∙ ap (map (meeting_at found)) (sym is))
 
 pub returns-in-Some-clause-parties : goal.returns-in-Some-clause-parties

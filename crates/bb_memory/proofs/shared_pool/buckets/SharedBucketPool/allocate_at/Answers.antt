@@ -18,6 +18,7 @@ returns-clause-serves g c =
     let size = ap (λ (l : Layout). l.size) bucket in
     let align = ap (λ (l : Layout). l.align) bucket in
     record {
+      bucket = first_of (search rules, grind (arith, common_steps));
       number = first_of (search rules, grind (arith, common_steps));
       is_party = first_of (search rules, grind (arith, common_steps));
       held = first_of (search rules, grind (arith, common_steps));

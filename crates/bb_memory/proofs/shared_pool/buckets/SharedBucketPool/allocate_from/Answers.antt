@@ -22,6 +22,7 @@ returns-in-Some-clause-serves g c =
     let align = ap (λ (l : Layout). l.align) bucket in
     record {
       serves = record {
+        bucket = first_of (search rules, grind (arith, common_steps));
         number = first_of (search rules, grind (arith, common_steps));
         is_party = first_of (search rules, grind (arith, common_steps));
         held = first_of (search rules, grind (arith, common_steps));
@@ -41,6 +42,7 @@ returns-in-None-clause-serves g c =
     let me = c.party.inside.seat.me in
     record {
       serves = record {
+        bucket = tt;
         number = first_of (search rules, grind (arith, common_steps));
         is_party = first_of (search rules, grind (arith, common_steps));
         held = tt;

@@ -23,7 +23,7 @@ returns-in-Some-clause-kept g c =
     let back = met_party c.meet_rest.new.seat.table_id c.party.inside.seat.table_id
     c.party.inside.number c.party.inside.seat.me c.meet_rest.new.seat.me c.in-Some.party c.party.view_is
     c.meet_rest.ensures.found.table c.meet_rest.ensures.found.seat in
-    c.push_reserved.ensures.items ∙ (λ i. c.meet_rest.ensures.rest i ++ back i ∷ []) ∙ sym c.in-Some.ensures.items
+    c.push_reserved.ensures.items ∙ (λ i. c.meet_rest.ensures.rest.items i ++ back i ∷ []) ∙ sym c.in-Some.ensures.items
 
 pub returns-in-Some-clause-parties : goal.returns-in-Some-clause-parties
 returns-in-Some-clause-parties g c =
