@@ -1,5 +1,6 @@
 -- The rule of a shared bump's word, and what its seats and fields stand for.
-use Rattle.std.specs.Prelude.{◌≡◌, ℕ, ◌<◌, ◌≤◌, List, [], ◌∷◌, ◌++◌, None, length, max}
+use Rattle.std.specs.Prelude.{◌≡◌, ℕ, ◌<◌, ◌≤◌, List, [], ◌∷◌, ◌++◌, All, None, length, max}
+use Rattle.std.specs.declared.vec.Vec.{Vec}
 use mathlib.Core.Option.{some}
 use lib.ListN.{get_elem?}
 use Rattle.atomic_table.specs.Seated.{TableId}
@@ -8,7 +9,7 @@ use Rattle.bb_memory_base.specs.Region.{IsRegion, region_at}
 use Rattle.bb_memory_base.specs.BumpMachine.{BumpScene}
 use Rattle.bb_memory_base.specs.BumpHistory.{BumpEntry, BumpLog}
 use Rattle.bb_memory_base.specs.BumpLogs.{Interleaving, LogsAgree, call_in, seen_in}
-use Rattle.bb_memory.specs.Seats.{AreSeated, IsAt, Numbered, Seat, alone, fresh_from, number_of, numbered, standing_for, view_log}
+use Rattle.bb_memory.specs.Seats.{AreSeated, HasRoomFor, IsAt, Numbered, Seat, alone, fresh_from, number_of, numbered, standing_for, view_log}
 use Rattle.bb_memory.specs.SharedBump.{BumpParty, IsSharedScene, SharedBump, scene_at}
 
 -- SEATS
@@ -86,6 +87,11 @@ abbrev pub StandsAt : SharedBump → TableId → Me ℕ SeatView → Type 0
 StandsAt bump here me =
     IsAt bump.table here (me ≡ (standing_for (sight bump.scene (met_by me.0)) me.0.parties, []))
 
+-- such a seat, at which these parties may meet, too
+pub record MayMeet (bump : SharedBump) (here : TableId) (me : Me ℕ SeatView) (guests : List BumpParty) : Type 0 where
+  pub seat : StandsAt bump here me
+  pub rest : All (λ party. party.allocator ≡ bump) guests
+
 -- THE RULE
 
 -- Words and logs agree: there is a log for each party, with which the machine's position agrees that the word has. Each party
@@ -123,11 +129,13 @@ pub record IsOpened (begins : BumpScene) (bump : SharedBump) (here : TableId) (m
   pub table : here ≡ bump.table
   pub seat : me ≡ (all_parties begins, [])
 
--- a seat of its table stands for all its parties, which are so many
-pub record StandsForAll (bump : SharedBump) (count : ℕ) (here : TableId) (me : Me ℕ SeatView) : Type 0 where
+-- a seat of its table stands for all its parties, which are so many, and a vector has room for them
+pub record MaySeat {Z : Type 0} (bump : SharedBump) (count : ℕ) (here : TableId) (me : Me ℕ SeatView) (all : Vec BumpParty Z)
+    : Type 0 where
   pub table : here ≡ bump.table
   pub seat : me ≡ (all_parties bump.scene, [])
   pub parties : count ≡ bump.scene.parties
+  pub room : HasRoomFor count all
 
 -- a view of no party
 abbrev pub nobody : SeatView

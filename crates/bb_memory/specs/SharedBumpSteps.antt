@@ -15,8 +15,8 @@ use Rattle.bb_memory_base.specs.declared.steps.bump.BumpStep.TheVariants.{Read, 
 use Rattle.bb_memory_base.specs.declared.steps.bump.BumpOutcome.{BumpOutcome}
 use Rattle.bb_memory_base.specs.declared.steps.bump.BumpOutcome.TheVariants.{Loaded}
 use Rattle.bb_memory.specs.Seats.{HaveLogs, number_of, times_in, view_log}
-use Rattle.bb_memory.specs.SharedBump.{HasChunksWithin, HaveChunksApart, IsRefused, IsWon}
-use Rattle.bb_memory.specs.SharedBumpRule.{IsSeatOf, IsSeatOfIdle, NumberedLog, SeatView, meeting_of, met_by, scene_of}
+use Rattle.bb_memory.specs.SharedBump.{HasChunksWithin, HaveChunksApart, IsRefused, IsWon, SharedBump}
+use Rattle.bb_memory.specs.SharedBumpRule.{IsIdleAt, IsSeatOf, IsSeatOfIdle, NumberedLog, SeatView, meeting_of, met_by, scene_of}
 
 -- WHAT A STEP TELLS
 
@@ -112,8 +112,10 @@ pub record HasFound (scene : BumpScene) (parties : List NumberedLog) (was : Tabl
 
 -- REQUESTS
 
--- a request asks for this layout, which isn't of size 0
-pub record IsAsked (asked : Option Layout) (layout : Layout) : Type 0 where
+-- the party of a seat may ask for this layout: it is idle, and the size isn't 0. A step is told the layout by its type
+pub record MayAsk (bump : SharedBump) (here : TableId) (me : Me ℕ SeatView) (asked : Option Layout) (layout : Layout)
+    : Type 0 where
+  pub seat : IsIdleAt bump here me
   pub asks : 0 < layout.size
   pub told : asked ≡ Some layout
 

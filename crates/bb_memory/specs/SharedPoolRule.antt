@@ -1,5 +1,6 @@
 -- The rule of a shared pool's words, and what its seats and fields stand for.
-use Rattle.std.specs.Prelude.{◌≡◌, ℕ, ◌<◌, Bool, true, false, List, [], ◌∷◌, None, map, max, length}
+use Rattle.std.specs.Prelude.{◌≡◌, ℕ, ◌<◌, Bool, true, false, List, [], ◌∷◌, All, None, map, max, length}
+use Rattle.std.specs.declared.vec.Vec.{Vec}
 use mathlib.Core.Path.{refl}
 use native.Mathlib.Nat.{zero-lt-suc}
 use Rattle.atomic_table.specs.Seated.{TableId}
@@ -11,7 +12,7 @@ use Rattle.bb_memory_base.specs.PoolHistory.{PoolEntry, PoolLog}
 use Rattle.bb_memory_base.specs.PoolLogs.{Interleaving, IsHeldAfter, LogsAgree, next_bucket, pass_in}
 use Rattle.bb_memory_base.specs.declared.layout.Layout.{Layout}
 use Rattle.bb_memory.specs.SharedPool.{PoolParty, IsSharedScene, SharedPool, scene_at}
-use Rattle.bb_memory.specs.Seats.{AreSeated, IsAt, Numbered, Seat, alone, fresh_from, number_of, numbered, standing_for, view_log}
+use Rattle.bb_memory.specs.Seats.{AreSeated, HasRoomFor, IsAt, Numbered, Seat, alone, fresh_from, number_of, numbered, standing_for, view_log}
 
 -- SEATS
 
@@ -71,6 +72,11 @@ pub record AreTwoAt (pool : SharedPool) (here : TableId) (me : Me ℕ SeatView) 
 abbrev pub StandsAt : SharedPool → TableId → Me ℕ SeatView → Type 0
 StandsAt pool here me = IsAt pool.table here (me ≡ (standing_for pool.scene me.0.parties, []))
 
+-- such a seat, at which these parties may meet, too
+pub record MayMeet (pool : SharedPool) (here : TableId) (me : Me ℕ SeatView) (guests : List PoolParty) : Type 0 where
+  pub seat : StandsAt pool here me
+  pub rest : All (λ party. party.allocator ≡ pool) guests
+
 -- the bucket that the party of a seat tries next
 pub record IsNextFor (pool : SharedPool) (me : Me ℕ SeatView) (bucket : ℕ) : Type 0 where
   pub next : next_bucket (view_log me.0) ≡ bucket
@@ -124,11 +130,13 @@ pub record IsOpened (begins : PoolScene) (pool : SharedPool) (here : TableId) (m
   pub table : here ≡ pool.table
   pub seat : me ≡ (all_parties begins, [])
 
--- a seat of its table stands for all its parties, which are so many
-pub record StandsForAll (pool : SharedPool) (count : ℕ) (here : TableId) (me : Me ℕ SeatView) : Type 0 where
+-- a seat of its table stands for all its parties, which are so many, and a vector has room for them
+pub record MaySeat {Z : Type 0} (pool : SharedPool) (count : ℕ) (here : TableId) (me : Me ℕ SeatView) (all : Vec PoolParty Z)
+    : Type 0 where
   pub table : here ≡ pool.table
   pub seat : me ≡ (all_parties pool.scene, [])
   pub parties : count ≡ pool.scene.parties
+  pub room : HasRoomFor count all
 
 -- no bytes, at any place
 pub no_bytes : Layout

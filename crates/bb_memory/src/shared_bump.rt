@@ -8,12 +8,11 @@ ghost use Rattle.bb_memory_base.specs.BumpObject.{StandsFor};
 ghost use Rattle.bb_memory_base.specs.BumpHistory.{BumpLog, chunks_won, history_of, losses_in};
 ghost use Rattle.bb_memory_base.specs.BumpCalls.{IsCallRun, OpensWith, calls_of, live_after};
 ghost use Rattle.bb_memory_base.specs.BumpLogs.{Interleaving};
-ghost use Rattle.bb_memory.specs.Seats.{HasRoomFor};
 ghost use Rattle.bb_memory.specs.SharedBump.{AgreeAt, AreBothOf, AreFresh, AreInterleaved, BumpParty, HasChunksWithin, HaveChunksApart};
 ghost use Rattle.bb_memory.specs.SharedBump.{HasLoaded, HaveMet, IsAnsweredAt, IsFoundBy, IsParty, IsSameParty, IsSharedScene, MayTake, MeetAt};
 ghost use Rattle.bb_memory.specs.SharedBump.{floor_of, greatest_seen, meeting_at, scene_at, seen_by};
 ghost use Rattle.bb_memory.specs.SharedBump.{with_entries};
-ghost use Rattle.bb_memory.specs.SharedBumpRule.{StandsForAll};
+ghost use Rattle.bb_memory.specs.SharedBumpRule.{MaySeat};
 
 mod meeting;
 mod party;
@@ -288,8 +287,7 @@ impl SharedBumpAllocator {
 
     /// Gives each party a seat of its own.
     fn seat_parties(&self, mut rest: Seat<u8, View>, parties: u32, all: &mut Vec<BumpParty>)
-        requires seat { StandsForAll self.now parties rest.table_id rest.me }
-        requires room { HasRoomFor parties all.old }
+        requires { MaySeat self.now parties rest.table_id rest.me all.old }
         ensures { AreFresh self.now parties all.new.items }
     {
         for number in 0..parties {

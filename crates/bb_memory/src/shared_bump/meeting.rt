@@ -2,7 +2,7 @@
 ghost use Rattle.std.specs.Prelude.{◌≡◌, ◌≤◌, ◌++◌, [], All, map};
 ghost use Rattle.bb_memory.specs.Seats.{HasNow, Stays, standing_for};
 ghost use Rattle.bb_memory.specs.SharedBump.{meeting_at};
-ghost use Rattle.bb_memory.specs.SharedBumpRule.{StandsAt, met_by, numbered_of, sight};
+ghost use Rattle.bb_memory.specs.SharedBumpRule.{MayMeet, met_by, numbered_of, sight};
 ghost use Rattle.bb_memory.specs.SharedBumpSteps.{HasFound};
 
 use super::rule::View;
@@ -12,8 +12,7 @@ use atomic_table::Seat;
 impl SharedBumpAllocator {
     /// These parties meet those of the seat, and go back to their own.
     pub(super) fn meet_rest(&self, seat: &mut Seat<u8, View>, rest: &mut Vec<BumpParty>) -> usize
-        requires seat { StandsAt self.now seat.old.table_id seat.old.me }
-        requires rest { All (λ party. party.allocator ≡ self.now) rest.old.items }
+        requires { MayMeet self.now seat.old.table_id seat.old.me rest.old.items }
         ensures found { HasFound self.now.scene
             (map numbered_of rest.old.items ++ seat.old.me.0.parties)
             seat.old.table_id seat.old.me result seat.new.table_id seat.new.me }
@@ -36,8 +35,7 @@ impl SharedBumpAllocator {
 
     /// These parties go to the seat, before its own.
     pub(super) fn gather_rest(&self, seat: &mut Seat<u8, View>, mut rest: Vec<BumpParty>)
-        requires seat { StandsAt self.now seat.old.table_id seat.old.me }
-        requires rest { All (λ party. party.allocator ≡ self.now) rest.items }
+        requires { MayMeet self.now seat.old.table_id seat.old.me rest.items }
         ensures seat { Stays seat.old.table_id seat.new.table_id (seat.new.me
             ≡ (
               standing_for (sight self.now.scene (met_by seat.new.me.0))

@@ -9,7 +9,7 @@ ghost use Rattle.bb_memory_base.specs.BumpLogs.{call_in};
 ghost use Rattle.bb_memory.specs.Seats.{IsDealt, MayGather, Stays, number_of, view_log};
 ghost use Rattle.bb_memory.specs.SharedBumpRule.{AreTwoAt, IsIdleAt, IsOpened, IsSeatAt, StandsAt, gathered, meeting_of};
 ghost use Rattle.bb_memory.specs.SharedBumpRule.{met_by, scene_of};
-ghost use Rattle.bb_memory.specs.SharedBumpSteps.{HasFound, IsAsked, TellsExchange, TellsLoad, TellsMeeting, TellsRead};
+ghost use Rattle.bb_memory.specs.SharedBumpSteps.{HasFound, MayAsk, TellsExchange, TellsLoad, TellsMeeting, TellsRead};
 ghost use Rattle.bb_memory.specs.SharedBumpSteps.{TellsTwo};
 
 use super::rule::{
@@ -62,8 +62,7 @@ impl Position {
 
     /// The read that begins a request. For which layout it is, the step says by its type.
     pub(super) fn read<L: Asked>(&self, seat: &mut Seat<u8, View>, _layout: Layout) -> usize
-        requires seat { IsIdleAt self.now seat.old.table_id seat.old.me }
-        requires asked { IsAsked L.layout _layout }
+        requires { MayAsk self.now seat.old.table_id seat.old.me L.layout _layout }
         ensures { Stays seat.old.table_id seat.new.table_id (TellsRead self.now.scene
             (number_of seat.old.me.0) (view_log seat.old.me.0) (met_by seat.old.me.0)
             _layout result seat.new.me) }

@@ -3,8 +3,8 @@ ghost use Rattle.std.specs.Prelude.{◌≡◌, ◌≤◌, ◌%◌, false, IfSome
 ghost use Rattle.bb_memory_base.specs.Chunk.{IsInside};
 ghost use Rattle.bb_memory_base.specs.BumpMachine.{fits};
 ghost use Rattle.bb_memory.specs.Seats.{Stays, number_of, view_log};
-ghost use Rattle.bb_memory.specs.SharedBumpRule.{IsIdleAt, met_by};
-ghost use Rattle.bb_memory.specs.SharedBumpSteps.{HasRefused, HasWon, IsAsked, IsFor};
+ghost use Rattle.bb_memory.specs.SharedBumpRule.{met_by};
+ghost use Rattle.bb_memory.specs.SharedBumpSteps.{HasRefused, HasWon, IsFor, MayAsk};
 
 use super::SharedBumpAllocator;
 use super::rule::{Asked, View};
@@ -14,8 +14,7 @@ use atomic_table::Seat;
 impl SharedBumpAllocator {
     /// Asks until it wins a chunk or is refused. The layout isn't of size 0.
     pub(super) fn claim<L: Asked>(&self, seat: &mut Seat<u8, View>, layout: Layout) -> Option<Chunk>
-        requires seat { IsIdleAt self.now seat.old.table_id seat.old.me }
-        requires asked { IsAsked L.layout layout }
+        requires { MayAsk self.now seat.old.table_id seat.old.me L.layout layout }
         ensures call { Stays seat.old.table_id seat.new.table_id (MatchOption result
             (HasRefused self.now.scene (number_of seat.old.me.0) (view_log seat.old.me.0)
             (met_by seat.old.me.0) layout seat.new.me)

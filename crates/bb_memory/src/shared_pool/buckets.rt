@@ -5,10 +5,10 @@ ghost use Rattle.bb_memory_base.specs.Region.{IsRegion};
 ghost use Rattle.bb_memory_base.specs.Chunk.{Chunk, IsInside};
 ghost use Rattle.bb_memory_base.specs.PoolObject.{IsWithin, MayGrow, MayShrink};
 ghost use Rattle.bb_memory_base.specs.PoolLogs.{IsHeldAfter};
-ghost use Rattle.bb_memory.specs.Seats.{HasRoomFor, Stays, number_of, view_log};
+ghost use Rattle.bb_memory.specs.Seats.{Stays, number_of, view_log};
 ghost use Rattle.bb_memory.specs.SharedPool.{AreAllHeldAfter, AreBothOf, AreFresh, AreInterleaved, HaveMet, IsAlignedTo};
 ghost use Rattle.bb_memory.specs.SharedPool.{IsResizedTo, IsSameParty, IsSharedScene, MayTake, chunk_of, return_entry, with_entries};
-ghost use Rattle.bb_memory.specs.SharedPoolRule.{IsIdleAt, StandsForAll};
+ghost use Rattle.bb_memory.specs.SharedPoolRule.{IsIdleAt, MaySeat};
 ghost use Rattle.bb_memory.specs.SharedPoolSteps.{HasRefused, HasTaken};
 
 use super::bucket::Bucket;
@@ -66,8 +66,7 @@ impl<const CAPPED: usize, const MOST: usize> SharedBucketPool<CAPPED, MOST> {
 
     /// Gives each party a seat of its own.
     fn seat_parties(&self, mut rest: Seat<u8, View>, parties: u32, all: &mut Vec<PoolParty>)
-        requires seat { StandsForAll self.now parties rest.table_id rest.me }
-        requires room { HasRoomFor parties all.old }
+        requires { MaySeat self.now parties rest.table_id rest.me all.old }
         ensures { AreFresh self.now parties all.new.items }
     {
         for number in 0..parties {

@@ -1,7 +1,7 @@
 //! Any number of parties at one seat.
-ghost use Rattle.std.specs.Prelude.{◌≡◌, ◌++◌, All, map};
+ghost use Rattle.std.specs.Prelude.{◌++◌, map};
 ghost use Rattle.bb_memory.specs.Seats.{HasNow};
-ghost use Rattle.bb_memory.specs.SharedPoolRule.{StandsAt, numbered_of};
+ghost use Rattle.bb_memory.specs.SharedPoolRule.{MayMeet, numbered_of};
 ghost use Rattle.bb_memory.specs.SharedPoolSteps.{HasFound};
 
 use super::flags::Flags;
@@ -12,8 +12,7 @@ use atomic_table::Seat;
 impl Flags {
     /// These parties meet those of the seat, and go back to their own.
     pub(super) fn meet_rest(&self, seat: &mut Seat<u8, View>, rest: &mut Vec<PoolParty>)
-        requires seat { StandsAt self.now seat.old.table_id seat.old.me }
-        requires rest { All (λ party. party.allocator ≡ self.now) rest.old.items }
+        requires { MayMeet self.now seat.old.table_id seat.old.me rest.old.items }
         ensures found { HasFound self.now.scene
             (map numbered_of rest.old.items ++ seat.old.me.0.parties)
             seat.old.table_id seat.old.me seat.new.table_id seat.new.me }

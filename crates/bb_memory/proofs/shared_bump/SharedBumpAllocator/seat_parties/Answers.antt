@@ -25,7 +25,7 @@ invariant_of-push_reserved c =
       seat = record { is = seated ∙ λ i. (alone (sight scene (met_by (sym seated i).0)) number [], []); interleaved = record { steps = []; allowed = none_allowed; leaves = refl; logged = refl } };
       idle = refl;
     }
-    (omega (arith, c.requires.seat.parties))
+    (omega (arith, c.requires.parties))
     (subst IsSharedScene (ap (λ (b : SharedBump). b.scene) c.self.view_is) c.self.invariant.shared)
     (omega (arith, ap (λ (m : Me ℕ SeatView). met_by m.0) seated))
 

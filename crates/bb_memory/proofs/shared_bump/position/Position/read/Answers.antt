@@ -15,7 +15,7 @@ load-requires g c =
       omega (arith, fields.words),
       reads_as c.self.inside.table.shared.key _ _ (number_of me.0) c.args._layout g.L.Asked.layout (view_log me.0) (met_by me.0) me
           (of.seat.is ∙ ap (λ s. (alone (sight s (met_by me.0)) (number_of me.0) (view_log me.0), [])) (sym scene)) of.idle
-          c.requires.asked.asks c.requires.asked.told,
+          c.requires.asks c.requires.told,
     )
 
 pub returns : goal.returns
@@ -24,5 +24,5 @@ returns g c =
       table = c.load.ensures.0;
       step = told_read c.args.self.now.scene (number_of me.0)
           (view_log me.0) c.args._layout c.load.result g.L.Asked.layout _ me c.load.new.seat.me
-          c.requires.seat.seat.seat c.requires.asked.told c.load.ensures.2;
+          c.requires.seat.seat.seat c.requires.told c.load.ensures.2;
     }

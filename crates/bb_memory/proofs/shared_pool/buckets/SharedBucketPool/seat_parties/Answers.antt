@@ -20,7 +20,7 @@ invariant_of-push_reserved g c =
     ∙ ap (λ (parties : List NumberedLog). (standing_for scene parties, [])) (fresh_more number c.args.parties (omega arith)) in
     let seated = c.deal-seat.ensures.first ∙ ap (λ (m : Me ℕ SeatView). (first_of m.0, [])) is in
     party_seat scene number [] c.deal-seat.result.me (no_step scene number c.deal-seat.result.me seated)
-    (omega (arith, c.requires.seat.parties))
+    (omega (arith, c.requires.parties))
     (subst (λ (p : SharedPool). IsSharedScene p.scene) c.self.view_is c.self.invariant.shared)
 
 pub loop-number-preserved : goal.loop-number-preserved
