@@ -32,4 +32,4 @@ mod SharedPoolParties
 mod SharedPoolPasses
 mod SharedPoolRounds
 mod SharedPoolSeats
-mod SharedPoolTries
+pub mod SharedPoolTries
