@@ -67,8 +67,8 @@ abbrev pub after_steps : BumpWorld → List BumpStep → BumpWorld
 after_steps world steps = in_state world (bump_after world.region world.state steps)
 
 -- what a call that takes them all answers; where memory is refused for the answers, it takes none
-pub record Replays {Z E : Type 0} (old : BumpWorld) (steps : List BumpStep) (answer : Result (Vec BumpOutcome Z) E) (new : BumpWorld)
-    : Type 0 where
+pub record Replays {Z E : Type 0} (old : BumpWorld) (steps : List BumpStep) (answer : Result (Vec BumpOutcome Z) E)
+    (new : BumpWorld) : Type 0 where
   pub outcomes : IfOk answer (λ found. found.items ≡ outcomes_of old steps)
   pub state : OnOk answer (new ≡ after_steps old steps)
   pub kept : OnErr answer (new ≡ old)

@@ -41,8 +41,8 @@ abbrev pub after_steps : PoolWorld → List PoolStep → PoolWorld
 after_steps world steps = pool_after world steps
 
 -- what a call that takes them all answers; where memory is refused for the answers, it takes none
-pub record Replays {Z E : Type 0} (old : PoolWorld) (steps : List PoolStep) (answer : Result (Vec PoolOutcome Z) E) (new : PoolWorld)
-    : Type 0 where
+pub record Replays {Z E : Type 0} (old : PoolWorld) (steps : List PoolStep) (answer : Result (Vec PoolOutcome Z) E)
+    (new : PoolWorld) : Type 0 where
   pub outcomes : IfOk answer (λ found. found.items ≡ outcomes_of old steps)
   pub state : OnOk answer (new ≡ after_steps old steps)
   pub kept : OnErr answer (new ≡ old)

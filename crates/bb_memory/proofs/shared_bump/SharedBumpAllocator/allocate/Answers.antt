@@ -40,7 +40,8 @@ returns-clause-found c =
     let scene = c.args.self.now.scene in
     let old = c.party.inside.seat.me in
     let new = c.claim.new.seat.me in
-    let ended = ended_by scene (number_of old.0) (view_log old.0) (met_by old.0) c.args.layout new c.claim.result c.claim.ensures.call.step in
+    let ended = ended_by scene (number_of old.0) (view_log old.0) (met_by old.0) c.args.layout new c.claim.result
+    c.claim.ensures.call.step in
     found_by scene c.claim.new.seat.table_id c.party.inside.seat.table_id c.party.inside.number old new c.args.party.now
     c.claim.ensures.call.table c.party.view_is (ap (λ b. b.scene) c.requires.party) ended.0 ended.1
 
@@ -49,7 +50,8 @@ returns-clause-losses c =
     let scene = c.args.self.now.scene in
     let old = c.party.inside.seat.me in
     let new = c.claim.new.seat.me in
-    let ended = ended_by scene (number_of old.0) (view_log old.0) (met_by old.0) c.args.layout new c.claim.result c.claim.ensures.call.step in
+    let ended = ended_by scene (number_of old.0) (view_log old.0) (met_by old.0) c.args.layout new c.claim.result
+    c.claim.ensures.call.step in
     lost_by scene c.claim.new.seat.table_id c.party.inside.seat.table_id c.party.inside.number old new c.args.party.now
     c.claim.ensures.call.table c.party.view_is (ap (λ b. b.scene) c.requires.party) ended.0 ended.1
 
@@ -81,7 +83,8 @@ returns-clause-floor c =
     c.party.inside.number c.party.inside.seat.me c.claim.new.seat.me c.args.party.now c.claim.ensures.call.table c.party.view_is
     (ap (λ b. b.scene) c.requires.party) c.args.layout in
     elim c.match-claim.branch [
-      | in-Some w ↦ rw w.result-is (rw (sym (ap (λ b. b.scene) c.requires.party)) (behind w.in-Some.chunk w.in-Some.ensures.call.step))
+      | in-Some w ↦
+          rw w.result-is (rw (sym (ap (λ b. b.scene) c.requires.party)) (behind w.in-Some.chunk w.in-Some.ensures.call.step))
       | in-None w ↦ rw w.result-is tt
     ]
 

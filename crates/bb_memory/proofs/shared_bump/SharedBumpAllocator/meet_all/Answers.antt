@@ -19,7 +19,8 @@ returns-in-Some-clause-met c =
     let is = c.in-Some.ensures.items in
     let value = party_in c.meet_rest.new.seat.table_id c.party.inside.number c.meet_rest.new.seat.me.0 in
     let back : value ≡ meeting_at found party = met_party c.meet_rest.new.seat.table_id c.party.inside.seat.table_id
-    c.party.inside.number found me c.meet_rest.new.seat.me party c.party.view_is c.meet_rest.ensures.found.table c.meet_rest.ensures.found.seat in
+    c.party.inside.number found me c.meet_rest.new.seat.me party c.party.view_is
+    c.meet_rest.ensures.found.table c.meet_rest.ensures.found.seat in
     let told = subst (λ (parties : List NumberedLog). TellsMeeting bump.scene parties (met_by me.0) found)
     (all_gathered c.party.inside.seat.table_id c.party.inside.number me party items rest c.party.invariant c.party.view_is is)
     c.meet_rest.ensures.found.told in

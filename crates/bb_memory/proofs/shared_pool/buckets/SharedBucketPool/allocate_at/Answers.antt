@@ -23,7 +23,8 @@ returns-clause-serves g c =
       is_party = first_of (search rules, grind (arith, common_steps));
       held = first_of (search rules, grind (arith, common_steps));
       still_held = first_of (search rules, grind (arith, common_steps));
-      inside = rw c.self.view_is (bucket-inside scene.geometry c.args.number c.size-3.result geometry (omega arith) (omega arith));
+      inside = rw c.self.view_is
+          (bucket-inside scene.geometry c.args.number c.size-3.result geometry (omega arith) (omega arith));
       aligned = rw c.self.view_is (bucket_place-multiple scene.geometry c.args.number c.args.layout (omega arith));
       exact_size = first_of (search rules, grind (arith, common_steps));
     }

@@ -30,7 +30,8 @@ returns-in-Some-clause-serves g c =
             still_held_from scene (number_of me.0) (view_log me.0) c.args.first c.round.new.seat.me c.round.result other
             c.round.ensures.step (rw (← c.party.view_is) at held);
         inside = rw c.self.view_is
-            (bucket-inside scene.geometry c.in-Some.number c.size-in-Some.result geometry c.in-Some.ensures.step.below (omega arith));
+            (bucket-inside scene.geometry c.in-Some.number c.size-in-Some.result geometry c.in-Some.ensures.step.below
+            (omega arith));
         aligned = rw c.self.view_is (bucket_place-multiple scene.geometry c.in-Some.number c.args.layout (omega arith));
         exact_size = first_of (search rules, grind (arith, common_steps));
       };
