@@ -35,5 +35,5 @@ mod SharedPoolParties
 mod SharedPoolPasses
 mod SharedPoolRounds
 mod SharedPoolSeats
-mod SharedPoolTries
+pub mod SharedPoolTries
 mod SharedPoolWholes

@@ -19,7 +19,8 @@ use Rattle.bb_memory_base.proofs.SliceGets.{slice_get-replicated, length-set_at}
 use Rattle.bb_memory.specs.NumberSet.{Has, Lacks}
 use Rattle.bb_memory.specs.Pool.{Pool, IsPool, Fills, StandsFor, HoldsPlace, fresh_pool, with_flag}
 use Rattle.bb_memory.proofs.Positions.{All-at, All-from_positions, AllPairs-at, AllPairs-from_positions}
-use Rattle.bb_memory.proofs.Positions.{slice_get-push_old, slice_get-push_new, slice_get-removed, slice_get-unremoved}
+use Rattle.bb_memory_base.proofs.SliceGets.{slice_get-last, slice_get-push}
+use Rattle.bb_memory.proofs.Positions.{slice_get-removed, slice_get-unremoved}
 
 -- BUCKETS
 
@@ -144,13 +145,13 @@ stands-given pool live layout i is stands within lacks =
             at.0,
             record {
               chunk = at.1.chunk;
-              there = slice_get-push_old live at.0 at.1.chunk chunk at.1.there;
+              there = slice_get-push live at.0 at.1.chunk chunk at.1.there;
               placed = at.1.placed;
             },
           )
       | inr now ↦ (
         length live,
-        record { chunk = chunk; there = slice_get-push_new live chunk; placed = ap (bucket_place pool.geometry) (sym now.0) },
+        record { chunk = chunk; there = slice_get-last live chunk; placed = ap (bucket_place pool.geometry) (sym now.0) },
       )
     ])
 

@@ -1,6 +1,6 @@
--- What stands at each position of a list, and after a push or a removal.
-use Rattle.std.proofs.Common.{◌≡◌, ◌≢◌, ℕ, zero, suc, ◌<◌, List, [], ◌∷◌, ◌++◌, length, get_or, refl, ap, subst, arith, Some}
-use Rattle.std.specs.Prelude.{slice_get, remove, All, AllPairs}
+-- What stands at each position of a list, and after a removal.
+use Rattle.std.proofs.Common.{◌≡◌, ◌≢◌, ℕ, zero, suc, ◌<◌, List, [], ◌∷◌, get_or, refl, ap, subst, arith, Some}
+use Rattle.std.specs.Prelude.{slice_get, remove, All, AllPairs, Contains}
 use Rattle.std.proofs.lemmas.Option.{slice_get_within, slice_get-get_or, get_or_from_slice_get}
 
 -- A FACT OF EACH ELEMENT, BY ITS POSITION
@@ -25,18 +25,6 @@ AllPairs-at R xs all i j x y before at_i at_j =
     subst (λ y'. R x y') second
     (subst (λ x'. R x' (get_or xs j x)) first (all i j x before (slice_get_within xs j y at_j)))
 
--- A PUSH
-
-pub slice_get-push_old : {X : Type 0} (xs : List X) (i : ℕ) (x y : X) → slice_get xs i ≡ Some x →
-    slice_get (xs ++ y ∷ []) i ≡ Some x
-slice_get-push_old [] i x y at = absurd (cc)
-slice_get-push_old (z ∷ xs) zero x y at = at
-slice_get-push_old (z ∷ xs) (suc i) x y at = slice_get-push_old xs i x y at
-
-pub slice_get-push_new : {X : Type 0} (xs : List X) (y : X) → slice_get (xs ++ y ∷ []) (length xs) ≡ Some y
-slice_get-push_new [] y = refl
-slice_get-push_new (z ∷ xs) y = slice_get-push_new xs y
-
 -- A REMOVAL
 
 -- what stands in the list after a removal stood in it before, elsewhere
@@ -60,3 +48,11 @@ slice_get-unremoved (y ∷ ys) (suc n) zero x apart at = (zero, at)
 slice_get-unremoved (y ∷ ys) (suc n) (suc j) x apart at =
     let still = slice_get-unremoved ys n j x (λ same. apart (ap suc same)) at in
     (suc still.0, still.1)
+
+-- AN ELEMENT IN FRONT
+
+pub contains-behind : (x y : ℕ) (xs : List ℕ) → Contains xs y → Contains (x ∷ xs) y
+contains-behind x y xs has = (suc has.0, omega (arith, has.1), has.2)
+
+pub contains-first : (x y : ℕ) (xs : List ℕ) → x ≡ y → Contains (x ∷ xs) y
+contains-first x y xs same = (zero, omega arith, same)

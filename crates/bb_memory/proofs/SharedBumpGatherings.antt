@@ -20,6 +20,7 @@ use Rattle.bb_memory.specs.SharedBump.{meeting_at}
 use Rattle.bb_memory.specs.SharedBumpRule.{IsPartySeat, NumberedLog, SeatView, gathered, meeting_of, met_by, numbered_of}
 use Rattle.bb_memory.specs.SharedBumpRule.{party_in, scene_of, sight}
 use Rattle.bb_memory.specs.SharedBumpSteps.{TellsMeeting}
+use Rattle.bb_memory.proofs.Positions.{contains-behind, contains-first}
 use Rattle.bb_memory.proofs.Seatings.{all_there, one_apart}
 
 -- GATHERING
@@ -60,12 +61,6 @@ logs_had : (made : ℕ) (logs : List BumpLog) (items : List BumpParty) → HaveL
     AllByRecursion (λ (p : BumpParty). HasLog logs p.number p.log) items
 logs_had made logs [] have = tt
 logs_had made logs (party ∷ items) have = (have.1, logs_had made logs items have.2)
-
-contains-behind : (x y : ℕ) (xs : List ℕ) → Contains xs y → Contains (x ∷ xs) y
-contains-behind x y xs has = (suc has.0, omega (arith, has.1), has.2)
-
-contains-first : (x y : ℕ) (xs : List ℕ) → x ≡ y → Contains (x ∷ xs) y
-contains-first x y xs same = (zero, omega arith, same)
 
 has_number : (items : List BumpParty) (number : ℕ) → 1 ≤ times_in number (map numbered_of items) →
     Contains (map (λ (p : BumpParty). p.number) items) number

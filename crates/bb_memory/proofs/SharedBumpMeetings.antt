@@ -77,5 +77,6 @@ two_met scene number log other other_log met found told =
       apart = chunks_apart scene found told.logs number log other other_log told.opened told.agree have.2.1 have.1 apart;
       interleaved = both_interleaved scene found told.logs number log other other_log told.agree have.2.1 have.1;
       seen = (seen, other_seen);
+      within = told.within;
       chunks = (ends_by scene log found seen, ends_by scene other_log found other_seen);
     }

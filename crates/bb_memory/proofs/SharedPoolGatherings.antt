@@ -18,6 +18,7 @@ use Rattle.bb_memory.specs.Seats.{HaveLogs, times_in}
 use Rattle.bb_memory.specs.SharedPool.{HaveMet, IsHeldByOne, IsSharedScene, PoolParty}
 use Rattle.bb_memory.specs.SharedPoolRule.{IsPartySeat, NumberedLog, SeatView, numbered_of, party_in}
 use Rattle.bb_memory.specs.SharedPoolSteps.{TellsMeeting}
+use Rattle.bb_memory.proofs.Positions.{contains-behind, contains-first}
 use Rattle.bb_memory.proofs.Seatings.{all_there, one_apart}
 
 -- GATHERING
@@ -43,12 +44,6 @@ logs_had : (made : ℕ) (logs : List PoolLog) (items : List PoolParty) → HaveL
     AllByRecursion (λ (p : PoolParty). HasLog logs p.number p.log) items
 logs_had made logs [] have = tt
 logs_had made logs (party ∷ items) have = (have.1, logs_had made logs items have.2)
-
-contains-behind : (x y : ℕ) (xs : List ℕ) → Contains xs y → Contains (x ∷ xs) y
-contains-behind x y xs has = (suc has.0, omega (arith, has.1), has.2)
-
-contains-first : (x y : ℕ) (xs : List ℕ) → x ≡ y → Contains (x ∷ xs) y
-contains-first x y xs same = (zero, omega arith, same)
 
 has_number : (items : List PoolParty) (number : ℕ) → 1 ≤ times_in number (map numbered_of items) →
     Contains (map (λ (p : PoolParty). p.number) items) number

@@ -13,7 +13,8 @@ use Rattle.bb_memory.specs.Seats.{number_of, view_log}
 use Rattle.bb_memory.specs.SharedPoolRounds.{at_turn, miss_at, misses, start_of, taking_at, taking_round}
 use Rattle.bb_memory.specs.SharedPoolRule.{IsSeatOfIdle, SeatView}
 use Rattle.bb_memory.specs.SharedPoolSteps.{HasEnded, HasMissedAt, HasRefusedFrom, HasTakenAt, HasTakenFrom}
-use Rattle.bb_memory.proofs.SharedPoolTries.{held-append, held_through, test_below, test_not_below, either_true}
+use Rattle.bb_memory_base.proofs.PoolHolders.{held_through}
+use Rattle.bb_memory.proofs.SharedPoolTries.{held-append, test_below, test_not_below, either_true}
 
 -- TURNS
 

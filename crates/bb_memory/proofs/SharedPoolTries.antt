@@ -7,13 +7,11 @@ use Rattle.bb_memory_base.specs.PoolHistory.{PoolEntry, PoolLog, entry_of}
 use Rattle.bb_memory_base.specs.PoolLogs.{held_after, IsHeldAfter, pass_after, pass_in, next_bucket, loss_at}
 use Rattle.bb_memory_base.specs.declared.steps.pool.PoolStep.TheVariants.{Try}
 use Rattle.bb_memory_base.specs.declared.steps.pool.PoolOutcome.TheVariants.{Takes, Loses, RefusedAtLoss}
+use Rattle.bb_memory_base.proofs.PoolHolders.{held_through}
 use Rattle.bb_memory.specs.SharedPool.{losses, taking_pass, refused_pass, return_entry}
 
 abbrev pass_through : Option ℕ → PoolLog → Option ℕ
 pass_through pass log = fold (λ pass entry. pass_after pass entry.outcome) pass log
-
-abbrev pub held_through : ℕ → Bool → PoolLog → Bool
-held_through bucket held log = fold (λ held entry. held_after bucket held entry.outcome) held log
 
 pass-append : (pass : Option ℕ) (log more : PoolLog) →
     pass_through pass (log ++ more) ≡ pass_through (pass_through pass log) more
@@ -33,7 +31,7 @@ held-loss bucket lost held true = refl
 held-loss bucket lost held false = refl
 
 -- losses change nothing of what is held
-held-losses : (buckets party lost bucket : ℕ) (held : Bool) →
+pub held-losses : (buckets party lost bucket : ℕ) (held : Bool) →
     held_through bucket held (losses buckets party lost) ≡ held
 held-losses buckets party zero bucket held = refl
 held-losses buckets party (suc lost) bucket held =
@@ -101,7 +99,8 @@ pub held_after_refusal : (buckets party bucket : ℕ) (log : PoolLog) → IsHeld
     IsHeldAfter (log ++ refused_pass buckets party) bucket
 held_after_refusal buckets party bucket log held = same_held buckets party buckets bucket log ∙ held
 
-held-taking : (buckets party taken bucket : ℕ) (log : PoolLog) →
+-- a pass that takes a bucket leaves it held, and the others as they were
+pub held-taking : (buckets party taken bucket : ℕ) (log : PoolLog) →
     held_through bucket false (log ++ taking_pass buckets party taken)
     ≡ (if taken == bucket then true else held_through bucket false log)
 held-taking buckets party taken bucket log =

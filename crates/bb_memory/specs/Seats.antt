@@ -1,7 +1,10 @@
 -- Seats of a table that threads share: which parties each stands for, with their logs, and that each party stands in one.
-use Rattle.std.specs.Prelude.{◌≡◌, ℕ, zero, suc, ◌+◌, ◌<◌, ◌==◌, Bool, true, false, List, [], ◌∷◌, ◌++◌, Some, slice_get}
+use Rattle.std.specs.Prelude.{◌≡◌, ℕ, zero, suc, ◌+◌, ◌<◌, ◌≤◌, ◌==◌, Bool, true, false, List, [], ◌∷◌, ◌++◌, Some, slice_get, vec_len, vec_capacity}
+use Rattle.std.specs.declared.vec.Vec.{Vec}
 use mathlib.Core.Option.{some}
 use lib.ListN.{get_elem?}
+use Rattle.atomic_table.specs.Seated.{TableId}
+use Rattle.atomic_table.specs.Table.{Me}
 
 -- a party's number with its log, which has such entries
 pub record Numbered (E : Type 0) : Type 0 where
@@ -93,3 +96,39 @@ others_of view = standing_for view.scene (tail_of view.parties)
 
 abbrev pub both_of : {S E : Type 0} → Seat S E → Seat S E → Seat S E
 both_of view other = standing_for view.scene (other.parties ++ view.parties)
+
+-- SEATS AT A TABLE
+
+-- a seat is at this table, and stands for this
+pub record IsAt (whose here : TableId) (stands : Type 0) : Type 0 where
+  pub table : here ≡ whose
+  pub seat : stands
+
+-- a seat that made a step stays at its table, and the step tells this
+pub record Stays (was is : TableId) (tells : Type 0) : Type 0 where
+  pub table : is ≡ was
+  pub step : tells
+
+-- The first party of a seat has a seat of its own at the same table, and the others stay.
+pub record IsDealt {S E : Type 0} (was : TableId) (old : Me ℕ (Seat S E)) (is : TableId) (new : Me ℕ (Seat S E))
+    (its : TableId) (own : Me ℕ (Seat S E)) : Type 0 where
+  pub table : is ≡ was
+  pub rest : new ≡ (others_of old.0, old.1)
+  pub its_table : its ≡ was
+  pub first : own ≡ (first_of old.0, [])
+
+-- a seat of this table may take in another's parties, which has no slot
+pub record MayGather {V : Type 0} (whose here there : TableId) (other : Me ℕ V) : Type 0 where
+  pub tables : (here ≡ whose) × (there ≡ whose)
+  pub guest : other.1 ≡ []
+
+-- a vector is empty, and has room for so many elements
+pub record HasRoomFor {T Z : Type 0} (count : ℕ) (all : Vec T Z) : Type 0 where
+  pub empty : all.items ≡ []
+  pub room : (vec_len all ≡ 0) × (count ≤ vec_capacity all)
+
+-- a vector has these elements now, as many as before, and its room
+pub record HasNow {T Z : Type 0} (elements : List T) (old new : Vec T Z) : Type 0 where
+  pub items : new.items ≡ elements
+  pub len : vec_len new ≡ vec_len old
+  pub capacity : vec_capacity new ≡ vec_capacity old

@@ -1,6 +1,6 @@
 -- A shared bump and its parties, as their contracts see them, and what each call adds to its party's log.
-use Rattle.std.specs.Prelude.{◌≡◌, ℕ, ◌+◌, ◌<◌, ◌≤◌, true, false, List, [], ◌∷◌, ◌++◌, None, Result, Ok, Err, All}
-use Rattle.std.specs.Prelude.{Contains, length, map, max}
+use Rattle.std.specs.Prelude.{◌≡◌, ◌≢◌, ℕ, ◌+◌, ◌<◌, ◌≤◌, true, false, List, [], ◌∷◌, ◌++◌, None, Result, Ok, Err, All}
+use Rattle.std.specs.Prelude.{Contains, Some, length, map, max, slice_get}
 use Rattle.atomic_table.specs.Seated.{TableId}
 use Rattle.bb_memory_base.specs.Region.{Region}
 use Rattle.bb_memory_base.specs.Chunk.{Chunk, AreApart, chunk_end}
@@ -41,6 +41,13 @@ pub record BumpParty : Type 0 where
 abbrev pub fresh_party : SharedBump → ℕ → BumpParty
 fresh_party allocator number =
     record { allocator = allocator; number = number; log = []; met = 0 }
+
+-- these are all parties of a bump that has so many, numbered from 0, and none has made a step
+pub record AreFresh (allocator : SharedBump) (count : ℕ) (parties : List BumpParty) : Type 0 where
+  pub so_many : allocator.scene.parties ≡ count
+  pub as_many : length parties ≡ count
+  pub fresh : (number : ℕ) → number < count → slice_get parties number ≡ Some (fresh_party allocator number)
+  pub theirs : All (λ party. party.allocator ≡ allocator) parties
 
 -- the party with these more entries in its log
 abbrev pub with_entries : BumpParty → BumpLog → BumpParty
@@ -152,10 +159,40 @@ pub record IsParty (party : BumpParty) : Type 0 where
   pub interleaved : IsInterleaved party
   pub met : party.met ≤ party.allocator.scene.region.size
 
+-- a party before a call and after it: it has its number still, and what holds of every party holds of it
+pub record IsSameParty (old new : BumpParty) : Type 0 where
+  pub number : new.number ≡ old.number
+  pub is_party : IsParty new
+
+-- One load of the party's found this position: it is at least what the party had seen, and its floor, and at most the size; and
+-- exactly what it had seen where it is the only one.
+pub record HasLoaded (bump : SharedBump) (old : BumpParty) (found : ℕ) (new : BumpParty) : Type 0 where
+  pub logged : new ≡ with_entries old (load_entry old.number found)
+  pub number : new.number ≡ old.number
+  pub is_party : IsParty new
+  pub seen : seen_by old ≤ found
+  pub floor : floor_of old ≤ found
+  pub within : found ≤ bump.scene.region.size
+  pub alone : bump.scene.parties ≡ 1 → found ≡ seen_by old
+
+-- both parties are this bump's
+pub record AreBothOf (allocator : SharedBump) (one other : BumpParty) : Type 0 where
+  pub a : one.allocator ≡ allocator
+  pub b : other.allocator ≡ allocator
+
 -- one interleaving has the logs of both parties
 abbrev pub AreInterleaved : BumpParty → BumpParty → Type 0
 AreInterleaved a b =
     (position : ℕ) × CommonInterleaving a.allocator.scene a.number a.log b.number b.log position
+
+-- Two parties met where this position was found: it is at least what either knew, at most the size, and what an interleaving of
+-- both logs leaves.
+pub record MeetAt (bump : SharedBump) (a b : BumpParty) (found : ℕ) : Type 0 where
+  pub differ : a.number ≢ b.number
+  pub interleaved : AreInterleaved a b
+  pub risen : (floor_of a ≤ found) × (floor_of b ≤ found)
+  pub within : found ≤ bump.scene.region.size
+  pub leaves : CommonInterleaving bump.scene a.number a.log b.number b.log found
 
 -- no chunk that was won in the one log overlaps one of the other
 abbrev pub HaveChunksApart : BumpLog → BumpLog → Type 0

@@ -1,5 +1,6 @@
 -- The rule of a shared bump's word, and what its seats and fields stand for.
-use Rattle.std.specs.Prelude.{◌≡◌, ℕ, ◌<◌, ◌≤◌, List, [], ◌∷◌, ◌++◌, None, length, max}
+use Rattle.std.specs.Prelude.{◌≡◌, ℕ, ◌<◌, ◌≤◌, List, [], ◌∷◌, ◌++◌, All, None, length, max}
+use Rattle.std.specs.declared.vec.Vec.{Vec}
 use mathlib.Core.Option.{some}
 use lib.ListN.{get_elem?}
 use Rattle.atomic_table.specs.Seated.{TableId}
@@ -8,8 +9,8 @@ use Rattle.bb_memory_base.specs.Region.{IsRegion, region_at}
 use Rattle.bb_memory_base.specs.BumpMachine.{BumpScene}
 use Rattle.bb_memory_base.specs.BumpHistory.{BumpEntry, BumpLog}
 use Rattle.bb_memory_base.specs.BumpLogs.{Interleaving, LogsAgree, call_in, seen_in}
-use Rattle.bb_memory.specs.Seats.{AreSeated, Numbered, Seat, alone, fresh_from, numbered, standing_for, view_log}
-use Rattle.bb_memory.specs.SharedBump.{BumpParty, IsSharedScene, scene_at}
+use Rattle.bb_memory.specs.Seats.{AreSeated, HasRoomFor, IsAt, Numbered, Seat, alone, fresh_from, number_of, numbered, standing_for, view_log}
+use Rattle.bb_memory.specs.SharedBump.{BumpParty, IsSharedScene, SharedBump, scene_at}
 
 -- SEATS
 
@@ -65,6 +66,32 @@ pub record IsPartySeat (number : ℕ) (me : Me ℕ SeatView) : Type 0 where
   pub shared : IsSharedScene (scene_of me.0)
   pub met : met_by me.0 ≤ (scene_of me.0).region.size
 
+-- SEATS AT A BUMP'S TABLE
+
+-- the seat of one party
+abbrev pub IsSeatAt : SharedBump → TableId → Me ℕ SeatView → Type 0
+IsSeatAt bump here me = IsAt bump.table here (IsSeatOf bump.scene (number_of me.0) (view_log me.0) me)
+
+-- the same of an idle party
+abbrev pub IsIdleAt : SharedBump → TableId → Me ℕ SeatView → Type 0
+IsIdleAt bump here me = IsAt bump.table here (IsSeatOfIdle bump.scene (number_of me.0) (view_log me.0) me)
+
+-- the seats of two parties
+pub record AreTwoAt (bump : SharedBump) (here : TableId) (me : Me ℕ SeatView) (there : TableId) (other : Me ℕ SeatView)
+    : Type 0 where
+  pub a : IsSeatAt bump here me
+  pub b : IsSeatAt bump there other
+
+-- a seat of any number of parties
+abbrev pub StandsAt : SharedBump → TableId → Me ℕ SeatView → Type 0
+StandsAt bump here me =
+    IsAt bump.table here (me ≡ (standing_for (sight bump.scene (met_by me.0)) me.0.parties, []))
+
+-- such a seat, at which these parties may meet, too
+pub record MayMeet (bump : SharedBump) (here : TableId) (me : Me ℕ SeatView) (guests : List BumpParty) : Type 0 where
+  pub seat : StandsAt bump here me
+  pub rest : All (λ party. party.allocator ≡ bump) guests
+
 -- THE RULE
 
 -- Words and logs agree: there is a log for each party, with which the machine's position agrees that the word has. Each party
@@ -95,6 +122,20 @@ pub record IsSharedBump (scene : BumpScene) (start size : ℕ) : Type 0 where
 -- the view of the first seat, which stands for all parties
 abbrev pub all_parties : BumpScene → SeatView
 all_parties scene = standing_for (sight scene 0) (fresh_from 0 scene.parties)
+
+-- this bump's machine begins at a scene, and a seat of its table stands for all parties
+pub record IsOpened (begins : BumpScene) (bump : SharedBump) (here : TableId) (me : Me ℕ SeatView) : Type 0 where
+  pub scene : bump.scene ≡ begins
+  pub table : here ≡ bump.table
+  pub seat : me ≡ (all_parties begins, [])
+
+-- a seat of its table stands for all its parties, which are so many, and a vector has room for them
+pub record MaySeat {Z : Type 0} (bump : SharedBump) (count : ℕ) (here : TableId) (me : Me ℕ SeatView) (all : Vec BumpParty Z)
+    : Type 0 where
+  pub table : here ≡ bump.table
+  pub seat : me ≡ (all_parties bump.scene, [])
+  pub parties : count ≡ bump.scene.parties
+  pub room : HasRoomFor count all
 
 -- a view of no party
 abbrev pub nobody : SeatView

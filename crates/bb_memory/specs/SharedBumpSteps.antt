@@ -1,9 +1,10 @@
 -- What each step on a shared bump's word tells the party that makes it, and a request as it stands at its party's seat.
-use Rattle.std.specs.Prelude.{◌≡◌, ◌≢◌, ℕ, ◌+◌, ◌<◌, ◌≤◌, false, List, [], ◌∷◌, ◌++◌, Option, Some, None, All}
+use Rattle.std.specs.Prelude.{◌≡◌, ◌≢◌, ℕ, ◌+◌, ◌<◌, ◌≤◌, ◌%◌, true, false, List, [], ◌∷◌, ◌++◌, Option, Some, None, All}
 use Rattle.std.specs.Prelude.{length, max}
+use Rattle.atomic_table.specs.Seated.{TableId}
 use Rattle.atomic_table.specs.Table.{Me, Step}
-use Rattle.bb_memory_base.specs.Region.{region_end}
-use Rattle.bb_memory_base.specs.Chunk.{Chunk, chunk_end}
+use Rattle.bb_memory_base.specs.Region.{Region, region_end}
+use Rattle.bb_memory_base.specs.Chunk.{Chunk, IsInside, chunk_end}
 use Rattle.bb_memory_base.specs.BumpMachine.{BumpScene, OngoingCall, chunk_at, fits, read_move, exchange_move}
 use Rattle.bb_memory_base.specs.BumpHistory.{BumpLog, chunks_won, entry_of, losses_in}
 use Rattle.bb_memory_base.specs.BumpLogs.{HasPositionFrom, CommonInterleaving, Interleaving, HasPositionUpTo, LogsAgree, call_in}
@@ -14,8 +15,8 @@ use Rattle.bb_memory_base.specs.declared.steps.bump.BumpStep.TheVariants.{Read, 
 use Rattle.bb_memory_base.specs.declared.steps.bump.BumpOutcome.{BumpOutcome}
 use Rattle.bb_memory_base.specs.declared.steps.bump.BumpOutcome.TheVariants.{Loaded}
 use Rattle.bb_memory.specs.Seats.{HaveLogs, number_of, times_in, view_log}
-use Rattle.bb_memory.specs.SharedBump.{HasChunksWithin, HaveChunksApart, IsRefused, IsWon}
-use Rattle.bb_memory.specs.SharedBumpRule.{IsSeatOf, IsSeatOfIdle, NumberedLog, SeatView, meeting_of, met_by, scene_of}
+use Rattle.bb_memory.specs.SharedBump.{HasChunksWithin, HaveChunksApart, IsRefused, IsWon, SharedBump}
+use Rattle.bb_memory.specs.SharedBumpRule.{IsIdleAt, IsSeatOf, IsSeatOfIdle, NumberedLog, SeatView, meeting_of, met_by, scene_of}
 
 -- WHAT A STEP TELLS
 
@@ -67,6 +68,7 @@ pub record TellsTwo (scene : BumpScene) (number : ℕ) (log : BumpLog) (other : 
   pub apart : HaveChunksApart log other_log
   pub interleaved : CommonInterleaving scene number log other other_log found
   pub seen : (seen_in scene log ≤ found) × (seen_in scene other_log ≤ found)
+  pub within : found ≤ scene.region.size
   pub chunks : HasChunksWithin scene.region log found × HasChunksWithin scene.region other_log found
 
 -- The last position, to a party with this log: it is at least what the party had seen and what its last meeting had found, and
@@ -101,7 +103,29 @@ meets step old found new =
     (new ≡ (meeting_of found old.0, old.1))
     × TellsMeeting (scene_of old.0) old.0.parties (met_by old.0) found
 
+-- A load by a seat found this position, where these parties have met. The seat stays at its table.
+pub record HasFound (scene : BumpScene) (parties : List NumberedLog) (was : TableId) (old : Me ℕ SeatView) (found : ℕ)
+    (is : TableId) (new : Me ℕ SeatView) : Type 0 where
+  pub table : is ≡ was
+  pub seat : new ≡ (meeting_of found old.0, [])
+  pub told : TellsMeeting scene parties (met_by old.0) found
+
 -- REQUESTS
+
+-- the party of a seat may ask for this layout: it is idle, and the size isn't 0. A step is told the layout by its type
+pub record MayAsk (bump : SharedBump) (here : TableId) (me : Me ℕ SeatView) (asked : Option Layout) (layout : Layout)
+    : Type 0 where
+  pub seat : IsIdleAt bump here me
+  pub asks : 0 < layout.size
+  pub told : asked ≡ Some layout
+
+-- the chunk of this layout at a position, where it fits
+pub record IsFor (region : Region) (position : ℕ) (layout : Layout) (chunk : Chunk) : Type 0 where
+  pub fitting : fits region position layout ≡ true
+  pub placed : chunk ≡ chunk_at region position layout
+  pub aligned : chunk.place % layout.align ≡ 0
+  pub inside : IsInside region chunk
+  pub above : region.start + position ≤ chunk.place
 
 -- what is known of the positions and losses in what was added to a log
 pub record IsCounted (scene : BumpScene) (log : BumpLog) (met : ℕ) (added : BumpLog)

@@ -1,9 +1,9 @@
 -- A shared pool, its parties and the buckets that they took, as their contracts see them, and what each call adds to its
 -- party's log.
 use Rattle.std.specs.Prelude.{◌≡◌, ℕ, zero, suc, ◌<◌, ◌≤◌, List, [], ◌∷◌, ◌++◌, None, Result, Ok, Err, ◌+◌, take}
-use Rattle.std.specs.Prelude.{◌↔◌, All, Any, Bool, true, Contains, Some, length, map, slice_get}
+use Rattle.std.specs.Prelude.{◌↔◌, ◌%◌, All, Any, Bool, true, Contains, IfOk, IsErr, OnErr, Some, length, map, slice_get}
 use Rattle.atomic_table.specs.Seated.{TableId}
-use Rattle.bb_memory_base.specs.Chunk.{Chunk}
+use Rattle.bb_memory_base.specs.Chunk.{Chunk, IsInside}
 use Rattle.bb_memory_base.specs.PoolGeometry.{PoolGeometry, IsPoolGeometry, bucket_place}
 use Rattle.bb_memory_base.specs.PoolObject.{IsWithin}
 use Rattle.bb_memory_base.specs.PoolMachine.{PoolScene}
@@ -40,6 +40,13 @@ pub record PoolParty : Type 0 where
 -- the party of this number, which has made no step
 abbrev pub fresh_party : SharedPool → ℕ → PoolParty
 fresh_party allocator number = record { allocator = allocator; number = number; log = [] }
+
+-- these are all parties of a pool that has so many, numbered from 0, and none has made a step
+pub record AreFresh (allocator : SharedPool) (count : ℕ) (parties : List PoolParty) : Type 0 where
+  pub so_many : allocator.scene.parties ≡ count
+  pub as_many : length parties ≡ count
+  pub fresh : (number : ℕ) → number < count → slice_get parties number ≡ Some (fresh_party allocator number)
+  pub theirs : All (λ party. party.allocator ≡ allocator) parties
 
 -- the party with these more entries in its log
 abbrev pub with_entries : PoolParty → PoolLog → PoolParty
@@ -136,6 +143,44 @@ pub record IsParty (party : PoolParty) : Type 0 where
   pub idle : pass_in party.log ≡ None
   pub interleaved : IsInterleaved party
 
+-- a party before a call and after it: it has its number still, and what holds of every party holds of it
+pub record IsSameParty (old new : PoolParty) : Type 0 where
+  pub number : new.number ≡ old.number
+  pub is_party : IsParty new
+
+-- What each request for a bucket says, whichever buckets it tries: what is held after the party's log, and where the chunk in
+-- the bucket lies.
+pub record Serves (pool : SharedPool) (old : PoolParty) (layout : Layout) (answer : Result TakenBucket AllocationError)
+    (new : PoolParty) : Type 0 where
+  pub bucket : IfOk answer (λ bucket. bucket.allocator ≡ pool)
+  pub number : new.number ≡ old.number
+  pub is_party : IsParty new
+  pub held : IfOk answer (λ bucket. IsHeldAfter new.log bucket.number)
+  pub still_held : (other : ℕ) → IsHeldAfter old.log other → IsHeldAfter new.log other
+  pub inside : IfOk answer (λ bucket. IsInside pool.scene.geometry.region (chunk_of bucket))
+  pub aligned : IfOk answer (λ bucket. (chunk_of bucket).place % layout.align ≡ 0)
+  pub exact_size : IfOk answer (λ bucket. (chunk_of bucket).len ≡ layout.size)
+
+-- The same of a round. With one party it is refused exactly where each bucket is held after that party's log.
+pub record ServesRound (pool : SharedPool) (old : PoolParty) (layout : Layout) (answer : Result TakenBucket AllocationError)
+    (new : PoolParty) : Type 0 where
+  pub serves : Serves pool old layout answer new
+  pub alone : pool.scene.parties ≡ 1 → IsWithin pool.scene.geometry.bucket layout →
+      (IsErr answer ↔ AreAllHeldAfter old.log pool.scene.geometry.buckets)
+
+-- a bucket of this pool, at a multiple of the layout's alignment
+pub record IsAlignedTo (pool : SharedPool) (layout : Layout) (bucket : TakenBucket) : Type 0 where
+  pub allocator : bucket.allocator ≡ pool
+  pub aligned : (chunk_of bucket).place % layout.align ≡ 0
+
+-- what a resize of a bucket's chunk says of the bucket
+pub record IsResizedTo {E : Type 0} (pool : SharedPool) (old : TakenBucket) (answer : Result Chunk E) (new : TakenBucket)
+    : Type 0 where
+  pub resized : IfOk answer (λ chunk. new ≡ resized old chunk.len)
+  pub chunk : IfOk answer (λ chunk. chunk_of new ≡ chunk)
+  pub inside : IfOk answer (IsInside pool.scene.geometry.region)
+  pub kept : OnErr answer (new ≡ old)
+
 -- The pass with which this beginning of the party's log ends was refused, and has found each bucket held in the run, each at a
 -- step of its own. Its last step is the one after which the party's entries are that beginning.
 pub record HasFoundAllHeld (party : PoolParty) (is : IsParty party) (beginning : PoolLog)
@@ -147,6 +192,11 @@ pub record HasFoundAllHeld (party : PoolParty) (is : IsParty party) (beginning :
       IsRefusedAt history party.number last
   pub found : (bucket : ℕ) → bucket < party.allocator.scene.geometry.buckets →
       FoundHeld party.allocator.scene is.interleaved.steps party.number last bucket
+
+-- both parties are this pool's
+pub record AreBothOf (allocator : SharedPool) (one other : PoolParty) : Type 0 where
+  pub a : one.allocator ≡ allocator
+  pub b : other.allocator ≡ allocator
 
 -- one interleaving has the logs of both parties
 abbrev pub AreInterleaved : PoolParty → PoolParty → Type 0

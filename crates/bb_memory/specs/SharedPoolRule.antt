@@ -1,5 +1,6 @@
 -- The rule of a shared pool's words, and what its seats and fields stand for.
-use Rattle.std.specs.Prelude.{◌≡◌, ℕ, ◌<◌, Bool, true, false, List, [], ◌∷◌, None, map, max, length}
+use Rattle.std.specs.Prelude.{◌≡◌, ℕ, ◌<◌, Bool, true, false, List, [], ◌∷◌, All, None, map, max, length}
+use Rattle.std.specs.declared.vec.Vec.{Vec}
 use mathlib.Core.Path.{refl}
 use native.Mathlib.Nat.{zero-lt-suc}
 use Rattle.atomic_table.specs.Seated.{TableId}
@@ -8,10 +9,10 @@ use Rattle.bb_memory_base.specs.Region.{IsRegion, region_at}
 use Rattle.bb_memory_base.specs.PoolGeometry.{pool_geometry}
 use Rattle.bb_memory_base.specs.PoolMachine.{PoolScene}
 use Rattle.bb_memory_base.specs.PoolHistory.{PoolEntry, PoolLog}
-use Rattle.bb_memory_base.specs.PoolLogs.{Interleaving, LogsAgree, pass_in}
+use Rattle.bb_memory_base.specs.PoolLogs.{Interleaving, IsHeldAfter, LogsAgree, next_bucket, pass_in}
 use Rattle.bb_memory_base.specs.declared.layout.Layout.{Layout}
-use Rattle.bb_memory.specs.SharedPool.{PoolParty, IsSharedScene, scene_at}
-use Rattle.bb_memory.specs.Seats.{AreSeated, Numbered, Seat, alone, fresh_from, numbered, standing_for, view_log}
+use Rattle.bb_memory.specs.SharedPool.{PoolParty, IsSharedScene, SharedPool, scene_at}
+use Rattle.bb_memory.specs.Seats.{AreSeated, HasRoomFor, IsAt, Numbered, Seat, alone, fresh_from, number_of, numbered, standing_for, view_log}
 
 -- SEATS
 
@@ -51,6 +52,41 @@ pub record IsPartySeat (number : ℕ) (me : Me ℕ SeatView) : Type 0 where
   pub below : number < me.0.scene.parties
   pub shared : IsSharedScene me.0.scene
 
+-- SEATS AT A POOL'S TABLE
+
+-- the seat of one party
+abbrev pub IsSeatAt : SharedPool → TableId → Me ℕ SeatView → Type 0
+IsSeatAt pool here me = IsAt pool.table here (IsSeatOf pool.scene (number_of me.0) (view_log me.0) me)
+
+-- the same of an idle party
+abbrev pub IsIdleAt : SharedPool → TableId → Me ℕ SeatView → Type 0
+IsIdleAt pool here me = IsAt pool.table here (IsSeatOfIdle pool.scene (number_of me.0) (view_log me.0) me)
+
+-- the seats of two parties
+pub record AreTwoAt (pool : SharedPool) (here : TableId) (me : Me ℕ SeatView) (there : TableId) (other : Me ℕ SeatView)
+    : Type 0 where
+  pub a : IsSeatAt pool here me
+  pub b : IsSeatAt pool there other
+
+-- a seat of any number of parties
+abbrev pub StandsAt : SharedPool → TableId → Me ℕ SeatView → Type 0
+StandsAt pool here me = IsAt pool.table here (me ≡ (standing_for pool.scene me.0.parties, []))
+
+-- such a seat, at which these parties may meet, too
+pub record MayMeet (pool : SharedPool) (here : TableId) (me : Me ℕ SeatView) (guests : List PoolParty) : Type 0 where
+  pub seat : StandsAt pool here me
+  pub rest : All (λ party. party.allocator ≡ pool) guests
+
+-- the bucket that the party of a seat tries next
+pub record IsNextFor (pool : SharedPool) (me : Me ℕ SeatView) (bucket : ℕ) : Type 0 where
+  pub next : next_bucket (view_log me.0) ≡ bucket
+  pub below : bucket < pool.scene.geometry.buckets
+
+-- a bucket that is held after the log of a seat's party
+pub record IsHeldAt (pool : SharedPool) (me : Me ℕ SeatView) (bucket : ℕ) : Type 0 where
+  pub held : IsHeldAfter (view_log me.0) bucket
+  pub below : bucket < pool.scene.geometry.buckets
+
 -- THE RULE
 
 -- how a flag stands in its word
@@ -87,6 +123,20 @@ pub record IsSharedPool (scene : PoolScene) : Type 0 where
 -- the view of the first seat, which stands for all parties
 abbrev pub all_parties : PoolScene → SeatView
 all_parties scene = standing_for scene (fresh_from 0 scene.parties)
+
+-- this pool's machine begins at a scene, and a seat of its table stands for all parties
+pub record IsOpened (begins : PoolScene) (pool : SharedPool) (here : TableId) (me : Me ℕ SeatView) : Type 0 where
+  pub scene : pool.scene ≡ begins
+  pub table : here ≡ pool.table
+  pub seat : me ≡ (all_parties begins, [])
+
+-- a seat of its table stands for all its parties, which are so many, and a vector has room for them
+pub record MaySeat {Z : Type 0} (pool : SharedPool) (count : ℕ) (here : TableId) (me : Me ℕ SeatView) (all : Vec PoolParty Z)
+    : Type 0 where
+  pub table : here ≡ pool.table
+  pub seat : me ≡ (all_parties pool.scene, [])
+  pub parties : count ≡ pool.scene.parties
+  pub room : HasRoomFor count all
 
 -- no bytes, at any place
 pub no_bytes : Layout

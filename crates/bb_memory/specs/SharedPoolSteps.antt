@@ -1,6 +1,7 @@
 -- What each step on a shared pool's words tells the party that makes it, and passes and rounds as they stand at their party's
 -- seat.
 use Rattle.std.specs.Prelude.{◌≡◌, ◌≢◌, ℕ, ◌<◌, ◌≤◌, Bool, List, [], ◌∷◌, ◌++◌, length}
+use Rattle.atomic_table.specs.Seated.{TableId}
 use Rattle.atomic_table.specs.Table.{Me, Step}
 use Rattle.bb_memory_base.specs.PoolMachine.{PoolScene}
 use Rattle.bb_memory_base.specs.PoolHistory.{PoolLog, entry_of}
@@ -94,6 +95,13 @@ returns step old found new =
 -- a load that changes nothing, by a seat that stands for any number of parties
 abbrev pub meets : Step ℕ → Me ℕ SeatView → ℕ → Me ℕ SeatView → Type 0
 meets step old found new = (new ≡ old) × TellsMeeting old.0.scene old.0.parties
+
+-- A load by a seat, where these parties have met. The seat stays as it is.
+pub record HasFound (scene : PoolScene) (parties : List NumberedLog) (was : TableId) (old : Me ℕ SeatView)
+    (is : TableId) (new : Me ℕ SeatView) : Type 0 where
+  pub table : is ≡ was
+  pub seat : new ≡ old
+  pub told : TellsMeeting scene parties
 
 -- PASSES
 

@@ -1,18 +1,18 @@
 //! The bump that threads share: its word is the position, and each thread steps with a party of its own.
-ghost use Rattle.std.specs.Prelude.{◌≡◌, ◌≢◌, ◌+◌, ◌-◌, ◌<◌, ◌≤◌, ◌%◌, ◌∷◌, ◌++◌, [], ℕ, List, All, IfOk};
-ghost use Rattle.std.specs.Prelude.{OnErr, Some, length, slice_get, vec_len, vec_capacity, Contains};
+ghost use Rattle.std.specs.Prelude.{◌≡◌, ◌≢◌, ◌+◌, ◌-◌, ◌≤◌, ◌%◌, ◌∷◌, ◌++◌, [], List, All, IfOk};
+ghost use Rattle.std.specs.Prelude.{OnErr, length, Contains};
 ghost use Rattle.bb_memory_base.specs.Region.{IsRegion, region_at};
 ghost use Rattle.bb_memory_base.specs.Chunk.{AreApart, Chunk, IsInside};
 ghost use Rattle.bb_memory_base.specs.LiveList.{IsSound};
 ghost use Rattle.bb_memory_base.specs.BumpObject.{StandsFor};
 ghost use Rattle.bb_memory_base.specs.BumpHistory.{BumpLog, chunks_won, history_of, losses_in};
 ghost use Rattle.bb_memory_base.specs.BumpCalls.{IsCallRun, OpensWith, calls_of, live_after};
-ghost use Rattle.bb_memory_base.specs.BumpLogs.{CommonInterleaving, Interleaving};
-ghost use Rattle.bb_memory.specs.SharedBump.{AgreeAt, AreInterleaved, BumpParty, HasChunksWithin, HaveChunksApart};
-ghost use Rattle.bb_memory.specs.SharedBump.{HaveMet, IsAnsweredAt, IsFoundBy, IsInterleaved, IsParty, IsSharedScene, MayTake};
-ghost use Rattle.bb_memory.specs.SharedBump.{floor_of, fresh_party, greatest_seen, load_entry, meeting_at, scene_at, seen_by};
+ghost use Rattle.bb_memory_base.specs.BumpLogs.{Interleaving};
+ghost use Rattle.bb_memory.specs.SharedBump.{AgreeAt, AreBothOf, AreFresh, AreInterleaved, BumpParty, HasChunksWithin, HaveChunksApart};
+ghost use Rattle.bb_memory.specs.SharedBump.{HasLoaded, HaveMet, IsAnsweredAt, IsFoundBy, IsParty, IsSameParty, IsSharedScene, MayTake, MeetAt};
+ghost use Rattle.bb_memory.specs.SharedBump.{floor_of, greatest_seen, meeting_at, scene_at, seen_by};
 ghost use Rattle.bb_memory.specs.SharedBump.{with_entries};
-ghost use Rattle.bb_memory.specs.SharedBumpRule.{all_parties};
+ghost use Rattle.bb_memory.specs.SharedBumpRule.{MaySeat};
 
 mod all_parties;
 mod meeting;
@@ -83,16 +83,10 @@ impl SharedBumpAllocator {
         parties: u32,
     ) -> Result<(SharedBumpAllocator, Vec<BumpParty>), AllocError>
         requires region { IsRegion (region_at start size) }
-        requires position { position ≤ size }
-        requires parties { 1 ≤ parties }
+        requires scene { IsSharedScene (scene_at (region_at start size) position parties) }
         ensures scene { IfOk result (λ made.
             made.0.scene ≡ scene_at (region_at start size) position parties) }
-        ensures parties { IfOk result (λ made. made.0.scene.parties ≡ parties) }
-        ensures as_many { IfOk result (λ made. length made.1.items ≡ parties) }
-        ensures fresh { IfOk result (λ made. (number : ℕ) → number < parties
-            → slice_get made.1.items number ≡ Some (fresh_party made.0 number)) }
-        ensures theirs { IfOk result (λ made.
-            All (λ party. party.allocator ≡ made.0) made.1.items) }
+        ensures parties { IfOk result (λ made. AreFresh made.0 parties made.1.items) }
     {
         let mut all = Vec::with_capacity(alloc, parties as usize)?;
         let scene = Scene {
@@ -127,9 +121,7 @@ impl SharedBumpAllocator {
         // The party stays this allocator's, and some interleaving has its log. So what `shared_bump_law`
         // says holds of it.
         ensures party { party.new.allocator ≡ self.now }
-        ensures number { party.new.number ≡ party.old.number }
-        ensures interleaved { IsInterleaved party.new }
-        ensures is_party { IsParty party.new }
+        ensures is_party { IsSameParty party.old party.new }
 
         // The chunk is the one that the log has won since; a refusal wins none.
         ensures won { IfOk result (λ chunk.
@@ -170,21 +162,14 @@ impl SharedBumpAllocator {
     /// Two parties meet: no chunk of the one overlaps one of the other. It loads a word four times, which is in no log. What it
     /// finds raises the floor of both, and nothing else changes. The parties have to be this bump's.
     pub fn meet(&self, a: &mut BumpParty, b: &mut BumpParty)
-        requires a { a.old.allocator ≡ self.now }
-        requires b { b.old.allocator ≡ self.now }
+        requires parties { AreBothOf self.now a.old b.old }
         ensures kept { (a.new ≡ meeting_at a.new.met a.old) × (b.new ≡ meeting_at a.new.met b.old) }
-        ensures a { a.new.allocator ≡ self.now }
-        ensures b { b.new.allocator ≡ self.now }
-        ensures differ { a.old.number ≢ b.old.number }
+        ensures parties { AreBothOf self.now a.new b.new }
         ensures apart { HaveChunksApart a.old.log b.old.log }
-        ensures interleaved { AreInterleaved a.old b.old }
 
         // What it found is at least what either knew, at most the size, and what an interleaving of
         // both logs leaves.
-        ensures risen { (floor_of a.old ≤ a.new.met) × (floor_of b.old ≤ a.new.met) }
-        ensures within { a.new.met ≤ self.now.scene.region.size }
-        ensures leaves { CommonInterleaving self.now.scene
-            a.old.number a.old.log b.old.number b.old.log a.new.met }
+        ensures met { MeetAt self.now a.old b.old a.new.met }
 
         // Each chunk of either ends there or before.
         ensures behind { let region = self.now.scene.region in
@@ -221,15 +206,8 @@ impl SharedBumpAllocator {
     /// one load found. The party has to be this bump's.
     pub fn used_space(&self, party: &mut BumpParty) -> usize
         requires party { party.old.allocator ≡ self.now }
-        ensures logged { party.new ≡ with_entries party.old (load_entry party.old.number result) }
         ensures party { party.new.allocator ≡ self.now }
-        ensures number { party.new.number ≡ party.old.number }
-        ensures interleaved { IsInterleaved party.new }
-        ensures is_party { IsParty party.new }
-        ensures seen { seen_by party.old ≤ result }
-        ensures floor { floor_of party.old ≤ result }
-        ensures within { result ≤ self.now.scene.region.size }
-        ensures alone { self.now.scene.parties ≡ 1 → result ≡ seen_by party.old }
+        ensures loaded { HasLoaded self.now party.old result party.new }
     {
         self.position.load(&mut party.seat)
     }
@@ -237,17 +215,10 @@ impl SharedBumpAllocator {
     /// How many bytes are behind the last chunk: the total less what one load found to be used. The party has to be this bump's.
     pub fn free_space(&self, party: &mut BumpParty) -> usize
         requires party { party.old.allocator ≡ self.now }
-        ensures logged { let used = self.now.scene.region.size - result in
-            party.new ≡ with_entries party.old (load_entry party.old.number used) }
         ensures party { party.new.allocator ≡ self.now }
-        ensures number { party.new.number ≡ party.old.number }
-        ensures interleaved { IsInterleaved party.new }
-        ensures is_party { IsParty party.new }
-        ensures seen { seen_by party.old ≤ self.now.scene.region.size - result }
-        ensures floor { floor_of party.old ≤ self.now.scene.region.size - result }
+        ensures loaded { let used = self.now.scene.region.size - result in
+            HasLoaded self.now party.old used party.new }
         ensures within { result ≤ self.now.scene.region.size }
-        ensures alone { self.now.scene.parties ≡ 1
-            → self.now.scene.region.size - result ≡ seen_by party.old }
     {
         self.size - self.used_space(party)
     }
@@ -318,15 +289,8 @@ impl SharedBumpAllocator {
 
     /// Gives each party a seat of its own.
     fn seat_parties(&self, mut rest: Seat<u8, View>, parties: u32, all: &mut Vec<BumpParty>)
-        requires table { rest.table_id ≡ self.now.table }
-        requires seat { rest.me ≡ (all_parties self.now.scene, []) }
-        requires parties { parties ≡ self.now.scene.parties }
-        requires empty { all.old.items ≡ [] }
-        requires room { (vec_len all.old ≡ 0) × (parties ≤ vec_capacity all.old) }
-        ensures as_many { length all.new.items ≡ parties }
-        ensures fresh { (number : ℕ) → number < parties
-            → slice_get all.new.items number ≡ Some (fresh_party self.now number) }
-        ensures theirs { All (λ party. party.allocator ≡ self.now) all.new.items }
+        requires { MaySeat self.now parties rest.table_id rest.me all.old }
+        ensures { AreFresh self.now parties all.new.items }
     {
         for number in 0..parties {
             let seat = self.position.deal(&mut rest);

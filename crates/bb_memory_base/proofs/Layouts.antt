@@ -1,8 +1,11 @@
 -- Which layouts there are.
-use Rattle.std.proofs.Common.{ℕ, ◌^◌, ◌<◌, ◌↔◌, arith, refl}
+use Rattle.std.proofs.Common.{◌≡◌, ℕ, ◌^◌, ◌<◌, ◌↔◌, arith, refl}
+use Rattle.std.proofs.Props.{props}
 use Rattle.std.specs.Align.{IsLayout}
 use Rattle.std.specs.Int.{IsPowerOfTwo}
+use mathlib.Core.HLevel.{is_prop→PathP}
 use Rattle.bb_memory_base.specs.LeastPlace.{least_place}
+use Rattle.bb_memory_base.specs.declared.layout.Layout.{Layout}
 use Rattle.bb_memory_base.proofs.PowersOfTwo.{power_of_two-from_test, power_of_two-test, power_of_two-positive}
 
 -- a layout is a power of two, and a size that is small enough once it is rounded up to that
@@ -21,3 +24,11 @@ layout-plain size align = (
 pub empty-valid : IsLayout 0 1
 unfolding lib.Count.ones
 empty-valid = record { power_of_two = refl; positive = omega arith; fits = omega arith }
+
+-- layouts of the same numbers are the same
+pub same_layout : (a b : Layout) → a.size ≡ b.size → a.align ≡ b.align → a ≡ b
+same_layout a b size align = λ i. record {
+  size = size i;
+  align = align i;
+  valid = is_prop→PathP (λ j. IsLayout (size j) (align j)) (λ j. hlevel props) a.valid b.valid i;
+}

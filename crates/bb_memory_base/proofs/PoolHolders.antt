@@ -19,7 +19,7 @@ is_holder party (Some (Some holder)) = holder == party
 is_holder party _ = false
 
 -- whether a party holds a bucket after entries of its log, where it held it before them or not
-abbrev held_through : ℕ → Bool → PoolLog → Bool
+abbrev pub held_through : ℕ → Bool → PoolLog → Bool
 held_through bucket held log = fold (λ held entry. held_after bucket held entry.outcome) held log
 
 either_way : (mine held : Bool) → (if mine then held else held) ≡ held

@@ -1,5 +1,5 @@
--- Reads of a list at a position, after a write and in a list of one value.
-use Rattle.std.proofs.Common.{◌≡◌, ◌≢◌, ℕ, zero, suc, ◌<◌, List, [], ◌∷◌, length}
+-- Reads of a list at a position, after a write or a push and in a list of one value.
+use Rattle.std.proofs.Common.{◌≡◌, ◌≢◌, ℕ, zero, suc, ◌<◌, List, [], ◌∷◌, ◌++◌, length}
 use Rattle.std.proofs.Common.{replicate, refl, ap, arith, Some, IsSome, ◌⊎◌, inl, inr}
 use Rattle.std.specs.Prelude.{slice_get, slice_set}
 
@@ -54,3 +54,13 @@ pub slice_get-some : {X : Type 0} (xs : List X) (i : ℕ) → IsSome (slice_get 
 slice_get-some [] i some = cc
 slice_get-some (y ∷ ys) zero some = omega arith
 slice_get-some (y ∷ ys) (suc i) some = omega (arith, slice_get-some ys i some)
+
+-- what stood in a list stands there still once one is put behind it, and that one stands behind the others
+pub slice_get-push : {X : Type 0} (xs : List X) (i : ℕ) (x y : X) → slice_get xs i ≡ Some x → slice_get (xs ++ y ∷ []) i ≡ Some x
+slice_get-push [] i x y at = absurd (cc)
+slice_get-push (z ∷ xs) zero x y at = at
+slice_get-push (z ∷ xs) (suc i) x y at = slice_get-push xs i x y at
+
+pub slice_get-last : {X : Type 0} (xs : List X) (y : X) → slice_get (xs ++ y ∷ []) (length xs) ≡ Some y
+slice_get-last [] y = refl
+slice_get-last (z ∷ xs) y = slice_get-last xs y

@@ -1,7 +1,9 @@
 -- A bump world: the bump machine over a region.
-use Rattle.std.specs.Prelude.{ℕ, ◌≤◌, List, Option}
+use Rattle.std.specs.Prelude.{◌≡◌, ℕ, ◌≤◌, List, Option, Result, IfOk, IfSome, OnErr, OnOk}
+use Rattle.std.specs.declared.vec.Vec.{Vec}
 use Rattle.bb_memory_base.specs.Region.{Region, IsRegion}
-use Rattle.bb_memory_base.specs.BumpMachine.{OngoingCall, BumpState, BumpScene, AllFitting, opening_state, bump_step, bump_after}
+use Rattle.bb_memory_base.specs.BumpMachine.{OngoingCall, BumpState, BumpScene, PartyMove, AllFitting, IsFitting, opening_state}
+use Rattle.bb_memory_base.specs.BumpMachine.{bump_step, bump_after}
 use Rattle.bb_memory_base.specs.BumpHistory as histories
 use Rattle.bb_memory_base.specs.declared.steps.bump.BumpStep.{BumpStep}
 use Rattle.bb_memory_base.specs.declared.steps.bump.BumpOutcome.{BumpOutcome}
@@ -23,6 +25,17 @@ pub record IsBumpWorld (world : BumpWorld) : Type 0 where
   pub within : world.state.position ≤ world.region.size
   pub fitting : AllFitting world.region world.state
 
+-- a position in a region
+pub record IsPositionIn (region : Region) (position : ℕ) : Type 0 where
+  pub region_is : IsRegion region
+  pub within : position ≤ region.size
+
+-- a party's move in a region is this one: the party's call fits then, and the position is in the region
+pub record IsMove (region : Region) (expected move : PartyMove) : Type 0 where
+  pub value : move ≡ expected
+  pub fitting : IfSome move.call (IsFitting region)
+  pub within : move.position ≤ region.size
+
 -- the machine over a region, at position 0, with so many parties, all idle
 abbrev pub opened : Region → ℕ → BumpWorld
 opened region parties =
@@ -40,6 +53,11 @@ outcome_of world step = (bump_step world.region world.state step).outcome
 abbrev pub after_step : BumpWorld → BumpStep → BumpWorld
 after_step world step = in_state world (bump_step world.region world.state step).state
 
+-- what a call that takes a step answers, and the world that it leaves
+pub record Steps (old : BumpWorld) (step : BumpStep) (answer : BumpOutcome) (new : BumpWorld) : Type 0 where
+  pub outcome : answer ≡ outcome_of old step
+  pub state : new ≡ after_step old step
+
 -- the same of a list of steps
 abbrev pub outcomes_of : BumpWorld → List BumpStep → List BumpOutcome
 outcomes_of world steps =
@@ -47,3 +65,10 @@ outcomes_of world steps =
 
 abbrev pub after_steps : BumpWorld → List BumpStep → BumpWorld
 after_steps world steps = in_state world (bump_after world.region world.state steps)
+
+-- what a call that takes them all answers; where memory is refused for the answers, it takes none
+pub record Replays {Z E : Type 0} (old : BumpWorld) (steps : List BumpStep) (answer : Result (Vec BumpOutcome Z) E)
+    (new : BumpWorld) : Type 0 where
+  pub outcomes : IfOk answer (λ found. found.items ≡ outcomes_of old steps)
+  pub state : OnOk answer (new ≡ after_steps old steps)
+  pub kept : OnErr answer (new ≡ old)

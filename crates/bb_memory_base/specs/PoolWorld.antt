@@ -1,5 +1,6 @@
 -- A pool world: the pool machine over some buckets.
-use Rattle.std.specs.Prelude.{ℕ, ◌<◌, ◌^◌, List, Option, length}
+use Rattle.std.specs.Prelude.{◌≡◌, ℕ, ◌<◌, ◌^◌, List, Option, Result, IfOk, OnErr, OnOk, length}
+use Rattle.std.specs.declared.vec.Vec.{Vec}
 use Rattle.bb_memory_base.specs.PoolMachine.{PoolState, all_free, pool_step, pool_after}
 use Rattle.bb_memory_base.specs.PoolHistory as histories
 use Rattle.bb_memory_base.specs.declared.steps.pool.PoolStep.{PoolStep}
@@ -27,9 +28,21 @@ outcome_of world step = (pool_step world step).outcome
 abbrev pub after_step : PoolWorld → PoolStep → PoolWorld
 after_step world step = (pool_step world step).state
 
+-- what a call that takes a step answers, and the world that it leaves
+pub record Steps (old : PoolWorld) (step : PoolStep) (answer : PoolOutcome) (new : PoolWorld) : Type 0 where
+  pub outcome : answer ≡ outcome_of old step
+  pub state : new ≡ after_step old step
+
 -- the same of a list of steps
 abbrev pub outcomes_of : PoolWorld → List PoolStep → List PoolOutcome
 outcomes_of world steps = histories.outcomes_of (histories.pool_history world steps)
 
 abbrev pub after_steps : PoolWorld → List PoolStep → PoolWorld
 after_steps world steps = pool_after world steps
+
+-- what a call that takes them all answers; where memory is refused for the answers, it takes none
+pub record Replays {Z E : Type 0} (old : PoolWorld) (steps : List PoolStep) (answer : Result (Vec PoolOutcome Z) E)
+    (new : PoolWorld) : Type 0 where
+  pub outcomes : IfOk answer (λ found. found.items ≡ outcomes_of old steps)
+  pub state : OnOk answer (new ≡ after_steps old steps)
+  pub kept : OnErr answer (new ≡ old)

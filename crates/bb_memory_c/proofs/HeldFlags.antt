@@ -13,47 +13,18 @@ use Rattle.bb_memory_base.specs.declared.steps.pool.PoolOutcome.TheVariants.{Tak
 use Rattle.bb_memory_base.proofs.PoolSteps.{test_same, test_apart}
 use Rattle.bb_memory_base.proofs.SliceGets.{length-set_at}
 use Rattle.bb_memory_base.proofs.SliceSets.{slice_get-set_other, slice_get-set_same}
+use Rattle.bb_memory_base.proofs.PoolHolders.{held_through}
 use Rattle.bb_memory.specs.SharedPool.{MayTake, PoolParty, SharedPool, TakenBucket, losses, refused_pass, return_entry, taking_pass, with_entries}
+use Rattle.bb_memory.proofs.SharedPoolTries.{held-append, held-losses, held-taking}
 use Rattle.bb_memory_c.specs.SharedPools.{AreHeldFlags, IsSeatAt}
 
 -- LOGS
-
-abbrev held_through : ℕ → Bool → PoolLog → Bool
-held_through bucket held log = fold (λ held entry. held_after bucket held entry.outcome) held log
-
-held-append : (bucket : ℕ) (held : Bool) (log more : PoolLog) →
-    held_through bucket held (log ++ more) ≡ held_through bucket (held_through bucket held log) more
-held-append bucket held [] more = refl
-held-append bucket held (entry ∷ log) more = held-append bucket (held_after bucket held entry.outcome) log more
-
-held-loss : (bucket lost : ℕ) (held more : Bool) →
-    held_after bucket held (if more then Loses lost else RefusedAtLoss lost) ≡ held
-held-loss bucket lost held true = refl
-held-loss bucket lost held false = refl
-
--- losses change nothing of what is held
-held-losses : (buckets party lost bucket : ℕ) (held : Bool) →
-    held_through bucket held (losses buckets party lost) ≡ held
-held-losses buckets party zero bucket held = refl
-held-losses buckets party (suc lost) bucket held =
-    held-append bucket held (losses buckets party lost) (entry_of (Try party) (loss_at buckets lost) ∷ [])
-    ∙ held-loss bucket lost (held_through bucket held (losses buckets party lost)) (nat_lt (lost + 1) buckets)
-    ∙ held-losses buckets party lost bucket held
 
 after-refusal : (buckets party bucket : ℕ) (log : PoolLog) →
     held_through bucket false (log ++ refused_pass buckets party) ≡ held_through bucket false log
 after-refusal buckets party bucket log =
     held-append bucket false log (refused_pass buckets party)
     ∙ held-losses buckets party buckets bucket (held_through bucket false log)
-
-after-taking : (buckets party taken bucket : ℕ) (log : PoolLog) →
-    held_through bucket false (log ++ taking_pass buckets party taken)
-    ≡ (if taken == bucket then true else held_through bucket false log)
-after-taking buckets party taken bucket log =
-    let before : Bool = held_through bucket false log in
-    held-append bucket false log (taking_pass buckets party taken)
-    ∙ held-append bucket before (losses buckets party taken) (entry_of (Try party) (Takes taken) ∷ [])
-    ∙ ap (λ (held : Bool). if taken == bucket then true else held) (held-losses buckets party taken bucket before)
 
 after-return : (party returned bucket : ℕ) (log : PoolLog) →
     held_through bucket false (log ++ return_entry party returned)
@@ -112,7 +83,7 @@ taking-seat pool party new flags layout taken is told =
       theirs = is.theirs;
       as_many = length-set_at flags taken.number true ∙ is.as_many;
       exact = flags-set flags taken.number true party.log (party.log ++ taking_pass buckets party.number taken.number) below is.exact
-          (λ bucket. after-taking buckets party.number taken.number bucket party.log);
+          (λ bucket. held-taking buckets party.number taken.number bucket party.log);
     }
 
 -- a return unsets it

@@ -1,23 +1,14 @@
 -- Layouts of two numbers.
 use Rattle.std.proofs.Common.{◌≡◌, ℕ, Result, Ok, Err, Option, Some, None, IsOk, IfOk, ◌↔◌, ap, ◌∙◌, sym, subst, ◌≤◌}
-use Rattle.std.proofs.Props.{props}
 use Rattle.std.proofs.lemmas.Bool.{false≢true}
 use Rattle.std.specs.Align.{IsLayout}
 use Rattle.std.specs.Result.{result_ok}
 use Rattle.std.specs.Option.{is_some}
-use mathlib.Core.HLevel.{is_prop→PathP}
 use Rattle.bb_memory_base.specs.declared.layout.Layout.{Layout}
 use Rattle.bb_memory_base.specs.Region.{Region}
+use Rattle.bb_memory_base.proofs.Layouts.{same_layout}
 use Rattle.bb_memory.specs.Pool.{MayBeCut}
 use Rattle.bb_memory_c.specs.Layouts.{CannotCut, FailsOf, IsCuttable, IsOf, MayBeShared}
-
--- layouts of the same numbers are the same
-pub same_layout : (a b : Layout) → a.size ≡ b.size → a.align ≡ b.align → a ≡ b
-same_layout a b size align = λ i. record {
-  size = size i;
-  align = align i;
-  valid = is_prop→PathP (λ j. IsLayout (size j) (align j)) (λ j. hlevel props) a.valid b.valid i;
-}
 
 -- what is made of the numbers of a layout is that layout
 pub made_of : {E : Type 0} (r : Result Layout E) (size align : ℕ) (layout : Layout)

@@ -3,15 +3,12 @@ use Rattle.std.proofs.Common.{◌≡◌, ℕ, zero, suc, ◌+◌, ◌<◌, List,
 use Rattle.std.specs.Prelude.{slice_get}
 use Rattle.std.proofs.lemmas.List.{length_push}
 use Rattle.std.proofs.lemmas.Option.{same_Some}
+use Rattle.bb_memory_base.proofs.SliceGets.{slice_get-last}
 
 slice_get-front : {X : Type 0} (xs : List X) (y : X) (i : ℕ) → i < length xs → slice_get (xs ++ y ∷ []) i ≡ slice_get xs i
 slice_get-front [] y i below = absurd (omega arith)
 slice_get-front (x ∷ xs) y zero below = refl
 slice_get-front (x ∷ xs) y (suc i) below = slice_get-front xs y i (omega arith)
-
-slice_get-last : {X : Type 0} (xs : List X) (y : X) → slice_get (xs ++ y ∷ []) (length xs) ≡ Some y
-slice_get-last [] y = refl
-slice_get-last (x ∷ xs) y = slice_get-last xs y
 
 -- each is the one that is made for its position
 abbrev pub AreMadeBy : {X : Type 0} → (ℕ → X) → List X → Type 0

@@ -8,7 +8,8 @@ use Rattle.bb_memory_base.proofs.SliceGets.{slice_get-set, slice_get-set_other, 
 use Rattle.loan_book.specs.Sample.{Sample}
 use Rattle.loan_book.specs.Book.{Book, IsBook, IsAt, IsOut, HasReturns, IsPublished, IsUnpublished}
 use Rattle.loan_book.specs.Calls.{with_sample, with_returns, without}
-use Rattle.loan_book.proofs.Positions.{slice_get-last, slice_get-push, slice_get-pushed, slice_get-remove, slice_get-removed}
+use Rattle.bb_memory_base.proofs.SliceGets.{slice_get-last, slice_get-push}
+use Rattle.loan_book.proofs.Positions.{slice_get-pushed, slice_get-remove, slice_get-removed}
 
 -- a sample of one id is before no other sample of that id
 not_before : (book : Book) (id i j : ℕ) (one other : Sample) → IsBook book → IsAt book id i one → IsAt book id j other → ¬ (i < j)

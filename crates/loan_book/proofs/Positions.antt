@@ -3,12 +3,6 @@ use Rattle.std.proofs.Common.{◌≡◌, ◌≢◌, ℕ, zero, suc, List, [], �
 use Rattle.std.specs.Prelude.{slice_get}
 use Rattle.std.specs.List.{remove}
 
--- what stood there stands there still
-pub slice_get-push : {X : Type 0} (xs : List X) (i : ℕ) (x y : X) → slice_get xs i ≡ Some x → slice_get (xs ++ y ∷ []) i ≡ Some x
-slice_get-push [] i x y at = absurd (cc)
-slice_get-push (z ∷ xs) zero x y at = at
-slice_get-push (z ∷ xs) (suc i) x y at = slice_get-push xs i x y at
-
 -- what stands there stood there, or is the new one
 pub slice_get-pushed : {X : Type 0} (xs : List X) (i : ℕ) (x y : X) → slice_get (xs ++ y ∷ []) i ≡ Some x →
     (slice_get xs i ≡ Some x) ⊎ (y ≡ x)
@@ -16,11 +10,6 @@ slice_get-pushed [] zero x y at = inr (cc)
 slice_get-pushed [] (suc i) x y at = absurd (cc)
 slice_get-pushed (z ∷ xs) zero x y at = inl at
 slice_get-pushed (z ∷ xs) (suc i) x y at = slice_get-pushed xs i x y at
-
--- the new one stands behind the others
-pub slice_get-last : {X : Type 0} (xs : List X) (y : X) → slice_get (xs ++ y ∷ []) (length xs) ≡ Some y
-slice_get-last [] y = refl
-slice_get-last (z ∷ xs) y = slice_get-last xs y
 
 -- another element stays, if one place lower
 pub slice_get-remove : {X : Type 0} (xs : List X) (i j : ℕ) (x : X) → slice_get xs j ≡ Some x → j ≢ i →

@@ -1,23 +1,14 @@
 -- Layouts made of two numbers.
 use Rattle.std.proofs.Common.{◌≡◌, ℕ, zero, suc, ◌*◌, ◌<◌, ◌≤◌, ◌^◌, Result, Ok, Err, Some, IsOk, IfOk, ◌↔◌, ap, ◌∙◌}
 use Rattle.std.proofs.Common.{arith, mul-le-mul_right}
-use Rattle.std.proofs.Props.{props}
 use Rattle.std.proofs.lemmas.Bool.{false≢true}
 use Rattle.std.specs.Align.{IsLayout}
 use Rattle.std.specs.Result.{result_ok}
-use mathlib.Core.HLevel.{is_prop→PathP}
 use Rattle.bb_memory_base.specs.LeastPlace.{least_place}
 use Rattle.bb_memory_base.specs.declared.layout.Layout.{Layout}
+use Rattle.bb_memory_base.proofs.Layouts.{same_layout}
 use Rattle.bb_memory_base.proofs.LeastPlaces.{least_place-is}
 use Rattle.script_runner.specs.Fields.{IsLayoutOfNumbers}
-
--- layouts of the same numbers are the same
-same_layout : (a b : Layout) → a.size ≡ b.size → a.align ≡ b.align → a ≡ b
-same_layout a b size align = λ i. record {
-  size = size i;
-  align = align i;
-  valid = is_prop→PathP (λ j. IsLayout (size j) (align j)) (λ j. hlevel props) a.valid b.valid i;
-}
 
 -- what is made of the numbers of a layout is that layout
 pub result_ok-layout : {E : Type 0} (r : Result Layout E) (size align : ℕ) (layout : Layout)

@@ -3,13 +3,14 @@
 //! `read`, `exchange` and `load` make one atomic step each, by the seat of the party whose step it is, and tell that its log then
 //! ends with that step and what it found. `deal`, `gather`, `find` and `meet` only load the word, and are in no log; `open` and
 //! `close` are before and after all sharing.
-ghost use Rattle.std.specs.Prelude.{◌≡◌, ◌<◌, ◌≤◌, [], IfOk, Some};
+ghost use Rattle.std.specs.Prelude.{◌≡◌, ◌≤◌, [], IfOk, Some};
 ghost use Rattle.bb_memory_base.specs.BumpMachine.{chunk_at, position_behind};
 ghost use Rattle.bb_memory_base.specs.BumpLogs.{call_in};
-ghost use Rattle.bb_memory.specs.Seats.{first_of, number_of, others_of, standing_for, view_log};
-ghost use Rattle.bb_memory.specs.SharedBumpRule.{IsSeatOf, IsSeatOfIdle, all_parties, gathered, meeting_of, met_by};
-ghost use Rattle.bb_memory.specs.SharedBumpRule.{scene_of, sight};
-ghost use Rattle.bb_memory.specs.SharedBumpSteps.{TellsExchange, TellsLoad, TellsMeeting, TellsRead, TellsTwo};
+ghost use Rattle.bb_memory.specs.Seats.{IsDealt, MayGather, Stays, number_of, view_log};
+ghost use Rattle.bb_memory.specs.SharedBumpRule.{AreTwoAt, IsIdleAt, IsOpened, IsSeatAt, StandsAt, gathered, meeting_of};
+ghost use Rattle.bb_memory.specs.SharedBumpRule.{met_by, scene_of};
+ghost use Rattle.bb_memory.specs.SharedBumpSteps.{HasFound, MayAsk, TellsExchange, TellsLoad, TellsMeeting, TellsRead};
+ghost use Rattle.bb_memory.specs.SharedBumpSteps.{TellsTwo};
 
 use super::rule::{
     Agreement, Asked, Exchanges, Gather, GiveFirst, Loads, Meets, Reads, Scene, View,
@@ -44,9 +45,7 @@ impl Position {
         scene: Scene,
     ) -> Result<(Position, Seat<u8, View>), AllocError>
         requires opening { scene.opening ≤ scene.region.size }
-        ensures scene { IfOk result (λ made. made.0.scene ≡ scene) }
-        ensures table { IfOk result (λ made. made.1.table_id ≡ made.0.table) }
-        ensures seat { IfOk result (λ made. made.1.me ≡ (all_parties scene, [])) }
+        ensures { IfOk result (λ made. IsOpened scene made.0 made.1.table_id made.1.me) }
     {
         let (table, seat) = Table::of_words(alloc, &[scene.opening as u64], &scene)?;
         Ok((Position { table }, seat))
@@ -54,26 +53,19 @@ impl Position {
 
     /// A seat of its own for the first party that a seat stands for.
     pub(super) fn deal(&self, rest: &mut Seat<u8, View>) -> Seat<u8, View>
-        requires table { rest.old.table_id ≡ self.now.table }
-        ensures table { rest.new.table_id ≡ rest.old.table_id }
-        ensures rest { rest.new.me ≡ (others_of rest.old.me.0, rest.old.me.1) }
-        ensures its_table { result.table_id ≡ rest.old.table_id }
-        ensures first { result.me ≡ (first_of rest.old.me.0, []) }
+        requires { rest.old.table_id ≡ self.now.table }
+        ensures { IsDealt rest.old.table_id rest.old.me rest.new.table_id rest.new.me
+            result.table_id result.me }
     {
         self.table.shared.split_seat::<GiveFirst>(rest)
     }
 
     /// The read that begins a request. For which layout it is, the step says by its type.
     pub(super) fn read<L: Asked>(&self, seat: &mut Seat<u8, View>, _layout: Layout) -> usize
-        requires table { seat.old.table_id ≡ self.now.table }
-        requires seat { IsSeatOfIdle self.now.scene
-            (number_of seat.old.me.0) (view_log seat.old.me.0) seat.old.me }
-        requires asks { 0 < _layout.size }
-        requires asked { L.layout ≡ Some _layout }
-        ensures table { seat.new.table_id ≡ seat.old.table_id }
-        ensures step { TellsRead self.now.scene
+        requires { MayAsk self.now seat.old.table_id seat.old.me L.layout _layout }
+        ensures { Stays seat.old.table_id seat.new.table_id (TellsRead self.now.scene
             (number_of seat.old.me.0) (view_log seat.old.me.0) (met_by seat.old.me.0)
-            _layout result seat.new.me }
+            _layout result seat.new.me) }
     {
         self.table.shared.load::<Reads<L>>(seat, 0) as usize
     }
@@ -86,17 +78,14 @@ impl Position {
         seen: usize,
         behind: usize,
     ) -> usize
-        requires table { seat.old.table_id ≡ self.now.table }
-        requires seat { IsSeatOf self.now.scene
-            (number_of seat.old.me.0) (view_log seat.old.me.0) seat.old.me }
+        requires seat { IsSeatAt self.now seat.old.table_id seat.old.me }
         requires call { call_in (view_log seat.old.me.0)
             ≡ Some (record { layout = layout; seen = seen }) }
         requires behind { let region = self.now.scene.region in
             behind ≡ position_behind region (chunk_at region seen layout) }
-        ensures table { seat.new.table_id ≡ seat.old.table_id }
-        ensures step { TellsExchange self.now.scene
+        ensures { Stays seat.old.table_id seat.new.table_id (TellsExchange self.now.scene
             (number_of seat.old.me.0) (view_log seat.old.me.0) (met_by seat.old.me.0)
-            result seat.new.me }
+            result seat.new.me) }
     {
         let shared = &self.table.shared;
         let found = shared.compare_exchange::<Exchanges>(seat, 0, seen as u64, behind as u64);
@@ -105,50 +94,40 @@ impl Position {
 
     /// A load that asks how much is used.
     pub(super) fn load(&self, seat: &mut Seat<u8, View>) -> usize
-        requires table { seat.old.table_id ≡ self.now.table }
-        requires seat { IsSeatOfIdle self.now.scene
-            (number_of seat.old.me.0) (view_log seat.old.me.0) seat.old.me }
-        ensures table { seat.new.table_id ≡ seat.old.table_id }
-        ensures step { TellsLoad self.now.scene
+        requires { IsIdleAt self.now seat.old.table_id seat.old.me }
+        ensures { Stays seat.old.table_id seat.new.table_id (TellsLoad self.now.scene
             (number_of seat.old.me.0) (view_log seat.old.me.0) (met_by seat.old.me.0)
-            result seat.new.me }
+            result seat.new.me) }
     {
         self.table.shared.load::<Loads>(seat, 0) as usize
     }
 
     /// A guest's parties go to this seat, before its own.
     pub(super) fn gather(&self, seat: &mut Seat<u8, View>, guest: Seat<u8, View>)
-        requires tables { (seat.old.table_id ≡ self.now.table) × (guest.table_id ≡ self.now.table) }
-        requires guest { guest.me.1 ≡ [] }
-        ensures table { seat.new.table_id ≡ seat.old.table_id }
-        ensures seat { seat.new.me ≡ (gathered seat.old.me.0 guest.me.0, seat.old.me.1) }
+        requires { MayGather self.now.table seat.old.table_id guest.table_id guest.me }
+        ensures { Stays seat.old.table_id seat.new.table_id
+            (seat.new.me ≡ (gathered seat.old.me.0 guest.me.0, seat.old.me.1)) }
     {
         self.table.shared.join_seat::<Gather>(seat, guest);
     }
 
     /// A load that asks where the parties of one seat have met.
     pub(super) fn find(&self, seat: &mut Seat<u8, View>) -> usize
-        requires table { seat.old.table_id ≡ self.now.table }
-        requires seat { seat.old.me
-            ≡ (standing_for (sight self.now.scene (met_by seat.old.me.0)) seat.old.me.0.parties, []) }
-        ensures table { seat.new.table_id ≡ seat.old.table_id }
-        ensures seat { seat.new.me ≡ (meeting_of result seat.old.me.0, []) }
-        ensures told { TellsMeeting self.now.scene
-            seat.old.me.0.parties (met_by seat.old.me.0) result }
+        requires { StandsAt self.now seat.old.table_id seat.old.me }
+        ensures { HasFound self.now.scene seat.old.me.0.parties
+            seat.old.table_id seat.old.me result seat.new.table_id seat.new.me }
     {
         self.table.shared.load::<Meets>(seat, 0) as usize
     }
 
     /// Two parties meet at one seat, load the position there, and go back to their own.
     pub(super) fn meet(&self, a: &mut Seat<u8, View>, b: &mut Seat<u8, View>) -> usize
-        requires tables { (a.old.table_id ≡ self.now.table) × (b.old.table_id ≡ self.now.table) }
-        requires a { IsSeatOf self.now.scene (number_of a.old.me.0) (view_log a.old.me.0) a.old.me }
-        requires b { IsSeatOf self.now.scene (number_of b.old.me.0) (view_log b.old.me.0) b.old.me }
-        ensures tables { (a.new.table_id ≡ a.old.table_id) × (b.new.table_id ≡ b.old.table_id) }
-        ensures kept { (a.new.me ≡ (meeting_of result a.old.me.0, []))
-            × (b.new.me ≡ (meeting_of result b.old.me.0, [])) }
+        requires { AreTwoAt self.now a.old.table_id a.old.me b.old.table_id b.old.me }
+        ensures a { Stays a.old.table_id a.new.table_id
+            (a.new.me ≡ (meeting_of result a.old.me.0, [])) }
+        ensures b { Stays b.old.table_id b.new.table_id
+            (b.new.me ≡ (meeting_of result b.old.me.0, [])) }
         ensures risen { (met_by a.old.me.0 ≤ result) × (met_by b.old.me.0 ≤ result) }
-        ensures within { result ≤ self.now.scene.region.size }
         ensures met { TellsTwo self.now.scene
             (number_of a.old.me.0) (view_log a.old.me.0)
             (number_of b.old.me.0) (view_log b.old.me.0) result }

@@ -1,10 +1,10 @@
 //! Requests: a read, and exchanges until one wins or the layout no longer fits.
-ghost use Rattle.std.specs.Prelude.{◌≡◌, ◌+◌, ◌<◌, ◌≤◌, ◌%◌, false, true, IfSome, Some, MatchOption};
+ghost use Rattle.std.specs.Prelude.{◌≡◌, ◌≤◌, ◌%◌, false, IfSome, MatchOption};
 ghost use Rattle.bb_memory_base.specs.Chunk.{IsInside};
-ghost use Rattle.bb_memory_base.specs.BumpMachine.{chunk_at, fits};
-ghost use Rattle.bb_memory.specs.Seats.{number_of, view_log};
-ghost use Rattle.bb_memory.specs.SharedBumpRule.{IsSeatOf, IsSeatOfIdle, met_by};
-ghost use Rattle.bb_memory.specs.SharedBumpSteps.{HasRefused, HasWon};
+ghost use Rattle.bb_memory_base.specs.BumpMachine.{fits};
+ghost use Rattle.bb_memory.specs.Seats.{Stays, number_of, view_log};
+ghost use Rattle.bb_memory.specs.SharedBumpRule.{met_by};
+ghost use Rattle.bb_memory.specs.SharedBumpSteps.{HasRefused, HasWon, IsFor, MayAsk};
 
 use super::SharedBumpAllocator;
 use super::rule::{Asked, View};
@@ -14,17 +14,12 @@ use atomic_table::Seat;
 impl SharedBumpAllocator {
     /// Asks until it wins a chunk or is refused. The layout isn't of size 0.
     pub(super) fn claim<L: Asked>(&self, seat: &mut Seat<u8, View>, layout: Layout) -> Option<Chunk>
-        requires table { seat.old.table_id ≡ self.now.table }
-        requires seat { IsSeatOfIdle self.now.scene
-            (number_of seat.old.me.0) (view_log seat.old.me.0) seat.old.me }
-        requires asks { 0 < layout.size }
-        requires asked { L.layout ≡ Some layout }
-        ensures table { seat.new.table_id ≡ seat.old.table_id }
-        ensures call { MatchOption result
+        requires { MayAsk self.now seat.old.table_id seat.old.me L.layout layout }
+        ensures call { Stays seat.old.table_id seat.new.table_id (MatchOption result
             (HasRefused self.now.scene (number_of seat.old.me.0) (view_log seat.old.me.0)
             (met_by seat.old.me.0) layout seat.new.me)
             (HasWon self.now.scene (number_of seat.old.me.0) (view_log seat.old.me.0)
-            (met_by seat.old.me.0) layout seat.new.me) }
+            (met_by seat.old.me.0) layout seat.new.me)) }
         ensures aligned { IfSome result (λ chunk. chunk.place % layout.align ≡ 0) }
         ensures inside { IfSome result (IsInside self.now.scene.region) }
     {
@@ -52,12 +47,7 @@ impl SharedBumpAllocator {
     fn place(&self, position: usize, layout: Layout) -> Option<Chunk>
         requires { position ≤ self.now.scene.region.size }
         ensures fits { MatchOption result (fits self.now.scene.region position layout ≡ false)
-            (λ chunk. (fits self.now.scene.region position layout ≡ true)
-            × (chunk ≡ chunk_at self.now.scene.region position layout)) }
-        ensures aligned { IfSome result (λ chunk. chunk.place % layout.align ≡ 0) }
-        ensures inside { IfSome result (IsInside self.now.scene.region) }
-        ensures above { IfSome result (λ chunk.
-            self.now.scene.region.start + position ≤ chunk.place) }
+            (IsFor self.now.scene.region position layout) }
     {
         Chunk::at_or_after(self.start + position, layout, self.start + self.size)
     }

@@ -1,14 +1,14 @@
 //! What the shared pools are: buckets with a flag each, on which any number of threads step.
-ghost use Rattle.std.specs.Prelude.{◌≡◌, ◌≢◌, ℕ, ◌<◌, ◌≤◌, ◌↔◌, ◌%◌, [], All, Some, None, IsErr, IfOk};
-ghost use Rattle.std.specs.Prelude.{MatchOption, OnErr, length, slice_get, vec_capacity, vec_len};
+ghost use Rattle.std.specs.Prelude.{◌≡◌, ◌≢◌, ℕ, ◌≤◌, ◌↔◌, ◌%◌, All, IsErr, IfOk};
+ghost use Rattle.std.specs.Prelude.{MatchOption};
 ghost use Rattle.bb_memory_base.specs.Region.{IsRegion};
 ghost use Rattle.bb_memory_base.specs.Chunk.{Chunk, IsInside};
 ghost use Rattle.bb_memory_base.specs.PoolObject.{IsWithin, MayGrow, MayShrink};
 ghost use Rattle.bb_memory_base.specs.PoolLogs.{IsHeldAfter};
-ghost use Rattle.bb_memory.specs.Seats.{number_of, view_log};
-ghost use Rattle.bb_memory.specs.SharedPool.{AreAllHeldAfter, AreInterleaved, HaveMet, IsInterleaved, IsParty, IsSharedScene};
-ghost use Rattle.bb_memory.specs.SharedPool.{MayTake, chunk_of, fresh_party, resized, return_entry, with_entries};
-ghost use Rattle.bb_memory.specs.SharedPoolRule.{IsSeatOfIdle, all_parties};
+ghost use Rattle.bb_memory.specs.Seats.{Stays, number_of, view_log};
+ghost use Rattle.bb_memory.specs.SharedPool.{AreAllHeldAfter, AreBothOf, AreFresh, AreInterleaved, HaveMet, IsAlignedTo};
+ghost use Rattle.bb_memory.specs.SharedPool.{IsResizedTo, IsSameParty, IsSharedScene, MayTake, chunk_of, return_entry, with_entries};
+ghost use Rattle.bb_memory.specs.SharedPoolRule.{IsIdleAt, MaySeat};
 ghost use Rattle.bb_memory.specs.SharedPoolSteps.{HasRefused, HasTaken};
 
 use super::bucket::Bucket;
@@ -54,12 +54,7 @@ impl<const CAPPED: usize, const MOST: usize> SharedBucketPool<CAPPED, MOST> {
     ) -> Result<(Self, Vec<PoolParty>), AllocError>
         requires parties { 1 ≤ parties }
         ensures geometry { IfOk result (λ made. made.0.scene.geometry ≡ geometry) }
-        ensures parties { IfOk result (λ made. made.0.scene.parties ≡ parties) }
-        ensures as_many { IfOk result (λ made. length made.1.items ≡ parties) }
-        ensures fresh { IfOk result (λ made. (number : ℕ) → number < parties
-            → slice_get made.1.items number ≡ Some (fresh_party made.0 number)) }
-        ensures theirs { IfOk result (λ made.
-            All (λ party. party.allocator ≡ made.0) made.1.items) }
+        ensures parties { IfOk result (λ made. AreFresh made.0 parties made.1.items) }
     {
         let mut all = Vec::with_capacity(alloc, parties as usize)?;
         let scene = Scene { geometry, parties };
@@ -71,15 +66,8 @@ impl<const CAPPED: usize, const MOST: usize> SharedBucketPool<CAPPED, MOST> {
 
     /// Gives each party a seat of its own.
     fn seat_parties(&self, mut rest: Seat<u8, View>, parties: u32, all: &mut Vec<PoolParty>)
-        requires table { rest.table_id ≡ self.now.table }
-        requires seat { rest.me ≡ (all_parties self.now.scene, []) }
-        requires parties { parties ≡ self.now.scene.parties }
-        requires empty { all.old.items ≡ [] }
-        requires room { (vec_len all.old ≡ 0) × (parties ≤ vec_capacity all.old) }
-        ensures as_many { length all.new.items ≡ parties }
-        ensures fresh { (number : ℕ) → number < parties
-            → slice_get all.new.items number ≡ Some (fresh_party self.now number) }
-        ensures theirs { All (λ party. party.allocator ≡ self.now) all.new.items }
+        requires { MaySeat self.now parties rest.table_id rest.me all.old }
+        ensures { AreFresh self.now parties all.new.items }
     {
         for number in 0..parties {
             let seat = self.flags.deal(&mut rest);
@@ -90,15 +78,12 @@ impl<const CAPPED: usize, const MOST: usize> SharedBucketPool<CAPPED, MOST> {
 
     /// One whole pass: an exchange on each flag from bucket 0 up, until one is taken.
     fn pass(&self, seat: &mut Seat<u8, View>) -> Option<u32>
-        requires table { seat.old.table_id ≡ self.now.table }
-        requires seat { IsSeatOfIdle self.now.scene (number_of seat.old.me.0)
-            (view_log seat.old.me.0) seat.old.me }
-        ensures table { seat.new.table_id ≡ seat.old.table_id }
-        ensures pass { MatchOption result
+        requires { IsIdleAt self.now seat.old.table_id seat.old.me }
+        ensures { Stays seat.old.table_id seat.new.table_id (MatchOption result
             (HasRefused self.now.scene (number_of seat.old.me.0) (view_log seat.old.me.0)
             seat.new.me)
             (HasTaken self.now.scene (number_of seat.old.me.0) (view_log seat.old.me.0)
-            seat.new.me) }
+            seat.new.me)) }
     {
         for bucket in 0..self.number_of_buckets() {
             if self.flags.try_flag(seat, bucket) {
@@ -121,10 +106,8 @@ impl<const CAPPED: usize, const MOST: usize> SharedBucketPool<CAPPED, MOST> {
         requires party { party.old.allocator ≡ self.now }
         ensures answer { MayTake party.old layout result party.new }
         ensures party { party.new.allocator ≡ self.now }
-        ensures number { party.new.number ≡ party.old.number }
+        ensures is_party { IsSameParty party.old party.new }
         ensures bucket { IfOk result (λ bucket. bucket.allocator ≡ self.now) }
-        ensures interleaved { IsInterleaved party.new }
-        ensures is_party { IsParty party.new }
 
         // What is held after the party's log.
         ensures held { IfOk result (λ bucket. IsHeldAfter party.new.log bucket.number) }
@@ -167,9 +150,7 @@ impl<const CAPPED: usize, const MOST: usize> SharedBucketPool<CAPPED, MOST> {
         ensures logged { party.new
             ≡ with_entries party.old (return_entry party.old.number bucket.entry.number) }
         ensures party { party.new.allocator ≡ self.now }
-        ensures number { party.new.number ≡ party.old.number }
-        ensures interleaved { IsInterleaved party.new }
-        ensures is_party { IsParty party.new }
+        ensures is_party { IsSameParty party.old party.new }
         ensures given_back { ¬ IsHeldAfter party.new.log bucket.entry.number }
         ensures still_held { (other : ℕ) → other ≢ bucket.entry.number
             → IsHeldAfter party.old.log other → IsHeldAfter party.new.log other }
@@ -181,11 +162,9 @@ impl<const CAPPED: usize, const MOST: usize> SharedBucketPool<CAPPED, MOST> {
     /// Two parties meet: no bucket is held by both. It loads a word four times, which is in no log, and changes nothing. The
     /// parties have to be this pool's.
     pub fn meet(&self, a: &mut PoolParty, b: &mut PoolParty)
-        requires a { a.old.allocator ≡ self.now }
-        requires b { b.old.allocator ≡ self.now }
+        requires parties { AreBothOf self.now a.old b.old }
         ensures kept { (a.new ≡ a.old) × (b.new ≡ b.old) }
-        ensures a { a.new.allocator ≡ self.now }
-        ensures b { b.new.allocator ≡ self.now }
+        ensures parties { AreBothOf self.now a.new b.new }
         ensures differ { a.old.number ≢ b.old.number }
         ensures apart { (bucket : ℕ) → IsHeldAfter a.old.log bucket
             → ¬ IsHeldAfter b.old.log bucket }
@@ -226,14 +205,10 @@ impl<const CAPPED: usize, const MOST: usize> SharedBucketPool<CAPPED, MOST> {
         old: Layout,
         new: Layout,
     ) -> Result<Chunk, AllocationGrowError>
-        requires bucket { bucket.old.allocator ≡ self.now }
-        requires aligned { (chunk_of bucket.old).place % old.align ≡ 0 }
+        requires bucket { IsAlignedTo self.now old bucket.old }
         ensures answer { MayGrow self.now.scene.geometry.bucket (chunk_of bucket.old).place
             old new result }
-        ensures resized { IfOk result (λ grown. bucket.new ≡ resized bucket.old grown.len) }
-        ensures chunk { IfOk result (λ grown. chunk_of bucket.new ≡ grown) }
-        ensures inside { IfOk result (IsInside self.now.scene.geometry.region) }
-        ensures kept { OnErr result (bucket.new ≡ bucket.old) }
+        ensures resized { IsResizedTo self.now bucket.old result bucket.new }
     {
         let place = bucket.chunk().place();
         let grown = self.flags.geometry().grow(place, old, new)?;
@@ -252,15 +227,11 @@ impl<const CAPPED: usize, const MOST: usize> SharedBucketPool<CAPPED, MOST> {
         old: Layout,
         new: Layout,
     ) -> Result<Chunk, AllocationShrinkError>
-        requires bucket { bucket.old.allocator ≡ self.now }
-        requires aligned { (chunk_of bucket.old).place % old.align ≡ 0 }
+        requires bucket { IsAlignedTo self.now old bucket.old }
         requires reserved { old.size ≤ self.now.scene.geometry.bucket.size }
         ensures answer { MayShrink self.now.scene.geometry.bucket (chunk_of bucket.old).place
             old new result }
-        ensures resized { IfOk result (λ shrunk. bucket.new ≡ resized bucket.old shrunk.len) }
-        ensures chunk { IfOk result (λ shrunk. chunk_of bucket.new ≡ shrunk) }
-        ensures inside { IfOk result (IsInside self.now.scene.geometry.region) }
-        ensures kept { OnErr result (bucket.new ≡ bucket.old) }
+        ensures resized { IsResizedTo self.now bucket.old result bucket.new }
     {
         let place = bucket.chunk().place();
         let shrunk = self.flags.geometry().shrink(place, old, new)?;

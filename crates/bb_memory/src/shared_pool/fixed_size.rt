@@ -1,10 +1,9 @@
 //! A shared pool of at most a constant of buckets.
-ghost use Rattle.std.specs.Prelude.{◌≡◌, ◌-◌, ◌<◌, ◌≤◌, ◌^◌, ℕ, All};
-ghost use Rattle.std.specs.Prelude.{Some, IfOk, IfErr, length, slice_get};
+ghost use Rattle.std.specs.Prelude.{◌≡◌, ◌-◌, ◌<◌, ◌≤◌, ◌^◌, IfOk, IfErr};
 ghost use Rattle.bb_memory_base.specs.Region.{region_at};
 ghost use Rattle.bb_memory_base.specs.PoolGeometry.{PoolGeometry, IsCut, at_most};
 ghost use Rattle.bb_memory.specs.Pool.{MayBeCut};
-ghost use Rattle.bb_memory.specs.SharedPool.{fresh_party};
+ghost use Rattle.bb_memory.specs.SharedPool.{AreFresh};
 
 use super::buckets::SharedBucketPool;
 use super::party::PoolParty;
@@ -51,12 +50,7 @@ impl<const MAX_NUMBER_OF_BUCKETS: usize> SharedFixedSizePoolAllocator<MAX_NUMBER
         ensures geometry { IfOk result (λ made. (whole : PoolGeometry)
             × IsCut (region_at start size) bucket_layout whole
             × (made.0.scene.geometry ≡ at_most MAX_NUMBER_OF_BUCKETS whole)) }
-        ensures parties { IfOk result (λ made. made.0.scene.parties ≡ parties) }
-        ensures as_many { IfOk result (λ made. length made.1.items ≡ parties) }
-        ensures fresh { IfOk result (λ made. (number : ℕ) → number < parties
-            → slice_get made.1.items number ≡ Some (fresh_party made.0 number)) }
-        ensures theirs { IfOk result (λ made.
-            All (λ party. party.allocator ≡ made.0) made.1.items) }
+        ensures parties { IfOk result (λ made. AreFresh made.0 parties made.1.items) }
         ensures refused { IfErr result (λ error. error ≡ AllocationError.OutOfMemory) }
     {
         let geometry = Geometry::new(bucket_layout, start, size).at_most(

@@ -3,14 +3,13 @@
 //! `try_flag`, `try_at` and `give_back` make one atomic step each, by the seat of the party whose step it is, and tell that its
 //! log then ends with that step and what it found. `deal`, `gather`, `find` and `meet` only load words, and are in no log; `open`
 //! is before all sharing, and `geometry` touches no word.
-ghost use Rattle.std.specs.Prelude.{◌≡◌, ◌<◌, [], IfOk, MatchBool, max};
+ghost use Rattle.std.specs.Prelude.{◌≡◌, ◌<◌, IfOk, MatchBool, max};
 ghost use Rattle.bb_memory_base.specs.Region.{IsRegion};
 ghost use Rattle.bb_memory_base.specs.PoolGeometry.{IsPoolGeometry};
-ghost use Rattle.bb_memory_base.specs.PoolLogs.{IsHeldAfter, next_bucket};
-ghost use Rattle.bb_memory.specs.Seats.{both_of, first_of, number_of, others_of, standing_for, view_log};
-ghost use Rattle.bb_memory.specs.SharedPoolRule.{IsSeatOf, IsSeatOfIdle, all_parties};
-ghost use Rattle.bb_memory.specs.SharedPoolSteps.{HasMissedAt, HasTakenAt, TellsLoss, TellsMeeting, TellsReturn};
-ghost use Rattle.bb_memory.specs.SharedPoolSteps.{TellsTaking, TellsTwo};
+ghost use Rattle.bb_memory.specs.Seats.{IsDealt, MayGather, Stays, both_of, number_of, view_log};
+ghost use Rattle.bb_memory.specs.SharedPoolRule.{AreTwoAt, IsHeldAt, IsIdleAt, IsNextFor, IsOpened, IsSeatAt, StandsAt};
+ghost use Rattle.bb_memory.specs.SharedPoolSteps.{HasFound, HasMissedAt, HasTakenAt, TellsLoss, TellsReturn, TellsTaking};
+ghost use Rattle.bb_memory.specs.SharedPoolSteps.{TellsTwo};
 
 use super::rule::{Agreement, Gather, GiveFirst, Meets, Returns, Scene, Tries, TriesAt, View};
 use crate::pool_allocator::geometry::Geometry;
@@ -52,9 +51,7 @@ impl Model for Flags {
 impl Flags {
     /// The flags at a scene's opening, all free, and a seat that stands for all its parties.
     pub(super) fn open(alloc: Global, scene: Scene) -> Result<(Flags, Seat<u8, View>), AllocError>
-        ensures scene { IfOk result (λ made. made.0.scene ≡ scene) }
-        ensures table { IfOk result (λ made. made.1.table_id ≡ made.0.table) }
-        ensures seat { IfOk result (λ made. made.1.me ≡ (all_parties scene, [])) }
+        ensures opened { IfOk result (λ made. IsOpened scene made.0 made.1.table_id made.1.me) }
         ensures region { IfOk result (λ made. IsRegion scene.geometry.region) }
         ensures geometry { IfOk result (λ made. IsPoolGeometry scene.geometry) }
     {
@@ -65,28 +62,22 @@ impl Flags {
 
     /// A seat of its own for the first party that a seat stands for.
     pub(super) fn deal(&self, rest: &mut Seat<u8, View>) -> Seat<u8, View>
-        requires table { rest.old.table_id ≡ self.now.table }
-        ensures table { rest.new.table_id ≡ rest.old.table_id }
-        ensures rest { rest.new.me ≡ (others_of rest.old.me.0, rest.old.me.1) }
-        ensures its_table { result.table_id ≡ rest.old.table_id }
-        ensures first { result.me ≡ (first_of rest.old.me.0, []) }
+        requires { rest.old.table_id ≡ self.now.table }
+        ensures { IsDealt rest.old.table_id rest.old.me rest.new.table_id rest.new.me
+            result.table_id result.me }
     {
         self.table.shared.split_seat::<GiveFirst>(rest)
     }
 
     /// One exchange on the flag of the bucket that the party tries next: whether it took the bucket.
     pub(super) fn try_flag(&self, seat: &mut Seat<u8, View>, bucket: u32) -> bool
-        requires table { seat.old.table_id ≡ self.now.table }
-        requires seat { IsSeatOf self.now.scene (number_of seat.old.me.0) (view_log seat.old.me.0)
-            seat.old.me }
-        requires next { next_bucket (view_log seat.old.me.0) ≡ bucket }
-        requires below { bucket < self.now.scene.geometry.buckets }
-        ensures table { seat.new.table_id ≡ seat.old.table_id }
-        ensures step { MatchBool result
+        requires seat { IsSeatAt self.now seat.old.table_id seat.old.me }
+        requires next { IsNextFor self.now seat.old.me bucket }
+        ensures { Stays seat.old.table_id seat.new.table_id (MatchBool result
             (TellsTaking self.now.scene (number_of seat.old.me.0) (view_log seat.old.me.0)
             bucket seat.new.me)
             (TellsLoss self.now.scene (number_of seat.old.me.0) (view_log seat.old.me.0)
-            bucket seat.new.me) }
+            bucket seat.new.me)) }
     {
         let found = self
             .table
@@ -97,16 +88,13 @@ impl Flags {
 
     /// One exchange on the flag of this bucket, by a party that is in no pass: whether it took the bucket.
     pub(super) fn try_at(&self, seat: &mut Seat<u8, View>, bucket: u32) -> bool
-        requires table { seat.old.table_id ≡ self.now.table }
-        requires seat { IsSeatOfIdle self.now.scene (number_of seat.old.me.0)
-            (view_log seat.old.me.0) seat.old.me }
+        requires seat { IsIdleAt self.now seat.old.table_id seat.old.me }
         requires below { bucket < self.now.scene.geometry.buckets }
-        ensures table { seat.new.table_id ≡ seat.old.table_id }
-        ensures step { MatchBool result
+        ensures { Stays seat.old.table_id seat.new.table_id (MatchBool result
             (HasTakenAt self.now.scene (number_of seat.old.me.0) (view_log seat.old.me.0)
             bucket seat.new.me)
             (HasMissedAt self.now.scene (number_of seat.old.me.0) (view_log seat.old.me.0)
-            bucket seat.new.me) }
+            bucket seat.new.me)) }
     {
         let flag = self
             .table
@@ -117,14 +105,10 @@ impl Flags {
 
     /// A store of free on the flag of a bucket that is held after the party's log.
     pub(super) fn give_back(&self, seat: &mut Seat<u8, View>, bucket: u32)
-        requires table { seat.old.table_id ≡ self.now.table }
-        requires seat { IsSeatOf self.now.scene (number_of seat.old.me.0) (view_log seat.old.me.0)
-            seat.old.me }
-        requires held { IsHeldAfter (view_log seat.old.me.0) bucket }
-        requires below { bucket < self.now.scene.geometry.buckets }
-        ensures table { seat.new.table_id ≡ seat.old.table_id }
-        ensures step { TellsReturn self.now.scene (number_of seat.old.me.0) (view_log seat.old.me.0)
-            bucket seat.new.me }
+        requires seat { IsSeatAt self.now seat.old.table_id seat.old.me }
+        requires held { IsHeldAt self.now seat.old.me bucket }
+        ensures { Stays seat.old.table_id seat.new.table_id (TellsReturn self.now.scene
+            (number_of seat.old.me.0) (view_log seat.old.me.0) bucket seat.new.me) }
     {
         self.table
             .shared
@@ -133,32 +117,27 @@ impl Flags {
 
     /// A guest's parties go to this seat, before its own.
     pub(super) fn gather(&self, seat: &mut Seat<u8, View>, guest: Seat<u8, View>)
-        requires tables { (seat.old.table_id ≡ self.now.table) × (guest.table_id ≡ self.now.table) }
-        requires guest { guest.me.1 ≡ [] }
-        ensures table { seat.new.table_id ≡ seat.old.table_id }
-        ensures seat { seat.new.me ≡ (both_of seat.old.me.0 guest.me.0, seat.old.me.1) }
+        requires { MayGather self.now.table seat.old.table_id guest.table_id guest.me }
+        ensures { Stays seat.old.table_id seat.new.table_id
+            (seat.new.me ≡ (both_of seat.old.me.0 guest.me.0, seat.old.me.1)) }
     {
         self.table.shared.join_seat::<Gather>(seat, guest);
     }
 
     /// A load where the parties of one seat have met.
     pub(super) fn find(&self, seat: &mut Seat<u8, View>)
-        requires table { seat.old.table_id ≡ self.now.table }
-        requires seat { seat.old.me ≡ (standing_for self.now.scene seat.old.me.0.parties, []) }
-        ensures table { seat.new.table_id ≡ seat.old.table_id }
-        ensures seat { seat.new.me ≡ seat.old.me }
-        ensures told { TellsMeeting self.now.scene seat.old.me.0.parties }
+        requires { StandsAt self.now seat.old.table_id seat.old.me }
+        ensures { HasFound self.now.scene seat.old.me.0.parties
+            seat.old.table_id seat.old.me seat.new.table_id seat.new.me }
     {
         self.table.shared.load::<Meets>(seat, 0);
     }
 
     /// Two parties meet at one seat, load a word there, and go back to their own.
     pub(super) fn meet(&self, a: &mut Seat<u8, View>, b: &mut Seat<u8, View>)
-        requires tables { (a.old.table_id ≡ self.now.table) × (b.old.table_id ≡ self.now.table) }
-        requires a { IsSeatOf self.now.scene (number_of a.old.me.0) (view_log a.old.me.0) a.old.me }
-        requires b { IsSeatOf self.now.scene (number_of b.old.me.0) (view_log b.old.me.0) b.old.me }
-        ensures tables { (a.new.table_id ≡ a.old.table_id) × (b.new.table_id ≡ b.old.table_id) }
-        ensures kept { (a.new.me ≡ a.old.me) × (b.new.me ≡ b.old.me) }
+        requires { AreTwoAt self.now a.old.table_id a.old.me b.old.table_id b.old.me }
+        ensures a { Stays a.old.table_id a.new.table_id (a.new.me ≡ a.old.me) }
+        ensures b { Stays b.old.table_id b.new.table_id (b.new.me ≡ b.old.me) }
         ensures met { TellsTwo self.now.scene
             (number_of a.old.me.0) (view_log a.old.me.0)
             (number_of b.old.me.0) (view_log b.old.me.0) }

@@ -1,8 +1,8 @@
 //! Any number of parties at one seat.
-ghost use Rattle.std.specs.Prelude.{◌≡◌, ◌++◌, [], All, map, vec_len, vec_capacity};
-ghost use Rattle.bb_memory.specs.Seats.{standing_for};
-ghost use Rattle.bb_memory.specs.SharedPoolRule.{numbered_of};
-ghost use Rattle.bb_memory.specs.SharedPoolSteps.{TellsMeeting};
+ghost use Rattle.std.specs.Prelude.{◌++◌, map};
+ghost use Rattle.bb_memory.specs.Seats.{HasNow};
+ghost use Rattle.bb_memory.specs.SharedPoolRule.{MayMeet, numbered_of};
+ghost use Rattle.bb_memory.specs.SharedPoolSteps.{HasFound};
 
 use super::flags::Flags;
 use super::party::PoolParty;
@@ -12,16 +12,11 @@ use atomic_table::Seat;
 impl Flags {
     /// These parties meet those of the seat, and go back to their own.
     pub(super) fn meet_rest(&self, seat: &mut Seat<u8, View>, rest: &mut Vec<PoolParty>)
-        requires table { seat.old.table_id ≡ self.now.table }
-        requires seat { seat.old.me ≡ (standing_for self.now.scene seat.old.me.0.parties, []) }
-        requires rest { All (λ party. party.allocator ≡ self.now) rest.old.items }
-        ensures table { seat.new.table_id ≡ seat.old.table_id }
-        ensures seat { seat.new.me ≡ seat.old.me }
-        ensures rest { rest.new.items ≡ rest.old.items }
-        ensures len { vec_len rest.new ≡ vec_len rest.old }
-        ensures capacity { vec_capacity rest.new ≡ vec_capacity rest.old }
-        ensures told { TellsMeeting self.now.scene
-            (map numbered_of rest.old.items ++ seat.old.me.0.parties) }
+        requires { MayMeet self.now seat.old.table_id seat.old.me rest.old.items }
+        ensures found { HasFound self.now.scene
+            (map numbered_of rest.old.items ++ seat.old.me.0.parties)
+            seat.old.table_id seat.old.me seat.new.table_id seat.new.me }
+        ensures rest { HasNow rest.old.items rest.old rest.new }
     {
         let Some(party) = rest.pop() else {
             self.find(seat);

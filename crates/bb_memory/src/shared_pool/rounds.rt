@@ -1,12 +1,11 @@
 //! Takings that don't begin at bucket 0: of a bucket of the caller's choice, and of the first free one from a bucket on.
-ghost use Rattle.std.specs.Prelude.{◌≡◌, ℕ, ◌<◌, ◌↔◌, ◌%◌, IsErr, IfOk, MatchOption};
-ghost use Rattle.bb_memory_base.specs.Chunk.{IsInside};
+ghost use Rattle.std.specs.Prelude.{◌≡◌, ℕ, ◌<◌, ◌↔◌, IsErr, MatchOption};
 ghost use Rattle.bb_memory_base.specs.PoolObject.{IsWithin};
 ghost use Rattle.bb_memory_base.specs.PoolLogs.{IsHeldAfter};
-ghost use Rattle.bb_memory.specs.Seats.{number_of, view_log};
-ghost use Rattle.bb_memory.specs.SharedPool.{AreAllHeldAfter, IsInterleaved, IsParty, chunk_of};
+ghost use Rattle.bb_memory.specs.Seats.{Stays, number_of, view_log};
+ghost use Rattle.bb_memory.specs.SharedPool.{Serves, ServesRound};
 ghost use Rattle.bb_memory.specs.SharedPoolRounds.{MayTakeAt, MayTakeFrom, at_turn};
-ghost use Rattle.bb_memory.specs.SharedPoolRule.{IsSeatOfIdle};
+ghost use Rattle.bb_memory.specs.SharedPoolRule.{IsIdleAt};
 ghost use Rattle.bb_memory.specs.SharedPoolSteps.{HasRefusedFrom, HasTakenFrom};
 
 use super::bucket::Bucket;
@@ -43,15 +42,12 @@ fn at_turn(buckets: u32, first: u32, turn: u32) -> u32
 impl<const CAPPED: usize, const MOST: usize> SharedBucketPool<CAPPED, MOST> {
     /// One whole round: an exchange on each flag from bucket `first` up, and then on those below it, until one is taken.
     fn round(&self, seat: &mut Seat<u8, View>, first: u32) -> Option<u32>
-        requires table { seat.old.table_id ≡ self.now.table }
-        requires seat { IsSeatOfIdle self.now.scene (number_of seat.old.me.0)
-            (view_log seat.old.me.0) seat.old.me }
-        ensures table { seat.new.table_id ≡ seat.old.table_id }
-        ensures round { MatchOption result
+        requires { IsIdleAt self.now seat.old.table_id seat.old.me }
+        ensures { Stays seat.old.table_id seat.new.table_id (MatchOption result
             (HasRefusedFrom self.now.scene (number_of seat.old.me.0) (view_log seat.old.me.0)
             first seat.new.me)
             (HasTakenFrom self.now.scene (number_of seat.old.me.0) (view_log seat.old.me.0)
-            first seat.new.me) }
+            first seat.new.me)) }
     {
         let count = self.number_of_buckets();
         for turn in 0..count {
@@ -76,24 +72,10 @@ impl<const CAPPED: usize, const MOST: usize> SharedBucketPool<CAPPED, MOST> {
         requires party { party.old.allocator ≡ self.now }
         ensures answer { MayTakeAt number party.old layout result party.new }
         ensures party { party.new.allocator ≡ self.now }
-        ensures number { party.new.number ≡ party.old.number }
-        ensures bucket { IfOk result (λ bucket. bucket.allocator ≡ self.now) }
-        ensures interleaved { IsInterleaved party.new }
-        ensures is_party { IsParty party.new }
-
-        // What is held after the party's log.
-        ensures held { IfOk result (λ bucket. IsHeldAfter party.new.log bucket.number) }
-        ensures still_held { (other : ℕ) → IsHeldAfter party.old.log other
-            → IsHeldAfter party.new.log other }
+        ensures serves { Serves self.now party.old layout result party.new }
         ensures alone { self.now.scene.parties ≡ 1 → IsWithin self.now.scene.geometry.bucket layout
             → number < self.now.scene.geometry.buckets
             → (IsErr result ↔ IsHeldAfter party.old.log number) }
-
-        // The chunk in the bucket.
-        ensures inside { IfOk result (λ bucket.
-            IsInside self.now.scene.geometry.region (chunk_of bucket)) }
-        ensures aligned { IfOk result (λ bucket. (chunk_of bucket).place % layout.align ≡ 0) }
-        ensures exact_size { IfOk result (λ bucket. (chunk_of bucket).len ≡ layout.size) }
     {
         // What holds of the party is known from here on, also where no step is made.
         let _ = &party.number;
@@ -128,23 +110,7 @@ impl<const CAPPED: usize, const MOST: usize> SharedBucketPool<CAPPED, MOST> {
         requires party { party.old.allocator ≡ self.now }
         ensures answer { MayTakeFrom first party.old layout result party.new }
         ensures party { party.new.allocator ≡ self.now }
-        ensures number { party.new.number ≡ party.old.number }
-        ensures bucket { IfOk result (λ bucket. bucket.allocator ≡ self.now) }
-        ensures interleaved { IsInterleaved party.new }
-        ensures is_party { IsParty party.new }
-
-        // What is held after the party's log.
-        ensures held { IfOk result (λ bucket. IsHeldAfter party.new.log bucket.number) }
-        ensures still_held { (other : ℕ) → IsHeldAfter party.old.log other
-            → IsHeldAfter party.new.log other }
-        ensures alone { self.now.scene.parties ≡ 1 → IsWithin self.now.scene.geometry.bucket layout
-            → (IsErr result ↔ AreAllHeldAfter party.old.log self.now.scene.geometry.buckets) }
-
-        // The chunk in the bucket.
-        ensures inside { IfOk result (λ bucket.
-            IsInside self.now.scene.geometry.region (chunk_of bucket)) }
-        ensures aligned { IfOk result (λ bucket. (chunk_of bucket).place % layout.align ≡ 0) }
-        ensures exact_size { IfOk result (λ bucket. (chunk_of bucket).len ≡ layout.size) }
+        ensures serves { ServesRound self.now party.old layout result party.new }
     {
         // What holds of the party is known from here on, also where no step is made.
         let _ = &party.number;
@@ -179,23 +145,7 @@ impl<const CAPPED: usize, const MOST: usize> SharedBucketPool<CAPPED, MOST> {
         requires party { party.old.allocator ≡ self.now }
         ensures answer { (first : ℕ) × MayTakeFrom first party.old layout result party.new }
         ensures party { party.new.allocator ≡ self.now }
-        ensures number { party.new.number ≡ party.old.number }
-        ensures bucket { IfOk result (λ bucket. bucket.allocator ≡ self.now) }
-        ensures interleaved { IsInterleaved party.new }
-        ensures is_party { IsParty party.new }
-
-        // What is held after the party's log.
-        ensures held { IfOk result (λ bucket. IsHeldAfter party.new.log bucket.number) }
-        ensures still_held { (other : ℕ) → IsHeldAfter party.old.log other
-            → IsHeldAfter party.new.log other }
-        ensures alone { self.now.scene.parties ≡ 1 → IsWithin self.now.scene.geometry.bucket layout
-            → (IsErr result ↔ AreAllHeldAfter party.old.log self.now.scene.geometry.buckets) }
-
-        // The chunk in the bucket.
-        ensures inside { IfOk result (λ bucket.
-            IsInside self.now.scene.geometry.region (chunk_of bucket)) }
-        ensures aligned { IfOk result (λ bucket. (chunk_of bucket).place % layout.align ≡ 0) }
-        ensures exact_size { IfOk result (λ bucket. (chunk_of bucket).len ≡ layout.size) }
+        ensures serves { ServesRound self.now party.old layout result party.new }
     {
         let first = party.near;
         self.allocate_from(party, layout, first)

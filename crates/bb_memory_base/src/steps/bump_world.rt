@@ -1,9 +1,9 @@
 //! A bump machine that can be run: a region, a position, and of each party the call that it is in.
-ghost use Rattle.std.specs.Prelude.{◌≡◌, ◌+◌, ◌<◌, ◌≤◌, IfOk, IfSome, IsSome, OnErr, OnOk, Some, None, slice_get, length};
+ghost use Rattle.std.specs.Prelude.{◌≡◌, ◌<◌, IfOk, IsSome, Some, slice_get, length};
 ghost use Rattle.bb_memory_base.specs.Region.{Region, IsRegion};
 ghost use Rattle.bb_memory_base.specs.BumpMachine.{OngoingCall, IsFitting, PartyMove, ending, seeing};
 ghost use Rattle.bb_memory_base.specs.BumpMachine.{read_move, exchange_move, read, exchange, load};
-ghost use Rattle.bb_memory_base.specs.BumpWorld.{BumpWorld, opened, in_state, outcome_of, outcomes_of, after_step, after_steps};
+ghost use Rattle.bb_memory_base.specs.BumpWorld.{IsMove, IsPositionIn, Replays, Steps, in_state, opened};
 
 use super::{BumpOutcome, BumpStep};
 use crate::layout::{Chunk, Layout};
@@ -71,13 +71,10 @@ impl PartyMove {
 
     /// A read that finds this position.
     fn of_read(start: usize, size: usize, position: usize, layout: Layout) -> PartyMove
-        requires region { IsRegion (record { start = start; size = size }) }
-        requires within { position ≤ size }
+        requires position { IsPositionIn (record { start = start; size = size }) position }
         requires asks { 0 < layout.size }
-        ensures value { let region : Region = record { start = start; size = size } in
-            result ≡ read_move region position layout }
-        ensures fitting { IfSome result.call (IsFitting (record { start = start; size = size })) }
-        ensures within { result.position ≤ size }
+        ensures { let region : Region = record { start = start; size = size } in
+            IsMove region (read_move region position layout) result }
     {
         match Chunk::at_or_after(start + position, layout, start + size) {
             Some(_) => PartyMove::seeing(BumpOutcome::Sees(position), position, layout),
@@ -87,13 +84,10 @@ impl PartyMove {
 
     /// An exchange that finds this position, by a party in this call.
     fn of_exchange(start: usize, size: usize, position: usize, call: OngoingCall) -> PartyMove
-        requires region { IsRegion (record { start = start; size = size }) }
-        requires within { position ≤ size }
+        requires position { IsPositionIn (record { start = start; size = size }) position }
         requires call { IsFitting (record { start = start; size = size }) call }
-        ensures value { let region : Region = record { start = start; size = size } in
-            result ≡ exchange_move region position call }
-        ensures fitting { IfSome result.call (IsFitting (record { start = start; size = size })) }
-        ensures within { result.position ≤ size }
+        ensures { let region : Region = record { start = start; size = size } in
+            IsMove region (exchange_move region position call) result }
     {
         match Chunk::at_or_after(start + position, call.layout, start + size) {
             Some(chunk) if position == call.seen => {
@@ -160,8 +154,7 @@ impl BumpWorld {
 
     /// Takes one atomic step, and answers what it found. It takes no memory.
     pub fn step(&mut self, step: BumpStep) -> BumpOutcome
-        ensures outcome { result ≡ outcome_of self.old step }
-        ensures state { self.new ≡ after_step self.old step }
+        ensures { Steps self.old step result self.new }
     {
         match step {
             BumpStep::Read { party, layout } => self.read(party as usize, layout),
@@ -177,9 +170,7 @@ impl BumpWorld {
     /// Takes the steps in order, and answers what each found. The memory for the answers is reserved first: where it is
     /// refused, no step is taken.
     pub fn replay(&mut self, steps: &[BumpStep]) -> Result<Vec<BumpOutcome>, AllocError>
-        ensures outcomes { IfOk result (λ found. found.items ≡ outcomes_of self.old steps.now) }
-        ensures state { OnOk result (self.new ≡ after_steps self.old steps.now) }
-        ensures kept { OnErr result (self.new ≡ self.old) }
+        ensures { Replays self.old steps.now result self.new }
     {
         let mut outcomes = Vec::with_capacity(self.alloc, steps.len())?;
         for step in steps {

@@ -1,7 +1,7 @@
 //! A pool machine that can be run: of each bucket its holder, and of each party the bucket that its pass tries next.
-ghost use Rattle.std.specs.Prelude.{◌≡◌, ◌+◌, ◌<◌, ◌≤◌, ℕ, IsSome, IfOk, OnErr, OnOk, length, slice_get};
+ghost use Rattle.std.specs.Prelude.{◌≡◌, ◌<◌, IsSome, IfOk, length, slice_get};
 ghost use Rattle.bb_memory_base.specs.PoolMachine.{holder_of, try_flag, try_next, give_flag, try_at, try_one};
-ghost use Rattle.bb_memory_base.specs.PoolWorld.{opened, outcome_of, outcomes_of, after_step, after_steps};
+ghost use Rattle.bb_memory_base.specs.PoolWorld.{Replays, Steps, opened};
 
 use super::{PoolOutcome, PoolStep};
 use std::alloc::{AllocError, Global};
@@ -50,8 +50,7 @@ impl PoolWorld {
 
     /// Takes one atomic step, and answers what it found. It takes no memory.
     pub fn step(&mut self, step: PoolStep) -> PoolOutcome
-        ensures outcome { result ≡ outcome_of self.old step }
-        ensures state { self.new ≡ after_step self.old step }
+        ensures { Steps self.old step result self.new }
     {
         match step {
             PoolStep::Try { party } => self.try_next(party),
@@ -63,9 +62,7 @@ impl PoolWorld {
     /// Takes the steps in order, and answers what each found. The memory for the answers is reserved first: where it is
     /// refused, no step is taken.
     pub fn replay(&mut self, steps: &[PoolStep]) -> Result<Vec<PoolOutcome>, AllocError>
-        ensures outcomes { IfOk result (λ found. found.items ≡ outcomes_of self.old steps.now) }
-        ensures state { OnOk result (self.new ≡ after_steps self.old steps.now) }
-        ensures kept { OnErr result (self.new ≡ self.old) }
+        ensures { Replays self.old steps.now result self.new }
     {
         let mut outcomes = Vec::with_capacity(self.alloc, steps.len())?;
         for step in steps {

@@ -1,33 +1,10 @@
 use Rattle.std.proofs.Common.{◌≡◌, ◌↔◌, ℕ, Bool, true, false, eqb, refl, IsTrue, ap, subst, arith, rules}
 use Rattle.std.proofs.lemmas.Grind.{common_steps}
-use denote.Struct.Props.{props}
 use Rattle.std.specs.Prelude.{◌&&◌}
-use Rattle.std.specs.Align.{IsLayout}
-use Rattle.bb_memory_base.specs.declared.layout.Layout.{Layout}
 use Rattle.bb_memory_base.specs.declared.allocator.Command.TheVariants as command
 use Rattle.bb_memory_base.specs.declared.steps.bump.BumpStep.TheVariants as step
+use Rattle.bb_memory_base.proofs.Layouts.{same_layout}
 use Rattle.bb_memory_base.proofs.equality.equality_law.Goals as goal
-
-valid_prop : (size align : ℕ) → IsProp (IsLayout size align)
-valid_prop size align = hlevel props
-
-abbrev layout_of : (size align : ℕ) → IsLayout size align → Layout
-layout_of size align valid = record { size = size; align = align; valid = valid }
-
-same_align : (size align other : ℕ) → align ≡ other → (v : IsLayout size align) (w : IsLayout size other) →
-    layout_of size align v ≡ layout_of size other w
-same_align size align other same v =
-    subst (λ o. (w : IsLayout size o) → layout_of size align v ≡ layout_of size o w) same
-    (λ w. ap (layout_of size align) (valid_prop size align v w))
-
-same_parts : (size s align other : ℕ) → size ≡ s → align ≡ other → (v : IsLayout size align) (w : IsLayout s other) →
-    layout_of size align v ≡ layout_of s other w
-same_parts size s align other same also v =
-    subst (λ t. (w : IsLayout t other) → layout_of size align v ≡ layout_of t other w) same
-    (same_align size align other also v)
-
-same_layout : (one other : Layout) → one.size ≡ other.size → one.align ≡ other.align → one ≡ other
-same_layout one other size align = same_parts one.size other.size one.align other.align size align one.valid other.valid
 
 pub returns-clause-layout : goal.returns-clause-layout
 returns-clause-layout c = grind (arith, common_steps, same_layout)

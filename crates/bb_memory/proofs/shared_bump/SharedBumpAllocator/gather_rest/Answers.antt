@@ -10,7 +10,7 @@ use Rattle.bb_memory.proofs.shared_bump.SharedBumpAllocator.gather_rest.Goals as
 pub loop-party-preserved : goal.loop-party-preserved
 loop-party-preserved c =
     let before = c.loop-party.invariant in
-    let now = c.gather.ensures.seat in
+    let now = c.gather.ensures.step in
     let party = c.in-Some.party in
     let rest = c.pop.new.self.items in
     let items = c.in-Some.ensures.items in

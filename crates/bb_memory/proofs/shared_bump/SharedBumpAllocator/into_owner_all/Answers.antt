@@ -23,7 +23,7 @@ returns-clause-agree c =
     let found = c.close-last.result in
     let own = ap (λ (b : SharedBump). b.scene) c.self.view_is in
     let is = c.pop.ensures.items ∙ ap (λ (last : Option BumpParty). rest ++ option_to_list last) c.unwrap-party.ensures in
-    let all = ap (λ (m : Me ℕ SeatView). m.0.parties) c.gather_rest.ensures.seat
+    let all = ap (λ (m : Me ℕ SeatView). m.0.parties) c.gather_rest.ensures.seat.step
     ∙ all_gathered c.party.inside.seat.table_id c.party.inside.number me party items rest c.party.invariant c.party.view_is is in
     let told = subst (λ (x : BumpScene × List NumberedLog). TellsMeeting x.0 x.1 (met_by new.0) found) (λ i. (own i, all i))
     c.close-last.ensures.last in
@@ -45,7 +45,7 @@ returns-clause-floor c =
     let found = c.close-last.result in
     let own = ap (λ (b : SharedBump). b.scene) c.self.view_is in
     let is = c.pop.ensures.items ∙ ap (λ (last : Option BumpParty). rest ++ option_to_list last) c.unwrap-party.ensures in
-    let all = ap (λ (m : Me ℕ SeatView). m.0.parties) c.gather_rest.ensures.seat
+    let all = ap (λ (m : Me ℕ SeatView). m.0.parties) c.gather_rest.ensures.seat.step
     ∙ all_gathered c.party.inside.seat.table_id c.party.inside.number me party items rest c.party.invariant c.party.view_is is in
     let told = subst (λ (x : BumpScene × List NumberedLog). TellsMeeting x.0 x.1 (met_by new.0) found) (λ i. (own i, all i))
     c.close-last.ensures.last in

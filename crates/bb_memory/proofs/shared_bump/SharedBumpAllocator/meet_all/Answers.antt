@@ -19,17 +19,18 @@ returns-in-Some-clause-met c =
     let is = c.in-Some.ensures.items in
     let value = party_in c.meet_rest.new.seat.table_id c.party.inside.number c.meet_rest.new.seat.me.0 in
     let back : value ≡ meeting_at found party = met_party c.meet_rest.new.seat.table_id c.party.inside.seat.table_id
-    c.party.inside.number found me c.meet_rest.new.seat.me party c.party.view_is c.meet_rest.ensures.table c.meet_rest.ensures.seat in
+    c.party.inside.number found me c.meet_rest.new.seat.me party c.party.view_is
+    c.meet_rest.ensures.found.table c.meet_rest.ensures.found.seat in
     let told = subst (λ (parties : List NumberedLog). TellsMeeting bump.scene parties (met_by me.0) found)
     (all_gathered c.party.inside.seat.table_id c.party.inside.number me party items rest c.party.invariant c.party.view_is is)
-    c.meet_rest.ensures.told in
+    c.meet_rest.ensures.found.told in
     let met = ap (λ (p : BumpParty). p.met) c.party.view_is in
     let mets = subst (All (λ (p : BumpParty). p.met ≤ found)) (sym is)
     (All-push (λ (p : BumpParty). p.met ≤ found) rest party c.meet_rest.ensures.risen (omega (arith, told.above, met))) in
     have_met bump items c.push_reserved.new.self.items (met_by me.0) found
     (subst IsSharedScene (ap (λ (b : SharedBump). b.scene) c.self.view_is) c.self.invariant.shared) c.requires.parties told mets
     (c.push_reserved.ensures.items
-    ∙ (λ i. c.meet_rest.ensures.rest i ++ back i ∷ [])
+    ∙ (λ i. c.meet_rest.ensures.rest.items i ++ back i ∷ [])
     ∙ sym (map-append (meeting_at found) rest (party ∷ [])) ∙ ap (map (meeting_at found)) (sym is))
 
 pub returns-in-Some-clause-parties : goal.returns-in-Some-clause-parties

@@ -11,7 +11,7 @@ use Rattle.bb_memory.proofs.SharedBumpParties.{party_seat}
 use Rattle.bb_memory.proofs.shared_bump.SharedBumpAllocator.seat_parties.Goals as goal
 
 pub deal-seat-requires : goal.deal-seat-requires
-deal-seat-requires c = record { table = c.loop-number.invariant.table ∙ sym (ap (λ (b : SharedBump). b.table) c.self.view_is) }
+deal-seat-requires c = c.loop-number.invariant.table ∙ sym (ap (λ (b : SharedBump). b.table) c.self.view_is)
 
 pub invariant_of-push_reserved : goal.invariant_of-push_reserved
 invariant_of-push_reserved c =

@@ -4,7 +4,7 @@ use Rattle.bb_memory.proofs.shared_bump.position.Position.deal.Goals as goal
 
 pub split_seat-requires : goal.split_seat-requires
 split_seat-requires c = (
-  c.requires.table ∙ sym (ap (λ b. b.table) c.self.view_is),
+  c.requires ∙ sym (ap (λ b. b.table) c.self.view_is),
   omega (arith, c.self.invariant.words),
   gives_first c.self.inside.table.shared.key c.args.rest.now.id c.args.rest.now.me.0,
 )

@@ -11,17 +11,20 @@ compare_exchange-found-requires c =
     let fields = c.self.invariant in
     let me = c.args.seat.now.me in
     let scene = ap (λ b. b.scene) c.self.view_is in (
-      c.requires.table ∙ sym (ap (λ b. b.table) c.self.view_is),
+      c.requires.seat.table ∙ sym (ap (λ b. b.table) c.self.view_is),
       omega (arith, fields.words),
       exchanges_as c.self.inside.table.shared.key _ _ (number_of me.0) c.args.layout c.args.seen c.args.behind (view_log me.0) (met_by me.0) me
-          (c.requires.seat.is ∙ ap (λ s. (alone (sight s (met_by me.0)) (number_of me.0) (view_log me.0), [])) (sym scene)) c.requires.call
+          (c.requires.seat.seat.is ∙ ap (λ s. (alone (sight s (met_by me.0)) (number_of me.0) (view_log me.0), [])) (sym scene))
+          c.requires.call
           (c.requires.behind ∙ ap (λ (s : BumpScene). position_behind s.region (chunk_at s.region c.args.seen c.args.layout))
           (sym scene)),
     )
 
-pub returns-clause-step : goal.returns-clause-step
-returns-clause-step c =
-    let me = c.args.seat.now.me in
-    told_exchange c.args.self.now.scene (number_of me.0) (view_log me.0) c.compare_exchange-found.result me
-    c.compare_exchange-found.new.seat.me
-    c.requires.seat c.compare_exchange-found.ensures.2
+pub returns : goal.returns
+returns c =
+    let me = c.args.seat.now.me in record {
+      table = c.compare_exchange-found.ensures.0;
+      step = told_exchange c.args.self.now.scene (number_of me.0) (view_log me.0) c.compare_exchange-found.result me
+          c.compare_exchange-found.new.seat.me
+          c.requires.seat.seat c.compare_exchange-found.ensures.2;
+    }

@@ -16,8 +16,10 @@ load-requires c =
           (of.seat.is ∙ ap (λ s. (alone (sight s (met_by me.0)) (number_of me.0) (view_log me.0), [])) (sym scene)) of.idle,
     )
 
-pub returns-clause-step : goal.returns-clause-step
-returns-clause-step c =
-    let me = c.args.seat.now.me in
-    told_load c.args.self.now.scene (number_of me.0) (view_log me.0) c.load.result me c.load.new.seat.me
-    c.requires.seat.seat c.load.ensures.2
+pub returns : goal.returns
+returns c =
+    let me = c.args.seat.now.me in record {
+      table = c.load.ensures.0;
+      step = told_load c.args.self.now.scene (number_of me.0) (view_log me.0) c.load.result me c.load.new.seat.me
+          c.requires.seat.seat c.load.ensures.2;
+    }

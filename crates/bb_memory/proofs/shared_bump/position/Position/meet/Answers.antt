@@ -12,9 +12,9 @@ returns-clause-met c =
     let a = c.args.a.now.me in
     let b = c.args.b.now.me in
     let met = met_by c.gather.new.seat.me.0 in
-    let own = ap (λ (m : Me ℕ SeatView). m.0.parties) c.requires.a.is in
+    let own = ap (λ (m : Me ℕ SeatView). m.0.parties) c.requires.a.seat.is in
     let guest = ap (λ (m : Me ℕ SeatView). m.0.parties) c.deal-guest.ensures.first
-    ∙ ap (λ (m : Me ℕ SeatView). head_of m.0.parties) c.requires.b.is in
-    let both = ap (λ (m : Me ℕ SeatView). m.0.parties) c.gather.ensures.seat ∙ λ i. guest i ++ own i in
+    ∙ ap (λ (m : Me ℕ SeatView). head_of m.0.parties) c.requires.b.seat.is in
+    let both = ap (λ (m : Me ℕ SeatView). m.0.parties) c.gather.ensures.step ∙ λ i. guest i ++ own i in
     two_met scene (number_of a.0) (view_log a.0) (number_of b.0) (view_log b.0) met c.find-found.result
     (subst (λ (parties : List NumberedLog). TellsMeeting scene parties met c.find-found.result) both c.find-found.ensures.told)

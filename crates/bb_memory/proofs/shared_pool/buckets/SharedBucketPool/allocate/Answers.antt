@@ -15,7 +15,7 @@ returns-clause-still_held g c other held =
     let before = rw (← c.party.view_is) at held in
     let me = c.party.inside.seat.me in
     still_held c.args.self.now.scene (number_of me.0) (view_log me.0) c.pass.new.seat.me c.pass.result other
-    c.pass.ensures.pass before
+    c.pass.ensures.step before
 
 pub returns-clause-inside : goal.returns-clause-inside
 returns-clause-inside g c =
@@ -28,7 +28,7 @@ returns-clause-inside g c =
     elim c.match-pass.branch [
       | in-Some w ↦
           rw (w.result-is, c.self.view_is)
-          (bucket-inside scene.geometry w.in-Some.number w.size-in-Some.result geometry w.in-Some.ensures.pass.below
+          (bucket-inside scene.geometry w.in-Some.number w.size-in-Some.result geometry w.in-Some.ensures.step.below
           (omega arith))
       | in-None w ↦ rw w.result-is tt
     ]

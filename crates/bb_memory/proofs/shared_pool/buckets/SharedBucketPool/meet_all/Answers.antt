@@ -11,7 +11,7 @@ pub returns-in-Some-clause-met : goal.returns-in-Some-clause-met
 returns-in-Some-clause-met g c =
     let scene = c.args.self.now.scene in
     let told = subst (λ (s : PoolScene). TellsMeeting s (map numbered_of c.pop.new.self.items ++ c.party.inside.seat.me.0.parties))
-    (ap (λ (b : SharedPool). b.scene) c.self.view_is) c.meet_rest.ensures.told in
+    (ap (λ (b : SharedPool). b.scene) c.self.view_is) c.meet_rest.ensures.found.told in
     agrees scene c.args.parties.now.items
     (subst (λ (parties : List NumberedLog). TellsMeeting scene parties)
     (all_gathered c.party.inside.seat.table_id c.party.inside.number c.party.inside.seat.me c.in-Some.party
@@ -22,8 +22,8 @@ pub returns-in-Some-clause-kept : goal.returns-in-Some-clause-kept
 returns-in-Some-clause-kept g c =
     let back = met_party c.meet_rest.new.seat.table_id c.party.inside.seat.table_id
     c.party.inside.number c.party.inside.seat.me c.meet_rest.new.seat.me c.in-Some.party c.party.view_is
-    c.meet_rest.ensures.table c.meet_rest.ensures.seat in
-    c.push_reserved.ensures.items ∙ (λ i. c.meet_rest.ensures.rest i ++ back i ∷ []) ∙ sym c.in-Some.ensures.items
+    c.meet_rest.ensures.found.table c.meet_rest.ensures.found.seat in
+    c.push_reserved.ensures.items ∙ (λ i. c.meet_rest.ensures.rest.items i ++ back i ∷ []) ∙ sym c.in-Some.ensures.items
 
 pub returns-in-Some-clause-parties : goal.returns-in-Some-clause-parties
 returns-in-Some-clause-parties g c =

@@ -12,29 +12,31 @@ loop-bucket-init g c =
       passing = begins c.args.self.now.scene (number_of me.0) (view_log me.0) me c.requires.seat.seat;
     }
 
-pub try_flag-requires-clause-table : goal.try_flag-requires-clause-table
-try_flag-requires-clause-table g c =
-    c.loop-bucket.invariant.table ∙ c.requires.table ∙ sym (ap (λ (p : SharedPool). p.table) c.self.view_is)
-
 pub try_flag-requires-clause-seat : goal.try_flag-requires-clause-seat
 try_flag-requires-clause-seat g c =
     let me = c.args.seat.now.me in
     let seat = passing_seat c.args.self.now.scene (number_of me.0) (view_log me.0) c.loop-bucket.seat.me c.loop-bucket.bucket
-    c.loop-bucket.invariant.passing in
-    rw (← c.self.view_is) at seat
+    c.loop-bucket.invariant.passing in record {
+      table = c.loop-bucket.invariant.table ∙ c.requires.table ∙ sym (ap (λ (p : SharedPool). p.table) c.self.view_is);
+      seat = rw (← c.self.view_is) at seat;
+    }
 
 pub try_flag-requires-clause-next : goal.try_flag-requires-clause-next
 try_flag-requires-clause-next g c =
-    let me = c.args.seat.now.me in
-    passing_next c.args.self.now.scene (number_of me.0) (view_log me.0) c.loop-bucket.seat.me c.loop-bucket.bucket
-    c.requires.seat.idle (omega arith) c.loop-bucket.invariant.passing
+    let me = c.args.seat.now.me in record {
+      next = passing_next c.args.self.now.scene (number_of me.0) (view_log me.0) c.loop-bucket.seat.me c.loop-bucket.bucket
+          c.requires.seat.idle (omega arith) c.loop-bucket.invariant.passing;
+      below = rw c.self.view_is (omega arith);
+    }
 
-pub returns-then-try_flag-clause-pass : goal.returns-then-try_flag-clause-pass
-returns-then-try_flag-clause-pass g c =
-    let me = c.args.seat.now.me in
-    takes c.args.self.now.scene (number_of me.0) (view_log me.0) c.loop-bucket.seat.me c.try_flag.new.seat.me
-    c.loop-bucket.bucket c.loop-bucket.invariant.passing
-    (rw c.if-try_flag.true at (rw c.self.view_is at c.try_flag.ensures.step)) (omega arith)
+pub returns-then-try_flag : goal.returns-then-try_flag
+returns-then-try_flag g c =
+    let me = c.args.seat.now.me in record {
+      table = c.try_flag.ensures.table ∙ c.loop-bucket.invariant.table;
+      step = takes c.args.self.now.scene (number_of me.0) (view_log me.0) c.loop-bucket.seat.me c.try_flag.new.seat.me
+          c.loop-bucket.bucket c.loop-bucket.invariant.passing
+          (rw c.if-try_flag.true at (rw c.self.view_is at c.try_flag.ensures.step)) (omega arith);
+    }
 
 pub loop-bucket-preserved : goal.loop-bucket-preserved
 loop-bucket-preserved g c =

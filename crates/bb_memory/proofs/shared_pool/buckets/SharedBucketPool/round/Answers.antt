@@ -13,14 +13,17 @@ loop-turn-init g c =
       round = round_begins c.args.self.now.scene (number_of me.0) (view_log me.0) c.args.first me c.requires.seat;
     }
 
-pub returns-then-try_at-clause-round : goal.returns-then-try_at-clause-round
-returns-then-try_at-clause-round g c =
+pub returns-then-try_at : goal.returns-then-try_at
+returns-then-try_at g c =
     let scene : PoolScene = c.args.self.now.scene in
     let me = c.args.seat.now.me in
     let is = c.at_turn-bucket.ensures.value ∙ ap (λ (n : ℕ). at_turn n c.args.first c.loop-turn.turn) c.number_of_buckets-count.ensures.value in
-    round_takes scene (number_of me.0) (view_log me.0) c.args.first c.loop-turn.seat.me c.try_at.new.seat.me
-    c.loop-turn.turn c.loop-turn.invariant.round c.at_turn-bucket.result is
-    (rw c.if-try_at.true at (rw c.self.view_is at c.try_at.ensures.step)) (omega arith)
+    record {
+      table = c.try_at.ensures.table ∙ c.loop-turn.invariant.table;
+      step = round_takes scene (number_of me.0) (view_log me.0) c.args.first c.loop-turn.seat.me c.try_at.new.seat.me
+          c.loop-turn.turn c.loop-turn.invariant.round c.at_turn-bucket.result is
+          (rw c.if-try_at.true at (rw c.self.view_is at c.try_at.ensures.step)) (omega arith);
+    }
 
 pub loop-turn-preserved : goal.loop-turn-preserved
 loop-turn-preserved g c =
@@ -34,11 +37,14 @@ loop-turn-preserved g c =
           (rw c.if-try_at.false at (rw c.self.view_is at c.try_at.ensures.step));
     }
 
-pub returns-clause-round : goal.returns-clause-round
-returns-clause-round g c =
+pub returns : goal.returns
+returns g c =
     let scene : PoolScene = c.args.self.now.scene in
     let me = c.args.seat.now.me in
     let end : c.loop-turn.turn ≡ scene.geometry.buckets = omega arith in
-    round_refuses scene (number_of me.0) (view_log me.0) c.args.first c.loop-turn.seat.me
-    (subst (λ (n : ℕ). IsInRound scene (number_of me.0) (view_log me.0) c.args.first n c.loop-turn.seat.me) end
-    c.loop-turn.invariant.round)
+    record {
+      table = c.loop-turn.invariant.table;
+      step = round_refuses scene (number_of me.0) (view_log me.0) c.args.first c.loop-turn.seat.me
+          (subst (λ (n : ℕ). IsInRound scene (number_of me.0) (view_log me.0) c.args.first n c.loop-turn.seat.me) end
+          c.loop-turn.invariant.round);
+    }

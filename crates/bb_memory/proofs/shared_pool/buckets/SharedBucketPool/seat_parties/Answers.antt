@@ -10,7 +10,7 @@ use Rattle.bb_memory.proofs.SharedPoolParties.{no_step, party_seat}
 use Rattle.bb_memory.proofs.shared_pool.buckets.SharedBucketPool.seat_parties.Goals as goal
 
 pub deal-seat-requires : goal.deal-seat-requires
-deal-seat-requires g c = record { table = c.loop-number.invariant.table ∙ sym (ap (λ (p : SharedPool). p.table) c.self.view_is) }
+deal-seat-requires g c = c.loop-number.invariant.table ∙ sym (ap (λ (p : SharedPool). p.table) c.self.view_is)
 
 pub invariant_of-push_reserved : goal.invariant_of-push_reserved
 invariant_of-push_reserved g c =

@@ -19,8 +19,11 @@ load-requires c =
           (c.requires.seat ∙ ap (λ (s : PoolScene). (standing_for s me.0.parties, [])) (sym key)),
     )
 
-pub returns-clause-told : goal.returns-clause-told
-returns-clause-told c =
-    let me = c.args.seat.now.me in
-    subst (λ (s : PoolScene). TellsMeeting s me.0.parties)
-    (ap (λ (m : Me ℕ SeatView). m.0.scene) c.requires.seat) c.load.ensures.2.1
+pub returns : goal.returns
+returns c =
+    let me = c.args.seat.now.me in record {
+      table = c.load.ensures.0;
+      seat = c.load.ensures.2.0;
+      told = subst (λ (s : PoolScene). TellsMeeting s me.0.parties)
+          (ap (λ (m : Me ℕ SeatView). m.0.scene) c.requires.seat) c.load.ensures.2.1;
+    }

@@ -9,10 +9,11 @@ pub store-requires : goal.store-requires
 store-requires c =
     let me = c.args.seat.now.me in
     let key = c.self.invariant.0 ∙ ap (λ (p : SharedPool). p.scene) c.self.view_is in
-    let below = rw (← c.self.view_is) at c.requires.below in
+    let below = rw (← c.self.view_is) at c.requires.held.below in
     let counted = c.self.invariant.1.words in (
-      c.requires.table ∙ sym (ap (λ (p : SharedPool). p.table) c.self.view_is),
+      c.requires.seat.table ∙ sym (ap (λ (p : SharedPool). p.table) c.self.view_is),
       omega arith,
       returns_as c.self.inside.table.shared.key _ _ (number_of me.0) c.args.bucket (view_log me.0) me
-          (c.requires.seat.is ∙ ap (λ (s : PoolScene). (alone s (number_of me.0) (view_log me.0), [])) (sym key)) c.requires.held,
+          (c.requires.seat.seat.is ∙ ap (λ (s : PoolScene). (alone s (number_of me.0) (view_log me.0), [])) (sym key))
+          c.requires.held.held,
     )

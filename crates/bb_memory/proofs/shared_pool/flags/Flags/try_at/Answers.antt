@@ -13,9 +13,9 @@ compare_exchange-flag-requires c =
     let words = c.self.invariant.1 in
     let below = rw (← c.self.view_is) at c.requires.below in
     let counted = words.words in (
-      c.requires.table ∙ sym (ap (λ (p : SharedPool). p.table) c.self.view_is),
+      c.requires.seat.table ∙ sym (ap (λ (p : SharedPool). p.table) c.self.view_is),
       omega arith,
       tries_at_as c.self.inside.table.shared.key _ _ (number_of me.0) c.args.bucket (view_log me.0) me
-          (c.requires.seat.seat.is ∙ ap (λ (s : PoolScene). (alone s (number_of me.0) (view_log me.0), [])) (sym key))
-          (subst (λ (s : PoolScene). c.args.bucket < s.geometry.buckets) (sym key) c.requires.below) c.requires.seat.idle,
+          (c.requires.seat.seat.seat.is ∙ ap (λ (s : PoolScene). (alone s (number_of me.0) (view_log me.0), [])) (sym key))
+          (subst (λ (s : PoolScene). c.args.bucket < s.geometry.buckets) (sym key) c.requires.below) c.requires.seat.seat.idle,
     )
