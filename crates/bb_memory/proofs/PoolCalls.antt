@@ -2,7 +2,7 @@
 use Rattle.std.proofs.Common.{◌≡◌, ◌≢◌, ℕ, suc, ◌+◌, ◌-◌, ◌*◌, ◌/◌, ◌%◌, ◌^◌, ◌<◌, ◌≤◌, ◌↔◌, true, false, List, [], ◌∷◌, ◌++◌}
 use Rattle.std.proofs.Common.{Result, Ok, Err, refl, sym, ap, subst, ◌∙◌, arith, Some, inl, inr, div-add-mod', pow_pos, pow_mono}
 use Rattle.std.proofs.Common.{pow-add, pow-suc}
-use Rattle.std.specs.Prelude.{slice_get, slice_set, remove, IsOk, IfOk}
+use Rattle.std.specs.Prelude.{slice_get, slice_set, remove, IsOk, IfOk, OnErr}
 use Rattle.std.specs.Int.{IsPowerOfTwo}
 use Rattle.std.proofs.Math.Nat.{mul_assoc}
 use Rattle.std.proofs.lemmas.Bool.{cases_lt}
@@ -21,6 +21,7 @@ use Rattle.bb_memory_base.proofs.PoolGeometries.{bucket_place-aligned, bucket_pl
 use Rattle.bb_memory_base.proofs.SliceGets.{slice_get-set_other, slice_get-set_same}
 use Rattle.bb_memory.specs.NumberSet.{Has, Lacks}
 use Rattle.bb_memory.specs.Pool.{Pool, IsPool, StandsFor, HoldsPlace, AreAStrideApart, Takes, Frees, with_flag}
+use Rattle.bb_memory.specs.Pool.{TakesBucket, FreesBucket}
 use Rattle.bb_memory.proofs.Pools.{Has-set_true, IsPool-with_flag, bucket-below, filled-at, held-inside}
 use Rattle.bb_memory.proofs.Pools.{lacked-free, one_bucket, stands-given, stands-freed, stands-resized}
 
@@ -92,14 +93,14 @@ Takes-aligned pool layout (Ok chunk) new (i, within, lacks, given, after) =
     ap (λ (c : Chunk). c.place % layout.align) given ∙ bucket_place-multiple pool.geometry i layout within.align
 Takes-aligned pool layout (Err error) new takes = tt
 
-pub Takes-bucket_aligned : (pool : Pool) (layout : Layout) (answer : Result Chunk AllocationError) (new : Pool) →
+Takes-bucket_aligned : (pool : Pool) (layout : Layout) (answer : Result Chunk AllocationError) (new : Pool) →
     Takes pool layout answer new → IfOk answer (λ chunk. chunk.place % pool.geometry.bucket.align ≡ 0)
 Takes-bucket_aligned pool layout (Ok chunk) new (i, within, lacks, given, after) =
     ap (λ (c : Chunk). c.place % pool.geometry.bucket.align) given ∙ bucket_place-aligned pool.geometry i
 Takes-bucket_aligned pool layout (Err error) new takes = tt
 
 -- there is a chunk exactly where the layout isn't too much for a bucket and some bucket isn't held
-pub Takes-accepted : (pool : Pool) (layout : Layout) (answer : Result Chunk AllocationError) (new : Pool) → IsPool pool →
+Takes-accepted : (pool : Pool) (layout : Layout) (answer : Result Chunk AllocationError) (new : Pool) → IsPool pool →
     Takes pool layout answer new →
     IsOk answer ↔ (IsWithin pool.geometry.bucket layout × ((i : ℕ) × Lacks pool.held i))
 Takes-accepted pool layout (Ok chunk) new is (i, within, lacks, given, after) = (λ ok. (within, (i, lacks)), λ may. refl)
@@ -126,7 +127,7 @@ Takes-given pool layout (Ok chunk) new (i, within, lacks, given, after) =
 Takes-given pool layout (Err error) new takes = tt
 
 -- it wasn't before
-pub Takes-was_free : (pool : Pool) (layout : Layout) (answer : Result Chunk AllocationError) (new : Pool) → IsPool pool →
+Takes-was_free : (pool : Pool) (layout : Layout) (answer : Result Chunk AllocationError) (new : Pool) → IsPool pool →
     Takes pool layout answer new → IfOk answer (λ chunk. ¬ HoldsPlace pool chunk.place)
 Takes-was_free pool layout (Ok chunk) new is (i, within, lacks, given, after) = λ holds.
     let at : chunk.place ≡ bucket_place pool.geometry i = ap (λ (c : Chunk). c.place) given in
@@ -135,7 +136,7 @@ Takes-was_free pool layout (Ok chunk) new is (i, within, lacks, given, after) = 
 Takes-was_free pool layout (Err error) new is takes = tt
 
 -- and it is a stride apart from each that was
-pub Takes-apart : (pool : Pool) (layout : Layout) (answer : Result Chunk AllocationError) (new : Pool) →
+Takes-apart : (pool : Pool) (layout : Layout) (answer : Result Chunk AllocationError) (new : Pool) →
     Takes pool layout answer new →
     IfOk answer (λ chunk. (place : ℕ) → HoldsPlace pool place → AreAStrideApart pool.geometry.bucket place chunk.place)
 Takes-apart pool layout (Ok chunk) new (i, within, lacks, given, after) = λ place holds.
@@ -162,6 +163,31 @@ Takes-still_held pool layout (Err AlignmentFailure) new takes place holds =
 Takes-still_held pool layout (Err OutOfMemory) new takes place holds =
     subst (λ (p : Pool). HoldsPlace p place) (sym takes.2) holds
 Takes-still_held pool layout (Err SizeIsZero) new takes place holds = absurd takes
+
+-- a refusal changes nothing
+Takes-still : (pool : Pool) (layout : Layout) (answer : Result Chunk AllocationError) (new : Pool) →
+    Takes pool layout answer new → OnErr answer (new ≡ pool)
+Takes-still pool layout (Ok chunk) new takes = tt
+Takes-still pool layout (Err SizeTooLarge) new takes = takes.1
+Takes-still pool layout (Err AlignmentFailure) new takes = takes.2
+Takes-still pool layout (Err OutOfMemory) new takes = takes.2
+Takes-still pool layout (Err SizeIsZero) new takes = absurd takes
+
+-- all that a request says by the value
+pub TakesBucket-is : (pool : Pool) (layout : Layout) (answer : Result Chunk AllocationError) (new : Pool) (reads one : ℕ) →
+    IsPool pool → Takes pool layout answer new →
+    (IsWithin pool.geometry.bucket layout → 0 < pool.geometry.buckets → reads ≡ one) →
+    TakesBucket pool layout answer new reads one
+TakesBucket-is pool layout answer new reads one is takes one_read = record {
+  taken = takes;
+  accepted = Takes-accepted pool layout answer new is takes;
+  still = Takes-still pool layout answer new takes;
+  was_free = Takes-was_free pool layout answer new is takes;
+  apart = Takes-apart pool layout answer new takes;
+  still_held = Takes-still_held pool layout answer new takes;
+  bucket_aligned = Takes-bucket_aligned pool layout answer new takes;
+  one_read = one_read;
+}
 
 -- RELEASES
 
@@ -197,6 +223,16 @@ pub Frees-room : (pool : Pool) (place : ℕ) (new : Pool) → HoldsPlace pool pl
     (i : ℕ) × Lacks new.held i
 Frees-room pool place new (i, held, placed) frees =
     (i, subst (λ (p : Pool). Lacks p.held i) (sym (frees i held placed)) (slice_get-set_same pool.held i false true held))
+
+-- all that a release says by the value
+pub FreesBucket-is : (pool : Pool) (place : ℕ) (new : Pool) → IsPool pool → HoldsPlace pool place → Frees pool place new →
+    FreesBucket pool place new
+FreesBucket-is pool place new is holds frees = record {
+  freed = frees;
+  still_held = Frees-still_held pool place new holds frees;
+  given_back = Frees-given_back pool place new is holds frees;
+  room = Frees-room pool place new holds frees;
+}
 
 -- RESIZES
 

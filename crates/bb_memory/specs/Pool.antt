@@ -1,7 +1,7 @@
 -- A pool, as its contracts see it.
-use Rattle.std.specs.Prelude.{◌≡◌, ℕ, ◌-◌, ◌+◌, ◌≤◌, ◌<◌, ◌^◌, ◌⊎◌, Bool, true, false}
+use Rattle.std.specs.Prelude.{◌≡◌, ◌≢◌, ℕ, ◌-◌, ◌+◌, ◌%◌, ◌≤◌, ◌<◌, ◌^◌, ◌⊎◌, ◌↔◌, Bool, true, false}
 use Rattle.std.specs.Prelude.{◌&&◌, if◌then◌else◌, nat_le}
-use Rattle.std.specs.Prelude.{List, All, length, min, replicate, slice_set, Result, Ok, Err}
+use Rattle.std.specs.Prelude.{List, All, length, min, replicate, slice_set, Result, Ok, Err, IsOk, IfOk, OnErr}
 use Rattle.bb_memory_base.specs.Region.{Region, IsRegion}
 use Rattle.bb_memory_base.specs.Chunk.{Chunk}
 use Rattle.bb_memory_base.specs.LiveList.{IsSound}
@@ -98,6 +98,28 @@ Takes pool layout (Err SizeIsZero) new = ⊥
 abbrev pub Frees : Pool → ℕ → Pool → Type 0
 Frees pool place new =
     (i : ℕ) → Has pool.held i → place ≡ bucket_place pool.geometry i → new ≡ with_flag pool i false
+
+-- What a request is answered by the value alone, what the pool is then, and how many words it read.
+pub record TakesBucket (old : Pool) (layout : Layout) (answer : Result Chunk AllocationError)
+    (new : Pool) (reads one_search : ℕ) : Type 0 where
+  -- which bucket is held then, each refusal by its cause, and that there is no other
+  pub taken : Takes old layout answer new
+  pub accepted : IsOk answer ↔ (IsWithin old.geometry.bucket layout × ((i : ℕ) × Lacks old.held i))
+  pub still : OnErr answer (new ≡ old)
+  pub was_free : IfOk answer (λ chunk. ¬ HoldsPlace old chunk.place)
+  pub apart : IfOk answer (λ chunk. (place : ℕ) → HoldsPlace old place
+      → AreAStrideApart old.geometry.bucket place chunk.place)
+  pub still_held : (place : ℕ) → HoldsPlace old place → HoldsPlace new place
+  pub bucket_aligned : IfOk answer (λ chunk. chunk.place % old.geometry.bucket.align ≡ 0)
+  pub one_read : IsWithin old.geometry.bucket layout → 0 < old.geometry.buckets
+      → reads ≡ one_search
+
+-- What a pool is after a release by the value alone: that bucket is free, and each other one as it was.
+pub record FreesBucket (old : Pool) (place : ℕ) (new : Pool) : Type 0 where
+  pub freed : Frees old place new
+  pub still_held : (other : ℕ) → HoldsPlace old other → other ≢ place → HoldsPlace new other
+  pub given_back : ¬ HoldsPlace new place
+  pub room : (i : ℕ) × Lacks new.held i
 
 -- INDEX WORDS
 

@@ -1,13 +1,11 @@
 //! An allocator that gives one chunk after another, and takes all of them back at once.
-ghost use Rattle.std.specs.Prelude.{◌≡◌, ◌∷◌, ◌++◌, [], List, All, ◌+◌, ◌<◌, ◌≤◌, ◌%◌, ◌↔◌, ℕ};
-ghost use Rattle.std.specs.Prelude.{IsOk, IfOk, OnOk, OnErr, IfErr, IsTrue, Some, Result, length, slice_get};
-ghost use Rattle.bb_memory_base.specs.Region.{Region, IsRegion, region_at, region_end};
+ghost use Rattle.std.specs.Prelude.{◌≡◌, [], List, All, ◌+◌, ◌<◌, ◌≤◌, ◌%◌, ◌↔◌, ℕ};
+ghost use Rattle.std.specs.Prelude.{IfOk, OnOk, OnErr, IfErr, IsTrue, Some, Result, length, slice_get};
+ghost use Rattle.bb_memory_base.specs.Region.{Region, IsRegion, region_at};
 ghost use Rattle.bb_memory_base.specs.Chunk.{Chunk, IsInside, chunk_end};
-ghost use Rattle.bb_memory_base.specs.HeldBytes.{held_region, ZeroesOnly};
 ghost use Rattle.bb_memory_base.specs.LiveList.{IsSound};
 ghost use Rattle.bb_memory_base.specs.Run.{Step, IsRun};
-ghost use Rattle.bb_memory_base.specs.BumpObject.{MayAllocate, IsInOrder, StandsFor, bump_object, chunk_at_or_after, used_space};
-ghost use Rattle.bb_memory_base.specs.LeastPlace.{least_place};
+ghost use Rattle.bb_memory_base.specs.BumpObject.{MayAllocate, IsInOrder, StandsFor, bump_object, used_space};
 ghost use Rattle.bb_memory_base.specs.declared.layout.Layout.{Layout};
 ghost use Rattle.bb_memory_base.specs.declared.allocator.AllocationError.{AllocationError};
 ghost use Rattle.bb_memory_base.specs.declared.allocator.Command.{Command};
@@ -181,6 +179,7 @@ impl BaseAllocator for BumpAllocator {
     ghost use Rattle.std.specs.Prelude.{true};
     ghost use Rattle.bb_memory_base.specs.Region.{Region};
     ghost use Rattle.bb_memory_base.specs.BumpObject.{MayAllocate, StandsFor};
+    ghost use Rattle.bb_memory.specs.Bump.{Takes, Frees};
 
     const RELEASE_EMPTIES: bool = true;
 
@@ -204,40 +203,15 @@ impl BaseAllocator for BumpAllocator {
 
     ghost note_after = { λ _ _ note. note };
 
+    ghost takes = { Takes };
+
+    ghost frees = { λ bump _ _ new. Frees bump new };
+
     /// A chunk of exactly `layout.size()` bytes, at the least multiple of `layout.align()` behind what is used. Size 0 is
     /// refused with `SizeIsZero`, and a chunk that would end behind the region with `OutOfMemory`. A refusal leaves the
     /// allocator as it was.
     #[inline(always)]
-    fn allocate(&mut self, layout: Layout) -> Result<Chunk, AllocationError>
-        ensures answer { (live : List Chunk) → StandsFor self.old.region self.old.used live
-            → MayAllocate self.old.region live layout result }
-        ensures appended { IfOk result (λ chunk. (live : List Chunk)
-            → StandsFor self.old.region self.old.used live
-            → StandsFor self.new.region self.new.used (live ++ chunk ∷ [])) }
-        ensures kept { OnErr result ((live : List Chunk)
-            → StandsFor self.old.region self.old.used live
-            → StandsFor self.new.region self.new.used live) }
-        ensures inside { IfOk result (IsInside self.old.region) }
-        ensures aligned { IfOk result (λ chunk. chunk.place % layout.align ≡ 0) }
-        ensures long_enough { IfOk result (λ chunk. layout.size ≤ chunk.len) }
-        ensures geometry { self.new.region ≡ self.old.region }
-
-        // Each outcome by the value alone, both ways.
-        ensures accepted { IsOk result ↔ ((0 < layout.size)
-            × (chunk_end (chunk_at_or_after (self.old.region.start + self.old.used) layout)
-            ≤ region_end self.old.region)) }
-        ensures size_is_zero { (result ≡ Err AllocationError.SizeIsZero) ↔ (layout.size ≡ 0) }
-        ensures begins { IfOk result (λ chunk. chunk.place
-            ≡ least_place (self.old.region.start + self.old.used) layout.align) }
-        ensures exact_size { IfOk result (λ chunk. chunk.len ≡ layout.size) }
-        ensures behind { IfOk result (λ chunk.
-            self.old.region.start + self.old.used ≤ chunk.place) }
-
-        // What is used then ends with the chunk, and a refusal leaves everything.
-        ensures used { IfOk result (λ chunk.
-            self.new.region.start + self.new.used ≡ chunk_end chunk) }
-        ensures still { OnErr result (self.new ≡ self.old) }
-    {
+    fn allocate(&mut self, layout: Layout) -> Result<Chunk, AllocationError> {
         if layout.size() == 0 {
             return Err(AllocationError::SizeIsZero);
         }
@@ -251,58 +225,8 @@ impl BaseAllocator for BumpAllocator {
 
     /// Gives back all chunks, whichever place and layout are named.
     #[inline(always)]
-    fn deallocate(&mut self, _place: usize, _layout: Layout)
-        ensures value { self.new ≡ bump_of self.old.region.start self.old.region.size 0 }
-        ensures released { (live : List Chunk) → StandsFor self.old.region self.old.used live
-            → StandsFor self.new.region self.new.used [] }
-    {
+    fn deallocate(&mut self, _place: usize, _layout: Layout) {
         self.current_position = 0;
-    }
-
-    /// Asks for a chunk as `allocate` does, and makes its bytes zero. Every other byte of the region stays, and after a
-    /// refusal all do. The region's start and size have to be those of the bump's maker.
-    #[inline]
-    fn allocate_zeroed(
-        &mut self,
-        layout: Layout,
-        region: &mut region::Region,
-    ) -> Result<Chunk, AllocationError>
-        requires same_region { held_region region.old ≡ self.old.region }
-        ensures answer { (live : List Chunk) → StandsFor self.old.region self.old.used live
-            → MayAllocate self.old.region live layout result }
-        ensures appended { IfOk result (λ chunk. (live : List Chunk)
-            → StandsFor self.old.region self.old.used live
-            → StandsFor self.new.region self.new.used (live ++ chunk ∷ [])) }
-        ensures kept { OnErr result ((live : List Chunk)
-            → StandsFor self.old.region self.old.used live
-            → StandsFor self.new.region self.new.used live) }
-        ensures inside { IfOk result (IsInside self.old.region) }
-        ensures aligned { IfOk result (λ chunk. chunk.place % layout.align ≡ 0) }
-        ensures long_enough { IfOk result (λ chunk. layout.size ≤ chunk.len) }
-        ensures geometry { self.new.region ≡ self.old.region }
-
-        // Each outcome by the value alone, both ways.
-        ensures accepted { IsOk result ↔ ((0 < layout.size)
-            × (chunk_end (chunk_at_or_after (self.old.region.start + self.old.used) layout)
-            ≤ region_end self.old.region)) }
-        ensures size_is_zero { (result ≡ Err AllocationError.SizeIsZero) ↔ (layout.size ≡ 0) }
-        ensures begins { IfOk result (λ chunk. chunk.place
-            ≡ least_place (self.old.region.start + self.old.used) layout.align) }
-        ensures exact_size { IfOk result (λ chunk. chunk.len ≡ layout.size) }
-        ensures behind { IfOk result (λ chunk.
-            self.old.region.start + self.old.used ≤ chunk.place) }
-
-        // What is used then ends with the chunk, and a refusal leaves everything.
-        ensures used { IfOk result (λ chunk.
-            self.new.region.start + self.new.used ≡ chunk_end chunk) }
-        ensures still { OnErr result (self.new ≡ self.old) }
-
-        ensures zeroed { IfOk result (λ chunk. ZeroesOnly region.old region.new chunk) }
-        ensures bytes_kept { OnErr result (region.new ≡ region.old) }
-    {
-        let chunk = self.allocate(layout)?;
-        region.zero(chunk);
-        Ok(chunk)
     }
 
     fn stands_for_some_list(&self) {

@@ -1,10 +1,8 @@
 //! An allocator that gives one chunk at a time, which is all of its region from the chunk's place on.
-ghost use Rattle.std.specs.Prelude.{◌≡◌, ◌∷◌, ◌++◌, [], List, ◌+◌, ◌-◌, ◌<◌, ◌≤◌, ◌%◌, ◌↔◌, ◌⊎◌, ℕ, IsOk, IfOk};
-ghost use Rattle.std.specs.Prelude.{OnOk, OnErr, IsTrue, IsSome, Some, Result, slice_get, slice_set, remove};
+ghost use Rattle.std.specs.Prelude.{◌≡◌, [], List, ◌+◌, ◌-◌, ◌<◌, ◌≤◌, ◌%◌, ◌↔◌, ℕ, IfOk};
+ghost use Rattle.std.specs.Prelude.{OnOk, OnErr, IsTrue, Some, Result};
 ghost use Rattle.bb_memory_base.specs.Region.{Region, IsRegion, region_at, region_end};
 ghost use Rattle.bb_memory_base.specs.Chunk.{Chunk, IsInside, chunk_end};
-ghost use Rattle.bb_memory_base.specs.FirstPlace.{first_place};
-ghost use Rattle.bb_memory_base.specs.HeldBytes.{held_region, part_behind, ZeroesOnly};
 ghost use Rattle.bb_memory_base.specs.LiveList.{IsSound};
 ghost use Rattle.bb_memory_base.specs.Run.{IsRun, Step};
 ghost use Rattle.bb_memory_base.specs.ResizableObject.{ResizableStep};
@@ -15,8 +13,8 @@ ghost use Rattle.bb_memory_base.specs.declared.allocator.AllocationShrinkError.{
 ghost use Rattle.bb_memory_base.specs.declared.allocator.Command.{Command};
 ghost use Rattle.bb_memory_base.specs.declared.allocator.Reply.{Reply};
 ghost use Rattle.bb_memory.specs.OneChunk.{OneChunk, IsOneChunk, one_chunk_of, StandsFor};
-ghost use Rattle.bb_memory_base.specs.OneChunkObject.{MayAllocate, MayGrow, MayShrink, HasRoom};
-ghost use Rattle.bb_memory_base.specs.OneChunkObject.{LacksRoom, reserved_at, one_chunk_object};
+ghost use Rattle.bb_memory_base.specs.OneChunkObject.{MayAllocate, MayGrow, MayShrink};
+ghost use Rattle.bb_memory_base.specs.OneChunkObject.{reserved_at, one_chunk_object};
 
 pub use crate::allocator::{
     AllocationError, AllocationGrowError, AllocationShrinkError, Allocator, BaseAllocator,
@@ -133,7 +131,7 @@ impl OneChunkAllocator {
 impl BaseAllocator for OneChunkAllocator {
     ghost use Rattle.std.specs.Prelude.{◌≡◌, Some, false};
     ghost use Rattle.bb_memory_base.specs.Region.{Region};
-    ghost use Rattle.bb_memory.specs.OneChunk.{StandsFor};
+    ghost use Rattle.bb_memory.specs.OneChunk.{StandsFor, Takes, Frees};
     ghost use Rattle.bb_memory.specs.OneChunkLaws.{only_chunk};
     ghost use Rattle.bb_memory_base.specs.OneChunkObject.{MayAllocate};
 
@@ -159,35 +157,15 @@ impl BaseAllocator for OneChunkAllocator {
 
     ghost note_after = { λ _ _ note. note };
 
+    ghost takes = { Takes };
+
+    ghost frees = { λ one _ _ new. Frees one new };
+
     /// A chunk at the least multiple of `layout.align()` from the region's start on, up to the region's end. It is
     /// refused, with `OutOfMemory`, exactly where a chunk is out, or where that place is at or behind the region's end,
     /// or less than `layout.size()` bytes are left there. A refusal leaves the allocator as it was.
     #[inline(always)]
-    fn allocate(&mut self, layout: Layout) -> Result<Chunk, AllocationError>
-        ensures answer { (live : List Chunk) → StandsFor self.old live
-            → MayAllocate self.old.region live layout result }
-        ensures appended { IfOk result (λ chunk. (live : List Chunk) → StandsFor self.old live
-            → StandsFor self.new (live ++ chunk ∷ [])) }
-        ensures kept { OnErr result ((live : List Chunk) → StandsFor self.old live
-            → StandsFor self.new live) }
-        ensures inside { IfOk result (IsInside self.old.region) }
-        ensures aligned { IfOk result (λ chunk. chunk.place % layout.align ≡ 0) }
-        ensures long_enough { IfOk result (λ chunk. layout.size ≤ chunk.len) }
-        ensures geometry { self.new.region ≡ self.old.region }
-
-        // Each outcome by the value alone, both ways.
-        ensures accepted { IsOk result
-            ↔ ((self.old.kept ≡ None) × HasRoom self.old.region layout) }
-        ensures refused { (result ≡ Err AllocationError.OutOfMemory)
-            ↔ (IsSome self.old.kept ⊎ LacksRoom self.old.region layout) }
-
-        // The chunk begins at the layout's place, which is then kept, and ends where the region does. A refusal leaves
-        // everything.
-        ensures begins { IfOk result (λ chunk. chunk.place ≡ first_place self.old.region layout) }
-        ensures ends { IfOk result (λ chunk. chunk_end chunk ≡ region_end self.old.region) }
-        ensures keeps_place { IfOk result (λ chunk. self.new.kept ≡ Some chunk.place) }
-        ensures still { OnErr result (self.new ≡ self.old) }
-    {
+    fn allocate(&mut self, layout: Layout) -> Result<Chunk, AllocationError> {
         if self.kept_place.is_some() {
             return Err(AllocationError::OutOfMemory);
         }
@@ -204,55 +182,8 @@ impl BaseAllocator for OneChunkAllocator {
 
     /// Gives back the chunk that is out, which has to be at this place. The layout decides nothing.
     #[inline(always)]
-    fn deallocate(&mut self, _place: usize, _layout: Layout)
-        requires { self.old.kept ≡ Some _place }
-        ensures value { self.new ≡ record self.old { kept = None } }
-        ensures released { (live : List Chunk) (position : ℕ) (chunk : Chunk)
-            → StandsFor self.old live → slice_get live position ≡ Some chunk → chunk.place ≡ _place
-            → StandsFor self.new (remove live position) }
-    {
+    fn deallocate(&mut self, _place: usize, _layout: Layout) {
         self.kept_place = None;
-    }
-
-    /// Asks for a chunk as `allocate` does, and makes its bytes zero. Every other byte of the region stays, and after a
-    /// refusal all do. The region's start and size have to be those of the allocator's maker.
-    #[inline]
-    fn allocate_zeroed(
-        &mut self,
-        layout: Layout,
-        region: &mut region::Region,
-    ) -> Result<Chunk, AllocationError>
-        requires same_region { held_region region.old ≡ self.old.region }
-        ensures answer { (live : List Chunk) → StandsFor self.old live
-            → MayAllocate self.old.region live layout result }
-        ensures appended { IfOk result (λ chunk. (live : List Chunk) → StandsFor self.old live
-            → StandsFor self.new (live ++ chunk ∷ [])) }
-        ensures kept { OnErr result ((live : List Chunk) → StandsFor self.old live
-            → StandsFor self.new live) }
-        ensures inside { IfOk result (IsInside self.old.region) }
-        ensures aligned { IfOk result (λ chunk. chunk.place % layout.align ≡ 0) }
-        ensures long_enough { IfOk result (λ chunk. layout.size ≤ chunk.len) }
-        ensures geometry { self.new.region ≡ self.old.region }
-
-        // Each outcome by the value alone, both ways.
-        ensures accepted { IsOk result
-            ↔ ((self.old.kept ≡ None) × HasRoom self.old.region layout) }
-        ensures refused { (result ≡ Err AllocationError.OutOfMemory)
-            ↔ (IsSome self.old.kept ⊎ LacksRoom self.old.region layout) }
-
-        // The chunk begins at the layout's place, which is then kept, and ends where the region does. A refusal leaves
-        // everything.
-        ensures begins { IfOk result (λ chunk. chunk.place ≡ first_place self.old.region layout) }
-        ensures ends { IfOk result (λ chunk. chunk_end chunk ≡ region_end self.old.region) }
-        ensures keeps_place { IfOk result (λ chunk. self.new.kept ≡ Some chunk.place) }
-        ensures still { OnErr result (self.new ≡ self.old) }
-
-        ensures zeroed { IfOk result (λ chunk. ZeroesOnly region.old region.new chunk) }
-        ensures bytes_kept { OnErr result (region.new ≡ region.old) }
-    {
-        let chunk = self.allocate(layout)?;
-        region.zero(chunk);
-        Ok(chunk)
     }
 
     fn stands_for_some_list(&self) {
@@ -287,6 +218,10 @@ impl Allocator for OneChunkAllocator {
 
     ghost may_shrink = { λ region live. MayShrink };
 
+    ghost grows = { λ one place old new answer _. MayGrow one.region place old new answer };
+
+    ghost shrinks = { λ _ place old new answer _. MayShrink place old new answer };
+
     /// How many bytes there are from the chunk's place to the region's end. The place has to be that of the chunk that is out.
     #[inline]
     fn reserved(&self, place: usize) -> usize
@@ -303,20 +238,12 @@ impl Allocator for OneChunkAllocator {
     /// with `OutOfMemory` where less than the new size is reserved. The allocator stays as it was. The place has to be that of
     /// the chunk that is out and a multiple of the old alignment.
     #[inline]
-    fn grow(&mut self, place: usize, old: Layout, new: Layout) -> Result<Chunk, AllocationGrowError>
-        requires live { self.old.kept ≡ Some place }
-        requires aligned { place % old.align ≡ 0 }
-        ensures answer { MayGrow self.old.region place old new result }
-        ensures resized { IfOk result (λ grown. (live : List Chunk) (position : ℕ) (chunk : Chunk)
-            → StandsFor self.old live → slice_get live position ≡ Some chunk
-            → chunk.place ≡ place → StandsFor self.new (slice_set live position grown)) }
-        ensures same_place { IfOk result (λ grown. grown.place ≡ place) }
-        ensures longer { IfOk result (λ grown. old.size < grown.len) }
-        ensures long_enough { IfOk result (λ grown. new.size ≤ grown.len) }
-        ensures within { IfOk result (λ grown. grown.len ≤ reserved_at self.old.region place) }
-        ensures inside { IfOk result (IsInside self.old.region) }
-        ensures still { self.new ≡ self.old }
-    {
+    fn grow(
+        &mut self,
+        place: usize,
+        old: Layout,
+        new: Layout,
+    ) -> Result<Chunk, AllocationGrowError> {
         if old.size() >= new.size() {
             return Err(AllocationGrowError::GrowWouldShrink);
         }
@@ -340,21 +267,7 @@ impl Allocator for OneChunkAllocator {
         place: usize,
         old: Layout,
         new: Layout,
-    ) -> Result<Chunk, AllocationShrinkError>
-        requires live { self.old.kept ≡ Some place }
-        requires aligned { place % old.align ≡ 0 }
-        requires reserved { old.size ≤ reserved_at self.old.region place }
-        ensures answer { MayShrink place old new result }
-        ensures resized { IfOk result (λ shrunk. (live : List Chunk) (position : ℕ) (chunk : Chunk)
-            → StandsFor self.old live → slice_get live position ≡ Some chunk
-            → chunk.place ≡ place → StandsFor self.new (slice_set live position shrunk)) }
-        ensures same_place { IfOk result (λ shrunk. shrunk.place ≡ place) }
-        ensures shorter { IfOk result (λ shrunk. shrunk.len < old.size) }
-        ensures long_enough { IfOk result (λ shrunk. new.size ≤ shrunk.len) }
-        ensures within { IfOk result (λ shrunk. shrunk.len ≤ reserved_at self.old.region place) }
-        ensures inside { IfOk result (IsInside self.old.region) }
-        ensures still { self.new ≡ self.old }
-    {
+    ) -> Result<Chunk, AllocationShrinkError> {
         // What the type promises is known from here on.
         let _ = &self.start;
         if old.size() <= new.size() {
@@ -364,40 +277,6 @@ impl Allocator for OneChunkAllocator {
             return Err(AllocationShrinkError::AlignmentFailure);
         }
         Ok(chunk_between(place, place + new.size()))
-    }
-
-    /// Grows the chunk as `grow` does, and makes the bytes behind its old size zero, up to the region's end. Every other byte of
-    /// the region stays, and after a refusal all do. The place has to be that of the chunk that is out and a multiple of the old
-    /// alignment, and the region's start and size have to be those of the allocator's maker.
-    #[inline]
-    fn grow_zeroed(
-        &mut self,
-        place: usize,
-        old: Layout,
-        new: Layout,
-        region: &mut region::Region,
-    ) -> Result<Chunk, AllocationGrowError>
-        requires live { self.old.kept ≡ Some place }
-        requires aligned { place % old.align ≡ 0 }
-        requires same_region { held_region region.old ≡ self.old.region }
-        ensures answer { MayGrow self.old.region place old new result }
-        ensures resized { IfOk result (λ grown. (live : List Chunk) (position : ℕ) (chunk : Chunk)
-            → StandsFor self.old live → slice_get live position ≡ Some chunk
-            → chunk.place ≡ place → StandsFor self.new (slice_set live position grown)) }
-        ensures same_place { IfOk result (λ grown. grown.place ≡ place) }
-        ensures longer { IfOk result (λ grown. old.size < grown.len) }
-        ensures long_enough { IfOk result (λ grown. new.size ≤ grown.len) }
-        ensures within { IfOk result (λ grown. grown.len ≤ reserved_at self.old.region place) }
-        ensures inside { IfOk result (IsInside self.old.region) }
-        ensures still { self.new ≡ self.old }
-
-        ensures zeroed { IfOk result
-            (λ grown. ZeroesOnly region.old region.new (part_behind old.size grown)) }
-        ensures bytes_kept { OnErr result (region.new ≡ region.old) }
-    {
-        let grown = self.grow(place, old, new)?;
-        region.zero(grown.behind(old.size()));
-        Ok(grown)
     }
 
     ghost fixed = { λ one other same. same };

@@ -9,7 +9,7 @@ ghost use Rattle.bb_memory_base.specs.declared.allocator.AllocationError.{Alloca
 ghost use Rattle.bb_memory.specs.IndexWords.{index_words, words_with_list};
 ghost use Rattle.bb_memory.specs.NumberSet.{Lacks};
 ghost use Rattle.bb_memory.specs.Pool.{Frees, HoldsPlace, MayBeCut};
-ghost use Rattle.bb_memory.specs.Pool.{StandsFor, Takes, counted, fresh_pool};
+ghost use Rattle.bb_memory.specs.Pool.{StandsFor, counted, fresh_pool};
 
 mod bucket_pool;
 mod buckets;

@@ -1,5 +1,6 @@
 -- Runs: commands applied one after the other to an object, with one reply each.
-use Rattle.std.specs.Prelude.{◌≡◌, ℕ, ◌≤◌, List, [], ◌∷◌, length, fold, Some, Ok, Err, slice_get}
+use Rattle.std.specs.Prelude.{◌≡◌, ℕ, ◌+◌, ◌≤◌, List, [], ◌∷◌, length, fold, Some, Ok, Err, slice_get}
+use Rattle.std.specs.Prelude.{Vec, vec_len, vec_capacity}
 use Rattle.bb_memory_base.specs.Chunk.{Chunk}
 use Rattle.bb_memory_base.specs.Object.{Object, Allocates, Releases}
 use Rattle.bb_memory_base.specs.declared.layout.Layout.{Layout}
@@ -45,3 +46,14 @@ note_after_command after note other = note
 -- what these commands make of it, one after the other
 abbrev pub note_after_run : {Note : Type 0} → (Layout → Note → Note) → Note → List Command → Note
 note_after_run after note commands = fold (note_after_command after) note commands
+
+-- What a command that was applied leaves, beside the step of the live list: the allocator stands for the list, has the geometry
+-- that it had, and keeps the command's note. The list is at most one longer, and has lost no room.
+pub record Applies {Allocator Geometry Note Alloc : Type 0} (stands_for : Allocator → List Chunk → Type 0)
+    (geometry_of : Allocator → Geometry) (note_of : Allocator → Note) (note_after : Geometry → Layout → Note → Note)
+    (command : Command) (old new : Allocator) (live left : Vec Chunk Alloc) : Type 0 where
+  pub stands : stands_for new left.items
+  pub geometry : geometry_of new ≡ geometry_of old
+  pub note : note_of new ≡ note_after_command (note_after (geometry_of old)) (note_of old) command
+  pub len : vec_len left ≤ vec_len live + 1
+  pub capacity : vec_capacity live ≤ vec_capacity left

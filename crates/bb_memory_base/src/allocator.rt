@@ -131,6 +131,15 @@ pub trait BaseAllocator {
     /// What a request for a layout makes of the note, whatever is answered to it.
     ghost note_after: { Geometry → Layout → Note → Note };
 
+    /// What a request says by the value alone: of the allocator as it was, the layout, the answer, and the allocator as it is
+    /// then. One that leaves it out says no more than the clauses below.
+    ghost takes: { Self → Layout → Result Chunk AllocationError → Self
+        → Type 0 } = { λ old layout result new. Unit {0} };
+
+    /// What a release says by the value alone: of the allocator as it was, the place, the layout, and the allocator as it is
+    /// then.
+    ghost frees: { Self → ℕ → Layout → Self → Type 0 } = { λ old place layout new. Unit {0} };
+
     /// Asks for a chunk of at least `layout.size()` bytes, at a place that is a multiple of `layout.align()`. After a
     /// refusal the allocator stands for the lists for which it stood before.
     fn allocate(&mut self, layout: Layout) -> Result<Chunk, AllocationError>
@@ -145,7 +154,8 @@ pub trait BaseAllocator {
         ensures aligned { IfOk result (λ chunk. chunk.place % layout.align ≡ 0) }
         ensures long_enough { IfOk result (λ chunk. layout.size ≤ chunk.len) }
         ensures geometry { geometry self.new ≡ geometry self.old }
-        ensures note { note self.new ≡ note_after (geometry self.old) layout (note self.old) };
+        ensures note { note self.new ≡ note_after (geometry self.old) layout (note self.old) }
+        ensures value { takes self.old layout result self.new };
 
     /// Gives back the chunk at this place, or all chunks where `RELEASE_EMPTIES` is true. A chunk that is out has to begin at
     /// the place (a bump asks for nothing). The layout decides nothing.
@@ -155,7 +165,8 @@ pub trait BaseAllocator {
             → stands_for self.old live → slice_get live position ≡ Some chunk → chunk.place ≡ place
             → stands_for self.new (released RELEASE_EMPTIES live position) }
         ensures geometry { geometry self.new ≡ geometry self.old }
-        ensures note { note self.new ≡ note self.old };
+        ensures note { note self.new ≡ note self.old }
+        ensures value { frees self.old place layout self.new };
 
     /// Asks for a chunk as `allocate` does, and makes its bytes zero. Every other byte of the region stays, and after a
     /// refusal all do. The region's start and size have to be those of the allocator's maker.
@@ -177,6 +188,7 @@ pub trait BaseAllocator {
         ensures long_enough { IfOk result (λ chunk. layout.size ≤ chunk.len) }
         ensures geometry { geometry self.new ≡ geometry self.old }
         ensures note { note self.new ≡ note_after (geometry self.old) layout (note self.old) }
+        ensures value { takes self.old layout result self.new }
 
         ensures zeroed { IfOk result (λ chunk. ZeroesOnly region.old region.new chunk) }
         ensures bytes_kept { OnErr result (region.new ≡ region.old) }
@@ -241,6 +253,15 @@ pub trait Allocator: BaseAllocator {
     ghost may_shrink: { Figures → List Chunk → ℕ → Layout → Layout
         → Result Chunk AllocationShrinkError → Type 0 };
 
+    /// What a call of `grow` says by the value alone: of the allocator as it was, the place, the old layout and the new one, the
+    /// answer, and the allocator as it is then. One that leaves it out says no more than the clauses below.
+    ghost grows: { Self → ℕ → Layout → Layout → Result Chunk AllocationGrowError → Self
+        → Type 0 } = { λ one place old new result after. Unit {0} };
+
+    /// The same of `shrink`.
+    ghost shrinks: { Self → ℕ → Layout → Layout → Result Chunk AllocationShrinkError → Self
+        → Type 0 } = { λ one place old new result after. Unit {0} };
+
     /// How many bytes are reserved for the live chunk at this place.
     fn reserved(&self, place: usize) -> usize
         requires { Self.may_release self.now place }
@@ -261,7 +282,8 @@ pub trait Allocator: BaseAllocator {
         ensures long_enough { IfOk result (λ grown. new.size ≤ grown.len) }
         ensures within { IfOk result (λ grown. grown.len ≤ reserved_at (figures self.old) place) }
         ensures inside { IfOk result (IsInside (Self.region_of (Self.geometry self.old))) }
-        ensures still { self.new ≡ self.old };
+        ensures still { self.new ≡ self.old }
+        ensures value { grows self.old place old new result self.new };
 
     /// Gives the live chunk at this place a smaller size. The place has to be a multiple of the old alignment, and the old
     /// size at most what is reserved.
@@ -285,7 +307,8 @@ pub trait Allocator: BaseAllocator {
         ensures long_enough { IfOk result (λ shrunk. new.size ≤ shrunk.len) }
         ensures within { IfOk result (λ shrunk. shrunk.len ≤ reserved_at (figures self.old) place) }
         ensures inside { IfOk result (IsInside (Self.region_of (Self.geometry self.old))) }
-        ensures still { self.new ≡ self.old };
+        ensures still { self.new ≡ self.old }
+        ensures value { shrinks self.old place old new result self.new };
 
     /// Grows a chunk as `grow` does, and makes the bytes behind its old size zero, up to the end of what is answered. Every
     /// other byte of the region stays, and after a refusal all do. The region's start and size have to be those of the
@@ -312,6 +335,7 @@ pub trait Allocator: BaseAllocator {
         ensures within { IfOk result (λ grown. grown.len ≤ reserved_at (figures self.old) place) }
         ensures inside { IfOk result (IsInside (Self.region_of (Self.geometry self.old))) }
         ensures still { self.new ≡ self.old }
+        ensures value { grows self.old place old new result self.new }
 
         ensures zeroed { IfOk result
             (λ grown. ZeroesOnly region.old region.new (part_behind old.size grown)) }

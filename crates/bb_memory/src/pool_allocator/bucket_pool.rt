@@ -1,14 +1,11 @@
 //! Pools over a set of held buckets: what the pools of this crate have in common.
-ghost use Rattle.std.specs.Prelude.{◌≡◌, ◌≢◌, ◌∷◌, ◌++◌, [], List, ℕ, ◌<◌, ◌≤◌, ◌%◌, ◌↔◌, IsOk, IfOk, OnOk};
-ghost use Rattle.std.specs.Prelude.{OnErr, IsTrue, Some, slice_get, slice_set, remove};
-ghost use Rattle.bb_memory_base.specs.Chunk.{Chunk, IsInside};
+ghost use Rattle.std.specs.Prelude.{◌≡◌, ◌↔◌, IfOk, OnOk};
+ghost use Rattle.std.specs.Prelude.{OnErr, IsTrue};
 ghost use Rattle.bb_memory_base.specs.LiveList.{IsSound};
-ghost use Rattle.bb_memory_base.specs.HeldBytes.{held_region, part_behind, ZeroesOnly};
 ghost use Rattle.bb_memory_base.specs.Run.{IsRun, Step};
 ghost use Rattle.bb_memory_base.specs.ResizableObject.{ResizableStep};
-ghost use Rattle.bb_memory_base.specs.PoolObject.{MayAllocate, MayGrow, MayShrink, IsWithin, pool_object};
-ghost use Rattle.bb_memory.specs.NumberSet.{Lacks};
-ghost use Rattle.bb_memory.specs.Pool.{AreAStrideApart, Frees, HoldsPlace, StandsFor, Takes, reads_after, reads_of};
+ghost use Rattle.bb_memory_base.specs.PoolObject.{pool_object};
+ghost use Rattle.bb_memory.specs.Pool.{HoldsPlace, StandsFor, reads_after};
 
 use super::buckets::Buckets;
 use super::held_set::HeldSet;
@@ -18,7 +15,6 @@ use crate::allocator::{
 };
 use crate::index_set::Counter;
 use crate::layout::{Chunk, Layout};
-use crate::region::Region;
 use std::alloc::AllocError;
 use std::marker::Model;
 
@@ -98,7 +94,7 @@ impl<S: HeldSet> BaseAllocator for BucketPool<S> {
     ghost use Rattle.std.specs.Prelude.{ℕ, false};
     ghost use Rattle.bb_memory_base.specs.PoolGeometry.{PoolGeometry};
     ghost use Rattle.bb_memory_base.specs.PoolObject.{MayAllocate};
-    ghost use Rattle.bb_memory.specs.Pool.{StandsFor, HoldsPlace, reads_of};
+    ghost use Rattle.bb_memory.specs.Pool.{StandsFor, HoldsPlace, TakesBucket, FreesBucket, reads_of};
     ghost use Rattle.bb_memory.specs.PoolLaws.{held_place};
 
     const RELEASE_EMPTIES: bool = false;
@@ -124,41 +120,17 @@ impl<S: HeldSet> BaseAllocator for BucketPool<S> {
     ghost note_after = { λ geometry layout before.
         reads_of geometry.bucket (S.words geometry.buckets) layout };
 
+    ghost takes = { λ old layout answer new.
+        TakesBucket (S.pool old) layout answer (S.pool new) (S.reads new) S.one_search };
+
+    ghost frees = { λ old place _ new. FreesBucket (S.pool old) place (S.pool new) };
+
     /// A chunk of `layout.size()` bytes in a bucket that isn't held; which one is left open. It is refused in this order: with
     /// `SizeTooLarge` where the size is greater than the bucket's, with `AlignmentFailure` where the alignment is greater than
     /// the bucket's, and with `OutOfMemory` where every bucket is held. A refusal leaves the pool as it was, but for what
     /// `last_reads` answers, where there is one.
     #[inline(always)]
-    fn allocate(&mut self, layout: Layout) -> Result<Chunk, AllocationError>
-        ensures answer { (live : List Chunk) → StandsFor (S.pool self.old) live
-            → MayAllocate (S.pool self.old).geometry live layout result }
-        ensures appended { IfOk result (λ chunk. (live : List Chunk) → StandsFor (S.pool self.old) live
-            → StandsFor (S.pool self.new) (live ++ chunk ∷ [])) }
-        ensures kept { OnErr result ((live : List Chunk) → StandsFor (S.pool self.old) live
-            → StandsFor (S.pool self.new) live) }
-        ensures inside { IfOk result (IsInside (S.pool self.old).geometry.region) }
-        ensures aligned { IfOk result (λ chunk. chunk.place % layout.align ≡ 0) }
-        ensures long_enough { IfOk result (λ chunk. layout.size ≤ chunk.len) }
-        ensures geometry { (S.pool self.new).geometry ≡ (S.pool self.old).geometry }
-
-        // By the value alone: which bucket is held then, each refusal by its cause, and that there is no other.
-        ensures taken { Takes (S.pool self.old) layout result (S.pool self.new) }
-        ensures accepted { IsOk result ↔ (IsWithin (S.pool self.old).geometry.bucket layout
-            × ((i : ℕ) × Lacks (S.pool self.old).held i)) }
-        ensures still { OnErr result ((S.pool self.new) ≡ (S.pool self.old)) }
-        ensures given { IfOk result (λ chunk. HoldsPlace (S.pool self.new) chunk.place) }
-        ensures was_free { IfOk result (λ chunk. ¬ HoldsPlace (S.pool self.old) chunk.place) }
-        ensures apart { IfOk result (λ chunk. (place : ℕ) → HoldsPlace (S.pool self.old) place
-            → AreAStrideApart (S.pool self.old).geometry.bucket place chunk.place) }
-        ensures still_held { (place : ℕ)
-            → HoldsPlace (S.pool self.old) place → HoldsPlace (S.pool self.new) place }
-        ensures bucket_aligned { IfOk result
-            (λ chunk. chunk.place % (S.pool self.old).geometry.bucket.align ≡ 0) }
-        ensures reads { S.reads self.new ≡ reads_of (S.pool self.old).geometry.bucket
-            (S.words (S.pool self.old).geometry.buckets) layout }
-        ensures one_read { IsWithin (S.pool self.old).geometry.bucket layout
-            → 0 < (S.pool self.old).geometry.buckets → S.reads self.new ≡ S.one_search }
-    {
+    fn allocate(&mut self, layout: Layout) -> Result<Chunk, AllocationError> {
         let mut counter = Counter::new();
         let answer = self.buckets.take(layout, &mut counter);
         self.last_search = S::kept(counter);
@@ -167,65 +139,8 @@ impl<S: HeldSet> BaseAllocator for BucketPool<S> {
 
     /// Gives back the bucket at this place, which has to be held. The layout decides nothing.
     #[inline(always)]
-    fn deallocate(&mut self, place: usize, _layout: Layout)
-        requires { HoldsPlace (S.pool self.old) place }
-        ensures freed { Frees (S.pool self.old) place (S.pool self.new) }
-        ensures released { (live : List Chunk) (position : ℕ) (chunk : Chunk)
-            → StandsFor (S.pool self.old) live → slice_get live position ≡ Some chunk
-            → chunk.place ≡ place → StandsFor (S.pool self.new) (remove live position) }
-        ensures still_held { (other : ℕ) → HoldsPlace (S.pool self.old) other → other ≢ place
-            → HoldsPlace (S.pool self.new) other }
-        ensures given_back { ¬ HoldsPlace (S.pool self.new) place }
-        ensures room { (i : ℕ) × Lacks (S.pool self.new).held i }
-        ensures geometry { (S.pool self.new).geometry ≡ (S.pool self.old).geometry }
-        ensures reads { S.reads self.new ≡ S.reads self.old }
-    {
+    fn deallocate(&mut self, place: usize, _layout: Layout) {
         self.buckets.free(place);
-    }
-
-    /// Asks for a chunk as `allocate` does, and makes its bytes zero. Every other byte of the region stays, and after a
-    /// refusal all do. The region's start and size have to be those of the pool's maker.
-    #[inline]
-    fn allocate_zeroed(
-        &mut self,
-        layout: Layout,
-        region: &mut Region,
-    ) -> Result<Chunk, AllocationError>
-        requires same_region { held_region region.old ≡ (S.pool self.old).geometry.region }
-        ensures answer { (live : List Chunk) → StandsFor (S.pool self.old) live
-            → MayAllocate (S.pool self.old).geometry live layout result }
-        ensures appended { IfOk result (λ chunk. (live : List Chunk) → StandsFor (S.pool self.old) live
-            → StandsFor (S.pool self.new) (live ++ chunk ∷ [])) }
-        ensures kept { OnErr result ((live : List Chunk) → StandsFor (S.pool self.old) live
-            → StandsFor (S.pool self.new) live) }
-        ensures inside { IfOk result (IsInside (S.pool self.old).geometry.region) }
-        ensures aligned { IfOk result (λ chunk. chunk.place % layout.align ≡ 0) }
-        ensures long_enough { IfOk result (λ chunk. layout.size ≤ chunk.len) }
-        ensures geometry { (S.pool self.new).geometry ≡ (S.pool self.old).geometry }
-
-        ensures taken { Takes (S.pool self.old) layout result (S.pool self.new) }
-        ensures accepted { IsOk result ↔ (IsWithin (S.pool self.old).geometry.bucket layout
-            × ((i : ℕ) × Lacks (S.pool self.old).held i)) }
-        ensures still { OnErr result ((S.pool self.new) ≡ (S.pool self.old)) }
-        ensures given { IfOk result (λ chunk. HoldsPlace (S.pool self.new) chunk.place) }
-        ensures was_free { IfOk result (λ chunk. ¬ HoldsPlace (S.pool self.old) chunk.place) }
-        ensures apart { IfOk result (λ chunk. (place : ℕ) → HoldsPlace (S.pool self.old) place
-            → AreAStrideApart (S.pool self.old).geometry.bucket place chunk.place) }
-        ensures still_held { (place : ℕ)
-            → HoldsPlace (S.pool self.old) place → HoldsPlace (S.pool self.new) place }
-        ensures bucket_aligned { IfOk result
-            (λ chunk. chunk.place % (S.pool self.old).geometry.bucket.align ≡ 0) }
-        ensures reads { S.reads self.new ≡ reads_of (S.pool self.old).geometry.bucket
-            (S.words (S.pool self.old).geometry.buckets) layout }
-        ensures one_read { IsWithin (S.pool self.old).geometry.bucket layout
-            → 0 < (S.pool self.old).geometry.buckets → S.reads self.new ≡ S.one_search }
-
-        ensures zeroed { IfOk result (λ chunk. ZeroesOnly region.old region.new chunk) }
-        ensures bytes_kept { OnErr result (region.new ≡ region.old) }
-    {
-        let chunk = self.allocate(layout)?;
-        region.zero(chunk);
-        Ok(chunk)
     }
 
     fn stands_for_some_list(&self) {
@@ -259,12 +174,15 @@ impl<S: HeldSet> Allocator for BucketPool<S> {
 
     ghost may_shrink = { λ geometry live. MayShrink geometry.bucket };
 
+    ghost grows = { λ pool place old new answer _.
+        MayGrow (S.pool pool).geometry.bucket place old new answer };
+
+    ghost shrinks = { λ pool place old new answer _.
+        MayShrink (S.pool pool).geometry.bucket place old new answer };
+
     /// How many bytes are reserved for the chunk at this place, which has to be a held bucket's: the bucket's size.
     #[inline]
-    fn reserved(&self, _place: usize) -> usize
-        requires { HoldsPlace (S.pool self.now) _place }
-        ensures { result ≡ (S.pool self.now).geometry.bucket.size }
-    {
+    fn reserved(&self, _place: usize) -> usize {
         self.bucket_size()
     }
 
@@ -273,20 +191,12 @@ impl<S: HeldSet> Allocator for BucketPool<S> {
     /// `OutOfMemory` where the new size is greater than the bucket's. The pool stays as it was. The place has to be a held
     /// bucket's and a multiple of the old alignment.
     #[inline]
-    fn grow(&mut self, place: usize, old: Layout, new: Layout) -> Result<Chunk, AllocationGrowError>
-        requires live { HoldsPlace (S.pool self.old) place }
-        requires aligned { place % old.align ≡ 0 }
-        ensures answer { MayGrow (S.pool self.old).geometry.bucket place old new result }
-        ensures resized { IfOk result (λ grown. (live : List Chunk) (position : ℕ) (chunk : Chunk)
-            → StandsFor (S.pool self.old) live → slice_get live position ≡ Some chunk
-            → chunk.place ≡ place → StandsFor (S.pool self.new) (slice_set live position grown)) }
-        ensures same_place { IfOk result (λ grown. grown.place ≡ place) }
-        ensures longer { IfOk result (λ grown. old.size < grown.len) }
-        ensures long_enough { IfOk result (λ grown. new.size ≤ grown.len) }
-        ensures within { IfOk result (λ grown. grown.len ≤ (S.pool self.old).geometry.bucket.size) }
-        ensures inside { IfOk result (IsInside (S.pool self.old).geometry.region) }
-        ensures still { self.new ≡ self.old }
-    {
+    fn grow(
+        &mut self,
+        place: usize,
+        old: Layout,
+        new: Layout,
+    ) -> Result<Chunk, AllocationGrowError> {
         self.buckets.grow(place, old, new)
     }
 
@@ -300,56 +210,8 @@ impl<S: HeldSet> Allocator for BucketPool<S> {
         place: usize,
         old: Layout,
         new: Layout,
-    ) -> Result<Chunk, AllocationShrinkError>
-        requires live { HoldsPlace (S.pool self.old) place }
-        requires aligned { place % old.align ≡ 0 }
-        requires reserved { old.size ≤ (S.pool self.old).geometry.bucket.size }
-        ensures answer { MayShrink (S.pool self.old).geometry.bucket place old new result }
-        ensures resized { IfOk result (λ shrunk. (live : List Chunk) (position : ℕ) (chunk : Chunk)
-            → StandsFor (S.pool self.old) live → slice_get live position ≡ Some chunk
-            → chunk.place ≡ place → StandsFor (S.pool self.new) (slice_set live position shrunk)) }
-        ensures same_place { IfOk result (λ shrunk. shrunk.place ≡ place) }
-        ensures shorter { IfOk result (λ shrunk. shrunk.len < old.size) }
-        ensures long_enough { IfOk result (λ shrunk. new.size ≤ shrunk.len) }
-        ensures within { IfOk result (λ shrunk. shrunk.len ≤ (S.pool self.old).geometry.bucket.size) }
-        ensures inside { IfOk result (IsInside (S.pool self.old).geometry.region) }
-        ensures still { self.new ≡ self.old }
-    {
+    ) -> Result<Chunk, AllocationShrinkError> {
         self.buckets.shrink(place, old, new)
-    }
-
-    /// Grows the chunk as `grow` does, and makes the bytes behind its old size zero, up to the new one. Every other byte of the
-    /// region stays, and after a refusal all do. The place has to be a held bucket's and a multiple of the old alignment, and the
-    /// region's start and size have to be those of the pool's maker.
-    #[inline]
-    fn grow_zeroed(
-        &mut self,
-        place: usize,
-        old: Layout,
-        new: Layout,
-        region: &mut Region,
-    ) -> Result<Chunk, AllocationGrowError>
-        requires live { HoldsPlace (S.pool self.old) place }
-        requires aligned { place % old.align ≡ 0 }
-        requires same_region { held_region region.old ≡ (S.pool self.old).geometry.region }
-        ensures answer { MayGrow (S.pool self.old).geometry.bucket place old new result }
-        ensures resized { IfOk result (λ grown. (live : List Chunk) (position : ℕ) (chunk : Chunk)
-            → StandsFor (S.pool self.old) live → slice_get live position ≡ Some chunk
-            → chunk.place ≡ place → StandsFor (S.pool self.new) (slice_set live position grown)) }
-        ensures same_place { IfOk result (λ grown. grown.place ≡ place) }
-        ensures longer { IfOk result (λ grown. old.size < grown.len) }
-        ensures long_enough { IfOk result (λ grown. new.size ≤ grown.len) }
-        ensures within { IfOk result (λ grown. grown.len ≤ (S.pool self.old).geometry.bucket.size) }
-        ensures inside { IfOk result (IsInside (S.pool self.old).geometry.region) }
-        ensures still { self.new ≡ self.old }
-
-        ensures zeroed { IfOk result
-            (λ grown. ZeroesOnly region.old region.new (part_behind old.size grown)) }
-        ensures bytes_kept { OnErr result (region.new ≡ region.old) }
-    {
-        let grown = self.grow(place, old, new)?;
-        region.zero(grown.behind(old.size()));
-        Ok(grown)
     }
 
     ghost fixed = { λ one other same. same };

@@ -1,9 +1,9 @@
 //! Runs of commands over any allocator.
-ghost use Rattle.std.specs.Prelude.{◌≡◌, ◌+◌, ◌<◌, ◌≤◌, ◌%◌, List, IfOk, OnOk, OnErr, vec_len, vec_capacity};
+ghost use Rattle.std.specs.Prelude.{◌≡◌, ◌<◌, ◌≤◌, ◌%◌, IfOk, OnOk, OnErr, vec_len, vec_capacity};
 ghost use Rattle.bb_memory_base.specs.Chunk.{Chunk, IsInside};
 ghost use Rattle.bb_memory_base.specs.LiveList.{IsSound};
 ghost use Rattle.bb_memory_base.specs.Object.{object_of};
-ghost use Rattle.bb_memory_base.specs.Run.{Step, IsRun, EachGiven, note_after_command, note_after_run};
+ghost use Rattle.bb_memory_base.specs.Run.{Applies, Step, IsRun, EachGiven, note_after_run};
 ghost use Rattle.bb_memory_base.specs.declared.layout.Layout.{Layout};
 ghost use Rattle.bb_memory_base.specs.Fitting.{Fits};
 ghost use Rattle.bb_memory_base.specs.ResizableObject.{ResizableStep, resizable_object_of};
@@ -24,12 +24,8 @@ fn apply_allocate<A: BaseAllocator>(
         live.old.items (Command.Allocate layout) result live.new.items }
     ensures fits { (chunk : Chunk) → result ≡ Reply.Chunk chunk
         → Fits (A.region_of (A.geometry allocator.old)) layout chunk }
-    ensures stands { A.stands_for allocator.new live.new.items }
-    ensures geometry { A.geometry allocator.new ≡ A.geometry allocator.old }
-    ensures note { A.note allocator.new
-        ≡ A.note_after (A.geometry allocator.old) layout (A.note allocator.old) }
-    ensures len { vec_len live.new ≤ vec_len live.old + 1 }
-    ensures capacity { vec_capacity live.old ≤ vec_capacity live.new }
+    ensures applied { Applies A.stands_for A.geometry A.note A.note_after
+        (Command.Allocate layout) allocator.old allocator.new live.old live.new }
 {
     match allocator.allocate(layout) {
         Ok(chunk) => {
@@ -49,11 +45,8 @@ fn apply_release<A: BaseAllocator>(
     requires stands { A.stands_for allocator.old live.old.items }
     ensures step { Step (object_of A.RELEASE_EMPTIES (A.may_allocate (A.geometry allocator.old)))
         live.old.items (Command.Release position) result live.new.items }
-    ensures stands { A.stands_for allocator.new live.new.items }
-    ensures geometry { A.geometry allocator.new ≡ A.geometry allocator.old }
-    ensures note { A.note allocator.new ≡ A.note allocator.old }
-    ensures len { vec_len live.new ≤ vec_len live.old }
-    ensures capacity { vec_capacity live.old ≤ vec_capacity live.new }
+    ensures applied { Applies A.stands_for A.geometry A.note A.note_after
+        (Command.Release position) allocator.old allocator.new live.old live.new }
 {
     let Some(chunk) = live.get(position).copied() else {
         return Reply::Passed;
@@ -75,12 +68,8 @@ fn apply_base<A: BaseAllocator>(allocator: &mut A, live: &mut Vec<Chunk>, comman
         live.old.items command result live.new.items }
     ensures fits { (layout : Layout) (chunk : Chunk) → command ≡ Command.Allocate layout
         → result ≡ Reply.Chunk chunk → Fits (A.region_of (A.geometry allocator.old)) layout chunk }
-    ensures stands { A.stands_for allocator.new live.new.items }
-    ensures geometry { A.geometry allocator.new ≡ A.geometry allocator.old }
-    ensures note { A.note allocator.new ≡ note_after_command
-        (A.note_after (A.geometry allocator.old)) (A.note allocator.old) command }
-    ensures len { vec_len live.new ≤ vec_len live.old + 1 }
-    ensures capacity { vec_capacity live.old ≤ vec_capacity live.new }
+    ensures applied { Applies A.stands_for A.geometry A.note A.note_after
+        command allocator.old allocator.new live.old live.new }
 {
     match command {
         Command::Allocate(layout) => apply_allocate(allocator, live, layout),
@@ -151,10 +140,8 @@ fn apply_grow<A: Allocator>(
         (A.may_allocate (A.geometry allocator.old)) (A.reserved_at (A.figures allocator.old))
         (A.may_grow (A.figures allocator.old)) (A.may_shrink (A.figures allocator.old)))
         live.old.items (Command.Grow position old new) result live.new.items }
-    ensures stands { A.stands_for allocator.new live.new.items }
-    ensures still { allocator.new ≡ allocator.old }
-    ensures len { vec_len live.new ≡ vec_len live.old }
-    ensures capacity { vec_capacity live.old ≤ vec_capacity live.new }
+    ensures applied { Applies A.stands_for A.geometry A.note A.note_after
+        (Command.Grow position old new) allocator.old allocator.new live.old live.new }
 {
     let Some(chunk) = live.get(position).copied() else {
         return Reply::Passed;
@@ -184,10 +171,8 @@ fn apply_shrink<A: Allocator>(
         (A.may_allocate (A.geometry allocator.old)) (A.reserved_at (A.figures allocator.old))
         (A.may_grow (A.figures allocator.old)) (A.may_shrink (A.figures allocator.old)))
         live.old.items (Command.Shrink position old new) result live.new.items }
-    ensures stands { A.stands_for allocator.new live.new.items }
-    ensures still { allocator.new ≡ allocator.old }
-    ensures len { vec_len live.new ≡ vec_len live.old }
-    ensures capacity { vec_capacity live.old ≤ vec_capacity live.new }
+    ensures applied { Applies A.stands_for A.geometry A.note A.note_after
+        (Command.Shrink position old new) allocator.old allocator.new live.old live.new }
 {
     let Some(chunk) = live.get(position).copied() else {
         return Reply::Passed;
@@ -215,12 +200,8 @@ fn apply_full<A: Allocator>(allocator: &mut A, live: &mut Vec<Chunk>, command: C
         live.old.items command result live.new.items }
     ensures fits { (layout : Layout) (chunk : Chunk) → command ≡ Command.Allocate layout
         → result ≡ Reply.Chunk chunk → Fits (A.region_of (A.geometry allocator.old)) layout chunk }
-    ensures stands { A.stands_for allocator.new live.new.items }
-    ensures geometry { A.geometry allocator.new ≡ A.geometry allocator.old }
-    ensures note { A.note allocator.new ≡ note_after_command
-        (A.note_after (A.geometry allocator.old)) (A.note allocator.old) command }
-    ensures len { vec_len live.new ≤ vec_len live.old + 1 }
-    ensures capacity { vec_capacity live.old ≤ vec_capacity live.new }
+    ensures applied { Applies A.stands_for A.geometry A.note A.note_after
+        command allocator.old allocator.new live.old live.new }
 {
     match command {
         Command::Allocate(layout) => apply_allocate(allocator, live, layout),

@@ -30,14 +30,14 @@ loop-command-preserved g c =
           c.apply_base-reply.result (omega (arith, length-take-le i commands (omega arith))) c.loop-command.invariant.fits
           (λ layout chunk asked given. subst (λ (geometry : A.Geometry). Fits (A.region_of geometry) layout chunk)
           c.loop-command.invariant.geometry (c.apply_base-reply.ensures.fits layout chunk asked given)));
-      stands = c.apply_base-reply.ensures.stands;
-      geometry = c.apply_base-reply.ensures.geometry ∙ c.loop-command.invariant.geometry;
+      stands = c.apply_base-reply.ensures.applied.stands;
+      geometry = c.apply_base-reply.ensures.applied.geometry ∙ c.loop-command.invariant.geometry;
       note = rw done (note-push (A.note_after (A.geometry c.args.allocator.now)) (A.note c.args.allocator.now) (take i commands)
           (A.note c.loop-command.allocator) (A.note c.apply_base-reply.new.allocator) command c.loop-command.invariant.note
           (subst (λ (geometry : A.Geometry). A.note c.apply_base-reply.new.allocator ≡
           note_after_command (A.note_after geometry) (A.note c.loop-command.allocator) command)
-          c.loop-command.invariant.geometry c.apply_base-reply.ensures.note));
-      room = omega arith;
+          c.loop-command.invariant.geometry c.apply_base-reply.ensures.applied.note));
+      room = omega (arith, c.apply_base-reply.ensures.applied.len, c.apply_base-reply.ensures.applied.capacity);
       told = omega arith;
       space = omega arith;
     }
