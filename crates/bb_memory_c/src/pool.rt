@@ -45,7 +45,7 @@ pub extern "C" fn bb_pool_make(
         Err(code) => return code,
     };
     let Ok(pool) = PoolAllocator::new_uninit(bucket, start, size).init(alloc) else {
-        return code::OUT_OF_MEMORY;
+        return code::MALLOC_REFUSED;
     };
     keep(handle, alloc, pool)
 }

@@ -31,10 +31,10 @@ fn next_seat(seats: &mut PoolSeats, alloc: Global) -> Result<Box<PoolSeat>, u32>
         return Err(code::NO_SEAT);
     }
     let Ok(pool) = Arc::try_clone(&seats.pool) else {
-        return Err(code::OUT_OF_MEMORY);
+        return Err(code::MALLOC_REFUSED);
     };
     let Ok(held) = Vec::from_elem(alloc, false, pool.number_of_buckets() as usize) else {
-        return Err(code::OUT_OF_MEMORY);
+        return Err(code::MALLOC_REFUSED);
     };
     let Some(party) = seats.parties.pop() else {
         return Err(code::NO_SEAT);
@@ -44,7 +44,7 @@ fn next_seat(seats: &mut PoolSeats, alloc: Global) -> Result<Box<PoolSeat>, u32>
         Err(refused) => {
             let party = refused.value.into_party();
             seats.parties.push_reserved(party);
-            Err(code::OUT_OF_MEMORY)
+            Err(code::MALLOC_REFUSED)
         }
     }
 }
@@ -78,7 +78,7 @@ pub extern "C" fn bb_shared_pool_make(
         return code::CANNOT_MAKE;
     }
     let Some(seats) = PoolSeats::new(alloc, bucket, start, size, parties) else {
-        return code::OUT_OF_MEMORY;
+        return code::MALLOC_REFUSED;
     };
     keep(handle, alloc, seats)
 }
