@@ -17,7 +17,7 @@
 //   nothing else, and isn't given back before its pool is done with; and none is made over a region in which chunks of an
 //   earlier one are still used.
 // - `malloc`, `realloc` and `free` come from one allocator, which aligns as C says. Where it refuses, the answer is
-//   BB_MALLOC_REFUSED. Only makers, and the calls that give a seat, take memory; each says how much, in blocks of `malloc`.
+//   BB_MALLOC_REFUSED.
 //
 // No function reads or writes a byte of a region, so the host zeroes what it wants zero. Chunks that are out lie inside
 // the region, at multiples of the asked alignment, and never overlap. Sizes and alignments are in bytes. The numbers are
@@ -61,26 +61,27 @@ typedef void *bb_place;
 #endif
 
 // What is answered. With any code but BB_DONE nothing was done, and a struct that is answered has 0 beside the code.
-// Of several causes the first is answered. Of a maker: BB_ALREADY_MADE, BB_NOT_A_LAYOUT, BB_CANNOT_MAKE, BB_MALLOC_REFUSED.
-// Of a request: BB_NOT_MADE, BB_NOT_A_LAYOUT, then the allocator's own causes.
+// Of several causes the first is answered. Of a maker: BB_ALREADY_MADE, BB_NOT_A_LAYOUT, BB_CANNOT_MAKE, BB_NO_BUCKET,
+// BB_MALLOC_REFUSED. Of a request: BB_NOT_MADE, BB_NOT_A_LAYOUT, then the allocator's own causes.
 enum {
     BB_DONE = 0,
-    BB_SIZE_IS_ZERO = 1,       // of a bump alone: a pool gives a bucket, with length 0, and one chunk gives what is left
-    BB_SIZE_TOO_LARGE = 2,     // greater than a bucket's size
-    BB_ALIGNMENT_FAILURE = 3,  // greater than a bucket's alignment; of one chunk that is resized, than the old alignment
-    BB_OUT_OF_MEMORY = 4,      // of a request alone: no room is left in the region
-    BB_GROW_WOULD_SHRINK = 5,  // the new size isn't greater than the old one
-    BB_SHRINK_WOULD_GROW = 6,  // the new size isn't smaller than the old one
-    BB_NOT_A_LAYOUT = 7,       // the alignment is no power of two, or the size rounded up to it is greater than PTRDIFF_MAX
-    BB_NOT_MADE = 8,           // the handle is empty
-    BB_NOT_HELD = 9,           // no chunk that is out begins at the place; of a seat, no bucket that this seat holds
-    BB_ALREADY_MADE = 10,      // the handle isn't empty
-    BB_CANNOT_MAKE = 11,       // the region, the buckets or the parties can't be; each maker says when
-    BB_NO_SEAT = 12,           // each party has had its seat: a freed seat's party gets no other
-    BB_NOT_THE_OLD = 13,       // the place isn't a multiple of the old alignment, or more bytes are to be shrunk than reserved
+    BB_SIZE_IS_ZERO = 1,         // of a bump alone: a pool gives a bucket, with length 0, and one chunk gives what is left
+    BB_SIZE_TOO_LARGE = 2,       // greater than a bucket's size
+    BB_ALIGNMENT_FAILURE = 3,    // greater than a bucket's alignment; of one chunk that is resized, than the old alignment
+    BB_OUT_OF_MEMORY = 4,        // of a request alone: no room is left in the region
+    BB_GROW_WOULD_SHRINK = 5,    // the new size isn't greater than the old one
+    BB_SHRINK_WOULD_GROW = 6,    // the new size isn't smaller than the old one
+    BB_NOT_A_LAYOUT = 7,         // the alignment is no power of two, or the size rounded up to it is greater than PTRDIFF_MAX
+    BB_NOT_MADE = 8,             // the handle is empty
+    BB_NOT_HELD = 9,             // no chunk that is out begins at the place; of a seat, no bucket that this seat holds
+    BB_ALREADY_MADE = 10,        // the handle isn't empty
+    BB_CANNOT_MAKE = 11,         // the region, the buckets or the parties can't be; each maker says when
+    BB_NO_SEAT = 12,             // each party has had its seat: a freed seat's party gets no other
+    BB_NOT_THE_OLD = 13,         // the place isn't a multiple of the old alignment, or more bytes are to be shrunk than reserved
     BB_MALLOC_REFUSED = 14,      // of what takes memory alone: makers, and the calls that give a seat
     BB_MORE_THAN_RESERVED = 15,  // of a grow alone: the new size is greater than what is reserved for the chunk
-    BB_LAST_CODE = BB_MORE_THAN_RESERVED
+    BB_NO_BUCKET = 16,           // of a pool's maker alone: the region has no room for one bucket
+    BB_LAST_CODE = BB_NO_BUCKET
 };
 
 // What a code says, for a log. Of a number that is no code it says that.
@@ -102,6 +103,7 @@ static inline const char *bb_text(uint32_t code) {
     case BB_NOT_THE_OLD: return "the chunk cannot have the old layout";
     case BB_MALLOC_REFUSED: return "malloc refused";
     case BB_MORE_THAN_RESERVED: return "the new size is greater than what is reserved";
+    case BB_NO_BUCKET: return "the region has no room for one bucket";
     default: return "not a code of bb_memory";
     }
 }
@@ -135,6 +137,15 @@ typedef struct bb_figure { uint32_t code; size_t number; } bb_figure;
 // BB_NOT_MADE where the handle was empty already. The bytes of chunks that are out stay the host's. A shared bump or pool
 // stays as long as one of its handles does, a seat's or its own, in whichever order they are freed. The buckets of a freed
 // seat stay held for good.
+
+// Only makers and the calls that give a seat take memory, outside the region, and keep it until the last handle is freed. They
+// ask `malloc` for at most so many bytes in all:
+//
+//     bb_bump, bb_one_chunk    64
+//     bb_pool                  256, and 16 for each 64 buckets
+//     bb_fixed_pool            4096
+//     bb_shared_bump           256, and 16 for each party; 64 for each seat
+//     bb_shared_pool           512, and 16 for each bucket and each party; 128 for each seat, and 1 for each bucket
 
 // A bump gives one chunk after another, and takes all of them back at once.
 
@@ -205,7 +216,7 @@ static inline size_t bb_bytes_for(size_t bucket_size, size_t bucket_align, uint3
 }
 
 // BB_CANNOT_MAKE where the start is 0, start plus size or the start rounded up to the alignment exceeds SIZE_MAX, the
-// bucket's size is 0, or there is room for UINT32_MAX buckets or more. With room for no bucket it is made, with 0 buckets.
+// bucket's size is 0, or there is room for UINT32_MAX buckets or more. Then BB_NO_BUCKET where there is room for none.
 // No call but the maker takes memory.
 BB_MUST_USE uint32_t bb_pool_make(bb_pool *, size_t bucket_size, size_t bucket_align, bb_address start, size_t size);
 uint32_t bb_pool_free(bb_pool *);
@@ -279,8 +290,8 @@ bb_figure bb_bump_seat_party(bb_bump_seat *);
 // see that in the built library: tell it by `__tsan_release` before a return and `__tsan_acquire` after a taking, as
 // examples/c/threads.c does.
 
-// BB_CANNOT_MAKE as of `bb_pool_make`, and where there is no party. No call but the maker and `bb_shared_pool_seat` takes
-// memory.
+// BB_CANNOT_MAKE and BB_NO_BUCKET as of `bb_pool_make`; the first also where there is no party. No call but the maker and
+// `bb_shared_pool_seat` takes memory.
 BB_MUST_USE uint32_t bb_shared_pool_make(bb_shared_pool *, size_t bucket_size, size_t bucket_align, bb_address start, size_t size,
                                          uint32_t parties);
 uint32_t bb_shared_pool_free(bb_shared_pool *);

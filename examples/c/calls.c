@@ -80,8 +80,9 @@ static void run_bytes(void) {
                 EXPECT(bb_pool_make(&pool, size, align, 4096, needed) == BB_DONE);
                 EXPECT(is(bb_pool_number_of_buckets(&pool), buckets) && bb_pool_free(&pool) == BB_DONE);
                 uint32_t told = bb_pool_make(&shorter, size, align, 4096, needed - 1);
-                EXPECT(told == BB_DONE && is(bb_pool_number_of_buckets(&shorter), buckets - 1));
-                EXPECT(bb_pool_free(&shorter) == BB_DONE);
+                EXPECT(told == (buckets == 1 ? BB_NO_BUCKET : BB_DONE));
+                EXPECT(buckets == 1 || is(bb_pool_number_of_buckets(&shorter), buckets - 1));
+                EXPECT(bb_pool_free(&shorter) == (buckets == 1 ? BB_NOT_MADE : BB_DONE));
             }
 }
 
@@ -182,17 +183,66 @@ RUN_POOL(bb_fixed_pool)
 
 // Bucket 0 is at the region's start rounded up, and the size is the region's as it was handed in.
 static void run_starts(void) {
-    bb_pool unaligned = BB_EMPTY, empty = BB_EMPTY;
+    bb_pool unaligned = BB_EMPTY;
     EXPECT(bb_pool_make(&unaligned, 128, 64, 4097, 1024) == BB_DONE && is(bb_pool_number_of_buckets(&unaligned), 7));
     EXPECT(is(bb_pool_start_address(&unaligned), 4160) && is(bb_pool_size(&unaligned), 1024));
-    EXPECT(bb_pool_make(&empty, 128, 64, 4097, 64) == BB_DONE && is(bb_pool_number_of_buckets(&empty), 0));
-    EXPECT(refused(bb_pool_allocate(&empty, 1, 1), BB_OUT_OF_MEMORY));
     bb_shared_pool shared = BB_EMPTY;
     bb_pool_seat seat = BB_EMPTY;
     EXPECT(bb_shared_pool_make(&shared, 128, 64, 4097, 1024, 1) == BB_DONE && bb_shared_pool_seat(&shared, &seat) == BB_DONE);
     EXPECT(is(bb_pool_seat_start_address(&seat), 4160) && is(bb_pool_seat_size(&seat), 1024));
-    EXPECT(bb_pool_free(&unaligned) == BB_DONE && bb_pool_free(&empty) == BB_DONE);
+    EXPECT(bb_pool_free(&unaligned) == BB_DONE);
     EXPECT(bb_shared_pool_free(&shared) == BB_DONE && bb_pool_seat_free(&seat) == BB_DONE);
+}
+
+// A region without room for one bucket is refused, behind what can't be made at all.
+static void run_no_bucket(void) {
+    bb_pool pool = BB_EMPTY;
+    bb_fixed_pool fixed = BB_EMPTY;
+    bb_shared_pool shared = BB_EMPTY;
+    EXPECT(bb_pool_make(&pool, 128, 64, 4096, 127) == BB_NO_BUCKET && bb_pool_make(&pool, 1, 1, 4096, 0) == BB_NO_BUCKET);
+    EXPECT(bb_pool_make(&pool, 4096, 64, 64, 8) == BB_NO_BUCKET && bb_pool_make(&pool, 128, 64, 4097, 190) == BB_NO_BUCKET);
+    EXPECT(bb_fixed_pool_make(&fixed, 128, 64, 4096, 127) == BB_NO_BUCKET);
+    EXPECT(bb_shared_pool_make(&shared, 128, 64, 4096, 127, 1) == BB_NO_BUCKET);
+    EXPECT(bb_shared_pool_make(&shared, 128, 64, 4096, 127, 0) == BB_CANNOT_MAKE);
+    EXPECT(bb_pool_make(&pool, 0, 64, 4096, 0) == BB_CANNOT_MAKE && bb_pool_make(&pool, 1, 3, 4096, 0) == BB_NOT_A_LAYOUT);
+    EXPECT(bb_pool_free(&pool) == BB_NOT_MADE && bb_fixed_pool_free(&fixed) == BB_NOT_MADE);
+    EXPECT(bb_shared_pool_free(&shared) == BB_NOT_MADE);
+    EXPECT(bb_pool_make(&pool, 128, 64, 4097, 191) == BB_DONE && is(bb_pool_number_of_buckets(&pool), 1));
+    EXPECT(bb_pool_free(&pool) == BB_DONE);
+}
+
+// Asks `malloc` for at most so many bytes.
+#define WITHIN(MOST, MAKE)                                 \
+    do {                                                   \
+        bytes = 0;                                         \
+        EXPECT((MAKE) == BB_DONE && bytes <= (MOST));      \
+    } while (0)
+
+// Makers take no more memory than the header says.
+static void run_memory(void) {
+    bb_bump bump = BB_EMPTY;
+    bb_one_chunk one = BB_EMPTY;
+    WITHIN(64, bb_bump_make(&bump, 4096, 1024));
+    WITHIN(64, bb_one_chunk_make(&one, 4096, 1024));
+    EXPECT(bb_bump_free(&bump) == BB_DONE && bb_one_chunk_free(&one) == BB_DONE);
+    for (uint32_t parties = 1; parties < 6; parties++)
+        for (size_t buckets = 1; buckets < 100000; buckets = buckets * 2 + 1) {
+            bb_pool pool = BB_EMPTY;
+            bb_fixed_pool fixed = BB_EMPTY;
+            bb_shared_bump shared_bump = BB_EMPTY;
+            bb_bump_seat bump_seat = BB_EMPTY;
+            bb_shared_pool shared_pool = BB_EMPTY;
+            bb_pool_seat pool_seat = BB_EMPTY;
+            WITHIN(256 + 16 * ((buckets + 63) / 64), bb_pool_make(&pool, 8, 8, 4096, 8 * buckets));
+            WITHIN(4096, bb_fixed_pool_make(&fixed, 8, 8, 4096, 8 * buckets));
+            WITHIN(256 + 16 * parties, bb_shared_bump_make(&shared_bump, 4096, 8 * buckets, parties));
+            WITHIN(64, bb_shared_bump_seat(&shared_bump, &bump_seat));
+            WITHIN(512 + 16 * (buckets + parties), bb_shared_pool_make(&shared_pool, 8, 8, 4096, 8 * buckets, parties));
+            WITHIN(128 + buckets, bb_shared_pool_seat(&shared_pool, &pool_seat));
+            EXPECT(bb_pool_free(&pool) == BB_DONE && bb_fixed_pool_free(&fixed) == BB_DONE);
+            EXPECT(bb_shared_bump_free(&shared_bump) == BB_DONE && bb_bump_seat_free(&bump_seat) == BB_DONE);
+            EXPECT(bb_shared_pool_free(&shared_pool) == BB_DONE && bb_pool_seat_free(&pool_seat) == BB_DONE);
+        }
 }
 
 // The buckets of a freed seat stay held, and its party gets no other seat.
@@ -331,6 +381,8 @@ int main(void) {
     run_bb_pool();
     run_bb_fixed_pool();
     run_starts();
+    run_no_bucket();
+    run_memory();
     run_freed_pool_seat();
     run_freed_bump_seat();
     run_large();

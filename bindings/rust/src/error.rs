@@ -96,6 +96,8 @@ error! {
     MakeError {
         /// The region ends behind the last address, a bucket has no byte, there are `u32::MAX` buckets or more, or no party.
         CannotMake = CANNOT_MAKE: "the region, the buckets or the parties cannot be",
+        /// The region has no room for one bucket.
+        NoBucket = NO_BUCKET: "the region has no room for one bucket",
         /// `malloc` refused.
         MallocRefused = MALLOC_REFUSED: "malloc refused",
     }

@@ -44,6 +44,7 @@ pub const NO_SEAT: u32 = 12;
 pub const NOT_THE_OLD: u32 = 13;
 pub const MALLOC_REFUSED: u32 = 14;
 pub const MORE_THAN_RESERVED: u32 = 15;
+pub const NO_BUCKET: u32 = 16;
 
 /// Frees what is behind a handle.
 pub type Free = unsafe extern "C" fn(*mut Handle) -> u32;

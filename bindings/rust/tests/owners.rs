@@ -243,6 +243,8 @@ fn makers_refuse_what_cannot_be() {
     let mut region = Region::new();
     let made = PoolAllocator::over(layout(0, 8), &mut region.0);
     assert_eq!(made.err(), Some(MakeError::CannotMake));
+    let made = FixedSizePoolAllocator::over(layout(1025, 1), &mut region.0);
+    assert_eq!(made.err(), Some(MakeError::NoBucket));
     let start = NonNull::from(&mut region.0).cast();
     // SAFETY: nothing is made, since such a region would end behind the last address.
     let made = unsafe { BumpAllocator::new(start, usize::MAX) };

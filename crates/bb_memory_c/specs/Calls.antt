@@ -10,8 +10,8 @@ use Rattle.bb_memory_base.specs.declared.allocator.AllocationShrinkError.{Alloca
 use Rattle.bb_memory_c.specs.declared.answer.Answer.{Answer}
 use Rattle.bb_memory_c.specs.declared.answer.Figure.{Figure}
 use Rattle.bb_memory_c.specs.Answers.{TellsGrow, TellsShrink, answer_of, figure_of, no_figure, refused}
-use Rattle.bb_memory_c.specs.Codes.{already_made, cannot_make, done, malloc_refused, not_a_layout, not_held, not_made, no_seat}
-use Rattle.bb_memory_c.specs.Layouts.{FailsOf, IsOf}
+use Rattle.bb_memory_c.specs.Codes.{already_made, cannot_make, done, malloc_refused, not_a_layout, not_held, not_made, no_bucket, no_seat}
+use Rattle.bb_memory_c.specs.Layouts.{FailsOf, IsOf, LacksRoomOf}
 
 -- FIGURES
 
@@ -103,14 +103,16 @@ pub record AnswersMake {X : Type 0} (old new : Option X) (code : ℕ) (may : Typ
   pub else_memory : code ≢ done → code ≢ already_made → code ≢ cannot_make → code ≡ malloc_refused
   pub kept : code ≢ done → new ≡ old
 
--- The same of one that is cut into buckets, whose layout is made of two of its numbers.
-pub record AnswersPoolMake {X : Type 0} (old new : Option X) (size align : ℕ) (code : ℕ) (may : Layout → Type 0)
+-- The same of one that is cut into buckets, whose layout is made of two of its numbers, where there is room for one.
+pub record AnswersPoolMake {X : Type 0} (old new : Option X) (size align : ℕ) (code : ℕ) (may room : Layout → Type 0)
     (fresh : Layout → Option X → Type 0) : Type 0 where
-  pub made : code ≡ done → (bucket : Layout) × IsOf size align bucket × may bucket × fresh bucket new
+  pub made : code ≡ done → (bucket : Layout) × IsOf size align bucket × may bucket × room bucket × fresh bucket new
   pub held_one : (code ≡ already_made) ↔ (old ≢ None)
   pub no_layout : (code ≡ not_a_layout) ↔ ((old ≡ None) × (¬ IsLayout size align))
   pub cannot : (code ≡ cannot_make) ↔ ((old ≡ None) × FailsOf size align may)
-  pub else_memory : code ≢ done → code ≢ already_made → code ≢ not_a_layout → code ≢ cannot_make → code ≡ malloc_refused
+  pub no_room : (code ≡ no_bucket) ↔ ((old ≡ None) × LacksRoomOf size align may room)
+  pub else_memory : code ≢ done → code ≢ already_made → code ≢ not_a_layout → code ≢ cannot_make → code ≢ no_bucket
+      → code ≡ malloc_refused
   pub kept : code ≢ done → new ≡ old
 
 -- the handle is empty then, and C is told whether it was

@@ -64,3 +64,7 @@ malloc_refused = 14
 -- the new size is greater than what is reserved
 abbrev pub more_than_reserved : ℕ
 more_than_reserved = 15
+
+-- the region has no room for one bucket
+abbrev pub no_bucket : ℕ
+no_bucket = 16

@@ -39,3 +39,6 @@ pub(crate) const MALLOC_REFUSED: u32 = 14;
 
 /// The new size is greater than what is reserved.
 pub(crate) const MORE_THAN_RESERVED: u32 = 15;
+
+/// The region has no room for one bucket.
+pub(crate) const NO_BUCKET: u32 = 16;
