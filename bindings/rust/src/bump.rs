@@ -55,6 +55,7 @@ unsafe impl Gives for Bump {
 ///     scope.spawn(|| bump.used_space());
 /// });
 /// ```
+#[derive(Debug)]
 pub struct BumpAllocator<'region> {
     owned: Owned<Bump>,
     region: PhantomData<&'region mut [MaybeUninit<u8>]>,
@@ -63,8 +64,9 @@ pub struct BumpAllocator<'region> {
 impl<'region> BumpAllocator<'region> {
     /// A bump over this region, which is its own as long as it lives.
     pub fn over(region: &'region mut [MaybeUninit<u8>]) -> Result<Self, MakeError> {
+        let region = NonNull::from(region);
         // SAFETY: the region is lent for as long as the bump lives.
-        unsafe { Self::new(NonNull::from(&mut *region).cast(), region.len()) }
+        unsafe { Self::new(region.cast(), region.len()) }
     }
 
     /// A bump over the `size` bytes at `ptr`.

@@ -45,6 +45,7 @@ unsafe impl Keeps for OneChunk {
 /// assert_eq!(shrunk.len(), 32);
 /// # Ok::<(), Box<dyn std::error::Error>>(())
 /// ```
+#[derive(Debug)]
 pub struct OneChunkAllocator<'region> {
     owned: Owned<OneChunk>,
     region: PhantomData<&'region mut [MaybeUninit<u8>]>,
@@ -53,8 +54,9 @@ pub struct OneChunkAllocator<'region> {
 impl<'region> OneChunkAllocator<'region> {
     /// One chunk over this region, which is its own as long as it lives.
     pub fn over(region: &'region mut [MaybeUninit<u8>]) -> Result<Self, MakeError> {
+        let region = NonNull::from(region);
         // SAFETY: the region is lent for as long as the allocator lives.
-        unsafe { Self::new(NonNull::from(&mut *region).cast(), region.len()) }
+        unsafe { Self::new(region.cast(), region.len()) }
     }
 
     /// One chunk over the `size` bytes at `ptr`.

@@ -6,6 +6,7 @@ use crate::ffi::{self, Handle};
 use core::alloc::Layout;
 use core::cell::UnsafeCell;
 use core::ffi::c_void;
+use core::fmt;
 use core::marker::PhantomData;
 use core::ptr::NonNull;
 
@@ -184,6 +185,14 @@ impl<K: Keeps> Owned<K> {
         // SAFETY: as of `allocate`.
         let figure = unsafe { K::HOLDS(self.handle(), place.as_ptr().cast()) };
         number(figure).unwrap_or_else(|code| no_such_answer(code)) == 1
+    }
+}
+
+impl<K: Kind> fmt::Debug for Owned<K> {
+    fn fmt(&self, f: &mut fmt::Formatter<'_>) -> fmt::Result {
+        f.debug_struct("Owned")
+            .field("start", &self.start)
+            .finish_non_exhaustive()
     }
 }
 

@@ -34,9 +34,11 @@ pub unsafe trait OwnPoolKind: PoolKind {
 }
 
 /// The kind of [`PoolAllocator`].
+#[derive(Debug)]
 pub enum Pool {}
 
 /// The kind of [`FixedSizePoolAllocator`].
+#[derive(Debug)]
 pub enum FixedPool {}
 
 // SAFETY: all are functions of `bb_pool`.
@@ -104,6 +106,7 @@ unsafe impl OwnPoolKind for FixedPool {
 }
 
 /// Buckets of one layout over a region, or a seat at some: a bucket serves a request.
+#[derive(Debug)]
 pub struct BucketPool<'region, K: PoolKind> {
     pub(crate) owned: Owned<K>,
     pub(crate) region: PhantomData<&'region mut [MaybeUninit<u8>]>,
@@ -152,14 +155,9 @@ impl<'region, K: OwnPoolKind> BucketPool<'region, K> {
         bucket_layout: Layout,
         region: &'region mut [MaybeUninit<u8>],
     ) -> Result<Self, MakeError> {
+        let region = NonNull::from(region);
         // SAFETY: the region is lent for as long as the pool lives.
-        unsafe {
-            Self::new(
-                bucket_layout,
-                NonNull::from(&mut *region).cast(),
-                region.len(),
-            )
-        }
+        unsafe { Self::new(bucket_layout, region.cast(), region.len()) }
     }
 
     /// A pool over the `size` bytes at `ptr`.

@@ -43,6 +43,7 @@ unsafe impl Gives for Seat {
 /// });
 /// # Ok::<(), Box<dyn std::error::Error>>(())
 /// ```
+#[derive(Debug)]
 pub struct SharedBumpAllocator<'region> {
     owned: Owned<SharedBump>,
     region: PhantomData<&'region mut [MaybeUninit<u8>]>,
@@ -51,8 +52,9 @@ pub struct SharedBumpAllocator<'region> {
 impl<'region> SharedBumpAllocator<'region> {
     /// A bump over this region, which is its own and its seats' as long as one of them lives.
     pub fn over(region: &'region mut [MaybeUninit<u8>], parties: u32) -> Result<Self, MakeError> {
+        let region = NonNull::from(region);
         // SAFETY: the region is lent for as long as the bump or a seat lives.
-        unsafe { Self::new(NonNull::from(&mut *region).cast(), region.len(), parties) }
+        unsafe { Self::new(region.cast(), region.len(), parties) }
     }
 
     /// A bump over the `size` bytes at `ptr`.
@@ -90,6 +92,7 @@ impl<'region> SharedBumpAllocator<'region> {
 }
 
 /// A seat at a [`SharedBumpAllocator`], for one thread at a time.
+#[derive(Debug)]
 pub struct BumpSeat<'region> {
     owned: Owned<Seat>,
     region: PhantomData<&'region mut [MaybeUninit<u8>]>,

@@ -16,6 +16,7 @@ unsafe impl Kind for SharedPool {
 }
 
 /// The kind of [`PoolSeat`].
+#[derive(Debug)]
 pub enum Seat {}
 
 // SAFETY: all are functions of `bb_pool_seat`.
@@ -70,6 +71,7 @@ unsafe impl PoolKind for Seat {
 /// });
 /// # Ok::<(), Box<dyn std::error::Error>>(())
 /// ```
+#[derive(Debug)]
 pub struct SharedPoolAllocator<'region> {
     owned: Owned<SharedPool>,
     region: PhantomData<&'region mut [MaybeUninit<u8>]>,
@@ -82,9 +84,9 @@ impl<'region> SharedPoolAllocator<'region> {
         region: &'region mut [MaybeUninit<u8>],
         parties: u32,
     ) -> Result<Self, MakeError> {
-        let (start, size) = (NonNull::from(&mut *region).cast(), region.len());
+        let region = NonNull::from(region);
         // SAFETY: the region is lent for as long as the pool or a seat lives.
-        unsafe { Self::new(bucket_layout, start, size, parties) }
+        unsafe { Self::new(bucket_layout, region.cast(), region.len(), parties) }
     }
 
     /// A pool over the `size` bytes at `ptr`.

@@ -250,4 +250,6 @@ fn makers_refuse_what_cannot_be() {
     let made = unsafe { BumpAllocator::new(start, usize::MAX) };
     assert_eq!(made.err(), Some(MakeError::CannotMake));
     assert_eq!(MakeError::MallocRefused.to_string(), "malloc refused");
+    let one = OneChunkAllocator::over(&mut region.0).unwrap();
+    assert!(format!("{one:?}").starts_with("OneChunkAllocator"));
 }

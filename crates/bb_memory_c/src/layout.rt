@@ -67,9 +67,9 @@ pub(crate) fn cut_into(
 }
 
 /// Whether the region of `size` bytes at `start`, which may be cut into buckets of this layout, has room for one.
-pub(crate) fn has_room(bucket: Layout, start: usize, size: usize) -> bool
-    requires { MayBeCut (region_at start size) bucket }
-    ensures { IsTrue result ↔ HasRoom (region_at start size) bucket }
+pub(crate) fn has_room(layout: Layout, start: usize, size: usize) -> bool
+    requires { MayBeCut (region_at start size) layout }
+    ensures { IsTrue result ↔ HasRoom (region_at start size) layout }
 {
-    FixedSizePoolAllocator::<1>::new(bucket, start, size).number_of_buckets() > 0
+    FixedSizePoolAllocator::<1>::new(layout, start, size).number_of_buckets() > 0
 }
