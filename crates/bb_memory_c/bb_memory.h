@@ -115,7 +115,12 @@ static inline const char *bb_text(uint32_t code) {
 #define BB_MUST_USE
 #endif
 
-#define BB_EMPTY {0, false}
+// What a handle is before its first use.
+#ifdef __cplusplus
+#define BB_EMPTY {nullptr, false}
+#else
+#define BB_EMPTY {NULL, false}
+#endif
 
 // Handles, a type for each kind. `at` and `made` are not for the host.
 typedef struct bb_bump { void *at; bool made; } bb_bump;

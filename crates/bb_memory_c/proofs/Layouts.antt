@@ -86,7 +86,8 @@ share-or-not size align region parties bucket is one not =
 
 -- what lacks room to be shared lacks room to be cut
 pub lacks-share : (size align : ℕ) (region : Region) (parties : ℕ) →
-    LacksRoomOf size align (MayBeShared region parties) (HasRoom region) → LacksRoomOf size align (MayBeCut region) (HasRoom region)
+    LacksRoomOf size align (MayBeShared region parties) (HasRoom region) →
+    LacksRoomOf size align (MayBeCut region) (HasRoom region)
 lacks-share size align region parties lacks = (lacks.0, lacks.1, lacks.2.1, lacks.3)
 
 -- what can't be shared has a layout

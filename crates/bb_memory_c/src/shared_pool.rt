@@ -50,8 +50,8 @@ fn next_seat(seats: &mut PoolSeats, alloc: Global) -> Result<Box<PoolSeat>, u32>
 }
 
 /// Makes a shared pool over the region of `size` bytes at `start`, behind a handle that has to be empty. The region is cut into
-/// buckets of `bucket_size` bytes at multiples of `bucket_align`, and has to have room for one. Each of the parties, at least one,
-/// can be given a seat.
+/// buckets of `bucket_size` bytes at multiples of `bucket_align`, and has to have room for one. Each of the parties, at least
+/// one, can be given a seat.
 ///
 /// C guarantees of the handle what the crate's page says.
 #[unsafe(no_mangle)]
