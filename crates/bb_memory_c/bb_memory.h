@@ -1,30 +1,35 @@
-// Allocators over a region of the host's own, for C. The contract of each function is proved, for every caller that
-// guarantees the following, which nothing checks:
+// Allocators over a region of the host's own, for C (C99 or later) and C++ (C++11 or later), on Linux with an x86-64-v2
+// processor. The contract of each function is proved, for every caller that guarantees the following, which nothing checks:
 //
 // - A handle is a variable of the host's, both fields zero before its first use: `bb_pool pool = BB_EMPTY;`. It is passed
 //   by its address, which isn't null. Nothing but these functions writes it. It may be moved, and then the old one isn't
 //   used. One variable has one kind of handle. A function's type names the kind that it takes, so the compiler refuses
 //   another one (some compilers only warn); no function tests it, so a caller who casts has to see to it.
-// - One call at a time has a handle; a getter has it, too, so no function takes a const one. A call that takes two handles
-//   is passed two. A handle may go to another thread between two calls, if the threads order that by a lock or by a thread's
-//   start or join. Threads that call at once share by the shared forms alone, each through a seat of its own; any other
-//   handle they share under one lock.
+// - One call at a time has a handle. A getter takes the allocator out of its handle and puts it back, as each call does, so
+//   none takes a const one, and it must not run beside another call with the same handle: else the allocator is lost for
+//   good, or two threads use it at once. A call that takes two handles is passed two. A handle may go to another thread
+//   between two calls, if the threads order that by a lock or by a thread's start or join. Threads that call at once share
+//   by the shared forms alone, each through a seat of its own; any other handle they share under one lock.
 // - No function is called from a signal handler, or in a child that a process of several threads forked. In a forked child
 //   handles are copies, so it uses none whose region both processes share.
-// - A region is the host's as long as chunks in it are used. No two allocators have a byte in common, and none is made
-//   over a region in which chunks of an earlier one are still used.
+// - A region is the host's as long as chunks in it are used. No two allocators have a byte in common, but where the region
+//   of one lies inside one chunk of the other: a pool over a chunk of a bump is meant to work. That chunk then serves
+//   nothing else, and isn't given back before its pool is done with; and none is made over a region in which chunks of an
+//   earlier one are still used.
 // - `malloc`, `realloc` and `free` come from one allocator, which aligns as C says. Where it refuses, the answer is
-//   BB_OUT_OF_MEMORY.
+//   BB_MALLOC_REFUSED.
 //
-// A place is a number, such as the address of a byte in a buffer of the host's; a host that hands in the address and the
-// size of its buffer gets places in it. No function reads or writes a byte there, so the host zeroes what it wants zero.
-// Chunks that are out lie inside the region, at multiples of the asked alignment, and never overlap. Sizes and alignments
-// are in bytes. The numbers are tested, so none breaks an allocator: a place at which nothing is held is answered by a
-// code, that is a wild place, and a second return as long as the place was not given anew. A return after that takes the
-// chunk from its new holder, so the host returns each chunk once.
+// No function reads or writes a byte of a region, so the host zeroes what it wants zero. Chunks that are out lie inside
+// the region, at multiples of the asked alignment, and never overlap. Sizes and alignments are in bytes. The numbers are
+// tested, so none breaks an allocator: a place at which nothing is held is answered by a code, that is a wild place, and a
+// second return as long as the place was not given anew. A return after that takes the chunk from its new holder, so the
+// host returns each chunk once.
 //
-// A Rust program declares these functions in an `unsafe extern "C"` block, with `#[repr(C)]` structs of the same fields;
-// examples/c/from_rust.rs does so.
+// Each call writes its handle. Handles of several threads are best kept 64 bytes apart, since two in one cache line make
+// both threads slower.
+//
+// A Rust program has these calls in the crate of bindings/rust. One without it declares them in an `unsafe extern "C"`
+// block, with `#[repr(C)]` structs of the same fields; examples/c/from_rust.rs does so.
 #ifndef BB_MEMORY_H
 #define BB_MEMORY_H
 
@@ -36,33 +41,86 @@
 extern "C" {
 #endif
 
+// The version of this library, as text and by its numbers. The last of them grows with each version, for `#if`.
+#define BB_VERSION "0.3.0"
+#define BB_VERSION_MAJOR 0
+#define BB_VERSION_MINOR 3
+#define BB_VERSION_PATCH 0
+#define BB_VERSION_NUMBER (BB_VERSION_MAJOR * 10000 + BB_VERSION_MINOR * 100 + BB_VERSION_PATCH)
+
+// Where a region begins, or a chunk that is handed in; and where a chunk begins that was given. Both are the address of a
+// byte, of which the functions see the number alone. A host whose places are other numbers, such as offsets in memory that
+// several processes map, casts them; or it defines BB_PLACES_ARE_NUMBERS above the header, and has them as numbers, as they
+// were before 0.3.0. The functions are the same ones.
+#ifdef BB_PLACES_ARE_NUMBERS
+typedef size_t bb_address;
+typedef size_t bb_place;
+#else
+typedef const void *bb_address;
+typedef void *bb_place;
+#endif
+
 // What is answered. With any code but BB_DONE nothing was done, and a struct that is answered has 0 beside the code.
-// Of several causes the first is answered. Of a maker: BB_ALREADY_MADE, BB_NOT_A_LAYOUT, BB_CANNOT_MAKE, BB_OUT_OF_MEMORY.
-// Of a request: BB_NOT_MADE, BB_NOT_A_LAYOUT, then the allocator's own causes.
+// Of several causes the first is answered. Of a maker: BB_ALREADY_MADE, BB_NOT_A_LAYOUT, BB_CANNOT_MAKE, BB_NO_BUCKET,
+// BB_MALLOC_REFUSED. Of a request: BB_NOT_MADE, BB_NOT_A_LAYOUT, then the allocator's own causes.
 enum {
     BB_DONE = 0,
-    BB_SIZE_IS_ZERO = 1,       // of a bump alone: a pool gives a bucket, with length 0, and one chunk gives what is left
-    BB_SIZE_TOO_LARGE = 2,     // greater than a bucket's size
-    BB_ALIGNMENT_FAILURE = 3,  // greater than a bucket's alignment; of one chunk that is resized, than the old alignment
-    BB_OUT_OF_MEMORY = 4,      // no room left in the region, or `malloc` refused
-    BB_GROW_WOULD_SHRINK = 5,  // the new size isn't greater than the old one
-    BB_SHRINK_WOULD_GROW = 6,  // the new size isn't smaller than the old one
-    BB_NOT_A_LAYOUT = 7,       // the alignment is no power of two, or the size rounded up to it is greater than PTRDIFF_MAX
-    BB_NOT_MADE = 8,           // the handle is empty
-    BB_NOT_HELD = 9,           // no chunk that is out begins at the place; of a seat, no bucket that this seat holds
-    BB_ALREADY_MADE = 10,      // the handle isn't empty
-    BB_CANNOT_MAKE = 11,       // the region, the buckets or the parties can't be; each maker says when
-    BB_NO_SEAT = 12,           // each party has had its seat: a freed seat's party gets no other
-    BB_NOT_THE_OLD = 13,       // the place isn't a multiple of the old alignment, or more bytes are to be shrunk than reserved
+    BB_SIZE_IS_ZERO = 1,         // of a bump alone: a pool gives a bucket, with length 0, and one chunk gives what is left
+    BB_SIZE_TOO_LARGE = 2,       // greater than a bucket's size
+    BB_ALIGNMENT_FAILURE = 3,    // greater than a bucket's alignment; of one chunk that is resized, than the old alignment
+    BB_OUT_OF_MEMORY = 4,        // of a request alone: no room is left in the region
+    BB_GROW_WOULD_SHRINK = 5,    // the new size isn't greater than the old one
+    BB_SHRINK_WOULD_GROW = 6,    // the new size isn't smaller than the old one
+    BB_NOT_A_LAYOUT = 7,         // the alignment is no power of two, or the size rounded up to it is greater than PTRDIFF_MAX
+    BB_NOT_MADE = 8,             // the handle is empty
+    BB_NOT_HELD = 9,             // no chunk that is out begins at the place; of a seat, no bucket that this seat holds
+    BB_ALREADY_MADE = 10,        // the handle isn't empty
+    BB_CANNOT_MAKE = 11,         // the region, the buckets or the parties can't be; each maker says when
+    BB_NO_SEAT = 12,             // each party has had its seat: a freed seat's party gets no other
+    BB_NOT_THE_OLD = 13,         // the place isn't a multiple of the old alignment, or more bytes are to be shrunk than reserved
+    BB_MALLOC_REFUSED = 14,      // of what takes memory alone: makers, and the calls that give a seat
+    BB_MORE_THAN_RESERVED = 15,  // of a grow alone: the new size is greater than what is reserved for the chunk
+    BB_NO_BUCKET = 16,           // of a pool's maker alone: the region has no room for one bucket
+    BB_LAST_CODE = BB_NO_BUCKET
 };
 
-// The version of this library, as text and by its numbers.
-#define BB_VERSION "0.2.0"
-#define BB_VERSION_MAJOR 0
-#define BB_VERSION_MINOR 2
-#define BB_VERSION_PATCH 0
+// What a code says, for a log. Of a number that is no code it says that.
+static inline const char *bb_text(uint32_t code) {
+    switch (code) {
+    case BB_DONE: return "done";
+    case BB_SIZE_IS_ZERO: return "the size is zero";
+    case BB_SIZE_TOO_LARGE: return "the size is greater than a bucket's";
+    case BB_ALIGNMENT_FAILURE: return "the alignment is greater than can be had";
+    case BB_OUT_OF_MEMORY: return "no room is left in the region";
+    case BB_GROW_WOULD_SHRINK: return "the new size is not greater than the old one";
+    case BB_SHRINK_WOULD_GROW: return "the new size is not smaller than the old one";
+    case BB_NOT_A_LAYOUT: return "size and alignment make no layout";
+    case BB_NOT_MADE: return "the handle is empty";
+    case BB_NOT_HELD: return "nothing is held at the place";
+    case BB_ALREADY_MADE: return "the handle is not empty";
+    case BB_CANNOT_MAKE: return "the region, the buckets or the parties cannot be";
+    case BB_NO_SEAT: return "each party has had its seat";
+    case BB_NOT_THE_OLD: return "the chunk cannot have the old layout";
+    case BB_MALLOC_REFUSED: return "malloc refused";
+    case BB_MORE_THAN_RESERVED: return "the new size is greater than what is reserved";
+    case BB_NO_BUCKET: return "the region has no room for one bucket";
+    default: return "not a code of bb_memory";
+    }
+}
 
-#define BB_EMPTY {0, false}
+// Compilers warn where what a maker, a request or a resize answers isn't looked at.
+#ifdef __GNUC__
+#define BB_MUST_USE __attribute__((warn_unused_result))
+#else
+#define BB_MUST_USE
+#endif
+
+// What a handle is before its first use.
+#ifdef __cplusplus
+#define BB_EMPTY {nullptr, false}
+#else
+#define BB_EMPTY {NULL, false}
+#endif
 
 // Handles, a type for each kind. `at` and `made` are not for the host.
 typedef struct bb_bump { void *at; bool made; } bb_bump;
@@ -75,23 +133,32 @@ typedef struct bb_shared_pool { void *at; bool made; } bb_shared_pool;
 typedef struct bb_pool_seat { void *at; bool made; } bb_pool_seat;
 
 // A chunk that was given: where it begins, and how many bytes it has.
-typedef struct { uint32_t code; size_t place; size_t len; } bb_answer;
+typedef struct bb_answer { uint32_t code; bb_place place; size_t len; } bb_answer;
 
-// A number that was asked for.
-typedef struct { uint32_t code; size_t number; } bb_figure;
+// A number that was asked for; of an address, its number.
+typedef struct bb_figure { uint32_t code; size_t number; } bb_figure;
 
 // Each kind has a function that frees what is behind its handle, which is empty then: `bb_pool_free(&pool)`. It answers
 // BB_NOT_MADE where the handle was empty already. The bytes of chunks that are out stay the host's. A shared bump or pool
 // stays as long as one of its handles does, a seat's or its own, in whichever order they are freed. The buckets of a freed
 // seat stay held for good.
 
+// Only makers and the calls that give a seat take memory, outside the region, and keep it until the last handle is freed. They
+// ask `malloc` for at most so many bytes in all:
+//
+//     bb_bump, bb_one_chunk    64
+//     bb_pool                  256, and 16 for each 64 buckets
+//     bb_fixed_pool            4096
+//     bb_shared_bump           256, and 16 for each party; 64 for each seat
+//     bb_shared_pool           512, and 16 for each bucket and each party; 128 for each seat, and 1 for each bucket
+
 // A bump gives one chunk after another, and takes all of them back at once.
 
 // Over the region of `size` bytes at `start`. BB_CANNOT_MAKE where the start is 0, or start plus size exceeds SIZE_MAX.
-uint32_t bb_bump_make(bb_bump *, size_t start, size_t size);
+BB_MUST_USE uint32_t bb_bump_make(bb_bump *, bb_address start, size_t size);
 uint32_t bb_bump_free(bb_bump *);
 // A chunk of exactly `size` bytes at the least multiple of `align` behind what is used.
-bb_answer bb_bump_allocate(bb_bump *, size_t size, size_t align);
+BB_MUST_USE bb_answer bb_bump_allocate(bb_bump *, size_t size, size_t align);
 // All chunks are given back.
 uint32_t bb_bump_deallocate(bb_bump *);
 // How many bytes are used, the padding between chunks among them; how many lie behind the last chunk; and how many the region
@@ -110,53 +177,70 @@ bb_figure bb_bump_start_address(bb_bump *);
 // One chunk gives all of its region, from the first multiple of the asked alignment on, to one request at a time.
 
 // BB_CANNOT_MAKE as of `bb_bump_make`.
-uint32_t bb_one_chunk_make(bb_one_chunk *, size_t start, size_t size);
+BB_MUST_USE uint32_t bb_one_chunk_make(bb_one_chunk *, bb_address start, size_t size);
 uint32_t bb_one_chunk_free(bb_one_chunk *);
 // A chunk of at least `size` bytes, up to the region's end. BB_OUT_OF_MEMORY where one is out, where none of the region is
 // left behind the first multiple of `align`, or less than `size` bytes are.
-bb_answer bb_one_chunk_allocate(bb_one_chunk *, size_t size, size_t align);
+BB_MUST_USE bb_answer bb_one_chunk_allocate(bb_one_chunk *, size_t size, size_t align);
 // Gives back the chunk at this place; BB_NOT_HELD where none that is out begins there.
-uint32_t bb_one_chunk_deallocate(bb_one_chunk *, size_t place);
+uint32_t bb_one_chunk_deallocate(bb_one_chunk *, bb_address place);
 // The chunk gets all that is reserved for it. BB_GROW_WOULD_SHRINK, then BB_ALIGNMENT_FAILURE where the new alignment is
-// greater than the old one, then BB_OUT_OF_MEMORY where less than the new size is reserved.
-bb_answer bb_one_chunk_grow(bb_one_chunk *, size_t place, size_t old_size, size_t old_align, size_t new_size,
-                            size_t new_align);
+// greater than the old one, then BB_MORE_THAN_RESERVED where less than the new size is reserved.
+BB_MUST_USE bb_answer bb_one_chunk_grow(bb_one_chunk *, bb_address place, size_t old_size, size_t old_align, size_t new_size,
+                                        size_t new_align);
 // The chunk gets exactly the new size. BB_SHRINK_WOULD_GROW, then BB_ALIGNMENT_FAILURE as above.
-bb_answer bb_one_chunk_shrink(bb_one_chunk *, size_t place, size_t old_size, size_t old_align, size_t new_size,
-                              size_t new_align);
+BB_MUST_USE bb_answer bb_one_chunk_shrink(bb_one_chunk *, bb_address place, size_t old_size, size_t old_align, size_t new_size,
+                                          size_t new_align);
 // How many bytes are reserved for the chunk at this place, or BB_NOT_HELD: all of the region from it on.
-bb_figure bb_one_chunk_reserved(bb_one_chunk *, size_t place);
+bb_figure bb_one_chunk_reserved(bb_one_chunk *, bb_address place);
 // 1 where this is the place of the chunk that is out, else 0.
-bb_figure bb_one_chunk_holds(bb_one_chunk *, size_t place);
+bb_figure bb_one_chunk_holds(bb_one_chunk *, bb_address place);
 // 1 where no chunk is out, else 0.
 bb_figure bb_one_chunk_has_chunk_available(bb_one_chunk *);
 // The region's start, and its size.
 bb_figure bb_one_chunk_start_address(bb_one_chunk *);
 bb_figure bb_one_chunk_size(bb_one_chunk *);
 
-// A pool cuts its region into buckets of one layout, and gives a bucket for each request.
+// A pool cuts its region into buckets of one layout, and gives a bucket for each request. Each bucket is a stride behind the
+// one before it: the bucket's size rounded up to its alignment.
+
+// The stride, and how many bytes have room for so many buckets where the region starts at a multiple of the alignment; anywhere
+// else add the alignment less 1. Both are constants of constants, as for `static unsigned char buffer[BB_BYTES_FOR(48, 8, 16)]`.
+// The numbers have to be those of a pool that can be made: nothing is tested.
+#define BB_STRIDE(bucket_size, bucket_align) \
+    (((size_t)(bucket_size) + ((size_t)(bucket_align) - 1)) / (size_t)(bucket_align) * (size_t)(bucket_align))
+#define BB_BYTES_FOR(bucket_size, bucket_align, buckets) (BB_STRIDE(bucket_size, bucket_align) * (size_t)(buckets))
+
+// The same of numbers that are known at run time alone: 0 where they make no bucket, and where it is more than PTRDIFF_MAX.
+static inline size_t bb_bytes_for(size_t bucket_size, size_t bucket_align, uint32_t buckets) {
+    const size_t most = (size_t)PTRDIFF_MAX;
+    if (bucket_size == 0 || bucket_align == 0 || (bucket_align & (bucket_align - 1)) != 0) return 0;
+    if (bucket_size > most - (bucket_align - 1)) return 0;
+    if (buckets > most / BB_STRIDE(bucket_size, bucket_align)) return 0;
+    return BB_BYTES_FOR(bucket_size, bucket_align, buckets);
+}
 
 // BB_CANNOT_MAKE where the start is 0, start plus size or the start rounded up to the alignment exceeds SIZE_MAX, the
-// bucket's size is 0, or there is room for UINT32_MAX buckets or more. With room for no bucket it is made, with 0 buckets.
+// bucket's size is 0, or there is room for UINT32_MAX buckets or more. Then BB_NO_BUCKET where there is room for none.
 // No call but the maker takes memory.
-uint32_t bb_pool_make(bb_pool *, size_t bucket_size, size_t bucket_align, size_t start, size_t size);
+BB_MUST_USE uint32_t bb_pool_make(bb_pool *, size_t bucket_size, size_t bucket_align, bb_address start, size_t size);
 uint32_t bb_pool_free(bb_pool *);
 // A chunk of `size` bytes in a bucket that isn't held. Refused by size, then by alignment, then where every bucket is
 // held.
-bb_answer bb_pool_allocate(bb_pool *, size_t size, size_t align);
+BB_MUST_USE bb_answer bb_pool_allocate(bb_pool *, size_t size, size_t align);
 // Gives back the bucket at this place; BB_NOT_HELD where it isn't that of a held bucket.
-uint32_t bb_pool_deallocate(bb_pool *, size_t place);
+uint32_t bb_pool_deallocate(bb_pool *, bb_address place);
 // 1 where this is the place of a held bucket, else 0.
-bb_figure bb_pool_holds(bb_pool *, size_t place);
+bb_figure bb_pool_holds(bb_pool *, bb_address place);
 // The chunk gets the new size, in its bucket. BB_GROW_WOULD_SHRINK, then BB_ALIGNMENT_FAILURE where the new alignment is
-// greater than the bucket's, then BB_OUT_OF_MEMORY where the new size is greater than the bucket's.
-bb_answer bb_pool_grow(bb_pool *, size_t place, size_t old_size, size_t old_align, size_t new_size,
-                       size_t new_align);
+// greater than the bucket's, then BB_MORE_THAN_RESERVED where the new size is greater than the bucket's.
+BB_MUST_USE bb_answer bb_pool_grow(bb_pool *, bb_address place, size_t old_size, size_t old_align, size_t new_size,
+                                   size_t new_align);
 // The chunk gets exactly the new size. BB_SHRINK_WOULD_GROW, then BB_ALIGNMENT_FAILURE as above.
-bb_answer bb_pool_shrink(bb_pool *, size_t place, size_t old_size, size_t old_align, size_t new_size,
-                         size_t new_align);
+BB_MUST_USE bb_answer bb_pool_shrink(bb_pool *, bb_address place, size_t old_size, size_t old_align, size_t new_size,
+                                     size_t new_align);
 // The bucket's size, which is reserved for a chunk at this place, or BB_NOT_HELD.
-bb_figure bb_pool_reserved(bb_pool *, size_t place);
+bb_figure bb_pool_reserved(bb_pool *, bb_address place);
 bb_figure bb_pool_number_of_buckets(bb_pool *);
 bb_figure bb_pool_bucket_size(bb_pool *);
 bb_figure bb_pool_max_alignment(bb_pool *);
@@ -166,18 +250,19 @@ bb_figure bb_pool_size(bb_pool *);
 // end.
 bb_figure bb_pool_start_address(bb_pool *);
 
-// The same of at most 512 buckets, which keeps what it knows of them in one block of fixed size. It doesn't tell where bucket 0
-// is.
-uint32_t bb_fixed_pool_make(bb_fixed_pool *, size_t bucket_size, size_t bucket_align, size_t start, size_t size);
+// The same of at most BB_FIXED_POOL_BUCKETS buckets, which keeps what it knows of them in one block of fixed size. Of a larger
+// region it uses the first ones alone. It doesn't tell where bucket 0 is.
+#define BB_FIXED_POOL_BUCKETS 512
+BB_MUST_USE uint32_t bb_fixed_pool_make(bb_fixed_pool *, size_t bucket_size, size_t bucket_align, bb_address start, size_t size);
 uint32_t bb_fixed_pool_free(bb_fixed_pool *);
-bb_answer bb_fixed_pool_allocate(bb_fixed_pool *, size_t size, size_t align);
-uint32_t bb_fixed_pool_deallocate(bb_fixed_pool *, size_t place);
-bb_figure bb_fixed_pool_holds(bb_fixed_pool *, size_t place);
-bb_answer bb_fixed_pool_grow(bb_fixed_pool *, size_t place, size_t old_size, size_t old_align, size_t new_size,
-                             size_t new_align);
-bb_answer bb_fixed_pool_shrink(bb_fixed_pool *, size_t place, size_t old_size, size_t old_align, size_t new_size,
-                               size_t new_align);
-bb_figure bb_fixed_pool_reserved(bb_fixed_pool *, size_t place);
+BB_MUST_USE bb_answer bb_fixed_pool_allocate(bb_fixed_pool *, size_t size, size_t align);
+uint32_t bb_fixed_pool_deallocate(bb_fixed_pool *, bb_address place);
+bb_figure bb_fixed_pool_holds(bb_fixed_pool *, bb_address place);
+BB_MUST_USE bb_answer bb_fixed_pool_grow(bb_fixed_pool *, bb_address place, size_t old_size, size_t old_align, size_t new_size,
+                                         size_t new_align);
+BB_MUST_USE bb_answer bb_fixed_pool_shrink(bb_fixed_pool *, bb_address place, size_t old_size, size_t old_align, size_t new_size,
+                                           size_t new_align);
+bb_figure bb_fixed_pool_reserved(bb_fixed_pool *, bb_address place);
 bb_figure bb_fixed_pool_number_of_buckets(bb_fixed_pool *);
 bb_figure bb_fixed_pool_bucket_size(bb_fixed_pool *);
 bb_figure bb_fixed_pool_max_alignment(bb_fixed_pool *);
@@ -189,14 +274,14 @@ bb_figure bb_fixed_pool_size(bb_fixed_pool *);
 
 // Over the region of `size` bytes at `start`. BB_CANNOT_MAKE where the start is 0, start plus size exceeds SIZE_MAX, or
 // there is no party. No call but the maker and `bb_shared_bump_seat` takes memory.
-uint32_t bb_shared_bump_make(bb_shared_bump *, size_t start, size_t size, uint32_t parties);
+BB_MUST_USE uint32_t bb_shared_bump_make(bb_shared_bump *, bb_address start, size_t size, uint32_t parties);
 uint32_t bb_shared_bump_free(bb_shared_bump *);
 // BB_ALREADY_MADE where the seat isn't empty, then BB_NOT_MADE, then BB_NO_SEAT. Two handles; it is no call of a seat, so
 // one thread at a time makes it.
-uint32_t bb_shared_bump_seat(bb_shared_bump *, bb_bump_seat *);
+BB_MUST_USE uint32_t bb_shared_bump_seat(bb_shared_bump *, bb_bump_seat *);
 uint32_t bb_bump_seat_free(bb_bump_seat *);
 // A chunk of exactly `size` bytes at the least multiple of `align` behind what is used.
-bb_answer bb_bump_seat_allocate(bb_bump_seat *, size_t size, size_t align);
+BB_MUST_USE bb_answer bb_bump_seat_allocate(bb_bump_seat *, size_t size, size_t align);
 // What one look found; the start is the region's.
 bb_figure bb_bump_seat_used_space(bb_bump_seat *);
 bb_figure bb_bump_seat_free_space(bb_bump_seat *);
@@ -210,27 +295,27 @@ bb_figure bb_bump_seat_party(bb_bump_seat *);
 // see that in the built library: tell it by `__tsan_release` before a return and `__tsan_acquire` after a taking, as
 // examples/c/threads.c does.
 
-// BB_CANNOT_MAKE as of `bb_pool_make`, and where there is no party. No call but the maker and `bb_shared_pool_seat` takes
-// memory.
-uint32_t bb_shared_pool_make(bb_shared_pool *, size_t bucket_size, size_t bucket_align, size_t start, size_t size,
-                             uint32_t parties);
+// BB_CANNOT_MAKE and BB_NO_BUCKET as of `bb_pool_make`; the first also where there is no party. No call but the maker and
+// `bb_shared_pool_seat` takes memory.
+BB_MUST_USE uint32_t bb_shared_pool_make(bb_shared_pool *, size_t bucket_size, size_t bucket_align, bb_address start, size_t size,
+                                         uint32_t parties);
 uint32_t bb_shared_pool_free(bb_shared_pool *);
 // As of the shared bump.
-uint32_t bb_shared_pool_seat(bb_shared_pool *, bb_pool_seat *);
+BB_MUST_USE uint32_t bb_shared_pool_seat(bb_shared_pool *, bb_pool_seat *);
 uint32_t bb_pool_seat_free(bb_pool_seat *);
 // A chunk of `size` bytes in a bucket that isn't held, found by one pass over the buckets. BB_OUT_OF_MEMORY where each was
 // held when the pass looked at it; while other threads step, that need not have been at one moment.
-bb_answer bb_pool_seat_allocate(bb_pool_seat *, size_t size, size_t align);
+BB_MUST_USE bb_answer bb_pool_seat_allocate(bb_pool_seat *, size_t size, size_t align);
 // Gives back the bucket at this place; BB_NOT_HELD where it isn't that of a bucket which this seat holds.
-uint32_t bb_pool_seat_deallocate(bb_pool_seat *, size_t place);
+uint32_t bb_pool_seat_deallocate(bb_pool_seat *, bb_address place);
 // 1 where this is the place of a bucket which this seat holds, else 0.
-bb_figure bb_pool_seat_holds(bb_pool_seat *, size_t place);
+bb_figure bb_pool_seat_holds(bb_pool_seat *, bb_address place);
 // As of a pool with one owner, of a bucket which this seat holds.
-bb_answer bb_pool_seat_grow(bb_pool_seat *, size_t place, size_t old_size, size_t old_align, size_t new_size,
-                            size_t new_align);
-bb_answer bb_pool_seat_shrink(bb_pool_seat *, size_t place, size_t old_size, size_t old_align, size_t new_size,
-                              size_t new_align);
-bb_figure bb_pool_seat_reserved(bb_pool_seat *, size_t place);
+BB_MUST_USE bb_answer bb_pool_seat_grow(bb_pool_seat *, bb_address place, size_t old_size, size_t old_align, size_t new_size,
+                                        size_t new_align);
+BB_MUST_USE bb_answer bb_pool_seat_shrink(bb_pool_seat *, bb_address place, size_t old_size, size_t old_align, size_t new_size,
+                                          size_t new_align);
+bb_figure bb_pool_seat_reserved(bb_pool_seat *, bb_address place);
 // The figures as of a pool with one owner.
 bb_figure bb_pool_seat_number_of_buckets(bb_pool_seat *);
 bb_figure bb_pool_seat_bucket_size(bb_pool_seat *);

@@ -1,5 +1,6 @@
 // Each call of the allocators with one owner, and each cause of a refusal; and the makers with each request for memory refused in
-// turn: `malloc` is wrapped at the link.
+// turn: `malloc` is wrapped at the link. Its places are numbers, at which there is no memory.
+#define BB_PLACES_ARE_NUMBERS
 #include <stdint.h>
 #include <stdio.h>
 #include <stdlib.h>
@@ -7,13 +8,20 @@
 
 #include "bb_memory.h"
 
-static size_t to_refuse, requests;
+static size_t to_refuse, requests, bytes;
 
+#ifdef __cplusplus
+extern "C" {
+#endif
 void *__real_malloc(size_t size);
 void *__wrap_malloc(size_t size);
+#ifdef __cplusplus
+}
+#endif
 
 void *__wrap_malloc(size_t size) {
     requests++;
+    bytes += size;
     return requests == to_refuse ? NULL : __real_malloc(size);
 }
 
@@ -38,9 +46,44 @@ static int has_none(bb_figure figure, uint32_t code) { return figure.code == cod
 
 // The version's text and its numbers are one version.
 static void run_version(void) {
-    char text[sizeof BB_VERSION];
-    EXPECT(snprintf(text, sizeof text, "%d.%d.%d", BB_VERSION_MAJOR, BB_VERSION_MINOR, BB_VERSION_PATCH) == sizeof text - 1);
+    char text[40];
+    EXPECT(snprintf(text, sizeof text, "%d.%d.%d", BB_VERSION_MAJOR, BB_VERSION_MINOR, BB_VERSION_PATCH) > 0);
     EXPECT(strcmp(text, BB_VERSION) == 0);
+    EXPECT(BB_VERSION_NUMBER == BB_VERSION_MAJOR * 10000 + BB_VERSION_MINOR * 100 + BB_VERSION_PATCH);
+}
+
+// Each code has a text of its own, and no other number has one.
+static void run_texts(void) {
+    const char *none = bb_text(BB_LAST_CODE + 1);
+    EXPECT(strcmp(none, bb_text(UINT32_MAX)) == 0);
+    for (uint32_t code = BB_DONE; code <= BB_LAST_CODE; code++) {
+        EXPECT(strcmp(bb_text(code), none) != 0);
+        for (uint32_t before = BB_DONE; before < code; before++)
+            EXPECT(strcmp(bb_text(code), bb_text(before)) != 0);
+    }
+}
+
+// As many bytes as are said have room for as many buckets, and a byte less for one less.
+static void run_bytes(void) {
+    static unsigned char buffer[BB_BYTES_FOR(48, 32, 3)];
+    EXPECT(sizeof buffer == 192 && BB_STRIDE(48, 32) == 64 && BB_STRIDE(1, 1) == 1 && BB_STRIDE(8, 8) == 8);
+    EXPECT(bb_bytes_for(48, 32, 3) == 192 && bb_bytes_for(48, 32, 0) == 0 && bb_bytes_for(1, 1, UINT32_MAX) == UINT32_MAX);
+    EXPECT(bb_bytes_for(0, 8, 1) == 0 && bb_bytes_for(8, 0, 1) == 0 && bb_bytes_for(8, 3, 1) == 0);
+    EXPECT(bb_bytes_for((size_t)PTRDIFF_MAX, 1, 1) == (size_t)PTRDIFF_MAX && bb_bytes_for((size_t)PTRDIFF_MAX, 1, 2) == 0);
+    EXPECT(bb_bytes_for((size_t)PTRDIFF_MAX, 2, 1) == 0 && bb_bytes_for(1, (size_t)1 << 63, 1) == 0);
+    for (size_t size = 1; size < 70; size++)
+        for (size_t align = 1; align <= 64; align *= 2)
+            for (uint32_t buckets = 1; buckets < 6; buckets++) {
+                size_t needed = bb_bytes_for(size, align, buckets);
+                EXPECT(needed == BB_BYTES_FOR(size, align, buckets));
+                bb_pool pool = BB_EMPTY, shorter = BB_EMPTY;
+                EXPECT(bb_pool_make(&pool, size, align, 4096, needed) == BB_DONE);
+                EXPECT(is(bb_pool_number_of_buckets(&pool), buckets) && bb_pool_free(&pool) == BB_DONE);
+                uint32_t told = bb_pool_make(&shorter, size, align, 4096, needed - 1);
+                EXPECT(told == (buckets == 1 ? BB_NO_BUCKET : BB_DONE));
+                EXPECT(buckets == 1 || is(bb_pool_number_of_buckets(&shorter), buckets - 1));
+                EXPECT(bb_pool_free(&shorter) == (buckets == 1 ? BB_NOT_MADE : BB_DONE));
+            }
 }
 
 static void run_bump(void) {
@@ -76,7 +119,7 @@ static void run_one_chunk(void) {
     EXPECT(given(bb_one_chunk_grow(&one, 4100, 48, 4, 64, 4), 4100, 1021));
     EXPECT(refused(bb_one_chunk_grow(&one, 4100, 64, 4, 64, 4), BB_GROW_WOULD_SHRINK));
     EXPECT(refused(bb_one_chunk_grow(&one, 4100, 48, 4, 64, 8), BB_ALIGNMENT_FAILURE));
-    EXPECT(refused(bb_one_chunk_grow(&one, 4100, 48, 4, 1022, 4), BB_OUT_OF_MEMORY));
+    EXPECT(refused(bb_one_chunk_grow(&one, 4100, 48, 4, 1022, 4), BB_MORE_THAN_RESERVED));
     EXPECT(given(bb_one_chunk_grow(&one, 4100, 48, 4, 1021, 4), 4100, 1021));
     EXPECT(refused(bb_one_chunk_grow(&one, 4100, 48, 16, 64, 16), BB_NOT_THE_OLD));
     EXPECT(refused(bb_one_chunk_grow(&one, 4104, 48, 4, 64, 4), BB_NOT_HELD));
@@ -119,7 +162,7 @@ static void run_one_chunk(void) {
         EXPECT(given(POOL##_grow(&pool, place, 48, 4, 64, 4), place, 64));                                                    \
         EXPECT(refused(POOL##_grow(&pool, place, 64, 4, 64, 4), BB_GROW_WOULD_SHRINK));                                       \
         EXPECT(refused(POOL##_grow(&pool, place, 48, 4, 129, 16), BB_ALIGNMENT_FAILURE));                                     \
-        EXPECT(refused(POOL##_grow(&pool, place, 48, 4, 129, 4), BB_OUT_OF_MEMORY));                                          \
+        EXPECT(refused(POOL##_grow(&pool, place, 48, 4, 129, 4), BB_MORE_THAN_RESERVED));                                     \
         EXPECT(refused(POOL##_grow(&pool, place, 48, 4096, 64, 4), BB_NOT_THE_OLD));                                          \
         EXPECT(refused(POOL##_grow(&pool, place + 4, 48, 4, 64, 4), BB_NOT_HELD));                                            \
         EXPECT(given(POOL##_shrink(&pool, place, 64, 4, 32, 4), place, 32));                                                  \
@@ -140,17 +183,66 @@ RUN_POOL(bb_fixed_pool)
 
 // Bucket 0 is at the region's start rounded up, and the size is the region's as it was handed in.
 static void run_starts(void) {
-    bb_pool unaligned = BB_EMPTY, empty = BB_EMPTY;
+    bb_pool unaligned = BB_EMPTY;
     EXPECT(bb_pool_make(&unaligned, 128, 64, 4097, 1024) == BB_DONE && is(bb_pool_number_of_buckets(&unaligned), 7));
     EXPECT(is(bb_pool_start_address(&unaligned), 4160) && is(bb_pool_size(&unaligned), 1024));
-    EXPECT(bb_pool_make(&empty, 128, 64, 4097, 64) == BB_DONE && is(bb_pool_number_of_buckets(&empty), 0));
-    EXPECT(refused(bb_pool_allocate(&empty, 1, 1), BB_OUT_OF_MEMORY));
     bb_shared_pool shared = BB_EMPTY;
     bb_pool_seat seat = BB_EMPTY;
     EXPECT(bb_shared_pool_make(&shared, 128, 64, 4097, 1024, 1) == BB_DONE && bb_shared_pool_seat(&shared, &seat) == BB_DONE);
     EXPECT(is(bb_pool_seat_start_address(&seat), 4160) && is(bb_pool_seat_size(&seat), 1024));
-    EXPECT(bb_pool_free(&unaligned) == BB_DONE && bb_pool_free(&empty) == BB_DONE);
+    EXPECT(bb_pool_free(&unaligned) == BB_DONE);
     EXPECT(bb_shared_pool_free(&shared) == BB_DONE && bb_pool_seat_free(&seat) == BB_DONE);
+}
+
+// A region without room for one bucket is refused, behind what can't be made at all.
+static void run_no_bucket(void) {
+    bb_pool pool = BB_EMPTY;
+    bb_fixed_pool fixed = BB_EMPTY;
+    bb_shared_pool shared = BB_EMPTY;
+    EXPECT(bb_pool_make(&pool, 128, 64, 4096, 127) == BB_NO_BUCKET && bb_pool_make(&pool, 1, 1, 4096, 0) == BB_NO_BUCKET);
+    EXPECT(bb_pool_make(&pool, 4096, 64, 64, 8) == BB_NO_BUCKET && bb_pool_make(&pool, 128, 64, 4097, 190) == BB_NO_BUCKET);
+    EXPECT(bb_fixed_pool_make(&fixed, 128, 64, 4096, 127) == BB_NO_BUCKET);
+    EXPECT(bb_shared_pool_make(&shared, 128, 64, 4096, 127, 1) == BB_NO_BUCKET);
+    EXPECT(bb_shared_pool_make(&shared, 128, 64, 4096, 127, 0) == BB_CANNOT_MAKE);
+    EXPECT(bb_pool_make(&pool, 0, 64, 4096, 0) == BB_CANNOT_MAKE && bb_pool_make(&pool, 1, 3, 4096, 0) == BB_NOT_A_LAYOUT);
+    EXPECT(bb_pool_free(&pool) == BB_NOT_MADE && bb_fixed_pool_free(&fixed) == BB_NOT_MADE);
+    EXPECT(bb_shared_pool_free(&shared) == BB_NOT_MADE);
+    EXPECT(bb_pool_make(&pool, 128, 64, 4097, 191) == BB_DONE && is(bb_pool_number_of_buckets(&pool), 1));
+    EXPECT(bb_pool_free(&pool) == BB_DONE);
+}
+
+// Asks `malloc` for at most so many bytes.
+#define WITHIN(MOST, MAKE)                                 \
+    do {                                                   \
+        bytes = 0;                                         \
+        EXPECT((MAKE) == BB_DONE && bytes <= (MOST));      \
+    } while (0)
+
+// Makers take no more memory than the header says.
+static void run_memory(void) {
+    bb_bump bump = BB_EMPTY;
+    bb_one_chunk one = BB_EMPTY;
+    WITHIN(64, bb_bump_make(&bump, 4096, 1024));
+    WITHIN(64, bb_one_chunk_make(&one, 4096, 1024));
+    EXPECT(bb_bump_free(&bump) == BB_DONE && bb_one_chunk_free(&one) == BB_DONE);
+    for (uint32_t parties = 1; parties < 6; parties++)
+        for (size_t buckets = 1; buckets < 100000; buckets = buckets * 2 + 1) {
+            bb_pool pool = BB_EMPTY;
+            bb_fixed_pool fixed = BB_EMPTY;
+            bb_shared_bump shared_bump = BB_EMPTY;
+            bb_bump_seat bump_seat = BB_EMPTY;
+            bb_shared_pool shared_pool = BB_EMPTY;
+            bb_pool_seat pool_seat = BB_EMPTY;
+            WITHIN(256 + 16 * ((buckets + 63) / 64), bb_pool_make(&pool, 8, 8, 4096, 8 * buckets));
+            WITHIN(4096, bb_fixed_pool_make(&fixed, 8, 8, 4096, 8 * buckets));
+            WITHIN(256 + 16 * parties, bb_shared_bump_make(&shared_bump, 4096, 8 * buckets, parties));
+            WITHIN(64, bb_shared_bump_seat(&shared_bump, &bump_seat));
+            WITHIN(512 + 16 * (buckets + parties), bb_shared_pool_make(&shared_pool, 8, 8, 4096, 8 * buckets, parties));
+            WITHIN(128 + buckets, bb_shared_pool_seat(&shared_pool, &pool_seat));
+            EXPECT(bb_pool_free(&pool) == BB_DONE && bb_fixed_pool_free(&fixed) == BB_DONE);
+            EXPECT(bb_shared_bump_free(&shared_bump) == BB_DONE && bb_bump_seat_free(&bump_seat) == BB_DONE);
+            EXPECT(bb_shared_pool_free(&shared_pool) == BB_DONE && bb_pool_seat_free(&pool_seat) == BB_DONE);
+        }
 }
 
 // The buckets of a freed seat stay held, and its party gets no other seat.
@@ -215,21 +307,21 @@ static void run_many_seats(void) {
         EXPECT(bb_pool_seat_free(&seats[at]) == BB_DONE);
 }
 
-// A maker answers BB_OUT_OF_MEMORY with each of its requests refused, and leaves its handle empty. With none refused it makes.
-#define WITH_EACH_REFUSED(FREE, MAKE)                                                     \
-    do {                                                                                  \
-        uint32_t told = BB_OUT_OF_MEMORY;                                                 \
-        size_t nth = 0;                                                                   \
-        while (told == BB_OUT_OF_MEMORY) {                                                \
-            EXPECT(++nth < 100);                                                          \
-            requests = 0;                                                                 \
-            to_refuse = nth;                                                              \
-            told = (MAKE);                                                                \
-            to_refuse = 0;                                                                \
-            EXPECT(told == BB_DONE || (told == BB_OUT_OF_MEMORY && requests == nth));     \
-            EXPECT(told == BB_DONE || (FREE) == BB_NOT_MADE);                             \
-        }                                                                                 \
-        EXPECT(told == BB_DONE && requests == nth - 1 && nth > 1);                        \
+// A maker answers BB_MALLOC_REFUSED with each of its requests refused, and leaves its handle empty. With none refused it makes.
+#define WITH_EACH_REFUSED(FREE, MAKE)                                                   \
+    do {                                                                                \
+        uint32_t told = BB_MALLOC_REFUSED;                                              \
+        size_t nth = 0;                                                                 \
+        while (told == BB_MALLOC_REFUSED) {                                             \
+            EXPECT(++nth < 100);                                                        \
+            requests = 0;                                                               \
+            to_refuse = nth;                                                            \
+            told = (MAKE);                                                              \
+            to_refuse = 0;                                                              \
+            EXPECT(told == BB_DONE || (told == BB_MALLOC_REFUSED && requests == nth));  \
+            EXPECT(told == BB_DONE || (FREE) == BB_NOT_MADE);                           \
+        }                                                                               \
+        EXPECT(told == BB_DONE && requests == nth - 1 && nth > 1);                      \
     } while (0)
 
 static void run_makers(void) {
@@ -261,7 +353,7 @@ static void run_makers(void) {
     EXPECT(is(bb_bump_seat_used_space(&bump_seats[1]), 40) && is(bb_bump_seat_free_space(&bump_seats[1]), 984));
     EXPECT(given(bb_pool_seat_allocate(&pool_seats[0], 48, 4), 4096, 48));
     EXPECT(given(bb_pool_seat_grow(&pool_seats[0], 4096, 48, 4, 64, 4), 4096, 64));
-    EXPECT(refused(bb_pool_seat_grow(&pool_seats[0], 4096, 64, 4, 129, 8), BB_OUT_OF_MEMORY));
+    EXPECT(refused(bb_pool_seat_grow(&pool_seats[0], 4096, 64, 4, 129, 8), BB_MORE_THAN_RESERVED));
     EXPECT(refused(bb_pool_seat_grow(&pool_seats[0], 4096, 48, 8192, 64, 4), BB_NOT_THE_OLD));
     EXPECT(refused(bb_pool_seat_grow(&pool_seats[1], 4096, 48, 4, 64, 4), BB_NOT_HELD));
     EXPECT(given(bb_pool_seat_shrink(&pool_seats[0], 4096, 64, 4, 32, 4), 4096, 32));
@@ -282,11 +374,15 @@ static void run_makers(void) {
 
 int main(void) {
     run_version();
+    run_texts();
+    run_bytes();
     run_bump();
     run_one_chunk();
     run_bb_pool();
     run_bb_fixed_pool();
     run_starts();
+    run_no_bucket();
+    run_memory();
     run_freed_pool_seat();
     run_freed_bump_seat();
     run_large();

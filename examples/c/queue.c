@@ -11,10 +11,12 @@
 
 enum { SENDERS = 4, MESSAGES = 500, BUCKETS = 16, BUCKET_SIZE = 64 };
 
-static _Alignas(64) unsigned char buffer[BUCKETS * BUCKET_SIZE + 1024];
+enum { POOL_SIZE = BB_BYTES_FOR(BUCKET_SIZE, 8, BUCKETS), SLOTS_SIZE = 1024 };
+
+static uint64_t buffer[(POOL_SIZE + SLOTS_SIZE) / 8];
 
 // What waits: where each message begins, and how long it is, in a ring of as many slots as there are buckets.
-typedef struct { size_t place; size_t len; } slot;
+typedef struct { unsigned char *message; size_t len; } slot;
 
 typedef struct {
     pthread_mutex_t lock;
@@ -47,11 +49,11 @@ static void *send_all(void *argument) {
         expect(given.code == BB_DONE, "a bucket is given");
         pthread_mutex_unlock(&shared.lock);
 
-        unsigned char *message = (unsigned char *)given.place;
-        memset(message, byte_of(sender, number), given.len);
+        slot next = {(unsigned char *)given.place, given.len};
+        memset(next.message, byte_of(sender, number), next.len);
 
         pthread_mutex_lock(&shared.lock);
-        shared.slots[(shared.first + shared.count) % BUCKETS] = (slot){given.place, given.len};
+        shared.slots[(shared.first + shared.count) % BUCKETS] = next;
         shared.count++;
         pthread_cond_broadcast(&shared.changed);
         pthread_mutex_unlock(&shared.lock);
@@ -69,27 +71,25 @@ static void receive_all(void) {
         shared.count--;
         pthread_mutex_unlock(&shared.lock);
 
-        const unsigned char *message = (const unsigned char *)next.place;
         for (size_t at = 1; at < next.len; at++)
-            expect(message[at] == message[0], "a message is what one sender wrote");
+            expect(next.message[at] == next.message[0], "a message is what one sender wrote");
 
         pthread_mutex_lock(&shared.lock);
-        expect(bb_pool_deallocate(&shared.pool, next.place + 1) == BB_NOT_HELD, "a wild return is refused");
-        expect(bb_pool_deallocate(&shared.pool, next.place) == BB_DONE, "a bucket is given back");
+        expect(bb_pool_deallocate(&shared.pool, next.message + 1) == BB_NOT_HELD, "a wild return is refused");
+        expect(bb_pool_deallocate(&shared.pool, next.message) == BB_DONE, "a bucket is given back");
         pthread_cond_broadcast(&shared.changed);
         pthread_mutex_unlock(&shared.lock);
     }
 }
 
 static void run_queue(void) {
-    size_t start = (size_t)(uintptr_t)buffer;
-    expect(bb_pool_make(&shared.pool, BUCKET_SIZE, 8, start, BUCKETS * BUCKET_SIZE) == BB_DONE, "a pool is made");
-    expect(bb_pool_make(&shared.pool, BUCKET_SIZE, 8, start, 64) == BB_ALREADY_MADE, "a handle holds one");
+    expect(bb_pool_make(&shared.pool, BUCKET_SIZE, 8, buffer, POOL_SIZE) == BB_DONE, "a pool is made");
+    expect(bb_pool_make(&shared.pool, BUCKET_SIZE, 8, buffer, 64) == BB_ALREADY_MADE, "a handle holds one");
     expect(bb_pool_number_of_buckets(&shared.pool).number == BUCKETS, "the buffer has room for the buckets");
 
     bb_bump bump = BB_EMPTY;
-    expect(bb_bump_make(&bump, start + BUCKETS * BUCKET_SIZE, 1024) == BB_DONE, "a bump is made");
-    bb_answer slots = bb_bump_allocate(&bump, BUCKETS * sizeof(slot), _Alignof(slot));
+    expect(bb_bump_make(&bump, (unsigned char *)buffer + POOL_SIZE, SLOTS_SIZE) == BB_DONE, "a bump is made");
+    bb_answer slots = bb_bump_allocate(&bump, BUCKETS * sizeof(slot), sizeof(size_t));
     expect(slots.code == BB_DONE && slots.len == BUCKETS * sizeof(slot), "the slots have room");
     shared.slots = (slot *)slots.place;
 
@@ -104,22 +104,27 @@ static void run_queue(void) {
     expect(bb_bump_free(&bump) == BB_DONE, "a bump is freed");
 }
 
-// Some refusals of a fixed pool.
+// Some refusals of a fixed pool, which lies in a chunk of a bump.
 static void run_refusals(void) {
+    bb_bump bump = BB_EMPTY;
+    expect(bb_bump_make(&bump, buffer, sizeof buffer) == BB_DONE, "a bump is made");
+    bb_answer region = bb_bump_allocate(&bump, 1024, 8);
+    expect(region.code == BB_DONE, "the bump has room");
+
     bb_fixed_pool pool = BB_EMPTY;
     expect(bb_fixed_pool_allocate(&pool, 1, 1).code == BB_NOT_MADE, "nothing is made");
-    expect(bb_fixed_pool_make(&pool, 128, 3, 4096, 1024) == BB_NOT_A_LAYOUT, "3 is no power of two");
-    expect(bb_fixed_pool_make(&pool, 128, 8, 0, 1024) == BB_CANNOT_MAKE, "a region doesn't start at 0");
-    expect(bb_fixed_pool_make(&pool, 128, 8, 4096, 1024) == BB_DONE, "eight buckets");
+    expect(bb_fixed_pool_make(&pool, 128, 3, region.place, 1024) == BB_NOT_A_LAYOUT, "3 is no power of two");
+    expect(bb_fixed_pool_make(&pool, 128, 8, NULL, 1024) == BB_CANNOT_MAKE, "a region doesn't start at 0");
+    expect(bb_fixed_pool_make(&pool, 128, 8, region.place, region.len) == BB_DONE, "eight buckets");
     expect(bb_fixed_pool_number_of_buckets(&pool).number == 8, "eight buckets");
     expect(bb_fixed_pool_allocate(&pool, 129, 8).code == BB_SIZE_TOO_LARGE, "129 bytes are too many");
     expect(bb_fixed_pool_allocate(&pool, 128, 16).code == BB_ALIGNMENT_FAILURE, "16 is too wide");
     bb_answer given = bb_fixed_pool_allocate(&pool, 48, 4);
-    expect(given.code == BB_DONE && given.len == 48 && given.place % 8 == 0, "48 bytes are given");
+    expect(given.code == BB_DONE && given.len == 48 && (size_t)given.place % 8 == 0, "48 bytes are given");
     expect(bb_fixed_pool_holds(&pool, given.place).number == 1, "the bucket is held");
     expect(bb_fixed_pool_deallocate(&pool, given.place) == BB_DONE, "the bucket is given back");
     expect(bb_fixed_pool_deallocate(&pool, given.place) == BB_NOT_HELD, "a second return is refused");
-    expect(bb_fixed_pool_free(&pool) == BB_DONE, "a pool is freed");
+    expect(bb_fixed_pool_free(&pool) == BB_DONE && bb_bump_free(&bump) == BB_DONE, "both are freed");
 }
 
 int main(void) {

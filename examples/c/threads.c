@@ -3,9 +3,9 @@
 //
 // A return of a bucket comes before its next taking, by steps in the library. ThreadSanitizer doesn't see these, since the
 // library isn't built for it, so they are told to it.
+#define _POSIX_C_SOURCE 200809L
 #include <pthread.h>
 #include <sched.h>
-#include <stdatomic.h>
 #include <stdint.h>
 #include <stdio.h>
 #include <stdlib.h>
@@ -14,15 +14,15 @@
 
 enum { THREADS = 4, ROUNDS = 20000, HELD = 2, BUCKETS = 8, BUCKET_SIZE = 64, SHARE = 40, CHUNKS = 20000, CHUNK = 8 };
 
-static _Alignas(64) uint64_t pool_words[BUCKETS * BUCKET_SIZE / 8];
-static _Alignas(64) uint64_t bump_words[THREADS * CHUNKS * CHUNK / 8];
+static uint64_t pool_words[BUCKETS * BUCKET_SIZE / 8];
+static uint64_t bump_words[THREADS * CHUNKS * CHUNK / 8];
 
 typedef struct {
     size_t number;
     bb_pool_seat pool;
     bb_bump_seat bump;
     size_t taken;
-    size_t places[CHUNKS];
+    void *places[CHUNKS];
 } worker;
 
 static worker workers[THREADS];
@@ -36,16 +36,22 @@ static worker workers[THREADS];
 #endif
 
 #ifdef HAS_THREAD_SANITIZER
+#ifdef __cplusplus
+extern "C" {
+#endif
 void __tsan_acquire(void *at);
 void __tsan_release(void *at);
+#ifdef __cplusplus
+}
+#endif
 
-static void tell_taking(size_t place) { __tsan_acquire((void *)place); }
+static void tell_taking(void *place) { __tsan_acquire(place); }
 
-static void tell_return(size_t place) { __tsan_release((void *)place); }
+static void tell_return(void *place) { __tsan_release(place); }
 #else
-static void tell_taking(size_t place) { (void)place; }
+static void tell_taking(void *place) { (void)place; }
 
-static void tell_return(size_t place) { (void)place; }
+static void tell_return(void *place) { (void)place; }
 #endif
 
 static void expect(int holds, const char *what) {
@@ -59,13 +65,13 @@ static void expect(int holds, const char *what) {
 static uint64_t pattern_of(const worker *self, size_t chunk) { return chunk * THREADS + self->number + 1; }
 
 // A chunk's length is a multiple of a word's. The checker of threads keeps few accesses of each word, so it is written whole.
-static void fill(size_t place, size_t len, uint64_t pattern) {
+static void fill(void *place, size_t len, uint64_t pattern) {
     uint64_t *words = (uint64_t *)place;
     for (size_t at = 0; at < len / sizeof *words; at++)
         words[at] = pattern;
 }
 
-static void expect_filled(size_t place, size_t len, uint64_t pattern) {
+static void expect_filled(const void *place, size_t len, uint64_t pattern) {
     const uint64_t *words = (const uint64_t *)place;
     for (size_t at = 0; at < len / sizeof *words; at++)
         expect(words[at] == pattern, "a chunk has what its own thread wrote");
@@ -73,13 +79,14 @@ static void expect_filled(size_t place, size_t len, uint64_t pattern) {
 
 // Takes so many buckets, and holds up to two at a time. Where it finds none free, it lets others run and looks again.
 static void use_pool(worker *self) {
-    size_t places[HELD], held = 0;
+    void *places[HELD];
+    size_t held = 0;
     uint64_t patterns[HELD];
     while (self->taken < ROUNDS) {
         bb_answer given = bb_pool_seat_allocate(&self->pool, SHARE, 8);
         expect(given.code == BB_DONE || given.code == BB_OUT_OF_MEMORY, "a bucket is given, or none is free");
         if (given.code == BB_DONE) {
-            expect(given.len == SHARE && given.place % 8 == 0, "a chunk is as it was asked for");
+            expect(given.len == SHARE && (size_t)given.place % 8 == 0, "a chunk is as it was asked for");
             expect(bb_pool_seat_holds(&self->pool, given.place).number == 1, "a seat holds what it took");
             tell_taking(given.place);
             places[held] = given.place;
@@ -93,7 +100,7 @@ static void use_pool(worker *self) {
         if (held == HELD || (given.code == BB_OUT_OF_MEMORY && held > 0)) {
             held--;
             expect_filled(places[held], SHARE, patterns[held]);
-            expect(bb_pool_seat_deallocate(&self->pool, places[held] + 1) == BB_NOT_HELD, "a wild return is refused");
+            expect(bb_pool_seat_deallocate(&self->pool, (char *)places[held] + 1) == BB_NOT_HELD, "a wild return is refused");
             tell_return(places[held]);
             expect(bb_pool_seat_deallocate(&self->pool, places[held]) == BB_DONE, "a bucket is given back");
             expect(bb_pool_seat_deallocate(&self->pool, places[held]) == BB_NOT_HELD, "a second return is refused");
@@ -111,7 +118,7 @@ static void use_bump(worker *self) {
     size_t seen = 0;
     for (size_t chunk = 0; chunk < CHUNKS; chunk++) {
         bb_answer given = bb_bump_seat_allocate(&self->bump, CHUNK, 8);
-        expect(given.code == BB_DONE && given.len == CHUNK && given.place % 8 == 0, "the bump has room for all");
+        expect(given.code == BB_DONE && given.len == CHUNK && (size_t)given.place % 8 == 0, "the bump has room for all");
         self->places[chunk] = given.place;
         fill(given.place, CHUNK, pattern_of(self, chunk));
         bb_figure used = bb_bump_seat_used_space(&self->bump);
@@ -120,34 +127,26 @@ static void use_bump(worker *self) {
     }
 }
 
-static atomic_size_t started;
-
-// Waits until so many have come here, of all threads together.
-static void together(size_t all) {
-    atomic_fetch_add(&started, 1);
-    while (atomic_load(&started) < all)
-        sched_yield();
-}
+static pthread_barrier_t start;
 
 // All begin each part together.
 static void *work(void *argument) {
-    worker *self = argument;
-    together(THREADS);
+    worker *self = (worker *)argument;
+    pthread_barrier_wait(&start);
     use_pool(self);
-    together(2 * THREADS);
+    pthread_barrier_wait(&start);
     use_bump(self);
     return NULL;
 }
 
 static void make(bb_shared_pool *pool, bb_shared_bump *bump) {
-    size_t pool_start = (size_t)(uintptr_t)pool_words, bump_start = (size_t)(uintptr_t)bump_words;
-    expect(bb_shared_pool_make(pool, BUCKET_SIZE, 8, pool_start, sizeof pool_words, 0) == BB_CANNOT_MAKE, "a party is there");
-    expect(bb_shared_pool_make(pool, BUCKET_SIZE, 3, pool_start, 64, 1) == BB_NOT_A_LAYOUT, "3 is no power of two");
-    expect(bb_shared_pool_make(pool, 0, 8, pool_start, 64, 1) == BB_CANNOT_MAKE, "a bucket has a byte");
-    expect(bb_shared_pool_make(pool, BUCKET_SIZE, 8, pool_start, sizeof pool_words, THREADS) == BB_DONE, "a pool is made");
-    expect(bb_shared_pool_make(pool, BUCKET_SIZE, 8, pool_start, 64, 1) == BB_ALREADY_MADE, "a handle holds one");
-    expect(bb_shared_bump_make(bump, 0, 64, 1) == BB_CANNOT_MAKE, "a region doesn't start at 0");
-    expect(bb_shared_bump_make(bump, bump_start, sizeof bump_words, THREADS) == BB_DONE, "a bump is made");
+    expect(bb_shared_pool_make(pool, BUCKET_SIZE, 8, pool_words, sizeof pool_words, 0) == BB_CANNOT_MAKE, "a party is there");
+    expect(bb_shared_pool_make(pool, BUCKET_SIZE, 3, pool_words, 64, 1) == BB_NOT_A_LAYOUT, "3 is no power of two");
+    expect(bb_shared_pool_make(pool, 0, 8, pool_words, 64, 1) == BB_CANNOT_MAKE, "a bucket has a byte");
+    expect(bb_shared_pool_make(pool, BUCKET_SIZE, 8, pool_words, sizeof pool_words, THREADS) == BB_DONE, "a pool is made");
+    expect(bb_shared_pool_make(pool, BUCKET_SIZE, 8, pool_words, 64, 1) == BB_ALREADY_MADE, "a handle holds one");
+    expect(bb_shared_bump_make(bump, NULL, 64, 1) == BB_CANNOT_MAKE, "a region doesn't start at 0");
+    expect(bb_shared_bump_make(bump, bump_words, sizeof bump_words, THREADS) == BB_DONE, "a bump is made");
 
     unsigned seats = 0;
     for (size_t number = 0; number < THREADS; number++) {
@@ -178,7 +177,7 @@ static void one_by_one(void) {
     expect(bb_pool_seat_allocate(mine, BUCKET_SIZE + 1, 16).code == BB_SIZE_TOO_LARGE, "65 bytes are too many");
     expect(bb_pool_seat_allocate(mine, 1, 16).code == BB_ALIGNMENT_FAILURE, "16 is too wide");
     expect(bb_pool_seat_allocate(mine, 1, 3).code == BB_NOT_A_LAYOUT, "3 is no power of two");
-    size_t places[BUCKETS];
+    void *places[BUCKETS];
     for (size_t bucket = 0; bucket < BUCKETS; bucket++) {
         bb_answer given = bb_pool_seat_allocate(mine, SHARE, 8);
         expect(given.code == BB_DONE && given.len == SHARE, "a bucket is given");
@@ -210,6 +209,7 @@ int main(void) {
     expect(bb_shared_pool_free(&pool) == BB_DONE && bb_shared_pool_free(&pool) == BB_NOT_MADE, "a pool's handle is freed once");
 
     pthread_t threads[THREADS];
+    expect(pthread_barrier_init(&start, NULL, THREADS) == 0, "threads can wait for one another");
     for (size_t number = 0; number < THREADS; number++)
         expect(pthread_create(&threads[number], NULL, work, &workers[number]) == 0, "a thread starts");
     for (size_t number = 0; number < THREADS; number++)

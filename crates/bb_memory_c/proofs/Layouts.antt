@@ -8,7 +8,7 @@ use Rattle.bb_memory_base.specs.declared.layout.Layout.{Layout}
 use Rattle.bb_memory_base.specs.Region.{Region}
 use Rattle.bb_memory_base.proofs.Layouts.{same_layout}
 use Rattle.bb_memory.specs.Pool.{MayBeCut}
-use Rattle.bb_memory_c.specs.Layouts.{CannotCut, FailsOf, IsCuttable, IsOf, MayBeShared}
+use Rattle.bb_memory_c.specs.Layouts.{CannotCut, FailsOf, HasRoom, IsCuttable, IsOf, LacksRoomOf, MayBeShared}
 
 -- what is made of the numbers of a layout is that layout
 pub made_of : {E : Type 0} (r : Result Layout E) (size align : ℕ) (layout : Layout)
@@ -46,6 +46,23 @@ cut-or-not size align region bucket is not =
     let same = same_layout bucket not.0 (is.layout.0 ∙ sym not.1.0) (is.layout.1 ∙ sym not.1.1) in
     absurd (not.2 (subst (λ (b : Layout). MayBeCut region b) same is.may))
 
+-- what lacks room can be cut
+pub lacks-cut : {X : Type 0} (size align : ℕ) (region : Region) → LacksRoomOf size align (MayBeCut region) (HasRoom region) →
+    CannotCut size align region → X
+lacks-cut size align region lacks not =
+    cut-or-not size align region lacks.0 record { layout = lacks.1; may = lacks.2 } not
+
+-- what lacks room has a layout
+pub lacks-layout : (size align : ℕ) (may room : Layout → Type 0) → LacksRoomOf size align may room → IsLayout size align
+lacks-layout size align may room lacks = is_layout size align lacks.0 lacks.1
+
+-- one layout can't both have room and not
+pub room-or-not : {X : Type 0} (size align : ℕ) (may room : Layout → Type 0) (bucket : Layout) → IsOf size align bucket →
+    room bucket → LacksRoomOf size align may room → X
+room-or-not size align may room bucket is has lacks =
+    let same = same_layout bucket lacks.0 (is.0 ∙ sym lacks.1.0) (is.1 ∙ sym lacks.1.1) in
+    absurd (lacks.3 (subst (λ (b : Layout). room b) same has))
+
 -- what can't be cut can't be shared
 pub cut-share : (size align : ℕ) (region : Region) (parties : ℕ) → CannotCut size align region →
     FailsOf size align (MayBeShared region parties)
@@ -57,6 +74,12 @@ pub share-or-not : {X : Type 0} (size align : ℕ) (region : Region) (parties : 
 share-or-not size align region parties bucket is one not =
     let same = same_layout bucket not.0 (is.layout.0 ∙ sym not.1.0) (is.layout.1 ∙ sym not.1.1) in
     absurd (not.2 (one, subst (λ (b : Layout). MayBeCut region b) same is.may))
+
+-- what lacks room to be shared lacks room to be cut
+pub lacks-share : (size align : ℕ) (region : Region) (parties : ℕ) →
+    LacksRoomOf size align (MayBeShared region parties) (HasRoom region) →
+    LacksRoomOf size align (MayBeCut region) (HasRoom region)
+lacks-share size align region parties lacks = (lacks.0, lacks.1, lacks.2.1, lacks.3)
 
 -- what can't be shared has a layout
 pub share-layout : (size align : ℕ) (region : Region) (parties : ℕ) → FailsOf size align (MayBeShared region parties) →

@@ -10,7 +10,7 @@ use Rattle.bb_memory_base.specs.declared.allocator.AllocationGrowError.{Allocati
 use Rattle.bb_memory_base.specs.declared.allocator.AllocationGrowError.TheVariants as grow
 use Rattle.bb_memory_base.specs.declared.allocator.AllocationShrinkError.{AllocationShrinkError}
 use Rattle.bb_memory_base.specs.declared.allocator.AllocationShrinkError.TheVariants as shrink
-use Rattle.bb_memory_c.specs.Codes.{done, size_is_zero, size_too_large, alignment_failure, out_of_memory, grow_would_shrink, shrink_would_grow, not_held, not_the_old}
+use Rattle.bb_memory_c.specs.Codes.{done, size_is_zero, size_too_large, alignment_failure, out_of_memory, grow_would_shrink, more_than_reserved, shrink_would_grow, not_held, not_the_old}
 
 -- nothing was given, by this code
 abbrev pub refused : ℕ → Answer
@@ -41,7 +41,7 @@ no_figure code = record { code = code; number = 0 }
 abbrev pub grow_code : AllocationGrowError → ℕ
 grow_code grow.GrowWouldShrink = grow_would_shrink
 grow_code grow.AlignmentFailure = alignment_failure
-grow_code grow.OutOfMemory = out_of_memory
+grow_code grow.OutOfMemory = more_than_reserved
 
 abbrev pub grow_answer : Result Chunk AllocationGrowError → Answer
 grow_answer (Ok chunk) = record { code = done; place = chunk.place; len = chunk.len }

@@ -10,8 +10,8 @@ use Rattle.bb_memory_base.specs.declared.allocator.AllocationShrinkError.{Alloca
 use Rattle.bb_memory_c.specs.declared.answer.Answer.{Answer}
 use Rattle.bb_memory_c.specs.declared.answer.Figure.{Figure}
 use Rattle.bb_memory_c.specs.Answers.{TellsGrow, TellsShrink, answer_of, figure_of, no_figure, refused}
-use Rattle.bb_memory_c.specs.Codes.{already_made, cannot_make, done, not_a_layout, not_held, not_made, no_seat, out_of_memory}
-use Rattle.bb_memory_c.specs.Layouts.{FailsOf, IsOf}
+use Rattle.bb_memory_c.specs.Codes.{already_made, cannot_make, done, malloc_refused, not_a_layout, not_held, not_made, no_bucket, no_seat}
+use Rattle.bb_memory_c.specs.Layouts.{FailsOf, IsOf, LacksRoomOf}
 
 -- FIGURES
 
@@ -100,17 +100,19 @@ pub record AnswersMake {X : Type 0} (old new : Option X) (code : ℕ) (may : Typ
   pub made : code ≡ done → may × fresh new
   pub held_one : (code ≡ already_made) ↔ (old ≢ None)
   pub cannot : (code ≡ cannot_make) ↔ ((old ≡ None) × (¬ may))
-  pub else_memory : code ≢ done → code ≢ already_made → code ≢ cannot_make → code ≡ out_of_memory
+  pub else_memory : code ≢ done → code ≢ already_made → code ≢ cannot_make → code ≡ malloc_refused
   pub kept : code ≢ done → new ≡ old
 
--- The same of one that is cut into buckets, whose layout is made of two of its numbers.
-pub record AnswersPoolMake {X : Type 0} (old new : Option X) (size align : ℕ) (code : ℕ) (may : Layout → Type 0)
+-- The same of one that is cut into buckets, whose layout is made of two of its numbers, where there is room for one.
+pub record AnswersPoolMake {X : Type 0} (old new : Option X) (size align : ℕ) (code : ℕ) (may room : Layout → Type 0)
     (fresh : Layout → Option X → Type 0) : Type 0 where
-  pub made : code ≡ done → (bucket : Layout) × IsOf size align bucket × may bucket × fresh bucket new
+  pub made : code ≡ done → (bucket : Layout) × IsOf size align bucket × may bucket × room bucket × fresh bucket new
   pub held_one : (code ≡ already_made) ↔ (old ≢ None)
   pub no_layout : (code ≡ not_a_layout) ↔ ((old ≡ None) × (¬ IsLayout size align))
   pub cannot : (code ≡ cannot_make) ↔ ((old ≡ None) × FailsOf size align may)
-  pub else_memory : code ≢ done → code ≢ already_made → code ≢ not_a_layout → code ≢ cannot_make → code ≡ out_of_memory
+  pub no_room : (code ≡ no_bucket) ↔ ((old ≡ None) × LacksRoomOf size align may room)
+  pub else_memory : code ≢ done → code ≢ already_made → code ≢ not_a_layout → code ≢ cannot_make → code ≢ no_bucket
+      → code ≡ malloc_refused
   pub kept : code ≢ done → new ≡ old
 
 -- the handle is empty then, and C is told whether it was
@@ -126,11 +128,11 @@ pub record GivesSeat {X Y : Type 0} (old new : Option X) (old_seat new_seat : Op
   pub held_one : (code ≡ already_made) ↔ (old_seat ≢ None)
   pub empty : (code ≡ not_made) ↔ ((old_seat ≡ None) × (old ≡ None))
   pub none_left : IfSome old (λ made. (code ≡ no_seat) ↔ ((old_seat ≡ None) × (left made ≡ 0)))
-  pub else_memory : code ≢ done → code ≢ already_made → code ≢ not_made → code ≢ no_seat → code ≡ out_of_memory
+  pub else_memory : code ≢ done → code ≢ already_made → code ≢ not_made → code ≢ no_seat → code ≡ malloc_refused
   pub kept : code ≢ done → (new ≡ old) × (new_seat ≡ old_seat)
 
 -- A seat is made for the last party that has none, if one is left and memory isn't refused.
 pub record TakesSeat {Y : Type 0} (old_left new_left : ℕ) (told : Result Y ℕ) : Type 0 where
   pub seated : IfOk told (λ _. old_left ≡ new_left + 1)
   pub none_left : (told ≡ Err no_seat) ↔ (old_left ≡ 0)
-  pub else_memory : IfErr told (λ code. code ≢ no_seat → code ≡ out_of_memory)
+  pub else_memory : IfErr told (λ code. code ≢ no_seat → code ≡ malloc_refused)

@@ -17,7 +17,7 @@ size_too_large = 2
 abbrev pub alignment_failure : ℕ
 alignment_failure = 3
 
--- there is no room left, or memory was refused
+-- there is no room left
 abbrev pub out_of_memory : ℕ
 out_of_memory = 4
 
@@ -56,3 +56,15 @@ no_seat = 12
 -- the chunk can't have the old layout
 abbrev pub not_the_old : ℕ
 not_the_old = 13
+
+-- memory was refused
+abbrev pub malloc_refused : ℕ
+malloc_refused = 14
+
+-- the new size is greater than what is reserved
+abbrev pub more_than_reserved : ℕ
+more_than_reserved = 15
+
+-- the region has no room for one bucket
+abbrev pub no_bucket : ℕ
+no_bucket = 16

@@ -1,6 +1,7 @@
 -- Layouts of two numbers that C hands in.
 use Rattle.std.specs.Prelude.{◌≡◌, ◌≤◌, ℕ}
 use Rattle.bb_memory_base.specs.Region.{Region}
+use Rattle.bb_memory_base.specs.PoolGeometry.{HasBucket}
 use Rattle.bb_memory_base.specs.declared.layout.Layout.{Layout}
 use Rattle.bb_memory.specs.Pool.{MayBeCut}
 
@@ -20,6 +21,14 @@ FailsOf size align may = (bucket : Layout) × IsOf size align bucket × (¬ may 
 -- there is one by which the region may not be cut
 abbrev pub CannotCut : ℕ → ℕ → Region → Type 0
 CannotCut size align region = FailsOf size align (MayBeCut region)
+
+-- there is room for a bucket, namely for the first one
+abbrev pub HasRoom : Region → Layout → Type 0
+HasRoom region bucket = HasBucket region bucket 0
+
+-- there is a layout of these numbers that may be so, and there is no room for it
+abbrev pub LacksRoomOf : ℕ → ℕ → (Layout → Type 0) → (Layout → Type 0) → Type 0
+LacksRoomOf size align may room = (bucket : Layout) × IsOf size align bucket × may bucket × (¬ room bucket)
 
 -- there is at least one party, and the region may be cut so
 abbrev pub MayBeShared : Region → ℕ → Layout → Type 0

@@ -68,7 +68,7 @@ impl Answer {
             Err(AllocationGrowError::AlignmentFailure) => {
                 Answer::refusal(code::ALIGNMENT_FAILURE)
             }
-            Err(AllocationGrowError::OutOfMemory) => Answer::refusal(code::OUT_OF_MEMORY),
+            Err(AllocationGrowError::OutOfMemory) => Answer::refusal(code::MORE_THAN_RESERVED),
         }
     }
 

@@ -8,7 +8,7 @@ ghost use Rattle.bb_memory_base.specs.declared.allocator.AllocationError.{Alloca
 ghost use Rattle.bb_memory_c.specs.Answers.{TellsGrow, TellsShrink, answer_of, figure_of, no_figure, refused};
 ghost use Rattle.bb_memory_c.specs.Calls.{AnswersFree, AnswersGrow, AnswersRequest, AnswersReturn, AnswersShrink};
 ghost use Rattle.bb_memory_c.specs.Calls.{TellsOfHeld, TellsWhether, resize};
-ghost use Rattle.bb_memory_c.specs.Codes.{done, not_a_layout, not_held, not_made, out_of_memory};
+ghost use Rattle.bb_memory_c.specs.Codes.{done, malloc_refused, not_a_layout, not_held, not_made};
 ghost use Rattle.bb_memory_c.specs.Layouts.{IsOf};
 
 use crate::answer::{Answer, Figure};
@@ -33,15 +33,15 @@ pub(crate) fn is_made<H: Handle>(handle: &mut H, alloc: Global) -> bool
     }
 }
 
-/// Puts what was made behind an empty handle, in memory of its own. The answer is 0, or `BB_OUT_OF_MEMORY`, and then the handle
+/// Puts what was made behind an empty handle, in memory of its own. The answer is 0, or `BB_MALLOC_REFUSED`, and then the handle
 /// stays empty.
 pub(crate) fn keep<H: Handle>(handle: &mut H, alloc: Global, made: H::Made) -> u32
     requires { H.made handle.old ≡ None }
     ensures done { result ≡ done → H.made handle.new ≡ Some made }
-    ensures refused { result ≢ done → (result ≡ out_of_memory) × (H.made handle.new ≡ None) }
+    ensures refused { result ≢ done → (result ≡ malloc_refused) × (H.made handle.new ≡ None) }
 {
     let Ok(made) = Box::new(alloc, made) else {
-        return code::OUT_OF_MEMORY;
+        return code::MALLOC_REFUSED;
     };
     handle.put(made);
     code::DONE

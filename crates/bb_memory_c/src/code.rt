@@ -33,3 +33,12 @@ pub(crate) const NO_SEAT: u32 = 12;
 
 /// The chunk can't have the old layout: its place isn't a multiple of the alignment, or the size is more than is reserved.
 pub(crate) const NOT_THE_OLD: u32 = 13;
+
+/// `malloc` refused.
+pub(crate) const MALLOC_REFUSED: u32 = 14;
+
+/// The new size is greater than what is reserved.
+pub(crate) const MORE_THAN_RESERVED: u32 = 15;
+
+/// The region has no room for one bucket.
+pub(crate) const NO_BUCKET: u32 = 16;

@@ -5,6 +5,7 @@ ghost use Rattle.bb_memory_base.specs.Region.{region_at};
 ghost use Rattle.bb_memory.specs.Pool.{Frees, HoldsPlace, MayBeCut, Takes};
 ghost use Rattle.bb_memory_c.specs.Calls.{AnswersFree, AnswersGrow, AnswersPoolMake, AnswersRequest, AnswersReturn};
 ghost use Rattle.bb_memory_c.specs.Calls.{AnswersShrink, TellsFigure, TellsOfHeld, TellsWhether, resize};
+ghost use Rattle.bb_memory_c.specs.Layouts.{HasRoom};
 ghost use Rattle.bb_memory_c.specs.Pools.{MakesFixedPool};
 
 use crate::answer::{Answer, Figure};
@@ -12,7 +13,7 @@ use crate::call::{free, give_back, grow, holds, is_made, keep, request, reserved
 use crate::code;
 use crate::handle::FixedPoolHandle;
 use crate::kind::{Gives, Keeps};
-use crate::layout::cut_into;
+use crate::layout::{cut_into, has_room};
 use bb_memory::layout::{Chunk, Layout};
 use bb_memory::pool_allocator::{
     AllocationError, AllocationGrowError, AllocationShrinkError, Allocator, BaseAllocator,
@@ -21,7 +22,7 @@ use bb_memory::pool_allocator::{
 use std::alloc::Global;
 
 /// Makes a pool over the region of `size` bytes at `start`, behind a handle that has to be empty. The region is cut into
-/// buckets of `bucket_size` bytes at multiples of `bucket_align`, at most 512 of them.
+/// buckets of `bucket_size` bytes at multiples of `bucket_align`, at most 512 of them, and has to have room for one.
 ///
 /// C guarantees of the handle what the crate's page says.
 #[unsafe(no_mangle)]
@@ -34,7 +35,8 @@ pub extern "C" fn bb_fixed_pool_make(
     size: usize,
 ) -> u32
     ensures { AnswersPoolMake handle.old.value handle.new.value bucket_size bucket_align result
-        (MayBeCut (region_at start size)) (MakesFixedPool (region_at start size)) }
+        (MayBeCut (region_at start size)) (HasRoom (region_at start size))
+        (MakesFixedPool (region_at start size)) }
 {
     if is_made(handle, alloc) {
         return code::ALREADY_MADE;
@@ -43,6 +45,9 @@ pub extern "C" fn bb_fixed_pool_make(
         Ok(bucket) => bucket,
         Err(code) => return code,
     };
+    if !has_room(bucket, start, size) {
+        return code::NO_BUCKET;
+    }
     keep(
         handle,
         alloc,

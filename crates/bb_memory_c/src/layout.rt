@@ -1,14 +1,15 @@
 //! Layouts of two numbers that C hands in.
-ghost use Rattle.std.specs.Prelude.{◌≡◌, ◌≢◌, ◌↔◌, IfOk, IfErr, IfSome, None, Some, Err};
+ghost use Rattle.std.specs.Prelude.{◌≡◌, ◌≢◌, ◌↔◌, IfOk, IfErr, IfSome, IsTrue, None, Some, Err};
 ghost use Rattle.std.specs.Align.{IsLayout};
 ghost use Rattle.bb_memory_base.specs.declared.layout.Layout.{Layout as Asked};
 ghost use Rattle.bb_memory_base.specs.Region.{region_at};
 ghost use Rattle.bb_memory_c.specs.Codes.{cannot_make, not_a_layout};
-ghost use Rattle.bb_memory_c.specs.Layouts.{CannotCut, IsCuttable, IsOf};
+ghost use Rattle.bb_memory.specs.Pool.{MayBeCut};
+ghost use Rattle.bb_memory_c.specs.Layouts.{CannotCut, HasRoom, IsCuttable, IsOf};
 
 use crate::code;
 use bb_memory::layout::Layout;
-use bb_memory::pool_allocator::PoolAllocator;
+use bb_memory::pool_allocator::{FixedSizePoolAllocator, PoolAllocator};
 use std::alloc::Global;
 
 /// The layout of this size and this alignment, if they make one.
@@ -63,4 +64,12 @@ pub(crate) fn cut_into(
         return Err(code::CANNOT_MAKE);
     }
     Ok(bucket)
+}
+
+/// Whether the region of `size` bytes at `start`, which may be cut into buckets of this layout, has room for one.
+pub(crate) fn has_room(layout: Layout, start: usize, size: usize) -> bool
+    requires { MayBeCut (region_at start size) layout }
+    ensures { IsTrue result ↔ HasRoom (region_at start size) layout }
+{
+    FixedSizePoolAllocator::<1>::new(layout, start, size).number_of_buckets() > 0
 }

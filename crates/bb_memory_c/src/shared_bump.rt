@@ -26,7 +26,7 @@ fn next_seat(seats: &mut BumpSeats, alloc: Global) -> Result<Box<BumpSeat>, u32>
         return Err(code::NO_SEAT);
     }
     let Ok(bump) = Arc::try_clone(&seats.bump) else {
-        return Err(code::OUT_OF_MEMORY);
+        return Err(code::MALLOC_REFUSED);
     };
     let Some(party) = seats.parties.pop() else {
         return Err(code::NO_SEAT);
@@ -36,7 +36,7 @@ fn next_seat(seats: &mut BumpSeats, alloc: Global) -> Result<Box<BumpSeat>, u32>
         Err(refused) => {
             let party = refused.value.into_party();
             seats.parties.push_reserved(party);
-            Err(code::OUT_OF_MEMORY)
+            Err(code::MALLOC_REFUSED)
         }
     }
 }
@@ -64,7 +64,7 @@ pub extern "C" fn bb_shared_bump_make(
         return code::CANNOT_MAKE;
     }
     let Some(seats) = BumpSeats::new(alloc, start, size, parties) else {
-        return code::OUT_OF_MEMORY;
+        return code::MALLOC_REFUSED;
     };
     keep(handle, alloc, seats)
 }

@@ -6,7 +6,7 @@ ghost use Rattle.bb_memory_base.specs.Region.{region_at};
 ghost use Rattle.bb_memory.specs.SharedPool.{fresh_party};
 ghost use Rattle.bb_memory_c.specs.Calls.{AnswersFree, AnswersGrow, AnswersPoolMake, AnswersRequest, AnswersReturn};
 ghost use Rattle.bb_memory_c.specs.Calls.{AnswersShrink, GivesSeat, TakesSeat, TellsFigure, TellsOfHeld, TellsWhether, resize};
-ghost use Rattle.bb_memory_c.specs.Layouts.{MayBeShared};
+ghost use Rattle.bb_memory_c.specs.Layouts.{HasRoom, MayBeShared};
 ghost use Rattle.bb_memory_c.specs.SharedPools.{GivesChunk, GivesBack, HoldsPlace};
 ghost use Rattle.bb_memory_c.specs.SharedPoolHandles.{MakesSharedPool, SeatsPoolParty};
 
@@ -14,7 +14,7 @@ use crate::answer::{Answer, Figure};
 use crate::call::{free, give_back, grow, holds, is_made, keep, request, reserved, shrink, tell};
 use crate::code;
 use crate::handle::{Handle, PoolSeatHandle, SharedPoolHandle};
-use crate::layout::cut_into;
+use crate::layout::{cut_into, has_room};
 use crate::pool_seat::{PoolSeat, PoolSeats};
 use std::alloc::Global;
 use std::sync::Arc;
@@ -31,10 +31,10 @@ fn next_seat(seats: &mut PoolSeats, alloc: Global) -> Result<Box<PoolSeat>, u32>
         return Err(code::NO_SEAT);
     }
     let Ok(pool) = Arc::try_clone(&seats.pool) else {
-        return Err(code::OUT_OF_MEMORY);
+        return Err(code::MALLOC_REFUSED);
     };
     let Ok(held) = Vec::from_elem(alloc, false, pool.number_of_buckets() as usize) else {
-        return Err(code::OUT_OF_MEMORY);
+        return Err(code::MALLOC_REFUSED);
     };
     let Some(party) = seats.parties.pop() else {
         return Err(code::NO_SEAT);
@@ -44,13 +44,14 @@ fn next_seat(seats: &mut PoolSeats, alloc: Global) -> Result<Box<PoolSeat>, u32>
         Err(refused) => {
             let party = refused.value.into_party();
             seats.parties.push_reserved(party);
-            Err(code::OUT_OF_MEMORY)
+            Err(code::MALLOC_REFUSED)
         }
     }
 }
 
 /// Makes a shared pool over the region of `size` bytes at `start`, behind a handle that has to be empty. The region is cut into
-/// buckets of `bucket_size` bytes at multiples of `bucket_align`. Each of the parties, at least one, can be given a seat.
+/// buckets of `bucket_size` bytes at multiples of `bucket_align`, and has to have room for one. Each of the parties, at least
+/// one, can be given a seat.
 ///
 /// C guarantees of the handle what the crate's page says.
 #[unsafe(no_mangle)]
@@ -64,7 +65,7 @@ pub extern "C" fn bb_shared_pool_make(
     parties: u32,
 ) -> u32
     ensures { AnswersPoolMake handle.old.value handle.new.value bucket_size bucket_align result
-        (MayBeShared (region_at start size) parties)
+        (MayBeShared (region_at start size) parties) (HasRoom (region_at start size))
         (λ bucket. MakesSharedPool (region_at start size) bucket parties) }
 {
     if is_made(handle, alloc) {
@@ -77,8 +78,11 @@ pub extern "C" fn bb_shared_pool_make(
     if parties == 0 {
         return code::CANNOT_MAKE;
     }
+    if !has_room(bucket, start, size) {
+        return code::NO_BUCKET;
+    }
     let Some(seats) = PoolSeats::new(alloc, bucket, start, size, parties) else {
-        return code::OUT_OF_MEMORY;
+        return code::MALLOC_REFUSED;
     };
     keep(handle, alloc, seats)
 }

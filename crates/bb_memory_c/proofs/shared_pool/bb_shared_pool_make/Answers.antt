@@ -1,11 +1,12 @@
 use Rattle.std.proofs.Common.{rules, refl, ◌∙◌, ap, arith, Err, Some}
-use Rattle.bb_memory_base.specs.Region.{region_at}
+use Rattle.bb_memory_base.specs.Region.{Region, region_at}
+use Rattle.bb_memory_c.specs.Layouts.{HasRoom, MayBeShared}
 use Rattle.bb_memory_c.specs.SharedPools.{pool_seats}
-use Rattle.bb_memory_c.proofs.Layouts.{cut-share, share-layout, share-or-not}
+use Rattle.bb_memory_c.proofs.Layouts.{cut-share, lacks-cut, lacks-layout, lacks-share, room-or-not, share-layout, share-or-not}
 use Rattle.bb_memory_c.proofs.shared_pool.bb_shared_pool_make.Goals as goal
 
 pub returns-in-Err : goal.returns-in-Err
-returns-in-Err c = let region = region_at c.args.start c.args.size in record {
+returns-in-Err c = let region : Region = region_at c.args.start c.args.size in record {
   made = search rules;
   held_one = search rules;
   no_layout = search rules;
@@ -16,6 +17,13 @@ returns-in-Err c = let region = region_at c.args.start c.args.size in record {
     ),
     λ not. c.in-Err.ensures.others (λ is. c.in-Err.ensures.not_a_layout.0 (ap Err is)
         (share-layout c.args.bucket_size c.args.bucket_align region c.args.parties not.1)),
+  );
+  no_room = (
+    λ wrong. search rules,
+    λ lacks. lacks-cut c.args.bucket_size c.args.bucket_align region
+        (lacks-share c.args.bucket_size c.args.bucket_align region c.args.parties lacks.1)
+        (c.in-Err.ensures.cannot_make.0 (ap Err (c.in-Err.ensures.others (λ is. c.in-Err.ensures.not_a_layout.0 (ap Err is)
+        (lacks-layout c.args.bucket_size c.args.bucket_align (MayBeShared region c.args.parties) (HasRoom region) lacks.1))))),
   );
   else_memory = search rules;
   kept = search rules;
@@ -33,30 +41,61 @@ returns-then-parties-eq0 c = record {
     ),
     λ _. refl,
   );
+  no_room = (
+    λ wrong. absurd (cc),
+    λ lacks. absurd (omega (arith, c.if-parties-eq0.true, lacks.1.2.0)),
+  );
   else_memory = search rules;
   kept = search rules;
 }
 
-pub returns-in_default : goal.returns-in_default
-returns-in_default c = record {
+pub returns-then-not-has_room : goal.returns-then-not-has_room
+returns-then-not-has_room c = let region : Region = region_at c.args.start c.args.size in record {
   made = search rules;
   held_one = search rules;
   no_layout = search rules;
   cannot = (
     λ wrong. absurd (cc),
-    λ not. share-or-not c.args.bucket_size c.args.bucket_align (region_at c.args.start c.args.size)
-        c.args.parties c.in-Ok.bucket c.in-Ok.ensures.cut (search rules) not.1,
+    λ not. share-or-not c.args.bucket_size c.args.bucket_align region c.args.parties c.in-Ok.bucket c.in-Ok.ensures.cut
+        (search rules) not.1,
+  );
+  no_room = (
+    λ _. (
+      search rules,
+      (c.in-Ok.bucket, c.in-Ok.ensures.cut.layout, (search rules, c.in-Ok.ensures.cut.may), search rules),
+    ),
+    λ _. refl,
+  );
+  else_memory = search rules;
+  kept = search rules;
+}
+
+pub returns-in_default : goal.returns-in_default
+returns-in_default c = let region : Region = region_at c.args.start c.args.size in record {
+  made = search rules;
+  held_one = search rules;
+  no_layout = search rules;
+  cannot = (
+    λ wrong. absurd (cc),
+    λ not. share-or-not c.args.bucket_size c.args.bucket_align region c.args.parties c.in-Ok.bucket c.in-Ok.ensures.cut
+        (search rules) not.1,
+  );
+  no_room = (
+    λ wrong. absurd (cc),
+    λ lacks. room-or-not c.args.bucket_size c.args.bucket_align (MayBeShared region c.args.parties) (HasRoom region)
+        c.in-Ok.bucket c.in-Ok.ensures.cut.layout (search rules) lacks.1,
   );
   else_memory = search rules;
   kept = search rules;
 }
 
 pub returns : goal.returns
-returns c = record {
+returns c = let region : Region = region_at c.args.start c.args.size in record {
   made = λ is. (
     c.in-Ok.bucket,
     c.in-Ok.ensures.cut.layout,
     (search rules, c.in-Ok.ensures.cut.may),
+    search rules,
     (
       c.in-Some.seats.pool,
       c.in-Some.ensures.pool,
@@ -67,8 +106,13 @@ returns c = record {
   no_layout = search rules;
   cannot = (
     λ wrong. search rules,
-    λ not. share-or-not c.args.bucket_size c.args.bucket_align (region_at c.args.start c.args.size)
-        c.args.parties c.in-Ok.bucket c.in-Ok.ensures.cut (search rules) not.1,
+    λ not. share-or-not c.args.bucket_size c.args.bucket_align region c.args.parties c.in-Ok.bucket c.in-Ok.ensures.cut
+        (search rules) not.1,
+  );
+  no_room = (
+    λ wrong. search rules,
+    λ lacks. room-or-not c.args.bucket_size c.args.bucket_align (MayBeShared region c.args.parties) (HasRoom region)
+        c.in-Ok.bucket c.in-Ok.ensures.cut.layout (search rules) lacks.1,
   );
   else_memory = search rules;
   kept = search rules;

@@ -1,0 +1,114 @@
+//! Why nothing was done. What the library can't answer to a call is a fault of its own, and panics.
+use crate::ffi;
+use core::error::Error;
+use core::fmt;
+
+/// An error of the codes that a call answers, with the text of each.
+macro_rules! error {
+    ($(#[$about:meta])* $name:ident { $($(#[$when:meta])* $variant:ident = $code:ident: $text:literal,)* }) => {
+        $(#[$about])*
+        #[derive(Clone, Copy, Debug, PartialEq, Eq)]
+        pub enum $name {
+            $($(#[$when])* $variant,)*
+        }
+
+        impl $name {
+            pub(crate) fn of(code: u32) -> $name {
+                match code {
+                    $(ffi::$code => $name::$variant,)*
+                    _ => no_such_answer(code),
+                }
+            }
+        }
+
+        impl fmt::Display for $name {
+            fn fmt(&self, f: &mut fmt::Formatter<'_>) -> fmt::Result {
+                f.write_str(match self {
+                    $($name::$variant => $text,)*
+                })
+            }
+        }
+
+        impl Error for $name {}
+    };
+}
+
+/// The library and this crate aren't of one version.
+#[cold]
+pub(crate) fn no_such_answer(code: u32) -> ! {
+    panic!("bb_memory answered code {code}, which this call doesn't have")
+}
+
+error! {
+    /// Why a request was refused.
+    AllocationError {
+        /// Size 0 was asked of a bump. The others serve it.
+        SizeIsZero = SIZE_IS_ZERO: "the size is zero",
+        /// More than a bucket was asked of a pool, which never serves it.
+        SizeTooLarge = SIZE_TOO_LARGE: "the size is greater than a bucket's",
+        /// More than a bucket's alignment was asked of a pool, which never serves it.
+        AlignmentFailure = ALIGNMENT_FAILURE: "the alignment is greater than a bucket's",
+        /// No room is left in the region; of a pool, each bucket is held.
+        OutOfMemory = OUT_OF_MEMORY: "no room is left in the region",
+    }
+}
+
+error! {
+    /// Why a chunk didn't grow. It is as it was.
+    AllocationGrowError {
+        /// The new size isn't greater than the old one.
+        GrowWouldShrink = GROW_WOULD_SHRINK: "the new size is not greater than the old one",
+        /// The new alignment is greater than can be had.
+        AlignmentFailure = ALIGNMENT_FAILURE: "the alignment is greater than can be had",
+        /// The new size is greater than what is reserved.
+        OutOfMemory = MORE_THAN_RESERVED: "the new size is greater than what is reserved",
+        /// No chunk that is out begins at the place.
+        NotHeld = NOT_HELD: "nothing is held at the place",
+        /// The place isn't a multiple of the old alignment.
+        NotTheOld = NOT_THE_OLD: "the chunk cannot have the old layout",
+    }
+}
+
+error! {
+    /// Why a chunk didn't shrink. It is as it was.
+    AllocationShrinkError {
+        /// The new size isn't smaller than the old one.
+        ShrinkWouldGrow = SHRINK_WOULD_GROW: "the new size is not smaller than the old one",
+        /// The new alignment is greater than can be had.
+        AlignmentFailure = ALIGNMENT_FAILURE: "the alignment is greater than can be had",
+        /// No chunk that is out begins at the place.
+        NotHeld = NOT_HELD: "nothing is held at the place",
+        /// The place isn't a multiple of the old alignment, or the old size is greater than what is reserved.
+        NotTheOld = NOT_THE_OLD: "the chunk cannot have the old layout",
+    }
+}
+
+error! {
+    /// Why nothing was given back.
+    DeallocationError {
+        /// No chunk that is out begins at the place; of a seat, no bucket that this seat holds.
+        NotHeld = NOT_HELD: "nothing is held at the place",
+    }
+}
+
+error! {
+    /// Why nothing was made.
+    MakeError {
+        /// The region ends behind the last address, a bucket has no byte, there are `u32::MAX` buckets or more, or no party.
+        CannotMake = CANNOT_MAKE: "the region, the buckets or the parties cannot be",
+        /// The region has no room for one bucket.
+        NoBucket = NO_BUCKET: "the region has no room for one bucket",
+        /// `malloc` refused.
+        MallocRefused = MALLOC_REFUSED: "malloc refused",
+    }
+}
+
+error! {
+    /// Why no seat was given.
+    SeatError {
+        /// Each party has had its seat: that of a dropped seat gets no other.
+        NoSeat = NO_SEAT: "each party has had its seat",
+        /// `malloc` refused.
+        MallocRefused = MALLOC_REFUSED: "malloc refused",
+    }
+}

@@ -1,0 +1,141 @@
+//! A bump that threads share.
+use crate::error::{AllocationError, MakeError, SeatError};
+use crate::ffi::{self, Handle};
+use crate::owned::{Gives, Kind, Owned};
+use core::alloc::Layout;
+use core::marker::PhantomData;
+use core::mem::MaybeUninit;
+use core::ptr::NonNull;
+
+enum SharedBump {}
+
+// SAFETY: it is a function of `bb_shared_bump`.
+unsafe impl Kind for SharedBump {
+    const FREE: ffi::Free = ffi::bb_shared_bump_free;
+}
+
+enum Seat {}
+
+// SAFETY: both are functions of `bb_bump_seat`.
+unsafe impl Kind for Seat {
+    const FREE: ffi::Free = ffi::bb_bump_seat_free;
+}
+
+// SAFETY: as above.
+unsafe impl Gives for Seat {
+    const ALLOCATE: ffi::Allocate = ffi::bb_bump_seat_allocate;
+}
+
+/// A bump that threads share: it is made for some number of parties, each of which can have a seat. No call of a seat waits for
+/// another's. It takes nothing back: to begin anew, drop it with its seats, and make another.
+///
+/// ```
+/// use bb_memory::SharedBumpAllocator;
+/// use core::alloc::Layout;
+///
+/// let mut region = Box::new_uninit_slice(1024);
+/// let bump = SharedBumpAllocator::over(&mut region, 2)?;
+/// let seats = [bump.seat()?, bump.seat()?];
+/// std::thread::scope(|scope| {
+///     for seat in seats {
+///         scope.spawn(move || assert!(seat.allocate(Layout::new::<u64>()).is_ok()));
+///     }
+/// });
+/// # Ok::<(), Box<dyn std::error::Error>>(())
+/// ```
+#[derive(Debug)]
+pub struct SharedBumpAllocator<'region> {
+    owned: Owned<SharedBump>,
+    region: PhantomData<&'region mut [MaybeUninit<u8>]>,
+}
+
+impl<'region> SharedBumpAllocator<'region> {
+    /// A bump over this region, which is its own and its seats' as long as one of them lives.
+    pub fn over(region: &'region mut [MaybeUninit<u8>], parties: u32) -> Result<Self, MakeError> {
+        let region = NonNull::from(region);
+        // SAFETY: the region is lent for as long as the bump or a seat lives.
+        unsafe { Self::new(region.cast(), region.len(), parties) }
+    }
+
+    /// A bump over the `size` bytes at `ptr`.
+    ///
+    /// # Safety
+    ///
+    /// As of [`BumpAllocator::new`](crate::BumpAllocator::new).
+    pub unsafe fn new(ptr: NonNull<u8>, size: usize, parties: u32) -> Result<Self, MakeError> {
+        // SAFETY: the maker is of this kind.
+        let made = unsafe {
+            Owned::made(ptr, |it, start| {
+                ffi::bb_shared_bump_make(it, start, size, parties)
+            })
+        };
+        Ok(SharedBumpAllocator {
+            owned: made.map_err(MakeError::of)?,
+            region: PhantomData,
+        })
+    }
+
+    /// A seat for the last party that had none. The bump stays as long as it or one of its seats does.
+    pub fn seat(&self) -> Result<BumpSeat<'region>, SeatError> {
+        let bump: *mut Handle = self.owned.handle();
+        // SAFETY: the function is of this kind, makes a seat, and is handed two handles.
+        let made = unsafe {
+            Owned::made(self.owned.start(), |it, _| {
+                ffi::bb_shared_bump_seat(bump, it)
+            })
+        };
+        Ok(BumpSeat {
+            owned: made.map_err(SeatError::of)?,
+            region: PhantomData,
+        })
+    }
+}
+
+/// A seat at a [`SharedBumpAllocator`], for one thread at a time.
+#[derive(Debug)]
+pub struct BumpSeat<'region> {
+    owned: Owned<Seat>,
+    region: PhantomData<&'region mut [MaybeUninit<u8>]>,
+}
+
+impl BumpSeat<'_> {
+    /// A chunk of exactly `layout.size()` bytes at the least multiple of `layout.align()` behind what is used. It refuses size 0.
+    pub fn allocate(&self, layout: Layout) -> Result<NonNull<[u8]>, AllocationError> {
+        self.owned.allocate(layout)
+    }
+
+    /// The same, with each byte zero.
+    pub fn allocate_zeroed(&self, layout: Layout) -> Result<NonNull<[u8]>, AllocationError> {
+        self.owned.allocate_zeroed(layout)
+    }
+
+    /// Where the region starts.
+    pub fn start_address(&self) -> usize {
+        // SAFETY: the function is of this kind, as those below are.
+        unsafe { self.owned.figure(ffi::bb_bump_seat_start_address) }
+    }
+
+    /// How many bytes one look found to be used, the padding between chunks among them.
+    pub fn used_space(&self) -> usize {
+        // SAFETY: as above.
+        unsafe { self.owned.figure(ffi::bb_bump_seat_used_space) }
+    }
+
+    /// How many bytes one look found behind the last chunk.
+    pub fn free_space(&self) -> usize {
+        // SAFETY: as above.
+        unsafe { self.owned.figure(ffi::bb_bump_seat_free_space) }
+    }
+
+    /// How many bytes the region has.
+    pub fn total_space(&self) -> usize {
+        // SAFETY: as above.
+        unsafe { self.owned.figure(ffi::bb_bump_seat_total_space) }
+    }
+
+    /// The party's number, from 0.
+    pub fn party(&self) -> u32 {
+        // SAFETY: as above. A number of a party is a `u32`.
+        unsafe { self.owned.figure(ffi::bb_bump_seat_party) as u32 }
+    }
+}

@@ -1,0 +1,121 @@
+//! What threads share: each has a seat, which it takes along.
+use bb_memory::{
+    AllocationError, BaseAllocator, BumpSeat, DeallocationError, MakeError, PoolSeat, SeatError,
+    SharedBumpAllocator, SharedPoolAllocator,
+};
+use std::alloc::Layout;
+use std::ptr::NonNull;
+use std::thread;
+
+const THREADS: u32 = 4;
+const ROUNDS: u64 = 20_000;
+
+fn bucket() -> Layout {
+    Layout::from_size_align(64, 8).unwrap()
+}
+
+/// Takes buckets, and writes into each what no other thread writes.
+fn use_pool(seat: &PoolSeat<'_>) {
+    let mut taken = 0;
+    while taken < ROUNDS {
+        let chunk = match seat.allocate(bucket()) {
+            Ok(chunk) => chunk.cast::<u64>(),
+            Err(error) => {
+                assert_eq!(error, AllocationError::OutOfMemory);
+                thread::yield_now();
+                continue;
+            }
+        };
+        let pattern = taken * u64::from(THREADS) + u64::from(seat.party());
+        // SAFETY: the bucket is this thread's until it is given back.
+        unsafe {
+            chunk.write(pattern);
+            assert_eq!(chunk.read(), pattern);
+            assert_eq!(seat.try_deallocate(chunk.cast()), Ok(()));
+            assert_eq!(
+                seat.try_deallocate(chunk.cast()),
+                Err(DeallocationError::NotHeld)
+            );
+        }
+        taken += 1;
+    }
+}
+
+#[test]
+fn no_bucket_has_two_holders() {
+    let mut region = Box::new_uninit_slice(64 * 3 + 7);
+    let pool = SharedPoolAllocator::over(bucket(), &mut region, THREADS).unwrap();
+    let seats: Vec<PoolSeat<'_>> = (0..THREADS).map(|_| pool.seat().unwrap()).collect();
+    assert_eq!(pool.seat().err(), Some(SeatError::NoSeat));
+    assert_eq!(
+        (seats[0].number_of_buckets(), seats[0].bucket_size()),
+        (3, 64)
+    );
+    drop(pool);
+    thread::scope(|scope| {
+        for seat in seats {
+            scope.spawn(move || use_pool(&seat));
+        }
+    });
+}
+
+#[test]
+fn one_seat_does_not_return_the_bucket_of_another() {
+    let mut region = Box::new_uninit_slice(64 * 4);
+    let pool = SharedPoolAllocator::over(bucket(), &mut region, 2).unwrap();
+    let (mine, other) = (pool.seat().unwrap(), pool.seat().unwrap());
+    let chunk = mine.allocate(bucket()).unwrap().cast::<u8>();
+    assert_eq!((mine.holds(chunk), other.holds(chunk)), (true, false));
+    // SAFETY: the bucket isn't used.
+    unsafe {
+        assert_eq!(other.try_deallocate(chunk), Err(DeallocationError::NotHeld));
+        assert_eq!(mine.try_deallocate(chunk), Ok(()));
+    }
+}
+
+/// Takes as many chunks of 8 bytes as there are, and answers how many. Each has what this seat wrote at the end.
+fn use_bump(seat: &BumpSeat<'_>) -> usize {
+    let mut chunks: Vec<NonNull<u64>> = Vec::new();
+    while let Ok(chunk) = seat.allocate(Layout::new::<u64>()) {
+        // SAFETY: the chunk is this thread's for good.
+        unsafe { chunk.cast::<u64>().write(u64::from(seat.party())) };
+        chunks.push(chunk.cast());
+    }
+    // SAFETY: as above.
+    assert!(
+        chunks
+            .iter()
+            .all(|chunk| unsafe { chunk.read() } == u64::from(seat.party()))
+    );
+    chunks.len()
+}
+
+#[test]
+fn every_byte_of_a_shared_bump_is_given_once() {
+    let mut region: Box<[std::mem::MaybeUninit<u64>]> = Box::new_uninit_slice(80_000);
+    let start = NonNull::from(&mut *region).cast::<u8>();
+    // SAFETY: the region is this function's, and used through chunks alone.
+    let bump = unsafe { SharedBumpAllocator::new(start, 640_000, THREADS) }.unwrap();
+    let seats: Vec<BumpSeat<'_>> = (0..THREADS).map(|_| bump.seat().unwrap()).collect();
+    assert_eq!(bump.seat().err(), Some(SeatError::NoSeat));
+    let given: usize = thread::scope(|scope| {
+        let threads: Vec<_> = seats
+            .into_iter()
+            .map(|seat| scope.spawn(move || use_bump(&seat)))
+            .collect();
+        threads
+            .into_iter()
+            .map(|thread| thread.join().unwrap())
+            .sum()
+    });
+    assert_eq!(given, 80_000);
+}
+
+#[test]
+fn nothing_is_made_for_no_party() {
+    let mut region = Box::new_uninit_slice(64);
+    let made = SharedBumpAllocator::over(&mut region, 0);
+    assert_eq!(made.err(), Some(MakeError::CannotMake));
+    let made = SharedPoolAllocator::over(bucket(), &mut region, 0);
+    assert_eq!(made.err(), Some(MakeError::CannotMake));
+}
