@@ -128,7 +128,8 @@ counted-few (suc made) missing parties below none once =
           let rest = counted-most made parties (λ number less. once number (omega arith)) in omega arith
       | inr other ↦
           let here = once made (omega arith) in
-          let rest = counted-few made missing parties (grind (arith, below, other)) none (λ number less. once number (omega arith)) in
+          let rest = counted-few made missing parties (grind (arith, below, other)) none
+              (λ number less. once number (omega arith)) in
           omega arith
     ]
 

@@ -243,7 +243,8 @@ module _ (scene : BumpScene) (party : ℕ) (log : BumpLog) (met : ℕ) (layout :
           seat = record { seat = then_seat (Wins chunk) tells; idle = then_call (Wins chunk) };
           still = tells.still;
           counted =
-              counted_more scene log met trying.tried decides trying.counted from up_to (omega (arith, trying.few, trying.within));
+              counted_more scene log met trying.tried decides trying.counted from up_to
+                  (omega (arith, trying.few, trying.within));
         };
         won = record { seen = last; tried = trying.tried; tries = trying.tries; is = refl; placed = placed };
         chunks = won_then trying.tried decides trying.chunks;

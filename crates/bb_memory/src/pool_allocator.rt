@@ -123,8 +123,8 @@ impl PoolAllocator<Global> {
     }
 
     /// How many bytes are enough for the index words of a pool over a region of `size` bytes, wherever it starts, and for their
-    /// list: eight for each time that the bucket's size goes into the region's. The bucket's size has to be greater than 0, and that
-    /// quotient at most `u32::MAX`.
+    /// list: eight for each time that the bucket's size goes into the region's. The bucket's size has to be greater than 0, and
+    /// that quotient at most `u32::MAX`.
     pub fn memory_size(bucket_layout: Layout, size: usize) -> usize
         requires filled { 0 < bucket_layout.size }
         requires quotient { size / bucket_layout.size < 2 ^ 32 }

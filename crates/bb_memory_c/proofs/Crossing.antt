@@ -22,7 +22,8 @@ lies : (R : RattleType) → IsSend R → (p : Ptr) (x : R.Denot) → Keyless (li
 lies R s (block_ptr b o) x = part_keyless R s full_share x b o
 lies R s null_ptr x = tt
 
-pub owned : (R : RattleType) → IsSend R → (heap : Global) (made : Bool) (at : Ptr) (value : Option R.Denot) → Keyless (owns_if R heap made at value)
+pub owned : (R : RattleType) → IsSend R → (heap : Global) (made : Bool) (at : Ptr) (value : Option R.Denot) → Keyless
+    (owns_if R heap made at value)
 owned R s heap true at (Some x) = (lies R s at x, frees.frees heap (raw (lone R.mir)) at)
 owned R s heap true at None = tt
 owned R s heap false at (Some x) = tt

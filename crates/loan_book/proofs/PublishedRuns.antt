@@ -15,7 +15,8 @@ use Rattle.loan_book.proofs.BookSteps.{own-set, own-push}
 use Rattle.loan_book.proofs.BookRuns.{run-returns, run-unpublished}
 
 -- the calls behind a publish of the sample
-behind-publish : (may_allocate : Answers) (old mid new : Book) (calls : List LoanCall) (replies : List LoanReply) (id readers : ℕ) →
+behind-publish : (may_allocate : Answers) (old mid new : Book) (calls : List LoanCall) (replies : List LoanReply)
+    (id readers : ℕ) →
     IsBook mid → BookStep may_allocate old (call.Publish id readers) reply.Published mid →
     IsRun (BookStep may_allocate) mid calls replies new → IsOut new id ↔ (returns_in id calls < readers)
 behind-publish may_allocate old mid new calls replies id readers is (position, sample, at, unpublished, some, set) rest =
@@ -69,7 +70,8 @@ run-loaned may_allocate old new [] (told ∷ replies) i id chunk is run replied 
 run-loaned may_allocate old new (made ∷ calls) (told ∷ replies) zero id chunk is (mid, step, rest) replied none =
     let its_reply : told ≡ reply.Loaned id chunk = cc in
     let loans = subst (λ (k : LoanReply). BookStep may_allocate old made k mid) its_reply step in
-    loaned-step may_allocate old mid new made calls replies id chunk (step-sound may_allocate old mid made told is step) loans none rest
+    loaned-step may_allocate old mid new made calls replies id chunk (step-sound may_allocate old mid made told is step) loans
+        none rest
 run-loaned may_allocate old new (made ∷ calls) (told ∷ replies) (suc i) id chunk is (mid, step, rest) replied none =
     let next : suc i + 1 ≡ suc (i + 1) = omega arith in
     let none_behind = subst (λ k. publishes_in id (drop k (made ∷ calls)) ≡ 0) next none in

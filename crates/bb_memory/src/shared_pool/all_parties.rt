@@ -16,8 +16,8 @@ use super::party::PoolParty;
 /// What a user of a shared pool has of parties that met ([`meet_all`](super::SharedPoolAllocator::meet_all)), and above all of
 /// all its parties, whatever the threads did. It does nothing: its contract is the law.
 ///
-/// A meeting has one list of steps from the opening, each of which the machine allows (`met.1.agree.steps`), in which the steps of
-/// each party that met are exactly its log. Where as many parties met as the pool has, it has no other steps.
+/// A meeting has one list of steps from the opening, each of which the machine allows (`met.1.agree.steps`), in which the steps
+/// of each party that met are exactly its log. Where as many parties met as the pool has, it has no other steps.
 pub fn shared_pool_meeting_law()
     // The takings and returns in that list are a run of the pool object from the empty list,
     // whichever layouts within the bucket's size and alignment were asked for.

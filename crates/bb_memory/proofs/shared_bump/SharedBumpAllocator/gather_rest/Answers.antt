@@ -17,7 +17,8 @@ loop-party-preserved c =
     let met = ap (λ (m : Me ℕ SeatView). met_by m.0) now in
     let own = ap (λ (p : BumpParty). p.met) c.party.view_is in record {
       table = c.gather.ensures.table ∙ before.table;
-      seat = seat_gathered c.args.self.now.scene c.loop-party.seat.me c.gather.new.seat.me c.party.inside.seat.me.0 before.seat now;
+      seat = seat_gathered c.args.self.now.scene c.loop-party.seat.me c.gather.new.seat.me c.party.inside.seat.me.0 before.seat
+          now;
       all = ap (λ (m : Me ℕ SeatView). map numbered_of rest ++ m.0.parties) now
           ∙ one_gathered c.party.inside.seat.table_id c.party.inside.number c.party.inside.seat.me party
           c.loop-party.rest.items rest c.loop-party.seat.me.0.parties c.party.invariant c.party.view_is items

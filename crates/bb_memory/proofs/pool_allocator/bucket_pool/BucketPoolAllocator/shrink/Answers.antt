@@ -11,7 +11,8 @@ returns-clause-resized g c =
     let is = subst IsPool same c.self.invariant.0 in
     let may = subst (λ (p : Pool). MayShrink p.geometry.bucket c.args.place c.args.old c.args.new c.shrink.result) same
     c.shrink.ensures in
-    MayShrink-resized (g.S.HeldSet.pool c.args.self.now) c.args.place c.args.old c.args.new c.shrink.result is c.requires.reserved may
+    MayShrink-resized (g.S.HeldSet.pool c.args.self.now) c.args.place c.args.old c.args.new c.shrink.result is c.requires.reserved
+        may
 
 pub returns-clause-inside : goal.returns-clause-inside
 returns-clause-inside g c =
@@ -20,4 +21,5 @@ returns-clause-inside g c =
     let is = subst IsPool same c.self.invariant.0 in
     let may = subst (λ (p : Pool). MayShrink p.geometry.bucket c.args.place c.args.old c.args.new c.shrink.result) same
     c.shrink.ensures in
-    MayShrink-inside (g.S.HeldSet.pool c.args.self.now) c.args.place c.args.old c.args.new c.shrink.result is c.requires.live c.requires.reserved may
+    MayShrink-inside (g.S.HeldSet.pool c.args.self.now) c.args.place c.args.old c.args.new c.shrink.result is c.requires.live
+        c.requires.reserved may

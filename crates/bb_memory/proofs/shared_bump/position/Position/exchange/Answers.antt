@@ -13,7 +13,8 @@ compare_exchange-found-requires c =
     let scene = ap (λ b. b.scene) c.self.view_is in (
       c.requires.seat.table ∙ sym (ap (λ b. b.table) c.self.view_is),
       omega (arith, fields.words),
-      exchanges_as c.self.inside.table.shared.key _ _ (number_of me.0) c.args.layout c.args.seen c.args.behind (view_log me.0) (met_by me.0) me
+      exchanges_as c.self.inside.table.shared.key _ _ (number_of me.0) c.args.layout c.args.seen c.args.behind (view_log me.0)
+          (met_by me.0) me
           (c.requires.seat.seat.is ∙ ap (λ s. (alone (sight s (met_by me.0)) (number_of me.0) (view_log me.0), [])) (sym scene))
           c.requires.call
           (c.requires.behind ∙ ap (λ (s : BumpScene). position_behind s.region (chunk_at s.region c.args.seen c.args.layout))

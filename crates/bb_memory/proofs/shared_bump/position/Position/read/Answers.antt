@@ -13,7 +13,8 @@ load-requires g c =
     let scene = ap (λ b. b.scene) c.self.view_is in (
       c.requires.seat.table ∙ sym (ap (λ b. b.table) c.self.view_is),
       omega (arith, fields.words),
-      reads_as c.self.inside.table.shared.key _ _ (number_of me.0) c.args._layout g.L.Asked.layout (view_log me.0) (met_by me.0) me
+      reads_as c.self.inside.table.shared.key _ _ (number_of me.0) c.args._layout g.L.Asked.layout (view_log me.0) (met_by me.0)
+          me
           (of.seat.is ∙ ap (λ s. (alone (sight s (met_by me.0)) (number_of me.0) (view_log me.0), [])) (sym scene)) of.idle
           c.requires.asks c.requires.told,
     )
