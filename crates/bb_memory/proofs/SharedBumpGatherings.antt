@@ -1,5 +1,5 @@
 -- Parties that come to one seat, and what their meeting says of their logs.
-use Rattle.std.proofs.Common.{◌≡◌, ℕ, zero, suc, replicate, ◌<◌, ◌≤◌, List, [], ◌∷◌, ◌++◌, length, refl, sym, ap, ◌∙◌}
+use Rattle.std.proofs.Common.{◌≡◌, ℕ, replicate, ◌<◌, ◌≤◌, List, [], ◌∷◌, ◌++◌, length, refl, sym, ap, ◌∙◌}
 use Rattle.std.proofs.Common.{subst, arith, append_assoc, inl, inr}
 use Rattle.std.proofs.lemmas.List.{length-map, length-replicate, map-append}
 use Rattle.std.specs.Prelude.{map, max, Contains}
