@@ -129,7 +129,7 @@ counted-few (suc made) missing parties below none once =
       | inr other ↦
           let here = once made (omega arith) in
           let rest = counted-few made missing parties (grind (arith, below, other)) none
-              (λ number less. once number (omega arith)) in
+          (λ number less. once number (omega arith)) in
           omega arith
     ]
 

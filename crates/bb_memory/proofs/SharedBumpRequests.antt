@@ -244,7 +244,7 @@ module _ (scene : BumpScene) (party : ℕ) (log : BumpLog) (met : ℕ) (layout :
           still = tells.still;
           counted =
               counted_more scene log met trying.tried decides trying.counted from up_to
-                  (omega (arith, trying.few, trying.within));
+              (omega (arith, trying.few, trying.within));
         };
         won = record { seen = last; tried = trying.tried; tries = trying.tries; is = refl; placed = placed };
         chunks = won_then trying.tried decides trying.chunks;

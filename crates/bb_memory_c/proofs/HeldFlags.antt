@@ -79,7 +79,7 @@ taking-seat pool party new flags layout taken is told =
     let buckets = party.allocator.scene.geometry.buckets in
     let below : taken.number < length flags =
     subst (λ n. taken.number < n) (sym (is.as_many ∙ ap (λ (p : SharedPool). p.scene.geometry.buckets) (sym is.theirs)))
-        told.0.below in
+    told.0.below in
     subst (λ (p : PoolParty). IsSeatAt pool p (slice_set flags taken.number true)) (sym told.2) record {
       theirs = is.theirs;
       as_many = length-set_at flags taken.number true ∙ is.as_many;

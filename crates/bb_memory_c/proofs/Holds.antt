@@ -54,10 +54,10 @@ module _ (R : RattleType) where
         → Step K 𝓛 (‵ (Held.own_val d (word d.at d.made ∷ [])) ∷ Γ) G (‵ (owns_if R d.heap d.made d.at d.value) ∷ Γ) G
     held_in t d = step (λ s. let v : Val = word d.at d.made in
         nothing t $ feq_i t (List Val) (vbool d.made ∷ []) (vbool d.made ∷ []) refl $ fjoin t $
-            feq_i t (List Val) (ptr_val d.at ∷ []) (ptr_val d.at ∷ []) refl $ fjoin t $
+        feq_i t (List Val) (ptr_val d.at ∷ []) (ptr_val d.at ∷ []) refl $ fjoin t $
         feq_i t (List Val) (v ∷ []) (v ∷ []) refl $ fjoin t $
         fpack t (Valss (RawPtr ∷ bool ∷ [])) (within (shape (held.the_type R)) (d.at, (d.made, tt)) (v ∷ []))
-            (ptr_val d.at ∷ [], (vbool d.made ∷ [], tt)) $ fjoin t $ s)
+        (ptr_val d.at ∷ [], (vbool d.made ∷ [], tt)) $ fjoin t $ s)
 
     -- it is nothing, or a box at its pointer
     pub owns_either : K → (heap : Global) (made : Bool) (at : Ptr) (value : Option R.Denot)
@@ -67,7 +67,7 @@ module _ (R : RattleType) where
         → Seq K 𝓛 (‵ (owns_if R heap made at value) ∷ Γ) G
     owns_either t heap true at (Some x) none some =
         in_a_block t at (λ p. box_owns (ghosts.dealloc_token heap) R p x)
-            (fst∗ 𝓤 (never 𝓤) (sem 𝓛 (ghosts.dealloc_token heap (bare (lone R.mir)) null_ptr))) (λ b o e. some b o x e refl refl)
+        (fst∗ 𝓤 (never 𝓤) (sem 𝓛 (ghosts.dealloc_token heap (bare (lone R.mir)) null_ptr))) (λ b o e. some b o x e refl refl)
     owns_either t heap true at None none some = use1 𝓛 (given ⊥ (‵ ftrue)) (never_e 𝓤 _) $ learn t (λ z. absurd z)
     owns_either t heap false at (Some x) none some = use1 𝓛 (given ⊥ (‵ ftrue)) (never_e 𝓤 _) $ learn t (λ z. absurd z)
     owns_either t heap false at None none some = drop t $ none refl refl

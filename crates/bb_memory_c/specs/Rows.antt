@@ -26,7 +26,7 @@ one_chunk_row = one_chunk.the_row
 abbrev pub pool_row : RattleType
 pool_row =
     pool.the_row (words.the_row heap.the_row ghosts) counted_view.the_row counter.the_row
-        (held_words.ghosts heap.the_row ghosts dict dict)
+    (held_words.ghosts heap.the_row ghosts dict dict)
     (words_set.ghosts heap.the_row ghosts dict dict)
 
 abbrev pub fixed_pool_row : RattleType

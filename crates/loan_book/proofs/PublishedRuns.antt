@@ -71,7 +71,7 @@ run-loaned may_allocate old new (made ∷ calls) (told ∷ replies) zero id chun
     let its_reply : told ≡ reply.Loaned id chunk = cc in
     let loans = subst (λ (k : LoanReply). BookStep may_allocate old made k mid) its_reply step in
     loaned-step may_allocate old mid new made calls replies id chunk (step-sound may_allocate old mid made told is step) loans
-        none rest
+    none rest
 run-loaned may_allocate old new (made ∷ calls) (told ∷ replies) (suc i) id chunk is (mid, step, rest) replied none =
     let next : suc i + 1 ≡ suc (i + 1) = omega arith in
     let none_behind = subst (λ k. publishes_in id (drop k (made ∷ calls)) ≡ 0) next none in

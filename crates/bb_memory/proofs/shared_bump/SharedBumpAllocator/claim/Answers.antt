@@ -52,7 +52,7 @@ loop-seen-preserved g c =
       table = c.exchange-found.ensures.table ∙ before.table;
       trying =
           goes_on c.args.self.now.scene (number_of me.0) (view_log me.0) (met_by me.0) c.args.layout c.loop-seen.seen
-              c.exchange-found.result
+          c.exchange-found.result
           c.loop-seen.seat.me c.exchange-found.new.seat.me before.trying (rw c.self.view_is at c.exchange-found.ensures.step)
           c.if-found-seen.false c.in-Some-place.ensures.fits.fitting;
       placed = c.in-Some-place.ensures.fits.placed;
@@ -64,7 +64,7 @@ pub place-requires-in-loop-seen : goal.place-requires-in-loop-seen
 place-requires-in-loop-seen g c =
     let me = c.args.seat.now.me in
     (raises c.args.self.now.scene (number_of me.0) (view_log me.0) (met_by me.0) c.args.layout c.loop-seen.seen
-        c.exchange-found.result
+    c.exchange-found.result
     c.loop-seen.seat.me c.exchange-found.new.seat.me c.loop-seen.invariant.trying
     (rw c.self.view_is at c.exchange-found.ensures.step)).1
 
@@ -72,7 +72,7 @@ pub loop-seen-smaller : goal.loop-seen-smaller
 loop-seen-smaller g c =
     let me = c.args.seat.now.me in
     let up = raises c.args.self.now.scene (number_of me.0) (view_log me.0) (met_by me.0) c.args.layout c.loop-seen.seen
-        c.exchange-found.result
+    c.exchange-found.result
     c.loop-seen.seat.me c.exchange-found.new.seat.me c.loop-seen.invariant.trying
     (rw c.self.view_is at c.exchange-found.ensures.step) in
     let apart = c.if-found-seen.false in

@@ -22,8 +22,11 @@ invariant_of-push_reserved c =
     let seated = c.deal-seat.ensures.first ∙ ap (λ (m : Me ℕ SeatView). (first_of m.0, [])) is in
     party_seat scene number [] c.deal-seat.result.me
     record {
-      seat = record { is = seated ∙ λ i. (alone (sight scene (met_by (sym seated i).0)) number [], []); interleaved = record
-          { steps = []; allowed = none_allowed; leaves = refl; logged = refl } };
+      seat = record {
+        is = seated ∙ λ i. (alone (sight scene (met_by (sym seated i).0)) number [], []);
+        interleaved = record
+            { steps = []; allowed = none_allowed; leaves = refl; logged = refl };
+      };
       idle = refl;
     }
     (omega (arith, c.requires.parties))
@@ -40,12 +43,14 @@ loop-number-preserved c =
     let dealt = c.deal-seat.ensures in
     let is =
     before.rest ∙ ap (λ (parties : List NumberedLog). (standing_for (sight scene 0) parties, []))
-        (fresh_more number count (omega arith)) in
+    (fresh_more number count (omega arith)) in
     let seated = dealt.first ∙ ap (λ (m : Me ℕ SeatView). (first_of m.0, [])) is in
     let value : BumpParty = party_in c.deal-seat.result.table_id number c.deal-seat.result.me.0 in
     let value_is : value ≡ fresh_party bump number = λ j. record {
-      allocator = record { table = (dealt.its_table ∙ before.table) j; scene = ap (λ (m : Me ℕ SeatView). scene_of m.0) seated j
-          };
+      allocator = record {
+        table = (dealt.its_table ∙ before.table) j;
+        scene = ap (λ (m : Me ℕ SeatView). scene_of m.0) seated j;
+      };
       number = number;
       log = ap (λ (m : Me ℕ SeatView). view_log m.0) seated j;
       met = ap (λ (m : Me ℕ SeatView). met_by m.0) seated j;

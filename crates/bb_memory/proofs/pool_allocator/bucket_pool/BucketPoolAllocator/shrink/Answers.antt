@@ -12,7 +12,7 @@ returns-clause-resized g c =
     let may = subst (λ (p : Pool). MayShrink p.geometry.bucket c.args.place c.args.old c.args.new c.shrink.result) same
     c.shrink.ensures in
     MayShrink-resized (g.S.HeldSet.pool c.args.self.now) c.args.place c.args.old c.args.new c.shrink.result is c.requires.reserved
-        may
+    may
 
 pub returns-clause-inside : goal.returns-clause-inside
 returns-clause-inside g c =
@@ -22,4 +22,4 @@ returns-clause-inside g c =
     let may = subst (λ (p : Pool). MayShrink p.geometry.bucket c.args.place c.args.old c.args.new c.shrink.result) same
     c.shrink.ensures in
     MayShrink-inside (g.S.HeldSet.pool c.args.self.now) c.args.place c.args.old c.args.new c.shrink.result is c.requires.live
-        c.requires.reserved may
+    c.requires.reserved may

@@ -11,7 +11,7 @@ pub returns-in-Some-clause-met : goal.returns-in-Some-clause-met
 returns-in-Some-clause-met g c =
     let scene = c.args.self.now.scene in
     let told = subst (λ (s : PoolScene). TellsMeeting s
-        (map numbered_of c.pop.new.self.items ++ c.party.inside.seat.me.0.parties))
+    (map numbered_of c.pop.new.self.items ++ c.party.inside.seat.me.0.parties))
     (ap (λ (b : SharedPool). b.scene) c.self.view_is) c.meet_rest.ensures.found.told in
     agrees scene c.args.parties.now.items
     (subst (λ (parties : List NumberedLog). TellsMeeting scene parties)

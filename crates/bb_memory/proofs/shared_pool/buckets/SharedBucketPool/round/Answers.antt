@@ -18,7 +18,7 @@ returns-then-try_at g c =
     let scene : PoolScene = c.args.self.now.scene in
     let me = c.args.seat.now.me in
     let is = c.at_turn-bucket.ensures.value ∙ ap (λ (n : ℕ). at_turn n c.args.first c.loop-turn.turn)
-        c.number_of_buckets-count.ensures.value in
+    c.number_of_buckets-count.ensures.value in
     record {
       table = c.try_at.ensures.table ∙ c.loop-turn.invariant.table;
       step = round_takes scene (number_of me.0) (view_log me.0) c.args.first c.loop-turn.seat.me c.try_at.new.seat.me
@@ -31,7 +31,7 @@ loop-turn-preserved g c =
     let scene : PoolScene = c.args.self.now.scene in
     let me = c.args.seat.now.me in
     let is = c.at_turn-bucket.ensures.value ∙ ap (λ (n : ℕ). at_turn n c.args.first c.loop-turn.turn)
-        c.number_of_buckets-count.ensures.value in
+    c.number_of_buckets-count.ensures.value in
     record {
       table = c.try_at.ensures.table ∙ c.loop-turn.invariant.table;
       round = round_goes_on scene (number_of me.0) (view_log me.0) c.args.first c.loop-turn.seat.me
