@@ -81,13 +81,13 @@ pub fn one_is_served<R: Threads + Sync>(
     requires within { IsWithin pool.now.scene.geometry.bucket layout }
     ensures one { IfOk result (λ back. HasTaker pool.now.scene back.items) }
 {
-    let back = thread::map_vec(rt, parties, &|party| ask_once(pool, party, layout));
-    let Ok(mut back) = back else {
+    let asked = thread::map_vec(rt, parties, &|party| ask_once(pool, party, layout));
+    let Ok(mut asked) = asked else {
         return Err(AllocError);
     };
-    pool.meet_all(&mut back);
-    pool.one_took(&back);
-    Ok(back)
+    pool.meet_all(&mut asked);
+    pool.one_took(&asked);
+    Ok(asked)
 }
 
 /// What is known where all parties of a pool have met. It does nothing: its contract is the law.
