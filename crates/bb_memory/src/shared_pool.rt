@@ -20,7 +20,7 @@ ghost use Rattle.bb_memory.specs.SharedPoolRounds.{HasMissedAll, refused_round};
 mod all_parties;
 mod bucket;
 mod buckets;
-mod by_number;
+pub mod by_number;
 mod fixed_size;
 mod flags;
 mod meeting;

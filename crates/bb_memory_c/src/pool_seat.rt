@@ -11,7 +11,7 @@ use crate::kind::{Gives, Keeps};
 use bb_memory::allocator::{AllocationGrowError, AllocationShrinkError};
 use bb_memory::layout::{Chunk, Layout};
 use bb_memory::pool_allocator::AllocationError;
-use bb_memory::shared_pool::{PoolParty, SharedPoolAllocator};
+use bb_memory::shared_pool::{by_number, PoolParty, SharedPoolAllocator};
 use std::alloc::Global;
 use std::marker::Model;
 use std::sync::Arc;
@@ -105,7 +105,7 @@ impl Keeps for PoolSeat {
 
     fn give_back(&mut self, place: usize) {
         let number = self.held_at(place).unwrap();
-        let bucket = self.pool.bucket(&self.party, number, 0);
+        let bucket = by_number::bucket(&*self.pool, &self.party, number, 0);
         self.pool.deallocate_bucket(&mut self.party, bucket);
         self.held[number as usize] = false;
     }
@@ -121,7 +121,7 @@ impl Keeps for PoolSeat {
         new: Layout,
     ) -> Result<Chunk, AllocationGrowError> {
         let number = self.held_at(place).unwrap();
-        let mut bucket = self.pool.bucket(&self.party, number, 0);
+        let mut bucket = by_number::bucket(&*self.pool, &self.party, number, 0);
         self.pool.grow(&mut bucket, old, new)
     }
 
@@ -132,7 +132,7 @@ impl Keeps for PoolSeat {
         new: Layout,
     ) -> Result<Chunk, AllocationShrinkError> {
         let number = self.held_at(place).unwrap();
-        let mut bucket = self.pool.bucket(&self.party, number, 0);
+        let mut bucket = by_number::bucket(&*self.pool, &self.party, number, 0);
         self.pool.shrink(&mut bucket, old, new)
     }
 }

@@ -21,30 +21,36 @@ impl<const CAPPED: usize, const MOST: usize> SharedBucketPool<CAPPED, MOST> {
     {
         self.flags.geometry().number_at(place)
     }
+}
 
-    /// The bucket of this number again, with a chunk of `len` bytes, without a step. It is for a user that kept the number in
-    /// place of the bucket. The party has to be this pool's, and its log has to hold the bucket: this party took it, and it
-    /// wasn't given back since. The length has to be at most the bucket's size. Tokens that there are already stay, and a return
-    /// by one leaves the others stale.
-    ///
-    /// ```
-    /// let taken = pool.allocate(&mut party, Layout::from_size_align(48, 4).unwrap())?;
-    /// let number = taken.number();
-    /// let again = pool.bucket(&party, number, 48);
-    /// pool.deallocate_bucket(&mut party, again);
-    /// ```
-    pub fn bucket(&self, party: &PoolParty, number: u32, len: usize) -> Bucket<'_>
-        requires party { party.now.allocator ≡ self.now }
-        requires held { IsHeldAfter party.now.log number }
-        requires short { len ≤ self.now.scene.geometry.bucket.size }
-        ensures value { result ≡ taken_bucket self.now number len }
-    {
-        // What holds of the party is known from here on.
-        let _ = party.number();
-        Bucket {
-            flags: &self.flags,
-            number,
-            len,
-        }
+/// The bucket of this number again, with a chunk of `len` bytes, without a step. It is for a user that can keep no [`Bucket`],
+/// which borrows its pool, and kept the number in its place, as an interface for C does. So it is no call of the pool: it has to
+/// be imported. The party has to be this pool's, and its log has to hold the bucket: this party took it, and it wasn't given back
+/// since. The length has to be at most the bucket's size. Tokens that there are already stay: a return by one leaves the others
+/// stale, which still answer the bucket's number and chunk when another party has taken it.
+///
+/// ```
+/// let taken = pool.allocate(&mut party, Layout::from_size_align(48, 4).unwrap())?;
+/// let number = taken.number();
+/// let again = by_number::bucket(&pool, &party, number, 48);
+/// pool.deallocate_bucket(&mut party, again);
+/// ```
+pub fn bucket<'a, const CAPPED: usize, const MOST: usize>(
+    pool: &'a SharedBucketPool<CAPPED, MOST>,
+    party: &PoolParty,
+    number: u32,
+    len: usize,
+) -> Bucket<'a>
+    requires party { party.now.allocator ≡ pool.now }
+    requires held { IsHeldAfter party.now.log number }
+    requires short { len ≤ pool.now.scene.geometry.bucket.size }
+    ensures value { result ≡ taken_bucket pool.now number len }
+{
+    // What holds of the party is known from here on.
+    let _ = party.number();
+    Bucket {
+        flags: &pool.flags,
+        number,
+        len,
     }
 }

@@ -6,7 +6,7 @@ ghost use Rattle.shared_tests.specs.Users.{IsKeptBy};
 use bb_memory::layout::{Chunk, Layout};
 use bb_memory::shared_pool::{
     AllocationError, AllocationGrowError, AllocationShrinkError, Bucket, PoolParty,
-    SharedFixedSizePoolAllocator, SharedPoolAllocator,
+    SharedFixedSizePoolAllocator, SharedPoolAllocator, by_number,
 };
 
 /// Where a request looks for a bucket.
@@ -139,7 +139,7 @@ impl SharedBuckets for SharedPoolAllocator {
         if len > self.bucket_size() {
             return None;
         }
-        Some(self.bucket(party, bucket.number(), len))
+        Some(by_number::bucket(self, party, bucket.number(), len))
     }
 
     fn grow(
@@ -214,7 +214,7 @@ impl<const MOST: usize> SharedBuckets for SharedFixedSizePoolAllocator<MOST> {
         if len > self.bucket_size() {
             return None;
         }
-        Some(self.bucket(party, bucket.number(), len))
+        Some(by_number::bucket(self, party, bucket.number(), len))
     }
 
     fn grow(

@@ -14,7 +14,7 @@ use bb_memory::layout::{Chunk, Layout, LayoutError, round_up};
 use bb_memory::one_chunk_allocator::OneChunkAllocator;
 use bb_memory::pool_allocator::{FixedSizePoolAllocator, PoolAllocator, pool_count_law};
 use bb_memory::region::Region;
-use bb_memory::shared_pool::{SharedFixedSizePoolAllocator, SharedPoolAllocator};
+use bb_memory::shared_pool::{SharedFixedSizePoolAllocator, SharedPoolAllocator, by_number};
 use bb_memory::steps::{BumpOutcome, BumpStep, BumpWorld, PoolOutcome, PoolStep, PoolWorld};
 use loan_book::{LoanBook, LoanError};
 use std::alloc::{AllocError, Global};
@@ -193,7 +193,7 @@ pub fn shared_pool_by_number(alloc: Global) -> Result<(), AllocationError> {
     let mut party = parties.pop().unwrap();
     let taken = pool.allocate(&mut party, Layout::from_size_align(48, 4).unwrap())?;
     let number = taken.number();
-    let again = pool.bucket(&party, number, 48);
+    let again = by_number::bucket(&pool, &party, number, 48);
     pool.deallocate_bucket(&mut party, again);
     Ok(())
 }

@@ -1,10 +1,10 @@
 use Rattle.std.proofs.Common.{◌<◌, subst}
 use Rattle.bb_memory.specs.SharedPool.{SharedPool}
 use Rattle.bb_memory.proofs.SharedPoolLaws.{held_below}
-use Rattle.bb_memory.proofs.shared_pool.buckets.SharedBucketPool.bucket.Goals as goal
+use Rattle.bb_memory.proofs.shared_pool.by_number.bucket.Goals as goal
 
 pub invariant_of-result : goal.invariant_of-result
-invariant_of-result g c = rw c.self.view_is (
+invariant_of-result g c = rw c.pool.view_is (
   subst (λ (pool : SharedPool). c.args.number < pool.scene.geometry.buckets) c.requires.party
       (held_below c.args.party.now c.number.ensures.party c.args.number c.requires.held),
   c.requires.short,
