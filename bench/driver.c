@@ -6,15 +6,19 @@
 #include <time.h>
 
 enum { ROUNDS = 31, CALLS = 40000, MOST_BUCKETS = 65536, MOST_CALLS = 2 * MOST_BUCKETS + CALLS };
-enum { POOLS = 6, PATTERNS = 6, SIZES = 5, FILLS = 3, ROWS = SIZES * FILLS };
+enum { PATTERNS = 6, SIZES = 5, FILLS = 3, ROWS = SIZES * FILLS };
 enum { GROUP = 64 };
 
 typedef enum { ONE, TWO, LAST, OLDEST, RANDOM, REFUSED } pattern;
 
 static const char *const pattern_names[PATTERNS] = {"one", "two", "last", "oldest", "random", "refused"};
-static const char *const pool_names[POOLS] = {"pool on words",  "fixed pool",      "plain list",
-                                              "lock-free list", "malloc and free", "loop alone"};
-static follow *const pools[POOLS] = {bench_words, bench_fixed, plain_list, lock_free_list, malloc_free, no_pool};
+static const struct {
+    const char *name;
+    follow *run;
+} pools[] = {
+#define POOL_ENTRY(name, loop) {name, loop},
+    POOL_ROWS(POOL_ENTRY)};
+enum { POOLS = sizeof pools / sizeof *pools };
 static const uint32_t sizes[SIZES] = {8, 64, 512, 4096, MOST_BUCKETS};
 static const uint32_t fills[FILLS] = {50, 99, 100};
 
@@ -142,9 +146,9 @@ static void time_row(pattern p, size_t row, int round) {
         some_calls(p, t.buckets);
     for (int kind = 0; kind < POOLS; kind++) {
         // The first run finds what the loop before left in the caches and in the heap, and isn't counted.
-        timed(pools[kind], &t, before, first);
-        double made = timed(pools[kind], &t, before, first);
-        spent[p][row][kind][round] = (timed(pools[kind], &t, calls, born) - made) * 1e9 / (double)(calls - before);
+        timed(pools[kind].run, &t, before, first);
+        double made = timed(pools[kind].run, &t, before, first);
+        spent[p][row][kind][round] = (timed(pools[kind].run, &t, calls, born) - made) * 1e9 / (double)(calls - before);
     }
 }
 
@@ -158,7 +162,7 @@ static void time_pools(void) {
     for (int p = 0; p < PATTERNS; p++)
         for (size_t row = 0; row < ROWS; row++)
             for (int kind = 0; has_row(p, row) && kind < POOLS; kind++) {
-                printf("pools,%s,%u,%u,%s,", pattern_names[p], sizes[row / FILLS], fills[row % FILLS], pool_names[kind]);
+                printf("pools,%s,%u,%u,%s,", pattern_names[p], sizes[row / FILLS], fills[row % FILLS], pools[kind].name);
                 print_times(spent[p][row][kind]);
             }
 }
@@ -184,29 +188,19 @@ static void count_reads(void) {
         }
 }
 
-typedef struct {
+// What is asked of an allocator, the loop here and its peer in C, and whether the sizes are mixed.
+static const struct {
     const char *name;
-    const char *kind;
-    rounds_of *run;
+    rounds_of *run[2];
     int mixed;
-} line;
-
-static const line lines[] = {
-    {"bump, 48 bytes", "ours", bench_bump, 0},
-    {"bump, 48 bytes", "in C", plain_bump, 0},
-    {"bump, mixed sizes", "ours", bench_bump, 1},
-    {"bump, mixed sizes", "in C", plain_bump, 1},
-    {"one chunk", "ours", bench_one_chunk, 0},
-    {"one chunk", "in C", plain_chunk, 0},
-    {"heap, 48 bytes", "ours", bench_heap, 0},
-    {"heap, 48 bytes", "in C", calloc_free, 0},
-    {"heap, mixed sizes", "ours", bench_heap, 1},
-    {"heap, mixed sizes", "in C", calloc_free, 1},
-    {"loop alone", "ours", no_allocator, 0},
-};
+} lines[] = {
+#define OTHER_ENTRY(name, loop, peer, mixed) {name, {loop, peer}, mixed},
+    OTHER_ROWS(OTHER_ENTRY)};
 enum { LINES = sizeof lines / sizeof *lines };
 
-static double line_spent[LINES][ROUNDS];
+static const char *const kinds[2] = {"ours", "in C"};
+
+static double line_spent[LINES][2][ROUNDS];
 
 // The others: for each request its nanoseconds, together with those of giving back what it took.
 static void time_lines(void) {
@@ -214,15 +208,17 @@ static void time_lines(void) {
     for (size_t i = 0; i < GROUP; i++)
         same[i] = 48, mixed[i] = 1 + below(256);
     for (int round = 0; round < ROUNDS; round++)
-        for (size_t i = 0; i < LINES; i++) {
-            double start = seconds();
-            lines[i].run(lines[i].mixed ? mixed : same, GROUP, 8, rounds);
-            line_spent[i][round] = (seconds() - start) * 1e9 / (rounds * GROUP);
+        for (size_t i = 0; i < LINES; i++)
+            for (int kind = 0; kind < 2 && lines[i].run[kind]; kind++) {
+                double start = seconds();
+                lines[i].run[kind](lines[i].mixed ? mixed : same, GROUP, 8, rounds);
+                line_spent[i][kind][round] = (seconds() - start) * 1e9 / (rounds * GROUP);
+            }
+    for (size_t i = 0; i < LINES; i++)
+        for (int kind = 0; kind < 2 && lines[i].run[kind]; kind++) {
+            printf("others,%s,0,0,%s,", lines[i].name, kinds[kind]);
+            print_times(line_spent[i][kind]);
         }
-    for (size_t i = 0; i < LINES; i++) {
-        printf("others,%s,0,0,%s,", lines[i].name, lines[i].kind);
-        print_times(line_spent[i]);
-    }
 }
 
 int main(void) {
