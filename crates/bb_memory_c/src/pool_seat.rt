@@ -11,7 +11,7 @@ use crate::kind::{Gives, Keeps};
 use bb_memory::allocator::{AllocationGrowError, AllocationShrinkError};
 use bb_memory::layout::{Chunk, Layout};
 use bb_memory::pool_allocator::AllocationError;
-use bb_memory::shared_pool::{by_number, PoolParty, SharedPoolAllocator};
+use bb_memory::shared_pool::{PoolParty, SharedPoolAllocator, by_number};
 use std::alloc::Global;
 use std::marker::Model;
 use std::sync::Arc;
