@@ -33,7 +33,7 @@ mod SharedPoolLaws
 mod SharedPoolMeetings
 mod SharedPoolParties
 mod SharedPoolPasses
-mod SharedPoolRounds
+pub mod SharedPoolRounds
 mod SharedPoolSeats
 pub mod SharedPoolTries
 mod SharedPoolWholes

@@ -119,6 +119,18 @@ pub held_after_misses : (buckets party first turn bucket : ℕ) (log : PoolLog) 
     IsHeldAfter (log ++ misses buckets party first turn) bucket
 held_after_misses buckets party first turn bucket log held = missed_same buckets party first turn bucket log ∙ held
 
+-- a round that takes a bucket leaves that one held, and the others as they were
+pub held-round : (buckets party first turn taken bucket : ℕ) (log : PoolLog) → at_turn buckets first turn ≡ taken →
+    held_through bucket false (log ++ taking_round buckets party first turn)
+    ≡ (if taken == bucket then true else held_through bucket false log)
+held-round buckets party first turn taken bucket log there =
+    let tried : ℕ = at_turn buckets first turn in
+    let before : PoolLog = misses buckets party first turn in
+    sym (ap (held_through bucket false) (append_assoc log before (taking_at party tried)))
+    ∙ held-taking_at party tried bucket (log ++ before)
+    ∙ ap (λ (held : Bool). if tried == bucket then true else held) (missed_same buckets party first turn bucket log)
+    ∙ ap (λ (n : ℕ). if n == bucket then true else held_through bucket false log) there
+
 pub held_after_round : (buckets party first turn bucket : ℕ) (log : PoolLog) → IsHeldAfter log bucket →
     IsHeldAfter (log ++ taking_round buckets party first turn) bucket
 held_after_round buckets party first turn bucket log held =

@@ -1,30 +1,24 @@
--- A seat's flags, and what a pass or a return makes of the log that they tell of.
-use Rattle.std.proofs.Common.{◌≡◌, ℕ, zero, suc, ◌<◌, Bool, true, false, List, [], ◌∷◌, ◌++◌, length, refl, sym, ap, ◌∙◌, subst, inl, inr}
-use Rattle.std.specs.Prelude.{Some, Ok, Err, fold, nat_lt, ◌==◌, ◌+◌, if◌then◌else◌, slice_get, slice_set}
+-- A seat's flags, and what a round or a return makes of the log that they tell of.
+use Rattle.std.proofs.Common.{◌≡◌, ℕ, ◌<◌, Bool, true, false, List, ◌++◌, length, sym, ap, ◌∙◌, subst, inl, inr}
+use Rattle.std.specs.Prelude.{Some, Ok, Err, ◌==◌, if◌then◌else◌, slice_get, slice_set}
 use Rattle.std.proofs.lemmas.Bool.{cases_eq}
 use Rattle.std.proofs.lemmas.Option.{same_Some, slice_get-get_or, slice_get_within}
-use Rattle.bb_memory_base.specs.PoolHistory.{PoolLog, entry_of}
-use Rattle.bb_memory_base.specs.PoolLogs.{IsHeldAfter, held_after, loss_at}
+use Rattle.bb_memory_base.specs.PoolHistory.{PoolLog}
+use Rattle.bb_memory_base.specs.PoolLogs.{IsHeldAfter}
 use Rattle.bb_memory_base.specs.declared.layout.Layout.{Layout}
 use Rattle.bb_memory_base.specs.declared.allocator.AllocationError.{AllocationError}
 use Rattle.bb_memory_base.specs.declared.allocator.AllocationError.TheVariants.{SizeIsZero, SizeTooLarge, AlignmentFailure, OutOfMemory}
-use Rattle.bb_memory_base.specs.declared.steps.pool.PoolStep.TheVariants.{Try}
-use Rattle.bb_memory_base.specs.declared.steps.pool.PoolOutcome.TheVariants.{Takes, Loses, RefusedAtLoss}
 use Rattle.bb_memory_base.proofs.PoolSteps.{test_same, test_apart}
 use Rattle.bb_memory_base.proofs.SliceGets.{length-set_at}
 use Rattle.bb_memory_base.proofs.SliceSets.{slice_get-set_other, slice_get-set_same}
 use Rattle.bb_memory_base.proofs.PoolHolders.{held_through}
-use Rattle.bb_memory.specs.SharedPool.{MayTake, PoolParty, SharedPool, TakenBucket, losses, refused_pass, return_entry, taking_pass, with_entries}
-use Rattle.bb_memory.proofs.SharedPoolTries.{held-append, held-losses, held-taking}
+use Rattle.bb_memory.specs.SharedPool.{PoolParty, SharedPool, TakenBucket, return_entry, with_entries}
+use Rattle.bb_memory.specs.SharedPoolRounds.{MayTakeFrom, taking_round}
+use Rattle.bb_memory.proofs.SharedPoolRounds.{held-round, missed_same}
+use Rattle.bb_memory.proofs.SharedPoolTries.{held-append}
 use Rattle.bb_memory_c.specs.SharedPools.{AreHeldFlags, IsSeatAt}
 
 -- LOGS
-
-after-refusal : (buckets party bucket : ℕ) (log : PoolLog) →
-    held_through bucket false (log ++ refused_pass buckets party) ≡ held_through bucket false log
-after-refusal buckets party bucket log =
-    held-append bucket false log (refused_pass buckets party)
-    ∙ held-losses buckets party buckets bucket (held_through bucket false log)
 
 after-return : (party returned bucket : ℕ) (log : PoolLog) →
     held_through bucket false (log ++ return_entry party returned)
@@ -56,15 +50,17 @@ flags-set flags number flag log after below exact left = λ bucket. elim (cases_
 -- SEATS
 
 -- a request that took no bucket leaves the flags
-pub refused-seat : (pool : SharedPool) (party new : PoolParty) (flags : List Bool) (layout : Layout) (error : AllocationError) →
-    IsSeatAt pool party flags → MayTake party layout (Err error) new → IsSeatAt pool new flags
-refused-seat pool party new flags layout SizeIsZero is told = absurd told
-refused-seat pool party new flags layout SizeTooLarge is told = subst (λ (p : PoolParty). IsSeatAt pool p flags) (sym told.1) is
-refused-seat pool party new flags layout AlignmentFailure is told =
+pub refused-seat : (pool : SharedPool) (party new : PoolParty) (flags : List Bool) (first : ℕ) (layout : Layout)
+    (error : AllocationError) →
+    IsSeatAt pool party flags → MayTakeFrom first party layout (Err error) new → IsSeatAt pool new flags
+refused-seat pool party new flags first layout SizeIsZero is told = absurd told
+refused-seat pool party new flags first layout SizeTooLarge is told =
+    subst (λ (p : PoolParty). IsSeatAt pool p flags) (sym told.1) is
+refused-seat pool party new flags first layout AlignmentFailure is told =
     subst (λ (p : PoolParty). IsSeatAt pool p flags) (sym told.2) is
-refused-seat pool party new flags layout OutOfMemory is told =
+refused-seat pool party new flags first layout OutOfMemory is told =
     let buckets = party.allocator.scene.geometry.buckets in
-    let same = λ (bucket : ℕ). after-refusal buckets party.number bucket party.log in
+    let same = λ (bucket : ℕ). missed_same buckets party.number first buckets bucket party.log in
     subst (λ (p : PoolParty). IsSeatAt pool p flags) (sym told.1) record {
       theirs = is.theirs;
       as_many = is.as_many;
@@ -72,20 +68,22 @@ refused-seat pool party new flags layout OutOfMemory is told =
     }
 
 -- one that took a bucket sets its flag
-pub taking-seat : (pool : SharedPool) (party new : PoolParty) (flags : List Bool) (layout : Layout) (taken : TakenBucket) →
-    IsSeatAt pool party flags → MayTake party layout (Ok taken) new →
+pub taking-seat : (pool : SharedPool) (party new : PoolParty) (flags : List Bool) (first : ℕ) (layout : Layout)
+    (taken : TakenBucket) →
+    IsSeatAt pool party flags → MayTakeFrom first party layout (Ok taken) new →
     IsSeatAt pool new (slice_set flags taken.number true)
-taking-seat pool party new flags layout taken is told =
+taking-seat pool party new flags first layout taken is told =
     let buckets = party.allocator.scene.geometry.buckets in
+    let round = told.2 in
     let below : taken.number < length flags =
     subst (λ n. taken.number < n) (sym (is.as_many ∙ ap (λ (p : SharedPool). p.scene.geometry.buckets) (sym is.theirs)))
     told.0.below in
-    subst (λ (p : PoolParty). IsSeatAt pool p (slice_set flags taken.number true)) (sym told.2) record {
+    subst (λ (p : PoolParty). IsSeatAt pool p (slice_set flags taken.number true)) (sym round.adds) record {
       theirs = is.theirs;
       as_many = length-set_at flags taken.number true ∙ is.as_many;
-      exact = flags-set flags taken.number true party.log (party.log ++ taking_pass buckets party.number taken.number) below
+      exact = flags-set flags taken.number true party.log (party.log ++ taking_round buckets party.number first round.turn) below
           is.exact
-          (λ bucket. held-taking buckets party.number taken.number bucket party.log);
+          (λ bucket. held-round buckets party.number first round.turn taken.number bucket party.log round.there);
     }
 
 -- a return unsets it

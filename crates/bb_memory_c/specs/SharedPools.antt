@@ -8,7 +8,8 @@ use Rattle.bb_memory_base.specs.PoolLogs.{IsHeldAfter}
 use Rattle.bb_memory_base.specs.declared.layout.Layout.{Layout}
 use Rattle.bb_memory_base.specs.declared.allocator.AllocationError.{AllocationError}
 use Rattle.bb_memory.specs.NumberSet.{Has}
-use Rattle.bb_memory.specs.SharedPool.{MayTake, PoolParty, SharedPool, TakenBucket, chunk_of, fresh_party, return_entry, with_entries}
+use Rattle.bb_memory.specs.SharedPool.{PoolParty, SharedPool, TakenBucket, chunk_of, fresh_party, return_entry, with_entries}
+use Rattle.bb_memory.specs.SharedPoolRounds.{MayTakeFrom}
 
 -- a shared pool, and how many of its parties have no seat yet
 pub record PoolSeats : Type 0 where
@@ -54,11 +55,11 @@ abbrev pub chunk_in : Result TakenBucket AllocationError → Result Chunk Alloca
 chunk_in (Ok bucket) = Ok (chunk_of bucket)
 chunk_in (Err error) = Err error
 
--- a request is answered the chunk in the bucket that the party took, or why it took none
+-- a request is answered the chunk in the bucket that the party took by a round from some bucket, or why it took none
 abbrev pub GivesChunk : PoolParty → Layout → Result Chunk AllocationError → PoolParty → Type 0
 GivesChunk party layout answer after =
     (taken : Result TakenBucket AllocationError) × (answer ≡ chunk_in taken)
-    × MayTake party layout taken after
+    × (first : ℕ) × MayTakeFrom first party layout taken after
 
 -- the bucket at the place was given back, by one step
 abbrev pub GivesBack : PoolParty → ℕ → PoolParty → Type 0

@@ -81,7 +81,7 @@ impl Gives for PoolSeat {
     ghost may_give = { GivesChunk };
 
     fn give(&mut self, layout: Layout) -> Result<Chunk, AllocationError> {
-        let bucket = self.pool.allocate(&mut self.party, layout)?;
+        let bucket = self.pool.allocate_near(&mut self.party, layout)?;
         let (number, chunk) = (bucket.number(), bucket.chunk());
         self.held[number as usize] = true;
         Ok(chunk)

@@ -138,7 +138,8 @@ pub extern "C" fn bb_pool_seat_free(alloc: Global, handle: &mut PoolSeatHandle) 
     free(handle, alloc)
 }
 
-/// Asks for a chunk of `size` bytes at a multiple of `align`, in a bucket that isn't held.
+/// Asks for a chunk of `size` bytes at a multiple of `align`, in a bucket that isn't held, by one round over the buckets that
+/// begins near the one that the seat had last.
 ///
 /// C guarantees of the handle what the crate's page says.
 #[unsafe(no_mangle)]

@@ -7,12 +7,14 @@ use Rattle.bb_memory_c.proofs.pool_seat.PoolSeatGives.give.Goals as goal
 
 pub invariant_of-self : goal.invariant_of-self
 invariant_of-self c =
-    refused-seat (arc_value c.self.inside.pool) c.self.inside.party c.allocate.new.party c.self.inside.held.items c.args.layout
-    _ c.self.invariant c.in_err-bucket.ensures.answer
+    let answer = c.in_err-bucket.ensures.answer in
+    refused-seat (arc_value c.self.inside.pool) c.self.inside.party c.allocate_near.new.party c.self.inside.held.items answer.0
+    c.args.layout _ c.self.invariant answer.1
 
 pub invariant_of-self-2 : goal.invariant_of-self-2
 invariant_of-self-2 c =
-    subst (λ n. IsSeatAt (arc_value c.self.inside.pool) c.allocate.new.party (slice_set c.self.inside.held.items n true))
+    let answer = c.in_ok-bucket.ensures.answer in
+    subst (λ n. IsSeatAt (arc_value c.self.inside.pool) c.allocate_near.new.party (slice_set c.self.inside.held.items n true))
     (sym c.number-number.ensures.value)
-    (taking-seat (arc_value c.self.inside.pool) c.self.inside.party c.allocate.new.party c.self.inside.held.items c.args.layout
-    _ c.self.invariant c.in_ok-bucket.ensures.answer)
+    (taking-seat (arc_value c.self.inside.pool) c.self.inside.party c.allocate_near.new.party c.self.inside.held.items answer.0
+    c.args.layout _ c.self.invariant answer.1)
