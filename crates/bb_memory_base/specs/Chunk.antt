@@ -19,6 +19,10 @@ pub record IsChunk (chunk : Chunk) : Type 0 where
 abbrev pub Covers : Chunk → ℕ → Type 0
 Covers chunk n = (chunk.place ≤ n) × (n < chunk_end chunk)
 
+-- each of its numbers is one of the other's
+abbrev pub IsPart : Chunk → Chunk → Type 0
+IsPart part whole = (whole.place ≤ part.place) × (chunk_end part ≤ chunk_end whole)
+
 -- they share a number
 abbrev pub Overlap : Chunk → Chunk → Type 0
 Overlap one other = (n : ℕ) × Covers one n × Covers other n

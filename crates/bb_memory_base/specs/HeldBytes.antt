@@ -35,6 +35,10 @@ pub record ChangesOnly (old new : HeldBytes) (chunk : Chunk) (bytes : List ℕ) 
 abbrev pub ZeroesOnly : HeldBytes → HeldBytes → Chunk → Type 0
 ZeroesOnly old new chunk = ChangesOnly old new chunk (replicate chunk.len 0)
 
+-- a chunk's first bytes
+abbrev pub first_part : ℕ → Chunk → Chunk
+first_part size chunk = record { place = chunk.place; len = size }
+
 -- what a chunk has behind its first bytes
 abbrev pub part_behind : ℕ → Chunk → Chunk
 part_behind size chunk = record { place = chunk.place + size; len = chunk.len - size }

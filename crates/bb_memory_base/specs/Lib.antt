@@ -8,6 +8,7 @@ pub mod Chunk
 pub mod FirstPlace
 pub mod Fitting
 pub mod HeldBytes
+pub mod Hints
 pub mod LeastPlace
 pub mod Lending
 pub mod LiveList

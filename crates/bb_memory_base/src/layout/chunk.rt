@@ -1,11 +1,11 @@
 //! Chunks, which are what is given.
-ghost use Rattle.std.specs.Prelude.{◌≡◌, ◌∷◌, ◌++◌, ◌<◌, ◌≤◌, ◌%◌, ◌↔◌, [], List, All, IsTrue, IfSome};
+ghost use Rattle.std.specs.Prelude.{◌≡◌, ◌∷◌, ◌++◌, ◌<◌, ◌≤◌, ◌%◌, ◌↔◌, ℕ, [], List, All, IsTrue, IfSome};
 ghost use Rattle.std.specs.Option.{SomeIff};
-ghost use Rattle.bb_memory_base.specs.Chunk.{Chunk, IsChunk, AreApart, chunk_end};
+ghost use Rattle.bb_memory_base.specs.Chunk.{Chunk, IsChunk, IsInside, IsPart, AreApart, chunk_end};
 ghost use Rattle.bb_memory_base.specs.Region.{Region};
 ghost use Rattle.bb_memory_base.specs.LiveList.{IsSound};
 ghost use Rattle.bb_memory_base.specs.BumpObject.{chunk_at_or_after};
-ghost use Rattle.bb_memory_base.specs.HeldBytes.{part_behind};
+ghost use Rattle.bb_memory_base.specs.HeldBytes.{first_part, part_behind};
 
 use super::{Layout, round_up};
 use std::marker::Model;
@@ -95,6 +95,22 @@ impl Chunk {
         self.place + self.len
     }
 
+    /// Its first `size` bytes, of which it has to have so many.
+    ///
+    /// ```
+    /// let (head, body) = (chunk.first(16), chunk.behind(16));
+    /// ```
+    #[inline]
+    pub fn first(&self, size: usize) -> Chunk
+        requires { size ≤ self.now.len }
+        ensures { result ≡ first_part size self.now }
+    {
+        Chunk {
+            place: self.place,
+            len: size,
+        }
+    }
+
     /// What lies behind its first `size` bytes, of which it has to have so many.
     #[inline]
     pub fn behind(&self, size: usize) -> Chunk
@@ -114,4 +130,21 @@ pub fn given_law()
         → IsSound region (live ++ chunk ∷ []) → All (AreApart chunk) live }
     ensures last_two { (region : Region) (live : List Chunk) (one other : Chunk)
         → IsSound region ((live ++ one ∷ []) ++ other ∷ []) → AreApart one other }
+{}
+
+/// Parts of chunks. It does nothing: its contract is the law.
+pub fn parts_law()
+    // The first bytes of a chunk and what lies behind them are its parts, and they are apart.
+    ensures first { (chunk : Chunk) (size : ℕ) → size ≤ chunk.len
+        → IsPart (first_part size chunk) chunk }
+    ensures behind { (chunk : Chunk) (size : ℕ) → size ≤ chunk.len
+        → IsPart (part_behind size chunk) chunk }
+    ensures cut { (chunk : Chunk) (size : ℕ)
+        → AreApart (first_part size chunk) (part_behind size chunk) }
+
+    // Parts of chunks that are apart are apart, and a part lies where the chunk does.
+    ensures apart { (one other part rest : Chunk) → IsPart part one → IsPart rest other
+        → AreApart one other → AreApart part rest }
+    ensures inside { (region : Region) (chunk part : Chunk) → IsPart part chunk
+        → IsInside region chunk → IsInside region part }
 {}

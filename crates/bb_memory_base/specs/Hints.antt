@@ -1,0 +1,17 @@
+-- Lemmas of std by one name, for the attribute `using`, which takes no name with a dash.
+use Rattle.std.proofs.lemmas.List.{map-append, map-set, take-map, drop-map}
+use Rattle.std.proofs.lemmas.Grind.{common_steps}
+use Rattle.std.proofs.lemmas.Option.{gets, slice_get-map}
+use Rattle.std.proofs.Math.Seq.{map-set_same, set-append_seam}
+
+pub ruleset parts_of_lists = (
+  map-append,
+  map-set,
+  take-map,
+  drop-map,
+  map-set_same,
+  slice_get-map,
+  set-append_seam,
+)
+
+pub ruleset lists = (parts_of_lists, common_steps, gets)

@@ -1,0 +1,67 @@
+//! Laws of lists, for a user whose contracts speak of what a vector has. Each is a function that does nothing: called in a body, it
+//! puts its clauses in reach there.
+ghost use Rattle.std.specs.Prelude.{◌≡◌, ◌≢◌, ◌<◌, ◌≤◌, ◌+◌, ◌∷◌, ◌++◌, ℕ, [], List, Some, length, map, remove, slice_get, slice_set, sum_by};
+
+/// One more item behind the others.
+pub fn append_law<T>()
+    ensures last { (items : List T) (item : T)
+        → slice_get (items ++ item ∷ []) (length items) ≡ Some item }
+    ensures others { (items : List T) (item : T) (position : ℕ) → position < length items
+        → slice_get (items ++ item ∷ []) position ≡ slice_get items position }
+    ensures length { (items : List T) (item : T)
+        → length (items ++ item ∷ []) ≡ length items + 1 }
+    ensures taken_back { (items : List T) (item : T)
+        → remove (items ++ item ∷ []) (length items) ≡ items }
+{}
+
+/// Another item at a position.
+pub fn set_law<T>()
+    ensures there { (items : List T) (item : T) (position : ℕ) → position < length items
+        → slice_get (slice_set items position item) position ≡ Some item }
+    ensures others { (items : List T) (item : T) (position other : ℕ) → other ≢ position
+        → slice_get (slice_set items position item) other ≡ slice_get items other }
+    ensures length { (items : List T) (item : T) (position : ℕ)
+        → length (slice_set items position item) ≡ length items }
+{}
+
+/// An item taken out, so that those behind it move up.
+pub fn remove_law<T>()
+    ensures before { (items : List T) (position other : ℕ) → other < position
+        → slice_get (remove items position) other ≡ slice_get items other }
+    ensures behind { (items : List T) (position other : ℕ)
+        → position ≤ other → position < length items
+        → slice_get (remove items position) other ≡ slice_get items (other + 1) }
+    ensures length { (items : List T) (position : ℕ) → position < length items
+        → length (remove items position) + 1 ≡ length items }
+{}
+
+/// The sum of a measure over the items: a size, or 1 for each that counts.
+#[tactic(auto, using(std::proofs::lemmas::Grind::common_steps, std::proofs::lemmas::Option::gets))]
+pub fn sum_law<T>()
+    ensures appended { (measure : T → ℕ) (items : List T) (item : T)
+        → sum_by measure (items ++ item ∷ []) ≡ sum_by measure items + measure item }
+    ensures removed { (measure : T → ℕ) (items : List T) (position : ℕ) (item : T)
+        → slice_get items position ≡ Some item
+        → sum_by measure (remove items position) + measure item ≡ sum_by measure items }
+    ensures set { (measure : T → ℕ) (items : List T) (position : ℕ) (old item : T)
+        → slice_get items position ≡ Some old
+        → (sum_by measure (slice_set items position item) + measure old
+        ≡ sum_by measure items + measure item) }
+    ensures within { (measure : T → ℕ) (items : List T) (position : ℕ) (item : T)
+        → slice_get items position ≡ Some item → measure item ≤ sum_by measure items }
+{}
+
+/// A list of what each item is mapped to, as a part of it.
+#[tactic(auto, using(crate::specs::Hints::parts_of_lists))]
+pub fn map_law<T, U>()
+    ensures appended { (of : T → U) (items : List T) (item : T)
+        → map of (items ++ item ∷ []) ≡ map of items ++ of item ∷ [] }
+    ensures removed { (of : T → U) (items : List T) (position : ℕ)
+        → map of (remove items position) ≡ remove (map of items) position }
+    ensures set { (of : T → U) (items : List T) (position : ℕ) (item : T)
+        → map of (slice_set items position item) ≡ slice_set (map of items) position (of item) }
+    ensures there { (of : T → U) (items : List T) (position : ℕ) (item : T)
+        → slice_get items position ≡ Some item
+        → slice_get (map of items) position ≡ Some (of item) }
+    ensures length { (of : T → U) (items : List T) → length (map of items) ≡ length items }
+{}
