@@ -1,6 +1,6 @@
 //! Laws of lists, for a user whose contracts speak of what a vector has. Each is a function that does nothing: called in a body, it
 //! puts its clauses in reach there.
-ghost use Rattle.std.specs.Prelude.{◌≡◌, ◌≢◌, ◌<◌, ◌≤◌, ◌+◌, ◌∷◌, ◌++◌, ℕ, [], List, Some, length, map, remove, slice_get, slice_set, sum_by};
+ghost use Rattle.std.specs.Prelude.{◌≡◌, ◌≢◌, ◌==◌, if◌then◌else◌, ◌<◌, ◌≤◌, ◌+◌, ◌-◌, ◌∷◌, ◌++◌, ℕ, [], List, Some, length, map, remove, slice_get, slice_set, sum_by};
 
 /// One more item behind the others.
 pub fn append_law<T>()
@@ -20,6 +20,9 @@ pub fn set_law<T>()
         → slice_get (slice_set items position item) position ≡ Some item }
     ensures others { (items : List T) (item : T) (position other : ℕ) → other ≢ position
         → slice_get (slice_set items position item) other ≡ slice_get items other }
+    ensures each { (items : List T) (item : T) (position other : ℕ) → position < length items
+        → (slice_get (slice_set items position item) other
+        ≡ (if position == other then Some item else slice_get items other)) }
     ensures length { (items : List T) (item : T) (position : ℕ)
         → length (slice_set items position item) ≡ length items }
 {}
@@ -43,6 +46,9 @@ pub fn sum_law<T>()
     ensures removed { (measure : T → ℕ) (items : List T) (position : ℕ) (item : T)
         → slice_get items position ≡ Some item
         → sum_by measure (remove items position) + measure item ≡ sum_by measure items }
+    ensures rest { (measure : T → ℕ) (items : List T) (position : ℕ) (item : T)
+        → slice_get items position ≡ Some item
+        → sum_by measure (remove items position) ≡ sum_by measure items - measure item }
     ensures set { (measure : T → ℕ) (items : List T) (position : ℕ) (old item : T)
         → slice_get items position ≡ Some old
         → (sum_by measure (slice_set items position item) + measure old

@@ -33,6 +33,15 @@ pub fn rounding() -> Result<(), LayoutError> {
     Ok(())
 }
 
+pub fn parts_of_a_chunk() {
+    let Some(chunk) = Chunk::new(4096, 64) else {
+        return;
+    };
+    let (head, body) = (chunk.first(16), chunk.behind(16));
+    let (len, place) = (head.len(), body.place());
+    prove!(len == 16 && place == 4112);
+}
+
 pub fn region(alloc: Global) -> Result<(), AllocError> {
     let mut region = Region::new(4096, vec![in alloc; 7; 1024]?);
     let Some(chunk) = Chunk::new(4100, 4) else {
