@@ -1,11 +1,7 @@
 //! Runs of commands over any allocator.
-ghost use Rattle.std.specs.Prelude.{◌≡◌, ◌<◌, ◌≤◌, ◌%◌, IfOk, OnOk, OnErr, vec_len, vec_capacity};
-ghost use Rattle.bb_memory_base.specs.Chunk.{Chunk, IsInside};
-ghost use Rattle.bb_memory_base.specs.LiveList.{IsSound};
+ghost use Rattle.std.specs.Prelude.{◌≡◌, ◌<◌, OnOk, vec_len, vec_capacity};
 ghost use Rattle.bb_memory_base.specs.Object.{object_of};
-ghost use Rattle.bb_memory_base.specs.Run.{Applies, Step, IsRun, EachGiven, note_after_run};
-ghost use Rattle.bb_memory_base.specs.declared.layout.Layout.{Layout};
-ghost use Rattle.bb_memory_base.specs.Fitting.{Fits};
+ghost use Rattle.bb_memory_base.specs.Run.{AnswersRun, Applies, Step, note_after_run};
 ghost use Rattle.bb_memory_base.specs.ResizableObject.{ResizableStep, resizable_object_of};
 
 use super::{Allocator, BaseAllocator, Command, Reply};
@@ -20,12 +16,9 @@ fn apply_allocate<A: BaseAllocator>(
 ) -> Reply
     requires stands { A.stands_for allocator.old live.old.items }
     requires room { vec_len live.old < vec_capacity live.old }
-    ensures step { Step (object_of A.RELEASE_EMPTIES (A.may_allocate (A.geometry allocator.old)))
-        live.old.items (Command.Allocate layout) result live.new.items }
-    ensures fits { (chunk : Chunk) → result ≡ Reply.Chunk chunk
-        → Fits (A.region_of (A.geometry allocator.old)) layout chunk }
-    ensures applied { Applies A.stands_for A.geometry A.note A.note_after
-        (Command.Allocate layout) allocator.old allocator.new live.old live.new }
+    ensures { Applies A.stands_for A.geometry A.region_of A.note A.note_after
+        (Step (object_of A.RELEASE_EMPTIES (A.may_allocate (A.geometry allocator.old))))
+        (Command.Allocate layout) result allocator.old allocator.new live.old live.new }
 {
     match allocator.allocate(layout) {
         Ok(chunk) => {
@@ -43,10 +36,9 @@ fn apply_release<A: BaseAllocator>(
     position: usize,
 ) -> Reply
     requires stands { A.stands_for allocator.old live.old.items }
-    ensures step { Step (object_of A.RELEASE_EMPTIES (A.may_allocate (A.geometry allocator.old)))
-        live.old.items (Command.Release position) result live.new.items }
-    ensures applied { Applies A.stands_for A.geometry A.note A.note_after
-        (Command.Release position) allocator.old allocator.new live.old live.new }
+    ensures { Applies A.stands_for A.geometry A.region_of A.note A.note_after
+        (Step (object_of A.RELEASE_EMPTIES (A.may_allocate (A.geometry allocator.old))))
+        (Command.Release position) result allocator.old allocator.new live.old live.new }
 {
     let Some(chunk) = live.get(position).copied() else {
         return Reply::Passed;
@@ -64,12 +56,9 @@ fn apply_release<A: BaseAllocator>(
 fn apply_base<A: BaseAllocator>(allocator: &mut A, live: &mut Vec<Chunk>, command: Command) -> Reply
     requires stands { A.stands_for allocator.old live.old.items }
     requires room { vec_len live.old < vec_capacity live.old }
-    ensures step { Step (object_of A.RELEASE_EMPTIES (A.may_allocate (A.geometry allocator.old)))
-        live.old.items command result live.new.items }
-    ensures fits { (layout : Layout) (chunk : Chunk) → command ≡ Command.Allocate layout
-        → result ≡ Reply.Chunk chunk → Fits (A.region_of (A.geometry allocator.old)) layout chunk }
-    ensures applied { Applies A.stands_for A.geometry A.note A.note_after
-        command allocator.old allocator.new live.old live.new }
+    ensures { Applies A.stands_for A.geometry A.region_of A.note A.note_after
+        (Step (object_of A.RELEASE_EMPTIES (A.may_allocate (A.geometry allocator.old))))
+        command result allocator.old allocator.new live.old live.new }
 {
     match command {
         Command::Allocate(layout) => apply_allocate(allocator, live, layout),
@@ -100,23 +89,12 @@ pub fn run_base<A: BaseAllocator>(
     commands: &[Command],
 ) -> Result<Vec<Reply>, AllocError>
     requires { A.stands_for allocator.old live.old.items }
-    ensures run { IfOk result (λ replies.
-        IsRun (Step (object_of A.RELEASE_EMPTIES (A.may_allocate (A.geometry allocator.old))))
-        live.old.items commands.now replies.items live.new.items) }
-    ensures stands { OnOk result (A.stands_for allocator.new live.new.items) }
-    ensures sound { OnOk result (IsSound (A.region_of (A.geometry allocator.old)) live.new.items) }
-    ensures inside { IfOk result (λ replies.
-        EachGiven (λ layout. IsInside (A.region_of (A.geometry allocator.old)))
-        commands.now replies.items) }
-    ensures aligned { IfOk result (λ replies.
-        EachGiven (λ layout chunk. chunk.place % layout.align ≡ 0) commands.now replies.items) }
-    ensures long_enough { IfOk result (λ replies.
-        EachGiven (λ layout chunk. layout.size ≤ chunk.len) commands.now replies.items) }
+    ensures run { AnswersRun A.stands_for (A.region_of (A.geometry allocator.old))
+        (Step (object_of A.RELEASE_EMPTIES (A.may_allocate (A.geometry allocator.old))))
+        commands.now result allocator.old allocator.new live.old.items live.new.items }
     ensures geometry { A.geometry allocator.new ≡ A.geometry allocator.old }
     ensures note { OnOk result (A.note allocator.new ≡ note_after_run
         (A.note_after (A.geometry allocator.old)) (A.note allocator.old) commands.now) }
-    ensures kept { OnErr result
-        ((allocator.new ≡ allocator.old) × (live.new.items ≡ live.old.items)) }
 {
     let mut replies = Vec::with_capacity(*live.allocator(), commands.len())?;
     live.reserve(commands.len())?;
@@ -136,12 +114,11 @@ fn apply_grow<A: Allocator>(
     new: Layout,
 ) -> Reply
     requires stands { A.stands_for allocator.old live.old.items }
-    ensures step { ResizableStep (resizable_object_of
+    ensures { Applies A.stands_for A.geometry A.region_of A.note A.note_after
+        (ResizableStep (resizable_object_of
         (A.may_allocate (A.geometry allocator.old)) (A.reserved_at (A.figures allocator.old))
-        (A.may_grow (A.figures allocator.old)) (A.may_shrink (A.figures allocator.old)))
-        live.old.items (Command.Grow position old new) result live.new.items }
-    ensures applied { Applies A.stands_for A.geometry A.note A.note_after
-        (Command.Grow position old new) allocator.old allocator.new live.old live.new }
+        (A.may_grow (A.figures allocator.old)) (A.may_shrink (A.figures allocator.old))))
+        (Command.Grow position old new) result allocator.old allocator.new live.old live.new }
 {
     let Some(chunk) = live.get(position).copied() else {
         return Reply::Passed;
@@ -167,12 +144,11 @@ fn apply_shrink<A: Allocator>(
     new: Layout,
 ) -> Reply
     requires stands { A.stands_for allocator.old live.old.items }
-    ensures step { ResizableStep (resizable_object_of
+    ensures { Applies A.stands_for A.geometry A.region_of A.note A.note_after
+        (ResizableStep (resizable_object_of
         (A.may_allocate (A.geometry allocator.old)) (A.reserved_at (A.figures allocator.old))
-        (A.may_grow (A.figures allocator.old)) (A.may_shrink (A.figures allocator.old)))
-        live.old.items (Command.Shrink position old new) result live.new.items }
-    ensures applied { Applies A.stands_for A.geometry A.note A.note_after
-        (Command.Shrink position old new) allocator.old allocator.new live.old live.new }
+        (A.may_grow (A.figures allocator.old)) (A.may_shrink (A.figures allocator.old))))
+        (Command.Shrink position old new) result allocator.old allocator.new live.old live.new }
 {
     let Some(chunk) = live.get(position).copied() else {
         return Reply::Passed;
@@ -194,14 +170,11 @@ fn apply_shrink<A: Allocator>(
 fn apply_full<A: Allocator>(allocator: &mut A, live: &mut Vec<Chunk>, command: Command) -> Reply
     requires stands { A.stands_for allocator.old live.old.items }
     requires room { vec_len live.old < vec_capacity live.old }
-    ensures step { ResizableStep (resizable_object_of
+    ensures { Applies A.stands_for A.geometry A.region_of A.note A.note_after
+        (ResizableStep (resizable_object_of
         (A.may_allocate (A.geometry allocator.old)) (A.reserved_at (A.figures allocator.old))
-        (A.may_grow (A.figures allocator.old)) (A.may_shrink (A.figures allocator.old)))
-        live.old.items command result live.new.items }
-    ensures fits { (layout : Layout) (chunk : Chunk) → command ≡ Command.Allocate layout
-        → result ≡ Reply.Chunk chunk → Fits (A.region_of (A.geometry allocator.old)) layout chunk }
-    ensures applied { Applies A.stands_for A.geometry A.note A.note_after
-        command allocator.old allocator.new live.old live.new }
+        (A.may_grow (A.figures allocator.old)) (A.may_shrink (A.figures allocator.old))))
+        command result allocator.old allocator.new live.old live.new }
 {
     match command {
         Command::Allocate(layout) => apply_allocate(allocator, live, layout),
@@ -232,25 +205,14 @@ pub fn run_full<A: Allocator>(
     commands: &[Command],
 ) -> Result<Vec<Reply>, AllocError>
     requires { A.stands_for allocator.old live.old.items }
-    ensures run { IfOk result (λ replies.
-        IsRun (ResizableStep (resizable_object_of
+    ensures run { AnswersRun A.stands_for (A.region_of (A.geometry allocator.old))
+        (ResizableStep (resizable_object_of
         (A.may_allocate (A.geometry allocator.old)) (A.reserved_at (A.figures allocator.old))
         (A.may_grow (A.figures allocator.old)) (A.may_shrink (A.figures allocator.old))))
-        live.old.items commands.now replies.items live.new.items) }
-    ensures stands { OnOk result (A.stands_for allocator.new live.new.items) }
-    ensures sound { OnOk result (IsSound (A.region_of (A.geometry allocator.old)) live.new.items) }
-    ensures inside { IfOk result (λ replies.
-        EachGiven (λ layout. IsInside (A.region_of (A.geometry allocator.old)))
-        commands.now replies.items) }
-    ensures aligned { IfOk result (λ replies.
-        EachGiven (λ layout chunk. chunk.place % layout.align ≡ 0) commands.now replies.items) }
-    ensures long_enough { IfOk result (λ replies.
-        EachGiven (λ layout chunk. layout.size ≤ chunk.len) commands.now replies.items) }
+        commands.now result allocator.old allocator.new live.old.items live.new.items }
     ensures geometry { A.geometry allocator.new ≡ A.geometry allocator.old }
     ensures note { OnOk result (A.note allocator.new ≡ note_after_run
         (A.note_after (A.geometry allocator.old)) (A.note allocator.old) commands.now) }
-    ensures kept { OnErr result
-        ((allocator.new ≡ allocator.old) × (live.new.items ≡ live.old.items)) }
 {
     let mut replies = Vec::with_capacity(*live.allocator(), commands.len())?;
     live.reserve(commands.len())?;
