@@ -253,10 +253,9 @@ pub fn run_bump(
     commands: &[Command],
 ) -> Result<Vec<Reply>, AllocError>
     requires { StandsFor allocator.old.region allocator.old.used live.old.items }
-    ensures run { AnswersRun ⟦<BumpAllocator as BaseAllocator>⟧.stands_for allocator.old.region
-        (Step (bump_object allocator.old.region))
+    ensures { AnswersRun (λ bump. StandsFor bump.region bump.used) (λ bump. bump.region)
+        (λ region. region) (Step (bump_object allocator.old.region))
         commands.now result allocator.old allocator.new live.old.items live.new.items }
-    ensures geometry { allocator.new.region ≡ allocator.old.region }
 {
     run_base(allocator, live, commands)
 }

@@ -300,10 +300,9 @@ pub fn run_one_chunk(
     commands: &[Command],
 ) -> Result<Vec<Reply>, AllocError>
     requires { StandsFor allocator.old live.old.items }
-    ensures run { AnswersRun StandsFor allocator.old.region
+    ensures { AnswersRun StandsFor (λ one. one.region) (λ region. region)
         (ResizableStep (one_chunk_object allocator.old.region))
         commands.now result allocator.old allocator.new live.old.items live.new.items }
-    ensures geometry { allocator.new.region ≡ allocator.old.region }
 {
     run_full(allocator, live, commands)
 }
@@ -316,10 +315,9 @@ pub fn run_base_one_chunk(
     commands: &[Command],
 ) -> Result<Vec<Reply>, AllocError>
     requires { StandsFor allocator.old live.old.items }
-    ensures run { AnswersRun StandsFor allocator.old.region
+    ensures { AnswersRun StandsFor (λ one. one.region) (λ region. region)
         (Step (one_chunk_object allocator.old.region).base)
         commands.now result allocator.old allocator.new live.old.items live.new.items }
-    ensures geometry { allocator.new.region ≡ allocator.old.region }
 {
     run_base(allocator, live, commands)
 }

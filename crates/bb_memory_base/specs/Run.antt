@@ -66,14 +66,16 @@ pub record Applies {Allocator Geometry Note Alloc : Type 0} (stands_for : Alloca
   pub len : vec_len left ≤ vec_len live + 1
   pub capacity : vec_capacity live ≤ vec_capacity left
 
--- What an allocator over a region answers to a list of commands, and what it leaves. The replies and the live list are a run by
--- these steps, for the list that is left the allocator stands, and it is sound; each chunk that was replied to a request fits.
--- Where memory was refused, nothing was applied.
-pub record AnswersRun {Allocator Alloc Error : Type 0} (stands_for : Allocator → List Chunk → Type 0) (region : Region)
+-- What an allocator answers to a list of commands, and what it leaves. The replies and the live list are a run by these steps;
+-- the allocator stands for the list that is left, which is sound, and has the geometry that it had; each chunk that was replied
+-- to a request fits. Where memory was refused, nothing was applied.
+pub record AnswersRun {Allocator Geometry Alloc Error : Type 0} (stands_for : Allocator → List Chunk → Type 0)
+    (geometry_of : Allocator → Geometry) (region_of : Geometry → Region)
     (Steps : List Chunk → Command → Reply → List Chunk → Type 0) (commands : List Command)
     (answer : Result (Vec Reply Alloc) Error) (old new : Allocator) (live left : List Chunk) : Type 0 where
   pub run : IfOk answer (λ replies. IsRun Steps live commands replies.items left)
   pub stands : OnOk answer (stands_for new left)
-  pub sound : OnOk answer (IsSound region left)
-  pub fits : IfOk answer (λ replies. EachGiven (Fits region) commands replies.items)
+  pub sound : OnOk answer (IsSound (region_of (geometry_of old)) left)
+  pub fits : IfOk answer (λ replies. EachGiven (Fits (region_of (geometry_of old))) commands replies.items)
+  pub geometry : geometry_of new ≡ geometry_of old
   pub kept : OnErr answer ((new ≡ old) × (left ≡ live))

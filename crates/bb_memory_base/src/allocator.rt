@@ -98,7 +98,7 @@ pub trait BaseAllocator {
     ghost use Rattle.bb_memory_base.specs.LiveList.{IsSound};
     ghost use Rattle.bb_memory_base.specs.Object.{released};
     ghost use Rattle.bb_memory_base.specs.Request.{Requested};
-    ghost use Rattle.bb_memory_base.specs.HeldBytes.{held_region, ZeroesOnly};
+    ghost use Rattle.bb_memory_base.specs.HeldBytes.{held_region, ZeroesAnswered};
     ghost use Rattle.bb_memory_base.specs.declared.layout.Layout.{Layout};
     ghost use Rattle.bb_memory_base.specs.declared.allocator.AllocationError.{AllocationError};
 
@@ -179,8 +179,7 @@ pub trait BaseAllocator {
         requires same_region { held_region region.old ≡ region_of (geometry self.old) }
         ensures requested { Requested stands_for may_release geometry region_of may_allocate note
             note_after takes self.old layout result self.new }
-        ensures zeroed { IfOk result (λ chunk. ZeroesOnly region.old region.new chunk) }
-        ensures bytes_kept { OnErr result (region.new ≡ region.old) }
+        ensures bytes { ZeroesAnswered (λ chunk. chunk) region.old region.new result }
     {
         let chunk = self.allocate(layout)?;
         region.zero(chunk);
@@ -220,7 +219,7 @@ pub trait BaseAllocator {
 pub trait Allocator: BaseAllocator {
     ghost use Rattle.std.specs.Prelude.{◌≡◌, ◌<◌, ◌≤◌, ◌%◌, ℕ, false, List, Some, Result, IfOk, OnErr, slice_get, slice_set};
     ghost use Rattle.bb_memory_base.specs.Chunk.{Chunk, IsInside};
-    ghost use Rattle.bb_memory_base.specs.HeldBytes.{held_region, part_behind, ZeroesOnly};
+    ghost use Rattle.bb_memory_base.specs.HeldBytes.{held_region, part_behind, ZeroesAnswered};
     ghost use Rattle.bb_memory_base.specs.Request.{Grown};
     ghost use Rattle.bb_memory_base.specs.ResizableObject.{PlacesDiffer};
     ghost use Rattle.bb_memory_base.specs.declared.layout.Layout.{Layout};
@@ -316,9 +315,7 @@ pub trait Allocator: BaseAllocator {
         ensures grown { Grown Self.stands_for (Self.region_of (Self.geometry self.old))
             (reserved_at (figures self.old) place) (may_grow (figures self.old)) grows
             self.old place old new result self.new }
-        ensures zeroed { IfOk result
-            (λ grown. ZeroesOnly region.old region.new (part_behind old.size grown)) }
-        ensures bytes_kept { OnErr result (region.new ≡ region.old) }
+        ensures bytes { ZeroesAnswered (part_behind old.size) region.old region.new result }
     {
         let grown = self.grow(place, old, new)?;
         region.zero(grown.behind(old.size()));

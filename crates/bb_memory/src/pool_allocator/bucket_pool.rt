@@ -233,9 +233,9 @@ pub fn run_pool<S: HeldSet>(
 ) -> Result<Vec<Reply>, AllocError>
     requires { StandsFor (S.pool allocator.old) live.old.items }
     ensures run { AnswersRun (λ pool. StandsFor (S.pool pool))
-        (S.pool allocator.old).geometry.region (ResizableStep (pool_object (S.pool allocator.old).geometry))
+        (λ pool. (S.pool pool).geometry)
+        (λ geometry. geometry.region) (ResizableStep (pool_object (S.pool allocator.old).geometry))
         commands.now result allocator.old allocator.new live.old.items live.new.items }
-    ensures geometry { (S.pool allocator.new).geometry ≡ (S.pool allocator.old).geometry }
     ensures reads { OnOk result (S.reads allocator.new ≡ reads_after
         (S.pool allocator.old).geometry.bucket (S.words (S.pool allocator.old).geometry.buckets)
         (S.reads allocator.old) commands.now) }
@@ -252,9 +252,9 @@ pub fn run_base_pool<S: HeldSet>(
 ) -> Result<Vec<Reply>, AllocError>
     requires { StandsFor (S.pool allocator.old) live.old.items }
     ensures run { AnswersRun (λ pool. StandsFor (S.pool pool))
-        (S.pool allocator.old).geometry.region (Step (pool_object (S.pool allocator.old).geometry).base)
+        (λ pool. (S.pool pool).geometry)
+        (λ geometry. geometry.region) (Step (pool_object (S.pool allocator.old).geometry).base)
         commands.now result allocator.old allocator.new live.old.items live.new.items }
-    ensures geometry { (S.pool allocator.new).geometry ≡ (S.pool allocator.old).geometry }
     ensures reads { OnOk result (S.reads allocator.new ≡ reads_after
         (S.pool allocator.old).geometry.bucket (S.words (S.pool allocator.old).geometry.buckets)
         (S.reads allocator.old) commands.now) }

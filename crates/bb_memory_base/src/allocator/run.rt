@@ -8,51 +8,8 @@ use super::{Allocator, BaseAllocator, Command, Reply};
 use crate::layout::{Chunk, Layout};
 use std::alloc::AllocError;
 
-/// Asks for a chunk, and appends it to the live list.
-fn apply_allocate<A: BaseAllocator>(
-    allocator: &mut A,
-    live: &mut Vec<Chunk>,
-    layout: Layout,
-) -> Reply
-    requires stands { A.stands_for allocator.old live.old.items }
-    requires room { vec_len live.old < vec_capacity live.old }
-    ensures { Applies A.stands_for A.geometry A.region_of A.note A.note_after
-        (Step (object_of A.RELEASE_EMPTIES (A.may_allocate (A.geometry allocator.old))))
-        (Command.Allocate layout) result allocator.old allocator.new live.old live.new }
-{
-    match allocator.allocate(layout) {
-        Ok(chunk) => {
-            live.push_reserved(chunk);
-            Reply::Chunk(chunk)
-        }
-        Err(error) => Reply::Refused(error),
-    }
-}
-
-/// Gives back the chunk at a position, and takes it or all chunks out of the live list.
-fn apply_release<A: BaseAllocator>(
-    allocator: &mut A,
-    live: &mut Vec<Chunk>,
-    position: usize,
-) -> Reply
-    requires stands { A.stands_for allocator.old live.old.items }
-    ensures { Applies A.stands_for A.geometry A.region_of A.note A.note_after
-        (Step (object_of A.RELEASE_EMPTIES (A.may_allocate (A.geometry allocator.old))))
-        (Command.Release position) result allocator.old allocator.new live.old live.new }
-{
-    let Some(chunk) = live.get(position).copied() else {
-        return Reply::Passed;
-    };
-    allocator.deallocate(chunk.place(), Layout::empty());
-    if A::RELEASE_EMPTIES {
-        live.clear();
-    } else {
-        live.remove(position);
-    }
-    Reply::Released
-}
-
-/// Applies one command. A resize is passed over.
+/// Applies one command: asks for a chunk and appends it to the live list, or gives back the chunk at a position and takes it, or
+/// all chunks, out of the list. A resize is passed over.
 fn apply_base<A: BaseAllocator>(allocator: &mut A, live: &mut Vec<Chunk>, command: Command) -> Reply
     requires stands { A.stands_for allocator.old live.old.items }
     requires room { vec_len live.old < vec_capacity live.old }
@@ -61,8 +18,25 @@ fn apply_base<A: BaseAllocator>(allocator: &mut A, live: &mut Vec<Chunk>, comman
         command result allocator.old allocator.new live.old live.new }
 {
     match command {
-        Command::Allocate(layout) => apply_allocate(allocator, live, layout),
-        Command::Release(position) => apply_release(allocator, live, position),
+        Command::Allocate(layout) => match allocator.allocate(layout) {
+            Ok(chunk) => {
+                live.push_reserved(chunk);
+                Reply::Chunk(chunk)
+            }
+            Err(error) => Reply::Refused(error),
+        },
+        Command::Release(position) => {
+            let Some(chunk) = live.get(position).copied() else {
+                return Reply::Passed;
+            };
+            allocator.deallocate(chunk.place(), Layout::empty());
+            if A::RELEASE_EMPTIES {
+                live.clear();
+            } else {
+                live.remove(position);
+            }
+            Reply::Released
+        }
         Command::Grow(..) | Command::Shrink(..) => Reply::Passed,
     }
 }
@@ -89,10 +63,9 @@ pub fn run_base<A: BaseAllocator>(
     commands: &[Command],
 ) -> Result<Vec<Reply>, AllocError>
     requires { A.stands_for allocator.old live.old.items }
-    ensures run { AnswersRun A.stands_for (A.region_of (A.geometry allocator.old))
+    ensures run { AnswersRun A.stands_for A.geometry A.region_of
         (Step (object_of A.RELEASE_EMPTIES (A.may_allocate (A.geometry allocator.old))))
         commands.now result allocator.old allocator.new live.old.items live.new.items }
-    ensures geometry { A.geometry allocator.new ≡ A.geometry allocator.old }
     ensures note { OnOk result (A.note allocator.new ≡ note_after_run
         (A.note_after (A.geometry allocator.old)) (A.note allocator.old) commands.now) }
 {
@@ -177,8 +150,7 @@ fn apply_full<A: Allocator>(allocator: &mut A, live: &mut Vec<Chunk>, command: C
         command result allocator.old allocator.new live.old live.new }
 {
     match command {
-        Command::Allocate(layout) => apply_allocate(allocator, live, layout),
-        Command::Release(position) => apply_release(allocator, live, position),
+        Command::Allocate(_) | Command::Release(_) => apply_base(allocator, live, command),
         Command::Grow(position, old, new) => apply_grow(allocator, live, position, old, new),
         Command::Shrink(position, old, new) => apply_shrink(allocator, live, position, old, new),
     }
@@ -205,12 +177,11 @@ pub fn run_full<A: Allocator>(
     commands: &[Command],
 ) -> Result<Vec<Reply>, AllocError>
     requires { A.stands_for allocator.old live.old.items }
-    ensures run { AnswersRun A.stands_for (A.region_of (A.geometry allocator.old))
+    ensures run { AnswersRun A.stands_for A.geometry A.region_of
         (ResizableStep (resizable_object_of
         (A.may_allocate (A.geometry allocator.old)) (A.reserved_at (A.figures allocator.old))
         (A.may_grow (A.figures allocator.old)) (A.may_shrink (A.figures allocator.old))))
         commands.now result allocator.old allocator.new live.old.items live.new.items }
-    ensures geometry { A.geometry allocator.new ≡ A.geometry allocator.old }
     ensures note { OnOk result (A.note allocator.new ≡ note_after_run
         (A.note_after (A.geometry allocator.old)) (A.note allocator.old) commands.now) }
 {
