@@ -39,7 +39,7 @@ ZeroesOnly old new chunk = ChangesOnly old new chunk (replicate chunk.len 0)
 pub record ZeroesAnswered {Error : Type 0} (part : Chunk → Chunk) (old new : HeldBytes)
     (answer : Result Chunk Error) : Type 0 where
   pub zeroed : IfOk answer (λ chunk. ZeroesOnly old new (part chunk))
-  pub kept : OnErr answer (new ≡ old)
+  pub still : OnErr answer (new ≡ old)
 
 -- what a chunk has behind its first bytes
 abbrev pub part_behind : ℕ → Chunk → Chunk

@@ -121,7 +121,7 @@ impl<A: Allocator> LoanBook<A> {
         ensures stands { A.stands_for self.new.allocator (chunks_out self.new.book) }
         ensures waits { OnOk result (HasReturns self.new.book id (Some readers)) }
         ensures same_allocator { self.new.allocator ≡ self.old.allocator }
-        ensures kept { OnErr result (self.new ≡ self.old) }
+        ensures still { OnErr result (self.new ≡ self.old) }
     {
         let Some(position) = self.position(id) else {
             return Err(LoanError::UnknownSample);
@@ -150,7 +150,7 @@ impl<A: Allocator> LoanBook<A> {
         ensures geometry { A.geometry self.new.allocator ≡ A.geometry self.old.allocator }
         ensures same_allocator { IfOk result
             (λ left. left ≡ false → self.new.allocator ≡ self.old.allocator) }
-        ensures kept { OnErr result (self.new ≡ self.old) }
+        ensures still { OnErr result (self.new ≡ self.old) }
     {
         let Some(position) = self.position(id) else {
             return Err(LoanError::UnknownSample);

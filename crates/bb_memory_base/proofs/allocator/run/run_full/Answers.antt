@@ -65,5 +65,6 @@ returns-clause-run g c =
       sound = subst (λ (geometry : A.Geometry). IsSound (A.region_of geometry) c.loop-command.live.items) invariant.geometry sound;
       fits = rw all at invariant.fits;
       geometry = invariant.geometry;
+      still = tt;
       kept = tt;
     }
