@@ -1,10 +1,10 @@
 //! An allocator that gives one chunk after another, and takes all of them back at once.
 ghost use Rattle.std.specs.Prelude.{◌≡◌, [], List, All, ◌+◌, ◌<◌, ◌≤◌, ◌%◌, ◌↔◌, ℕ};
-ghost use Rattle.std.specs.Prelude.{IfOk, OnOk, OnErr, IfErr, IsTrue, Some, Result, length, slice_get};
+ghost use Rattle.std.specs.Prelude.{IfOk, IfErr, IsTrue, Ok, Some, length, slice_get};
 ghost use Rattle.bb_memory_base.specs.Region.{Region, IsRegion, region_at};
 ghost use Rattle.bb_memory_base.specs.Chunk.{Chunk, IsInside, chunk_end};
-ghost use Rattle.bb_memory_base.specs.LiveList.{IsSound};
-ghost use Rattle.bb_memory_base.specs.Run.{Step, IsRun};
+ghost use Rattle.bb_memory_base.specs.Object.{AnswersAll, AnswersOnce, GivesOnly};
+ghost use Rattle.bb_memory_base.specs.Run.{AnswersRun, IsRun, Step};
 ghost use Rattle.bb_memory_base.specs.BumpObject.{MayAllocate, IsInOrder, StandsFor, bump_object, used_space};
 ghost use Rattle.bb_memory_base.specs.declared.layout.Layout.{Layout};
 ghost use Rattle.bb_memory_base.specs.declared.allocator.AllocationError.{AllocationError};
@@ -145,7 +145,7 @@ impl BumpAllocator {
         ensures theirs { IfOk result (λ shared.
             All (λ party. party.allocator ≡ shared.0) shared.1.items) }
 
-        ensures kept { IfErr result (λ refused. refused.0 ≡ self) }
+        ensures still { IfErr result (λ refused. refused.0 ≡ self) }
         ensures refused { IfErr result (λ refused. refused.1 ≡ OutOfMemory) }
     {
         let start = self.start;
@@ -253,14 +253,9 @@ pub fn run_bump(
     commands: &[Command],
 ) -> Result<Vec<Reply>, AllocError>
     requires { StandsFor allocator.old.region allocator.old.used live.old.items }
-    ensures run { IfOk result (λ replies. IsRun (Step (bump_object allocator.old.region))
-        live.old.items commands.now replies.items live.new.items) }
-    ensures stands { OnOk result
-        (StandsFor allocator.new.region allocator.new.used live.new.items) }
-    ensures sound { OnOk result (IsSound allocator.old.region live.new.items) }
-    ensures geometry { allocator.new.region ≡ allocator.old.region }
-    ensures kept { OnErr result
-        ((allocator.new ≡ allocator.old) × (live.new.items ≡ live.old.items)) }
+    ensures { AnswersRun (λ bump. StandsFor bump.region bump.used) (λ bump. bump.region)
+        (λ region. region) (Step (bump_object allocator.old.region))
+        commands.now result allocator.old allocator.new live.old.items live.new.items }
 {
     run_base(allocator, live, commands)
 }
@@ -270,18 +265,12 @@ pub fn run_bump(
 /// at or after the end of every chunk of the list, where that is in order. Each run from a live list that a bump stands
 /// for leads to such a list again, which is sound. It does nothing: its contract is the law.
 pub fn bump_object_law()
-    ensures some_answer { (region : Region) (live : List Chunk) (layout : Layout)
-        → (answer : Result Chunk AllocationError) × MayAllocate region live layout answer }
-    ensures one_answer { (region : Region) (live : List Chunk) (layout : Layout)
-        (one other : Result Chunk AllocationError)
-        → MayAllocate region live layout one → MayAllocate region live layout other
-        → one ≡ other }
-    ensures aligned { (region : Region) (live : List Chunk) (layout : Layout) (chunk : Chunk)
-        → MayAllocate region live layout (Ok chunk)
-        → chunk.place % layout.align ≡ 0 }
-    ensures exact_size { (region : Region) (live : List Chunk) (layout : Layout) (chunk : Chunk)
-        → MayAllocate region live layout (Ok chunk)
-        → chunk.len ≡ layout.size }
+    ensures some_answer { (region : Region) → AnswersAll (bump_object region) }
+    ensures one_answer { (region : Region) → AnswersOnce (bump_object region) }
+    ensures aligned { (region : Region) → GivesOnly (bump_object region)
+        (λ layout chunk. chunk.place % layout.align ≡ 0) }
+    ensures exact_size { (region : Region) → GivesOnly (bump_object region)
+        (λ layout chunk. chunk.len ≡ layout.size) }
     ensures inside { (region : Region) (live : List Chunk) (layout : Layout) (chunk : Chunk)
         → IsInOrder region.start live → MayAllocate region live layout (Ok chunk)
         → IsInside region chunk }

@@ -1,10 +1,10 @@
 //! An allocator that gives one chunk at a time, which is all of its region from the chunk's place on.
-ghost use Rattle.std.specs.Prelude.{◌≡◌, [], List, ◌+◌, ◌-◌, ◌<◌, ◌≤◌, ◌%◌, ◌↔◌, ℕ, IfOk};
-ghost use Rattle.std.specs.Prelude.{OnOk, OnErr, IsTrue, Some, Result};
+ghost use Rattle.std.specs.Prelude.{◌≡◌, [], List, ◌+◌, ◌-◌, ◌<◌, ◌≤◌, ◌%◌, ◌↔◌, ℕ};
+ghost use Rattle.std.specs.Prelude.{IsTrue, Some, Result};
 ghost use Rattle.bb_memory_base.specs.Region.{Region, IsRegion, region_at, region_end};
 ghost use Rattle.bb_memory_base.specs.Chunk.{Chunk, IsInside, chunk_end};
-ghost use Rattle.bb_memory_base.specs.LiveList.{IsSound};
-ghost use Rattle.bb_memory_base.specs.Run.{IsRun, Step};
+ghost use Rattle.bb_memory_base.specs.Object.{AnswersAll, AnswersOnce, GivesOnly};
+ghost use Rattle.bb_memory_base.specs.Run.{AnswersRun, IsRun, Step};
 ghost use Rattle.bb_memory_base.specs.ResizableObject.{ResizableStep};
 ghost use Rattle.bb_memory_base.specs.declared.layout.Layout.{Layout};
 ghost use Rattle.bb_memory_base.specs.declared.allocator.AllocationError.{AllocationError};
@@ -300,14 +300,9 @@ pub fn run_one_chunk(
     commands: &[Command],
 ) -> Result<Vec<Reply>, AllocError>
     requires { StandsFor allocator.old live.old.items }
-    ensures run { IfOk result (λ replies.
-        IsRun (ResizableStep (one_chunk_object allocator.old.region))
-        live.old.items commands.now replies.items live.new.items) }
-    ensures stands { OnOk result (StandsFor allocator.new live.new.items) }
-    ensures sound { OnOk result (IsSound allocator.old.region live.new.items) }
-    ensures geometry { allocator.new.region ≡ allocator.old.region }
-    ensures kept { OnErr result
-        ((allocator.new ≡ allocator.old) × (live.new.items ≡ live.old.items)) }
+    ensures { AnswersRun StandsFor (λ one. one.region) (λ region. region)
+        (ResizableStep (one_chunk_object allocator.old.region))
+        commands.now result allocator.old allocator.new live.old.items live.new.items }
 {
     run_full(allocator, live, commands)
 }
@@ -320,14 +315,9 @@ pub fn run_base_one_chunk(
     commands: &[Command],
 ) -> Result<Vec<Reply>, AllocError>
     requires { StandsFor allocator.old live.old.items }
-    ensures run { IfOk result (λ replies.
-        IsRun (Step (one_chunk_object allocator.old.region).base)
-        live.old.items commands.now replies.items live.new.items) }
-    ensures stands { OnOk result (StandsFor allocator.new live.new.items) }
-    ensures sound { OnOk result (IsSound allocator.old.region live.new.items) }
-    ensures geometry { allocator.new.region ≡ allocator.old.region }
-    ensures kept { OnErr result
-        ((allocator.new ≡ allocator.old) × (live.new.items ≡ live.old.items)) }
+    ensures { AnswersRun StandsFor (λ one. one.region) (λ region. region)
+        (Step (one_chunk_object allocator.old.region).base)
+        commands.now result allocator.old allocator.new live.old.items live.new.items }
 {
     run_base(allocator, live, commands)
 }
@@ -337,12 +327,8 @@ pub fn run_base_one_chunk(
 /// asked size, isn't empty, and ends where the region does. Each run from a live list that a one chunk stands for leads to such a
 /// list again, which is sound. It does nothing: its contract is the law.
 pub fn one_chunk_object_law()
-    ensures some_answer { (region : Region) (live : List Chunk) (layout : Layout)
-        → (answer : Result Chunk AllocationError) × MayAllocate region live layout answer }
-    ensures one_answer { (region : Region) (live : List Chunk) (layout : Layout)
-        (one other : Result Chunk AllocationError)
-        → MayAllocate region live layout one → MayAllocate region live layout other
-        → one ≡ other }
+    ensures some_answer { (region : Region) → AnswersAll (one_chunk_object region).base }
+    ensures one_answer { (region : Region) → AnswersOnce (one_chunk_object region).base }
     ensures some_grow { (region : Region) (place : ℕ) (old new : Layout)
         → (answer : Result Chunk AllocationGrowError) × MayGrow region place old new answer }
     ensures one_grow { (region : Region) (place : ℕ) (old new : Layout)
@@ -355,18 +341,14 @@ pub fn one_chunk_object_law()
         (one other : Result Chunk AllocationShrinkError)
         → MayShrink place old new one → MayShrink place old new other
         → one ≡ other }
-    ensures aligned { (region : Region) (live : List Chunk) (layout : Layout) (chunk : Chunk)
-        → MayAllocate region live layout (Ok chunk)
-        → chunk.place % layout.align ≡ 0 }
-    ensures long_enough { (region : Region) (live : List Chunk) (layout : Layout) (chunk : Chunk)
-        → MayAllocate region live layout (Ok chunk)
-        → layout.size ≤ chunk.len }
-    ensures inside { (region : Region) (live : List Chunk) (layout : Layout) (chunk : Chunk)
-        → MayAllocate region live layout (Ok chunk)
-        → IsInside region chunk }
-    ensures whole_rest { (region : Region) (live : List Chunk) (layout : Layout) (chunk : Chunk)
-        → MayAllocate region live layout (Ok chunk)
-        → (0 < chunk.len) × (chunk_end chunk ≡ region_end region) }
+    ensures aligned { (region : Region) → GivesOnly (one_chunk_object region).base
+        (λ layout chunk. chunk.place % layout.align ≡ 0) }
+    ensures long_enough { (region : Region) → GivesOnly (one_chunk_object region).base
+        (λ layout chunk. layout.size ≤ chunk.len) }
+    ensures inside { (region : Region) → GivesOnly (one_chunk_object region).base
+        (λ layout. IsInside region) }
+    ensures whole_rest { (region : Region) → GivesOnly (one_chunk_object region).base
+        (λ layout chunk. (0 < chunk.len) × (chunk_end chunk ≡ region_end region)) }
     ensures keeps_sound { (one : OneChunk) (live new : List Chunk)
         (commands : List Command) (replies : List Reply)
         → IsOneChunk one → StandsFor one live

@@ -1,5 +1,5 @@
 -- The bytes of a region.
-use Rattle.std.specs.Prelude.{ℕ, ◌≡◌, ◌+◌, ◌-◌, List, length, take, drop, slice_range, replicate}
+use Rattle.std.specs.Prelude.{ℕ, ◌≡◌, ◌+◌, ◌-◌, List, length, take, drop, slice_range, replicate, Result, IfOk, OnErr}
 use Rattle.bb_memory_base.specs.Region.{Region}
 use Rattle.bb_memory_base.specs.Chunk.{Chunk}
 
@@ -38,6 +38,12 @@ ZeroesOnly old new chunk = ChangesOnly old new chunk (replicate chunk.len 0)
 -- a chunk's first bytes
 abbrev pub first_part : ℕ → Chunk → Chunk
 first_part size chunk = record { place = chunk.place; len = size }
+
+-- where a chunk is answered, this part of it is zeroed alone, and a refusal leaves every byte
+pub record ZeroesAnswered {Error : Type 0} (part : Chunk → Chunk) (old new : HeldBytes)
+    (answer : Result Chunk Error) : Type 0 where
+  pub zeroed : IfOk answer (λ chunk. ZeroesOnly old new (part chunk))
+  pub still : OnErr answer (new ≡ old)
 
 -- what a chunk has behind its first bytes
 abbrev pub part_behind : ℕ → Chunk → Chunk

@@ -22,6 +22,7 @@ pub mod PoolMachine
 pub mod PoolObject
 pub mod PoolWorld
 pub mod Region
+pub mod Request
 pub mod ResizableObject
 pub mod Run
 pub mod UsualLayout

@@ -35,3 +35,20 @@ pub record Releases (object : Object) (old : List Chunk) (position : ℕ) (new :
     : Type 0 where
   pub within : position < length old
   pub leaves : new ≡ released object.release_empties old position
+
+-- WHAT MAY BE SAID OF ALL ITS ANSWERS
+
+-- there is an answer to each request on each live list
+abbrev pub AnswersAll : Object → Type 0
+AnswersAll object = (live : List Chunk) (layout : Layout) → (answer : Result Chunk AllocationError)
+    × object.may_allocate live layout answer
+
+-- there is no more than one
+abbrev pub AnswersOnce : Object → Type 0
+AnswersOnce object = (live : List Chunk) (layout : Layout) (one other : Result Chunk AllocationError) →
+    object.may_allocate live layout one → object.may_allocate live layout other → one ≡ other
+
+-- each chunk that it may give is to the asked layout as this says
+abbrev pub GivesOnly : Object → (Layout → Chunk → Type 0) → Type 0
+GivesOnly object Suits = (live : List Chunk) (layout : Layout) (chunk : Chunk) →
+    object.may_allocate live layout (Ok chunk) → Suits layout chunk

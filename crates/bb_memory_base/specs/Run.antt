@@ -1,7 +1,10 @@
 -- Runs: commands applied one after the other to an object, with one reply each.
 use Rattle.std.specs.Prelude.{◌≡◌, ℕ, ◌+◌, ◌≤◌, List, [], ◌∷◌, length, fold, Some, Ok, Err, slice_get}
-use Rattle.std.specs.Prelude.{Vec, vec_len, vec_capacity}
+use Rattle.std.specs.Prelude.{Vec, vec_len, vec_capacity, Result, IfOk, OnOk, OnErr}
+use Rattle.bb_memory_base.specs.Region.{Region}
 use Rattle.bb_memory_base.specs.Chunk.{Chunk}
+use Rattle.bb_memory_base.specs.Fitting.{Fits}
+use Rattle.bb_memory_base.specs.LiveList.{IsSound}
 use Rattle.bb_memory_base.specs.Object.{Object, Allocates, Releases}
 use Rattle.bb_memory_base.specs.declared.layout.Layout.{Layout}
 use Rattle.bb_memory_base.specs.declared.allocator.Command.{Command}
@@ -47,13 +50,33 @@ note_after_command after note other = note
 abbrev pub note_after_run : {Note : Type 0} → (Layout → Note → Note) → Note → List Command → Note
 note_after_run after note commands = fold (note_after_command after) note commands
 
--- What a command that was applied leaves, beside the step of the live list: the allocator stands for the list, has the geometry
--- that it had, and keeps the command's note. The list is at most one longer, and has lost no room.
+-- What a command that was applied is replied, and what it leaves, by the words of `BaseAllocator`: the reply and the live list
+-- are a step of these, a chunk that was replied to a request fits, the allocator stands for the list, has the geometry that it
+-- had, and keeps the command's note. The list is at most one longer, and has lost no room.
 pub record Applies {Allocator Geometry Note Alloc : Type 0} (stands_for : Allocator → List Chunk → Type 0)
-    (geometry_of : Allocator → Geometry) (note_of : Allocator → Note) (note_after : Geometry → Layout → Note → Note)
-    (command : Command) (old new : Allocator) (live left : Vec Chunk Alloc) : Type 0 where
+    (geometry_of : Allocator → Geometry) (region_of : Geometry → Region) (note_of : Allocator → Note)
+    (note_after : Geometry → Layout → Note → Note) (Steps : List Chunk → Command → Reply → List Chunk → Type 0)
+    (command : Command) (answer : Reply) (old new : Allocator) (live left : Vec Chunk Alloc) : Type 0 where
+  pub step : Steps live.items command answer left.items
+  pub fits : (layout : Layout) (chunk : Chunk) → command ≡ Allocate layout → answer ≡ reply.Chunk chunk
+      → Fits (region_of (geometry_of old)) layout chunk
   pub stands : stands_for new left.items
   pub geometry : geometry_of new ≡ geometry_of old
   pub note : note_of new ≡ note_after_command (note_after (geometry_of old)) (note_of old) command
   pub len : vec_len left ≤ vec_len live + 1
   pub capacity : vec_capacity live ≤ vec_capacity left
+
+-- What an allocator answers to a list of commands, and what it leaves. The replies and the live list are a run by these steps;
+-- the allocator stands for the list that is left, which is sound, and has the geometry that it had; each chunk that was replied
+-- to a request fits. Where memory was refused, nothing was applied.
+pub record AnswersRun {Allocator Geometry Alloc Error : Type 0} (stands_for : Allocator → List Chunk → Type 0)
+    (geometry_of : Allocator → Geometry) (region_of : Geometry → Region)
+    (Steps : List Chunk → Command → Reply → List Chunk → Type 0) (commands : List Command)
+    (answer : Result (Vec Reply Alloc) Error) (old new : Allocator) (live left : List Chunk) : Type 0 where
+  pub run : IfOk answer (λ replies. IsRun Steps live commands replies.items left)
+  pub stands : OnOk answer (stands_for new left)
+  pub sound : OnOk answer (IsSound (region_of (geometry_of old)) left)
+  pub fits : IfOk answer (λ replies. EachGiven (Fits (region_of (geometry_of old))) commands replies.items)
+  pub geometry : geometry_of new ≡ geometry_of old
+  pub still : OnErr answer (new ≡ old)
+  pub kept : OnErr answer (left ≡ live)

@@ -97,7 +97,8 @@ pub trait BaseAllocator {
     ghost use Rattle.bb_memory_base.specs.Chunk.{Chunk, IsInside};
     ghost use Rattle.bb_memory_base.specs.LiveList.{IsSound};
     ghost use Rattle.bb_memory_base.specs.Object.{released};
-    ghost use Rattle.bb_memory_base.specs.HeldBytes.{held_region, ZeroesOnly};
+    ghost use Rattle.bb_memory_base.specs.Request.{Requested};
+    ghost use Rattle.bb_memory_base.specs.HeldBytes.{held_region, ZeroesAnswered};
     ghost use Rattle.bb_memory_base.specs.declared.layout.Layout.{Layout};
     ghost use Rattle.bb_memory_base.specs.declared.allocator.AllocationError.{AllocationError};
 
@@ -168,30 +169,17 @@ pub trait BaseAllocator {
         ensures note { note self.new ≡ note self.old }
         ensures value { frees self.old place layout self.new };
 
-    /// Asks for a chunk as `allocate` does, and makes its bytes zero. Every other byte of the region stays, and after a
-    /// refusal all do. The region's start and size have to be those of the allocator's maker.
+    /// Asks for a chunk as `allocate` does, with all that it promises (`Requested`), and makes its bytes zero. Every other byte
+    /// of the region stays, and after a refusal all do. The region's start and size have to be those of the allocator's maker.
     fn allocate_zeroed(
         &mut self,
         layout: Layout,
         region: &mut Region,
     ) -> Result<Chunk, AllocationError>
         requires same_region { held_region region.old ≡ region_of (geometry self.old) }
-        ensures answer { (live : List Chunk) → stands_for self.old live
-            → may_allocate (geometry self.old) live layout result }
-        ensures appended { IfOk result (λ chunk. (live : List Chunk) → stands_for self.old live
-            → stands_for self.new (live ++ chunk ∷ [])) }
-        ensures kept { OnErr result ((live : List Chunk) → stands_for self.old live
-            → stands_for self.new live) }
-        ensures given { IfOk result (λ chunk. may_release self.new chunk.place) }
-        ensures inside { IfOk result (IsInside (region_of (geometry self.old))) }
-        ensures aligned { IfOk result (λ chunk. chunk.place % layout.align ≡ 0) }
-        ensures long_enough { IfOk result (λ chunk. layout.size ≤ chunk.len) }
-        ensures geometry { geometry self.new ≡ geometry self.old }
-        ensures note { note self.new ≡ note_after (geometry self.old) layout (note self.old) }
-        ensures value { takes self.old layout result self.new }
-
-        ensures zeroed { IfOk result (λ chunk. ZeroesOnly region.old region.new chunk) }
-        ensures bytes_kept { OnErr result (region.new ≡ region.old) }
+        ensures requested { Requested stands_for may_release geometry region_of may_allocate note
+            note_after takes self.old layout result self.new }
+        ensures bytes { ZeroesAnswered (λ chunk. chunk) region.old region.new result }
     {
         let chunk = self.allocate(layout)?;
         region.zero(chunk);
@@ -231,7 +219,8 @@ pub trait BaseAllocator {
 pub trait Allocator: BaseAllocator {
     ghost use Rattle.std.specs.Prelude.{◌≡◌, ◌<◌, ◌≤◌, ◌%◌, ℕ, false, List, Some, Result, IfOk, OnErr, slice_get, slice_set};
     ghost use Rattle.bb_memory_base.specs.Chunk.{Chunk, IsInside};
-    ghost use Rattle.bb_memory_base.specs.HeldBytes.{held_region, part_behind, ZeroesOnly};
+    ghost use Rattle.bb_memory_base.specs.HeldBytes.{held_region, part_behind, ZeroesAnswered};
+    ghost use Rattle.bb_memory_base.specs.Request.{Grown};
     ghost use Rattle.bb_memory_base.specs.ResizableObject.{PlacesDiffer};
     ghost use Rattle.bb_memory_base.specs.declared.layout.Layout.{Layout};
     ghost use Rattle.bb_memory_base.specs.declared.allocator.AllocationGrowError.{AllocationGrowError};
@@ -310,9 +299,9 @@ pub trait Allocator: BaseAllocator {
         ensures still { self.new ≡ self.old }
         ensures value { shrinks self.old place old new result self.new };
 
-    /// Grows a chunk as `grow` does, and makes the bytes behind its old size zero, up to the end of what is answered. Every
-    /// other byte of the region stays, and after a refusal all do. The region's start and size have to be those of the
-    /// allocator's maker.
+    /// Grows a chunk as `grow` does, with all that it promises (`Grown`), and makes the bytes behind its old size zero, up to the
+    /// end of what is answered. Every other byte of the region stays, and after a refusal all do. The region's start and size
+    /// have to be those of the allocator's maker.
     fn grow_zeroed(
         &mut self,
         place: usize,
@@ -323,23 +312,10 @@ pub trait Allocator: BaseAllocator {
         requires live { Self.may_release self.old place }
         requires aligned { place % old.align ≡ 0 }
         requires same_region { held_region region.old ≡ Self.region_of (Self.geometry self.old) }
-        ensures answer { (live : List Chunk) (position : ℕ) (chunk : Chunk)
-            → Self.stands_for self.old live → slice_get live position ≡ Some chunk
-            → chunk.place ≡ place → may_grow (figures self.old) live place old new result }
-        ensures resized { IfOk result (λ grown. (live : List Chunk) (position : ℕ) (chunk : Chunk)
-            → Self.stands_for self.old live → slice_get live position ≡ Some chunk
-            → chunk.place ≡ place → Self.stands_for self.new (slice_set live position grown)) }
-        ensures same_place { IfOk result (λ grown. grown.place ≡ place) }
-        ensures longer { IfOk result (λ grown. old.size < grown.len) }
-        ensures long_enough { IfOk result (λ grown. new.size ≤ grown.len) }
-        ensures within { IfOk result (λ grown. grown.len ≤ reserved_at (figures self.old) place) }
-        ensures inside { IfOk result (IsInside (Self.region_of (Self.geometry self.old))) }
-        ensures still { self.new ≡ self.old }
-        ensures value { grows self.old place old new result self.new }
-
-        ensures zeroed { IfOk result
-            (λ grown. ZeroesOnly region.old region.new (part_behind old.size grown)) }
-        ensures bytes_kept { OnErr result (region.new ≡ region.old) }
+        ensures grown { Grown Self.stands_for (Self.region_of (Self.geometry self.old))
+            (reserved_at (figures self.old) place) (may_grow (figures self.old)) grows
+            self.old place old new result self.new }
+        ensures bytes { ZeroesAnswered (part_behind old.size) region.old region.new result }
     {
         let grown = self.grow(place, old, new)?;
         region.zero(grown.behind(old.size()));

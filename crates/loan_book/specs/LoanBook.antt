@@ -1,9 +1,9 @@
 -- A loan book over an allocator, as its contracts see it.
-use Rattle.std.specs.Prelude.{ℕ, ◌<◌, ◌^◌, List, Option, Some, None}
+use Rattle.std.specs.Prelude.{◌≡◌, ℕ, ◌<◌, ◌^◌, List, Option, Some, None}
 use Rattle.std.specs.Option.{ForSome}
 use Rattle.bb_memory_base.specs.Chunk.{Chunk}
 use Rattle.loan_book.specs.Sample.{Sample}
-use Rattle.loan_book.specs.Book.{Book, IsBook, chunks_of}
+use Rattle.loan_book.specs.Book.{Book, IsBook, chunks_of, chunks_out}
 
 -- the allocator below, and the book
 pub record LoanBook (A : Type 0) : Type 0 where
@@ -27,3 +27,10 @@ pub record IsLoanBook {A : Type 0} (stands_for : A → List Chunk → Type 0) (a
   pub stands : stands_for allocator (chunks_of out)
   pub book : IsBook (book_of next out)
   pub next_fits : ForSome next (λ id. id < 2 ^ 64)
+
+-- what every call leaves: the allocator stands for exactly the chunks of the samples that are out, and has the geometry that it
+-- had
+pub record StillStands {A Geometry : Type 0} (stands_for : A → List Chunk → Type 0) (geometry_of : A → Geometry)
+    (old new : LoanBook A) : Type 0 where
+  pub stands : stands_for new.allocator (chunks_out new.book)
+  pub geometry : geometry_of new.allocator ≡ geometry_of old.allocator

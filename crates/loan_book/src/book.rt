@@ -7,7 +7,7 @@ ghost use Rattle.loan_book.specs.Sample.{Sample};
 ghost use Rattle.loan_book.specs.declared.error.LoanError.{LoanError};
 ghost use Rattle.loan_book.specs.Book.{Book, IsBook, IsAt, IsOut, HasReturns, IsPublished, IsUnpublished, chunks_out};
 ghost use Rattle.loan_book.specs.Calls.{Loans, Publishes, GivesBack, without};
-ghost use Rattle.loan_book.specs.LoanBook.{loan_book_of};
+ghost use Rattle.loan_book.specs.LoanBook.{StillStands, loan_book_of};
 
 use crate::error::LoanError;
 use crate::sample::Sample;
@@ -77,10 +77,9 @@ impl<A: Allocator> LoanBook<A> {
         ensures too_large { (result ≡ Err LoanError.Size) ↔ (2 ^ 63 ≤ size) }
         ensures ids_exhausted { (result ≡ Err LoanError.IdsExhausted)
             ↔ ((size < 2 ^ 63) × (2 ^ 64 ≤ self.old.book.loaned)) }
-        ensures stands { A.stands_for self.new.allocator (chunks_out self.new.book) }
+        ensures stands { StillStands A.stands_for A.geometry self.old self.new }
         ensures sound { IsSound (A.region_of (A.geometry self.old.allocator))
             (chunks_out self.new.book) }
-        ensures geometry { A.geometry self.new.allocator ≡ A.geometry self.old.allocator }
         ensures long_enough { IfOk result (λ loaned. size ≤ loaned.1.len) }
         ensures kept { OnErr result ((live : List Chunk) → A.stands_for self.old.allocator live
             → A.stands_for self.new.allocator live) }
@@ -118,10 +117,10 @@ impl<A: Allocator> LoanBook<A> {
             ↔ IsPublished self.old.book id }
         ensures no_readers { (result ≡ Err LoanError.NoReaders)
             ↔ (IsUnpublished self.old.book id × (readers ≡ 0)) }
-        ensures stands { A.stands_for self.new.allocator (chunks_out self.new.book) }
+        ensures stands { StillStands A.stands_for A.geometry self.old self.new }
         ensures waits { OnOk result (HasReturns self.new.book id (Some readers)) }
         ensures same_allocator { self.new.allocator ≡ self.old.allocator }
-        ensures kept { OnErr result (self.new ≡ self.old) }
+        ensures still { OnErr result (self.new ≡ self.old) }
     {
         let Some(position) = self.position(id) else {
             return Err(LoanError::UnknownSample);
@@ -146,11 +145,10 @@ impl<A: Allocator> LoanBook<A> {
         ensures unknown_sample { (result ≡ Err LoanError.UnknownSample)
             ↔ (¬ IsOut self.old.book id) }
         ensures leaves { IfOk result (λ left. IsTrue left ↔ (¬ IsOut self.new.book id)) }
-        ensures stands { A.stands_for self.new.allocator (chunks_out self.new.book) }
-        ensures geometry { A.geometry self.new.allocator ≡ A.geometry self.old.allocator }
+        ensures stands { StillStands A.stands_for A.geometry self.old self.new }
         ensures same_allocator { IfOk result
             (λ left. left ≡ false → self.new.allocator ≡ self.old.allocator) }
-        ensures kept { OnErr result (self.new ≡ self.old) }
+        ensures still { OnErr result (self.new ≡ self.old) }
     {
         let Some(position) = self.position(id) else {
             return Err(LoanError::UnknownSample);
@@ -208,8 +206,7 @@ impl<A: Allocator> LoanBook<A> {
     fn take_out(&mut self, position: usize)
         requires { position < length self.old.book.out }
         ensures book { self.new.book ≡ without self.old.book position }
-        ensures stands { A.stands_for self.new.allocator (chunks_out self.new.book) }
-        ensures geometry { A.geometry self.new.allocator ≡ A.geometry self.old.allocator }
+        ensures stands { StillStands A.stands_for A.geometry self.old self.new }
     {
         let sample = self.out.remove(position).unwrap();
         self.allocator.deallocate(sample.place(), Layout::empty());

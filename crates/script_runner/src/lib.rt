@@ -7,9 +7,8 @@
 //!   every input and every status.
 //! - `engine`, what all kinds of scripts share. `driven` says what a kind of script has to have; `driving` runs a script of a
 //!   kind; `reading` cuts the input into lines and reads them, and `script` keeps what they say.
-//! - `kinds`, the table of the kinds and a file for each: `bump`, `one_chunk`, `pool` and `fixed_pool` over what `allocators`
-//!   share; `bump_steps` and `pool_steps`, the twins; `loan_pool`. What first lines and steps name: `bounds`, `pool_plan`,
-//!   `buckets`, `parties`.
+//! - `kinds`, the table of the kinds and a file for each: the allocators, over what `allocators` shares; `bump_steps` and
+//!   `pool_steps`, the twins; `loan_pool`. What first lines and steps name: `bounds`, `pool_plan`, `buckets`, `parties`.
 //! - `fields`: the numbers and layouts that stand between the spaces of a line.
 #![tactic(auto)]
 

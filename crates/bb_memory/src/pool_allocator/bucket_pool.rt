@@ -1,8 +1,6 @@
 //! Pools over a set of held buckets: what the pools of this crate have in common.
-ghost use Rattle.std.specs.Prelude.{◌≡◌, ◌↔◌, IfOk, OnOk};
-ghost use Rattle.std.specs.Prelude.{OnErr, IsTrue};
-ghost use Rattle.bb_memory_base.specs.LiveList.{IsSound};
-ghost use Rattle.bb_memory_base.specs.Run.{IsRun, Step};
+ghost use Rattle.std.specs.Prelude.{◌≡◌, ◌↔◌, OnOk, IsTrue};
+ghost use Rattle.bb_memory_base.specs.Run.{AnswersRun, Step};
 ghost use Rattle.bb_memory_base.specs.ResizableObject.{ResizableStep};
 ghost use Rattle.bb_memory_base.specs.PoolObject.{pool_object};
 ghost use Rattle.bb_memory.specs.Pool.{HoldsPlace, StandsFor, reads_after};
@@ -234,17 +232,13 @@ pub fn run_pool<S: HeldSet>(
     commands: &[Command],
 ) -> Result<Vec<Reply>, AllocError>
     requires { StandsFor (S.pool allocator.old) live.old.items }
-    ensures run { IfOk result (λ replies.
-        IsRun (ResizableStep (pool_object (S.pool allocator.old).geometry))
-        live.old.items commands.now replies.items live.new.items) }
-    ensures stands { OnOk result (StandsFor (S.pool allocator.new) live.new.items) }
-    ensures sound { OnOk result (IsSound (S.pool allocator.old).geometry.region live.new.items) }
-    ensures geometry { (S.pool allocator.new).geometry ≡ (S.pool allocator.old).geometry }
+    ensures run { AnswersRun (λ pool. StandsFor (S.pool pool))
+        (λ pool. (S.pool pool).geometry)
+        (λ geometry. geometry.region) (ResizableStep (pool_object (S.pool allocator.old).geometry))
+        commands.now result allocator.old allocator.new live.old.items live.new.items }
     ensures reads { OnOk result (S.reads allocator.new ≡ reads_after
         (S.pool allocator.old).geometry.bucket (S.words (S.pool allocator.old).geometry.buckets)
         (S.reads allocator.old) commands.now) }
-    ensures kept { OnErr result
-        ((allocator.new ≡ allocator.old) × (live.new.items ≡ live.old.items)) }
 {
     run_full(allocator, live, commands)
 }
@@ -257,17 +251,13 @@ pub fn run_base_pool<S: HeldSet>(
     commands: &[Command],
 ) -> Result<Vec<Reply>, AllocError>
     requires { StandsFor (S.pool allocator.old) live.old.items }
-    ensures run { IfOk result (λ replies.
-        IsRun (Step (pool_object (S.pool allocator.old).geometry).base)
-        live.old.items commands.now replies.items live.new.items) }
-    ensures stands { OnOk result (StandsFor (S.pool allocator.new) live.new.items) }
-    ensures sound { OnOk result (IsSound (S.pool allocator.old).geometry.region live.new.items) }
-    ensures geometry { (S.pool allocator.new).geometry ≡ (S.pool allocator.old).geometry }
+    ensures run { AnswersRun (λ pool. StandsFor (S.pool pool))
+        (λ pool. (S.pool pool).geometry)
+        (λ geometry. geometry.region) (Step (pool_object (S.pool allocator.old).geometry).base)
+        commands.now result allocator.old allocator.new live.old.items live.new.items }
     ensures reads { OnOk result (S.reads allocator.new ≡ reads_after
         (S.pool allocator.old).geometry.bucket (S.words (S.pool allocator.old).geometry.buckets)
         (S.reads allocator.old) commands.now) }
-    ensures kept { OnErr result
-        ((allocator.new ≡ allocator.old) × (live.new.items ≡ live.old.items)) }
 {
     run_base(allocator, live, commands)
 }

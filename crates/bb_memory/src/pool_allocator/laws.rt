@@ -4,6 +4,7 @@ ghost use Rattle.std.specs.Prelude.{AllPairs, ℕ, Result, Ok, Err, Some, IsOk, 
 ghost use Rattle.bb_memory_base.specs.Region.{Region, IsRegion, region_end};
 ghost use Rattle.bb_memory_base.specs.FirstPlace.{first_place};
 ghost use Rattle.bb_memory_base.specs.Chunk.{Chunk, IsInside};
+ghost use Rattle.bb_memory_base.specs.Object.{AnswersAll, GivesOnly};
 ghost use Rattle.bb_memory_base.specs.Run.{IsRun, Step};
 ghost use Rattle.bb_memory_base.specs.ResizableObject.{ResizableStep};
 ghost use Rattle.bb_memory_base.specs.PoolGeometry.{PoolGeometry, IsCut, IsPoolGeometry, at_most, bucket_place, stride};
@@ -47,8 +48,7 @@ pub fn pool_geometry_law()
 /// without, leads to such a list again, which is sound. It does nothing: its contract is the law.
 pub fn pool_object_law()
     // What a request may be answered.
-    ensures some_answer { (geometry : PoolGeometry) (live : List Chunk) (layout : Layout)
-        → (answer : Result Chunk AllocationError) × MayAllocate geometry live layout answer }
+    ensures some_answer { (geometry : PoolGeometry) → AnswersAll (pool_object geometry).base }
     ensures one_cause { (geometry : PoolGeometry) (live : List Chunk) (layout : Layout)
         (one other : AllocationError)
         → MayAllocate geometry live layout (Err one) → MayAllocate geometry live layout (Err other)
@@ -59,18 +59,12 @@ pub fn pool_object_law()
         → ¬ MayAllocate geometry live layout (Err error) }
 
     // A chunk that is given.
-    ensures aligned { (geometry : PoolGeometry) (live : List Chunk) (layout : Layout)
-        (chunk : Chunk)
-        → MayAllocate geometry live layout (Ok chunk)
-        → chunk.place % layout.align ≡ 0 }
-    ensures bucket_aligned { (geometry : PoolGeometry) (live : List Chunk) (layout : Layout)
-        (chunk : Chunk)
-        → MayAllocate geometry live layout (Ok chunk)
-        → chunk.place % geometry.bucket.align ≡ 0 }
-    ensures exact_size { (geometry : PoolGeometry) (live : List Chunk) (layout : Layout)
-        (chunk : Chunk)
-        → MayAllocate geometry live layout (Ok chunk)
-        → chunk.len ≡ layout.size }
+    ensures aligned { (geometry : PoolGeometry) → GivesOnly (pool_object geometry).base
+        (λ layout chunk. chunk.place % layout.align ≡ 0) }
+    ensures bucket_aligned { (geometry : PoolGeometry) → GivesOnly (pool_object geometry).base
+        (λ layout chunk. chunk.place % geometry.bucket.align ≡ 0) }
+    ensures exact_size { (geometry : PoolGeometry) → GivesOnly (pool_object geometry).base
+        (λ layout chunk. chunk.len ≡ layout.size) }
     ensures new_place { (geometry : PoolGeometry) (live : List Chunk) (layout : Layout)
         (chunk : Chunk)
         → MayAllocate geometry live layout (Ok chunk)

@@ -1,79 +1,42 @@
 //! Runs of commands over any allocator.
-ghost use Rattle.std.specs.Prelude.{◌≡◌, ◌<◌, ◌≤◌, ◌%◌, IfOk, OnOk, OnErr, vec_len, vec_capacity};
-ghost use Rattle.bb_memory_base.specs.Chunk.{Chunk, IsInside};
-ghost use Rattle.bb_memory_base.specs.LiveList.{IsSound};
+ghost use Rattle.std.specs.Prelude.{◌≡◌, ◌<◌, OnOk, vec_len, vec_capacity};
 ghost use Rattle.bb_memory_base.specs.Object.{object_of};
-ghost use Rattle.bb_memory_base.specs.Run.{Applies, Step, IsRun, EachGiven, note_after_run};
-ghost use Rattle.bb_memory_base.specs.declared.layout.Layout.{Layout};
-ghost use Rattle.bb_memory_base.specs.Fitting.{Fits};
+ghost use Rattle.bb_memory_base.specs.Run.{AnswersRun, Applies, Step, note_after_run};
 ghost use Rattle.bb_memory_base.specs.ResizableObject.{ResizableStep, resizable_object_of};
 
 use super::{Allocator, BaseAllocator, Command, Reply};
 use crate::layout::{Chunk, Layout};
 use std::alloc::AllocError;
 
-/// Asks for a chunk, and appends it to the live list.
-fn apply_allocate<A: BaseAllocator>(
-    allocator: &mut A,
-    live: &mut Vec<Chunk>,
-    layout: Layout,
-) -> Reply
-    requires stands { A.stands_for allocator.old live.old.items }
-    requires room { vec_len live.old < vec_capacity live.old }
-    ensures step { Step (object_of A.RELEASE_EMPTIES (A.may_allocate (A.geometry allocator.old)))
-        live.old.items (Command.Allocate layout) result live.new.items }
-    ensures fits { (chunk : Chunk) → result ≡ Reply.Chunk chunk
-        → Fits (A.region_of (A.geometry allocator.old)) layout chunk }
-    ensures applied { Applies A.stands_for A.geometry A.note A.note_after
-        (Command.Allocate layout) allocator.old allocator.new live.old live.new }
-{
-    match allocator.allocate(layout) {
-        Ok(chunk) => {
-            live.push_reserved(chunk);
-            Reply::Chunk(chunk)
-        }
-        Err(error) => Reply::Refused(error),
-    }
-}
-
-/// Gives back the chunk at a position, and takes it or all chunks out of the live list.
-fn apply_release<A: BaseAllocator>(
-    allocator: &mut A,
-    live: &mut Vec<Chunk>,
-    position: usize,
-) -> Reply
-    requires stands { A.stands_for allocator.old live.old.items }
-    ensures step { Step (object_of A.RELEASE_EMPTIES (A.may_allocate (A.geometry allocator.old)))
-        live.old.items (Command.Release position) result live.new.items }
-    ensures applied { Applies A.stands_for A.geometry A.note A.note_after
-        (Command.Release position) allocator.old allocator.new live.old live.new }
-{
-    let Some(chunk) = live.get(position).copied() else {
-        return Reply::Passed;
-    };
-    allocator.deallocate(chunk.place(), Layout::empty());
-    if A::RELEASE_EMPTIES {
-        live.clear();
-    } else {
-        live.remove(position);
-    }
-    Reply::Released
-}
-
-/// Applies one command. A resize is passed over.
+/// Applies one command: asks for a chunk and appends it to the live list, or gives back the chunk at a position and takes it, or
+/// all chunks, out of the list. A resize is passed over.
 fn apply_base<A: BaseAllocator>(allocator: &mut A, live: &mut Vec<Chunk>, command: Command) -> Reply
     requires stands { A.stands_for allocator.old live.old.items }
     requires room { vec_len live.old < vec_capacity live.old }
-    ensures step { Step (object_of A.RELEASE_EMPTIES (A.may_allocate (A.geometry allocator.old)))
-        live.old.items command result live.new.items }
-    ensures fits { (layout : Layout) (chunk : Chunk) → command ≡ Command.Allocate layout
-        → result ≡ Reply.Chunk chunk → Fits (A.region_of (A.geometry allocator.old)) layout chunk }
-    ensures applied { Applies A.stands_for A.geometry A.note A.note_after
-        command allocator.old allocator.new live.old live.new }
+    ensures { Applies A.stands_for A.geometry A.region_of A.note A.note_after
+        (Step (object_of A.RELEASE_EMPTIES (A.may_allocate (A.geometry allocator.old))))
+        command result allocator.old allocator.new live.old live.new }
 {
     match command {
-        Command::Allocate(layout) => apply_allocate(allocator, live, layout),
-        Command::Release(position) => apply_release(allocator, live, position),
+        Command::Allocate(layout) => match allocator.allocate(layout) {
+            Ok(chunk) => {
+                live.push_reserved(chunk);
+                Reply::Chunk(chunk)
+            }
+            Err(error) => Reply::Refused(error),
+        },
+        Command::Release(position) => {
+            let Some(chunk) = live.get(position).copied() else {
+                return Reply::Passed;
+            };
+            allocator.deallocate(chunk.place(), Layout::empty());
+            if A::RELEASE_EMPTIES {
+                live.clear();
+            } else {
+                live.remove(position);
+            }
+            Reply::Released
+        }
         Command::Grow(..) | Command::Shrink(..) => Reply::Passed,
     }
 }
@@ -100,23 +63,11 @@ pub fn run_base<A: BaseAllocator>(
     commands: &[Command],
 ) -> Result<Vec<Reply>, AllocError>
     requires { A.stands_for allocator.old live.old.items }
-    ensures run { IfOk result (λ replies.
-        IsRun (Step (object_of A.RELEASE_EMPTIES (A.may_allocate (A.geometry allocator.old))))
-        live.old.items commands.now replies.items live.new.items) }
-    ensures stands { OnOk result (A.stands_for allocator.new live.new.items) }
-    ensures sound { OnOk result (IsSound (A.region_of (A.geometry allocator.old)) live.new.items) }
-    ensures inside { IfOk result (λ replies.
-        EachGiven (λ layout. IsInside (A.region_of (A.geometry allocator.old)))
-        commands.now replies.items) }
-    ensures aligned { IfOk result (λ replies.
-        EachGiven (λ layout chunk. chunk.place % layout.align ≡ 0) commands.now replies.items) }
-    ensures long_enough { IfOk result (λ replies.
-        EachGiven (λ layout chunk. layout.size ≤ chunk.len) commands.now replies.items) }
-    ensures geometry { A.geometry allocator.new ≡ A.geometry allocator.old }
+    ensures run { AnswersRun A.stands_for A.geometry A.region_of
+        (Step (object_of A.RELEASE_EMPTIES (A.may_allocate (A.geometry allocator.old))))
+        commands.now result allocator.old allocator.new live.old.items live.new.items }
     ensures note { OnOk result (A.note allocator.new ≡ note_after_run
         (A.note_after (A.geometry allocator.old)) (A.note allocator.old) commands.now) }
-    ensures kept { OnErr result
-        ((allocator.new ≡ allocator.old) × (live.new.items ≡ live.old.items)) }
 {
     let mut replies = Vec::with_capacity(*live.allocator(), commands.len())?;
     live.reserve(commands.len())?;
@@ -136,12 +87,11 @@ fn apply_grow<A: Allocator>(
     new: Layout,
 ) -> Reply
     requires stands { A.stands_for allocator.old live.old.items }
-    ensures step { ResizableStep (resizable_object_of
+    ensures { Applies A.stands_for A.geometry A.region_of A.note A.note_after
+        (ResizableStep (resizable_object_of
         (A.may_allocate (A.geometry allocator.old)) (A.reserved_at (A.figures allocator.old))
-        (A.may_grow (A.figures allocator.old)) (A.may_shrink (A.figures allocator.old)))
-        live.old.items (Command.Grow position old new) result live.new.items }
-    ensures applied { Applies A.stands_for A.geometry A.note A.note_after
-        (Command.Grow position old new) allocator.old allocator.new live.old live.new }
+        (A.may_grow (A.figures allocator.old)) (A.may_shrink (A.figures allocator.old))))
+        (Command.Grow position old new) result allocator.old allocator.new live.old live.new }
 {
     let Some(chunk) = live.get(position).copied() else {
         return Reply::Passed;
@@ -167,12 +117,11 @@ fn apply_shrink<A: Allocator>(
     new: Layout,
 ) -> Reply
     requires stands { A.stands_for allocator.old live.old.items }
-    ensures step { ResizableStep (resizable_object_of
+    ensures { Applies A.stands_for A.geometry A.region_of A.note A.note_after
+        (ResizableStep (resizable_object_of
         (A.may_allocate (A.geometry allocator.old)) (A.reserved_at (A.figures allocator.old))
-        (A.may_grow (A.figures allocator.old)) (A.may_shrink (A.figures allocator.old)))
-        live.old.items (Command.Shrink position old new) result live.new.items }
-    ensures applied { Applies A.stands_for A.geometry A.note A.note_after
-        (Command.Shrink position old new) allocator.old allocator.new live.old live.new }
+        (A.may_grow (A.figures allocator.old)) (A.may_shrink (A.figures allocator.old))))
+        (Command.Shrink position old new) result allocator.old allocator.new live.old live.new }
 {
     let Some(chunk) = live.get(position).copied() else {
         return Reply::Passed;
@@ -194,18 +143,14 @@ fn apply_shrink<A: Allocator>(
 fn apply_full<A: Allocator>(allocator: &mut A, live: &mut Vec<Chunk>, command: Command) -> Reply
     requires stands { A.stands_for allocator.old live.old.items }
     requires room { vec_len live.old < vec_capacity live.old }
-    ensures step { ResizableStep (resizable_object_of
+    ensures { Applies A.stands_for A.geometry A.region_of A.note A.note_after
+        (ResizableStep (resizable_object_of
         (A.may_allocate (A.geometry allocator.old)) (A.reserved_at (A.figures allocator.old))
-        (A.may_grow (A.figures allocator.old)) (A.may_shrink (A.figures allocator.old)))
-        live.old.items command result live.new.items }
-    ensures fits { (layout : Layout) (chunk : Chunk) → command ≡ Command.Allocate layout
-        → result ≡ Reply.Chunk chunk → Fits (A.region_of (A.geometry allocator.old)) layout chunk }
-    ensures applied { Applies A.stands_for A.geometry A.note A.note_after
-        command allocator.old allocator.new live.old live.new }
+        (A.may_grow (A.figures allocator.old)) (A.may_shrink (A.figures allocator.old))))
+        command result allocator.old allocator.new live.old live.new }
 {
     match command {
-        Command::Allocate(layout) => apply_allocate(allocator, live, layout),
-        Command::Release(position) => apply_release(allocator, live, position),
+        Command::Allocate(_) | Command::Release(_) => apply_base(allocator, live, command),
         Command::Grow(position, old, new) => apply_grow(allocator, live, position, old, new),
         Command::Shrink(position, old, new) => apply_shrink(allocator, live, position, old, new),
     }
@@ -232,25 +177,13 @@ pub fn run_full<A: Allocator>(
     commands: &[Command],
 ) -> Result<Vec<Reply>, AllocError>
     requires { A.stands_for allocator.old live.old.items }
-    ensures run { IfOk result (λ replies.
-        IsRun (ResizableStep (resizable_object_of
+    ensures run { AnswersRun A.stands_for A.geometry A.region_of
+        (ResizableStep (resizable_object_of
         (A.may_allocate (A.geometry allocator.old)) (A.reserved_at (A.figures allocator.old))
         (A.may_grow (A.figures allocator.old)) (A.may_shrink (A.figures allocator.old))))
-        live.old.items commands.now replies.items live.new.items) }
-    ensures stands { OnOk result (A.stands_for allocator.new live.new.items) }
-    ensures sound { OnOk result (IsSound (A.region_of (A.geometry allocator.old)) live.new.items) }
-    ensures inside { IfOk result (λ replies.
-        EachGiven (λ layout. IsInside (A.region_of (A.geometry allocator.old)))
-        commands.now replies.items) }
-    ensures aligned { IfOk result (λ replies.
-        EachGiven (λ layout chunk. chunk.place % layout.align ≡ 0) commands.now replies.items) }
-    ensures long_enough { IfOk result (λ replies.
-        EachGiven (λ layout chunk. layout.size ≤ chunk.len) commands.now replies.items) }
-    ensures geometry { A.geometry allocator.new ≡ A.geometry allocator.old }
+        commands.now result allocator.old allocator.new live.old.items live.new.items }
     ensures note { OnOk result (A.note allocator.new ≡ note_after_run
         (A.note_after (A.geometry allocator.old)) (A.note allocator.old) commands.now) }
-    ensures kept { OnErr result
-        ((allocator.new ≡ allocator.old) × (live.new.items ≡ live.old.items)) }
 {
     let mut replies = Vec::with_capacity(*live.allocator(), commands.len())?;
     live.reserve(commands.len())?;

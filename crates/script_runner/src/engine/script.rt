@@ -1,8 +1,8 @@
 //! Scripts: the commands after the first line, cut at each `show`.
-ghost use Rattle.std.specs.Prelude.{◌≡◌, ◌<◌, ◌≤◌, ◌∷◌, ◌++◌, [], length, OnOk, OnErr, Some};
+ghost use Rattle.std.specs.Prelude.{◌≡◌, ◌<◌, ◌≤◌, ◌∷◌, [], length, Some};
 ghost use Rattle.std.specs.Prelude.{slice_get, slice_index, slice_range};
 ghost use Rattle.script_runner.specs.engine.Script.{batches_from, AreInOrder};
-ghost use Rattle.script_runner.specs.engine.Script.{script_lines};
+ghost use Rattle.script_runner.specs.engine.Script.{Adds, script_lines};
 
 use std::alloc::{AllocError, Global};
 use std::marker::Model;
@@ -49,8 +49,7 @@ impl<C: Drop> Script<C> {
 
     /// Adds a line at the end.
     pub fn push(&mut self, line: Line<C>) -> Result<(), AllocError>
-        ensures ok { OnOk result (script_lines self.new ≡ script_lines self.old ++ line ∷ []) }
-        ensures err { OnErr result (self.new ≡ self.old) }
+        ensures { Adds self.old line result self.new }
     {
         match line {
             Line::Command(command) => self.push_command(command),
@@ -59,18 +58,14 @@ impl<C: Drop> Script<C> {
     }
 
     fn push_command(&mut self, command: C) -> Result<(), AllocError>
-        ensures ok { OnOk result
-            (script_lines self.new ≡ script_lines self.old ++ Line.Command command ∷ []) }
-        ensures err { OnErr result (self.new ≡ self.old) }
+        ensures { Adds self.old (Line.Command command) result self.new }
     {
         self.commands.push(command)?;
         Ok(())
     }
 
     fn push_show(&mut self) -> Result<(), AllocError>
-        ensures ok { OnOk result
-            (script_lines self.new ≡ script_lines self.old ++ Line.Show ∷ []) }
-        ensures err { OnErr result (self.new ≡ self.old) }
+        ensures { Adds self.old Line.Show result self.new }
     {
         self.shows.push(self.commands.len())?;
         Ok(())

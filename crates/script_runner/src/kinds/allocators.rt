@@ -48,7 +48,8 @@ pub trait Scripted: BaseAllocator + Drop {
         ensures run { IfOk result (λ replies.
             rules.runs self.old live.old.items commands.now replies.items self.new live.new.items) }
         ensures stands { OnOk result (Self.stands_for self.new live.new.items) }
-        ensures kept { OnErr result ((self.new ≡ self.old) × (live.new.items ≡ live.old.items)) };
+        ensures still { OnErr result (self.new ≡ self.old) }
+        ensures kept { OnErr result (live.new.items ≡ live.old.items) };
 
     fn write_state<W: Write>(&self, live: usize, writer: &mut W) -> io::Result<()>
         ensures { OnOk result (Appends (W.contents writer.old) (W.contents writer.new)

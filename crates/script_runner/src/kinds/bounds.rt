@@ -48,19 +48,12 @@ impl Bounds {
         Bounds::new(start, number(size)?)
     }
 
-    /// Where the region starts.
-    pub fn start(self) -> usize
-        ensures value { result ≡ self.start }
+    /// Where the region starts, and how many bytes it has.
+    pub fn parts(self) -> (usize, usize)
+        ensures start { result.0 ≡ self.start }
+        ensures size { result.1 ≡ self.size }
         ensures is_region { IsRegion self }
     {
-        self.start
-    }
-
-    /// How many bytes it has.
-    pub fn size(self) -> usize
-        ensures value { result ≡ self.size }
-        ensures is_region { IsRegion self }
-    {
-        self.size
+        (self.start, self.size)
     }
 }

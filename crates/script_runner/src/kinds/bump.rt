@@ -25,7 +25,8 @@ impl Scripted for BumpAllocator {
     }
 
     fn make(_alloc: Global, opening: Bounds) -> Result<Self, AllocError> {
-        Ok(BumpAllocator::new(opening.start(), opening.size()))
+        let (start, size) = opening.parts();
+        Ok(BumpAllocator::new(start, size))
     }
 
     fn run(

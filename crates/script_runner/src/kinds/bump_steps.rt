@@ -2,9 +2,8 @@
 ghost use Rattle.std.specs.Prelude.{◌≡◌, ℕ, IfSome, Some, OnOk};
 ghost use Rattle.std.specs.Io.KnownBytes.{Appends};
 ghost use Rattle.bb_memory_base.specs.declared.layout.Layout.{Layout};
-ghost use Rattle.bb_memory_base.specs.declared.steps.bump.BumpStep.{BumpStep};
-ghost use Rattle.script_runner.specs.kinds.BumpSteps.{IsReading, IsStep, exchange_line, load_line, read_line};
-ghost use Rattle.script_runner.specs.kinds.BumpSteps.{outcome_line, reading_text, step_line, wins_line};
+ghost use Rattle.script_runner.specs.kinds.BumpSteps.{IsReading, exchange_line, load_line, read_line};
+ghost use Rattle.script_runner.specs.kinds.BumpSteps.{reading_text, wins_line};
 ghost use Rattle.script_runner.specs.kinds.Parties.{IsParty};
 
 use crate::engine::driven::Driven;
@@ -33,7 +32,8 @@ impl Driven for BumpWorld {
     }
 
     fn make(alloc: Global, opening: Bounds) -> Result<Self, AllocError> {
-        BumpWorld::new(alloc, opening.start(), opening.size(), PARTIES)
+        let (start, size) = opening.parts();
+        BumpWorld::new(alloc, start, size, PARTIES)
     }
 
     fn can_show() -> bool {
@@ -41,7 +41,17 @@ impl Driven for BumpWorld {
     }
 
     fn read(line: &[u8]) -> Option<BumpStep> {
-        read_step(line)
+        if line == b"clear".as_slice() {
+            return Some(BumpStep::Clear);
+        }
+        if let Some(party) = read_exchange(line) {
+            return Some(BumpStep::Exchange { party });
+        }
+        if let Some(party) = read_load(line) {
+            return Some(BumpStep::Load { party });
+        }
+        let (party, layout) = read_read(line)?;
+        Some(BumpStep::Read { party, layout })
     }
 
     fn run(&mut self, steps: &[BumpStep]) -> Result<Vec<BumpOutcome>, AllocError> {
@@ -49,29 +59,24 @@ impl Driven for BumpWorld {
     }
 
     fn write_reply<W: Write>(outcome: &BumpOutcome, writer: &mut W) -> io::Result<()> {
-        write_outcome(outcome, writer)
+        match outcome {
+            BumpOutcome::Sees(used) => writeln!(writer, "sees {used}"),
+            BumpOutcome::RefusedAtRead(used) => writeln!(writer, "sees {used} refused OutOfMemory"),
+            BumpOutcome::Wins(chunk) => write_win(chunk, writer),
+            BumpOutcome::Loses(used) => writeln!(writer, "loses {used}"),
+            BumpOutcome::RefusedAtLoss(used) => writeln!(
+                writer,
+                "loses {used} refused OutOfMemory"
+            ),
+            BumpOutcome::Loaded(used) => writeln!(writer, "used {used}"),
+            BumpOutcome::Cleared => writeln!(writer, "cleared"),
+            BumpOutcome::Passed => writeln!(writer, "passed"),
+        }
     }
 
     fn write_state<W: Write>(&self, writer: &mut W) -> io::Result<()> {
         let used = self.used_space();
         writeln!(writer, "used {used}")
-    }
-}
-
-/// Writes the line of an outcome.
-fn write_outcome<W: Write>(outcome: &BumpOutcome, writer: &mut W) -> io::Result<()>
-    ensures { OnOk result
-        (Appends (W.contents writer.old) (W.contents writer.new) (outcome_line outcome.now)) }
-{
-    match outcome {
-        BumpOutcome::Sees(used) => writeln!(writer, "sees {used}"),
-        BumpOutcome::RefusedAtRead(used) => writeln!(writer, "sees {used} refused OutOfMemory"),
-        BumpOutcome::Wins(chunk) => write_win(chunk, writer),
-        BumpOutcome::Loses(used) => writeln!(writer, "loses {used}"),
-        BumpOutcome::RefusedAtLoss(used) => writeln!(writer, "loses {used} refused OutOfMemory"),
-        BumpOutcome::Loaded(used) => writeln!(writer, "used {used}"),
-        BumpOutcome::Cleared => writeln!(writer, "cleared"),
-        BumpOutcome::Passed => writeln!(writer, "passed"),
     }
 }
 
@@ -82,25 +87,6 @@ fn write_win<W: Write>(chunk: &Chunk, writer: &mut W) -> io::Result<()>
     let place = chunk.place();
     let len = chunk.len();
     writeln!(writer, "wins {place} {len}")
-}
-
-/// The step that this line writes.
-fn read_step(line: &[u8]) -> Option<BumpStep>
-    ensures written { IfSome result (λ step. IsStep step × (line.now ≡ step_line step)) }
-    ensures each { (step : BumpStep) → IsStep step → line.now ≡ step_line step
-        → result ≡ Some step }
-{
-    if line == b"clear".as_slice() {
-        return Some(BumpStep::Clear);
-    }
-    if let Some(party) = read_exchange(line) {
-        return Some(BumpStep::Exchange { party });
-    }
-    if let Some(party) = read_load(line) {
-        return Some(BumpStep::Load { party });
-    }
-    let (party, layout) = read_read(line)?;
-    Some(BumpStep::Read { party, layout })
 }
 
 /// The party that this line has exchange.

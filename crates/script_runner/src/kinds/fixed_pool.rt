@@ -21,7 +21,8 @@ impl Scripted for FixedSizePoolAllocator<512> {
     }
 
     fn make(_alloc: Global, opening: PoolPlan) -> Result<Self, AllocError> {
-        Ok(FixedSizePoolAllocator::new(opening.bucket(), opening.start(), opening.size()))
+        let (bucket, start, size) = opening.parts();
+        Ok(FixedSizePoolAllocator::new(bucket, start, size))
     }
 
     fn run(

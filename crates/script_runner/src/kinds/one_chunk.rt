@@ -21,7 +21,8 @@ impl Scripted for OneChunkAllocator {
     }
 
     fn make(_alloc: Global, opening: Bounds) -> Result<Self, AllocError> {
-        Ok(OneChunkAllocator::new(opening.start(), opening.size()))
+        let (start, size) = opening.parts();
+        Ok(OneChunkAllocator::new(start, size))
     }
 
     fn run(

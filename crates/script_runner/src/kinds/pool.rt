@@ -54,7 +54,8 @@ pub fn pool_of(alloc: Global, plan: PoolPlan) -> Result<PoolAllocator<Global>, A
     ensures begins { IfOk result (λ pool. BeginsPool plan pool) }
     ensures empty { IfOk result (λ pool. StandsFor pool.pool []) }
 {
-    let uninit = PoolAllocator::new_uninit(plan.bucket(), plan.start(), plan.size());
+    let (bucket, start, size) = plan.parts();
+    let uninit = PoolAllocator::new_uninit(bucket, start, size);
     match uninit.init(alloc) {
         Ok(pool) => Ok(pool),
         Err(_) => Err(AllocError),

@@ -61,27 +61,13 @@ impl PoolPlan {
         PoolPlan::new(start, size, layout(bucket)?)
     }
 
-    /// Where the region starts.
-    pub fn start(self) -> usize
-        ensures value { result ≡ self.region.start }
+    /// The layout of each bucket, where the region starts, and how many bytes it has.
+    pub fn parts(self) -> (Layout, usize, usize)
+        ensures bucket { result.0 ≡ self.bucket }
+        ensures start { result.1 ≡ self.region.start }
+        ensures size { result.2 ≡ self.region.size }
         ensures is_pool_plan { IsPoolPlan self }
     {
-        self.start
-    }
-
-    /// How many bytes it has.
-    pub fn size(self) -> usize
-        ensures value { result ≡ self.region.size }
-        ensures is_pool_plan { IsPoolPlan self }
-    {
-        self.size
-    }
-
-    /// The layout of each bucket.
-    pub fn bucket(self) -> Layout
-        ensures value { result ≡ self.bucket }
-        ensures is_pool_plan { IsPoolPlan self }
-    {
-        self.bucket
+        (self.bucket, self.start, self.size)
     }
 }

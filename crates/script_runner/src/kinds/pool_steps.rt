@@ -2,10 +2,9 @@
 ghost use Rattle.std.specs.Prelude.{◌≡◌, ℕ, IfSome, Some, OnOk};
 ghost use Rattle.std.specs.Io.KnownBytes.{Appends};
 ghost use Rattle.std.specs.List.{flat_map};
-ghost use Rattle.bb_memory_base.specs.declared.steps.pool.PoolStep.{PoolStep};
 ghost use Rattle.script_runner.specs.kinds.Parties.{IsParty};
-ghost use Rattle.script_runner.specs.kinds.PoolSteps.{IsGiving, IsStep, give_line, giving_text, holder_text};
-ghost use Rattle.script_runner.specs.kinds.PoolSteps.{outcome_line, step_line, try_line};
+ghost use Rattle.script_runner.specs.kinds.PoolSteps.{IsGiving, give_line, giving_text, holder_text};
+ghost use Rattle.script_runner.specs.kinds.PoolSteps.{try_line};
 
 use crate::engine::driven::Driven;
 use crate::fields::{number, number_and_rest};
@@ -40,7 +39,11 @@ impl Driven for PoolWorld {
     }
 
     fn read(line: &[u8]) -> Option<PoolStep> {
-        read_step(line)
+        if let Some(party) = read_try(line) {
+            return Some(PoolStep::Try { party });
+        }
+        let (party, bucket) = read_give(line)?;
+        Some(PoolStep::GiveBack { party, bucket })
     }
 
     fn run(&mut self, steps: &[PoolStep]) -> Result<Vec<PoolOutcome>, AllocError> {
@@ -48,30 +51,22 @@ impl Driven for PoolWorld {
     }
 
     fn write_reply<W: Write>(outcome: &PoolOutcome, writer: &mut W) -> io::Result<()> {
-        write_outcome(outcome, writer)
+        match outcome {
+            PoolOutcome::Takes(bucket) => writeln!(writer, "takes {bucket}"),
+            PoolOutcome::Loses(bucket) => writeln!(writer, "loses {bucket}"),
+            PoolOutcome::RefusedAtLoss(bucket) => {
+                writeln!(writer, "loses {bucket} refused OutOfMemory")
+            }
+            PoolOutcome::Gives(bucket) => writeln!(writer, "gives {bucket}"),
+            PoolOutcome::Passed => writeln!(writer, "passed"),
+            PoolOutcome::Misses(bucket) => writeln!(writer, "misses {bucket}"),
+        }
     }
 
     fn write_state<W: Write>(&self, writer: &mut W) -> io::Result<()> {
         write!(writer, "held")?;
         write_holders(self, writer)?;
         writeln!(writer, "")
-    }
-}
-
-/// Writes the line of an outcome.
-fn write_outcome<W: Write>(outcome: &PoolOutcome, writer: &mut W) -> io::Result<()>
-    ensures { OnOk result
-        (Appends (W.contents writer.old) (W.contents writer.new) (outcome_line outcome.now)) }
-{
-    match outcome {
-        PoolOutcome::Takes(bucket) => writeln!(writer, "takes {bucket}"),
-        PoolOutcome::Loses(bucket) => writeln!(writer, "loses {bucket}"),
-        PoolOutcome::RefusedAtLoss(bucket) => {
-            writeln!(writer, "loses {bucket} refused OutOfMemory")
-        }
-        PoolOutcome::Gives(bucket) => writeln!(writer, "gives {bucket}"),
-        PoolOutcome::Passed => writeln!(writer, "passed"),
-        PoolOutcome::Misses(bucket) => writeln!(writer, "misses {bucket}"),
     }
 }
 
@@ -94,19 +89,6 @@ fn write_holder<W: Write>(holder: Option<u32>, writer: &mut W) -> io::Result<()>
         Some(party) => write!(writer, " {party}"),
         None => write!(writer, " -"),
     }
-}
-
-/// The step that this line writes.
-fn read_step(line: &[u8]) -> Option<PoolStep>
-    ensures written { IfSome result (λ step. IsStep step × (line.now ≡ step_line step)) }
-    ensures each { (step : PoolStep) → IsStep step → line.now ≡ step_line step
-        → result ≡ Some step }
-{
-    if let Some(party) = read_try(line) {
-        return Some(PoolStep::Try { party });
-    }
-    let (party, bucket) = read_give(line)?;
-    Some(PoolStep::GiveBack { party, bucket })
 }
 
 /// The party that this line has try.

@@ -5,6 +5,7 @@ use Rattle.bb_memory_base.specs.Chunk.{Chunk}
 use Rattle.bb_memory_base.specs.Object.{object_of}
 use Rattle.bb_memory_base.specs.Run.{Step, note_after_command}
 use Rattle.bb_memory_base.specs.Fitting.{Fits}
+use Rattle.bb_memory_base.specs.LiveList.{IsSound}
 use Rattle.bb_memory_base.proofs.Runs.{IsRun-push, EachGiven-push, note-push}
 use Rattle.bb_memory_base.proofs.allocator.run.run_base.Goals as goal
 
@@ -30,29 +31,30 @@ loop-command-preserved g c =
           c.apply_base-reply.result (omega (arith, length-take-le i commands (omega arith))) c.loop-command.invariant.fits
           (λ layout chunk asked given. subst (λ (geometry : A.Geometry). Fits (A.region_of geometry) layout chunk)
           c.loop-command.invariant.geometry (c.apply_base-reply.ensures.fits layout chunk asked given)));
-      stands = c.apply_base-reply.ensures.applied.stands;
-      geometry = c.apply_base-reply.ensures.applied.geometry ∙ c.loop-command.invariant.geometry;
+      stands = c.apply_base-reply.ensures.stands;
+      geometry = c.apply_base-reply.ensures.geometry ∙ c.loop-command.invariant.geometry;
       note = rw done (note-push (A.note_after (A.geometry c.args.allocator.now)) (A.note c.args.allocator.now) (take i commands)
           (A.note c.loop-command.allocator) (A.note c.apply_base-reply.new.allocator) command c.loop-command.invariant.note
           (subst (λ (geometry : A.Geometry). A.note c.apply_base-reply.new.allocator ≡
           note_after_command (A.note_after geometry) (A.note c.loop-command.allocator) command)
-          c.loop-command.invariant.geometry c.apply_base-reply.ensures.applied.note));
-      room = omega (arith, c.apply_base-reply.ensures.applied.len, c.apply_base-reply.ensures.applied.capacity);
+          c.loop-command.invariant.geometry c.apply_base-reply.ensures.note));
+      room = omega (arith, c.apply_base-reply.ensures.len, c.apply_base-reply.ensures.capacity);
       told = omega arith;
       space = omega arith;
     }
 
-pub returns-clause-inside : goal.returns-clause-inside
-returns-clause-inside g c = λ i layout chunk asked given.
+pub returns-clause-run : goal.returns-clause-run
+returns-clause-run g c =
+    let A = g.A.BaseAllocator in
+    let invariant = c.loop-command.invariant in
+    let sound = g.met.A.BaseAllocator.sound c.loop-command.allocator c.loop-command.live.items invariant.stands in
     let all = take_all c.loop-command.command-index c.args.commands.now (omega arith) in
-    (c.loop-command.invariant.fits i layout chunk (rw all asked) given).inside
-
-pub returns-clause-aligned : goal.returns-clause-aligned
-returns-clause-aligned g c = λ i layout chunk asked given.
-    let all = take_all c.loop-command.command-index c.args.commands.now (omega arith) in
-    (c.loop-command.invariant.fits i layout chunk (rw all asked) given).aligned
-
-pub returns-clause-long_enough : goal.returns-clause-long_enough
-returns-clause-long_enough g c = λ i layout chunk asked given.
-    let all = take_all c.loop-command.command-index c.args.commands.now (omega arith) in
-    (c.loop-command.invariant.fits i layout chunk (rw all asked) given).long_enough
+    record {
+      run = rw all at invariant.run;
+      stands = invariant.stands;
+      sound = subst (λ (geometry : A.Geometry). IsSound (A.region_of geometry) c.loop-command.live.items) invariant.geometry sound;
+      fits = rw all at invariant.fits;
+      geometry = invariant.geometry;
+      still = tt;
+      kept = tt;
+    }

@@ -1,4 +1,4 @@
-use Rattle.std.proofs.Common.{◌≡◌, ◌-◌, ◌<◌, ◌≤◌, ◌∙◌, ap, subst, refl, arith}
+use Rattle.std.proofs.Common.{rules, ◌≡◌, ◌-◌, ◌<◌, ◌≤◌, ◌∙◌, ap, subst, refl, arith}
 use Rattle.std.specs.Prelude.{slice_set}
 use Rattle.std.proofs.lemmas.Option.{slice_get_within}
 use Rattle.loan_book.specs.Sample.{Sample, returns_to_come}
@@ -42,7 +42,7 @@ invariant_of-self g c =
     at changed (omega arith) c.self.invariant
 
 pub returns-then-left-gt0-clause-stands : goal.returns-then-left-gt0-clause-stands
-returns-then-left-gt0-clause-stands g c = (invariant_of-self g c).stands
+returns-then-left-gt0-clause-stands g c = record { stands = (invariant_of-self g c).stands; geometry = search rules }
 
 pub returns-then-left-gt0-clause-answer : goal.returns-then-left-gt0-clause-answer
 returns-then-left-gt0-clause-answer g c =

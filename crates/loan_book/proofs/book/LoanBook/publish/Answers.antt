@@ -1,4 +1,4 @@
-use Rattle.std.proofs.Common.{◌∙◌, ap, sym, subst, arith, refl, IsSome}
+use Rattle.std.proofs.Common.{rules, ◌∙◌, ap, sym, subst, arith, refl, IsSome}
 use Rattle.bb_memory_base.proofs.SliceGets.{slice_get-set_same}
 use Rattle.std.proofs.lemmas.Option.{slice_get_within}
 use Rattle.loan_book.specs.Sample.{Sample}
@@ -35,8 +35,7 @@ invariant_of-self g c =
     at changed (omega arith) c.self.invariant
 
 pub returns-clause-stands : goal.returns-clause-stands
-returns-clause-stands g c =
-    (invariant_of-self g c).stands
+returns-clause-stands g c = record { stands = (invariant_of-self g c).stands; geometry = search rules }
 
 pub returns-clause-answer : goal.returns-clause-answer
 returns-clause-answer g c =

@@ -1,4 +1,4 @@
-use Rattle.std.proofs.Common.{ℕ, ◌<◌, refl, sym, subst, length}
+use Rattle.std.proofs.Common.{rules, ℕ, ◌<◌, refl, sym, subst, length}
 use Rattle.std.proofs.lemmas.Option.{slice_get_read}
 use Rattle.loan_book.specs.Book.{chunks_of}
 use Rattle.loan_book.proofs.Books.{chunk-at}
@@ -30,4 +30,4 @@ invariant_of-self g c =
     (rw c.unwrap-sample.ensures at c.remove.ensures.items) c.self.invariant (rw g.met.A.Allocator.closes_up at left)
 
 pub returns-clause-stands : goal.returns-clause-stands
-returns-clause-stands g c = (invariant_of-self g c).stands
+returns-clause-stands g c = record { stands = (invariant_of-self g c).stands; geometry = search rules }

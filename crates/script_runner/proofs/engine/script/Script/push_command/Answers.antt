@@ -12,8 +12,9 @@ invariant_of-self-2 g c =
     omega (arith, ap length c.in_ok-push.ensures.items, length_push commands c.args.command) in
     AreInOrder-longer 0 shows (length commands) (length grown) c.self.invariant longer
 
-pub returns-clause-ok : goal.returns-clause-ok
-returns-clause-ok g c =
-    script_lines-push_command c.args.self.now c.self.inside.shows.items c.self.inside.commands.items c.push.new.self.items
-    c.args.command
-    c.self.invariant c.self.view_is c.in_ok-push.ensures.items
+pub returns : goal.returns
+returns g c = record {
+  added = script_lines-push_command c.args.self.now c.self.inside.shows.items c.self.inside.commands.items c.push.new.self.items
+      c.args.command c.self.invariant c.self.view_is c.in_ok-push.ensures.items;
+  still = tt;
+}
