@@ -8,6 +8,7 @@ ghost use Rattle.bb_memory_base.specs.HeldBytes.{HeldBytes, held_region};
 ghost use Rattle.uses.specs.Records.{Records, records_in};
 ghost use Rattle.uses.specs.Requests.{HasOneMore, IsOfBytes, IsWhyNotStored, MayGiveLonger};
 
+use crate::live_lists::last_law;
 use bb_memory_base::allocator::{AllocationError, Allocator, BaseAllocator};
 use bb_memory_base::layout::{Chunk, Layout, LayoutError};
 use bb_memory_base::region::{Region, live_bytes_law};
@@ -179,14 +180,6 @@ pub(crate) fn put(region: &mut Region, chunks: &Vec<Chunk>, chunk: Chunk, bytes:
     live_bytes_law();
     region.write(chunk, bytes);
 }
-
-/// What was put at the end of a list is taken out of it. It does nothing: its contract is the law.
-fn last_law()
-    ensures at_end { (live : List Chunk) (chunk : Chunk)
-        → slice_get (live ++ chunk ∷ []) (length live) ≡ Some chunk }
-    ensures as_before { (live : List Chunk) (chunk : Chunk)
-        → remove (live ++ chunk ∷ []) (length live) ≡ live }
-{}
 
 /// A longer chunk that may be given may be given. It does nothing: its contract is the law.
 fn longer_law<A: Allocator>()
