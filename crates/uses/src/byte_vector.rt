@@ -1,9 +1,9 @@
 //! A vector of bytes that lives at an offset of a region, and can move to another region with its bytes.
-ghost use Rattle.std.specs.Prelude.{◌≡◌, ◌+◌, ◌<◌, ◌≤◌, ◌^◌, ℕ, List, Some, Ok};
+ghost use Rattle.std.specs.Prelude.{◌≡◌, ◌+◌, ◌<◌, ◌≤◌, ◌^◌, ℕ, List, Some};
 ghost use Rattle.std.specs.Prelude.{IfOk, IfErr, OnOk, OnErr, length, slice_get, slice_index};
 ghost use Rattle.bb_memory_base.specs.Chunk.{Chunk, AreApart, IsInside};
 ghost use Rattle.bb_memory_base.specs.HeldBytes.{HeldBytes, held_region, bytes_in};
-ghost use Rattle.uses.specs.ByteVectors.{ByteVector, IsPushed, IsWhyFull, LivesIn, MakesRoom, MayGrowByOne, contents};
+ghost use Rattle.uses.specs.ByteVectors.{ByteVector, IsGrown, IsPushed, IsWhyFull, LivesIn, MakesRoom, contents};
 
 use bb_memory_base::allocator::{AllocationGrowError, Allocator, BaseAllocator};
 use bb_memory_base::layout::{Chunk, Layout, LayoutError};
@@ -106,7 +106,7 @@ impl ByteVec {
         let place = region.start_address() + self.offset;
         match grow_by_one(allocator, place, self.capacity) {
             Ok(grown) => {
-                self.capacity = grown.len();
+                self.capacity = grown;
                 Ok(())
             }
             Err(error) => Err(error),
@@ -180,21 +180,21 @@ impl ByteVec {
     }
 }
 
-/// Asks for one byte more at the end of a live chunk.
+/// Asks for one byte more at the end of a live chunk, and answers how many bytes it then has.
 fn grow_by_one<A: Allocator>(
     allocator: &mut A,
     place: usize,
     size: usize,
-) -> Result<Chunk, PushError>
+) -> Result<usize, PushError>
     requires live { A.may_release allocator.old place }
     requires fits { size + 1 < 2 ^ 64 }
-    ensures longer { IfOk result (λ grown. size < grown.len) }
-    ensures place { IfOk result (λ grown. grown.place ≡ place) }
-    ensures inside { IfOk result (IsInside (A.region_of (A.geometry allocator.old))) }
+    ensures longer { IfOk result (λ grown. size < grown) }
+    ensures inside { IfOk result (λ grown. IsInside (A.region_of (A.geometry allocator.old))
+        (record { place = place; len = grown })) }
     ensures grown { IfOk result (λ grown. (live : List Chunk) (position : ℕ) (chunk : Chunk)
         → A.stands_for allocator.old live → slice_get live position ≡ Some chunk
         → chunk.place ≡ place
-        → MayGrowByOne (A.may_grow (A.figures allocator.old) live chunk.place) size (Ok grown)) }
+        → IsGrown (A.may_grow (A.figures allocator.old) live chunk.place) place size grown) }
     ensures refused { IfErr result (λ error. (live : List Chunk) (position : ℕ) (chunk : Chunk)
         → A.stands_for allocator.old live → slice_get live position ≡ Some chunk
         → chunk.place ≡ place
@@ -204,7 +204,7 @@ fn grow_by_one<A: Allocator>(
     let old = Layout::from_size_align(size, 1).map_err(PushError::TooLong)?;
     let new = Layout::from_size_align(size + 1, 1).map_err(PushError::TooLong)?;
     match allocator.grow(place, old, new) {
-        Ok(grown) => Ok(grown),
+        Ok(grown) => Ok(grown.len()),
         Err(error) => Err(PushError::Full(error)),
     }
 }
