@@ -14,6 +14,7 @@ use bb_memory::layout::Layout;
 use bb_memory::pool_allocator::{FixedSizePoolAllocator, pool_count_law, pool_object_law};
 use bb_memory::region::Region;
 use bb_memory::shared_bump::{BumpParty, SharedBumpAllocator};
+use loan_book::LoanBook;
 use rows::{LineAnswer, LineCall, LineRow, SlabAnswer, SlabCall, SlabRow, all_kept};
 use std::alloc::Global;
 use std::process::Abort;
@@ -75,7 +76,10 @@ fn slab_of_three_records(rt: HostRuntime) {
 /// A mailbox keeps each row.
 fn mailbox_keeps(rt: &impl Abort, alloc: Global, rows: &[LineRow<'_>]) {
     match its_region(alloc) {
-        Some(region) => all_kept(rt, Mailbox::new(alloc, eight_buckets(), region), rows),
+        Some(region) => {
+            let messages = Slab::new(alloc, eight_buckets(), region);
+            all_kept(rt, Mailbox::new(messages), rows);
+        }
         None => panic!(rt; "{REFUSED}"),
     }
 }
@@ -98,11 +102,10 @@ fn mailbox_in_order(rt: HostRuntime) {
 fn ring_keeps(rt: &impl Abort, alloc: Global, rows: &[LineRow<'_>]) {
     pool_object_law();
     match its_region(alloc) {
-        Some(region) => all_kept(
-            rt,
-            MessageRing::new(alloc, eight_buckets(), region, 2),
-            rows,
-        ),
+        Some(region) => {
+            let book = LoanBook::new(alloc, eight_buckets());
+            all_kept(rt, MessageRing::new(alloc, book, region, 2), rows);
+        }
         None => panic!(rt; "{REFUSED}"),
     }
 }

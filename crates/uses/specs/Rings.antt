@@ -55,18 +55,18 @@ IsWhyNotSent may_answer sent size (send.Refused error) = ⊥
 
 -- One reader is done with the oldest message, of which this tells whether it was the last one: then the message leaves, and its
 -- chunk with it.
-pub record Finishes {A G : Type 0} (geometry_of : A → G) (old : Ring A) (result : Bool) (new : Ring A)
-    : Type 0 where
+pub record Finishes {A G : Type 0} (geometry_of : A → G) (old : Ring A) (result : Bool)
+    (new : Ring A) : Type 0 where
   pub last : result ≡ true → new ≡ record old {
-      allocator = new.allocator;
-      chunks = drop 1 old.chunks;
-      messages = drop 1 old.messages;
-      to_come = drop 1 old.to_come;
-    }
+    allocator = new.allocator;
+    chunks = drop 1 old.chunks;
+    messages = drop 1 old.messages;
+    to_come = drop 1 old.to_come;
+  }
   pub further : result ≡ false → new ≡ record old {
-      allocator = new.allocator;
-      to_come = slice_set old.to_come 0 (get_or old.to_come 0 0 - 1);
-    }
+    allocator = new.allocator;
+    to_come = slice_set old.to_come 0 (get_or old.to_come 0 0 - 1);
+  }
   pub answer : IsTrue result ↔ (get_or old.to_come 0 0 ≡ 1)
   pub geometry : geometry_of new.allocator ≡ geometry_of old.allocator
 
