@@ -54,12 +54,12 @@ pub record IsGrown (may_grow : Layout → Layout → Result Chunk AllocationGrow
   pub longer : old_size < new_size
   pub grown : MayGrowByOne may_grow old_size (Ok (record { place = place; len = new_size }))
 
--- What may be answered where a resize of the chunk at a place is asked for, by the live list.
+-- what may be answered to a request to grow the chunk at a place, by the live list
 abbrev pub Grows : Type 1
 Grows = List Chunk → ℕ → Layout → Layout → Result Chunk AllocationGrowError → Type 0
 
--- Room is made for one more byte, in a region that starts here: at once where there is room, and else as the allocator may grow the
--- chunk, on each live list for which it stands; or the cause why not.
+-- Room is made for one more byte, in a region that starts here: at once where there is room, and else as the allocator may grow
+-- the chunk on each live list for which it stands. A refusal has its cause.
 pub record MakesRoom (stands_for : List Chunk → Type 0) (may_grow : Grows) (start : ℕ)
     (old : ByteVector) (result : Result (Unit {0}) PushError) (new : ByteVector) : Type 0 where
   pub at_once : old.len < old.capacity → IsOk result × (new.capacity ≡ old.capacity)
