@@ -1,7 +1,7 @@
 //! Budgets: what is spent, given back and resized.
 ghost use Rattle.std.specs.Prelude.{[]};
 
-use super::eight_buckets;
+use super::pools::eight_buckets;
 use super::rows::{Driven, all_kept};
 use bb_memory::allocator::{AllocationError, Allocator, Command, Reply, run_full};
 use bb_memory::layout::{Chunk, Layout};
