@@ -1,19 +1,19 @@
 //! Each layer, driven.
-ghost use Rattle.std.specs.Prelude.{◌≡◌, [], IfSome};
-ghost use Rattle.bb_memory_base.specs.HeldBytes.{held_region};
-ghost use Rattle.bb_memory.specs.Pool.{StandsFor};
+ghost use Rattle.std.specs.Prelude.{◌≡◌};
 
 mod boards;
 mod budgets;
 mod byte_vectors;
+mod pools;
 mod results;
 mod rows;
 
 use bb_memory::bump_allocator::BumpAllocator;
 use bb_memory::layout::Layout;
-use bb_memory::pool_allocator::{FixedSizePoolAllocator, pool_count_law, pool_object_law};
-use bb_memory::region::Region;
+use bb_memory::pool_allocator::pool_object_law;
 use bb_memory::shared_bump::{BumpParty, SharedBumpAllocator};
+use loan_book::LoanBook;
+use pools::{eight_buckets, its_region};
 use rows::{LineAnswer, LineCall, LineRow, SlabAnswer, SlabCall, SlabRow, all_kept};
 use std::alloc::Global;
 use std::process::Abort;
@@ -26,27 +26,6 @@ use uses::workers::two_workers;
 
 /// Memory for what a test makes was refused.
 const REFUSED: &str = "memory was refused";
-
-/// A pool of 8 buckets of 128 bytes, of which none is out.
-#[tactic(auto, unfolding(bb_memory_base::specs::LeastPlace::least_place))]
-fn eight_buckets() -> FixedSizePoolAllocator<16>
-    ensures fresh { StandsFor result [] }
-    ensures start { result.geometry.region.start ≡ 4096 }
-    ensures size { result.geometry.region.size ≡ 1024 }
-{
-    pool_count_law();
-    FixedSizePoolAllocator::new(Layout::from_size_align(128, 8).unwrap(), 4096, 1024)
-}
-
-/// Its region, or none where memory was refused.
-fn its_region(alloc: Global) -> Option<Region>
-    ensures { IfSome result (λ region. held_region region ≡ record { start = 4096; size = 1024 }) }
-{
-    match vec![in alloc; 0; 1024] {
-        Ok(bytes) => Some(Region::new(4096, bytes)),
-        Err(_) => None,
-    }
-}
 
 /// A slab keeps each row.
 fn slab_keeps(rt: &impl Abort, alloc: Global, rows: &[SlabRow<'_>]) {
@@ -75,7 +54,10 @@ fn slab_of_three_records(rt: HostRuntime) {
 /// A mailbox keeps each row.
 fn mailbox_keeps(rt: &impl Abort, alloc: Global, rows: &[LineRow<'_>]) {
     match its_region(alloc) {
-        Some(region) => all_kept(rt, Mailbox::new(alloc, eight_buckets(), region), rows),
+        Some(region) => {
+            let messages = Slab::new(alloc, eight_buckets(), region);
+            all_kept(rt, Mailbox::new(messages), rows);
+        }
         None => panic!(rt; "{REFUSED}"),
     }
 }
@@ -98,11 +80,10 @@ fn mailbox_in_order(rt: HostRuntime) {
 fn ring_keeps(rt: &impl Abort, alloc: Global, rows: &[LineRow<'_>]) {
     pool_object_law();
     match its_region(alloc) {
-        Some(region) => all_kept(
-            rt,
-            MessageRing::new(alloc, eight_buckets(), region, 2),
-            rows,
-        ),
+        Some(region) => {
+            let book = LoanBook::new(alloc, eight_buckets());
+            all_kept(rt, MessageRing::new(alloc, book, region, 2), rows);
+        }
         None => panic!(rt; "{REFUSED}"),
     }
 }

@@ -1,8 +1,10 @@
 -- A vector of bytes at an offset in a region.
-use Rattle.std.specs.Prelude.{◌+◌, ◌<◌, ◌⊎◌, ℕ, List, Result, Ok, Err}
+use Rattle.std.specs.Prelude.{◌≡◌, ◌∷◌, ◌++◌, ◌+◌, ◌<◌, ◌≤◌, ◌⊎◌, [], ℕ, List, Result, Ok, Err, Some}
+use Rattle.std.specs.Prelude.{IfErr, IsOk, OnOk, length, slice_get}
 use Rattle.std.specs.Align.{IsLayout}
 use Rattle.bb_memory_base.specs.Chunk.{Chunk}
-use Rattle.bb_memory_base.specs.HeldBytes.{HeldBytes, bytes_in}
+use Rattle.bb_memory_base.specs.HeldBytes.{HeldBytes, bytes_in, held_region}
+use Rattle.bb_memory_base.specs.Region.{Region}
 use Rattle.bb_memory_base.specs.declared.layout.Layout.{Layout}
 use Rattle.bb_memory_base.specs.declared.allocator.AllocationGrowError.{AllocationGrowError}
 use Rattle.uses.specs.declared.byte_vector.PushError.{PushError}
@@ -19,6 +21,19 @@ pub record ByteVector : Type 0 where
 abbrev pub contents : HeldBytes → ByteVector → List ℕ
 contents held vector =
     bytes_in held (record { place = held.start + vector.offset; len = vector.len })
+
+-- it lies in a live chunk of the allocator whose region this is, and which may release this
+pub record LivesIn (region : Region) (may_release : ℕ → Type 0) (held : HeldBytes)
+    (vector : ByteVector) : Type 0 where
+  pub same_region : held_region held ≡ region
+  pub live : may_release (held.start + vector.offset)
+  pub inside : vector.offset + vector.capacity ≤ length held.bytes
+
+-- one byte more stands behind the others, and the region begins and ends where it did
+pub record IsPushed (here there : HeldBytes) (old : ByteVector) (byte : ℕ) (new : ByteVector)
+    : Type 0 where
+  pub behind : contents there new ≡ contents here old ++ byte ∷ []
+  pub region : held_region there ≡ held_region here
 
 -- so it may be answered where a chunk of so many bytes is to grow by one: not every two layouts rule it out
 pub record MayGrowByOne (may_grow : Layout → Layout → Result Chunk AllocationGrowError → Type 0)
@@ -38,3 +53,21 @@ pub record IsGrown (may_grow : Layout → Layout → Result Chunk AllocationGrow
     (place old_size new_size : ℕ) : Type 0 where
   pub longer : old_size < new_size
   pub grown : MayGrowByOne may_grow old_size (Ok (record { place = place; len = new_size }))
+
+-- what may be answered to a request to grow the chunk at a place, by the live list
+abbrev pub Grows : Type 1
+Grows = List Chunk → ℕ → Layout → Layout → Result Chunk AllocationGrowError → Type 0
+
+-- Room is made for one more byte, in a region that starts here: at once where there is room, and else as the allocator may grow
+-- the chunk on each live list for which it stands. A refusal has its cause.
+pub record MakesRoom (stands_for : List Chunk → Type 0) (may_grow : Grows) (start : ℕ)
+    (old : ByteVector) (result : Result (Unit {0}) PushError) (new : ByteVector) : Type 0 where
+  pub at_once : old.len < old.capacity → IsOk result × (new.capacity ≡ old.capacity)
+  pub grown : OnOk result ((live : List Chunk) (position : ℕ) (chunk : Chunk)
+      → old.len ≡ old.capacity → stands_for live → slice_get live position ≡ Some chunk
+      → chunk.place ≡ start + old.offset
+      → IsGrown (may_grow live chunk.place) chunk.place old.capacity new.capacity)
+  pub refused : IfErr result (λ error. (live : List Chunk) (position : ℕ) (chunk : Chunk)
+      → stands_for live → slice_get live position ≡ Some chunk
+      → chunk.place ≡ start + old.offset
+      → IsWhyFull (may_grow live chunk.place) old.capacity error)

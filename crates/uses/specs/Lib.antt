@@ -5,3 +5,4 @@ pub mod Hints
 pub mod Records
 pub mod Requests
 pub mod Rings
+pub mod Workers

@@ -1,11 +1,12 @@
 -- Messages for several readers, which lie in chunks of a region.
-use Rattle.std.specs.Prelude.{◌≡◌, ◌-◌, ◌<◌, ◌≤◌, ◌^◌, ⊤, ℕ, Bool, true, false, List, Result, Ok, Err, drop, get_or, map}
-use Rattle.std.specs.Prelude.{slice_set}
+use Rattle.std.specs.Prelude.{◌≡◌, ◌-◌, ◌<◌, ◌≤◌, ◌^◌, ◌↔◌, ⊤, ℕ, Bool, true, false, List, Result, Ok, Err}
+use Rattle.std.specs.Prelude.{IsTrue, drop, get_or, map, slice_set}
 use Rattle.bb_memory_base.specs.Chunk.{Chunk}
 use Rattle.bb_memory_base.specs.HeldBytes.{HeldBytes}
 use Rattle.bb_memory_base.specs.declared.layout.Layout.{Layout}
 use Rattle.bb_memory_base.specs.declared.allocator.AllocationError.{AllocationError}
 use Rattle.loan_book.specs.Book.{Book, chunks_of, chunks_out}
+use Rattle.loan_book.specs.LoanBook.{LoanBook}
 use Rattle.loan_book.specs.Sample.{Sample, returns_to_come}
 use Rattle.loan_book.specs.declared.error.LoanError.TheVariants.{Size, IdsExhausted, Memory, Allocation}
 use Rattle.uses.specs.declared.ring.SendError.{SendError}
@@ -52,6 +53,23 @@ IsWhyNotSent may_answer sent size (send.Refused (Allocation error)) =
 -- for no other cause
 IsWhyNotSent may_answer sent size (send.Refused error) = ⊥
 
+-- One reader is done with the oldest message, of which this tells whether it was the last one: then the message leaves, and its
+-- chunk with it.
+pub record Finishes {A G : Type 0} (geometry_of : A → G) (old : Ring A) (result : Bool)
+    (new : Ring A) : Type 0 where
+  pub last : result ≡ true → new ≡ record old {
+    allocator = new.allocator;
+    chunks = drop 1 old.chunks;
+    messages = drop 1 old.messages;
+    to_come = drop 1 old.to_come;
+  }
+  pub further : result ≡ false → new ≡ record old {
+    allocator = new.allocator;
+    to_come = slice_set old.to_come 0 (get_or old.to_come 0 0 - 1);
+  }
+  pub answer : IsTrue result ↔ (get_or old.to_come 0 0 ≡ 1)
+  pub geometry : geometry_of new.allocator ≡ geometry_of old.allocator
+
 -- the first sample has left, at the one return that it waited for
 pub record HasLeft (old new : List Sample) : Type 0 where
   pub others : new ≡ drop 1 old
@@ -68,6 +86,13 @@ pub record WaitsOn (old new : List Sample) : Type 0 where
 abbrev pub Returned : List Sample → Bool → List Sample → Type 0
 Returned old true new = HasLeft old new
 Returned old false new = WaitsOn old new
+
+-- one reader has returned the oldest sample, for the last time or not
+pub record ReturnsOldest {A G : Type 0} (geometry_of : A → G) (old : LoanBook A) (last : Bool)
+    (new : LoanBook A) : Type 0 where
+  pub out : Returned old.book.out last new.book.out
+  pub loaned : new.book.loaned ≡ old.book.loaned
+  pub geometry : geometry_of new.allocator ≡ geometry_of old.allocator
 
 -- each chunk that may be given has exactly the asked size
 abbrev pub GivesExactly :

@@ -3,6 +3,8 @@ ghost use Rattle.std.specs.Prelude.{◌≡◌, ◌≤◌, ◌<◌, ◌+◌, ◌�
 ghost use Rattle.bb_memory_base.specs.Chunk.{Chunk};
 ghost use Rattle.uses.specs.Budgets.{reserved_bytes};
 
+use crate::budget::Budget;
+use crate::live_lists::last_law;
 use bb_memory_base::allocator::{
     AllocationError, AllocationGrowError, AllocationShrinkError, Allocator, BaseAllocator,
 };
@@ -29,38 +31,6 @@ impl<A: Allocator + Drop> Model for ByteBudget<A> {
 
     ghost invariant = { λ b. (b.out ≤ b.budget) × ((live : List Chunk) × A.stands_for b.inner live
         × (reserved_bytes (A.reserved_at (A.figures b.inner)) live ≡ b.out)) };
-}
-
-impl<A: Allocator + Drop> ByteBudget<A> {
-    /// A budget of so many bytes, over an allocator that has nothing out.
-    pub fn new(inner: A, budget: usize) -> Self
-        requires { A.stands_for inner [] }
-        ensures { result ≡ record { inner = inner; budget = budget; out = 0 } }
-    {
-        ByteBudget {
-            inner,
-            budget,
-            out: 0,
-        }
-    }
-
-    /// How many bytes are reserved for the chunks that are out: never more than the budget.
-    pub fn out(&self) -> usize
-        ensures value { result ≡ self.now.out }
-        ensures within { result ≤ self.now.budget }
-        ensures of_live { (live : List Chunk)
-            → ⟦<ByteBudget<A> as BaseAllocator>⟧.stands_for self.now live
-            → reserved_bytes (A.reserved_at (A.figures self.now.inner)) live ≡ result }
-    {
-        self.out
-    }
-
-    /// How many bytes may be out.
-    pub fn budget(&self) -> usize
-        ensures { result ≡ self.now.budget }
-    {
-        self.budget
-    }
 }
 
 impl<A: Allocator + Drop> BaseAllocator for ByteBudget<A> {
@@ -179,6 +149,32 @@ impl<A: Allocator + Drop> Allocator for ByteBudget<A> {
     ghost only_live = { λ b live place stands held. A.only_live b.inner live place stands.0 held };
 }
 
+impl<A: Allocator + Drop> Budget for ByteBudget<A> {
+    ghost use Rattle.uses.specs.Budgets.{reserved_bytes};
+
+    type Inner = A;
+
+    ghost budgeted = { λ b. b };
+
+    ghost taken_by = { λ inner live. reserved_bytes (A.reserved_at (A.figures inner)) live };
+
+    fn new(inner: A, budget: usize) -> Self {
+        ByteBudget {
+            inner,
+            budget,
+            out: 0,
+        }
+    }
+
+    fn out(&self) -> usize {
+        self.out
+    }
+
+    fn budget(&self) -> usize {
+        self.budget
+    }
+}
+
 /// Gives back the chunk that was given last.
 fn return_last<A: Allocator>(inner: &mut A, chunk: Chunk, layout: Layout)
     requires { A.may_release inner.old chunk.place }
@@ -227,12 +223,4 @@ fn resized_bytes_law()
         → slice_get live position ≡ Some chunk → resized.place ≡ chunk.place
         → reserved_bytes reserved_at (slice_set live position resized)
         ≡ reserved_bytes reserved_at live }
-{}
-
-/// What was put at the end of a list is taken out of it. It does nothing: its contract is the law.
-fn last_law()
-    ensures at_end { (live : List Chunk) (chunk : Chunk)
-        → slice_get (live ++ chunk ∷ []) (length live) ≡ Some chunk }
-    ensures as_before { (live : List Chunk) (chunk : Chunk)
-        → remove (live ++ chunk ∷ []) (length live) ≡ live }
 {}

@@ -1,9 +1,9 @@
 //! A vector of bytes that lives at an offset of a region, and can move to another region with its bytes.
-ghost use Rattle.std.specs.Prelude.{◌≡◌, ◌+◌, ◌∷◌, ◌++◌, ◌<◌, ◌≤◌, ◌^◌, [], ℕ, List, Some, IsOk};
-ghost use Rattle.std.specs.Prelude.{IfOk, IfErr, OnOk, OnErr, Ok, length, slice_get, slice_index};
+ghost use Rattle.std.specs.Prelude.{◌≡◌, ◌+◌, ◌<◌, ◌≤◌, ◌^◌, ℕ, List, Some};
+ghost use Rattle.std.specs.Prelude.{IfOk, IfErr, OnOk, OnErr, length, slice_get, slice_index};
 ghost use Rattle.bb_memory_base.specs.Chunk.{Chunk, AreApart, IsInside};
 ghost use Rattle.bb_memory_base.specs.HeldBytes.{HeldBytes, held_region, bytes_in};
-ghost use Rattle.uses.specs.ByteVectors.{ByteVector, IsGrown, IsWhyFull, MayGrowByOne, contents};
+ghost use Rattle.uses.specs.ByteVectors.{ByteVector, IsGrown, IsPushed, IsWhyFull, LivesIn, MakesRoom, contents};
 
 use bb_memory_base::allocator::{AllocationGrowError, Allocator, BaseAllocator};
 use bb_memory_base::layout::{Chunk, Layout, LayoutError};
@@ -46,8 +46,7 @@ impl ByteVec {
     pub fn new(region: &Region, chunk: Chunk) -> ByteVec
         requires { region.now.start ≤ chunk.place }
         ensures place { region.now.start + result.offset ≡ chunk.place }
-        ensures capacity { result.capacity ≡ chunk.len }
-        ensures empty { result.len ≡ 0 }
+        ensures empty { result ≡ record { offset = result.offset; capacity = chunk.len; len = 0 } }
     {
         ByteVec {
             offset: chunk.place() - region.start_address(),
@@ -76,10 +75,8 @@ impl ByteVec {
     pub fn push_within(&mut self, region: &mut Region, byte: u8)
         requires room { self.old.len < self.old.capacity }
         requires inside { self.old.offset + self.old.capacity ≤ length region.old.bytes }
-        ensures contents { contents region.new self.new
-            ≡ contents region.old self.old ++ byte ∷ [] }
+        ensures pushed { IsPushed region.old region.new self.old byte self.new }
         ensures longer { self.new ≡ record self.old { len = self.old.len + 1 } }
-        ensures region { held_region region.new ≡ held_region region.old }
     {
         self.write_behind(region, byte);
         self.len += 1;
@@ -92,26 +89,15 @@ impl ByteVec {
         allocator: &mut A,
         region: &Region,
     ) -> Result<(), PushError>
-        requires same_region { held_region region.now ≡ A.region_of (A.geometry allocator.old) }
-        requires live { A.may_release allocator.old (region.now.start + self.old.offset) }
-        requires inside { self.old.offset + self.old.capacity ≤ length region.now.bytes }
+        requires { LivesIn (A.region_of (A.geometry allocator.old)) (A.may_release allocator.old)
+            region.now self.old }
         ensures room { OnOk result (self.new.len < self.new.capacity) }
         ensures inside { self.new.offset + self.new.capacity ≤ length region.now.bytes }
         ensures contents { contents region.now self.new ≡ contents region.now self.old }
         ensures others { self.new ≡ record self.old { capacity = self.new.capacity } }
         ensures kept { OnErr result (self.new ≡ self.old) }
-        ensures at_once { self.old.len < self.old.capacity → IsOk result × (self.new ≡ self.old) }
-        ensures grown { OnOk result ((live : List Chunk) (position : ℕ) (chunk : Chunk)
-            → self.old.len ≡ self.old.capacity
-            → A.stands_for allocator.old live → slice_get live position ≡ Some chunk
-            → chunk.place ≡ region.now.start + self.old.offset
-            → IsGrown (A.may_grow (A.figures allocator.old) live chunk.place) chunk.place
-            self.old.capacity self.new.capacity) }
-        ensures refused { IfErr result (λ error. (live : List Chunk) (position : ℕ) (chunk : Chunk)
-            → A.stands_for allocator.old live → slice_get live position ≡ Some chunk
-            → chunk.place ≡ region.now.start + self.old.offset
-            → IsWhyFull (A.may_grow (A.figures allocator.old) live chunk.place)
-            self.old.capacity error) }
+        ensures answer { MakesRoom (A.stands_for allocator.old)
+            (A.may_grow (A.figures allocator.old)) region.now.start self.old result self.new }
         ensures allocator { allocator.new ≡ allocator.old }
     {
         if self.len < self.capacity {
@@ -120,7 +106,7 @@ impl ByteVec {
         let place = region.start_address() + self.offset;
         match grow_by_one(allocator, place, self.capacity) {
             Ok(grown) => {
-                self.capacity = grown.len();
+                self.capacity = grown;
                 Ok(())
             }
             Err(error) => Err(error),
@@ -135,26 +121,13 @@ impl ByteVec {
         region: &mut Region,
         byte: u8,
     ) -> Result<(), PushError>
-        requires same_region { held_region region.old ≡ A.region_of (A.geometry allocator.old) }
-        requires live { A.may_release allocator.old (region.old.start + self.old.offset) }
-        requires inside { self.old.offset + self.old.capacity ≤ length region.old.bytes }
-        ensures pushed { OnOk result (contents region.new self.new
-            ≡ contents region.old self.old ++ byte ∷ []) }
+        requires { LivesIn (A.region_of (A.geometry allocator.old)) (A.may_release allocator.old)
+            region.old self.old }
+        ensures pushed { OnOk result (IsPushed region.old region.new self.old byte self.new) }
         ensures longer { OnOk result (self.new.len ≡ self.old.len + 1) }
         ensures kept { OnErr result ((self.new ≡ self.old) × (region.new ≡ region.old)) }
-        ensures at_once { self.old.len < self.old.capacity
-            → IsOk result × (self.new.capacity ≡ self.old.capacity) }
-        ensures grown { OnOk result ((live : List Chunk) (position : ℕ) (chunk : Chunk)
-            → self.old.len ≡ self.old.capacity
-            → A.stands_for allocator.old live → slice_get live position ≡ Some chunk
-            → chunk.place ≡ region.old.start + self.old.offset
-            → IsGrown (A.may_grow (A.figures allocator.old) live chunk.place) chunk.place
-            self.old.capacity self.new.capacity) }
-        ensures refused { IfErr result (λ error. (live : List Chunk) (position : ℕ) (chunk : Chunk)
-            → A.stands_for allocator.old live → slice_get live position ≡ Some chunk
-            → chunk.place ≡ region.old.start + self.old.offset
-            → IsWhyFull (A.may_grow (A.figures allocator.old) live chunk.place)
-            self.old.capacity error) }
+        ensures answer { MakesRoom (A.stands_for allocator.old)
+            (A.may_grow (A.figures allocator.old)) region.old.start self.old result self.new }
         ensures offset { self.new.offset ≡ self.old.offset }
         ensures inside { self.new.offset + self.new.capacity ≤ length region.new.bytes }
         ensures region { held_region region.new ≡ held_region region.old }
@@ -174,9 +147,8 @@ impl ByteVec {
     fn write_behind(&self, region: &mut Region, byte: u8)
         requires room { self.now.len < self.now.capacity }
         requires inside { self.now.offset + self.now.capacity ≤ length region.old.bytes }
-        ensures contents { contents region.new (record self.now { len = self.now.len + 1 })
-            ≡ contents region.old self.now ++ byte ∷ [] }
-        ensures region { held_region region.new ≡ held_region region.old }
+        ensures { IsPushed region.old region.new self.now byte
+            (record self.now { len = self.now.len + 1 }) }
     {
         let place = region.start_address() + self.offset + self.len;
         let behind = Chunk::new(place, 1).unwrap();
@@ -191,7 +163,7 @@ impl ByteVec {
         requires room { self.now.len ≤ chunk.len }
         ensures contents { contents other.new result ≡ contents region.now self.now }
         ensures place { other.old.start + result.offset ≡ chunk.place }
-        ensures capacity { result.capacity ≡ chunk.len }
+        ensures room { result ≡ record self.now { offset = result.offset; capacity = chunk.len } }
         ensures inside { result.offset + result.capacity ≤ length other.new.bytes }
         ensures apart { (another : Chunk) → IsInside (held_region other.old) another
             → AreApart chunk another
@@ -208,21 +180,21 @@ impl ByteVec {
     }
 }
 
-/// Asks for one byte more at the end of a live chunk.
+/// Asks for one byte more at the end of a live chunk, and answers how many bytes it then has.
 fn grow_by_one<A: Allocator>(
     allocator: &mut A,
     place: usize,
     size: usize,
-) -> Result<Chunk, PushError>
+) -> Result<usize, PushError>
     requires live { A.may_release allocator.old place }
     requires fits { size + 1 < 2 ^ 64 }
-    ensures longer { IfOk result (λ grown. size < grown.len) }
-    ensures place { IfOk result (λ grown. grown.place ≡ place) }
-    ensures inside { IfOk result (IsInside (A.region_of (A.geometry allocator.old))) }
+    ensures longer { IfOk result (λ grown. size < grown) }
+    ensures inside { IfOk result (λ grown. IsInside (A.region_of (A.geometry allocator.old))
+        (record { place = place; len = grown })) }
     ensures grown { IfOk result (λ grown. (live : List Chunk) (position : ℕ) (chunk : Chunk)
         → A.stands_for allocator.old live → slice_get live position ≡ Some chunk
         → chunk.place ≡ place
-        → MayGrowByOne (A.may_grow (A.figures allocator.old) live chunk.place) size (Ok grown)) }
+        → IsGrown (A.may_grow (A.figures allocator.old) live chunk.place) place size grown) }
     ensures refused { IfErr result (λ error. (live : List Chunk) (position : ℕ) (chunk : Chunk)
         → A.stands_for allocator.old live → slice_get live position ≡ Some chunk
         → chunk.place ≡ place
@@ -232,7 +204,7 @@ fn grow_by_one<A: Allocator>(
     let old = Layout::from_size_align(size, 1).map_err(PushError::TooLong)?;
     let new = Layout::from_size_align(size + 1, 1).map_err(PushError::TooLong)?;
     match allocator.grow(place, old, new) {
-        Ok(grown) => Ok(grown),
+        Ok(grown) => Ok(grown.len()),
         Err(error) => Err(PushError::Full(error)),
     }
 }

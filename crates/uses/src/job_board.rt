@@ -4,7 +4,8 @@ ghost use Rattle.bb_memory_base.specs.PoolGeometry.{IsCut};
 ghost use Rattle.bb_memory_base.specs.PoolLogs.{IsHeldAfter};
 ghost use Rattle.bb_memory_base.specs.Region.{region_at};
 ghost use Rattle.bb_memory.specs.Pool.{MayBeCut};
-ghost use Rattle.bb_memory.specs.SharedPool.{AreAllHeldAfter, PoolParty, refused_pass, with_entries};
+ghost use Rattle.bb_memory.specs.SharedPool.{AreAllHeldAfter, PoolParty};
+ghost use Rattle.uses.specs.Workers.{HasGivenBack, HasLostAll, HasSlot};
 
 use bb_memory::allocator::AllocationError;
 use bb_memory::layout::Layout;
@@ -63,15 +64,12 @@ impl JobBoard {
     pub fn take(&self, worker: &mut PoolParty) -> Result<Bucket<'_>, AllocationError>
         requires worker { worker.old.allocator ≡ self.now }
         ensures worker { worker.new.allocator ≡ self.now }
-        ensures slot { IfOk result (λ slot. slot.allocator ≡ self.now) }
+        ensures has { IfOk result (HasSlot self.now worker.new) }
         ensures room { IfOk result (λ slot. slot.len ≡ self.now.scene.geometry.bucket.size) }
         ensures fresh { IfOk result (λ slot. ¬ IsHeldAfter worker.old.log slot.number) }
-        ensures has { IfOk result (λ slot. IsHeldAfter worker.new.log slot.number) }
         ensures keeps { (other : ℕ) → IsHeldAfter worker.old.log other
             → IsHeldAfter worker.new.log other }
-        ensures refused { IfErr result (λ error. (error ≡ AllocationError.OutOfMemory) × (worker.new
-            ≡ with_entries worker.old
-            (refused_pass self.now.scene.geometry.buckets worker.old.number))) }
+        ensures refused { IfErr result (HasLostAll self.now worker.old worker.new) }
         ensures alone { self.now.scene.parties ≡ 1
             → (IsErr result ↔ AreAllHeldAfter worker.old.log self.now.scene.geometry.buckets) }
     {
@@ -80,13 +78,8 @@ impl JobBoard {
 
     /// Gives back a slot that the worker has. Its other slots it keeps.
     pub fn done(&self, worker: &mut PoolParty, slot: Bucket<'_>)
-        requires worker { worker.old.allocator ≡ self.now }
-        requires slot { slot.allocator ≡ self.now }
-        requires has { IsHeldAfter worker.old.log slot.number }
-        ensures worker { worker.new.allocator ≡ self.now }
-        ensures given_back { ¬ IsHeldAfter worker.new.log slot.entry.number }
-        ensures keeps { (other : ℕ) → other ≢ slot.entry.number
-            → IsHeldAfter worker.old.log other → IsHeldAfter worker.new.log other }
+        requires { HasSlot self.now worker.old slot }
+        ensures { HasGivenBack self.now slot.entry.number worker.old worker.new }
     {
         self.slots.deallocate_bucket(worker, slot);
     }
@@ -109,12 +102,8 @@ impl JobBoard {
             (λ slot. IfOk result.1 (λ other. slot.number ≢ other.number)) }
         ensures has { IfOk result.0 (λ slot. IsHeldAfter here.new.log slot.number) }
         ensures its_has { IfOk result.1 (λ slot. IsHeldAfter there.new.log slot.number) }
-        ensures refused { IfErr result.0 (λ error. (error ≡ AllocationError.OutOfMemory) × (here.new
-            ≡ with_entries here.old
-            (refused_pass self.now.scene.geometry.buckets here.old.number))) }
-        ensures its_refused { IfErr result.1 (λ error. (error ≡ AllocationError.OutOfMemory) × (there.new
-            ≡ with_entries there.old
-            (refused_pass self.now.scene.geometry.buckets there.old.number))) }
+        ensures refused { IfErr result.0 (HasLostAll self.now here.old here.new) }
+        ensures its_refused { IfErr result.1 (HasLostAll self.now there.old there.new) }
     {
         let answers = thread::join_mut(rt, &mut || self.take(here), &mut || self.take(there));
         self.slots.meet(here, there);

@@ -1,13 +1,9 @@
 //! Messages that wait, received in the order in which they were sent: a layer over the slab.
-ghost use Rattle.std.specs.Prelude.{◌≡◌, ◌∷◌, ◌++◌, ◌<◌, ◌↔◌, [], Some, IfSome, IfNone, IfErr};
-ghost use Rattle.std.specs.Prelude.{IsTrue, OnOk, OnErr, drop, length, slice_get};
-ghost use Rattle.bb_memory_base.specs.HeldBytes.{held_region};
-ghost use Rattle.uses.specs.Requests.{HasOneMore, IsWhyNotStored};
+ghost use Rattle.std.specs.Prelude.{◌≡◌, ◌<◌, ◌↔◌, [], Some, IfSome, IfNone, IsTrue, drop, length, slice_get};
+ghost use Rattle.uses.specs.Records.{Leaves, Stores};
 
 use crate::slab::{InsertError, Slab};
 use bb_memory_base::allocator::Allocator;
-use bb_memory_base::region::Region;
-use std::alloc::Global;
 use std::marker::Model;
 
 /// Messages that wait, each in a chunk of its own, which goes back when the message is received.
@@ -26,16 +22,11 @@ impl<A: Allocator + Drop> Model for Mailbox<A> {
 }
 
 impl<A: Allocator + Drop> Mailbox<A> {
-    /// No messages. The allocator has nothing out, and the region is the allocator's.
-    pub fn new(alloc: Global, allocator: A, region: Region) -> Self
-        requires fresh { A.stands_for allocator [] }
-        requires same_region { held_region region ≡ A.region_of (A.geometry allocator) }
-        ensures empty { result
-            ≡ record { allocator = allocator; chunks = []; records = [] } }
+    /// The records of a slab as messages, the first one as the oldest.
+    pub fn new(messages: Slab<A>) -> Self
+        ensures { result ≡ messages }
     {
-        Mailbox {
-            messages: Slab::new(alloc, allocator, region),
-        }
+        Mailbox { messages }
     }
 
     /// How many messages wait.
@@ -47,15 +38,7 @@ impl<A: Allocator + Drop> Mailbox<A> {
 
     /// Puts a message behind those that wait. A refusal keeps all, and comes where the slab refuses a record of these bytes.
     pub fn send(&mut self, bytes: &[u8]) -> Result<(), InsertError>
-        ensures sent { OnOk result (self.new.records ≡ self.old.records ++ bytes.now ∷ []) }
-        ensures chunk { OnOk result (HasOneMore
-            (A.may_allocate (A.geometry self.old.allocator) self.old.chunks)
-            (length bytes.now) self.old.chunks self.new.chunks) }
-        ensures refused { IfErr result (IsWhyNotStored
-            (A.may_allocate (A.geometry self.old.allocator) self.old.chunks) (length bytes.now)) }
-        ensures kept { OnErr result
-            (self.new ≡ record self.old { allocator = self.new.allocator }) }
-        ensures geometry { A.geometry self.new.allocator ≡ A.geometry self.old.allocator }
+        ensures { Stores A.geometry A.may_allocate self.old bytes.now result self.new }
     {
         self.messages.insert(bytes)
     }
@@ -73,12 +56,8 @@ impl<A: Allocator + Drop> Mailbox<A> {
 
     /// Takes the oldest message out, and gives its chunk back. It answers whether one waited.
     pub fn receive(&mut self) -> bool
-        ensures received { self.new ≡ record self.old {
-          allocator = self.new.allocator;
-          chunks = drop 1 self.old.chunks;
-          records = drop 1 self.old.records;
-        } }
-        ensures geometry { A.geometry self.new.allocator ≡ A.geometry self.old.allocator }
+        ensures received { Leaves A.geometry self.old (drop 1 self.old.chunks)
+            (drop 1 self.old.records) self.new }
         ensures answer { IsTrue result ↔ (0 < length self.old.records) }
     {
         if self.messages.len() == 0 {

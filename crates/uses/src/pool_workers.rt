@@ -1,9 +1,8 @@
 //! Threads that take buckets of one pool, and what is known once all of them are back.
-ghost use Rattle.std.specs.Prelude.{◌≡◌, ◌≢◌, ◌↔◌, ◌<◌, [], ℕ, All, IfOk, List, Some, false, true, length, slice_get};
+ghost use Rattle.std.specs.Prelude.{◌≡◌, ◌≢◌, ◌↔◌, [], ℕ, All, IfOk, List, Some, false, true, length, slice_get};
 ghost use Rattle.bb_memory_base.specs.PoolMachine.{PoolScene};
-ghost use Rattle.bb_memory_base.specs.PoolObject.{IsWithin};
-ghost use Rattle.bb_memory_base.specs.PoolLogs.{IsHeldAfter};
 ghost use Rattle.bb_memory.specs.SharedPool.{HasTaker, HaveAllNumbers, HaveMet, IsHeldByOne, PoolParty};
+ghost use Rattle.uses.specs.Workers.{ComesBack, MayBeServed};
 
 use bb_memory::allocator::AllocationError;
 use bb_memory::layout::Layout;
@@ -17,9 +16,7 @@ use std::thread::Threads;
 /// bucket stays the party's, with those that it had.
 pub fn take_one(pool: &SharedPoolAllocator, party: PoolParty, layout: Layout) -> PoolParty
     requires { party.allocator ≡ pool.now }
-    ensures party { result.allocator ≡ pool.entry.now }
-    ensures number { result.number ≡ party.number }
-    ensures keeps { (bucket : ℕ) → IsHeldAfter party.log bucket → IsHeldAfter result.log bucket }
+    ensures { ComesBack pool.entry.now party result }
 {
     let mut party = party;
     let _ = pool.allocate_near(&mut party, layout);
@@ -53,10 +50,7 @@ pub fn four_workers<R: Threads + Sync>(
 
 /// A party asks for a bucket once, and comes back. Its log is then not empty.
 pub fn ask_once(pool: &SharedPoolAllocator, party: PoolParty, layout: Layout) -> PoolParty
-    requires pool { party.allocator ≡ pool.now }
-    requires fresh { party.log ≡ [] }
-    requires buckets { 0 < pool.now.scene.geometry.buckets }
-    requires within { IsWithin pool.now.scene.geometry.bucket layout }
+    requires { MayBeServed pool.now layout party }
     ensures pool { result.allocator ≡ pool.entry.now }
     ensures asked { result.log ≢ [] }
 {
@@ -75,10 +69,7 @@ pub fn one_is_served<R: Threads + Sync>(
     layout: Layout,
 ) -> Result<Vec<PoolParty>, AllocError>
     requires all { length parties.items ≡ pool.now.scene.parties }
-    requires theirs { All (λ party. party.allocator ≡ pool.now) parties.items }
-    requires fresh { All (λ party. party.log ≡ []) parties.items }
-    requires buckets { 0 < pool.now.scene.geometry.buckets }
-    requires within { IsWithin pool.now.scene.geometry.bucket layout }
+    requires fresh { All (MayBeServed pool.now layout) parties.items }
     ensures one { IfOk result (λ back. HasTaker pool.now.scene back.items) }
 {
     let asked = thread::map_vec(rt, parties, &|party| ask_once(pool, party, layout));

@@ -1,14 +1,13 @@
 //! Messages for several readers, each in a sample of a loan book.
-ghost use Rattle.std.specs.Prelude.{◌≡◌, ◌∷◌, ◌++◌, ◌<◌, ◌+◌, ◌-◌, ◌↔◌, [], Some, Ok, IfSome};
-ghost use Rattle.std.specs.Prelude.{IfNone, IfOk, IfErr, OnOk, OnErr, IsTrue, true, false, drop};
-ghost use Rattle.std.specs.Prelude.{get_or, length, slice_get, slice_set};
+ghost use Rattle.std.specs.Prelude.{◌≡◌, ◌∷◌, ◌++◌, ◌<◌, ◌+◌, [], Some, Ok, IfSome, IfNone, IfOk, IfErr};
+ghost use Rattle.std.specs.Prelude.{OnErr, OnOk, get_or, length, slice_get};
 ghost use Rattle.bb_memory_base.specs.Chunk.{Chunk};
 ghost use Rattle.bb_memory_base.specs.LiveList.{IsSound};
 ghost use Rattle.bb_memory_base.specs.HeldBytes.{held_region};
 ghost use Rattle.loan_book.specs.Book.{Book, IsBook, chunks_out};
 ghost use Rattle.loan_book.specs.Calls.{with_sample};
 ghost use Rattle.uses.specs.Requests.{HasOneMore, MayAnswer};
-ghost use Rattle.uses.specs.Rings.{GivesExactly, IsWhyNotSent, Returned, ids_of, readers_of};
+ghost use Rattle.uses.specs.Rings.{Finishes, GivesExactly, IsWhyNotSent, ReturnsOldest, ids_of};
 
 mod laws;
 
@@ -61,24 +60,24 @@ impl<A: Allocator + Drop> Model for MessageRing<A> {
 }
 
 impl<A: Allocator + Drop> MessageRing<A> {
-    /// No messages, for so many readers each, at least one. The allocator has nothing out and gives chunks of exactly the
-    /// asked size, as the pools do, and the region is the allocator's.
-    pub fn new(alloc: Global, allocator: A, region: Region, readers: u32) -> Self
-        requires fresh { A.stands_for allocator [] }
+    /// No messages, for so many readers each, at least one. No sample of the loan book is out, its allocator gives chunks of
+    /// exactly the asked size, as the pools do, and the region is the allocator's.
+    pub fn new(alloc: Global, book: LoanBook<A>, region: Region, readers: u32) -> Self
+        requires fresh { book.book.out ≡ [] }
         requires exact { GivesExactly A.may_allocate }
-        requires same_region { held_region region ≡ A.region_of (A.geometry allocator) }
+        requires same_region { held_region region ≡ A.region_of (A.geometry book.allocator) }
         requires some_reader { 0 < readers }
         ensures { result ≡ record {
-          allocator = allocator;
+          allocator = book.allocator;
           readers = readers;
-          sent = 0;
+          sent = book.book.loaned;
           chunks = [];
           messages = [];
           to_come = [];
         } }
     {
         MessageRing {
-            book: LoanBook::new(alloc, allocator),
+            book,
             region,
             readers,
             ids: Vec::new(alloc),
@@ -130,18 +129,7 @@ impl<A: Allocator + Drop> MessageRing<A> {
     /// chunk goes back.
     pub fn finish(&mut self) -> bool
         requires { 0 < length self.old.messages }
-        ensures last { result ≡ true → self.new ≡ record self.old {
-          allocator = self.new.allocator;
-          chunks = drop 1 self.old.chunks;
-          messages = drop 1 self.old.messages;
-          to_come = drop 1 self.old.to_come;
-        } }
-        ensures further { result ≡ false → self.new ≡ record self.old {
-          allocator = self.new.allocator;
-          to_come = slice_set self.old.to_come 0 (get_or self.old.to_come 0 0 - 1);
-        } }
-        ensures answer { IsTrue result ↔ (get_or self.old.to_come 0 0 ≡ 1) }
-        ensures geometry { A.geometry self.new.allocator ≡ A.geometry self.old.allocator }
+        ensures { Finishes A.geometry self.old result self.new }
     {
         let id = first_id(&self.ids);
         let last = return_oldest(&mut self.book, id);
@@ -202,9 +190,7 @@ fn first_id(ids: &Vec<u64>) -> u64
 fn return_oldest<A: Allocator>(book: &mut LoanBook<A>, id: u64) -> bool
     requires oldest { slice_get (ids_of book.old.book.out) 0 ≡ Some id }
     requires first { get_or (ids_of book.old.book.out) 0 id ≡ id }
-    ensures returned { Returned book.old.book.out result book.new.book.out }
-    ensures loaned { book.new.book.loaned ≡ book.old.book.loaned }
-    ensures geometry { A.geometry book.new.allocator ≡ A.geometry book.old.allocator }
+    ensures { ReturnsOldest A.geometry book.old result book.new }
 {
     book.law();
     match book.give_back(id) {

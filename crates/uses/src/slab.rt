@@ -5,9 +5,10 @@ ghost use Rattle.bb_memory_base.specs.Chunk.{Chunk};
 ghost use Rattle.bb_memory_base.specs.LiveList.{IsSound};
 ghost use Rattle.bb_memory_base.specs.declared.layout.Layout.{Layout};
 ghost use Rattle.bb_memory_base.specs.HeldBytes.{HeldBytes, held_region};
-ghost use Rattle.uses.specs.Records.{Records, records_in};
-ghost use Rattle.uses.specs.Requests.{HasOneMore, IsOfBytes, IsWhyNotStored, MayGiveLonger};
+ghost use Rattle.uses.specs.Records.{HoldsThen, Leaves, Stores, records_in};
+ghost use Rattle.uses.specs.Requests.{IsOfBytes, MayGiveLonger};
 
+use crate::live_lists::last_law;
 use bb_memory_base::allocator::{AllocationError, Allocator, BaseAllocator};
 use bb_memory_base::layout::{Chunk, Layout, LayoutError};
 use bb_memory_base::region::{Region, live_bytes_law};
@@ -81,15 +82,7 @@ impl<A: Allocator + Drop> Slab<A> {
     /// has as many bytes, with `List` where memory was, with `Refused` as the allocator refuses to give as many, and with
     /// `NoExactChunk` where it gives more.
     pub fn insert(&mut self, bytes: &[u8]) -> Result<(), InsertError>
-        ensures appended { OnOk result (self.new.records ≡ self.old.records ++ bytes.now ∷ []) }
-        ensures chunk { OnOk result (HasOneMore
-            (A.may_allocate (A.geometry self.old.allocator) self.old.chunks)
-            (length bytes.now) self.old.chunks self.new.chunks) }
-        ensures refused { IfErr result (IsWhyNotStored
-            (A.may_allocate (A.geometry self.old.allocator) self.old.chunks) (length bytes.now)) }
-        ensures kept { OnErr result
-            (self.new ≡ record self.old { allocator = self.new.allocator }) }
-        ensures geometry { A.geometry self.new.allocator ≡ A.geometry self.old.allocator }
+        ensures { Stores A.geometry A.may_allocate self.old bytes.now result self.new }
     {
         let layout = Layout::from_size_align(bytes.len(), 1).map_err(InsertError::Layout)?;
         self.chunks.reserve(1).map_err(InsertError::List)?;
@@ -131,12 +124,8 @@ impl<A: Allocator + Drop> Slab<A> {
     /// Takes a record out, and gives its chunk back. Those behind it move up.
     pub fn remove(&mut self, position: usize)
         requires { position < length self.old.records }
-        ensures removed { self.new ≡ record self.old {
-          allocator = self.new.allocator;
-          chunks = remove self.old.chunks position;
-          records = remove self.old.records position;
-        } }
-        ensures geometry { A.geometry self.new.allocator ≡ A.geometry self.old.allocator }
+        ensures { Leaves A.geometry self.old (remove self.old.chunks position)
+            (remove self.old.records position) self.new }
     {
         let chunk = self.chunks.remove(position);
         removed_records_law();
@@ -150,9 +139,8 @@ fn overwrite(region: &mut Region, chunks: &Vec<Chunk>, position: usize, bytes: &
     requires fits { (old : List ℕ)
         × (slice_get (records_in region.old chunks.now.items) position ≡ Some old)
         × (length bytes.now ≡ length old) }
-    ensures records { records_in region.new chunks.now.items
-        ≡ slice_set (records_in region.old chunks.now.items) position bytes.now }
-    ensures region { held_region region.new ≡ held_region region.old }
+    ensures { HoldsThen region.old region.new chunks.now.items
+        (slice_set (records_in region.old chunks.now.items) position bytes.now) }
 {
     let chunk = chunk_at(chunks, position);
     region.write(chunk, bytes);
@@ -170,23 +158,14 @@ fn chunk_at(chunks: &Vec<Chunk>, position: usize) -> Chunk
 pub(crate) fn put(region: &mut Region, chunks: &Vec<Chunk>, chunk: Chunk, bytes: &[u8])
     requires sound { IsSound (held_region region.old) (chunks.now.items ++ chunk ∷ []) }
     requires len { length bytes.now ≡ chunk.len }
-    ensures records { records_in region.new (chunks.now.items ++ chunk ∷ [])
-        ≡ records_in region.old chunks.now.items ++ bytes.now ∷ [] }
-    ensures region { held_region region.new ≡ held_region region.old }
+    ensures { HoldsThen region.old region.new (chunks.now.items ++ chunk ∷ [])
+        (records_in region.old chunks.now.items ++ bytes.now ∷ []) }
 {
     let _ = chunks;
     last_law();
     live_bytes_law();
     region.write(chunk, bytes);
 }
-
-/// What was put at the end of a list is taken out of it. It does nothing: its contract is the law.
-fn last_law()
-    ensures at_end { (live : List Chunk) (chunk : Chunk)
-        → slice_get (live ++ chunk ∷ []) (length live) ≡ Some chunk }
-    ensures as_before { (live : List Chunk) (chunk : Chunk)
-        → remove (live ++ chunk ∷ []) (length live) ≡ live }
-{}
 
 /// A longer chunk that may be given may be given. It does nothing: its contract is the law.
 fn longer_law<A: Allocator>()

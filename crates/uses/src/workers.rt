@@ -2,6 +2,7 @@
 ghost use Rattle.std.specs.Prelude.{◌≡◌, ◌+◌, IfOk, length};
 ghost use Rattle.std.specs.Arc.{arc_value};
 ghost use Rattle.bb_memory_base.specs.BumpHistory.{chunks_won};
+ghost use Rattle.uses.specs.Workers.{BringsBack};
 
 use bb_memory::layout::Layout;
 use bb_memory::shared_bump::{BumpParty, SharedBumpAllocator};
@@ -14,9 +15,7 @@ use std::thread::{Promise, Threads};
 /// Asks twice, and hands the party back with how many chunks it got.
 pub fn take_two(shared: &SharedBumpAllocator, party: BumpParty, layout: Layout) -> (BumpParty, u32)
     requires { party.allocator ≡ shared.now }
-    ensures party { result.0.allocator ≡ shared.entry.now }
-    ensures taken { length (chunks_won result.0.log)
-        ≡ length (chunks_won party.log) + result.1 }
+    ensures { BringsBack shared.entry.now party result }
 {
     let mut party = party;
     let first = shared.allocate(&mut party, layout).is_ok();
@@ -29,12 +28,9 @@ pub fn take_two(shared: &SharedBumpAllocator, party: BumpParty, layout: Layout) 
 struct ComesBack(Snapshot<SharedBumpAllocator>, Snapshot<BumpParty>);
 
 impl Promise<(BumpParty, u32)> for ComesBack {
-    ghost use Rattle.std.specs.Prelude.{◌≡◌, ◌+◌, length};
-    ghost use Rattle.bb_memory_base.specs.BumpHistory.{chunks_won};
+    ghost use Rattle.uses.specs.Workers.{BringsBack};
 
-    ghost kept_by = { λ promise answer. (answer.0.allocator ≡ promise.0.value)
-        × (length (chunks_won answer.0.log)
-        ≡ length (chunks_won promise.1.value.log) + answer.1) };
+    ghost kept_by = { λ promise answer. BringsBack promise.0.value promise.1.value answer };
 }
 
 /// Both parties ask twice, one in a thread of its own. They come back as this bump's, so that it can `meet` them, which says

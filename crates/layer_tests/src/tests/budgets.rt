@@ -1,33 +1,16 @@
 //! Budgets: what is spent, given back and resized.
 ghost use Rattle.std.specs.Prelude.{[]};
 
-use super::eight_buckets;
+use super::pools::eight_buckets;
 use super::rows::{Driven, all_kept};
 use bb_memory::allocator::{AllocationError, Allocator, Command, Reply, run_full};
 use bb_memory::layout::{Chunk, Layout};
 use std::alloc::Global;
 use std::marker::Model;
 use std::process::Abort;
+use uses::budget::Budget;
 use uses::byte_budget::ByteBudget;
 use uses::chunk_budget::ChunkBudget;
-
-/// An allocator that may have so much out.
-trait Limited: Allocator + Drop {
-    /// How much is out, and how much may be.
-    fn spent(&self) -> (usize, usize);
-}
-
-impl<A: Allocator + Drop> Limited for ChunkBudget<A> {
-    fn spent(&self) -> (usize, usize) {
-        (self.out(), self.budget())
-    }
-}
-
-impl<A: Allocator + Drop> Limited for ByteBudget<A> {
-    fn spent(&self) -> (usize, usize) {
-        (self.out(), self.budget())
-    }
-}
 
 /// What is told of a reply.
 #[derive(Clone, Copy, PartialEq)]
@@ -65,12 +48,12 @@ impl Told {
 
 /// A budget with its live list, so that commands can be given to it one by one.
 #[derive(Drop)]
-struct Tried<A: Limited> {
+struct Tried<A: Allocator + Budget + Drop> {
     allocator: A,
     live: Vec<Chunk>,
 }
 
-impl<A: Limited> Model for Tried<A> {
+impl<A: Allocator + Budget + Drop> Model for Tried<A> {
     ghost Value = { A };
 
     ghost view = { λ t. t.allocator };
@@ -78,7 +61,7 @@ impl<A: Limited> Model for Tried<A> {
     ghost invariant = { λ t. A.stands_for t.allocator t.live.items };
 }
 
-impl<A: Limited> Tried<A> {
+impl<A: Allocator + Budget + Drop> Tried<A> {
     /// A budget with nothing out.
     fn new(alloc: Global, allocator: A) -> Self
         requires { A.stands_for allocator [] }
@@ -111,8 +94,9 @@ impl<A: Limited> Tried<A> {
         Some(self.allocator.reserved(chunk.place()))
     }
 
+    /// How much is out, and how much may be.
     fn spent(&self) -> (usize, usize) {
-        self.allocator.spent()
+        (self.allocator.out(), self.allocator.budget())
     }
 
     /// What is told of what is answered. Nothing is where there is no such chunk, or memory was refused.
@@ -163,7 +147,7 @@ fn of_bytes(size: usize) -> Option<Layout> {
 /// What is asked, what is told of the reply, and what is spent then and may be.
 type BudgetRow = (Ask, Told, (usize, usize));
 
-impl<A: Limited> Driven<BudgetRow> for Tried<A> {
+impl<A: Allocator + Budget + Drop> Driven<BudgetRow> for Tried<A> {
     fn keeps(&mut self, row: &BudgetRow) -> bool {
         self.answer(row.0) == Some(row.1) && self.spent() == row.2
     }

@@ -2,11 +2,9 @@
 ghost use Rattle.std.specs.Prelude.{◌≡◌, ◌+◌, ◌≤◌, IfSome, length};
 ghost use Rattle.bb_memory_base.specs.HeldBytes.{held_region};
 
-use super::{eight_buckets, its_region};
+use super::pools::{TestPool, buckets_of_four, eight_buckets, its_region};
 use bb_memory::layout::{Chunk, Layout};
-use bb_memory::pool_allocator::{
-    AllocationGrowError, Allocator, BaseAllocator, FixedSizePoolAllocator, pool_count_law,
-};
+use bb_memory::pool_allocator::{AllocationGrowError, Allocator, BaseAllocator};
 use bb_memory::region::Region;
 use std::alloc::Global;
 use std::marker::Model;
@@ -21,16 +19,6 @@ fn another_region(alloc: Global) -> Option<Region>
         Ok(bytes) => Some(Region::new(9000, bytes)),
         Err(_) => None,
     }
-}
-
-/// A pool of buckets of four bytes.
-#[tactic(auto, unfolding(bb_memory_base::specs::LeastPlace::least_place))]
-fn buckets_of_four() -> FixedSizePoolAllocator<16>
-    ensures start { result.geometry.region.start ≡ 4096 }
-    ensures size { result.geometry.region.size ≡ 1024 }
-{
-    pool_count_law();
-    FixedSizePoolAllocator::new(Layout::from_size_align(4, 1).unwrap(), 4096, 1024)
 }
 
 /// A vector in a chunk of its own, with its allocator and region.
@@ -124,7 +112,7 @@ fn holds_four<A: Allocator + Drop>(rt: &impl Abort, made: Option<Growing<A>>) {
 }
 
 /// A vector in a bucket of four bytes.
-fn growing_in_four(alloc: Global) -> Option<Growing<FixedSizePoolAllocator<16>>> {
+fn growing_in_four(alloc: Global) -> Option<Growing<TestPool>> {
     Growing::new(buckets_of_four(), its_region(alloc)?)
 }
 
@@ -134,7 +122,7 @@ fn byte_vector_grows_in_its_bucket(rt: HostRuntime) {
 }
 
 /// A vector in a bucket of 128 bytes.
-fn growing_in_many(alloc: Global) -> Option<Growing<FixedSizePoolAllocator<16>>> {
+fn growing_in_many(alloc: Global) -> Option<Growing<TestPool>> {
     Growing::new(eight_buckets(), its_region(alloc)?)
 }
 

@@ -1,0 +1,46 @@
+-- Threads that share a bump or a pool, each with a party of its own, which it hands back.
+use Rattle.std.specs.Prelude.{◌≡◌, ◌≢◌, ◌+◌, ◌<◌, [], ℕ, length}
+use Rattle.bb_memory_base.specs.BumpHistory.{chunks_won}
+use Rattle.bb_memory_base.specs.PoolLogs.{IsHeldAfter}
+use Rattle.bb_memory_base.specs.PoolObject.{IsWithin}
+use Rattle.bb_memory_base.specs.declared.allocator.AllocationError.{AllocationError}
+use Rattle.bb_memory_base.specs.declared.allocator.AllocationError.TheVariants.{OutOfMemory}
+use Rattle.bb_memory_base.specs.declared.layout.Layout.{Layout}
+use Rattle.bb_memory.specs.SharedBump.{SharedBump, BumpParty}
+use Rattle.bb_memory.specs.SharedPool.{SharedPool, PoolParty, TakenBucket, refused_pass, with_entries}
+
+-- a party of the bump comes back, with how many chunks it got meanwhile
+pub record BringsBack (bump : SharedBump) (old : BumpParty) (back : BumpParty × ℕ) : Type 0 where
+  pub theirs : back.0.allocator ≡ bump
+  pub taken : length (chunks_won back.0.log) ≡ length (chunks_won old.log) + back.1
+
+-- a party of the pool comes back under its number, with all buckets that it had
+pub record ComesBack (pool : SharedPool) (old new : PoolParty) : Type 0 where
+  pub theirs : new.allocator ≡ pool
+  pub number : new.number ≡ old.number
+  pub keeps : (bucket : ℕ) → IsHeldAfter old.log bucket → IsHeldAfter new.log bucket
+
+-- a party of the pool that hasn't asked yet may be given a bucket for this layout
+pub record MayBeServed (pool : SharedPool) (layout : Layout) (party : PoolParty) : Type 0 where
+  pub theirs : party.allocator ≡ pool
+  pub fresh : party.log ≡ []
+  pub buckets : 0 < pool.scene.geometry.buckets
+  pub within : IsWithin pool.scene.geometry.bucket layout
+
+-- the worker is this board's, and has this slot of it
+pub record HasSlot (board : SharedPool) (worker : PoolParty) (slot : TakenBucket) : Type 0 where
+  pub theirs : worker.allocator ≡ board
+  pub of_board : slot.allocator ≡ board
+  pub held : IsHeldAfter worker.log slot.number
+
+-- the worker has given back the slot of this number, and keeps its others
+pub record HasGivenBack (board : SharedPool) (number : ℕ) (old new : PoolParty) : Type 0 where
+  pub theirs : new.allocator ≡ board
+  pub given_back : ¬ IsHeldAfter new.log number
+  pub keeps : (other : ℕ) → other ≢ number → IsHeldAfter old.log other → IsHeldAfter new.log other
+
+-- the worker has lost an exchange at each slot of the board
+pub record HasLostAll (board : SharedPool) (old new : PoolParty) (error : AllocationError)
+    : Type 0 where
+  pub no_memory : error ≡ OutOfMemory
+  pub lost : new ≡ with_entries old (refused_pass board.scene.geometry.buckets old.number)
