@@ -1,5 +1,5 @@
 -- A shared pool, the seats of its parties, and what a seat's calls are answered.
-use Rattle.std.specs.Prelude.{◌≡◌, ◌<◌, ◌↔◌, ℕ, Bool, List, Some, Result, Ok, Err, length, slice_get}
+use Rattle.std.specs.Prelude.{◌≡◌, ◌<◌, ◌≤◌, ◌↔◌, ◌∷◌, ◌++◌, [], ℕ, All, Bool, List, Result, Ok, Err, length}
 use Rattle.bb_memory_base.specs.Region.{Region}
 use Rattle.bb_memory_base.specs.Chunk.{Chunk}
 use Rattle.bb_memory_base.specs.PoolGeometry.{IsCut, bucket_place}
@@ -8,21 +8,40 @@ use Rattle.bb_memory_base.specs.PoolLogs.{IsHeldAfter}
 use Rattle.bb_memory_base.specs.declared.layout.Layout.{Layout}
 use Rattle.bb_memory_base.specs.declared.allocator.AllocationError.{AllocationError}
 use Rattle.bb_memory.specs.NumberSet.{Has}
-use Rattle.bb_memory.specs.SharedPool.{MayTake, PoolParty, SharedPool, TakenBucket, chunk_of, fresh_party, return_entry, with_entries}
+use Rattle.bb_memory.specs.SharedPool.{AreFresh, MayTake, PoolParty, SharedPool, TakenBucket, chunk_of, return_entry, with_entries}
 
--- a shared pool, and how many of its parties have no seat yet
+-- a shared pool, and those of its parties that have no seat, of which the last one gets the next seat
 pub record PoolSeats : Type 0 where
   pub pool : SharedPool
-  pub left : ℕ
+  pub parties : List PoolParty
 
-abbrev pub pool_seats : SharedPool → ℕ → PoolSeats
-pool_seats pool left = record { pool = pool; left = left }
+-- how many these are
+abbrev pub left_at : PoolSeats → ℕ
+left_at seats = length seats.parties
 
--- the parties are numbered from 0, and none has made a step
-abbrev pub AreUnseated : SharedPool → List PoolParty → Type 0
-AreUnseated pool parties =
-    (number : ℕ) → number < length parties →
-    slice_get parties number ≡ Some (fresh_party pool number)
+-- the pool with this party behind those that have no seat
+abbrev pub joined : PoolSeats → PoolParty → PoolSeats
+joined seats party = record { pool = seats.pool; parties = seats.parties ++ party ∷ [] }
+
+-- the party is this pool's, and not all parties of it are without a seat
+pub record IsAt (seats : PoolSeats) (party : PoolParty) : Type 0 where
+  pub theirs : party.allocator ≡ seats.pool
+  pub out : left_at seats < seats.pool.scene.parties
+
+-- the party holds some bucket
+abbrev pub HoldsSome : PoolParty → Type 0
+HoldsSome party = (bucket : ℕ) × IsHeldAfter party.log bucket
+
+-- a party of this pool, which holds nothing
+pub record IsIdleAt (pool : SharedPool) (party : PoolParty) : Type 0 where
+  pub theirs : party.allocator ≡ pool
+  pub idle : ¬ HoldsSome party
+
+-- parties of this pool, which hold nothing, with room for all of its parties
+pub record AreUnseated (pool : SharedPool) (capacity : ℕ) (parties : List PoolParty) : Type 0 where
+  pub at_most : length parties ≤ pool.scene.parties
+  pub room : pool.scene.parties ≤ capacity
+  pub idle : All (IsIdleAt pool) parties
 
 -- the flags are set of just the buckets that are held after this log
 abbrev pub AreHeldFlags : List Bool → PoolLog → Type 0
@@ -34,11 +53,10 @@ pub record IsSeatAt (pool : SharedPool) (party : PoolParty) (flags : List Bool) 
   pub as_many : length flags ≡ pool.scene.geometry.buckets
   pub exact : AreHeldFlags flags party.log
 
--- a pool over the region, cut into buckets of the layout, of so many parties
-pub record IsSharedPoolOver (region : Region) (bucket : Layout) (many : ℕ) (pool : SharedPool)
-    : Type 0 where
-  pub cut : IsCut region bucket pool.scene.geometry
-  pub parties : pool.scene.parties ≡ many
+-- a pool over the region, cut into buckets of the layout, of so many parties, which all have no seat and have made no step
+pub record AreFreshOver (region : Region) (bucket : Layout) (count : ℕ) (seats : PoolSeats) : Type 0 where
+  pub cut : IsCut region bucket seats.pool.scene.geometry
+  pub parties : AreFresh seats.pool count seats.parties
 
 -- the party holds the bucket of this number, which is at this place
 pub record HoldsAt (party : PoolParty) (place number : ℕ) : Type 0 where

@@ -7,14 +7,14 @@ ghost use Rattle.bb_memory_base.specs.declared.layout.Layout.{Layout as Asked};
 ghost use Rattle.bb_memory_base.specs.declared.allocator.AllocationError.{AllocationError};
 ghost use Rattle.bb_memory_c.specs.Answers.{TellsGrow, TellsShrink, answer_of, figure_of, no_figure, refused};
 ghost use Rattle.bb_memory_c.specs.Calls.{AnswersFree, AnswersGrow, AnswersRequest, AnswersReturn, AnswersShrink};
-ghost use Rattle.bb_memory_c.specs.Calls.{TellsOfHeld, TellsWhether, resize};
+ghost use Rattle.bb_memory_c.specs.Calls.{GetsSeatBack, GivesSeat, IfBoth, TellsOfHeld, TellsWhether, resize};
 ghost use Rattle.bb_memory_c.specs.Codes.{done, malloc_refused, not_a_layout, not_held, not_made};
 ghost use Rattle.bb_memory_c.specs.Layouts.{IsOf};
 
 use crate::answer::{Answer, Figure};
 use crate::code;
 use crate::handle::Handle;
-use crate::kind::{Gives, Keeps};
+use crate::kind::{Gives, Keeps, Shares};
 use crate::layout::{layout_of, layouts_of};
 use bb_memory::layout::Layout;
 use std::alloc::Global;
@@ -265,4 +265,53 @@ where
     let answer = shrink_one(&mut *made, place, layouts);
     handle.put(made);
     answer
+}
+
+/// Gives a seat to the last party that has none, behind a handle that has to be empty.
+pub(crate) fn seat<H: Handle, S: Handle>(handle: &mut H, alloc: Global, seat: &mut S) -> u32
+where
+    H::Made: Shares<S::Made>,
+    ensures { GivesSeat (H.made handle.old) (H.made handle.new) (S.made seat.old) (S.made seat.new)
+        result H.Made.left H.Made.joined H.Made.is_at }
+{
+    if is_made(seat, alloc) {
+        return code::ALREADY_MADE;
+    }
+    let Some(mut shared) = handle.take(alloc) else {
+        return code::NOT_MADE;
+    };
+    let dealt = shared.deal(alloc);
+    handle.put(shared);
+    match dealt {
+        Ok(dealt) => {
+            seat.put(dealt);
+            code::DONE
+        }
+        Err(code) => code,
+    }
+}
+
+/// Takes the seat's party back as the last one without a seat, and the seat's handle is empty then.
+pub(crate) fn leave<H: Handle, S: Handle>(handle: &mut H, alloc: Global, seat: &mut S) -> u32
+where
+    H::Made: Shares<S::Made>,
+    requires { IfBoth (H.made handle.old) (S.made seat.old) H.Made.is_at }
+    ensures { GetsSeatBack (H.made handle.old) (H.made handle.new) (S.made seat.old)
+        (S.made seat.new) result H.Made.is_busy H.Made.joined }
+{
+    let Some(mut shared) = handle.take(alloc) else {
+        return code::NOT_MADE;
+    };
+    let Some(leaving) = seat.take(alloc) else {
+        handle.put(shared);
+        return code::NOT_MADE;
+    };
+    if shared.is_in_use(&leaving) {
+        handle.put(shared);
+        seat.put(leaving);
+        return code::SEAT_HOLDS;
+    }
+    shared.take_back(Box::into_inner(leaving));
+    handle.put(shared);
+    code::DONE
 }

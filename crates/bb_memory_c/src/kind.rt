@@ -5,9 +5,11 @@ ghost use Rattle.bb_memory_base.specs.declared.layout.Layout.{Layout as Asked};
 ghost use Rattle.bb_memory_base.specs.declared.allocator.AllocationError.{AllocationError};
 ghost use Rattle.bb_memory_base.specs.declared.allocator.AllocationGrowError.{AllocationGrowError};
 ghost use Rattle.bb_memory_base.specs.declared.allocator.AllocationShrinkError.{AllocationShrinkError};
+ghost use Rattle.bb_memory_c.specs.Calls.{TakesSeat};
 
 use bb_memory::allocator::{AllocationError, AllocationGrowError, AllocationShrinkError};
 use bb_memory::layout::{Chunk, Layout};
+use std::alloc::Global;
 
 /// What gives chunks.
 pub(crate) trait Gives: Drop {
@@ -74,4 +76,34 @@ pub(crate) trait Keeps: Gives {
         requires short { old.size ≤ bytes self.old place }
         ensures answer { may_shrink self.old place old new result }
         ensures still { self.new ≡ self.old };
+}
+
+/// What threads share through seats of this type, and its parties that have none.
+pub(crate) trait Shares<S: Drop>: Drop {
+    /// How many parties have no seat.
+    ghost left: { Self → ℕ };
+
+    /// It with one more party that has no seat, behind the others.
+    ghost joined: { Self → S → Self };
+
+    /// The party is one of its own, and isn't among those that have no seat.
+    ghost is_at: { Self → S → Type 0 };
+
+    /// The party can't leave its seat.
+    ghost is_busy: { S → Type 0 };
+
+    /// A seat for the last party that has none, in memory of its own.
+    fn deal(&mut self, alloc: Global) -> Result<Box<S>, u32>
+        ensures { TakesSeat self.old self.new result left (λ shared seat. joined shared seat.value)
+            (λ shared seat. is_at shared seat.value) };
+
+    /// Whether the party can't leave its seat.
+    fn is_in_use(&self, seat: &S) -> bool
+        ensures { IsTrue result ↔ is_busy seat.now };
+
+    /// Takes the seat's party back, behind those that have no seat.
+    fn take_back(&mut self, seat: S)
+        requires out { is_at self.old seat }
+        requires idle { ¬ is_busy seat }
+        ensures { self.new ≡ joined self.old seat };
 }
