@@ -5,7 +5,7 @@ ghost use Rattle.std.specs.Fn.{FnReturnsAt};
 ghost use Rattle.bb_memory_base.specs.Chunk.{Chunk};
 ghost use Rattle.bb_memory_base.specs.declared.layout.Layout.{Layout as Asked};
 ghost use Rattle.bb_memory_base.specs.declared.allocator.AllocationError.{AllocationError};
-ghost use Rattle.bb_memory_c.specs.Answers.{TellsGrow, TellsShrink, answer_of, figure_of, no_figure, refused};
+ghost use Rattle.bb_memory_c.specs.Answers.{AnswersStill, TellsGrow, TellsOfLayouts, TellsShrink, answer_of, figure_of, no_figure, refused};
 ghost use Rattle.bb_memory_c.specs.Calls.{AnswersFree, AnswersGrow, AnswersRequest, AnswersReturn, AnswersShrink};
 ghost use Rattle.bb_memory_c.specs.Calls.{GetsSeatBack, GivesSeat, IfBoth, TellsOfHeld, TellsWhether, resize};
 ghost use Rattle.bb_memory_c.specs.Codes.{done, malloc_refused, not_a_layout, not_held, not_made};
@@ -179,10 +179,8 @@ where
 
 /// Whether the chunk at this place may have the old layout, and what it is then answered that is to grow.
 fn grow_one<M: Keeps>(made: &mut M, place: usize, layouts: Option<(Layout, Layout)>) -> Answer
-    ensures answer { (from to : Asked) → layouts ≡ Some (from, to)
-        → TellsGrow (M.holds made.old place) place from (M.may_grow made.old place from to) result }
-    ensures not_a_layout { layouts ≡ None → result ≡ refused not_a_layout }
-    ensures still { made.new ≡ made.old }
+    ensures { AnswersStill made.old made.new (TellsOfLayouts layouts result (λ from to.
+        TellsGrow (M.holds made.old place) place from (M.may_grow made.old place from to) result)) }
 {
     let Some((from, to)) = layouts else {
         return Answer::refusal(code::NOT_A_LAYOUT);
@@ -223,11 +221,9 @@ where
 
 /// Whether the chunk at this place may have the old layout, and what it is then answered that is to shrink.
 fn shrink_one<M: Keeps>(made: &mut M, place: usize, layouts: Option<(Layout, Layout)>) -> Answer
-    ensures answer { (from to : Asked) → layouts ≡ Some (from, to)
-        → TellsShrink (M.holds made.old place) place (M.bytes made.old place) from
-        (M.may_shrink made.old place from to) result }
-    ensures not_a_layout { layouts ≡ None → result ≡ refused not_a_layout }
-    ensures still { made.new ≡ made.old }
+    ensures { AnswersStill made.old made.new (TellsOfLayouts layouts result (λ from to.
+        TellsShrink (M.holds made.old place) place (M.bytes made.old place) from
+        (M.may_shrink made.old place from to) result)) }
 {
     let Some((from, to)) = layouts else {
         return Answer::refusal(code::NOT_A_LAYOUT);

@@ -1,10 +1,11 @@
 //! What is made behind handles: what each kind has to do for a call that is written once over all of them.
-ghost use Rattle.std.specs.Prelude.{◌≡◌, ◌≤◌, ◌%◌, ◌↔◌, ℕ, IsTrue, Result};
+ghost use Rattle.std.specs.Prelude.{◌≡◌, ◌↔◌, ℕ, IsTrue, Result};
 ghost use Rattle.bb_memory_base.specs.Chunk.{Chunk};
 ghost use Rattle.bb_memory_base.specs.declared.layout.Layout.{Layout as Asked};
 ghost use Rattle.bb_memory_base.specs.declared.allocator.AllocationError.{AllocationError};
 ghost use Rattle.bb_memory_base.specs.declared.allocator.AllocationGrowError.{AllocationGrowError};
 ghost use Rattle.bb_memory_base.specs.declared.allocator.AllocationShrinkError.{AllocationShrinkError};
+ghost use Rattle.bb_memory_c.specs.Answers.{AnswersStill, MayGrowAt, MayShrinkAt};
 ghost use Rattle.bb_memory_c.specs.Calls.{TakesSeat};
 
 use bb_memory::allocator::{AllocationError, AllocationGrowError, AllocationShrinkError};
@@ -59,10 +60,8 @@ pub(crate) trait Keeps: Gives {
         old: Layout,
         new: Layout,
     ) -> Result<Chunk, AllocationGrowError>
-        requires held { holds self.old place }
-        requires aligned { place % old.align ≡ 0 }
-        ensures answer { may_grow self.old place old new result }
-        ensures still { self.new ≡ self.old };
+        requires { MayGrowAt (holds self.old place) place old }
+        ensures { AnswersStill self.old self.new (may_grow self.old place old new result) };
 
     /// Shrinks the chunk at this place.
     fn shrink_at(
@@ -71,11 +70,8 @@ pub(crate) trait Keeps: Gives {
         old: Layout,
         new: Layout,
     ) -> Result<Chunk, AllocationShrinkError>
-        requires held { holds self.old place }
-        requires aligned { place % old.align ≡ 0 }
-        requires short { old.size ≤ bytes self.old place }
-        ensures answer { may_shrink self.old place old new result }
-        ensures still { self.new ≡ self.old };
+        requires { MayShrinkAt (holds self.old place) place (bytes self.old place) old }
+        ensures { AnswersStill self.old self.new (may_shrink self.old place old new result) };
 }
 
 /// What threads share through seats of this type, and its parties that have none.

@@ -10,8 +10,10 @@ ghost use Rattle.bb_memory_c.specs.SharedPools.{GivesBack, GivesChunk, HoldsPlac
 ghost use Rattle.bb_memory_c.specs.SharedPoolHandles.{MakesSharedPool};
 
 use crate::answer::{Answer, Figure};
-use crate::call::{free, give_back, grow, holds, is_made, keep, leave, request, reserved, seat as seat_at};
-use crate::call::{shrink, tell};
+use crate::call::{
+    free, give_back, grow, holds, is_made, keep, leave, request, reserved, seat as seat_at, shrink,
+    tell,
+};
 use crate::code;
 use crate::handle::{Handle, PoolSeatHandle, SharedPoolHandle};
 use crate::layout::{cut_into, has_room};
@@ -165,7 +167,11 @@ pub extern "C" fn bb_pool_seat_holds(
 pub extern "C" fn bb_pool_seat_party(alloc: Global, handle: &mut PoolSeatHandle) -> Figure
     ensures { TellsFigure handle.old.value handle.new.value result (λ party. party.number) }
 {
-    tell(handle, alloc, |seat| Figure::of(seat.party.number() as usize))
+    tell(
+        handle,
+        alloc,
+        |seat| Figure::of(seat.party.number() as usize),
+    )
 }
 
 /// How many buckets the pool has.
