@@ -5,7 +5,8 @@ use Rattle.bb_memory.specs.SharedBump.{BumpParty, load_entry, seen_by, with_entr
 use Rattle.bb_memory_c.specs.declared.answer.Figure.{Figure}
 use Rattle.bb_memory_c.specs.Answers.{figure_of, no_figure}
 use Rattle.bb_memory_c.specs.Codes.{done, malloc_refused, not_made, seats_out}
-use Rattle.bb_memory_c.specs.SharedBumps.{AreFreshOver, BumpSeats, left_at}
+use Rattle.bb_memory_c.specs.Seats.{left_at}
+use Rattle.bb_memory_c.specs.SharedBumps.{AreFreshOver, BumpSeats}
 
 -- a region, and at least one party
 pub record IsShareable (region : Region) (parties : ℕ) : Type 0 where
@@ -30,8 +31,8 @@ pub record TellsLoad (old new : Option BumpParty) (told : Figure) (figure : Bump
 
 -- The bump begins anew over its region with as many parties, where each has no seat and memory isn't refused.
 pub record BeginsAnew (old new : Option BumpSeats) (code : ℕ) : Type 0 where
-  pub begun : IfSome old (λ seats. code ≡ done → MakesSharedBump seats.bump.scene.region seats.bump.scene.parties new)
+  pub begun : IfSome old (λ seats. code ≡ done → MakesSharedBump seats.shared.scene.region seats.shared.scene.parties new)
   pub empty : (code ≡ not_made) ↔ (old ≡ None)
-  pub out : IfSome old (λ seats. (code ≡ seats_out) ↔ (left_at seats < seats.bump.scene.parties))
+  pub out : IfSome old (λ seats. (code ≡ seats_out) ↔ (left_at seats < seats.shared.scene.parties))
   pub else_memory : code ≢ done → code ≢ not_made → code ≢ seats_out → code ≡ malloc_refused
   pub kept : code ≢ done → new ≡ old

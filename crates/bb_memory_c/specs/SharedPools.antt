@@ -1,5 +1,5 @@
 -- A shared pool, the seats of its parties, and what a seat's calls are answered.
-use Rattle.std.specs.Prelude.{◌≡◌, ◌<◌, ◌≤◌, ◌↔◌, ◌∷◌, ◌++◌, [], ℕ, All, Bool, List, Result, Ok, Err, length}
+use Rattle.std.specs.Prelude.{◌≡◌, ◌≤◌, ◌↔◌, ℕ, All, Bool, List, Result, Ok, Err, length}
 use Rattle.bb_memory_base.specs.Region.{Region}
 use Rattle.bb_memory_base.specs.Chunk.{Chunk}
 use Rattle.bb_memory_base.specs.PoolGeometry.{IsCut, bucket_place}
@@ -7,26 +7,16 @@ use Rattle.bb_memory_base.specs.PoolHistory.{PoolLog}
 use Rattle.bb_memory_base.specs.PoolLogs.{IsHeldAfter}
 use Rattle.bb_memory_base.specs.declared.layout.Layout.{Layout}
 use Rattle.bb_memory_base.specs.declared.allocator.AllocationError.{AllocationError}
+use Rattle.bb_memory_c.specs.Seats.{IsOneOf, Seats}
 use Rattle.bb_memory.specs.NumberSet.{Has}
 use Rattle.bb_memory.specs.SharedPool.{AreFresh, MayTake, PoolParty, SharedPool, TakenBucket, chunk_of, return_entry, with_entries}
 
--- a shared pool, and those of its parties that have no seat, of which the last one gets the next seat
-pub record PoolSeats : Type 0 where
-  pub pool : SharedPool
-  pub parties : List PoolParty
-
--- how many these are
-abbrev pub left_at : PoolSeats → ℕ
-left_at seats = length seats.parties
-
--- the pool with this party behind those that have no seat
-abbrev pub joined : PoolSeats → PoolParty → PoolSeats
-joined seats party = record { pool = seats.pool; parties = seats.parties ++ party ∷ [] }
+abbrev pub PoolSeats : Type 0
+PoolSeats = Seats SharedPool PoolParty
 
 -- the party is this pool's, and not all parties of it are without a seat
-pub record IsAt (seats : PoolSeats) (party : PoolParty) : Type 0 where
-  pub theirs : party.allocator ≡ seats.pool
-  pub out : left_at seats < seats.pool.scene.parties
+abbrev pub IsAt : PoolSeats → PoolParty → Type 0
+IsAt seats party = IsOneOf seats party.allocator seats.shared.scene.parties
 
 -- the party holds some bucket
 abbrev pub HoldsSome : PoolParty → Type 0
@@ -55,8 +45,8 @@ pub record IsSeatAt (pool : SharedPool) (party : PoolParty) (flags : List Bool) 
 
 -- a pool over the region, cut into buckets of the layout, of so many parties, which all have no seat and have made no step
 pub record AreFreshOver (region : Region) (bucket : Layout) (count : ℕ) (seats : PoolSeats) : Type 0 where
-  pub cut : IsCut region bucket seats.pool.scene.geometry
-  pub parties : AreFresh seats.pool count seats.parties
+  pub cut : IsCut region bucket seats.shared.scene.geometry
+  pub parties : AreFresh seats.shared count seats.parties
 
 -- the party holds the bucket of this number, which is at this place
 pub record HoldsAt (party : PoolParty) (place number : ℕ) : Type 0 where

@@ -2,8 +2,9 @@
 ghost use Rattle.std.specs.Prelude.{◌≡◌, ◌<◌, ◌↔◌, IfSome, IsTrue};
 ghost use Rattle.bb_memory_base.specs.Region.{region_at};
 ghost use Rattle.bb_memory.specs.SharedBump.{MayTake};
+ghost use Rattle.bb_memory_c.specs.Seats.{joined, left_at};
 ghost use Rattle.bb_memory_c.specs.SharedBumpHandles.{IsShareable};
-ghost use Rattle.bb_memory_c.specs.SharedBumps.{AreFreshOver, IsAt, joined, left_at};
+ghost use Rattle.bb_memory_c.specs.SharedBumps.{AreFreshOver, IsAt};
 
 use crate::code;
 use crate::kind::{Gives, Shares};
@@ -65,7 +66,7 @@ impl Model for BumpSeats {
 
     ghost Value = { BumpSeats };
 
-    ghost view = { λ s. record { bump = arc_value s.bump; parties = s.parties.items } };
+    ghost view = { λ s. record { shared = arc_value s.bump; parties = s.parties.items } };
 
     ghost invariant = { λ s. AreUnseated (arc_value s.bump) s.count (vec_capacity s.parties)
         s.parties.items };
@@ -94,14 +95,15 @@ impl BumpSeats {
 
     /// Whether each party has no seat.
     pub(crate) fn are_all_back(&self) -> bool
-        ensures { IsTrue result ↔ ¬ (left_at self.now < self.now.bump.scene.parties) }
+        ensures { IsTrue result ↔ ¬ (left_at self.now < self.now.shared.scene.parties) }
     {
         self.parties.len() >= self.count as usize
     }
 
     /// A fresh bump over the same region, of as many parties. It is `None` where a request for memory was refused.
     pub(crate) fn anew(&self, alloc: Global) -> Option<BumpSeats>
-        ensures { IfSome result (AreFreshOver self.now.bump.scene.region self.now.bump.scene.parties) }
+        ensures { IfSome result (AreFreshOver self.now.shared.scene.region
+            self.now.shared.scene.parties) }
     {
         BumpSeats::new(
             alloc,

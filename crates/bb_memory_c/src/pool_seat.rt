@@ -4,7 +4,7 @@ ghost use Rattle.bb_memory_base.specs.Region.{region_at};
 ghost use Rattle.bb_memory_base.specs.PoolObject.{MayGrow, MayShrink};
 ghost use Rattle.bb_memory_c.specs.Layouts.{MayBeShared};
 ghost use Rattle.bb_memory_c.specs.SharedPools.{AreFreshOver, GivesBack, GivesChunk, HoldsAt, HoldsPlace, HoldsSome, IsAt};
-ghost use Rattle.bb_memory_c.specs.SharedPools.{joined, left_at};
+ghost use Rattle.bb_memory_c.specs.Seats.{joined, left_at};
 
 use crate::code;
 use crate::kind::{Gives, Keeps, Shares};
@@ -139,7 +139,7 @@ impl Model for PoolSeats {
 
     ghost Value = { PoolSeats };
 
-    ghost view = { λ s. record { pool = arc_value s.pool; parties = s.parties.items } };
+    ghost view = { λ s. record { shared = arc_value s.pool; parties = s.parties.items } };
 
     ghost invariant = { λ s. AreUnseated (arc_value s.pool) (vec_capacity s.parties) s.parties.items };
 }

@@ -3,8 +3,9 @@ ghost use Rattle.std.specs.Prelude.{◌-◌, Some};
 ghost use Rattle.bb_memory_base.specs.Region.{region_at};
 ghost use Rattle.bb_memory.specs.SharedBump.{MayTake};
 ghost use Rattle.bb_memory_c.specs.Calls.{AnswersFree, AnswersMake, AnswersRequest, GetsSeatBack, GivesSeat, IfBoth, TellsFigure};
+ghost use Rattle.bb_memory_c.specs.Seats.{joined, left_at};
 ghost use Rattle.bb_memory_c.specs.SharedBumpHandles.{BeginsAnew, IsShareable, MakesSharedBump, TellsLoad};
-ghost use Rattle.bb_memory_c.specs.SharedBumps.{IsAt, joined, left_at};
+ghost use Rattle.bb_memory_c.specs.SharedBumps.{IsAt};
 
 use crate::answer::{Answer, Figure};
 use crate::bump_seat::BumpSeats;

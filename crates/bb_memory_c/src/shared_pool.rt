@@ -6,7 +6,8 @@ ghost use Rattle.bb_memory_c.specs.Calls.{AnswersFree, AnswersGrow, AnswersPoolM
 ghost use Rattle.bb_memory_c.specs.Calls.{AnswersShrink, GetsSeatBack, GivesSeat, IfBoth, TellsFigure, TellsOfHeld};
 ghost use Rattle.bb_memory_c.specs.Calls.{TellsWhether, resize};
 ghost use Rattle.bb_memory_c.specs.Layouts.{HasRoom, MayBeShared};
-ghost use Rattle.bb_memory_c.specs.SharedPools.{GivesBack, GivesChunk, HoldsPlace, HoldsSome, IsAt, joined, left_at};
+ghost use Rattle.bb_memory_c.specs.Seats.{joined, left_at};
+ghost use Rattle.bb_memory_c.specs.SharedPools.{GivesBack, GivesChunk, HoldsPlace, HoldsSome, IsAt};
 ghost use Rattle.bb_memory_c.specs.SharedPoolHandles.{MakesSharedPool};
 
 use crate::answer::{Answer, Figure};
