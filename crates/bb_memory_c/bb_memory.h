@@ -7,9 +7,10 @@
 //   another one (some compilers only warn); no function tests it, so a caller who casts has to see to it.
 // - One call at a time has a handle. A getter takes the allocator out of its handle and puts it back, as each call does, so
 //   none takes a const one, and it must not run beside another call with the same handle: else the allocator is lost for
-//   good, or two threads use it at once. A call that takes two handles is passed two. A handle may go to another thread
-//   between two calls, if the threads order that by a lock or by a thread's start or join. Threads that call at once share
-//   by the shared forms alone, each through a seat of its own; any other handle they share under one lock.
+//   good, or two threads use it at once. A call that takes two handles is passed two; one that takes a seat back is passed
+//   a seat of what takes it. A handle may go to another thread between two calls, if the threads order that by a lock or by
+//   a thread's start or join. Threads that call at once share by the shared forms alone, each through a seat of its own; any
+//   other handle they share under one lock.
 // - No function is called from a signal handler, or in a child that a process of several threads forked. In a forked child
 //   handles are copies, so it uses none whose region both processes share.
 // - A region is the host's as long as chunks in it are used. No two allocators have a byte in common, but where the region
@@ -76,12 +77,14 @@ enum {
     BB_NOT_HELD = 9,             // no chunk that is out begins at the place; of a seat, no bucket that this seat holds
     BB_ALREADY_MADE = 10,        // the handle isn't empty
     BB_CANNOT_MAKE = 11,         // the region, the buckets or the parties can't be; each maker says when
-    BB_NO_SEAT = 12,             // each party has had its seat: a freed seat's party gets no other
+    BB_NO_SEAT = 12,             // each party has its seat, or had one that was freed: a freed seat's party gets no other
     BB_NOT_THE_OLD = 13,         // the place isn't a multiple of the old alignment, or more bytes are to be shrunk than reserved
-    BB_MALLOC_REFUSED = 14,      // of what takes memory alone: makers, and the calls that give a seat
+    BB_MALLOC_REFUSED = 14,      // of what takes memory alone: makers, the calls that give a seat, bb_shared_bump_begin_anew
     BB_MORE_THAN_RESERVED = 15,  // of a grow alone: the new size is greater than what is reserved for the chunk
     BB_NO_BUCKET = 16,           // of a pool's maker alone: the region has no room for one bucket
-    BB_LAST_CODE = BB_NO_BUCKET
+    BB_SEAT_HOLDS = 17,          // of bb_shared_pool_leave alone: the seat holds a bucket
+    BB_SEATS_OUT = 18,           // of bb_shared_bump_begin_anew alone: not each party's seat has come back
+    BB_LAST_CODE = BB_SEATS_OUT
 };
 
 // What a code says, for a log. Of a number that is no code it says that.
@@ -99,16 +102,18 @@ static inline const char *bb_text(uint32_t code) {
     case BB_NOT_HELD: return "nothing is held at the place";
     case BB_ALREADY_MADE: return "the handle is not empty";
     case BB_CANNOT_MAKE: return "the region, the buckets or the parties cannot be";
-    case BB_NO_SEAT: return "each party has had its seat";
+    case BB_NO_SEAT: return "no party is without a seat";
     case BB_NOT_THE_OLD: return "the chunk cannot have the old layout";
     case BB_MALLOC_REFUSED: return "malloc refused";
     case BB_MORE_THAN_RESERVED: return "the new size is greater than what is reserved";
     case BB_NO_BUCKET: return "the region has no room for one bucket";
+    case BB_SEAT_HOLDS: return "the seat holds a bucket";
+    case BB_SEATS_OUT: return "not each party's seat has come back";
     default: return "not a code of bb_memory";
     }
 }
 
-// Compilers warn where what a maker, a request or a resize answers isn't looked at.
+// Compilers warn where the answer of a call isn't looked at that gives something, or that may be refused with all handles made.
 #ifdef __GNUC__
 #define BB_MUST_USE __attribute__((warn_unused_result))
 #else
@@ -141,15 +146,16 @@ typedef struct bb_figure { uint32_t code; size_t number; } bb_figure;
 // Each kind has a function that frees what is behind its handle, which is empty then: `bb_pool_free(&pool)`. It answers
 // BB_NOT_MADE where the handle was empty already. The bytes of chunks that are out stay the host's. A shared bump or pool
 // stays as long as one of its handles does, a seat's or its own, in whichever order they are freed. The buckets of a freed
-// seat stay held for good.
+// seat stay held for good, and its party gets no other seat; that of a seat that came back does.
 
-// Only makers and the calls that give a seat take memory, outside the region, and keep it until the last handle is freed. They
-// ask `malloc` for at most so many bytes in all:
+// Only makers, the calls that give a seat and `bb_shared_bump_begin_anew` take memory, outside the region. A seat's is given
+// back when the seat comes back or is freed, and the rest when the last handle is freed. They ask `malloc` for at most so many
+// bytes in all:
 //
 //     bb_bump, bb_one_chunk    64
 //     bb_pool                  256, and 16 for each 64 buckets
 //     bb_fixed_pool            4096
-//     bb_shared_bump           256, and 16 for each party; 64 for each seat
+//     bb_shared_bump           256, and 16 for each party; as many to begin anew, before it frees those; 64 for each seat
 //     bb_shared_pool           512, and 16 for each bucket and each party; 128 for each seat, and 1 for each bucket
 
 // A bump gives one chunk after another, and takes all of them back at once.
@@ -270,15 +276,24 @@ bb_figure bb_fixed_pool_size(bb_fixed_pool *);
 
 // A bump that threads share. It is made for some number of parties; `bb_shared_bump_seat` gives the last party without a
 // seat one, behind a handle of its own. Each thread that allocates has a seat, and no call waits for another. What a seat does
-// is named for the seat. It takes nothing back: to begin anew, free all its handles and make another.
+// is named for the seat. A seat that came back can be given anew. Chunks go back all at once: when each seat has come back, the
+// bump can begin anew.
 
 // Over the region of `size` bytes at `start`. BB_CANNOT_MAKE where the start is 0, start plus size exceeds SIZE_MAX, or
-// there is no party. No call but the maker and `bb_shared_bump_seat` takes memory.
+// there is no party.
 BB_MUST_USE uint32_t bb_shared_bump_make(bb_shared_bump *, bb_address start, size_t size, uint32_t parties);
 uint32_t bb_shared_bump_free(bb_shared_bump *);
 // BB_ALREADY_MADE where the seat isn't empty, then BB_NOT_MADE, then BB_NO_SEAT. Two handles; it is no call of a seat, so
 // one thread at a time makes it.
 BB_MUST_USE uint32_t bb_shared_bump_seat(bb_shared_bump *, bb_bump_seat *);
+// The seat comes back to its bump, and its handle is empty then: its party is the last one without a seat, so it gets the next
+// one. The chunks that it took stay used. BB_NOT_MADE where one of the handles is empty. Two handles, and a seat of this bump,
+// which nothing tests; as above one thread at a time makes the call. It takes no memory.
+uint32_t bb_shared_bump_leave(bb_shared_bump *, bb_bump_seat *);
+// The bump begins anew over its region, with as many parties, none of which has a seat: nothing is used. So the host uses no
+// chunk that was given before. BB_NOT_MADE; then BB_SEATS_OUT where not each party's seat has come back, which is for good where
+// one was freed; then BB_MALLOC_REFUSED. Refused, the bump is as it was.
+BB_MUST_USE uint32_t bb_shared_bump_begin_anew(bb_shared_bump *);
 uint32_t bb_bump_seat_free(bb_bump_seat *);
 // A chunk of exactly `size` bytes at the least multiple of `align` behind what is used.
 BB_MUST_USE bb_answer bb_bump_seat_allocate(bb_bump_seat *, size_t size, size_t align);
@@ -295,13 +310,15 @@ bb_figure bb_bump_seat_party(bb_bump_seat *);
 // see that in the built library: tell it by `__tsan_release` before a return and `__tsan_acquire` after a taking, as
 // examples/c/threads.c does.
 
-// BB_CANNOT_MAKE and BB_NO_BUCKET as of `bb_pool_make`; the first also where there is no party. No call but the maker and
-// `bb_shared_pool_seat` takes memory.
+// BB_CANNOT_MAKE and BB_NO_BUCKET as of `bb_pool_make`; the first also where there is no party.
 BB_MUST_USE uint32_t bb_shared_pool_make(bb_shared_pool *, size_t bucket_size, size_t bucket_align, bb_address start, size_t size,
                                          uint32_t parties);
 uint32_t bb_shared_pool_free(bb_shared_pool *);
 // As of the shared bump.
 BB_MUST_USE uint32_t bb_shared_pool_seat(bb_shared_pool *, bb_pool_seat *);
+// As of the shared bump, of a seat that holds nothing. Behind BB_NOT_MADE comes BB_SEAT_HOLDS where it holds a bucket: it gives
+// back each of them first. Refused, the seat is as it was.
+BB_MUST_USE uint32_t bb_shared_pool_leave(bb_shared_pool *, bb_pool_seat *);
 uint32_t bb_pool_seat_free(bb_pool_seat *);
 // A chunk of `size` bytes in a bucket that isn't held, found by one round over the buckets. It begins where the seat has been last,
 // and at first in a part of the pool that is its party's own, so what other seats hold elsewhere costs it nothing. BB_OUT_OF_MEMORY

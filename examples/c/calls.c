@@ -374,6 +374,58 @@ static void run_makers(void) {
         EXPECT(bb_bump_seat_free(&bump_seats[at]) == BB_DONE && bb_pool_seat_free(&pool_seats[at]) == BB_DONE);
 }
 
+// A seat that came back is given anew, and a bump whose seats have all come back begins anew.
+static void run_begin_anew(void) {
+    bb_shared_bump bump = BB_EMPTY;
+    bb_bump_seat one = BB_EMPTY, other = BB_EMPTY;
+    EXPECT(bb_shared_bump_begin_anew(&bump) == BB_NOT_MADE && bb_shared_bump_leave(&bump, &one) == BB_NOT_MADE);
+    EXPECT(bb_shared_bump_make(&bump, 4096, 64, 2) == BB_DONE && bb_shared_bump_leave(&bump, &one) == BB_NOT_MADE);
+    EXPECT(bb_shared_bump_seat(&bump, &one) == BB_DONE && bb_shared_bump_seat(&bump, &other) == BB_DONE);
+    EXPECT(given(bb_bump_seat_allocate(&one, 40, 8), 4096, 40) && given(bb_bump_seat_allocate(&other, 24, 8), 4136, 24));
+    EXPECT(refused(bb_bump_seat_allocate(&one, 1, 1), BB_OUT_OF_MEMORY) && bb_shared_bump_begin_anew(&bump) == BB_SEATS_OUT);
+    // The party that came back last gets the next seat, and what it took stays used.
+    requests = 0;
+    EXPECT(bb_shared_bump_leave(&bump, &one) == BB_DONE && bb_shared_bump_leave(&bump, &one) == BB_NOT_MADE);
+    EXPECT(bb_shared_bump_begin_anew(&bump) == BB_SEATS_OUT && requests == 0);
+    EXPECT(bb_shared_bump_seat(&bump, &one) == BB_DONE && is(bb_bump_seat_party(&one), 1) && is(bb_bump_seat_used_space(&one), 64));
+    EXPECT(bb_shared_bump_leave(&bump, &one) == BB_DONE && bb_shared_bump_leave(&bump, &other) == BB_DONE);
+    EXPECT(bb_bump_seat_free(&one) == BB_NOT_MADE && bb_bump_seat_free(&other) == BB_NOT_MADE);
+    WITH_EACH_REFUSED(bb_bump_seat_free(&one), bb_shared_bump_begin_anew(&bump));
+    EXPECT(bb_shared_bump_seat(&bump, &one) == BB_DONE && bb_shared_bump_seat(&bump, &other) == BB_DONE);
+    EXPECT(is(bb_bump_seat_party(&one), 1) && is(bb_bump_seat_party(&other), 0) && is(bb_bump_seat_used_space(&one), 0));
+    EXPECT(is(bb_bump_seat_start_address(&one), 4096) && given(bb_bump_seat_allocate(&other, 64, 8), 4096, 64));
+    for (size_t round = 0; round < 1000; round++) {
+        EXPECT(bb_shared_bump_leave(&bump, &one) == BB_DONE && bb_shared_bump_leave(&bump, &other) == BB_DONE);
+        WITHIN(256 + 16 * 2, bb_shared_bump_begin_anew(&bump));
+        EXPECT(bb_shared_bump_seat(&bump, &one) == BB_DONE && bb_shared_bump_seat(&bump, &other) == BB_DONE);
+        EXPECT(given(bb_bump_seat_allocate(&one, 48, 8), 4096, 48) && given(bb_bump_seat_allocate(&other, 16, 8), 4144, 16));
+    }
+    // A freed seat doesn't come back.
+    EXPECT(bb_bump_seat_free(&one) == BB_DONE && bb_shared_bump_leave(&bump, &other) == BB_DONE);
+    EXPECT(bb_shared_bump_begin_anew(&bump) == BB_SEATS_OUT && bb_shared_bump_free(&bump) == BB_DONE);
+}
+
+// A seat at a pool comes back when it holds nothing, and its party gets the next seat.
+static void run_seats_come_and_go(void) {
+    bb_shared_pool pool = BB_EMPTY;
+    bb_pool_seat one = BB_EMPTY, other = BB_EMPTY;
+    EXPECT(bb_shared_pool_leave(&pool, &one) == BB_NOT_MADE && bb_shared_pool_make(&pool, 64, 8, 4096, 128, 1) == BB_DONE);
+    EXPECT(bb_shared_pool_seat(&pool, &one) == BB_DONE && bb_shared_pool_seat(&pool, &other) == BB_NO_SEAT);
+    for (size_t round = 0; round < 1000; round++) {
+        bb_answer first = bb_pool_seat_allocate(&one, 64, 8), second = bb_pool_seat_allocate(&one, 48, 8);
+        EXPECT(first.code == BB_DONE && second.code == BB_DONE && bb_pool_seat_allocate(&one, 1, 1).code == BB_OUT_OF_MEMORY);
+        requests = 0;
+        EXPECT(bb_shared_pool_leave(&pool, &one) == BB_SEAT_HOLDS && bb_pool_seat_deallocate(&one, first.place) == BB_DONE);
+        EXPECT(bb_shared_pool_leave(&pool, &one) == BB_SEAT_HOLDS && is(bb_pool_seat_holds(&one, second.place), 1));
+        EXPECT(bb_pool_seat_deallocate(&one, second.place) == BB_DONE && bb_shared_pool_leave(&pool, &one) == BB_DONE);
+        EXPECT(requests == 0 && bb_shared_pool_leave(&pool, &one) == BB_NOT_MADE && bb_pool_seat_free(&one) == BB_NOT_MADE);
+        WITHIN(128 + 2, bb_shared_pool_seat(&pool, &one));
+        EXPECT(is(bb_pool_seat_party(&one), 0) && is(bb_pool_seat_holds(&one, first.place), 0));
+    }
+    EXPECT(bb_shared_pool_free(&pool) == BB_DONE && bb_shared_pool_leave(&pool, &one) == BB_NOT_MADE);
+    EXPECT(bb_pool_seat_free(&one) == BB_DONE);
+}
+
 int main(void) {
     run_version();
     run_texts();
@@ -390,6 +442,8 @@ int main(void) {
     run_large();
     run_many_seats();
     run_makers();
+    run_begin_anew();
+    run_seats_come_and_go();
     puts("calls: each is answered as it has to be");
     return 0;
 }

@@ -106,8 +106,18 @@ error! {
 error! {
     /// Why no seat was given.
     SeatError {
-        /// Each party has had its seat: that of a dropped seat gets no other.
-        NoSeat = NO_SEAT: "each party has had its seat",
+        /// Each party has its seat, or had one that was dropped: that of a dropped seat gets no other.
+        NoSeat = NO_SEAT: "no party is without a seat",
+        /// `malloc` refused.
+        MallocRefused = MALLOC_REFUSED: "malloc refused",
+    }
+}
+
+error! {
+    /// Why a bump that threads share didn't begin anew. It is as it was.
+    BeginError {
+        /// Not each party's seat has come back; for good where one was dropped.
+        SeatsOut = SEATS_OUT: "not each party's seat has come back",
         /// `malloc` refused.
         MallocRefused = MALLOC_REFUSED: "malloc refused",
     }

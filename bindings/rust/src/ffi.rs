@@ -45,6 +45,8 @@ pub const NOT_THE_OLD: u32 = 13;
 pub const MALLOC_REFUSED: u32 = 14;
 pub const MORE_THAN_RESERVED: u32 = 15;
 pub const NO_BUCKET: u32 = 16;
+pub const SEAT_HOLDS: u32 = 17;
+pub const SEATS_OUT: u32 = 18;
 
 /// Frees what is behind a handle.
 pub type Free = unsafe extern "C" fn(*mut Handle) -> u32;
@@ -55,6 +57,8 @@ pub type Deallocate = unsafe extern "C" fn(*mut Handle, *const c_void) -> u32;
 /// Resizes the chunk at this place, of this old size and alignment, to these new ones.
 pub type Resize =
     unsafe extern "C" fn(*mut Handle, *const c_void, usize, usize, usize, usize) -> Answer;
+/// Gives a seat of what threads share, behind the second handle, or takes it back.
+pub type Seats = unsafe extern "C" fn(*mut Handle, *mut Handle) -> u32;
 /// Tells a number.
 pub type Tell = unsafe extern "C" fn(*mut Handle) -> Figure;
 /// Tells a number of the chunk at this place.
@@ -104,6 +108,8 @@ unsafe extern "C" {
     ) -> u32;
     pub fn bb_shared_bump_free(handle: *mut Handle) -> u32;
     pub fn bb_shared_bump_seat(handle: *mut Handle, seat: *mut Handle) -> u32;
+    pub fn bb_shared_bump_leave(handle: *mut Handle, seat: *mut Handle) -> u32;
+    pub fn bb_shared_bump_begin_anew(handle: *mut Handle) -> u32;
     pub fn bb_bump_seat_free(handle: *mut Handle) -> u32;
     pub fn bb_bump_seat_allocate(handle: *mut Handle, size: usize, align: usize) -> Answer;
     pub fn bb_bump_seat_used_space(handle: *mut Handle) -> Figure;
@@ -122,6 +128,7 @@ unsafe extern "C" {
     ) -> u32;
     pub fn bb_shared_pool_free(handle: *mut Handle) -> u32;
     pub fn bb_shared_pool_seat(handle: *mut Handle, seat: *mut Handle) -> u32;
+    pub fn bb_shared_pool_leave(handle: *mut Handle, seat: *mut Handle) -> u32;
     pub fn bb_pool_seat_party(handle: *mut Handle) -> Figure;
 
     pub fn bb_pool_make(

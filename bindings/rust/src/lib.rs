@@ -15,8 +15,8 @@ mod shared_pool;
 pub use allocator::{Allocator, BaseAllocator};
 pub use bump::BumpAllocator;
 pub use error::{
-    AllocationError, AllocationGrowError, AllocationShrinkError, DeallocationError, MakeError,
-    SeatError,
+    AllocationError, AllocationGrowError, AllocationShrinkError, BeginError, DeallocationError,
+    MakeError, SeatError,
 };
 pub use one_chunk::OneChunkAllocator;
 pub use pool::{BucketPool, FixedSizePoolAllocator, PoolAllocator};

@@ -1,6 +1,7 @@
 //! What the library made, behind a handle that this crate owns: what `bb_memory.h` asks of a caller is kept here.
 use crate::error::{
-    AllocationError, AllocationGrowError, AllocationShrinkError, DeallocationError, no_such_answer,
+    AllocationError, AllocationGrowError, AllocationShrinkError, DeallocationError, SeatError,
+    no_such_answer,
 };
 use crate::ffi::{self, Handle};
 use core::alloc::Layout;
@@ -9,6 +10,7 @@ use core::ffi::c_void;
 use core::fmt;
 use core::marker::PhantomData;
 use core::ptr::NonNull;
+use core::sync::atomic::{AtomicUsize, Ordering};
 
 /// A kind of handle.
 ///
@@ -41,11 +43,24 @@ pub unsafe trait Keeps: Gives {
     const HOLDS: ffi::TellAt;
 }
 
+/// A kind that threads share through seats.
+///
+/// # Safety
+///
+/// As of [`Kind`]: the functions give a seat of this kind of seat, and take it back.
+pub unsafe trait Shared: Kind {
+    type Seat: Kind;
+    const SEAT: ffi::Seats;
+    const LEAVE: ffi::Seats;
+}
+
 /// A handle of this kind, which isn't empty, and where its region starts. Each call writes the handle, so no two threads may
-/// make one at once: the cell makes it `!Sync`. What is behind it belongs to no thread.
+/// make one at once: the cell makes it `!Sync`. What is behind it belongs to no thread. What was made has a number of its own,
+/// which its seats have, too.
 pub struct Owned<K: Kind> {
     handle: UnsafeCell<Handle>,
     start: NonNull<u8>,
+    number: usize,
     kind: PhantomData<K>,
 }
 
@@ -62,11 +77,13 @@ impl<K: Kind> Owned<K> {
         start: NonNull<u8>,
         make: impl FnOnce(*mut Handle, *const c_void) -> u32,
     ) -> Result<Self, u32> {
+        static MADE: AtomicUsize = AtomicUsize::new(0);
         let mut handle = Handle::EMPTY;
         match make(&mut handle, start.as_ptr().cast()) {
             ffi::DONE => Ok(Owned {
                 handle: UnsafeCell::new(handle),
                 start,
+                number: MADE.fetch_add(1, Ordering::Relaxed),
                 kind: PhantomData,
             }),
             code => Err(code),
@@ -188,6 +205,33 @@ impl<K: Keeps> Owned<K> {
     }
 }
 
+impl<K: Shared> Owned<K> {
+    pub fn seat(&self) -> Result<Owned<K::Seat>, SeatError> {
+        let mut seat = Handle::EMPTY;
+        // SAFETY: the function is of this kind, no other call has one of the handles, and they are two.
+        match unsafe { K::SEAT(self.handle(), &mut seat) } {
+            ffi::DONE => Ok(Owned {
+                handle: UnsafeCell::new(seat),
+                start: self.start,
+                number: self.number,
+                kind: PhantomData,
+            }),
+            code => Err(SeatError::of(code)),
+        }
+    }
+
+    /// Takes the seat back, or hands it back where it holds a bucket. It panics where the seat is at another one.
+    pub fn leave(&self, seat: Owned<K::Seat>) -> Result<(), Owned<K::Seat>> {
+        assert_eq!(self.number, seat.number, "the seat is at another allocator");
+        // SAFETY: as of `seat`; and the seat is this one's.
+        match unsafe { K::LEAVE(self.handle(), seat.handle()) } {
+            ffi::DONE => Ok(()),
+            ffi::SEAT_HOLDS => Err(seat),
+            code => no_such_answer(code),
+        }
+    }
+}
+
 impl<K: Kind> fmt::Debug for Owned<K> {
     fn fmt(&self, f: &mut fmt::Formatter<'_>) -> fmt::Result {
         f.debug_struct("Owned")
@@ -198,7 +242,7 @@ impl<K: Kind> fmt::Debug for Owned<K> {
 
 impl<K: Kind> Drop for Owned<K> {
     fn drop(&mut self) {
-        // SAFETY: the function is of this kind, and the handle isn't used again.
+        // SAFETY: the function is of this kind, and the handle isn't used again. Of a seat that came back it is empty.
         unsafe { K::FREE(self.handle.get_mut()) };
     }
 }

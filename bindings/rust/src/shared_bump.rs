@@ -1,7 +1,7 @@
 //! A bump that threads share.
-use crate::error::{AllocationError, MakeError, SeatError};
-use crate::ffi::{self, Handle};
-use crate::owned::{Gives, Kind, Owned};
+use crate::error::{AllocationError, BeginError, MakeError, SeatError};
+use crate::ffi;
+use crate::owned::{Gives, Kind, Owned, Shared};
 use core::alloc::Layout;
 use core::marker::PhantomData;
 use core::mem::MaybeUninit;
@@ -12,6 +12,13 @@ enum SharedBump {}
 // SAFETY: it is a function of `bb_shared_bump`.
 unsafe impl Kind for SharedBump {
     const FREE: ffi::Free = ffi::bb_shared_bump_free;
+}
+
+// SAFETY: both are functions of `bb_shared_bump`, and of `bb_bump_seat`.
+unsafe impl Shared for SharedBump {
+    type Seat = Seat;
+    const SEAT: ffi::Seats = ffi::bb_shared_bump_seat;
+    const LEAVE: ffi::Seats = ffi::bb_shared_bump_leave;
 }
 
 enum Seat {}
@@ -27,7 +34,8 @@ unsafe impl Gives for Seat {
 }
 
 /// A bump that threads share: it is made for some number of parties, each of which can have a seat. No call of a seat waits for
-/// another's. It takes nothing back: to begin anew, drop it with its seats, and make another.
+/// another's. A seat that came back ([`leave`](SharedBumpAllocator::leave)) can be given anew. Chunks go back all at once: when
+/// each seat has come back, the bump can [begin anew](SharedBumpAllocator::begin_anew).
 ///
 /// ```
 /// use bb_memory::SharedBumpAllocator;
@@ -75,19 +83,36 @@ impl<'region> SharedBumpAllocator<'region> {
         })
     }
 
-    /// A seat for the last party that had none. The bump stays as long as it or one of its seats does.
+    /// A seat for the last party that has none. The bump stays as long as it or one of its seats does.
     pub fn seat(&self) -> Result<BumpSeat<'region>, SeatError> {
-        let bump: *mut Handle = self.owned.handle();
-        // SAFETY: the function is of this kind, makes a seat, and is handed two handles.
-        let made = unsafe {
-            Owned::made(self.owned.start(), |it, _| {
-                ffi::bb_shared_bump_seat(bump, it)
-            })
-        };
         Ok(BumpSeat {
-            owned: made.map_err(SeatError::of)?,
+            owned: self.owned.seat()?,
             region: PhantomData,
         })
+    }
+
+    /// Takes a seat of this bump back: its party is the last one without a seat, so it gets the next one. The chunks that it took
+    /// stay used.
+    ///
+    /// # Panics
+    ///
+    /// Where the seat is at another bump.
+    pub fn leave(&self, seat: BumpSeat<'region>) {
+        let left = self.owned.leave(seat.owned);
+        debug_assert!(left.is_ok(), "a seat at a bump holds no bucket");
+    }
+
+    /// Begins anew over the region, with as many parties: nothing is used. Each party's seat has to have come back.
+    ///
+    /// # Safety
+    ///
+    /// No chunk is used that was given before.
+    pub unsafe fn begin_anew(&self) -> Result<(), BeginError> {
+        // SAFETY: the function is of this kind, and no other call has the handle.
+        match unsafe { ffi::bb_shared_bump_begin_anew(self.owned.handle()) } {
+            ffi::DONE => Ok(()),
+            code => Err(BeginError::of(code)),
+        }
     }
 }
 

@@ -1,7 +1,7 @@
 //! A pool that threads share.
 use crate::error::{MakeError, SeatError};
-use crate::ffi::{self, Handle};
-use crate::owned::{Gives, Keeps, Kind, Owned};
+use crate::ffi;
+use crate::owned::{Gives, Keeps, Kind, Owned, Shared};
 use crate::pool::{BucketPool, PoolKind};
 use core::alloc::Layout;
 use core::marker::PhantomData;
@@ -13,6 +13,13 @@ enum SharedPool {}
 // SAFETY: it is a function of `bb_shared_pool`.
 unsafe impl Kind for SharedPool {
     const FREE: ffi::Free = ffi::bb_shared_pool_free;
+}
+
+// SAFETY: both are functions of `bb_shared_pool`, and of `bb_pool_seat`.
+unsafe impl Shared for SharedPool {
+    type Seat = Seat;
+    const SEAT: ffi::Seats = ffi::bb_shared_pool_seat;
+    const LEAVE: ffi::Seats = ffi::bb_shared_pool_leave;
 }
 
 /// The kind of [`PoolSeat`].
@@ -47,7 +54,7 @@ unsafe impl PoolKind for Seat {
 }
 
 /// A pool that threads share: it is made for some number of parties, each of which can have a seat. No call of a seat waits for
-/// another's.
+/// another's. A seat that came back ([`leave`](SharedPoolAllocator::leave)) can be given anew.
 ///
 /// ```
 /// use bb_memory::{BaseAllocator, SharedPoolAllocator};
@@ -113,17 +120,23 @@ impl<'region> SharedPoolAllocator<'region> {
         })
     }
 
-    /// A seat for the last party that had none. The pool stays as long as it or one of its seats does.
+    /// A seat for the last party that has none. The pool stays as long as it or one of its seats does.
     pub fn seat(&self) -> Result<PoolSeat<'region>, SeatError> {
-        let pool: *mut Handle = self.owned.handle();
-        // SAFETY: the function is of this kind, makes a seat, and is handed two handles.
-        let made = unsafe {
-            Owned::made(self.owned.start(), |it, _| {
-                ffi::bb_shared_pool_seat(pool, it)
-            })
-        };
         Ok(BucketPool {
-            owned: made.map_err(SeatError::of)?,
+            owned: self.owned.seat()?,
+            region: PhantomData,
+        })
+    }
+
+    /// Takes a seat of this pool back, which holds nothing: its party is the last one without a seat, so it gets the next one. A
+    /// seat that holds a bucket is handed back as it was.
+    ///
+    /// # Panics
+    ///
+    /// Where the seat is at another pool.
+    pub fn leave(&self, seat: PoolSeat<'region>) -> Result<(), PoolSeat<'region>> {
+        self.owned.leave(seat.owned).map_err(|owned| BucketPool {
+            owned,
             region: PhantomData,
         })
     }

@@ -1,7 +1,7 @@
 //! What threads share: each has a seat, which it takes along.
 use bb_memory::{
-    AllocationError, BaseAllocator, BumpSeat, DeallocationError, MakeError, PoolSeat, SeatError,
-    SharedBumpAllocator, SharedPoolAllocator,
+    AllocationError, BaseAllocator, BeginError, BumpSeat, DeallocationError, MakeError, PoolSeat,
+    SeatError, SharedBumpAllocator, SharedPoolAllocator,
 };
 use std::alloc::Layout;
 use std::ptr::NonNull;
@@ -109,6 +109,51 @@ fn every_byte_of_a_shared_bump_is_given_once() {
             .sum()
     });
     assert_eq!(given, 80_000);
+}
+
+#[test]
+fn a_shared_bump_begins_anew_when_each_seat_has_come_back() {
+    let mut region = Box::new_uninit_slice(64);
+    let bump = SharedBumpAllocator::over(&mut region, 2).unwrap();
+    let (one, other) = (bump.seat().unwrap(), bump.seat().unwrap());
+    assert!(one.allocate(Layout::new::<[u8; 64]>()).is_ok());
+    assert_eq!(other.free_space(), 0);
+    // SAFETY: no chunk is used, here and below.
+    assert_eq!(unsafe { bump.begin_anew() }, Err(BeginError::SeatsOut));
+    bump.leave(other);
+    assert_eq!(unsafe { bump.begin_anew() }, Err(BeginError::SeatsOut));
+    bump.leave(one);
+    assert_eq!(unsafe { bump.begin_anew() }, Ok(()));
+    let seat = bump.seat().unwrap();
+    assert_eq!((seat.party(), seat.used_space()), (1, 0));
+    assert!(seat.allocate(Layout::new::<[u8; 64]>()).is_ok());
+    // A dropped seat doesn't come back.
+    drop(seat);
+    assert_eq!(unsafe { bump.begin_anew() }, Err(BeginError::SeatsOut));
+}
+
+#[test]
+fn a_seat_at_a_pool_comes_back_when_it_holds_nothing() {
+    let mut region = Box::new_uninit_slice(64 * 2);
+    let pool = SharedPoolAllocator::over(bucket(), &mut region, 1).unwrap();
+    let seat = pool.seat().unwrap();
+    let chunk = seat.allocate(bucket()).unwrap().cast::<u8>();
+    let seat = pool.leave(seat).unwrap_err();
+    assert!(seat.holds(chunk));
+    // SAFETY: the bucket isn't used.
+    assert_eq!(unsafe { seat.try_deallocate(chunk) }, Ok(()));
+    assert!(pool.leave(seat).is_ok());
+    assert_eq!(pool.seat().unwrap().party(), 0);
+    assert_eq!(pool.seat().err(), Some(SeatError::NoSeat));
+}
+
+#[test]
+#[should_panic(expected = "the seat is at another allocator")]
+fn a_seat_does_not_go_back_to_another_pool() {
+    let (mut mine, mut other) = (Box::new_uninit_slice(64), Box::new_uninit_slice(64));
+    let mine = SharedPoolAllocator::over(bucket(), &mut mine, 1).unwrap();
+    let other = SharedPoolAllocator::over(bucket(), &mut other, 1).unwrap();
+    let _ = mine.leave(other.seat().unwrap());
 }
 
 #[test]

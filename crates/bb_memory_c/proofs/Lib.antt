@@ -1,4 +1,3 @@
-pub mod Unseated
 pub mod Values
 pub mod Holds
 pub mod Passing

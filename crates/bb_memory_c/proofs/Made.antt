@@ -1,6 +1,20 @@
--- What is behind a handle.
-use Rattle.std.proofs.Common.{◌≡◌, Option, Some, IfSome, sym, subst}
+-- What is behind a handle, and what is told of it.
+use Rattle.std.proofs.Common.{◌≡◌, Option, Some, None, IfSome, sym, subst}
+use Rattle.bb_memory_base.specs.declared.layout.Layout.{Layout}
+use Rattle.bb_memory_c.specs.declared.answer.Answer.{Answer}
+use Rattle.bb_memory_c.specs.Answers.{TellsOfLayouts, refused}
+use Rattle.bb_memory_c.specs.Codes.{not_a_layout}
 
 -- what holds of what is there
 pub at_made : {X : Type 0} (P : X → Type 0) (old : Option X) (made : X) → old ≡ Some made → P made → IfSome old P
 at_made P old made is holds = subst (λ o. IfSome o P) (sym is) holds
+
+-- what is told of the two layouts that numbers made
+pub is_told : (layouts : Option (Layout × Layout)) (told : Answer) (tells : Layout → Layout → Type 0) (two : Layout × Layout) →
+    layouts ≡ Some two → TellsOfLayouts layouts told tells → tells two.0 two.1
+is_told layouts told tells two is tell = subst (λ l. TellsOfLayouts l told tells) is tell
+
+-- and of none
+pub is_told_none : (layouts : Option (Layout × Layout)) (told : Answer) (tells : Layout → Layout → Type 0) →
+    layouts ≡ None → TellsOfLayouts layouts told tells → told ≡ refused not_a_layout
+is_told_none layouts told tells is tell = subst (λ l. TellsOfLayouts l told tells) is tell

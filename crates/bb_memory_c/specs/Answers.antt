@@ -1,5 +1,5 @@
 -- What C sees of an answer.
-use Rattle.std.specs.Prelude.{◌≡◌, ◌≢◌, ◌≤◌, ◌%◌, ℕ, Result, Ok, Err}
+use Rattle.std.specs.Prelude.{◌≡◌, ◌≤◌, ◌%◌, ℕ, Option, Some, None, Result, Ok, Err}
 use Rattle.bb_memory_base.specs.Chunk.{Chunk}
 use Rattle.bb_memory_base.specs.declared.layout.Layout.{Layout}
 use Rattle.bb_memory_base.specs.declared.allocator.AllocationError.{AllocationError}
@@ -10,7 +10,7 @@ use Rattle.bb_memory_base.specs.declared.allocator.AllocationGrowError.{Allocati
 use Rattle.bb_memory_base.specs.declared.allocator.AllocationGrowError.TheVariants as grow
 use Rattle.bb_memory_base.specs.declared.allocator.AllocationShrinkError.{AllocationShrinkError}
 use Rattle.bb_memory_base.specs.declared.allocator.AllocationShrinkError.TheVariants as shrink
-use Rattle.bb_memory_c.specs.Codes.{done, size_is_zero, size_too_large, alignment_failure, out_of_memory, grow_would_shrink, more_than_reserved, shrink_would_grow, not_held, not_the_old}
+use Rattle.bb_memory_c.specs.Codes.{done, size_is_zero, size_too_large, alignment_failure, out_of_memory, grow_would_shrink, more_than_reserved, shrink_would_grow, not_a_layout, not_held, not_the_old}
 
 -- nothing was given, by this code
 abbrev pub refused : ℕ → Answer
@@ -56,24 +56,39 @@ abbrev pub shrink_answer : Result Chunk AllocationShrinkError → Answer
 shrink_answer (Ok chunk) = record { code = done; place = chunk.place; len = chunk.len }
 shrink_answer (Err error) = refused (shrink_code error)
 
--- the old size is at most what is reserved, and the place a multiple of the old alignment
-pub record FitsOld (place reserved : ℕ) (old : Layout) : Type 0 where
+-- a chunk is held at the place, which is a multiple of its old alignment
+pub record MayGrowAt (held : Type 0) (place : ℕ) (old : Layout) : Type 0 where
+  pub is_held : held
+  pub aligned : place % old.align ≡ 0
+
+-- and the old size is at most what is reserved for it
+pub record MayShrinkAt (held : Type 0) (place reserved : ℕ) (old : Layout) : Type 0 where
+  pub is_held : held
   pub aligned : place % old.align ≡ 0
   pub short : old.size ≤ reserved
 
--- What C is told where the chunk at a place is to grow: what may be answered, where a chunk is held there and its place is a
--- multiple of the old alignment.
+-- What C is told where the chunk at a place is to grow: what may be answered, where it may.
 pub record TellsGrow (held : Type 0) (place : ℕ) (old : Layout)
     (may : Result Chunk AllocationGrowError → Type 0) (told : Answer) : Type 0 where
-  pub answered : held → place % old.align ≡ 0
+  pub answered : MayGrowAt held place old
       → (answer : Result Chunk AllocationGrowError) × (told ≡ grow_answer answer) × may answer
-  pub misfit : held → place % old.align ≢ 0 → told ≡ refused not_the_old
+  pub misfit : held → ¬ MayGrowAt held place old → told ≡ refused not_the_old
   pub nothing : ¬ held → told ≡ refused not_held
 
--- The same where it is to shrink, and where the old size is also at most what is reserved.
+-- The same where it is to shrink.
 pub record TellsShrink (held : Type 0) (place reserved : ℕ) (old : Layout)
     (may : Result Chunk AllocationShrinkError → Type 0) (told : Answer) : Type 0 where
-  pub answered : held → FitsOld place reserved old
+  pub answered : MayShrinkAt held place reserved old
       → (answer : Result Chunk AllocationShrinkError) × (told ≡ shrink_answer answer) × may answer
-  pub misfit : held → ¬ FitsOld place reserved old → told ≡ refused not_the_old
+  pub misfit : held → ¬ MayShrinkAt held place reserved old → told ≡ refused not_the_old
   pub nothing : ¬ held → told ≡ refused not_held
+
+-- this is answered, and all stays
+pub record AnswersStill {X : Type 0} (old new : X) (answered : Type 0) : Type 0 where
+  pub answer : answered
+  pub still : new ≡ old
+
+-- what C is told of two layouts, where numbers made them, and else that they make none
+abbrev pub TellsOfLayouts : Option (Layout × Layout) → Answer → (Layout → Layout → Type 0) → Type 0
+TellsOfLayouts (Some layouts) told tells = tells layouts.0 layouts.1
+TellsOfLayouts None told tells = told ≡ refused not_a_layout

@@ -1,6 +1,6 @@
 -- What a call of a handle promises. `old` and `new` are what is behind the handle before and after the call, and `told` is what
 -- C is told; behind an empty handle is `None`.
-use Rattle.std.specs.Prelude.{◌≡◌, ◌≢◌, ◌+◌, ◌↔◌, ℕ, Option, Some, None, Result, Err, IfSome, IfOk, IfErr}
+use Rattle.std.specs.Prelude.{◌≡◌, ◌≢◌, ◌↔◌, ◌⊎◌, ℕ, Option, Some, None, Result, Err, IfSome, IfOk, IfErr, OnErr}
 use Rattle.std.specs.Align.{IsLayout}
 use Rattle.bb_memory_base.specs.Chunk.{Chunk}
 use Rattle.bb_memory_base.specs.declared.layout.Layout.{Layout}
@@ -10,7 +10,7 @@ use Rattle.bb_memory_base.specs.declared.allocator.AllocationShrinkError.{Alloca
 use Rattle.bb_memory_c.specs.declared.answer.Answer.{Answer}
 use Rattle.bb_memory_c.specs.declared.answer.Figure.{Figure}
 use Rattle.bb_memory_c.specs.Answers.{TellsGrow, TellsShrink, answer_of, figure_of, no_figure, refused}
-use Rattle.bb_memory_c.specs.Codes.{already_made, cannot_make, done, malloc_refused, not_a_layout, not_held, not_made, no_bucket, no_seat}
+use Rattle.bb_memory_c.specs.Codes.{already_made, cannot_make, done, malloc_refused, not_a_layout, not_held, not_made, no_bucket, no_seat, seat_holds}
 use Rattle.bb_memory_c.specs.Layouts.{FailsOf, IsOf, LacksRoomOf}
 
 -- FIGURES
@@ -121,10 +121,13 @@ pub record AnswersFree {X : Type 0} (old new : Option X) (code : ℕ) : Type 0 w
   pub was_empty : old ≡ None → code ≡ not_made
   pub empty : new ≡ None
 
--- One party gets a seat behind another handle that is empty, where one has none yet and memory isn't refused.
+-- WHAT THREADS SHARE: `joined` is it with one more of its parties that has no seat, and `at` says of a party that it is its own
+
+-- The last party without a seat gets one behind another handle that is empty, where one has none and memory isn't refused.
 pub record GivesSeat {X Y : Type 0} (old new : Option X) (old_seat new_seat : Option Y) (code : ℕ) (left : X → ℕ)
-    (seats : X → Option X → Option Y → Type 0) : Type 0 where
-  pub seated : IfSome old (λ made. code ≡ done → seats made new new_seat)
+    (joined : X → Y → X) (at : X → Y → Type 0) : Type 0 where
+  pub seated : IfSome old (λ made. code ≡ done → (after : X) × (party : Y)
+      × (made ≡ joined after party) × at after party × (new ≡ Some after) × (new_seat ≡ Some party))
   pub held_one : (code ≡ already_made) ↔ (old_seat ≢ None)
   pub empty : (code ≡ not_made) ↔ ((old_seat ≡ None) × (old ≡ None))
   pub none_left : IfSome old (λ made. (code ≡ no_seat) ↔ ((old_seat ≡ None) × (left made ≡ 0)))
@@ -132,7 +135,23 @@ pub record GivesSeat {X Y : Type 0} (old new : Option X) (old_seat new_seat : Op
   pub kept : code ≢ done → (new ≡ old) × (new_seat ≡ old_seat)
 
 -- A seat is made for the last party that has none, if one is left and memory isn't refused.
-pub record TakesSeat {Y : Type 0} (old_left new_left : ℕ) (told : Result Y ℕ) : Type 0 where
-  pub seated : IfOk told (λ _. old_left ≡ new_left + 1)
-  pub none_left : (told ≡ Err no_seat) ↔ (old_left ≡ 0)
+pub record TakesSeat {X Y : Type 0} (old new : X) (told : Result Y ℕ) (left : X → ℕ) (joined : X → Y → X) (at : X → Y → Type 0)
+    : Type 0 where
+  pub seated : IfOk told (λ party. (old ≡ joined new party) × at new party)
+  pub none_left : (told ≡ Err no_seat) ↔ (left old ≡ 0)
   pub else_memory : IfErr told (λ code. code ≢ no_seat → code ≡ malloc_refused)
+  pub kept : OnErr told (new ≡ old)
+
+-- where there are both, they are so
+abbrev pub IfBoth : {X Y : Type 0} → Option X → Option Y → (X → Y → Type 0) → Type 0
+IfBoth made party are = IfSome made (λ m. IfSome party (λ p. are m p))
+
+-- A seat's party comes back as the last one without a seat, and the seat's handle is empty then. A busy one is refused, and where
+-- one of the handles is empty, and then all stays.
+pub record GetsSeatBack {X Y : Type 0} (old new : Option X) (old_seat new_seat : Option Y) (code : ℕ) (busy : Y → Type 0)
+    (joined : X → Y → X) : Type 0 where
+  pub returned : IfBoth old old_seat (λ made party. ¬ busy party
+      → (code ≡ done) × (new ≡ Some (joined made party)) × (new_seat ≡ None))
+  pub still_busy : IfBoth old old_seat (λ made party. busy party → code ≡ seat_holds)
+  pub empty : (old ≡ None) ⊎ (old_seat ≡ None) → code ≡ not_made
+  pub kept : code ≢ done → (new ≡ old) × (new_seat ≡ old_seat)

@@ -7,6 +7,7 @@ pub mod Layouts
 pub mod OneChunks
 pub mod Pools
 pub mod Rows
+pub mod Seats
 pub mod SharedBumpHandles
 pub mod SharedBumps
 pub mod SharedPoolHandles

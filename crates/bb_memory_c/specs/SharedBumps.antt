@@ -1,22 +1,24 @@
--- A shared bump, and the seats of its parties.
-use Rattle.std.specs.Prelude.{◌≡◌, ◌<◌, ℕ, List, Some, length, slice_get}
+-- A shared bump, and the parties of it that have no seat.
+use Rattle.std.specs.Prelude.{◌≡◌, ◌≤◌, ℕ, All, List, length}
 use Rattle.bb_memory_base.specs.Region.{Region}
-use Rattle.bb_memory.specs.SharedBump.{BumpParty, SharedBump, fresh_party, scene_at}
+use Rattle.bb_memory_c.specs.Seats.{IsOneOf, Seats}
+use Rattle.bb_memory.specs.SharedBump.{AreFresh, BumpParty, SharedBump, scene_at}
 
--- a shared bump, and how many of its parties have no seat yet
-pub record BumpSeats : Type 0 where
-  pub bump : SharedBump
-  pub left : ℕ
+abbrev pub BumpSeats : Type 0
+BumpSeats = Seats SharedBump BumpParty
 
-abbrev pub bump_seats : SharedBump → ℕ → BumpSeats
-bump_seats bump left = record { bump = bump; left = left }
+-- the party is this bump's, and not all parties of it are without a seat
+abbrev pub IsAt : BumpSeats → BumpParty → Type 0
+IsAt seats party = IsOneOf seats party.allocator seats.shared.scene.parties
 
--- the parties are numbered from 0, and none has made a step
-abbrev pub AreUnseated : SharedBump → List BumpParty → Type 0
-AreUnseated bump parties =
-    (number : ℕ) → number < length parties →
-    slice_get parties number ≡ Some (fresh_party bump number)
+-- parties of this bump, which has so many, with room for all of them
+pub record AreUnseated (bump : SharedBump) (count capacity : ℕ) (parties : List BumpParty) : Type 0 where
+  pub so_many : bump.scene.parties ≡ count
+  pub at_most : length parties ≤ count
+  pub room : count ≤ capacity
+  pub theirs : All (λ party. party.allocator ≡ bump) parties
 
--- a bump over the region, of which nothing is used, of so many parties
-abbrev pub IsSharedBumpOver : Region → ℕ → SharedBump → Type 0
-IsSharedBumpOver region parties bump = bump.scene ≡ scene_at region 0 parties
+-- a bump over the region, of which nothing is used, of so many parties, which all have no seat and have made no step
+pub record AreFreshOver (region : Region) (count : ℕ) (seats : BumpSeats) : Type 0 where
+  pub scene : seats.shared.scene ≡ scene_at region 0 count
+  pub parties : AreFresh seats.shared count seats.parties

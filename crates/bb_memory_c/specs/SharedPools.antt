@@ -1,5 +1,5 @@
 -- A shared pool, the seats of its parties, and what a seat's calls are answered.
-use Rattle.std.specs.Prelude.{◌≡◌, ◌<◌, ◌↔◌, ℕ, Bool, List, Some, Result, Ok, Err, length, slice_get}
+use Rattle.std.specs.Prelude.{◌≡◌, ◌≤◌, ◌↔◌, ℕ, All, Bool, List, Result, Ok, Err, length}
 use Rattle.bb_memory_base.specs.Region.{Region}
 use Rattle.bb_memory_base.specs.Chunk.{Chunk}
 use Rattle.bb_memory_base.specs.PoolGeometry.{IsCut, bucket_place}
@@ -7,23 +7,32 @@ use Rattle.bb_memory_base.specs.PoolHistory.{PoolLog}
 use Rattle.bb_memory_base.specs.PoolLogs.{IsHeldAfter}
 use Rattle.bb_memory_base.specs.declared.layout.Layout.{Layout}
 use Rattle.bb_memory_base.specs.declared.allocator.AllocationError.{AllocationError}
+use Rattle.bb_memory_c.specs.Seats.{IsOneOf, Seats}
 use Rattle.bb_memory.specs.NumberSet.{Has}
-use Rattle.bb_memory.specs.SharedPool.{PoolParty, SharedPool, TakenBucket, chunk_of, fresh_party, return_entry, with_entries}
+use Rattle.bb_memory.specs.SharedPool.{AreFresh, PoolParty, SharedPool, TakenBucket, chunk_of, return_entry, with_entries}
 use Rattle.bb_memory.specs.SharedPoolRounds.{MayTakeFrom}
 
--- a shared pool, and how many of its parties have no seat yet
-pub record PoolSeats : Type 0 where
-  pub pool : SharedPool
-  pub left : ℕ
+abbrev pub PoolSeats : Type 0
+PoolSeats = Seats SharedPool PoolParty
 
-abbrev pub pool_seats : SharedPool → ℕ → PoolSeats
-pool_seats pool left = record { pool = pool; left = left }
+-- the party is this pool's, and not all parties of it are without a seat
+abbrev pub IsAt : PoolSeats → PoolParty → Type 0
+IsAt seats party = IsOneOf seats party.allocator seats.shared.scene.parties
 
--- the parties are numbered from 0, and none has made a step
-abbrev pub AreUnseated : SharedPool → List PoolParty → Type 0
-AreUnseated pool parties =
-    (number : ℕ) → number < length parties →
-    slice_get parties number ≡ Some (fresh_party pool number)
+-- the party holds some bucket
+abbrev pub HoldsSome : PoolParty → Type 0
+HoldsSome party = (bucket : ℕ) × IsHeldAfter party.log bucket
+
+-- a party of this pool, which holds nothing
+pub record IsIdleAt (pool : SharedPool) (party : PoolParty) : Type 0 where
+  pub theirs : party.allocator ≡ pool
+  pub idle : ¬ HoldsSome party
+
+-- parties of this pool, which hold nothing, with room for all of its parties
+pub record AreUnseated (pool : SharedPool) (capacity : ℕ) (parties : List PoolParty) : Type 0 where
+  pub at_most : length parties ≤ pool.scene.parties
+  pub room : pool.scene.parties ≤ capacity
+  pub idle : All (IsIdleAt pool) parties
 
 -- the flags are set of just the buckets that are held after this log
 abbrev pub AreHeldFlags : List Bool → PoolLog → Type 0
@@ -35,11 +44,10 @@ pub record IsSeatAt (pool : SharedPool) (party : PoolParty) (flags : List Bool) 
   pub as_many : length flags ≡ pool.scene.geometry.buckets
   pub exact : AreHeldFlags flags party.log
 
--- a pool over the region, cut into buckets of the layout, of so many parties
-pub record IsSharedPoolOver (region : Region) (bucket : Layout) (many : ℕ) (pool : SharedPool)
-    : Type 0 where
-  pub cut : IsCut region bucket pool.scene.geometry
-  pub parties : pool.scene.parties ≡ many
+-- a pool over the region, cut into buckets of the layout, of so many parties, which all have no seat and have made no step
+pub record AreFreshOver (region : Region) (bucket : Layout) (count : ℕ) (seats : PoolSeats) : Type 0 where
+  pub cut : IsCut region bucket seats.shared.scene.geometry
+  pub parties : AreFresh seats.shared count seats.parties
 
 -- the party holds the bucket of this number, which is at this place
 pub record HoldsAt (party : PoolParty) (place number : ℕ) : Type 0 where

@@ -1,10 +1,13 @@
 //! The seats at a shared bump: a party each.
-ghost use Rattle.std.specs.Prelude.{◌≡◌, ◌≤◌, IfSome};
-ghost use Rattle.bb_memory_base.specs.Region.{IsRegion, region_at};
+ghost use Rattle.std.specs.Prelude.{◌≡◌, ◌<◌, ◌↔◌, IfSome, IsTrue};
+ghost use Rattle.bb_memory_base.specs.Region.{region_at};
 ghost use Rattle.bb_memory.specs.SharedBump.{MayTake};
-ghost use Rattle.bb_memory_c.specs.SharedBumps.{IsSharedBumpOver};
+ghost use Rattle.bb_memory_c.specs.Seats.{joined, left_at};
+ghost use Rattle.bb_memory_c.specs.SharedBumpHandles.{IsShareable};
+ghost use Rattle.bb_memory_c.specs.SharedBumps.{AreFreshOver, IsAt};
 
-use crate::kind::Gives;
+use crate::code;
+use crate::kind::{Gives, Shares};
 use bb_memory::bump_allocator::{AllocationError, BumpAllocator};
 use bb_memory::layout::{Chunk, Layout};
 use bb_memory::shared_bump::{BumpParty, SharedBumpAllocator};
@@ -32,14 +35,6 @@ impl Model for BumpSeat {
 }
 
 impl BumpSeat {
-    /// The party, without its seat.
-    pub(crate) fn into_party(self) -> BumpParty
-        ensures { result ≡ self }
-    {
-        let BumpSeat { bump: _bump, party } = self;
-        party
-    }
-
     /// The bump at which this seat is.
     pub(crate) fn bump(&self) -> &SharedBumpAllocator
         ensures { result.now ≡ self.now.allocator }
@@ -56,41 +51,104 @@ impl Gives for BumpSeat {
     }
 }
 
-/// A shared bump, and the parties that have no seat yet.
+/// A shared bump, how many parties it has, and those of them that have no seat.
 #[derive(Drop)]
 pub struct BumpSeats {
     pub(crate) bump: Arc<SharedBumpAllocator, Global>,
+    pub(crate) count: u32,
     pub(crate) parties: Vec<BumpParty>,
 }
 
 impl Model for BumpSeats {
-    ghost use Rattle.std.specs.Prelude.{vec_len};
+    ghost use Rattle.std.specs.Prelude.{vec_capacity};
     ghost use Rattle.std.specs.Arc.{arc_value};
-    ghost use Rattle.bb_memory_c.specs.SharedBumps.{AreUnseated, BumpSeats, bump_seats};
+    ghost use Rattle.bb_memory_c.specs.SharedBumps.{AreUnseated, BumpSeats};
 
     ghost Value = { BumpSeats };
 
-    ghost view = { λ s. bump_seats (arc_value s.bump) (vec_len s.parties) };
+    ghost view = { λ s. record { shared = arc_value s.bump; parties = s.parties.items } };
 
-    ghost invariant = { λ s. AreUnseated (arc_value s.bump) s.parties.items };
+    ghost invariant = { λ s. AreUnseated (arc_value s.bump) s.count (vec_capacity s.parties)
+        s.parties.items };
 }
 
 impl BumpSeats {
     /// A shared bump over the region of `size` bytes at `start`, whose parties all have no seat yet. It is `None` where a
     /// request for memory was refused.
-    pub(crate) fn new(alloc: Global, start: usize, size: usize, parties: u32) -> Option<BumpSeats>
-        requires region { IsRegion (region_at start size) }
-        requires parties { 1 ≤ parties }
-        ensures bump { IfSome result (λ seats.
-            IsSharedBumpOver (region_at start size) parties seats.bump) }
-        ensures left { IfSome result (λ seats. seats.left ≡ parties) }
+    pub(crate) fn new(alloc: Global, start: usize, size: usize, count: u32) -> Option<BumpSeats>
+        requires { IsShareable (region_at start size) count }
+        ensures { IfSome result (AreFreshOver (region_at start size) count) }
     {
-        let Ok((bump, parties)) = BumpAllocator::new(start, size).share(alloc, parties) else {
+        let Ok((bump, mut parties)) = BumpAllocator::new(start, size).share(alloc, count) else {
             return None;
         };
+        parties.reserve(0).ok()?;
         let Ok(bump) = Arc::new(alloc, bump) else {
             return None;
         };
-        Some(BumpSeats { bump, parties })
+        Some(BumpSeats {
+            bump,
+            count,
+            parties,
+        })
+    }
+
+    /// Whether each party has no seat.
+    pub(crate) fn are_all_back(&self) -> bool
+        ensures { IsTrue result ↔ ¬ (left_at self.now < self.now.shared.scene.parties) }
+    {
+        self.parties.len() >= self.count as usize
+    }
+
+    /// A fresh bump over the same region, of as many parties. It is `None` where a request for memory was refused.
+    pub(crate) fn anew(&self, alloc: Global) -> Option<BumpSeats>
+        ensures { IfSome result (AreFreshOver self.now.shared.scene.region
+            self.now.shared.scene.parties) }
+    {
+        BumpSeats::new(
+            alloc,
+            self.bump.start_address(),
+            self.bump.total_space(),
+            self.count,
+        )
+    }
+}
+
+impl Shares<BumpSeat> for BumpSeats {
+    ghost left = { left_at };
+
+    ghost joined = { joined };
+
+    ghost is_at = { IsAt };
+
+    ghost is_busy = { λ party. ⊥ };
+
+    fn deal(&mut self, alloc: Global) -> Result<Box<BumpSeat>, u32> {
+        if self.parties.is_empty() {
+            return Err(code::NO_SEAT);
+        }
+        let Ok(bump) = Arc::try_clone(&self.bump) else {
+            return Err(code::MALLOC_REFUSED);
+        };
+        let Some(party) = self.parties.pop() else {
+            return Err(code::NO_SEAT);
+        };
+        match Box::new(alloc, BumpSeat { bump, party }) {
+            Ok(seat) => Ok(seat),
+            Err(refused) => {
+                let BumpSeat { bump: _bump, party } = refused.value;
+                self.parties.push_reserved(party);
+                Err(code::MALLOC_REFUSED)
+            }
+        }
+    }
+
+    fn is_in_use(&self, _seat: &BumpSeat) -> bool {
+        false
+    }
+
+    fn take_back(&mut self, seat: BumpSeat) {
+        let BumpSeat { bump: _bump, party } = seat;
+        self.parties.push_reserved(party);
     }
 }

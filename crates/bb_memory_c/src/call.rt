@@ -5,16 +5,16 @@ ghost use Rattle.std.specs.Fn.{FnReturnsAt};
 ghost use Rattle.bb_memory_base.specs.Chunk.{Chunk};
 ghost use Rattle.bb_memory_base.specs.declared.layout.Layout.{Layout as Asked};
 ghost use Rattle.bb_memory_base.specs.declared.allocator.AllocationError.{AllocationError};
-ghost use Rattle.bb_memory_c.specs.Answers.{TellsGrow, TellsShrink, answer_of, figure_of, no_figure, refused};
+ghost use Rattle.bb_memory_c.specs.Answers.{AnswersStill, TellsGrow, TellsOfLayouts, TellsShrink, answer_of, figure_of, no_figure, refused};
 ghost use Rattle.bb_memory_c.specs.Calls.{AnswersFree, AnswersGrow, AnswersRequest, AnswersReturn, AnswersShrink};
-ghost use Rattle.bb_memory_c.specs.Calls.{TellsOfHeld, TellsWhether, resize};
+ghost use Rattle.bb_memory_c.specs.Calls.{GetsSeatBack, GivesSeat, IfBoth, TellsOfHeld, TellsWhether, resize};
 ghost use Rattle.bb_memory_c.specs.Codes.{done, malloc_refused, not_a_layout, not_held, not_made};
 ghost use Rattle.bb_memory_c.specs.Layouts.{IsOf};
 
 use crate::answer::{Answer, Figure};
 use crate::code;
 use crate::handle::Handle;
-use crate::kind::{Gives, Keeps};
+use crate::kind::{Gives, Keeps, Shares};
 use crate::layout::{layout_of, layouts_of};
 use bb_memory::layout::Layout;
 use std::alloc::Global;
@@ -179,10 +179,8 @@ where
 
 /// Whether the chunk at this place may have the old layout, and what it is then answered that is to grow.
 fn grow_one<M: Keeps>(made: &mut M, place: usize, layouts: Option<(Layout, Layout)>) -> Answer
-    ensures answer { (from to : Asked) → layouts ≡ Some (from, to)
-        → TellsGrow (M.holds made.old place) place from (M.may_grow made.old place from to) result }
-    ensures not_a_layout { layouts ≡ None → result ≡ refused not_a_layout }
-    ensures still { made.new ≡ made.old }
+    ensures { AnswersStill made.old made.new (TellsOfLayouts layouts result (λ from to.
+        TellsGrow (M.holds made.old place) place from (M.may_grow made.old place from to) result)) }
 {
     let Some((from, to)) = layouts else {
         return Answer::refusal(code::NOT_A_LAYOUT);
@@ -223,11 +221,9 @@ where
 
 /// Whether the chunk at this place may have the old layout, and what it is then answered that is to shrink.
 fn shrink_one<M: Keeps>(made: &mut M, place: usize, layouts: Option<(Layout, Layout)>) -> Answer
-    ensures answer { (from to : Asked) → layouts ≡ Some (from, to)
-        → TellsShrink (M.holds made.old place) place (M.bytes made.old place) from
-        (M.may_shrink made.old place from to) result }
-    ensures not_a_layout { layouts ≡ None → result ≡ refused not_a_layout }
-    ensures still { made.new ≡ made.old }
+    ensures { AnswersStill made.old made.new (TellsOfLayouts layouts result (λ from to.
+        TellsShrink (M.holds made.old place) place (M.bytes made.old place) from
+        (M.may_shrink made.old place from to) result)) }
 {
     let Some((from, to)) = layouts else {
         return Answer::refusal(code::NOT_A_LAYOUT);
@@ -265,4 +261,53 @@ where
     let answer = shrink_one(&mut *made, place, layouts);
     handle.put(made);
     answer
+}
+
+/// Gives a seat to the last party that has none, behind a handle that has to be empty.
+pub(crate) fn seat<H: Handle, S: Handle>(handle: &mut H, alloc: Global, seat: &mut S) -> u32
+where
+    H::Made: Shares<S::Made>,
+    ensures { GivesSeat (H.made handle.old) (H.made handle.new) (S.made seat.old) (S.made seat.new)
+        result H.Made.left H.Made.joined H.Made.is_at }
+{
+    if is_made(seat, alloc) {
+        return code::ALREADY_MADE;
+    }
+    let Some(mut shared) = handle.take(alloc) else {
+        return code::NOT_MADE;
+    };
+    let dealt = shared.deal(alloc);
+    handle.put(shared);
+    match dealt {
+        Ok(dealt) => {
+            seat.put(dealt);
+            code::DONE
+        }
+        Err(code) => code,
+    }
+}
+
+/// Takes the seat's party back as the last one without a seat, and the seat's handle is empty then.
+pub(crate) fn leave<H: Handle, S: Handle>(handle: &mut H, alloc: Global, seat: &mut S) -> u32
+where
+    H::Made: Shares<S::Made>,
+    requires { IfBoth (H.made handle.old) (S.made seat.old) H.Made.is_at }
+    ensures { GetsSeatBack (H.made handle.old) (H.made handle.new) (S.made seat.old)
+        (S.made seat.new) result H.Made.is_busy H.Made.joined }
+{
+    let Some(mut shared) = handle.take(alloc) else {
+        return code::NOT_MADE;
+    };
+    let Some(leaving) = seat.take(alloc) else {
+        handle.put(shared);
+        return code::NOT_MADE;
+    };
+    if shared.is_in_use(&leaving) {
+        handle.put(shared);
+        seat.put(leaving);
+        return code::SEAT_HOLDS;
+    }
+    shared.take_back(Box::into_inner(leaving));
+    handle.put(shared);
+    code::DONE
 }

@@ -1,13 +1,16 @@
 //! What is made behind handles: what each kind has to do for a call that is written once over all of them.
-ghost use Rattle.std.specs.Prelude.{◌≡◌, ◌≤◌, ◌%◌, ◌↔◌, ℕ, IsTrue, Result};
+ghost use Rattle.std.specs.Prelude.{◌≡◌, ◌↔◌, ℕ, IsTrue, Result};
 ghost use Rattle.bb_memory_base.specs.Chunk.{Chunk};
 ghost use Rattle.bb_memory_base.specs.declared.layout.Layout.{Layout as Asked};
 ghost use Rattle.bb_memory_base.specs.declared.allocator.AllocationError.{AllocationError};
 ghost use Rattle.bb_memory_base.specs.declared.allocator.AllocationGrowError.{AllocationGrowError};
 ghost use Rattle.bb_memory_base.specs.declared.allocator.AllocationShrinkError.{AllocationShrinkError};
+ghost use Rattle.bb_memory_c.specs.Answers.{AnswersStill, MayGrowAt, MayShrinkAt};
+ghost use Rattle.bb_memory_c.specs.Calls.{TakesSeat};
 
 use bb_memory::allocator::{AllocationError, AllocationGrowError, AllocationShrinkError};
 use bb_memory::layout::{Chunk, Layout};
+use std::alloc::Global;
 
 /// What gives chunks.
 pub(crate) trait Gives: Drop {
@@ -57,10 +60,8 @@ pub(crate) trait Keeps: Gives {
         old: Layout,
         new: Layout,
     ) -> Result<Chunk, AllocationGrowError>
-        requires held { holds self.old place }
-        requires aligned { place % old.align ≡ 0 }
-        ensures answer { may_grow self.old place old new result }
-        ensures still { self.new ≡ self.old };
+        requires { MayGrowAt (holds self.old place) place old }
+        ensures { AnswersStill self.old self.new (may_grow self.old place old new result) };
 
     /// Shrinks the chunk at this place.
     fn shrink_at(
@@ -69,9 +70,36 @@ pub(crate) trait Keeps: Gives {
         old: Layout,
         new: Layout,
     ) -> Result<Chunk, AllocationShrinkError>
-        requires held { holds self.old place }
-        requires aligned { place % old.align ≡ 0 }
-        requires short { old.size ≤ bytes self.old place }
-        ensures answer { may_shrink self.old place old new result }
-        ensures still { self.new ≡ self.old };
+        requires { MayShrinkAt (holds self.old place) place (bytes self.old place) old }
+        ensures { AnswersStill self.old self.new (may_shrink self.old place old new result) };
+}
+
+/// What threads share through seats of this type, and its parties that have none.
+pub(crate) trait Shares<S: Drop>: Drop {
+    /// How many parties have no seat.
+    ghost left: { Self → ℕ };
+
+    /// It with one more party that has no seat, behind the others.
+    ghost joined: { Self → S → Self };
+
+    /// The party is one of its own, and isn't among those that have no seat.
+    ghost is_at: { Self → S → Type 0 };
+
+    /// The party can't leave its seat.
+    ghost is_busy: { S → Type 0 };
+
+    /// A seat for the last party that has none, in memory of its own.
+    fn deal(&mut self, alloc: Global) -> Result<Box<S>, u32>
+        ensures { TakesSeat self.old self.new result left (λ shared seat. joined shared seat.value)
+            (λ shared seat. is_at shared seat.value) };
+
+    /// Whether the party can't leave its seat.
+    fn is_in_use(&self, seat: &S) -> bool
+        ensures { IsTrue result ↔ is_busy seat.now };
+
+    /// Takes the seat's party back, behind those that have no seat.
+    fn take_back(&mut self, seat: S)
+        requires out { is_at self.old seat }
+        requires idle { ¬ is_busy seat }
+        ensures { self.new ≡ joined self.old seat };
 }

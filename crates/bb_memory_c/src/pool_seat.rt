@@ -1,13 +1,13 @@
 //! The seats at a shared pool: a party each, and which buckets it holds.
-ghost use Rattle.std.specs.Prelude.{◌≡◌, ◌<◌, ◌≤◌, ◌↔◌, Some, IfSome, IfNone};
-ghost use Rattle.std.specs.Prelude.{IsTrue, vec_len};
-ghost use Rattle.std.specs.Arc.{arc_value};
+ghost use Rattle.std.specs.Prelude.{◌≡◌, ◌↔◌, IfSome, IfNone, IsTrue};
 ghost use Rattle.bb_memory_base.specs.Region.{region_at};
 ghost use Rattle.bb_memory_base.specs.PoolObject.{MayGrow, MayShrink};
-ghost use Rattle.bb_memory.specs.Pool.{MayBeCut};
-ghost use Rattle.bb_memory_c.specs.SharedPools.{GivesChunk, GivesBack, HoldsAt, HoldsPlace, IsSharedPoolOver};
+ghost use Rattle.bb_memory_c.specs.Layouts.{MayBeShared};
+ghost use Rattle.bb_memory_c.specs.SharedPools.{AreFreshOver, GivesBack, GivesChunk, HoldsAt, HoldsPlace, HoldsSome, IsAt};
+ghost use Rattle.bb_memory_c.specs.Seats.{joined, left_at};
 
-use crate::kind::{Gives, Keeps};
+use crate::code;
+use crate::kind::{Gives, Keeps, Shares};
 use bb_memory::allocator::{AllocationGrowError, AllocationShrinkError};
 use bb_memory::layout::{Chunk, Layout};
 use bb_memory::pool_allocator::AllocationError;
@@ -50,23 +50,11 @@ impl PoolSeat {
         }
     }
 
-    /// The party, without its seat.
-    pub(crate) fn into_party(self) -> PoolParty
-        ensures { result ≡ self }
+    /// Whether the party holds a bucket.
+    fn holds_some(&self) -> bool
+        ensures { IsTrue result ↔ HoldsSome self.now }
     {
-        let PoolSeat {
-            pool: _pool,
-            party,
-            held: _held,
-        } = self;
-        party
-    }
-
-    /// The party's number, from 0.
-    pub(crate) fn number(&self) -> u32
-        ensures { result ≡ self.now.number }
-    {
-        self.party.number()
+        self.held.contains(&true)
     }
 
     /// The pool at which this seat is.
@@ -137,7 +125,7 @@ impl Keeps for PoolSeat {
     }
 }
 
-/// A shared pool, and the parties that have no seat yet.
+/// A shared pool, and those of its parties that have no seat, which hold nothing.
 #[derive(Drop)]
 pub struct PoolSeats {
     pub(crate) pool: Arc<SharedPoolAllocator, Global>,
@@ -145,15 +133,15 @@ pub struct PoolSeats {
 }
 
 impl Model for PoolSeats {
-    ghost use Rattle.std.specs.Prelude.{vec_len};
+    ghost use Rattle.std.specs.Prelude.{vec_capacity};
     ghost use Rattle.std.specs.Arc.{arc_value};
-    ghost use Rattle.bb_memory_c.specs.SharedPools.{AreUnseated, PoolSeats, pool_seats};
+    ghost use Rattle.bb_memory_c.specs.SharedPools.{AreUnseated, PoolSeats};
 
     ghost Value = { PoolSeats };
 
-    ghost view = { λ s. pool_seats (arc_value s.pool) (vec_len s.parties) };
+    ghost view = { λ s. record { shared = arc_value s.pool; parties = s.parties.items } };
 
-    ghost invariant = { λ s. AreUnseated (arc_value s.pool) s.parties.items };
+    ghost invariant = { λ s. AreUnseated (arc_value s.pool) (vec_capacity s.parties) s.parties.items };
 }
 
 impl PoolSeats {
@@ -164,21 +152,69 @@ impl PoolSeats {
         bucket: Layout,
         start: usize,
         size: usize,
-        parties: u32,
+        count: u32,
     ) -> Option<PoolSeats>
-        requires cut { MayBeCut (region_at start size) bucket }
-        requires parties { 1 ≤ parties }
-        ensures pool { IfSome result (λ seats.
-            IsSharedPoolOver (region_at start size) bucket parties seats.pool) }
-        ensures left { IfSome result (λ seats. seats.left ≡ parties) }
+        requires { MayBeShared (region_at start size) count bucket }
+        ensures { IfSome result (AreFreshOver (region_at start size) bucket count) }
     {
-        let Ok((pool, parties)) = SharedPoolAllocator::new(alloc, bucket, start, size, parties)
+        let Ok((pool, mut parties)) = SharedPoolAllocator::new(alloc, bucket, start, size, count)
         else {
             return None;
         };
+        parties.reserve(0).ok()?;
         let Ok(pool) = Arc::new(alloc, pool) else {
             return None;
         };
         Some(PoolSeats { pool, parties })
+    }
+}
+
+impl Shares<PoolSeat> for PoolSeats {
+    ghost left = { left_at };
+
+    ghost joined = { joined };
+
+    ghost is_at = { IsAt };
+
+    ghost is_busy = { HoldsSome };
+
+    fn deal(&mut self, alloc: Global) -> Result<Box<PoolSeat>, u32> {
+        if self.parties.is_empty() {
+            return Err(code::NO_SEAT);
+        }
+        let Ok(pool) = Arc::try_clone(&self.pool) else {
+            return Err(code::MALLOC_REFUSED);
+        };
+        let Ok(held) = Vec::from_elem(alloc, false, pool.number_of_buckets() as usize) else {
+            return Err(code::MALLOC_REFUSED);
+        };
+        let Some(party) = self.parties.pop() else {
+            return Err(code::NO_SEAT);
+        };
+        match Box::new(alloc, PoolSeat { pool, party, held }) {
+            Ok(seat) => Ok(seat),
+            Err(refused) => {
+                let PoolSeat {
+                    pool: _pool,
+                    party,
+                    held: _held,
+                } = refused.value;
+                self.parties.push_reserved(party);
+                Err(code::MALLOC_REFUSED)
+            }
+        }
+    }
+
+    fn is_in_use(&self, seat: &PoolSeat) -> bool {
+        seat.holds_some()
+    }
+
+    fn take_back(&mut self, seat: PoolSeat) {
+        let PoolSeat {
+            pool: _pool,
+            party,
+            held: _held,
+        } = seat;
+        self.parties.push_reserved(party);
     }
 }

@@ -1,44 +1,32 @@
 //! A shared bump behind handles: one for the bump, and one for the seat of each party.
-ghost use Rattle.std.specs.Prelude.{◌≡◌, ◌≢◌, ◌+◌, ◌-◌, ◌<◌, ◌↔◌, Err, IfOk, IfErr, OnErr};
+ghost use Rattle.std.specs.Prelude.{◌-◌, Some};
 ghost use Rattle.bb_memory_base.specs.Region.{region_at};
-ghost use Rattle.bb_memory.specs.SharedBump.{MayTake, fresh_party};
-ghost use Rattle.bb_memory_c.specs.Calls.{AnswersFree, AnswersMake, AnswersRequest, GivesSeat, TakesSeat, TellsFigure};
-ghost use Rattle.bb_memory_c.specs.SharedBumpHandles.{IsShareable, MakesSharedBump, SeatsBumpParty, TellsLoad};
+ghost use Rattle.bb_memory.specs.SharedBump.{MayTake};
+ghost use Rattle.bb_memory_c.specs.Calls.{AnswersFree, AnswersMake, AnswersRequest, GetsSeatBack, GivesSeat, IfBoth, TellsFigure};
+ghost use Rattle.bb_memory_c.specs.Seats.{joined, left_at};
+ghost use Rattle.bb_memory_c.specs.SharedBumpHandles.{BeginsAnew, IsShareable, MakesSharedBump, TellsLoad};
+ghost use Rattle.bb_memory_c.specs.SharedBumps.{IsAt};
 
 use crate::answer::{Answer, Figure};
-use crate::bump_seat::{BumpSeat, BumpSeats};
-use crate::call::{free, is_made, keep, request, tell};
+use crate::bump_seat::BumpSeats;
+use crate::call::{free, is_made, keep, leave, request, seat as seat_at, tell};
 use crate::code;
 use crate::handle::{BumpSeatHandle, Handle, SharedBumpHandle};
 use bb_memory::bump_allocator::BumpAllocator;
 use std::alloc::Global;
-use std::sync::Arc;
 
-/// A seat for the last party that has none, in memory of its own.
-fn next_seat(seats: &mut BumpSeats, alloc: Global) -> Result<Box<BumpSeat>, u32>
-    ensures seated { TakesSeat seats.old.left seats.new.left result }
-    ensures bump { seats.new.bump ≡ seats.old.bump }
-    ensures party { IfOk result (λ seat.
-        seat.value ≡ fresh_party seats.old.bump seats.new.left) }
-    ensures kept { OnErr result (seats.new ≡ seats.old) }
+/// Begins anew, where each party has no seat.
+fn begin_anew(seats: &mut BumpSeats, alloc: Global) -> u32
+    ensures { BeginsAnew (Some seats.old) (Some seats.new) result }
 {
-    if seats.parties.is_empty() {
-        return Err(code::NO_SEAT);
+    if !seats.are_all_back() {
+        return code::SEATS_OUT;
     }
-    let Ok(bump) = Arc::try_clone(&seats.bump) else {
-        return Err(code::MALLOC_REFUSED);
+    let Some(fresh) = seats.anew(alloc) else {
+        return code::MALLOC_REFUSED;
     };
-    let Some(party) = seats.parties.pop() else {
-        return Err(code::NO_SEAT);
-    };
-    match Box::new(alloc, BumpSeat { bump, party }) {
-        Ok(seat) => Ok(seat),
-        Err(refused) => {
-            let party = refused.value.into_party();
-            seats.parties.push_reserved(party);
-            Err(code::MALLOC_REFUSED)
-        }
-    }
+    *seats = fresh;
+    code::DONE
 }
 
 /// Makes a shared bump over the region of `size` bytes at `start`, behind a handle that has to be empty. The start has to be
@@ -90,27 +78,46 @@ pub extern "C" fn bb_shared_bump_seat(
     seat: &mut BumpSeatHandle,
 ) -> u32
     ensures { GivesSeat handle.old.value handle.new.value seat.old.value seat.new.value result
-        (λ seats. seats.left) SeatsBumpParty }
+        left_at joined IsAt }
 {
-    if is_made(seat, alloc) {
-        return code::ALREADY_MADE;
-    }
+    seat_at(handle, alloc, seat)
+}
+
+/// Takes back a seat of this bump, whose handle is empty then: its party is the last one without a seat. The answer is 0, or
+/// `BB_NOT_MADE` where one of both handles is empty.
+///
+/// C guarantees of both handles what the crate's page says, that they are two, and that the seat is at this bump.
+#[unsafe(no_mangle)]
+pub extern "C" fn bb_shared_bump_leave(
+    alloc: Global,
+    handle: &mut SharedBumpHandle,
+    seat: &mut BumpSeatHandle,
+) -> u32
+    requires { IfBoth handle.old.value seat.old.value IsAt }
+    ensures { GetsSeatBack handle.old.value handle.new.value seat.old.value seat.new.value result
+        (λ party. ⊥) joined }
+{
+    leave(handle, alloc, seat)
+}
+
+/// Begins anew over the same region, with as many parties: nothing of it is used, and each party can be given a seat. All of its
+/// seats have to have been taken back.
+///
+/// C guarantees of the handle what the crate's page says.
+#[unsafe(no_mangle)]
+pub extern "C" fn bb_shared_bump_begin_anew(alloc: Global, handle: &mut SharedBumpHandle) -> u32
+    ensures { BeginsAnew handle.old.value handle.new.value result }
+{
     let Some(mut seats) = handle.take(alloc) else {
         return code::NOT_MADE;
     };
-    let next = next_seat(&mut seats, alloc);
+    let code = begin_anew(&mut seats, alloc);
     handle.put(seats);
-    match next {
-        Ok(next) => {
-            seat.put(next);
-            code::DONE
-        }
-        Err(code) => code,
-    }
+    code
 }
 
-/// Frees the seat, whose handle is empty then. Its party gets no other. The answer is 0, or `BB_NOT_MADE` where it
-/// was empty already.
+/// Frees the seat, whose handle is empty then. Its party gets no other, so the bump can't begin anew. The answer is 0, or
+/// `BB_NOT_MADE` where the handle was empty already.
 ///
 /// C guarantees of the handle what the crate's page says.
 #[unsafe(no_mangle)]

@@ -1,53 +1,25 @@
 //! A shared pool behind handles: one for the pool, and one for the seat of each party.
-ghost use Rattle.std.specs.Prelude.{◌≡◌, ◌≢◌, ◌+◌, ◌<◌, ◌↔◌, Err, IfOk, IfErr, OnErr};
 ghost use Rattle.bb_memory_base.specs.FirstPlace.{first_place};
 ghost use Rattle.bb_memory_base.specs.PoolObject.{MayGrow, MayShrink};
 ghost use Rattle.bb_memory_base.specs.Region.{region_at};
-ghost use Rattle.bb_memory.specs.SharedPool.{fresh_party};
 ghost use Rattle.bb_memory_c.specs.Calls.{AnswersFree, AnswersGrow, AnswersPoolMake, AnswersRequest, AnswersReturn};
-ghost use Rattle.bb_memory_c.specs.Calls.{AnswersShrink, GivesSeat, TakesSeat, TellsFigure, TellsOfHeld, TellsWhether, resize};
+ghost use Rattle.bb_memory_c.specs.Calls.{AnswersShrink, GetsSeatBack, GivesSeat, IfBoth, TellsFigure, TellsOfHeld};
+ghost use Rattle.bb_memory_c.specs.Calls.{TellsWhether, resize};
 ghost use Rattle.bb_memory_c.specs.Layouts.{HasRoom, MayBeShared};
-ghost use Rattle.bb_memory_c.specs.SharedPools.{GivesChunk, GivesBack, HoldsPlace};
-ghost use Rattle.bb_memory_c.specs.SharedPoolHandles.{MakesSharedPool, SeatsPoolParty};
+ghost use Rattle.bb_memory_c.specs.Seats.{joined, left_at};
+ghost use Rattle.bb_memory_c.specs.SharedPools.{GivesBack, GivesChunk, HoldsPlace, HoldsSome, IsAt};
+ghost use Rattle.bb_memory_c.specs.SharedPoolHandles.{MakesSharedPool};
 
 use crate::answer::{Answer, Figure};
-use crate::call::{free, give_back, grow, holds, is_made, keep, request, reserved, shrink, tell};
+use crate::call::{
+    free, give_back, grow, holds, is_made, keep, leave, request, reserved, seat as seat_at, shrink,
+    tell,
+};
 use crate::code;
 use crate::handle::{Handle, PoolSeatHandle, SharedPoolHandle};
 use crate::layout::{cut_into, has_room};
-use crate::pool_seat::{PoolSeat, PoolSeats};
+use crate::pool_seat::PoolSeats;
 use std::alloc::Global;
-use std::sync::Arc;
-
-/// A seat for the last party that has none, in memory of its own.
-fn next_seat(seats: &mut PoolSeats, alloc: Global) -> Result<Box<PoolSeat>, u32>
-    ensures seated { TakesSeat seats.old.left seats.new.left result }
-    ensures pool { seats.new.pool ≡ seats.old.pool }
-    ensures party { IfOk result (λ seat.
-        seat.value ≡ fresh_party seats.old.pool seats.new.left) }
-    ensures kept { OnErr result (seats.new ≡ seats.old) }
-{
-    if seats.parties.is_empty() {
-        return Err(code::NO_SEAT);
-    }
-    let Ok(pool) = Arc::try_clone(&seats.pool) else {
-        return Err(code::MALLOC_REFUSED);
-    };
-    let Ok(held) = Vec::from_elem(alloc, false, pool.number_of_buckets() as usize) else {
-        return Err(code::MALLOC_REFUSED);
-    };
-    let Some(party) = seats.parties.pop() else {
-        return Err(code::NO_SEAT);
-    };
-    match Box::new(alloc, PoolSeat { pool, party, held }) {
-        Ok(seat) => Ok(seat),
-        Err(refused) => {
-            let party = refused.value.into_party();
-            seats.parties.push_reserved(party);
-            Err(code::MALLOC_REFUSED)
-        }
-    }
-}
 
 /// Makes a shared pool over the region of `size` bytes at `start`, behind a handle that has to be empty. The region is cut into
 /// buckets of `bucket_size` bytes at multiples of `bucket_align`, and has to have room for one. Each of the parties, at least
@@ -108,23 +80,26 @@ pub extern "C" fn bb_shared_pool_seat(
     seat: &mut PoolSeatHandle,
 ) -> u32
     ensures { GivesSeat handle.old.value handle.new.value seat.old.value seat.new.value result
-        (λ seats. seats.left) SeatsPoolParty }
+        left_at joined IsAt }
 {
-    if is_made(seat, alloc) {
-        return code::ALREADY_MADE;
-    }
-    let Some(mut seats) = handle.take(alloc) else {
-        return code::NOT_MADE;
-    };
-    let next = next_seat(&mut seats, alloc);
-    handle.put(seats);
-    match next {
-        Ok(next) => {
-            seat.put(next);
-            code::DONE
-        }
-        Err(code) => code,
-    }
+    seat_at(handle, alloc, seat)
+}
+
+/// Takes back a seat of this pool, whose handle is empty then: its party is the last one without a seat. The answer is 0, or
+/// `BB_NOT_MADE` where one of both handles is empty, or `BB_SEAT_HOLDS` where the seat holds a bucket.
+///
+/// C guarantees of both handles what the crate's page says, that they are two, and that the seat is at this pool.
+#[unsafe(no_mangle)]
+pub extern "C" fn bb_shared_pool_leave(
+    alloc: Global,
+    handle: &mut SharedPoolHandle,
+    seat: &mut PoolSeatHandle,
+) -> u32
+    requires { IfBoth handle.old.value seat.old.value IsAt }
+    ensures { GetsSeatBack handle.old.value handle.new.value seat.old.value seat.new.value result
+        HoldsSome joined }
+{
+    leave(handle, alloc, seat)
 }
 
 /// Frees the seat, whose handle is empty then. Its party gets no other. The answer is 0, or `BB_NOT_MADE` where it
@@ -194,7 +169,11 @@ pub extern "C" fn bb_pool_seat_holds(
 pub extern "C" fn bb_pool_seat_party(alloc: Global, handle: &mut PoolSeatHandle) -> Figure
     ensures { TellsFigure handle.old.value handle.new.value result (λ party. party.number) }
 {
-    tell(handle, alloc, |seat| Figure::of(seat.number() as usize))
+    tell(
+        handle,
+        alloc,
+        |seat| Figure::of(seat.party.number() as usize),
+    )
 }
 
 /// How many buckets the pool has.

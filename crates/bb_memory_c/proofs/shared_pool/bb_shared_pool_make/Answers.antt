@@ -1,7 +1,6 @@
 use Rattle.std.proofs.Common.{rules, refl, ◌∙◌, ap, arith, Err, Some}
 use Rattle.bb_memory_base.specs.Region.{Region, region_at}
 use Rattle.bb_memory_c.specs.Layouts.{HasRoom, MayBeShared}
-use Rattle.bb_memory_c.specs.SharedPools.{pool_seats}
 use Rattle.bb_memory_c.proofs.Layouts.{cut-share, lacks-cut, lacks-layout, lacks-share, room-or-not, share-layout, share-or-not}
 use Rattle.bb_memory_c.proofs.shared_pool.bb_shared_pool_make.Goals as goal
 
@@ -96,11 +95,7 @@ returns c = let region : Region = region_at c.args.start c.args.size in record {
     c.in-Ok.ensures.cut.layout,
     (search rules, c.in-Ok.ensures.cut.may),
     search rules,
-    (
-      c.in-Some.seats.pool,
-      c.in-Some.ensures.pool,
-      c.keep.ensures.done is ∙ ap (λ n. Some (pool_seats c.in-Some.seats.pool n)) c.in-Some.ensures.left,
-    ),
+    (c.in-Some.seats, c.keep.ensures.done is, c.in-Some.ensures),
   );
   held_one = search rules;
   no_layout = search rules;
