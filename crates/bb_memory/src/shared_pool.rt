@@ -27,6 +27,7 @@ mod meeting;
 mod party;
 mod rounds;
 mod rule;
+mod transit;
 
 pub use crate::allocator::{AllocationError, AllocationGrowError, AllocationShrinkError};
 use crate::layout::Layout;
@@ -36,7 +37,9 @@ pub use bucket::Bucket;
 use buckets::SharedBucketPool;
 pub use fixed_size::SharedFixedSizePoolAllocator;
 pub use party::PoolParty;
+use rule::Scene;
 use std::alloc::{AllocError, Global};
+pub use transit::BucketInTransit;
 
 /// Gives buckets of one layout to any number of threads. The pool is made for some number of parties, and each thread that
 /// takes or gives back buckets has one of them. No call waits for another, and none takes memory once the pool is made.
@@ -83,7 +86,12 @@ impl SharedPoolAllocator {
         ensures refused { IfErr result (λ error. error ≡ AllocationError.OutOfMemory) }
     {
         let geometry = Geometry::new(bucket_layout, start, size);
-        match Self::open(alloc, geometry, parties) {
+        let scene = Scene {
+            geometry,
+            parties,
+            has_post: false,
+        };
+        match Self::open(alloc, scene, parties) {
             Ok(made) => Ok(made),
             Err(AllocError) => Err(AllocationError::OutOfMemory),
         }

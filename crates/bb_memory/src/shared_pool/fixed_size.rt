@@ -7,6 +7,7 @@ ghost use Rattle.bb_memory.specs.SharedPool.{AreFresh};
 
 use super::buckets::SharedBucketPool;
 use super::party::PoolParty;
+use super::rule::Scene;
 use crate::allocator::AllocationError;
 use crate::layout::Layout;
 use crate::pool_allocator::geometry::Geometry;
@@ -56,7 +57,12 @@ impl<const MAX_NUMBER_OF_BUCKETS: usize> SharedFixedSizePoolAllocator<MAX_NUMBER
         let geometry = Geometry::new(bucket_layout, start, size).at_most(
             MAX_NUMBER_OF_BUCKETS as u32,
         );
-        match Self::open(alloc, geometry, parties) {
+        let scene = Scene {
+            geometry,
+            parties,
+            has_post: false,
+        };
+        match Self::open(alloc, scene, parties) {
             Ok(made) => Ok(made),
             Err(AllocError) => Err(AllocationError::OutOfMemory),
         }

@@ -34,9 +34,13 @@ loop-number-preserved g c =
     let is = before.rest
     ∙ ap (λ (parties : List NumberedLog). (standing_for scene parties, [])) (fresh_more number count (omega arith)) in
     let seated = dealt.first ∙ ap (λ (m : Me ℕ SeatView). (first_of m.0, [])) is in
-    let value : PoolParty = party_in c.deal-seat.result.table_id number c.deal-seat.result.me.0 in
+    let value : PoolParty = party_in c.deal-seat.result.table_id c.has_post.result number c.deal-seat.result.me.0 in
     let value_is : value ≡ fresh_party pool number = λ j. record {
-      allocator = record { table = (dealt.its_table ∙ before.table) j; scene = ap (λ (m : Me ℕ SeatView). m.0.scene) seated j };
+      allocator = record {
+        table = (dealt.its_table ∙ before.table) j;
+        scene = ap (λ (m : Me ℕ SeatView). m.0.scene) seated j;
+        has_post = c.has_post.ensures j;
+      };
       number = number;
       log = ap (λ (m : Me ℕ SeatView). view_log m.0) seated j;
     } in
