@@ -14,7 +14,7 @@ use Rattle.bb_memory_base.proofs.PoolHolders.{held_through}
 use Rattle.bb_memory_base.proofs.PoolSteps.{test_apart, test_same}
 use Rattle.bb_memory_base.proofs.SliceGets.{slice_get-set_other, slice_get-set_same}
 use Rattle.bb_memory.specs.Seats.{head_of, tail_of, times_in_transit, times_of}
-use Rattle.bb_memory.specs.SharedPool.{return_entry}
+use Rattle.bb_memory.specs.SharedPool.{return_entry, count_with_post}
 use Rattle.bb_memory.specs.SharedPoolRounds.{taking_at}
 use Rattle.bb_memory.specs.SharedPoolRule.{IsPost, PoolSetting, SeatView, handed_out, post_of}
 use Rattle.bb_memory.proofs.Seatings.{one_apart, one_same}
@@ -26,6 +26,16 @@ use Rattle.bb_memory.proofs.SharedPoolTries.{held-append, idle_after_one}
 pub handed_within : (has_post : Bool) (parties : ℕ) → handed_out has_post parties ≤ parties
 handed_within true parties = omega arith
 handed_within false parties = omega arith
+
+-- so many are handed out of all
+pub handed_few : (parties : ℕ) (has_post : Bool) (count : ℕ) → parties ≡ count_with_post has_post count → count ≤ parties
+handed_few parties true count is = omega arith
+handed_few parties false count is = omega arith
+
+pub handed_count : (parties : ℕ) (has_post : Bool) (count : ℕ) → parties ≡ count_with_post has_post count →
+    handed_out has_post parties ≡ count
+handed_count parties true count is = omega arith
+handed_count parties false count is = is
 
 -- a party that is handed out was made
 pub is_made : (setting : PoolSetting) (party : ℕ) → party < handed_out setting.has_post setting.scene.parties →

@@ -44,14 +44,14 @@ abbrev pub fresh_party : SharedPool → ℕ → PoolParty
 fresh_party allocator number = record { allocator = allocator; number = number; log = [] }
 
 -- how many parties a pool has, with its post or without one, of which so many are handed out
-abbrev pub with_post : Bool → ℕ → ℕ
-with_post false count = count
-with_post true count = count + 1
+abbrev pub count_with_post : Bool → ℕ → ℕ
+count_with_post false count = count
+count_with_post true count = count + 1
 
 -- these are all parties of a pool that are handed out, so many, numbered from 0, and none has made a step
 pub record AreHandedOut (has_post : Bool) (allocator : SharedPool) (count : ℕ) (parties : List PoolParty)
     : Type 0 where
-  pub so_many : allocator.scene.parties ≡ with_post has_post count
+  pub so_many : allocator.scene.parties ≡ count_with_post has_post count
   pub post : allocator.has_post ≡ has_post
   pub as_many : length parties ≡ count
   pub fresh : (number : ℕ) → number < count → slice_get parties number ≡ Some (fresh_party allocator number)

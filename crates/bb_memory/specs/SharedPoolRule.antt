@@ -11,7 +11,7 @@ use Rattle.bb_memory_base.specs.PoolMachine.{PoolScene}
 use Rattle.bb_memory_base.specs.PoolHistory.{PoolEntry, PoolLog}
 use Rattle.bb_memory_base.specs.PoolLogs.{HasLog, Interleaving, IsHeldAfter, LogsAgree, next_bucket, pass_in}
 use Rattle.bb_memory_base.specs.declared.layout.Layout.{Layout}
-use Rattle.bb_memory.specs.SharedPool.{PoolParty, IsSharedScene, SharedPool, scene_at, with_post}
+use Rattle.bb_memory.specs.SharedPool.{PoolParty, IsSharedScene, SharedPool, scene_at, count_with_post}
 use Rattle.bb_memory.specs.Seats.{AreSeated, HasRoomFor, IsAt, Numbered, Seat, alone, carrying, fresh_from, number_of, numbered}
 use Rattle.bb_memory.specs.Seats.{standing_for, times_in_transit, view_log}
 
@@ -174,7 +174,7 @@ pub record MaySeat {Z : Type 0} (pool : SharedPool) (count : ℕ) (here : TableI
     : Type 0 where
   pub table : here ≡ pool.table
   pub seat : me ≡ (standing_for pool.scene (fresh_from 0 count), [])
-  pub parties : pool.scene.parties ≡ with_post pool.has_post count
+  pub parties : pool.scene.parties ≡ count_with_post pool.has_post count
   pub room : HasRoomFor count all
 
 -- no bytes, at any place

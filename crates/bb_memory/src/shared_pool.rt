@@ -1,5 +1,5 @@
 //! Pools that threads share: each call takes its pool by `&`, and steps on one atomic flag for each bucket.
-ghost use Rattle.std.specs.Prelude.{◌≡◌, ◌≢◌, ◌<◌, ◌≤◌, ℕ, List};
+ghost use Rattle.std.specs.Prelude.{◌≡◌, ◌≢◌, ◌-◌, ◌<◌, ◌≤◌, ◌^◌, ℕ, List};
 ghost use Rattle.std.specs.Prelude.{IfOk, IfErr, ◌++◌, ◌⊎◌};
 ghost use Rattle.bb_memory_base.specs.Region.{region_at};
 ghost use Rattle.bb_memory_base.specs.Chunk.{AreApart, Chunk};
@@ -12,7 +12,7 @@ ghost use Rattle.bb_memory_base.specs.PoolHistory.{PoolLog};
 ghost use Rattle.bb_memory_base.specs.PoolLogs.{IsHeldAfter};
 ghost use Rattle.bb_memory_base.specs.declared.layout.Layout.{Layout};
 ghost use Rattle.bb_memory.specs.Pool.{AreAStrideApart, MayBeCut};
-ghost use Rattle.bb_memory.specs.SharedPool.{AreFresh, AreInterleaved, HasFoundAllHeld, IsHistoryRun};
+ghost use Rattle.bb_memory.specs.SharedPool.{AreFresh, AreFreshWithPost, AreInterleaved, HasFoundAllHeld, IsHistoryRun};
 ghost use Rattle.bb_memory.specs.SharedPool.{IsParty, PoolParty, TakenBucket, chunk_of};
 ghost use Rattle.bb_memory.specs.SharedPool.{refused_pass};
 ghost use Rattle.bb_memory.specs.SharedPoolRounds.{HasMissedAll, refused_round};
@@ -90,6 +90,45 @@ impl SharedPoolAllocator {
             geometry,
             parties,
             has_post: false,
+        };
+        match Self::open(alloc, scene, parties) {
+            Ok(made) => Ok(made),
+            Err(AllocError) => Err(AllocationError::OutOfMemory),
+        }
+    }
+
+    /// A pool as `new` makes it, and with a post: one more party of the pool, which is handed out to nobody, and holds each bucket
+    /// that a party handed over and none has taken over yet. Its conditions and its refusal are those of `new`; and the parties
+    /// have to be fewer than `u32::MAX`, since the post is one more.
+    ///
+    /// ```
+    /// let bucket = Layout::from_size_align(128, 8).unwrap();
+    /// let (pool, mut parties) = SharedPoolAllocator::with_post(alloc, bucket, 4096, 1024, 2)?;
+    /// let mut receiver = parties.pop().unwrap();
+    /// let mut sender = parties.pop().unwrap();
+    /// let taken = pool.allocate(&mut sender, Layout::from_size_align(48, 4).unwrap())?;
+    /// let message = pool.hand_over(&mut sender, taken);
+    /// let received = pool.take_over(&mut receiver, message);
+    /// pool.deallocate_bucket(&mut receiver, received);
+    /// ```
+    pub fn with_post(
+        alloc: Global,
+        bucket_layout: Layout,
+        start: usize,
+        size: usize,
+        parties: u32,
+    ) -> Result<(Self, Vec<PoolParty>), AllocationError>
+        requires cut { MayBeCut (region_at start size) bucket_layout }
+        requires parties { (1 ≤ parties) × (parties < 2 ^ 32 - 1) }
+        ensures geometry { IfOk result (λ made.
+            IsCut (region_at start size) bucket_layout made.0.scene.geometry) }
+        ensures parties { IfOk result (λ made. AreFreshWithPost made.0 parties made.1.items) }
+        ensures refused { IfErr result (λ error. error ≡ AllocationError.OutOfMemory) }
+    {
+        let scene = Scene {
+            geometry: Geometry::new(bucket_layout, start, size),
+            parties: parties + 1,
+            has_post: true,
         };
         match Self::open(alloc, scene, parties) {
             Ok(made) => Ok(made),

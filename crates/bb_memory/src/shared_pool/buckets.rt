@@ -7,8 +7,8 @@ ghost use Rattle.bb_memory_base.specs.PoolObject.{IsWithin, MayGrow, MayShrink};
 ghost use Rattle.bb_memory_base.specs.PoolLogs.{IsHeldAfter};
 ghost use Rattle.bb_memory.specs.Seats.{Stays, number_of, view_log};
 ghost use Rattle.bb_memory.specs.SharedPool.{AreAllHeldAfter, AreBothOf, AreHandedOut, AreInterleaved, HaveMet, IsAlignedTo};
-ghost use Rattle.bb_memory.specs.SharedPool.{IsResizedTo, IsSameParty, IsSharedScene, MayTake, chunk_of, return_entry};
-ghost use Rattle.bb_memory.specs.SharedPool.{with_entries, with_post};
+ghost use Rattle.bb_memory.specs.SharedPool.{IsResizedTo, IsSameParty, IsSharedScene, MayTake, chunk_of, count_with_post};
+ghost use Rattle.bb_memory.specs.SharedPool.{return_entry, with_entries};
 ghost use Rattle.bb_memory.specs.SharedPoolRule.{IsIdleAt, MaySeat};
 ghost use Rattle.bb_memory.specs.SharedPoolSteps.{HasRefused, HasTaken};
 
@@ -53,7 +53,7 @@ impl<const CAPPED: usize, const MOST: usize> SharedBucketPool<CAPPED, MOST> {
         parties: u32,
     ) -> Result<(Self, Vec<PoolParty>), AllocError>
         requires some { 1 ≤ parties }
-        requires parties { scene.scene.parties ≡ with_post scene.has_post parties }
+        requires parties { scene.scene.parties ≡ count_with_post scene.has_post parties }
         ensures geometry { IfOk result (λ made. made.0.scene.geometry ≡ scene.scene.geometry) }
         ensures parties { IfOk result (λ made. AreHandedOut scene.has_post made.0 parties made.1.items) }
     {

@@ -3,7 +3,7 @@ ghost use Rattle.std.specs.Prelude.{◌≡◌, ◌-◌, ◌<◌, ◌≤◌, ◌^
 ghost use Rattle.bb_memory_base.specs.Region.{region_at};
 ghost use Rattle.bb_memory_base.specs.PoolGeometry.{PoolGeometry, IsCut, at_most};
 ghost use Rattle.bb_memory.specs.Pool.{MayBeCut};
-ghost use Rattle.bb_memory.specs.SharedPool.{AreFresh};
+ghost use Rattle.bb_memory.specs.SharedPool.{AreFresh, AreFreshWithPost};
 
 use super::buckets::SharedBucketPool;
 use super::party::PoolParty;
@@ -61,6 +61,39 @@ impl<const MAX_NUMBER_OF_BUCKETS: usize> SharedFixedSizePoolAllocator<MAX_NUMBER
             geometry,
             parties,
             has_post: false,
+        };
+        match Self::open(alloc, scene, parties) {
+            Ok(made) => Ok(made),
+            Err(AllocError) => Err(AllocationError::OutOfMemory),
+        }
+    }
+
+    /// A pool as `new` makes it, and with a post, as
+    /// [`SharedPoolAllocator::with_post`](super::SharedPoolAllocator::with_post) makes one: its parties may hand buckets over. Its
+    /// conditions and its refusal are those of `new`; and the parties have to be fewer than `u32::MAX`, since the post is one more.
+    pub fn with_post(
+        alloc: Global,
+        bucket_layout: Layout,
+        start: usize,
+        size: usize,
+        parties: u32,
+    ) -> Result<(Self, Vec<PoolParty>), AllocationError>
+        requires cut { MayBeCut (region_at start size) bucket_layout }
+        requires most { MAX_NUMBER_OF_BUCKETS < 2 ^ 32 - 1 }
+        requires parties { (1 ≤ parties) × (parties < 2 ^ 32 - 1) }
+        ensures geometry { IfOk result (λ made. (whole : PoolGeometry)
+            × IsCut (region_at start size) bucket_layout whole
+            × (made.0.scene.geometry ≡ at_most MAX_NUMBER_OF_BUCKETS whole)) }
+        ensures parties { IfOk result (λ made. AreFreshWithPost made.0 parties made.1.items) }
+        ensures refused { IfErr result (λ error. error ≡ AllocationError.OutOfMemory) }
+    {
+        let geometry = Geometry::new(bucket_layout, start, size).at_most(
+            MAX_NUMBER_OF_BUCKETS as u32,
+        );
+        let scene = Scene {
+            geometry,
+            parties: parties + 1,
+            has_post: true,
         };
         match Self::open(alloc, scene, parties) {
             Ok(made) => Ok(made),

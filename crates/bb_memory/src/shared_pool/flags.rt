@@ -48,9 +48,9 @@ impl Model for Flags {
     ghost Value = { SharedPool };
 
     ghost view = { λ f. record {
-        table = f.table.shared.table_id;
-        scene = f.scene.scene;
-        has_post = f.scene.has_post;
+      table = f.table.shared.table_id;
+      scene = f.scene.scene;
+      has_post = f.scene.has_post;
     } };
 
     ghost invariant = { λ f. (f.table.shared.key ≡ f.scene)

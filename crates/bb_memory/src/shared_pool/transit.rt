@@ -92,13 +92,13 @@ impl<const CAPPED: usize, const MOST: usize> SharedBucketPool<CAPPED, MOST> {
     pub fn take_over(&self, party: &mut PoolParty, transit: BucketInTransit) -> Bucket<'_>
         requires party { party.old.allocator ≡ self.now }
         requires bucket { transit.allocator ≡ self.now }
-        ensures bucket { result ≡ transit.entry }
+        ensures bucket { result ≡ transit }
         ensures logged { party.new
-            ≡ with_entries party.old (taking_at party.old.number transit.entry.number) }
+            ≡ with_entries party.old (taking_at party.old.number transit.number) }
         ensures party { party.new.allocator ≡ self.now }
         ensures is_party { IsSameParty party.old party.new }
-        ensures not_held { ¬ IsHeldAfter party.old.log transit.entry.number }
-        ensures held { IsHeldAfter party.new.log transit.entry.number }
+        ensures not_held { ¬ IsHeldAfter party.old.log transit.number }
+        ensures held { IsHeldAfter party.new.log transit.number }
         ensures still_held { (other : ℕ) → IsHeldAfter party.old.log other
             → IsHeldAfter party.new.log other }
     {

@@ -37,7 +37,7 @@ load-requires c =
     let both = c.join_seat.ensures.2 ∙ λ i. (both_in_transit (own i).0 (guest i).0, (own i).1) in (
       c.join_seat.ensures.0 ∙ c.requires.one.0.table ∙ sym (ap (λ (p : SharedPool). p.table) c.self.view_is),
       omega (arith, c.self.invariant.1.words),
-      tells_apart_as c.self.inside.table.shared.key _ _ 0 c.args.second c.args.first c.join_seat.new.one.me both
+      tells_apart_as c.self.inside.table.shared.key _ _ 0 c.args.second c.args.first c.join_seat.new.seat.me both
           (has ∙ c.requires.post),
     )
 
@@ -45,5 +45,5 @@ pub split_seat-requires : goal.split_seat-requires
 split_seat-requires c = (
   c.load.ensures.0 ∙ c.join_seat.ensures.0 ∙ c.requires.one.0.table ∙ sym (ap (λ (p : SharedPool). p.table) c.self.view_is),
   omega (arith, c.self.invariant.1.words),
-  gives_transit c.self.inside.table.shared.key c.load.new.one.id c.load.new.one.me.0,
+  gives_transit c.self.inside.table.shared.key c.load.new.seat.id c.load.new.seat.me.0,
 )
