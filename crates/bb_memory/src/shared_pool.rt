@@ -102,6 +102,7 @@ impl SharedPoolAllocator {
     /// have to be fewer than `u32::MAX`, since the post is one more.
     ///
     /// ```
+    /// pool_count_law();
     /// let bucket = Layout::from_size_align(128, 8).unwrap();
     /// let (pool, mut parties) = SharedPoolAllocator::with_post(alloc, bucket, 4096, 1024, 2)?;
     /// let mut receiver = parties.pop().unwrap();
