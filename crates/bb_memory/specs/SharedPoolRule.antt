@@ -97,10 +97,23 @@ pub record IsHeldAt (pool : SharedPool) (me : Me ℕ SeatView) (bucket : ℕ) : 
   pub held : IsHeldAfter (view_log me.0) bucket
   pub below : bucket < pool.scene.geometry.buckets
 
--- the seat of a bucket in transit
-abbrev pub IsInTransitAt : SharedPool → TableId → Me ℕ SeatView → ℕ → Type 0
-IsInTransitAt pool here me bucket =
-    IsAt pool.table here (me ≡ (carrying pool.scene bucket, [])) × (bucket < pool.scene.geometry.buckets)
+-- the seat of a bucket in transit, at the table of a pool with a post
+pub record IsInTransitAt (pool : SharedPool) (here : TableId) (me : Me ℕ SeatView) (bucket : ℕ) : Type 0 where
+  pub post : pool.has_post ≡ true
+  pub at : IsAt pool.table here (me ≡ (carrying pool.scene bucket, []))
+  pub below : bucket < pool.scene.geometry.buckets
+
+-- the seat of a party of such a pool, which holds this bucket
+pub record MayHandOverAt (pool : SharedPool) (here : TableId) (me : Me ℕ SeatView) (bucket : ℕ) : Type 0 where
+  pub post : pool.has_post ≡ true
+  pub seat : IsSeatAt pool here me
+  pub held : IsHeldAt pool me bucket
+
+-- the seat of a party, and that of a bucket in transit
+pub record MayMeetTransit (pool : SharedPool) (here : TableId) (me : Me ℕ SeatView) (there : TableId) (other : Me ℕ SeatView)
+    (bucket : ℕ) : Type 0 where
+  pub seat : IsIdleAt pool here me
+  pub transit : IsInTransitAt pool there other bucket
 
 -- THE RULE
 

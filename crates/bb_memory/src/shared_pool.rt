@@ -1,5 +1,5 @@
 //! Pools that threads share: each call takes its pool by `&`, and steps on one atomic flag for each bucket.
-ghost use Rattle.std.specs.Prelude.{◌≡◌, ◌≢◌, ◌-◌, ◌<◌, ◌≤◌, ◌^◌, ℕ, List};
+ghost use Rattle.std.specs.Prelude.{◌≡◌, ◌≢◌, ◌<◌, ◌≤◌, ℕ, List};
 ghost use Rattle.std.specs.Prelude.{IfOk, IfErr, ◌++◌, ◌⊎◌};
 ghost use Rattle.bb_memory_base.specs.Region.{region_at};
 ghost use Rattle.bb_memory_base.specs.Chunk.{AreApart, Chunk};
@@ -12,10 +12,11 @@ ghost use Rattle.bb_memory_base.specs.PoolHistory.{PoolLog};
 ghost use Rattle.bb_memory_base.specs.PoolLogs.{IsHeldAfter};
 ghost use Rattle.bb_memory_base.specs.declared.layout.Layout.{Layout};
 ghost use Rattle.bb_memory.specs.Pool.{AreAStrideApart, MayBeCut};
-ghost use Rattle.bb_memory.specs.SharedPool.{AreFresh, AreFreshWithPost, AreInterleaved, HasFoundAllHeld, IsHistoryRun};
+ghost use Rattle.bb_memory.specs.SharedPool.{AreFresh, AreInterleaved, HasFoundAllHeld, IsHistoryRun};
 ghost use Rattle.bb_memory.specs.SharedPool.{IsParty, PoolParty, TakenBucket, chunk_of};
 ghost use Rattle.bb_memory.specs.SharedPool.{refused_pass};
 ghost use Rattle.bb_memory.specs.SharedPoolRounds.{HasMissedAll, refused_round};
+ghost use Rattle.bb_memory.specs.SharedPoolTransit.{MakesWithPost, MayHavePost};
 
 mod all_parties;
 mod bucket;
@@ -119,12 +120,8 @@ impl SharedPoolAllocator {
         size: usize,
         parties: u32,
     ) -> Result<(Self, Vec<PoolParty>), AllocationError>
-        requires cut { MayBeCut (region_at start size) bucket_layout }
-        requires parties { (1 ≤ parties) × (parties < 2 ^ 32 - 1) }
-        ensures geometry { IfOk result (λ made.
-            IsCut (region_at start size) bucket_layout made.0.scene.geometry) }
-        ensures parties { IfOk result (λ made. AreFreshWithPost made.0 parties made.1.items) }
-        ensures refused { IfErr result (λ error. error ≡ AllocationError.OutOfMemory) }
+        requires may { MayHavePost (region_at start size) bucket_layout parties }
+        ensures made { MakesWithPost (IsCut (region_at start size) bucket_layout) parties result }
     {
         let scene = Scene {
             geometry: Geometry::new(bucket_layout, start, size),

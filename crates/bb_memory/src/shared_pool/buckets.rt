@@ -264,7 +264,7 @@ impl<const CAPPED: usize, const MOST: usize> SharedBucketPool<CAPPED, MOST> {
     pub fn has_post(&self) -> bool
         ensures value { result ≡ self.now.has_post }
     {
-        self.flags.has_post()
+        self.flags.scene.has_post
     }
 
     /// The size of a bucket in bytes, as it was asked for. The buckets are at least that far apart.

@@ -3,7 +3,8 @@ ghost use Rattle.std.specs.Prelude.{◌≡◌, ◌-◌, ◌<◌, ◌≤◌, ◌^
 ghost use Rattle.bb_memory_base.specs.Region.{region_at};
 ghost use Rattle.bb_memory_base.specs.PoolGeometry.{PoolGeometry, IsCut, at_most};
 ghost use Rattle.bb_memory.specs.Pool.{MayBeCut};
-ghost use Rattle.bb_memory.specs.SharedPool.{AreFresh, AreFreshWithPost};
+ghost use Rattle.bb_memory.specs.SharedPool.{AreFresh};
+ghost use Rattle.bb_memory.specs.SharedPoolTransit.{MakesWithPost, MayHavePost};
 
 use super::buckets::SharedBucketPool;
 use super::party::PoolParty;
@@ -78,14 +79,11 @@ impl<const MAX_NUMBER_OF_BUCKETS: usize> SharedFixedSizePoolAllocator<MAX_NUMBER
         size: usize,
         parties: u32,
     ) -> Result<(Self, Vec<PoolParty>), AllocationError>
-        requires cut { MayBeCut (region_at start size) bucket_layout }
+        requires may { MayHavePost (region_at start size) bucket_layout parties }
         requires most { MAX_NUMBER_OF_BUCKETS < 2 ^ 32 - 1 }
-        requires parties { (1 ≤ parties) × (parties < 2 ^ 32 - 1) }
-        ensures geometry { IfOk result (λ made. (whole : PoolGeometry)
+        ensures made { MakesWithPost (λ geometry. (whole : PoolGeometry)
             × IsCut (region_at start size) bucket_layout whole
-            × (made.0.scene.geometry ≡ at_most MAX_NUMBER_OF_BUCKETS whole)) }
-        ensures parties { IfOk result (λ made. AreFreshWithPost made.0 parties made.1.items) }
-        ensures refused { IfErr result (λ error. error ≡ AllocationError.OutOfMemory) }
+            × (geometry ≡ at_most MAX_NUMBER_OF_BUCKETS whole)) parties result }
     {
         let geometry = Geometry::new(bucket_layout, start, size).at_most(
             MAX_NUMBER_OF_BUCKETS as u32,

@@ -3,13 +3,13 @@
 //! `try_flag`, `try_at` and `give_back` make one atomic step each, by the seat of the party whose step it is, and tell that its
 //! log then ends with that step and what it found. `deal`, `gather`, `find` and `meet` only load words, and are in no log; `open`
 //! is before all sharing, and `geometry` touches no word.
-ghost use Rattle.std.specs.Prelude.{◌≡◌, ◌≢◌, ◌<◌, ◌≤◌, IfOk, MatchBool, max, true};
+ghost use Rattle.std.specs.Prelude.{◌≡◌, ◌≢◌, ◌<◌, ◌≤◌, IfOk, MatchBool, max};
 ghost use Rattle.bb_memory_base.specs.Region.{IsRegion};
 ghost use Rattle.bb_memory_base.specs.PoolGeometry.{IsPoolGeometry};
 ghost use Rattle.bb_memory_base.specs.PoolLogs.{IsHeldAfter};
 ghost use Rattle.bb_memory.specs.Seats.{IsDealt, MayGather, Stays, both_of, number_of, view_log};
 ghost use Rattle.bb_memory.specs.SharedPoolRule.{AreTwoAt, IsHeldAt, IsIdleAt, IsInTransitAt, IsNextFor, IsOpened, IsSeatAt};
-ghost use Rattle.bb_memory.specs.SharedPoolRule.{StandsAt};
+ghost use Rattle.bb_memory.specs.SharedPoolRule.{MayHandOverAt, MayMeetTransit, StandsAt};
 ghost use Rattle.bb_memory.specs.SharedPoolSteps.{HasFound, HasMissedAt, HasTakenAt, TellsLoss, TellsReturn, TellsTaking};
 ghost use Rattle.bb_memory.specs.SharedPoolSteps.{TellsTwo};
 
@@ -37,7 +37,7 @@ fn count_words(buckets: u32) -> usize
 #[derive(Drop)]
 pub(super) struct Flags {
     table: Table<u8, View, Scene, Agreement, Global>,
-    scene: Scene,
+    pub(super) scene: Scene,
 }
 
 impl Model for Flags {
@@ -128,10 +128,8 @@ impl Flags {
     /// A load of its word, by the party after whose log this bucket is held: the party gives the bucket back, and the post takes
     /// it at once. What is returned has the bucket in transit.
     pub(super) fn hand_over(&self, seat: &mut Seat<u8, View>, bucket: u32) -> Seat<u8, View>
-        requires post { self.now.has_post ≡ true }
-        requires seat { IsSeatAt self.now seat.old.table_id seat.old.me }
-        requires held { IsHeldAt self.now seat.old.me bucket }
-        ensures step { Stays seat.old.table_id seat.new.table_id (TellsReturn self.now.scene
+        requires { MayHandOverAt self.now seat.old.table_id seat.old.me bucket }
+        ensures step { Stays self.now.table seat.new.table_id (TellsReturn self.now.scene
             (number_of seat.old.me.0) (view_log seat.old.me.0) bucket seat.new.me) }
         ensures transit { IsInTransitAt self.now result.table_id result.me bucket }
     {
@@ -142,9 +140,8 @@ impl Flags {
     /// A load of its word, by an idle party to whose seat this bucket in transit comes: the post gives the bucket back, and the
     /// party takes it at once.
     pub(super) fn take_over(&self, seat: &mut Seat<u8, View>, transit: Seat<u8, View>, bucket: u32)
-        requires post { self.now.has_post ≡ true }
-        requires seat { IsIdleAt self.now seat.old.table_id seat.old.me }
-        requires transit { IsInTransitAt self.now transit.table_id transit.me bucket }
+        requires { MayMeetTransit self.now seat.old.table_id seat.old.me
+            transit.table_id transit.me bucket }
         ensures { Stays seat.old.table_id seat.new.table_id (HasTakenAt self.now.scene
             (number_of seat.old.me.0) (view_log seat.old.me.0) bucket seat.new.me) }
     {
@@ -160,9 +157,8 @@ impl Flags {
         transit: &mut Seat<u8, View>,
         bucket: u32,
     )
-        requires post { self.now.has_post ≡ true }
-        requires seat { IsSeatAt self.now seat.old.table_id seat.old.me }
-        requires transit { IsInTransitAt self.now transit.old.table_id transit.old.me bucket }
+        requires { MayMeetTransit self.now seat.old.table_id seat.old.me
+            transit.old.table_id transit.old.me bucket }
         ensures seat { Stays seat.old.table_id seat.new.table_id (seat.new.me ≡ seat.old.me) }
         ensures transit { Stays transit.old.table_id transit.new.table_id
             (transit.new.me ≡ transit.old.me) }
@@ -183,7 +179,6 @@ impl Flags {
         first: u32,
         second: u32,
     )
-        requires post { self.now.has_post ≡ true }
         requires one { IsInTransitAt self.now one.old.table_id one.old.me first }
         requires other { IsInTransitAt self.now other.old.table_id other.old.me second }
         ensures one { Stays one.old.table_id one.new.table_id (one.new.me ≡ one.old.me) }
@@ -228,13 +223,6 @@ impl Flags {
         self.gather(a, guest);
         self.find(a);
         *b = self.deal(a);
-    }
-
-    /// Whether the last of the parties is a post.
-    pub(super) fn has_post(&self) -> bool
-        ensures value { result ≡ self.now.has_post }
-    {
-        self.scene.has_post
     }
 
     /// The buckets that the flags are of.

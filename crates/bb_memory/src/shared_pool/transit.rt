@@ -1,8 +1,7 @@
 //! Buckets in transit: handed over by one party of a shared pool with a post, and not yet taken over by another.
-ghost use Rattle.std.specs.Prelude.{◌≡◌, ◌≢◌, ℕ, ◌<◌, ◌≤◌, true};
+ghost use Rattle.std.specs.Prelude.{◌≡◌, ◌≢◌, ◌<◌, ◌≤◌};
 ghost use Rattle.bb_memory_base.specs.PoolLogs.{IsHeldAfter};
-ghost use Rattle.bb_memory.specs.SharedPool.{IsSameParty, return_entry, with_entries};
-ghost use Rattle.bb_memory.specs.SharedPoolRounds.{taking_at};
+ghost use Rattle.bb_memory.specs.SharedPoolTransit.{AreOf, HasHandedOver, HasTakenOver, MayHandOver};
 
 use super::bucket::Bucket;
 use super::buckets::SharedBucketPool;
@@ -36,16 +35,16 @@ impl Model for BucketInTransit {
 impl BucketInTransit {
     /// The bucket's number in its pool, from 0.
     pub fn number(&self) -> u32
-        ensures value { result ≡ self.now.number }
-        ensures below { result < self.now.allocator.scene.geometry.buckets }
+        ensures value { (result ≡ self.now.number)
+            × (result < self.now.allocator.scene.geometry.buckets) }
     {
         self.number
     }
 
     /// How many bytes the chunk in the bucket has, as the bucket had it that was handed over.
     pub fn len(&self) -> usize
-        ensures value { result ≡ self.now.len }
-        ensures short { result ≤ self.now.allocator.scene.geometry.bucket.size }
+        ensures value { (result ≡ self.now.len)
+            × (result ≤ self.now.allocator.scene.geometry.bucket.size) }
     {
         self.len
     }
@@ -64,18 +63,9 @@ impl<const CAPPED: usize, const MOST: usize> SharedBucketPool<CAPPED, MOST> {
     /// pool.deallocate_bucket(&mut receiver, received);
     /// ```
     pub fn hand_over(&self, party: &mut PoolParty, bucket: Bucket<'_>) -> BucketInTransit
-        requires post { self.now.has_post ≡ true }
-        requires party { party.old.allocator ≡ self.now }
-        requires bucket { bucket.allocator ≡ self.now }
-        requires held { IsHeldAfter party.old.log bucket.number }
+        requires may { MayHandOver self.now party.old bucket }
         ensures bucket { result ≡ bucket.entry }
-        ensures logged { party.new
-            ≡ with_entries party.old (return_entry party.old.number bucket.entry.number) }
-        ensures party { party.new.allocator ≡ self.now }
-        ensures is_party { IsSameParty party.old party.new }
-        ensures handed_over { ¬ IsHeldAfter party.new.log bucket.entry.number }
-        ensures still_held { (other : ℕ) → other ≢ bucket.entry.number
-            → IsHeldAfter party.old.log other → IsHeldAfter party.new.log other }
+        ensures party { HasHandedOver self.now party.old bucket.entry party.new }
     {
         let Bucket {
             flags: _,
@@ -90,17 +80,9 @@ impl<const CAPPED: usize, const MOST: usize> SharedBucketPool<CAPPED, MOST> {
     /// the length that it had, and may give it back. It loads two words, changes none, takes no memory and waits for nothing.
     /// The party and the bucket have to be this pool's; there is no other condition, and no refusal.
     pub fn take_over(&self, party: &mut PoolParty, transit: BucketInTransit) -> Bucket<'_>
-        requires party { party.old.allocator ≡ self.now }
-        requires bucket { transit.allocator ≡ self.now }
+        requires own { AreOf self.now party.old transit }
         ensures bucket { result ≡ transit }
-        ensures logged { party.new
-            ≡ with_entries party.old (taking_at party.old.number transit.number) }
-        ensures party { party.new.allocator ≡ self.now }
-        ensures is_party { IsSameParty party.old party.new }
-        ensures not_held { ¬ IsHeldAfter party.old.log transit.number }
-        ensures held { IsHeldAfter party.new.log transit.number }
-        ensures still_held { (other : ℕ) → IsHeldAfter party.old.log other
-            → IsHeldAfter party.new.log other }
+        ensures party { HasTakenOver self.now party.old transit party.new }
     {
         let BucketInTransit { number, len, seat } = transit;
         self.flags.take_over(&mut party.seat, seat, number);
@@ -114,11 +96,9 @@ impl<const CAPPED: usize, const MOST: usize> SharedBucketPool<CAPPED, MOST> {
     /// A party meets a bucket in transit: the party doesn't hold it. It loads a word four times, which is in no log, and changes
     /// nothing. Both have to be this pool's.
     pub fn meet_in_transit(&self, party: &mut PoolParty, transit: &mut BucketInTransit)
-        requires party { party.old.allocator ≡ self.now }
-        requires bucket { transit.old.allocator ≡ self.now }
+        requires own { AreOf self.now party.old transit.old }
         ensures kept { (party.new ≡ party.old) × (transit.new ≡ transit.old) }
-        ensures party { party.new.allocator ≡ self.now }
-        ensures bucket { transit.new.allocator ≡ self.now }
+        ensures own { AreOf self.now party.new transit.new }
         ensures apart { ¬ IsHeldAfter party.old.log transit.old.number }
     {
         self.flags

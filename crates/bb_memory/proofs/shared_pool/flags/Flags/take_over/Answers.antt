@@ -11,8 +11,8 @@ pub join_seat-requires : goal.join_seat-requires
 join_seat-requires c =
     let own = sym (ap (λ (p : SharedPool). p.table) c.self.view_is) in (
       c.requires.seat.table ∙ own,
-      c.requires.transit.0.table ∙ own,
-      ap (λ m. m.1) c.requires.transit.0.seat,
+      c.requires.transit.at.table ∙ own,
+      ap (λ m. m.1) c.requires.transit.at.seat,
       omega (arith, c.self.invariant.1.words),
       takes_in c.self.inside.table.shared.key c.args.seat.now.id c.args.transit.id c.args.seat.now.me.0 c.args.transit.me.0,
     )
@@ -23,12 +23,12 @@ load-requires c =
     let key = ap (λ (s : PoolSetting). s.scene) c.self.invariant.0 ∙ ap (λ (p : SharedPool). p.scene) c.self.view_is in
     let has = ap (λ (s : PoolSetting). s.has_post) c.self.invariant.0 ∙ ap (λ (p : SharedPool). p.has_post) c.self.view_is in
     let own = c.requires.seat.seat.seat.is ∙ ap (λ (s : PoolScene). (alone s (number_of me.0) (view_log me.0), [])) (sym key) in
-    let guest = c.requires.transit.0.seat ∙ ap (λ (s : PoolScene). (carrying s c.args.bucket, [])) (sym key) in
+    let guest = c.requires.transit.at.seat ∙ ap (λ (s : PoolScene). (carrying s c.args.bucket, [])) (sym key) in
     let both = c.join_seat.ensures.2 ∙ λ i. (both_in_transit (own i).0 (guest i).0, (own i).1) in
-    let below = rw (← c.self.view_is) at c.requires.transit.1 in
+    let below = rw (← c.self.view_is) at c.requires.transit.below in
     let counted = c.self.invariant.1.words in (
       c.join_seat.ensures.0 ∙ c.requires.seat.table ∙ sym (ap (λ (p : SharedPool). p.table) c.self.view_is),
       omega arith,
       takes_over_as c.self.inside.table.shared.key _ _ (number_of me.0) c.args.bucket (view_log me.0) c.join_seat.new.seat.me
-          both (has ∙ c.requires.post) c.requires.seat.seat.idle,
+          both (has ∙ c.requires.transit.post) c.requires.seat.seat.idle,
     )
