@@ -1,20 +1,19 @@
 -- Hand-overs, take-overs and loads at whose seat a bucket is in transit keep words and logs in agreement.
-use Rattle.std.proofs.Common.{◌≡◌, ◌≢◌, ℕ, zero, suc, ◌<◌, Bool, true, false, None, Some, List, [], ◌∷◌, ◌++◌, length, set, get_or}
+use Rattle.std.proofs.Common.{◌≡◌, ◌≢◌, ℕ, zero, suc, ◌<◌, Bool, true, false, None, Some, List, [], ◌∷◌, ◌++◌, length, set}
 use Rattle.std.proofs.Common.{refl, sym, ap, ◌∙◌, subst, arith}
 use Rattle.std.specs.Prelude.{slice_get, slice_set}
 use Rattle.std.proofs.lemmas.Option.{slice_get_within}
-use mathlib.Core.Option.{none, some}
-use lib.ListN.{get_elem?}
-use Rattle.atomic_table.specs.Table.{State, Me, keeps, step, Allows}
+use mathlib.Core.Option.{none}
+use Rattle.atomic_table.specs.Table.{Me, keeps, step, Allows}
 use Rattle.bb_memory_base.specs.PoolMachine.{PoolScene}
 use Rattle.bb_memory_base.specs.PoolHistory.{PoolEntry, PoolLog, entry_of}
-use Rattle.bb_memory_base.specs.PoolLogs.{HasLog, Interleaving, IsHeldAfter, LogsAgree, pass_in, with_entry}
+use Rattle.bb_memory_base.specs.PoolLogs.{HasLog, IsHeldAfter, LogsAgree, pass_in, with_entry}
 use Rattle.bb_memory_base.specs.declared.steps.pool.PoolStep.TheVariants.{GiveBack, TryAt}
 use Rattle.bb_memory_base.specs.declared.steps.pool.PoolOutcome.TheVariants.{Gives, Takes}
 use Rattle.bb_memory_base.proofs.PoolLogFacts.{held_is_taken, interleaved_log, logs_apart}
 use Rattle.bb_memory_base.proofs.PoolLogSteps.{give_agrees, take_at_agrees}
 use Rattle.bb_memory_base.proofs.SliceGets.{length-set_at, slice_get-set_other, slice_get-set_same}
-use Rattle.bb_memory.specs.Seats.{alone, alone_with, numbered, seat_of}
+use Rattle.bb_memory.specs.Seats.{alone, alone_with, seat_of}
 use Rattle.bb_memory.specs.SharedPoolRule.{IsPost, PoolSetting, SeatView, WordsAndLogsAgree, handed_out, post_of}
 use Rattle.bb_memory.specs.SharedPoolSteps.{hands_over, meets_transit, takes_over, tells_apart}
 use Rattle.bb_memory.proofs.Seatings.{seated_beyond, seated_with}
@@ -44,7 +43,8 @@ taking_of party bucket = entry_of (TryAt party bucket) (Takes bucket)
 passed_on : (scene : PoolScene) (flags : List Bool) (logs : List PoolLog) (giver : ℕ) (log : PoolLog) (taker : ℕ)
     (other_log : PoolLog) (bucket : ℕ) → LogsAgree scene flags logs → HasLog logs giver log → HasLog logs taker other_log →
     giver ≢ taker → taker < scene.parties → IsHeldAfter log bucket → pass_in other_log ≡ None →
-    LogsAgree scene flags (with_entry (with_entry logs giver log (return_of giver bucket)) taker other_log (taking_of taker bucket))
+    LogsAgree scene flags
+    (with_entry (with_entry logs giver log (return_of giver bucket)) taker other_log (taking_of taker bucket))
 passed_on scene flags logs giver log taker other_log bucket agree at other_at apart made held idle =
     let taken = held_is_taken scene flags logs giver log bucket agree at held in
     let freed : List Bool = slice_set flags bucket false in
@@ -85,7 +85,8 @@ hands_over_one setting slots seat party bucket log has held state rule homes at 
     passed_on scene rule.flags rule.logs party log post_number post.log bucket rule.agree mine.1 post.its apart
     (post_made setting rule.logs post.log rule.one_a_party post.its) held post.idle in
     let free : ¬ IsHeldAfter post.log bucket =
-    λ both. apart (logs_apart scene rule.flags rule.logs party log post_number post.log bucket rule.agree mine.1 post.its held both) in
+    λ both. apart
+    (logs_apart scene rule.flags rule.logs party log post_number post.log bucket rule.agree mine.1 post.its held both) in
     let before = before_post setting has in (
       new,
       keeps,

@@ -131,9 +131,10 @@ tries_flag : (setting : PoolSetting) (slots seat party bucket : ℕ) (log : Pool
     Allowed tries setting state seat slots bucket (alone setting.scene party log, []) (word_of flag)
 tries_flag setting slots seat party bucket log next state rule at false free =
     let mine = rule.seated.known seat (alone setting.scene party log) at in
+    let made = is_made setting party mine.0 in
     let entry : PoolEntry = entry_of (Try party) (Takes bucket) in
     let flags : List Bool = slice_set rule.flags bucket true in
-    let agree = take_agrees setting.scene rule.flags rule.logs party log bucket rule.agree (is_made setting party mine.0) mine.1 next free in (
+    let agree = take_agrees setting.scene rule.flags rule.logs party log bucket rule.agree made mine.1 next free in (
       alone setting.scene party (log ++ entry ∷ []),
       keeps,
       tt,
@@ -149,8 +150,9 @@ tries_flag setting slots seat party bucket log next state rule at false free =
     )
 tries_flag setting slots seat party bucket log next state rule at true taken =
     let mine = rule.seated.known seat (alone setting.scene party log) at in
+    let made = is_made setting party mine.0 in
     let entry : PoolEntry = entry_of (Try party) (loss_at setting.scene.geometry.buckets bucket) in
-    let agree = lose_agrees setting.scene rule.flags rule.logs party log bucket rule.agree (is_made setting party mine.0) mine.1 next taken in (
+    let agree = lose_agrees setting.scene rule.flags rule.logs party log bucket rule.agree made mine.1 next taken in (
       alone setting.scene party (log ++ entry ∷ []),
       keeps,
       tt,
@@ -162,7 +164,7 @@ tries_flag setting slots seat party bucket log next state rule at true taken =
         λ _. record {
           seat = told setting.scene rule.flags rule.logs party log entry mine.1 agree;
           held = λ one.
-              let first : party ≡ 0 = let made = is_made setting party mine.0 in omega arith in
+              let first : party ≡ 0 = omega (arith, made, one) in
               taken_is_held_alone setting.scene rule.flags rule.logs log bucket rule.agree one
               (subst (λ n. HasLog rule.logs n log) first mine.1) taken;
         },
@@ -171,7 +173,8 @@ tries_flag setting slots seat party bucket log next state rule at true taken =
 
 tries_one : (setting : PoolSetting) (slots seat party bucket : ℕ) (log : PoolLog) → bucket < setting.scene.geometry.buckets →
     next_bucket log ≡ bucket →
-    Allows (WordsAndLogsAgree setting) slots seat (alone setting.scene party log, []) bucket (λ found. either (eqb found 0) 1 found)
+    Allows (WordsAndLogsAgree setting) slots seat (alone setting.scene party log, []) bucket
+    (λ found. either (eqb found 0) 1 found)
     (tries (step slots bucket 0 1 none) (alone setting.scene party log, []))
 tries_one setting slots seat party bucket log below next state rule homes at fits =
     let count = length-flags setting.scene rule.flags rule.logs rule.agree in
@@ -200,9 +203,10 @@ tries_one_flag : (setting : PoolSetting) (slots seat party bucket : ℕ) (log : 
     Allowed tries_at setting state seat slots bucket (alone setting.scene party log, []) (word_of flag)
 tries_one_flag setting slots seat party bucket log idle state rule at false free =
     let mine = rule.seated.known seat (alone setting.scene party log) at in
+    let made = is_made setting party mine.0 in
     let entry : PoolEntry = entry_of (TryAt party bucket) (Takes bucket) in
     let flags : List Bool = slice_set rule.flags bucket true in
-    let agree = take_at_agrees setting.scene rule.flags rule.logs party log bucket rule.agree (is_made setting party mine.0) mine.1 idle free in (
+    let agree = take_at_agrees setting.scene rule.flags rule.logs party log bucket rule.agree made mine.1 idle free in (
       alone setting.scene party (log ++ entry ∷ []),
       keeps,
       tt,
@@ -218,8 +222,9 @@ tries_one_flag setting slots seat party bucket log idle state rule at false free
     )
 tries_one_flag setting slots seat party bucket log idle state rule at true taken =
     let mine = rule.seated.known seat (alone setting.scene party log) at in
+    let made = is_made setting party mine.0 in
     let entry : PoolEntry = entry_of (TryAt party bucket) (Misses bucket) in
-    let agree = miss_agrees setting.scene rule.flags rule.logs party log bucket rule.agree (is_made setting party mine.0) mine.1 idle taken in (
+    let agree = miss_agrees setting.scene rule.flags rule.logs party log bucket rule.agree made mine.1 idle taken in (
       alone setting.scene party (log ++ entry ∷ []),
       keeps,
       tt,
@@ -231,7 +236,7 @@ tries_one_flag setting slots seat party bucket log idle state rule at true taken
         λ _. record {
           ended = told_idle setting.scene rule.flags rule.logs party log entry mine.1 agree idle refl;
           held = λ one.
-              let first : party ≡ 0 = let made = is_made setting party mine.0 in omega arith in
+              let first : party ≡ 0 = omega (arith, made, one) in
               taken_is_held_alone setting.scene rule.flags rule.logs log bucket rule.agree one
               (subst (λ n. HasLog rule.logs n log) first mine.1) taken;
         },
@@ -240,7 +245,8 @@ tries_one_flag setting slots seat party bucket log idle state rule at true taken
 
 tries_at_one : (setting : PoolSetting) (slots seat party bucket : ℕ) (log : PoolLog) → bucket < setting.scene.geometry.buckets →
     pass_in log ≡ None →
-    Allows (WordsAndLogsAgree setting) slots seat (alone setting.scene party log, []) bucket (λ found. either (eqb found 0) 1 found)
+    Allows (WordsAndLogsAgree setting) slots seat (alone setting.scene party log, []) bucket
+    (λ found. either (eqb found 0) 1 found)
     (tries_at (step slots bucket 0 1 none) (alone setting.scene party log, []))
 tries_at_one setting slots seat party bucket log below idle state rule homes at fits =
     let count = length-flags setting.scene rule.flags rule.logs rule.agree in

@@ -1,13 +1,13 @@
 -- A pool's post: which buckets it holds, and how these stand in the views of seats, while parties step.
 use Rattle.std.proofs.Common.{◌≡◌, ◌≢◌, ℕ, zero, suc, ◌+◌, ◌<◌, ◌≤◌, Bool, true, false, List, [], ◌∷◌, ◌++◌, set}
-use Rattle.std.proofs.Common.{None, refl, sym, ap, ◌∙◌, subst, arith, inl, inr}
+use Rattle.std.proofs.Common.{refl, sym, ap, ◌∙◌, subst, arith, inl, inr}
 use Rattle.std.specs.Prelude.{slice_set, if◌then◌else◌}
 use Rattle.std.proofs.lemmas.Bool.{cases_eq}
 use mathlib.Core.Option.{some, some-injective, some-ne-none}
 use lib.ListN.{get_elem?}
 use Rattle.bb_memory_base.specs.PoolMachine.{PoolScene}
 use Rattle.bb_memory_base.specs.PoolHistory.{PoolLog, entry_of}
-use Rattle.bb_memory_base.specs.PoolLogs.{HasLog, IsHeldAfter}
+use Rattle.bb_memory_base.specs.PoolLogs.{IsHeldAfter}
 use Rattle.bb_memory_base.specs.declared.steps.pool.PoolStep.TheVariants.{GiveBack, TryAt}
 use Rattle.bb_memory_base.specs.declared.steps.pool.PoolOutcome.TheVariants.{Gives, Takes}
 use Rattle.bb_memory_base.proofs.PoolHolders.{held_through}
@@ -125,7 +125,8 @@ post_joined scene logs views seat other view guest both spent empty parts at the
     let none = ap (times_of bucket) empty in
     let less = parts bucket in omega arith)
 
-pub both_parts : (guest view : List ℕ) (bucket : ℕ) → times_of bucket (guest ++ view) ≤ times_of bucket guest + times_of bucket view
+pub both_parts : (guest view : List ℕ) (bucket : ℕ) →
+    times_of bucket (guest ++ view) ≤ times_of bucket guest + times_of bucket view
 both_parts guest view bucket = let same = times_of-append bucket guest view in omega arith
 
 -- a step of another party, at whose seat nothing is in transit, before or after

@@ -4,7 +4,7 @@ use Rattle.std.specs.Prelude.{All, max}
 use Rattle.std.proofs.lemmas.List.{length-replicate}
 use Rattle.std.proofs.lemmas.List.Elements.{All-replicate}
 use Rattle.atomic_table.specs.Table.{Splits, Joins, opening}
-use Rattle.bb_memory_base.specs.PoolHistory.{PoolEntry, PoolLog}
+use Rattle.bb_memory_base.specs.PoolHistory.{PoolLog}
 use Rattle.bb_memory_base.proofs.PoolLogSteps.{opening_agrees}
 use Rattle.bb_memory_base.proofs.SliceGets.{slice_get-replicate}
 use Rattle.bb_memory.specs.Seats.{both_in_transit, both_of, first_in_transit, first_of, others_in_transit, others_of}

@@ -98,9 +98,10 @@ impl SharedPoolAllocator {
         }
     }
 
-    /// A pool as `new` makes it, and with a post: one more party of the pool, which is handed out to nobody, and holds each bucket
-    /// that a party handed over and none has taken over yet. Its conditions and its refusal are those of `new`; and the parties
-    /// have to be fewer than `u32::MAX`, since the post is one more.
+    /// A pool as `new` makes it, and with a post: one more party of the pool, which is handed out to nobody, and holds each
+    /// bucket that a party handed over and none has taken over yet. Its conditions and its refusal are those of `new`; and the
+    /// parties have to be fewer than `u32::MAX`, since the post is one more. As a meeting of all parties that are handed out is
+    /// without the post, it leaves open which buckets are in transit.
     ///
     /// ```
     /// pool_count_law();

@@ -70,8 +70,9 @@ impl<const MAX_NUMBER_OF_BUCKETS: usize> SharedFixedSizePoolAllocator<MAX_NUMBER
     }
 
     /// A pool as `new` makes it, and with a post, as
-    /// [`SharedPoolAllocator::with_post`](super::SharedPoolAllocator::with_post) makes one: its parties may hand buckets over. Its
-    /// conditions and its refusal are those of `new`; and the parties have to be fewer than `u32::MAX`, since the post is one more.
+    /// [`SharedPoolAllocator::with_post`](super::SharedPoolAllocator::with_post) makes one: its parties may hand buckets over.
+    /// Its conditions and its refusal are those of `new`; and the parties have to be fewer than `u32::MAX`, since the post is one
+    /// more.
     pub fn with_post(
         alloc: Global,
         bucket_layout: Layout,

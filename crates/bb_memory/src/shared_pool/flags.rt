@@ -1,8 +1,10 @@
 //! The flags that threads share, one a bucket: their words, and the only calls that touch them.
 //!
 //! `try_flag`, `try_at` and `give_back` make one atomic step each, by the seat of the party whose step it is, and tell that its
-//! log then ends with that step and what it found. `deal`, `gather`, `find` and `meet` only load words, and are in no log; `open`
-//! is before all sharing, and `geometry` touches no word.
+//! log then ends with that step and what it found. `hand_over` and `take_over` make two steps at one load of a bucket's word, one
+//! of the party's and one of the post's, and load a word more for the seat of what is in transit. `deal`, `gather`, `find`,
+//! `meet`, `meet_in_transit` and `tell_apart` only load words, and are in no log; `open` is before all sharing, and `geometry`
+//! touches no word.
 ghost use Rattle.std.specs.Prelude.{◌≡◌, ◌≢◌, ◌<◌, ◌≤◌, IfOk, MatchBool, max};
 ghost use Rattle.bb_memory_base.specs.Region.{IsRegion};
 ghost use Rattle.bb_memory_base.specs.PoolGeometry.{IsPoolGeometry};
