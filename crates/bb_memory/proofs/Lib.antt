@@ -28,11 +28,13 @@ mod SharedBumpTries
 mod SharedBumpWholes
 mod SharedLogs
 mod SharedPoolGatherings
+mod SharedPoolHandOvers
 mod SharedPoolKeeps
 mod SharedPoolLaws
 mod SharedPoolMeetings
 mod SharedPoolParties
 mod SharedPoolPasses
+mod SharedPoolPosts
 pub mod SharedPoolRounds
 mod SharedPoolSeats
 pub mod SharedPoolTries

@@ -8,7 +8,7 @@ use lib.ListN.{get_elem?}
 use Rattle.atomic_table.proofs.Lists.{at_set, at_snoc}
 use Rattle.bb_memory_base.proofs.SliceGets.{slice_get-set_other, slice_get-set_same, slice_get-replicate}
 use Rattle.bb_memory.specs.Seats.{AreSeated, HaveLogs, Numbered, Seat, alone, first_of, fresh_from, head_of}
-use Rattle.bb_memory.specs.Seats.{numbered, one_if, others_of, standing_for, tail_of, times_in, times_in_views}
+use Rattle.bb_memory.specs.Seats.{numbered, one_if, others_of, seat_of, standing_for, tail_of, times_in, times_in_views}
 
 -- HOW OFTEN A PARTY STANDS IN VIEWS
 
@@ -180,32 +180,75 @@ times_in-parts number (party ∷ parties) = omega arith
 
 -- ONE STEP
 
--- the log of a party that stands alone in its seat becomes another
-pub seated_step : {S E : Type 0} (made : ℕ) (logs : List (List E)) (views : List (Seat S E)) (seat : ℕ) (scene : S)
-    (number : ℕ) (log new : List E) →
-    AreSeated made logs views → get_elem? views seat ≡ some (alone scene number log) →
-    AreSeated made (slice_set logs number new) (set views seat (alone scene number new))
-seated_step {S = S} {E = E} made logs views seat scene number log new seated at =
-    let mine = seated.known seat (alone scene number log) at in record {
-      known = λ other found there. elim (at_set views seat other (alone scene number new) found there) [
+-- the log of the one party of a seat becomes another, whatever is in transit there, before and after
+pub seated_with : {S E : Type 0} (made : ℕ) (logs : List (List E)) (views : List (Seat S E)) (seat : ℕ) (scene : S)
+    (number : ℕ) (log new : List E) (before after : List ℕ) →
+    AreSeated made logs views → get_elem? views seat ≡ some (seat_of scene (numbered number log ∷ []) before) →
+    AreSeated made (slice_set logs number new) (set views seat (seat_of scene (numbered number new ∷ []) after))
+seated_with {S = S} {E = E} made logs views seat scene number log new before after seated at =
+    let old : Seat S E = seat_of scene (numbered number log ∷ []) before in
+    let then : Seat S E = seat_of scene (numbered number new ∷ []) after in
+    let mine = seated.known seat old at in record {
+      known = λ other found there. elim (at_set views seat other then found there) [
         | inl here ↦
             subst (λ (v : Seat S E). HaveLogs made (slice_set logs number new) v.parties) here.1
             (mine.0, slice_get-set_same logs number new log mine.1, tt)
         | inr elsewhere ↦
-            let two = times_in-two number views other seat found (alone scene number log) elsewhere.0 elsewhere.1 at in
+            let two = times_in-two number views other seat found old elsewhere.0 elsewhere.1 at in
             let one = times_in-own number log in
             let most = seated.once number mine.0 in
             others_keep made logs new number found.parties (omega arith) (seated.known other found elsewhere.1)
       ];
       once = λ party below.
-          let placed = times_in_views-set party views seat (alone scene number log) (alone scene number new) at in
+          let placed = times_in_views-set party views seat old then at in
           let one = seated.once party below in omega arith;
     }
+
+-- the same of a party that stands alone in its seat
+pub seated_step : {S E : Type 0} (made : ℕ) (logs : List (List E)) (views : List (Seat S E)) (seat : ℕ) (scene : S)
+    (number : ℕ) (log new : List E) →
+    AreSeated made logs views → get_elem? views seat ≡ some (alone scene number log) →
+    AreSeated made (slice_set logs number new) (set views seat (alone scene number new))
+seated_step made logs views seat scene number log new = seated_with made logs views seat scene number log new [] []
+
+-- the log of a party that stands in no view becomes another
+have_beyond : {E : Type 0} (made : ℕ) (logs : List (List E)) (number : ℕ) (log : List E) (parties : List (Numbered E)) →
+    made ≤ number → HaveLogs made logs parties → HaveLogs made (slice_set logs number log) parties
+have_beyond made logs number log [] beyond have = tt
+have_beyond made logs number log (party ∷ parties) beyond have =
+    let below = have.0 in (
+      have.0,
+      slice_get-set_other logs number party.number log (λ same. absurd (omega arith)) ∙ have.1,
+      have_beyond made logs number log parties beyond have.2,
+    )
+
+pub seated_beyond : {S E : Type 0} (made : ℕ) (logs : List (List E)) (views : List (Seat S E)) (number : ℕ) (log : List E) →
+    made ≤ number → AreSeated made logs views → AreSeated made (slice_set logs number log) views
+seated_beyond made logs views number log beyond seated = record {
+  known = λ other found there. have_beyond made logs number log found.parties beyond (seated.known other found there);
+  once = seated.once;
+}
+
+-- parties that are among so many are among more
+pub have_within : {E : Type 0} (made all : ℕ) (logs : List (List E)) (parties : List (Numbered E)) → made ≤ all →
+    HaveLogs made logs parties → HaveLogs all logs parties
+have_within made all logs [] within have = tt
+have_within made all logs (party ∷ parties) within have =
+    let below = have.0 in (omega arith, have.1, have_within made all logs parties within have.2)
+
+-- and none of them has a number beyond
+pub none_beyond : {E : Type 0} (made : ℕ) (logs : List (List E)) (number : ℕ) (parties : List (Numbered E)) → made ≤ number →
+    HaveLogs made logs parties → times_in number parties ≡ 0
+none_beyond made logs number [] beyond have = refl
+none_beyond made logs number (party ∷ parties) beyond have =
+    let below = have.0 in
+    let none = one_apart party.number number (λ same. absurd (omega arith)) in
+    let rest = none_beyond made logs number parties beyond have.2 in omega arith
 
 -- SPLITS AND JOINS
 
 -- a view is split in two where each party goes to one of the two
-seated_split : {S E : Type 0} (made : ℕ) (logs : List (List E)) (views : List (Seat S E)) (seat : ℕ)
+pub seated_split : {S E : Type 0} (made : ℕ) (logs : List (List E)) (views : List (Seat S E)) (seat : ℕ)
     (view left right : Seat S E) →
     ((number : ℕ) → times_in number left.parties + times_in number right.parties ≡ times_in number view.parties) →
     (HaveLogs made logs view.parties → HaveLogs made logs left.parties × HaveLogs made logs right.parties) →
@@ -238,14 +281,14 @@ seated_others made logs views seat view = seated_split made logs views seat view
 
 -- two views are joined: one has the parties of both, and the other none
 pub seated_joined : {S E : Type 0} (made : ℕ) (logs : List (List E)) (views : List (Seat S E)) (seat : ℕ) (view : Seat S E)
-    (other : ℕ) (guest : Seat S E) (scene none : S) →
-    let both = standing_for scene (guest.parties ++ view.parties) in
+    (other : ℕ) (guest : Seat S E) (scene none : S) (items : List ℕ) →
+    let both = seat_of scene (guest.parties ++ view.parties) items in
     AreSeated made logs views → get_elem? views seat ≡ some view → other ≢ seat →
     get_elem? (set views seat both) other ≡ some guest →
     AreSeated made logs (set (set views seat both) other (standing_for none []))
-seated_joined {S = S} {E = E} made logs views seat view other guest scene none seated at apart there =
+seated_joined {S = S} {E = E} made logs views seat view other guest scene none items seated at apart there =
     let Known : Seat S E → Type 0 = λ v. HaveLogs made logs v.parties in
-    let both : Seat S E = standing_for scene (guest.parties ++ view.parties) in
+    let both : Seat S E = seat_of scene (guest.parties ++ view.parties) items in
     let spent : Seat S E = standing_for none [] in
     let first : List (Seat S E) = set views seat both in
     let was : get_elem? views other ≡ some guest = elim (at_set views seat other both guest there) [
@@ -292,11 +335,14 @@ once_in made logs views seat view seated at number below =
 
 -- THE OPENING
 
-fresh_have : (E : Type 0) (made number count : ℕ) → number + count ≤ made →
-    HaveLogs {E = E} made (replicate made []) (fresh_from number count)
-fresh_have E made number zero within = tt
-fresh_have E made number (suc count) within =
-    (omega arith, slice_get-replicate made number [] (omega arith), fresh_have E made (number + 1) count (omega arith))
+fresh_have : (E : Type 0) (made all number count : ℕ) → number + count ≤ made → made ≤ all →
+    HaveLogs {E = E} made (replicate all []) (fresh_from number count)
+fresh_have E made all number zero within few = tt
+fresh_have E made all number (suc count) within few = (
+  omega arith,
+  slice_get-replicate all number [] (omega arith),
+  fresh_have E made all (number + 1) count (omega arith) few,
+)
 
 fresh_below : (E : Type 0) (number from count : ℕ) → number < from → times_in {E = E} number (fresh_from from count) ≡ 0
 fresh_below E number from zero below = refl
@@ -317,19 +363,23 @@ fresh_once E number from (suc count) low high =
           let rest = fresh_once E number (from + 1) count (omega arith) (omega arith) in omega arith
     ]
 
--- all parties stand in the first seat
-pub seated_opening : {S : Type 0} (E : Type 0) (made : ℕ) (scene : S) →
-    AreSeated {S = S} {E = E} made (replicate made []) (standing_for scene (fresh_from 0 made) ∷ [])
-seated_opening {S = S} E made scene = record {
+-- the parties that are handed out, so many of all, stand in the first seat
+pub seated_few : {S E : Type 0} (made all : ℕ) (scene : S) → made ≤ all →
+    AreSeated {S = S} {E = E} made (replicate all []) (standing_for scene (fresh_from 0 made) ∷ [])
+seated_few {S = S} {E = E} made all scene within = record {
   known = first;
   once = λ number below. let one = fresh_once E number 0 made (omega arith) (omega arith) in omega arith;
 }
   where
     first : (seat : ℕ) (view : Seat S E) → get_elem? (standing_for scene (fresh_from 0 made) ∷ []) seat ≡ some view →
-        HaveLogs {E = E} made (replicate made []) view.parties
-    first zero view is = subst (λ (v : Seat S E). HaveLogs {E = E} made (replicate made []) v.parties) (some-injective _ _ is)
-        (fresh_have E made 0 made (omega arith))
+        HaveLogs {E = E} made (replicate all []) view.parties
+    first zero view is = subst (λ (v : Seat S E). HaveLogs {E = E} made (replicate all []) v.parties) (some-injective _ _ is)
+        (fresh_have E made all 0 made (omega arith) within)
     first (suc seat) view is = absurd (some-ne-none view (sym is))
+
+pub seated_opening : {S : Type 0} (E : Type 0) (made : ℕ) (scene : S) →
+    AreSeated {S = S} {E = E} made (replicate made []) (standing_for scene (fresh_from 0 made) ∷ [])
+seated_opening E made scene = seated_few made made scene (omega arith)
 
 -- DEALING
 

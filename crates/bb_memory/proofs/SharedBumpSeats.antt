@@ -48,7 +48,7 @@ gathers scene seat other view guest state rule at apart there =
       words = rule.words;
       opened = rule.opened;
       one_a_party = rule.one_a_party;
-      seated = seated_joined scene.parties rule.logs state.views seat view other guest both.scene nobody.scene
+      seated = seated_joined scene.parties rule.logs state.views seat view other guest both.scene nobody.scene []
           rule.seated at apart there;
       met = met_set (set state.views seat both) other nobody rule.position rule.position first (omega arith) (omega arith);
     }

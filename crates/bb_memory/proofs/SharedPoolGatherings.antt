@@ -1,5 +1,5 @@
 -- Parties that come to one seat, and what their meeting says of their logs.
-use Rattle.std.proofs.Common.{◌≡◌, ℕ, zero, suc, replicate, ◌≤◌, List, [], ◌∷◌, ◌++◌, Some, length, refl, sym, ap, ◌∙◌}
+use Rattle.std.proofs.Common.{◌≡◌, ℕ, zero, suc, replicate, ◌≤◌, List, [], ◌∷◌, ◌++◌, Bool, Some, length, refl, sym, ap, ◌∙◌}
 use Rattle.std.proofs.Common.{subst, arith, inl, inr, true, false}
 use Rattle.std.specs.Prelude.{map, Contains, slice_get}
 use Rattle.std.specs.List.{AllByRecursion}
@@ -24,17 +24,18 @@ use Rattle.bb_memory.proofs.Seatings.{all_there, one_apart}
 -- GATHERING
 
 -- a party's seat stands for it alone
-pub parties_of : (table : TableId) (number : ℕ) (me : Me ℕ SeatView) (party : PoolParty) → IsPartySeat number me →
-    party_in table number me.0 ≡ party → me.0.parties ≡ numbered_of party ∷ []
-parties_of table number me party fields view_is =
+pub parties_of : (table : TableId) (post : Bool) (number : ℕ) (me : Me ℕ SeatView) (party : PoolParty) →
+    IsPartySeat number me → party_in table post number me.0 ≡ party → me.0.parties ≡ numbered_of party ∷ []
+parties_of table post number me party fields view_is =
     ap (λ (m : Me ℕ SeatView). m.0.parties) fields.seat.seat.is ∙ ap (λ (p : PoolParty). numbered_of p ∷ []) view_is
 
 -- the last of a list comes to the seat
-pub all_gathered : (table : TableId) (number : ℕ) (me : Me ℕ SeatView) (party : PoolParty) (items rest : List PoolParty) →
-    IsPartySeat number me → party_in table number me.0 ≡ party → items ≡ rest ++ party ∷ [] →
+pub all_gathered : (table : TableId) (post : Bool) (number : ℕ) (me : Me ℕ SeatView) (party : PoolParty)
+    (items rest : List PoolParty) →
+    IsPartySeat number me → party_in table post number me.0 ≡ party → items ≡ rest ++ party ∷ [] →
     map numbered_of rest ++ me.0.parties ≡ map numbered_of items
-all_gathered table number me party items rest fields view_is is =
-    ap (λ (last : List NumberedLog). map numbered_of rest ++ last) (parties_of table number me party fields view_is)
+all_gathered table post number me party items rest fields view_is is =
+    ap (λ (last : List NumberedLog). map numbered_of rest ++ last) (parties_of table post number me party fields view_is)
     ∙ sym (map-append numbered_of rest (party ∷ [])) ∙ ap (map numbered_of) (sym is)
 
 -- WHAT A MEETING SAYS
@@ -142,7 +143,7 @@ none_met scene items shared none =
     )
 
 -- the party that goes back after the meeting
-pub met_party : (table was : TableId) (number : ℕ) (me new : Me ℕ SeatView) (party : PoolParty) →
-    party_in was number me.0 ≡ party → table ≡ was → new ≡ me → party_in table number new.0 ≡ party
-met_party table was number me new party view_is same is =
-    (λ i. party_in (same i) number (is i).0) ∙ view_is
+pub met_party : (table was : TableId) (post : Bool) (number : ℕ) (me new : Me ℕ SeatView) (party : PoolParty) →
+    party_in was post number me.0 ≡ party → table ≡ was → new ≡ me → party_in table post number new.0 ≡ party
+met_party table was post number me new party view_is same is =
+    (λ i. party_in (same i) post number (is i).0) ∙ view_is

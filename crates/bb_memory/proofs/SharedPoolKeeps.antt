@@ -16,9 +16,10 @@ use Rattle.bb_memory_base.proofs.PoolLogSteps.{take_agrees, lose_agrees, give_ag
 use Rattle.bb_memory_base.proofs.PoolLogFacts.{free_not_held, taken_is_held_alone, length-flags, interleaved_log}
 use Rattle.bb_memory_base.proofs.SliceGets.{slice_get-set_same, length-set_at}
 use Rattle.bb_memory.specs.Seats.{alone}
-use Rattle.bb_memory.specs.SharedPoolRule.{IsSeatOf, IsSeatOfIdle, SeatView, WordsAndLogsAgree, word_of, words_of}
+use Rattle.bb_memory.specs.SharedPoolRule.{IsSeatOf, IsSeatOfIdle, PoolSetting, SeatView, WordsAndLogsAgree, handed_out, word_of, words_of}
 use Rattle.bb_memory.specs.SharedPoolSteps.{returns, tries, tries_at}
 use Rattle.bb_memory.proofs.Seatings.{seated_step}
+use Rattle.bb_memory.proofs.SharedPoolPosts.{is_made, not_post, post_kept}
 use Rattle.bb_memory.proofs.SharedPoolTries.{idle_after_one}
 
 -- WORDS AND FLAGS
@@ -67,14 +68,14 @@ flag_again (flag ∷ flags) (suc i) at = ap (λ (rest : List Bool). flag ∷ res
 -- ONE STEP
 
 -- the rule after a step of a party that stands alone in its seat
-entered : (scene : PoolScene) (state : State ℕ SeatView) (rule : WordsAndLogsAgree scene state) (seat party : ℕ)
+entered : (setting : PoolSetting) (state : State ℕ SeatView) (rule : WordsAndLogsAgree setting state) (seat party : ℕ)
     (log : PoolLog) (entry : PoolEntry) (words : List ℕ) (flags : List Bool) →
-    get_elem? state.views seat ≡ some (alone scene party log) →
-    LogsAgree scene flags (with_entry rule.logs party log entry) →
+    get_elem? state.views seat ≡ some (alone setting.scene party log) →
+    LogsAgree setting.scene flags (with_entry rule.logs party log entry) →
     words ≡ words_of flags →
-    WordsAndLogsAgree scene
-    record { words = words; homes = state.homes; views = set state.views seat (alone scene party (log ++ entry ∷ [])) }
-entered scene state rule seat party log entry words flags at agree are =
+    WordsAndLogsAgree setting
+    record { words = words; homes = state.homes; views = set state.views seat (alone setting.scene party (log ++ entry ∷ [])) }
+entered setting state rule seat party log entry words flags at agree are =
     let longer : PoolLog = log ++ entry ∷ [] in
     record {
       flags = flags;
@@ -82,7 +83,12 @@ entered scene state rule seat party log entry words flags at agree are =
       agree = agree;
       words = are;
       one_a_party = length-set_at rule.logs party longer ∙ rule.one_a_party;
-      seated = seated_step scene.parties rule.logs state.views seat scene party log longer rule.seated at;
+      seated = seated_step (handed_out setting.has_post setting.scene.parties) rule.logs state.views seat setting.scene party log
+          longer rule.seated at;
+      post = λ has.
+          post_kept setting.scene rule.logs state.views seat party longer (alone setting.scene party log)
+          (alone setting.scene party longer) refl refl at
+          (not_post setting party has (rule.seated.known seat (alone setting.scene party log) at).0) (rule.post has);
     }
 
 -- what it tells: the log is longer, and interleaved with others'
@@ -112,171 +118,177 @@ abbrev Telling : Type 1
 Telling = Step ℕ → Me ℕ SeatView → ℕ → Me ℕ SeatView → Type 0
 
 -- what an exchange that found a word may do
-abbrev Allowed : Telling → PoolScene → State ℕ SeatView → ℕ → ℕ → ℕ → Me ℕ SeatView → ℕ → Type 0
-Allowed tells scene state seat slots bucket me found =
+abbrev Allowed : Telling → PoolSetting → State ℕ SeatView → ℕ → ℕ → ℕ → Me ℕ SeatView → ℕ → Type 0
+Allowed tells setting state seat slots bucket me found =
     (new : SeatView) × (act : Act ℕ) × Valid state.homes me.1 act
-    × WordsAndLogsAgree scene (stepped state bucket (either (eqb found 0) 1 found) seat me.1 new act)
+    × WordsAndLogsAgree setting (stepped state bucket (either (eqb found 0) 1 found) seat me.1 new act)
     × tells (step slots bucket 0 1 none) me found (new, carried_after me.1 act)
 
-tries_flag : (scene : PoolScene) (slots seat party bucket : ℕ) (log : PoolLog) → next_bucket log ≡ bucket →
-    (state : State ℕ SeatView) (rule : WordsAndLogsAgree scene state) →
-    get_elem? state.views seat ≡ some (alone scene party log) →
+tries_flag : (setting : PoolSetting) (slots seat party bucket : ℕ) (log : PoolLog) → next_bucket log ≡ bucket →
+    (state : State ℕ SeatView) (rule : WordsAndLogsAgree setting state) →
+    get_elem? state.views seat ≡ some (alone setting.scene party log) →
     (flag : Bool) → slice_get rule.flags bucket ≡ Some flag →
-    Allowed tries scene state seat slots bucket (alone scene party log, []) (word_of flag)
-tries_flag scene slots seat party bucket log next state rule at false free =
-    let mine = rule.seated.known seat (alone scene party log) at in
+    Allowed tries setting state seat slots bucket (alone setting.scene party log, []) (word_of flag)
+tries_flag setting slots seat party bucket log next state rule at false free =
+    let mine = rule.seated.known seat (alone setting.scene party log) at in
+    let made = is_made setting party mine.0 in
     let entry : PoolEntry = entry_of (Try party) (Takes bucket) in
     let flags : List Bool = slice_set rule.flags bucket true in
-    let agree = take_agrees scene rule.flags rule.logs party log bucket rule.agree mine.0 mine.1 next free in (
-      alone scene party (log ++ entry ∷ []),
+    let agree = take_agrees setting.scene rule.flags rule.logs party log bucket rule.agree made mine.1 next free in (
+      alone setting.scene party (log ++ entry ∷ []),
       keeps,
       tt,
-      entered scene state rule seat party log entry (set state.words bucket 1) flags at agree
+      entered setting state rule seat party log entry (set state.words bucket 1) flags at agree
           (ap (λ (words : List ℕ). set words bucket 1) rule.words ∙ word_set rule.flags bucket false true free),
       (
         λ _. record {
-          seat = told scene flags rule.logs party log entry mine.1 agree;
-          free = free_not_held scene rule.flags rule.logs party log bucket rule.agree mine.1 free;
+          seat = told setting.scene flags rule.logs party log entry mine.1 agree;
+          free = free_not_held setting.scene rule.flags rule.logs party log bucket rule.agree mine.1 free;
         },
         λ not_free. absurd (not_free refl),
       ),
     )
-tries_flag scene slots seat party bucket log next state rule at true taken =
-    let mine = rule.seated.known seat (alone scene party log) at in
-    let entry : PoolEntry = entry_of (Try party) (loss_at scene.geometry.buckets bucket) in
-    let agree = lose_agrees scene rule.flags rule.logs party log bucket rule.agree mine.0 mine.1 next taken in (
-      alone scene party (log ++ entry ∷ []),
+tries_flag setting slots seat party bucket log next state rule at true taken =
+    let mine = rule.seated.known seat (alone setting.scene party log) at in
+    let made = is_made setting party mine.0 in
+    let entry : PoolEntry = entry_of (Try party) (loss_at setting.scene.geometry.buckets bucket) in
+    let agree = lose_agrees setting.scene rule.flags rule.logs party log bucket rule.agree made mine.1 next taken in (
+      alone setting.scene party (log ++ entry ∷ []),
       keeps,
       tt,
-      entered scene state rule seat party log entry (set state.words bucket 1) rule.flags at agree
+      entered setting state rule seat party log entry (set state.words bucket 1) rule.flags at agree
           (ap (λ (words : List ℕ). set words bucket 1) rule.words ∙ word_set rule.flags bucket true true taken
           ∙ ap words_of (flag_again rule.flags bucket taken)),
       (
         λ zero_found. absurd (suc-ne-zero zero zero_found),
         λ _. record {
-          seat = told scene rule.flags rule.logs party log entry mine.1 agree;
+          seat = told setting.scene rule.flags rule.logs party log entry mine.1 agree;
           held = λ one.
-              let first : party ≡ 0 = let made = mine.0 in omega arith in
-              taken_is_held_alone scene rule.flags rule.logs log bucket rule.agree one
+              let first : party ≡ 0 = omega (arith, made, one) in
+              taken_is_held_alone setting.scene rule.flags rule.logs log bucket rule.agree one
               (subst (λ n. HasLog rule.logs n log) first mine.1) taken;
         },
       ),
     )
 
-tries_one : (scene : PoolScene) (slots seat party bucket : ℕ) (log : PoolLog) → bucket < scene.geometry.buckets →
+tries_one : (setting : PoolSetting) (slots seat party bucket : ℕ) (log : PoolLog) → bucket < setting.scene.geometry.buckets →
     next_bucket log ≡ bucket →
-    Allows (WordsAndLogsAgree scene) slots seat (alone scene party log, []) bucket (λ found. either (eqb found 0) 1 found)
-    (tries (step slots bucket 0 1 none) (alone scene party log, []))
-tries_one scene slots seat party bucket log below next state rule homes at fits =
-    let count = length-flags scene rule.flags rule.logs rule.agree in
+    Allows (WordsAndLogsAgree setting) slots seat (alone setting.scene party log, []) bucket
+    (λ found. either (eqb found 0) 1 found)
+    (tries (step slots bucket 0 1 none) (alone setting.scene party log, []))
+tries_one setting slots seat party bucket log below next state rule homes at fits =
+    let count = length-flags setting.scene rule.flags rule.logs rule.agree in
     let flag = some_at rule.flags bucket (omega arith) in
     let found : get_or state.words bucket 0 ≡ word_of flag.0 =
     ap (λ (words : List ℕ). get_or words bucket 0) rule.words ∙ word_at rule.flags bucket flag.0 flag.1 in
-    subst (Allowed tries scene state seat slots bucket (alone scene party log, [])) (sym found)
-    (tries_flag scene slots seat party bucket log next state rule at flag.0 flag.1)
+    subst (Allowed tries setting state seat slots bucket (alone setting.scene party log, [])) (sym found)
+    (tries_flag setting slots seat party bucket log next state rule at flag.0 flag.1)
 
 -- a seat of one party may try the bucket that is next
-pub tries_as : (scene : PoolScene) (slots seat party bucket : ℕ) (log : PoolLog) (me : Me ℕ SeatView) →
-    me ≡ (alone scene party log, []) → bucket < scene.geometry.buckets → next_bucket log ≡ bucket →
-    Allows (WordsAndLogsAgree scene) slots seat me bucket (λ found. either (eqb found 0) 1 found)
+pub tries_as : (setting : PoolSetting) (slots seat party bucket : ℕ) (log : PoolLog) (me : Me ℕ SeatView) →
+    me ≡ (alone setting.scene party log, []) → bucket < setting.scene.geometry.buckets → next_bucket log ≡ bucket →
+    Allows (WordsAndLogsAgree setting) slots seat me bucket (λ found. either (eqb found 0) 1 found)
     (tries (step slots bucket 0 1 none) me)
-tries_as scene slots seat party bucket log me is below next =
-    subst (λ (m : Me ℕ SeatView). Allows (WordsAndLogsAgree scene) slots seat m bucket (λ found. either (eqb found 0) 1 found)
+tries_as setting slots seat party bucket log me is below next =
+    subst (λ (m : Me ℕ SeatView). Allows (WordsAndLogsAgree setting) slots seat m bucket (λ found. either (eqb found 0) 1 found)
     (tries (step slots bucket 0 1 none) m)) (sym is)
-    (tries_one scene slots seat party bucket log below next)
+    (tries_one setting slots seat party bucket log below next)
 
 -- EXCHANGES OF AN IDLE PARTY
 
-tries_one_flag : (scene : PoolScene) (slots seat party bucket : ℕ) (log : PoolLog) → pass_in log ≡ None →
-    (state : State ℕ SeatView) (rule : WordsAndLogsAgree scene state) →
-    get_elem? state.views seat ≡ some (alone scene party log) →
+tries_one_flag : (setting : PoolSetting) (slots seat party bucket : ℕ) (log : PoolLog) → pass_in log ≡ None →
+    (state : State ℕ SeatView) (rule : WordsAndLogsAgree setting state) →
+    get_elem? state.views seat ≡ some (alone setting.scene party log) →
     (flag : Bool) → slice_get rule.flags bucket ≡ Some flag →
-    Allowed tries_at scene state seat slots bucket (alone scene party log, []) (word_of flag)
-tries_one_flag scene slots seat party bucket log idle state rule at false free =
-    let mine = rule.seated.known seat (alone scene party log) at in
+    Allowed tries_at setting state seat slots bucket (alone setting.scene party log, []) (word_of flag)
+tries_one_flag setting slots seat party bucket log idle state rule at false free =
+    let mine = rule.seated.known seat (alone setting.scene party log) at in
+    let made = is_made setting party mine.0 in
     let entry : PoolEntry = entry_of (TryAt party bucket) (Takes bucket) in
     let flags : List Bool = slice_set rule.flags bucket true in
-    let agree = take_at_agrees scene rule.flags rule.logs party log bucket rule.agree mine.0 mine.1 idle free in (
-      alone scene party (log ++ entry ∷ []),
+    let agree = take_at_agrees setting.scene rule.flags rule.logs party log bucket rule.agree made mine.1 idle free in (
+      alone setting.scene party (log ++ entry ∷ []),
       keeps,
       tt,
-      entered scene state rule seat party log entry (set state.words bucket 1) flags at agree
+      entered setting state rule seat party log entry (set state.words bucket 1) flags at agree
           (ap (λ (words : List ℕ). set words bucket 1) rule.words ∙ word_set rule.flags bucket false true free),
       (
         λ _. record {
-          ended = told_idle scene flags rule.logs party log entry mine.1 agree idle refl;
-          free = free_not_held scene rule.flags rule.logs party log bucket rule.agree mine.1 free;
+          ended = told_idle setting.scene flags rule.logs party log entry mine.1 agree idle refl;
+          free = free_not_held setting.scene rule.flags rule.logs party log bucket rule.agree mine.1 free;
         },
         λ not_free. absurd (not_free refl),
       ),
     )
-tries_one_flag scene slots seat party bucket log idle state rule at true taken =
-    let mine = rule.seated.known seat (alone scene party log) at in
+tries_one_flag setting slots seat party bucket log idle state rule at true taken =
+    let mine = rule.seated.known seat (alone setting.scene party log) at in
+    let made = is_made setting party mine.0 in
     let entry : PoolEntry = entry_of (TryAt party bucket) (Misses bucket) in
-    let agree = miss_agrees scene rule.flags rule.logs party log bucket rule.agree mine.0 mine.1 idle taken in (
-      alone scene party (log ++ entry ∷ []),
+    let agree = miss_agrees setting.scene rule.flags rule.logs party log bucket rule.agree made mine.1 idle taken in (
+      alone setting.scene party (log ++ entry ∷ []),
       keeps,
       tt,
-      entered scene state rule seat party log entry (set state.words bucket 1) rule.flags at agree
+      entered setting state rule seat party log entry (set state.words bucket 1) rule.flags at agree
           (ap (λ (words : List ℕ). set words bucket 1) rule.words ∙ word_set rule.flags bucket true true taken
           ∙ ap words_of (flag_again rule.flags bucket taken)),
       (
         λ zero_found. absurd (suc-ne-zero zero zero_found),
         λ _. record {
-          ended = told_idle scene rule.flags rule.logs party log entry mine.1 agree idle refl;
+          ended = told_idle setting.scene rule.flags rule.logs party log entry mine.1 agree idle refl;
           held = λ one.
-              let first : party ≡ 0 = let made = mine.0 in omega arith in
-              taken_is_held_alone scene rule.flags rule.logs log bucket rule.agree one
+              let first : party ≡ 0 = omega (arith, made, one) in
+              taken_is_held_alone setting.scene rule.flags rule.logs log bucket rule.agree one
               (subst (λ n. HasLog rule.logs n log) first mine.1) taken;
         },
       ),
     )
 
-tries_at_one : (scene : PoolScene) (slots seat party bucket : ℕ) (log : PoolLog) → bucket < scene.geometry.buckets →
+tries_at_one : (setting : PoolSetting) (slots seat party bucket : ℕ) (log : PoolLog) → bucket < setting.scene.geometry.buckets →
     pass_in log ≡ None →
-    Allows (WordsAndLogsAgree scene) slots seat (alone scene party log, []) bucket (λ found. either (eqb found 0) 1 found)
-    (tries_at (step slots bucket 0 1 none) (alone scene party log, []))
-tries_at_one scene slots seat party bucket log below idle state rule homes at fits =
-    let count = length-flags scene rule.flags rule.logs rule.agree in
+    Allows (WordsAndLogsAgree setting) slots seat (alone setting.scene party log, []) bucket
+    (λ found. either (eqb found 0) 1 found)
+    (tries_at (step slots bucket 0 1 none) (alone setting.scene party log, []))
+tries_at_one setting slots seat party bucket log below idle state rule homes at fits =
+    let count = length-flags setting.scene rule.flags rule.logs rule.agree in
     let flag = some_at rule.flags bucket (omega arith) in
     let found : get_or state.words bucket 0 ≡ word_of flag.0 =
     ap (λ (words : List ℕ). get_or words bucket 0) rule.words ∙ word_at rule.flags bucket flag.0 flag.1 in
-    subst (Allowed tries_at scene state seat slots bucket (alone scene party log, [])) (sym found)
-    (tries_one_flag scene slots seat party bucket log idle state rule at flag.0 flag.1)
+    subst (Allowed tries_at setting state seat slots bucket (alone setting.scene party log, [])) (sym found)
+    (tries_one_flag setting slots seat party bucket log idle state rule at flag.0 flag.1)
 
 -- a seat of one idle party may try any bucket
-pub tries_at_as : (scene : PoolScene) (slots seat party bucket : ℕ) (log : PoolLog) (me : Me ℕ SeatView) →
-    me ≡ (alone scene party log, []) → bucket < scene.geometry.buckets → pass_in log ≡ None →
-    Allows (WordsAndLogsAgree scene) slots seat me bucket (λ found. either (eqb found 0) 1 found)
+pub tries_at_as : (setting : PoolSetting) (slots seat party bucket : ℕ) (log : PoolLog) (me : Me ℕ SeatView) →
+    me ≡ (alone setting.scene party log, []) → bucket < setting.scene.geometry.buckets → pass_in log ≡ None →
+    Allows (WordsAndLogsAgree setting) slots seat me bucket (λ found. either (eqb found 0) 1 found)
     (tries_at (step slots bucket 0 1 none) me)
-tries_at_as scene slots seat party bucket log me is below idle =
-    subst (λ (m : Me ℕ SeatView). Allows (WordsAndLogsAgree scene) slots seat m bucket (λ found. either (eqb found 0) 1 found)
+tries_at_as setting slots seat party bucket log me is below idle =
+    subst (λ (m : Me ℕ SeatView). Allows (WordsAndLogsAgree setting) slots seat m bucket (λ found. either (eqb found 0) 1 found)
     (tries_at (step slots bucket 0 1 none) m)) (sym is)
-    (tries_at_one scene slots seat party bucket log below idle)
+    (tries_at_one setting slots seat party bucket log below idle)
 
 -- STORES
 
-returns_one : (scene : PoolScene) (slots seat party bucket : ℕ) (log : PoolLog) → IsHeldAfter log bucket →
-    Allows (WordsAndLogsAgree scene) slots seat (alone scene party log, []) bucket (λ _. 0)
-    (λ _. returns (step slots bucket 0 0 none) (alone scene party log, []) 0)
-returns_one scene slots seat party bucket log held state rule homes at fits =
-    let mine = rule.seated.known seat (alone scene party log) at in
+returns_one : (setting : PoolSetting) (slots seat party bucket : ℕ) (log : PoolLog) → IsHeldAfter log bucket →
+    Allows (WordsAndLogsAgree setting) slots seat (alone setting.scene party log, []) bucket (λ _. 0)
+    (λ _. returns (step slots bucket 0 0 none) (alone setting.scene party log, []) 0)
+returns_one setting slots seat party bucket log held state rule homes at fits =
+    let mine = rule.seated.known seat (alone setting.scene party log) at in
     let entry : PoolEntry = entry_of (GiveBack party bucket) (Gives bucket) in
     let flags : List Bool = slice_set rule.flags bucket false in
-    let agree = give_agrees scene rule.flags rule.logs party log bucket rule.agree mine.1 held in (
-      alone scene party (log ++ entry ∷ []),
+    let agree = give_agrees setting.scene rule.flags rule.logs party log bucket rule.agree mine.1 held in (
+      alone setting.scene party (log ++ entry ∷ []),
       keeps,
       tt,
-      entered scene state rule seat party log entry (set state.words bucket 0) flags at agree
+      entered setting state rule seat party log entry (set state.words bucket 0) flags at agree
           (ap (λ (words : List ℕ). set words bucket 0) rule.words ∙ word_freed rule.flags bucket),
-      told scene flags rule.logs party log entry mine.1 agree,
+      told setting.scene flags rule.logs party log entry mine.1 agree,
     )
 
 -- a seat of one party may free a bucket that is held after its log
-pub returns_as : (scene : PoolScene) (slots seat party bucket : ℕ) (log : PoolLog) (me : Me ℕ SeatView) →
-    me ≡ (alone scene party log, []) → IsHeldAfter log bucket →
-    Allows (WordsAndLogsAgree scene) slots seat me bucket (λ _. 0) (λ _. returns (step slots bucket 0 0 none) me 0)
-returns_as scene slots seat party bucket log me is held =
-    subst (λ (m : Me ℕ SeatView). Allows (WordsAndLogsAgree scene) slots seat m bucket (λ _. 0)
+pub returns_as : (setting : PoolSetting) (slots seat party bucket : ℕ) (log : PoolLog) (me : Me ℕ SeatView) →
+    me ≡ (alone setting.scene party log, []) → IsHeldAfter log bucket →
+    Allows (WordsAndLogsAgree setting) slots seat me bucket (λ _. 0) (λ _. returns (step slots bucket 0 0 none) me 0)
+returns_as setting slots seat party bucket log me is held =
+    subst (λ (m : Me ℕ SeatView). Allows (WordsAndLogsAgree setting) slots seat m bucket (λ _. 0)
     (λ _. returns (step slots bucket 0 0 none) m 0)) (sym is)
-    (returns_one scene slots seat party bucket log held)
+    (returns_one setting slots seat party bucket log held)

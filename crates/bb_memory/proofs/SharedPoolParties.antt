@@ -1,5 +1,5 @@
 -- From what a pass or a return tells to what its party is then.
-use Rattle.std.proofs.Common.{◌≡◌, ℕ, ◌<◌, [], ◌++◌, refl, sym, ap, ◌∙◌, subst}
+use Rattle.std.proofs.Common.{◌≡◌, ℕ, ◌<◌, Bool, [], ◌++◌, refl, sym, ap, ◌∙◌, subst}
 use Rattle.std.proofs.lemmas.List.Elements.{All-nil}
 use Rattle.atomic_table.specs.Seated.{TableId}
 use Rattle.atomic_table.specs.Table.{Me}
@@ -33,8 +33,8 @@ no_step scene number me is = record {
 }
 
 -- a seat of a party of this pool
-module _ (pool : SharedPool) (table : TableId) (me : Me ℕ SeatView) (number : ℕ) (is : IsPartySeat number me)
-    (own : (party_in table number me.0).allocator ≡ pool) where
+module _ (pool : SharedPool) (table : TableId) (post : Bool) (me : Me ℕ SeatView) (number : ℕ) (is : IsPartySeat number me)
+    (own : (party_in table post number me.0).allocator ≡ pool) where
   own_scene : me.0.scene ≡ pool.scene
   own_scene = ap (λ (p : SharedPool). p.scene) own
 
@@ -49,11 +49,12 @@ module _ (pool : SharedPool) (table : TableId) (me : Me ℕ SeatView) (number : 
   -- its party, once these entries are added
   pub party_then : (new_table : TableId) (new : Me ℕ SeatView) (added : PoolLog) → new_table ≡ table →
       HasEnded pool.scene (number_of me.0) (view_log me.0) added new →
-      party_in new_table number new.0 ≡ with_entries (party_in table number me.0) added
+      party_in new_table post number new.0 ≡ with_entries (party_in table post number me.0) added
   party_then new_table new added kept ended = λ i. record {
     allocator = record {
       table = kept i;
       scene = (ap (λ (m : Me ℕ SeatView). m.0.scene) ended.seat.is ∙ sym own_scene) i;
+      has_post = post;
     };
     number = number;
     log = ap (λ (m : Me ℕ SeatView). view_log m.0) ended.seat.is i;

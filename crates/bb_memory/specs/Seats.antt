@@ -14,18 +14,32 @@ pub record Numbered (E : Type 0) : Type 0 where
 abbrev pub numbered : {E : Type 0} → ℕ → List E → Numbered E
 numbered number log = record { number = number; log = log }
 
--- what a seat knows: the scene of what is shared, and the parties that it stands for, which is one, but while parties are
--- made or meet
+-- what a seat knows: the scene of what is shared, the parties that it stands for, which is one, but while parties are made or
+-- meet, and the numbers of what is in transit at it, from one party to another
 pub record Seat (S E : Type 0) : Type 0 where
   pub scene : S
   pub parties : List (Numbered E)
+  pub in_transit : List ℕ
 
+abbrev pub seat_of : {S E : Type 0} → S → List (Numbered E) → List ℕ → Seat S E
+seat_of scene parties in_transit =
+    record { scene = scene; parties = parties; in_transit = in_transit }
+
+-- the view of these parties, with nothing in transit
 abbrev pub standing_for : {S E : Type 0} → S → List (Numbered E) → Seat S E
-standing_for scene parties = record { scene = scene; parties = parties }
+standing_for scene parties = seat_of scene parties []
 
 -- the view of one party
 abbrev pub alone : {S E : Type 0} → S → ℕ → List E → Seat S E
 alone scene number log = standing_for scene (numbered number log ∷ [])
+
+-- the view of what is in transit, at the seat of no party
+abbrev pub carrying : {S E : Type 0} → S → ℕ → Seat S E
+carrying scene item = seat_of scene [] (item ∷ [])
+
+-- the view of one party, at whose seat this is in transit
+abbrev pub alone_with : {S E : Type 0} → S → ℕ → List E → ℕ → Seat S E
+alone_with scene number log item = seat_of scene (numbered number log ∷ []) (item ∷ [])
 
 -- the number and the log of the first party that a view stands for
 abbrev pub first_number : {E : Type 0} → List (Numbered E) → ℕ
@@ -72,6 +86,17 @@ pub record AreSeated {S E : Type 0} (made : ℕ) (logs : List (List E)) (views :
       HaveLogs made logs view.parties
   pub once : (number : ℕ) → number < made → times_in_views number views ≡ 1
 
+-- WHAT IS IN TRANSIT
+
+-- how often something stands in a list, and is in transit in all views
+abbrev pub times_of : ℕ → List ℕ → ℕ
+times_of item [] = 0
+times_of item (other ∷ others) = one_if (other == item) + times_of item others
+
+abbrev pub times_in_transit : {S E : Type 0} → ℕ → List (Seat S E) → ℕ
+times_in_transit item [] = 0
+times_in_transit item (view ∷ views) = times_of item view.in_transit + times_in_transit item views
+
 -- SPLITS AND JOINS
 
 -- so many parties, numbered from this one, which have made no step
@@ -79,13 +104,13 @@ abbrev pub fresh_from : {E : Type 0} → ℕ → ℕ → List (Numbered E)
 fresh_from number zero = []
 fresh_from number (suc count) = numbered number [] ∷ fresh_from (number + 1) count
 
-abbrev pub head_of : {E : Type 0} → List (Numbered E) → List (Numbered E)
+abbrev pub head_of : {A : Type 0} → List A → List A
 head_of [] = []
-head_of (party ∷ parties) = party ∷ []
+head_of (first ∷ others) = first ∷ []
 
-abbrev pub tail_of : {E : Type 0} → List (Numbered E) → List (Numbered E)
+abbrev pub tail_of : {A : Type 0} → List A → List A
 tail_of [] = []
-tail_of (party ∷ parties) = parties
+tail_of (first ∷ others) = others
 
 -- a view of the first party, of the others, and of the parties of two views, the other's first
 abbrev pub first_of : {S E : Type 0} → Seat S E → Seat S E
@@ -96,6 +121,18 @@ others_of view = standing_for view.scene (tail_of view.parties)
 
 abbrev pub both_of : {S E : Type 0} → Seat S E → Seat S E → Seat S E
 both_of view other = standing_for view.scene (other.parties ++ view.parties)
+
+-- a view of the first that is in transit, of the parties with the others, and of the parties and what is in transit of two
+-- views, the other's first
+abbrev pub first_in_transit : {S E : Type 0} → Seat S E → Seat S E
+first_in_transit view = seat_of view.scene [] (head_of view.in_transit)
+
+abbrev pub others_in_transit : {S E : Type 0} → Seat S E → Seat S E
+others_in_transit view = seat_of view.scene view.parties (tail_of view.in_transit)
+
+abbrev pub both_in_transit : {S E : Type 0} → Seat S E → Seat S E → Seat S E
+both_in_transit view other =
+    seat_of view.scene (other.parties ++ view.parties) (other.in_transit ++ view.in_transit)
 
 -- SEATS AT A TABLE
 

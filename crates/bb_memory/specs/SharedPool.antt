@@ -1,7 +1,7 @@
 -- A shared pool, its parties and the buckets that they took, as their contracts see them, and what each call adds to its
 -- party's log.
 use Rattle.std.specs.Prelude.{◌≡◌, ℕ, zero, suc, ◌<◌, ◌≤◌, List, [], ◌∷◌, ◌++◌, None, Result, Ok, Err, ◌+◌, take}
-use Rattle.std.specs.Prelude.{◌↔◌, ◌%◌, All, Any, Bool, true, Contains, IfOk, IsErr, OnErr, Some, length, map, slice_get}
+use Rattle.std.specs.Prelude.{◌↔◌, ◌%◌, All, Any, Bool, true, false, Contains, IfOk, IsErr, OnErr, Some, length, map, slice_get}
 use Rattle.atomic_table.specs.Seated.{TableId}
 use Rattle.bb_memory_base.specs.Chunk.{Chunk, IsInside}
 use Rattle.bb_memory_base.specs.PoolGeometry.{PoolGeometry, IsPoolGeometry, bucket_place}
@@ -18,10 +18,12 @@ use Rattle.bb_memory_base.specs.declared.steps.pool.PoolStep.TheVariants.{Try, G
 use Rattle.bb_memory_base.specs.declared.steps.pool.PoolOutcome.{PoolOutcome}
 use Rattle.bb_memory_base.specs.declared.steps.pool.PoolOutcome.TheVariants.{Takes, Gives}
 
--- a shared pool: which one it is, and where its machine began: its buckets, and how many parties it has
+-- A shared pool: which one it is, where its machine began, that is its buckets and how many parties it has, and whether the
+-- last of these is a post: a party that is handed out to nobody, and that holds each bucket in transit.
 pub record SharedPool : Type 0 where
   pub table : TableId
   pub scene : PoolScene
+  pub has_post : Bool
 
 abbrev pub scene_at : PoolGeometry → ℕ → PoolScene
 scene_at geometry parties = record { geometry = geometry; parties = parties }
@@ -41,12 +43,26 @@ pub record PoolParty : Type 0 where
 abbrev pub fresh_party : SharedPool → ℕ → PoolParty
 fresh_party allocator number = record { allocator = allocator; number = number; log = [] }
 
--- these are all parties of a pool that has so many, numbered from 0, and none has made a step
-pub record AreFresh (allocator : SharedPool) (count : ℕ) (parties : List PoolParty) : Type 0 where
-  pub so_many : allocator.scene.parties ≡ count
+-- how many parties a pool has, with its post or without one, of which so many are handed out
+abbrev pub count_with_post : Bool → ℕ → ℕ
+count_with_post false count = count
+count_with_post true count = count + 1
+
+-- these are all parties of a pool that are handed out, so many, numbered from 0, and none has made a step
+pub record AreHandedOut (has_post : Bool) (allocator : SharedPool) (count : ℕ) (parties : List PoolParty)
+    : Type 0 where
+  pub so_many : allocator.scene.parties ≡ count_with_post has_post count
+  pub post : allocator.has_post ≡ has_post
   pub as_many : length parties ≡ count
   pub fresh : (number : ℕ) → number < count → slice_get parties number ≡ Some (fresh_party allocator number)
   pub theirs : All (λ party. party.allocator ≡ allocator) parties
+
+-- these are all parties of a pool without a post, and all but the post of a pool with one
+abbrev pub AreFresh : SharedPool → ℕ → List PoolParty → Type 0
+AreFresh allocator count parties = AreHandedOut false allocator count parties
+
+abbrev pub AreFreshWithPost : SharedPool → ℕ → List PoolParty → Type 0
+AreFreshWithPost allocator count parties = AreHandedOut true allocator count parties
 
 -- the party with these more entries in its log
 abbrev pub with_entries : PoolParty → PoolLog → PoolParty

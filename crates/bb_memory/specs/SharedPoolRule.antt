@@ -1,5 +1,5 @@
 -- The rule of a shared pool's words, and what its seats and fields stand for.
-use Rattle.std.specs.Prelude.{◌≡◌, ℕ, ◌<◌, Bool, true, false, List, [], ◌∷◌, All, None, map, max, length}
+use Rattle.std.specs.Prelude.{◌≡◌, ℕ, ◌-◌, ◌<◌, ◌≤◌, Bool, true, false, List, [], ◌∷◌, All, None, map, max, length}
 use Rattle.std.specs.declared.vec.Vec.{Vec}
 use mathlib.Core.Path.{refl}
 use native.Mathlib.Nat.{zero-lt-suc}
@@ -9,10 +9,11 @@ use Rattle.bb_memory_base.specs.Region.{IsRegion, region_at}
 use Rattle.bb_memory_base.specs.PoolGeometry.{pool_geometry}
 use Rattle.bb_memory_base.specs.PoolMachine.{PoolScene}
 use Rattle.bb_memory_base.specs.PoolHistory.{PoolEntry, PoolLog}
-use Rattle.bb_memory_base.specs.PoolLogs.{Interleaving, IsHeldAfter, LogsAgree, next_bucket, pass_in}
+use Rattle.bb_memory_base.specs.PoolLogs.{HasLog, Interleaving, IsHeldAfter, LogsAgree, next_bucket, pass_in}
 use Rattle.bb_memory_base.specs.declared.layout.Layout.{Layout}
-use Rattle.bb_memory.specs.SharedPool.{PoolParty, IsSharedScene, SharedPool, scene_at}
-use Rattle.bb_memory.specs.Seats.{AreSeated, HasRoomFor, IsAt, Numbered, Seat, alone, fresh_from, number_of, numbered, standing_for, view_log}
+use Rattle.bb_memory.specs.SharedPool.{PoolParty, IsSharedScene, SharedPool, scene_at, count_with_post}
+use Rattle.bb_memory.specs.Seats.{AreSeated, HasRoomFor, IsAt, Numbered, Seat, alone, carrying, fresh_from, number_of, numbered}
+use Rattle.bb_memory.specs.Seats.{standing_for, times_in_transit, view_log}
 
 -- SEATS
 
@@ -26,10 +27,13 @@ numbered_of party = numbered party.number party.log
 abbrev pub SeatView : Type 0
 SeatView = Seat PoolScene PoolEntry
 
--- the party of a seat in the table
-abbrev pub party_in : TableId → ℕ → SeatView → PoolParty
-party_in table number view = record {
-  allocator = record { table = table; scene = view.scene };
+-- the pool of a seat in the table, and the party
+abbrev pub pool_in : TableId → Bool → SeatView → SharedPool
+pool_in table has_post view = record { table = table; scene = view.scene; has_post = has_post }
+
+abbrev pub party_in : TableId → Bool → ℕ → SeatView → PoolParty
+party_in table has_post number view = record {
+  allocator = pool_in table has_post view;
   number = number;
   log = view_log view;
 }
@@ -51,6 +55,12 @@ pub record IsPartySeat (number : ℕ) (me : Me ℕ SeatView) : Type 0 where
   pub seat : IsSeatOfIdle me.0.scene number (view_log me.0) me
   pub below : number < me.0.scene.parties
   pub shared : IsSharedScene me.0.scene
+
+-- the seat stands for no party, and this bucket is in transit there, with a chunk of so many bytes
+pub record IsTransitSeat (bucket len : ℕ) (me : Me ℕ SeatView) : Type 0 where
+  pub is : me ≡ (carrying me.0.scene bucket, [])
+  pub below : bucket < me.0.scene.geometry.buckets
+  pub short : len ≤ me.0.scene.geometry.bucket.size
 
 -- SEATS AT A POOL'S TABLE
 
@@ -87,7 +97,38 @@ pub record IsHeldAt (pool : SharedPool) (me : Me ℕ SeatView) (bucket : ℕ) : 
   pub held : IsHeldAfter (view_log me.0) bucket
   pub below : bucket < pool.scene.geometry.buckets
 
+-- the seat of a bucket in transit, at the table of a pool with a post
+pub record IsInTransitAt (pool : SharedPool) (here : TableId) (me : Me ℕ SeatView) (bucket : ℕ) : Type 0 where
+  pub post : pool.has_post ≡ true
+  pub at : IsAt pool.table here (me ≡ (carrying pool.scene bucket, []))
+  pub below : bucket < pool.scene.geometry.buckets
+
+-- the seat of a party of such a pool, which holds this bucket
+pub record MayHandOverAt (pool : SharedPool) (here : TableId) (me : Me ℕ SeatView) (bucket : ℕ) : Type 0 where
+  pub post : pool.has_post ≡ true
+  pub seat : IsSeatAt pool here me
+  pub held : IsHeldAt pool me bucket
+
+-- the seat of a party, and that of a bucket in transit
+pub record MayMeetTransit (pool : SharedPool) (here : TableId) (me : Me ℕ SeatView) (there : TableId) (other : Me ℕ SeatView)
+    (bucket : ℕ) : Type 0 where
+  pub seat : IsIdleAt pool here me
+  pub transit : IsInTransitAt pool there other bucket
+
 -- THE RULE
+
+-- what the rule reads of a pool: its scene, and whether the last of the parties is a post
+pub record PoolSetting : Type 0 where
+  pub scene : PoolScene
+  pub has_post : Bool
+
+-- how many parties are handed out, of all of them, and the post's number
+abbrev pub handed_out : Bool → ℕ → ℕ
+handed_out false parties = parties
+handed_out true parties = parties - 1
+
+abbrev pub post_of : PoolScene → ℕ
+post_of scene = scene.parties - 1
 
 -- how a flag stands in its word
 abbrev pub word_of : Bool → ℕ
@@ -99,15 +140,24 @@ abbrev pub words_of : List Bool → List ℕ
 words_of [] = 0 ∷ []
 words_of (flag ∷ flags) = word_of flag ∷ map word_of flags
 
--- There is a log for each party, and the machine's logs agree with the flags that the words have. Each party stands in exactly
--- one view, with that log; a dropped party's view stays.
-pub record WordsAndLogsAgree (scene : PoolScene) (state : State ℕ SeatView) : Type 0 where
+-- The post is idle, and holds each bucket that is in transit in some view. That bucket stands in the one view, once.
+pub record IsPost (scene : PoolScene) (logs : List PoolLog) (views : List SeatView) : Type 0 where
+  pub log : PoolLog
+  pub its : HasLog logs (post_of scene) log
+  pub idle : pass_in log ≡ None
+  pub holds : (bucket : ℕ) → 0 < times_in_transit bucket views → IsHeldAfter log bucket
+  pub once : (bucket : ℕ) → times_in_transit bucket views ≤ 1
+
+-- There is a log for each party, and the machine's logs agree with the flags that the words have. Each party that is handed out
+-- stands in exactly one view, with that log; a dropped party's view stays, and so does that of a bucket in transit.
+pub record WordsAndLogsAgree (setting : PoolSetting) (state : State ℕ SeatView) : Type 0 where
   pub flags : List Bool
   pub logs : List PoolLog
-  pub agree : LogsAgree scene flags logs
+  pub agree : LogsAgree setting.scene flags logs
   pub words : state.words ≡ words_of flags
-  pub one_a_party : length logs ≡ scene.parties
-  pub seated : AreSeated scene.parties logs state.views
+  pub one_a_party : length logs ≡ setting.scene.parties
+  pub seated : AreSeated (handed_out setting.has_post setting.scene.parties) logs state.views
+  pub post : setting.has_post ≡ true → IsPost setting.scene logs state.views
 
 -- the table has a word for each bucket, and one where there is none
 pub record HasWords (table : TableId) (scene : PoolScene) : Type 0 where
@@ -120,22 +170,24 @@ pub record IsSharedPool (scene : PoolScene) : Type 0 where
 
 -- DEALING
 
--- the view of the first seat, which stands for all parties
-abbrev pub all_parties : PoolScene → SeatView
-all_parties scene = standing_for scene (fresh_from 0 scene.parties)
+-- the view of the first seat, which stands for all parties that are handed out
+abbrev pub all_parties : PoolSetting → SeatView
+all_parties setting =
+    standing_for setting.scene (fresh_from 0 (handed_out setting.has_post setting.scene.parties))
 
--- this pool's machine begins at a scene, and a seat of its table stands for all parties
-pub record IsOpened (begins : PoolScene) (pool : SharedPool) (here : TableId) (me : Me ℕ SeatView) : Type 0 where
-  pub scene : pool.scene ≡ begins
+-- a pool begins so, and a seat of its table stands for all parties that are handed out
+pub record IsOpened (begins : PoolSetting) (pool : SharedPool) (here : TableId) (me : Me ℕ SeatView) : Type 0 where
+  pub scene : pool.scene ≡ begins.scene
+  pub post : pool.has_post ≡ begins.has_post
   pub table : here ≡ pool.table
   pub seat : me ≡ (all_parties begins, [])
 
--- a seat of its table stands for all its parties, which are so many, and a vector has room for them
+-- A seat of its table stands for all its parties that are handed out, which are so many, and a vector has room for them.
 pub record MaySeat {Z : Type 0} (pool : SharedPool) (count : ℕ) (here : TableId) (me : Me ℕ SeatView) (all : Vec PoolParty Z)
     : Type 0 where
   pub table : here ≡ pool.table
-  pub seat : me ≡ (all_parties pool.scene, [])
-  pub parties : count ≡ pool.scene.parties
+  pub seat : me ≡ (standing_for pool.scene (fresh_from 0 count), [])
+  pub parties : pool.scene.parties ≡ count_with_post pool.has_post count
   pub room : HasRoomFor count all
 
 -- no bytes, at any place

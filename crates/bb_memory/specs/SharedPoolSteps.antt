@@ -5,10 +5,10 @@ use Rattle.atomic_table.specs.Seated.{TableId}
 use Rattle.atomic_table.specs.Table.{Me, Step}
 use Rattle.bb_memory_base.specs.PoolMachine.{PoolScene}
 use Rattle.bb_memory_base.specs.PoolHistory.{PoolLog, entry_of}
-use Rattle.bb_memory_base.specs.PoolLogs.{CommonInterleaving, IsHeldAfter, LogsAgree, loss_at}
+use Rattle.bb_memory_base.specs.PoolLogs.{CommonInterleaving, Interleaving, IsHeldAfter, LogsAgree, loss_at}
 use Rattle.bb_memory_base.specs.declared.steps.pool.PoolStep.TheVariants.{Try}
 use Rattle.bb_memory_base.specs.declared.steps.pool.PoolOutcome.TheVariants.{Takes}
-use Rattle.bb_memory.specs.Seats.{HaveLogs, number_of, times_in, view_log}
+use Rattle.bb_memory.specs.Seats.{HaveLogs, alone_with, number_of, times_in, view_log}
 use Rattle.bb_memory.specs.SharedPool.{AreAllHeldAfter, refused_pass, return_entry, taking_pass}
 use Rattle.bb_memory.specs.SharedPoolRounds.{at_turn, miss_at, refused_round, taking_at, taking_round}
 use Rattle.bb_memory.specs.SharedPoolRule.{IsSeatOf, IsSeatOfIdle, NumberedLog, SeatView}
@@ -61,6 +61,23 @@ abbrev pub TellsReturn : PoolScene → ℕ → PoolLog → ℕ → Me ℕ SeatVi
 TellsReturn scene number log bucket new =
     IsSeatOf scene number (log ++ return_entry number bucket) new
 
+-- A party handed this bucket over: its log then has a return of it, and the bucket is in transit at its seat.
+pub record TellsHandOver (scene : PoolScene) (number : ℕ) (log : PoolLog) (bucket : ℕ)
+    (new : Me ℕ SeatView) : Type 0 where
+  pub is : let longer : PoolLog = log ++ return_entry number bucket in
+      new ≡ (alone_with scene number longer bucket, [])
+  pub interleaved : Interleaving scene number (log ++ return_entry number bucket)
+
+-- the first bucket that is in transit isn't held after this log
+abbrev pub FirstIsApart : PoolLog → List ℕ → Type 0
+FirstIsApart log [] = Unit {0}
+FirstIsApart log (bucket ∷ buckets) = ¬ IsHeldAfter log bucket
+
+-- the first two that are in transit are two
+abbrev pub FirstTwoDiffer : List ℕ → Type 0
+FirstTwoDiffer (one ∷ other ∷ buckets) = one ≢ other
+FirstTwoDiffer _ = Unit {0}
+
 -- A load by a seat that stands for these parties: there are flags, and a log for each of the pool's parties, which agree, and
 -- theirs are among them; no two are one.
 pub record TellsMeeting (scene : PoolScene) (parties : List NumberedLog) : Type 0 where
@@ -95,6 +112,23 @@ returns step old found new =
 -- a load that changes nothing, by a seat that stands for any number of parties
 abbrev pub meets : Step ℕ → Me ℕ SeatView → ℕ → Me ℕ SeatView → Type 0
 meets step old found new = (new ≡ old) × TellsMeeting old.0.scene old.0.parties
+
+-- a load of its word by the party that hands a bucket over
+abbrev pub hands_over : Step ℕ → Me ℕ SeatView → ℕ → Me ℕ SeatView → Type 0
+hands_over step old found new =
+    TellsHandOver old.0.scene (number_of old.0) (view_log old.0) step.word new
+
+-- a load of its word by an idle party at whose seat the bucket is in transit, and which takes it
+abbrev pub takes_over : Step ℕ → Me ℕ SeatView → ℕ → Me ℕ SeatView → Type 0
+takes_over step old found new =
+    HasTakenAt old.0.scene (number_of old.0) (view_log old.0) step.word new
+
+-- loads that change nothing, by a party at whose seat a bucket is in transit, and by a seat at which two are
+abbrev pub meets_transit : Step ℕ → Me ℕ SeatView → ℕ → Me ℕ SeatView → Type 0
+meets_transit step old found new = (new ≡ old) × FirstIsApart (view_log old.0) old.0.in_transit
+
+abbrev pub tells_apart : Step ℕ → Me ℕ SeatView → ℕ → Me ℕ SeatView → Type 0
+tells_apart step old found new = (new ≡ old) × FirstTwoDiffer old.0.in_transit
 
 -- A load by a seat, where these parties have met. The seat stays as it is.
 pub record HasFound (scene : PoolScene) (parties : List NumberedLog) (was : TableId) (old : Me ℕ SeatView)

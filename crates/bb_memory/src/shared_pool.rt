@@ -16,6 +16,7 @@ ghost use Rattle.bb_memory.specs.SharedPool.{AreFresh, AreInterleaved, HasFoundA
 ghost use Rattle.bb_memory.specs.SharedPool.{IsParty, PoolParty, TakenBucket, chunk_of};
 ghost use Rattle.bb_memory.specs.SharedPool.{refused_pass};
 ghost use Rattle.bb_memory.specs.SharedPoolRounds.{HasMissedAll, refused_round};
+ghost use Rattle.bb_memory.specs.SharedPoolTransit.{MakesWithPost, MayHavePost};
 
 mod all_parties;
 mod bucket;
@@ -27,6 +28,7 @@ mod meeting;
 mod party;
 mod rounds;
 mod rule;
+mod transit;
 
 pub use crate::allocator::{AllocationError, AllocationGrowError, AllocationShrinkError};
 use crate::layout::Layout;
@@ -36,7 +38,9 @@ pub use bucket::Bucket;
 use buckets::SharedBucketPool;
 pub use fixed_size::SharedFixedSizePoolAllocator;
 pub use party::PoolParty;
+use rule::Scene;
 use std::alloc::{AllocError, Global};
+pub use transit::BucketInTransit;
 
 /// Gives buckets of one layout to any number of threads. The pool is made for some number of parties, and each thread that
 /// takes or gives back buckets has one of them. No call waits for another, and none takes memory once the pool is made.
@@ -83,7 +87,49 @@ impl SharedPoolAllocator {
         ensures refused { IfErr result (λ error. error ≡ AllocationError.OutOfMemory) }
     {
         let geometry = Geometry::new(bucket_layout, start, size);
-        match Self::open(alloc, geometry, parties) {
+        let scene = Scene {
+            geometry,
+            parties,
+            has_post: false,
+        };
+        match Self::open(alloc, scene, parties) {
+            Ok(made) => Ok(made),
+            Err(AllocError) => Err(AllocationError::OutOfMemory),
+        }
+    }
+
+    /// A pool as `new` makes it, and with a post: one more party of the pool, which is handed out to nobody, and holds each
+    /// bucket that a party handed over and none has taken over yet. Its conditions and its refusal are those of `new`; and the
+    /// parties have to be fewer than `u32::MAX`, since the post is one more. As a meeting of all parties that are handed out is
+    /// without the post, it leaves open which buckets are in transit.
+    ///
+    /// ```
+    /// pool_count_law();
+    /// let bucket = Layout::from_size_align(128, 8).unwrap();
+    /// let (pool, mut parties) = SharedPoolAllocator::with_post(alloc, bucket, 4096, 1024, 2)?;
+    /// let mut receiver = parties.pop().unwrap();
+    /// let mut sender = parties.pop().unwrap();
+    /// let taken = pool.allocate(&mut sender, Layout::from_size_align(48, 4).unwrap())?;
+    /// let message = pool.hand_over(&mut sender, taken);
+    /// let received = pool.take_over(&mut receiver, message);
+    /// pool.deallocate_bucket(&mut receiver, received);
+    /// ```
+    pub fn with_post(
+        alloc: Global,
+        bucket_layout: Layout,
+        start: usize,
+        size: usize,
+        parties: u32,
+    ) -> Result<(Self, Vec<PoolParty>), AllocationError>
+        requires may { MayHavePost (region_at start size) bucket_layout parties }
+        ensures made { MakesWithPost (IsCut (region_at start size) bucket_layout) parties result }
+    {
+        let scene = Scene {
+            geometry: Geometry::new(bucket_layout, start, size),
+            parties: parties + 1,
+            has_post: true,
+        };
+        match Self::open(alloc, scene, parties) {
             Ok(made) => Ok(made),
             Err(AllocError) => Err(AllocationError::OutOfMemory),
         }

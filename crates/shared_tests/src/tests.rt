@@ -8,3 +8,4 @@ mod shared_buckets;
 mod shared_bumps;
 mod shared_pools;
 mod threads;
+mod transit;

@@ -12,6 +12,7 @@
 //!   sample.
 //! - `workers`: two threads over one bump.
 //! - `job_board`: slots of a shared pool, each with one holder.
+//! - `pool_messages`: messages whose buckets are taken by one party and given back by another.
 #![tactic(auto)]
 
 pub mod budget;
@@ -23,6 +24,7 @@ pub mod errors;
 pub mod job_board;
 mod live_lists;
 pub mod mailbox;
+pub mod pool_messages;
 pub mod pool_workers;
 pub mod ring;
 pub mod scripts;

@@ -6,8 +6,9 @@ ghost use Rattle.bb_memory_base.specs.Chunk.{Chunk, IsInside};
 ghost use Rattle.bb_memory_base.specs.PoolObject.{IsWithin, MayGrow, MayShrink};
 ghost use Rattle.bb_memory_base.specs.PoolLogs.{IsHeldAfter};
 ghost use Rattle.bb_memory.specs.Seats.{Stays, number_of, view_log};
-ghost use Rattle.bb_memory.specs.SharedPool.{AreAllHeldAfter, AreBothOf, AreFresh, AreInterleaved, HaveMet, IsAlignedTo};
-ghost use Rattle.bb_memory.specs.SharedPool.{IsResizedTo, IsSameParty, IsSharedScene, MayTake, chunk_of, return_entry, with_entries};
+ghost use Rattle.bb_memory.specs.SharedPool.{AreAllHeldAfter, AreBothOf, AreHandedOut, AreInterleaved, HaveMet, IsAlignedTo};
+ghost use Rattle.bb_memory.specs.SharedPool.{IsResizedTo, IsSameParty, IsSharedScene, MayTake, chunk_of, count_with_post};
+ghost use Rattle.bb_memory.specs.SharedPool.{return_entry, with_entries};
 ghost use Rattle.bb_memory.specs.SharedPoolRule.{IsIdleAt, MaySeat};
 ghost use Rattle.bb_memory.specs.SharedPoolSteps.{HasRefused, HasTaken};
 
@@ -18,7 +19,6 @@ use super::rounds::part_of;
 use super::rule::{Scene, View};
 use crate::allocator::{AllocationError, AllocationGrowError, AllocationShrinkError};
 use crate::layout::{Chunk, Layout};
-use crate::pool_allocator::geometry::Geometry;
 use atomic_table::Seat;
 use std::alloc::{AllocError, Global};
 use std::marker::Model;
@@ -46,18 +46,18 @@ impl<const CAPPED: usize, const MOST: usize> Model for SharedBucketPool<CAPPED, 
 }
 
 impl<const CAPPED: usize, const MOST: usize> SharedBucketPool<CAPPED, MOST> {
-    /// A pool with all flags free, and so many parties, which are idle.
+    /// A pool with all flags free, and so many parties that are handed out, which are idle.
     pub(super) fn open(
         alloc: Global,
-        geometry: Geometry,
+        scene: Scene,
         parties: u32,
     ) -> Result<(Self, Vec<PoolParty>), AllocError>
-        requires parties { 1 ≤ parties }
-        ensures geometry { IfOk result (λ made. made.0.scene.geometry ≡ geometry) }
-        ensures parties { IfOk result (λ made. AreFresh made.0 parties made.1.items) }
+        requires some { 1 ≤ parties }
+        requires parties { scene.scene.parties ≡ count_with_post scene.has_post parties }
+        ensures geometry { IfOk result (λ made. made.0.scene.geometry ≡ scene.scene.geometry) }
+        ensures parties { IfOk result (λ made. AreHandedOut scene.has_post made.0 parties made.1.items) }
     {
         let mut all = Vec::with_capacity(alloc, parties as usize)?;
-        let scene = Scene { geometry, parties };
         let (flags, seat) = Flags::open(alloc, scene)?;
         let pool = SharedBucketPool { flags };
         pool.seat_parties(seat, parties, &mut all);
@@ -67,12 +67,18 @@ impl<const CAPPED: usize, const MOST: usize> SharedBucketPool<CAPPED, MOST> {
     /// Gives each party a seat of its own.
     fn seat_parties(&self, mut rest: Seat<u8, View>, parties: u32, all: &mut Vec<PoolParty>)
         requires { MaySeat self.now parties rest.table_id rest.me all.old }
-        ensures { AreFresh self.now parties all.new.items }
+        ensures { AreHandedOut self.now.has_post self.now parties all.new.items }
     {
+        let has_post = self.has_post();
         for number in 0..parties {
             let seat = self.flags.deal(&mut rest);
             let near = part_of(number, parties, self.number_of_buckets());
-            all.push_reserved(PoolParty { number, seat, near });
+            all.push_reserved(PoolParty {
+                number,
+                seat,
+                has_post,
+                near,
+            });
         }
     }
 
@@ -187,10 +193,16 @@ impl<const CAPPED: usize, const MOST: usize> SharedBucketPool<CAPPED, MOST> {
             let PoolParty {
                 number,
                 mut seat,
+                has_post,
                 near,
             } = party;
             flags.meet_rest(&mut seat, parties);
-            parties.push_reserved(PoolParty { number, seat, near });
+            parties.push_reserved(PoolParty {
+                number,
+                seat,
+                has_post,
+                near,
+            });
         }
     }
 
@@ -246,6 +258,13 @@ impl<const CAPPED: usize, const MOST: usize> SharedBucketPool<CAPPED, MOST> {
         ensures scene { IsSharedScene self.now.scene }
     {
         self.flags.geometry().count()
+    }
+
+    /// Whether the pool was made with a post, so that a party may hand a bucket over to another.
+    pub fn has_post(&self) -> bool
+        ensures value { result ≡ self.now.has_post }
+    {
+        self.flags.scene.has_post
     }
 
     /// The size of a bucket in bytes, as it was asked for. The buckets are at least that far apart.

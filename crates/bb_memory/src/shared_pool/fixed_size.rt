@@ -4,9 +4,11 @@ ghost use Rattle.bb_memory_base.specs.Region.{region_at};
 ghost use Rattle.bb_memory_base.specs.PoolGeometry.{PoolGeometry, IsCut, at_most};
 ghost use Rattle.bb_memory.specs.Pool.{MayBeCut};
 ghost use Rattle.bb_memory.specs.SharedPool.{AreFresh};
+ghost use Rattle.bb_memory.specs.SharedPoolTransit.{MakesWithPost, MayHavePost};
 
 use super::buckets::SharedBucketPool;
 use super::party::PoolParty;
+use super::rule::Scene;
 use crate::allocator::AllocationError;
 use crate::layout::Layout;
 use crate::pool_allocator::geometry::Geometry;
@@ -56,7 +58,43 @@ impl<const MAX_NUMBER_OF_BUCKETS: usize> SharedFixedSizePoolAllocator<MAX_NUMBER
         let geometry = Geometry::new(bucket_layout, start, size).at_most(
             MAX_NUMBER_OF_BUCKETS as u32,
         );
-        match Self::open(alloc, geometry, parties) {
+        let scene = Scene {
+            geometry,
+            parties,
+            has_post: false,
+        };
+        match Self::open(alloc, scene, parties) {
+            Ok(made) => Ok(made),
+            Err(AllocError) => Err(AllocationError::OutOfMemory),
+        }
+    }
+
+    /// A pool as `new` makes it, and with a post, as
+    /// [`SharedPoolAllocator::with_post`](super::SharedPoolAllocator::with_post) makes one: its parties may hand buckets over.
+    /// Its conditions and its refusal are those of `new`; and the parties have to be fewer than `u32::MAX`, since the post is one
+    /// more.
+    pub fn with_post(
+        alloc: Global,
+        bucket_layout: Layout,
+        start: usize,
+        size: usize,
+        parties: u32,
+    ) -> Result<(Self, Vec<PoolParty>), AllocationError>
+        requires may { MayHavePost (region_at start size) bucket_layout parties }
+        requires most { MAX_NUMBER_OF_BUCKETS < 2 ^ 32 - 1 }
+        ensures made { MakesWithPost (λ geometry. (whole : PoolGeometry)
+            × IsCut (region_at start size) bucket_layout whole
+            × (geometry ≡ at_most MAX_NUMBER_OF_BUCKETS whole)) parties result }
+    {
+        let geometry = Geometry::new(bucket_layout, start, size).at_most(
+            MAX_NUMBER_OF_BUCKETS as u32,
+        );
+        let scene = Scene {
+            geometry,
+            parties: parties + 1,
+            has_post: true,
+        };
+        match Self::open(alloc, scene, parties) {
             Ok(made) => Ok(made),
             Err(AllocError) => Err(AllocationError::OutOfMemory),
         }

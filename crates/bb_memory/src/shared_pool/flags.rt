@@ -1,17 +1,24 @@
 //! The flags that threads share, one a bucket: their words, and the only calls that touch them.
 //!
 //! `try_flag`, `try_at` and `give_back` make one atomic step each, by the seat of the party whose step it is, and tell that its
-//! log then ends with that step and what it found. `deal`, `gather`, `find` and `meet` only load words, and are in no log; `open`
-//! is before all sharing, and `geometry` touches no word.
-ghost use Rattle.std.specs.Prelude.{◌≡◌, ◌<◌, IfOk, MatchBool, max};
+//! log then ends with that step and what it found. `hand_over` and `take_over` make two steps at one load of a bucket's word, one
+//! of the party's and one of the post's, and load a word more for the seat of what is in transit. `deal`, `gather`, `find`,
+//! `meet`, `meet_in_transit` and `tell_apart` only load words, and are in no log; `open` is before all sharing, and `geometry`
+//! touches no word.
+ghost use Rattle.std.specs.Prelude.{◌≡◌, ◌≢◌, ◌<◌, ◌≤◌, IfOk, MatchBool, max};
 ghost use Rattle.bb_memory_base.specs.Region.{IsRegion};
 ghost use Rattle.bb_memory_base.specs.PoolGeometry.{IsPoolGeometry};
+ghost use Rattle.bb_memory_base.specs.PoolLogs.{IsHeldAfter};
 ghost use Rattle.bb_memory.specs.Seats.{IsDealt, MayGather, Stays, both_of, number_of, view_log};
-ghost use Rattle.bb_memory.specs.SharedPoolRule.{AreTwoAt, IsHeldAt, IsIdleAt, IsNextFor, IsOpened, IsSeatAt, StandsAt};
+ghost use Rattle.bb_memory.specs.SharedPoolRule.{AreTwoAt, IsHeldAt, IsIdleAt, IsInTransitAt, IsNextFor, IsOpened, IsSeatAt};
+ghost use Rattle.bb_memory.specs.SharedPoolRule.{MayHandOverAt, MayMeetTransit, StandsAt};
 ghost use Rattle.bb_memory.specs.SharedPoolSteps.{HasFound, HasMissedAt, HasTakenAt, TellsLoss, TellsReturn, TellsTaking};
 ghost use Rattle.bb_memory.specs.SharedPoolSteps.{TellsTwo};
 
-use super::rule::{Agreement, Gather, GiveFirst, Meets, Returns, Scene, Tries, TriesAt, View};
+use super::rule::{
+    Agreement, Gather, GiveFirst, GiveTransit, HandsOver, Meets, MeetsTransit, Returns, Scene,
+    TakeIn, TakesOver, TellsApart, Tries, TriesAt, View,
+};
 use crate::pool_allocator::geometry::Geometry;
 use atomic_table::{Seat, Table};
 use std::alloc::{AllocError, Global};
@@ -32,7 +39,7 @@ fn count_words(buckets: u32) -> usize
 #[derive(Drop)]
 pub(super) struct Flags {
     table: Table<u8, View, Scene, Agreement, Global>,
-    scene: Scene,
+    pub(super) scene: Scene,
 }
 
 impl Model for Flags {
@@ -42,18 +49,23 @@ impl Model for Flags {
 
     ghost Value = { SharedPool };
 
-    ghost view = { λ f. record { table = f.table.shared.table_id; scene = f.scene } };
+    ghost view = { λ f. record {
+      table = f.table.shared.table_id;
+      scene = f.scene.scene;
+      has_post = f.scene.has_post;
+    } };
 
     ghost invariant = { λ f. (f.table.shared.key ≡ f.scene)
-        × HasWords f.table.shared.table_id f.scene };
+        × HasWords f.table.shared.table_id f.scene.scene };
 }
 
 impl Flags {
-    /// The flags at a scene's opening, all free, and a seat that stands for all its parties.
+    /// The flags at a scene's opening, all free, and a seat that stands for all its parties that are handed out.
     pub(super) fn open(alloc: Global, scene: Scene) -> Result<(Flags, Seat<u8, View>), AllocError>
+        requires { 1 ≤ scene.scene.parties }
         ensures opened { IfOk result (λ made. IsOpened scene made.0 made.1.table_id made.1.me) }
-        ensures region { IfOk result (λ made. IsRegion scene.geometry.region) }
-        ensures geometry { IfOk result (λ made. IsPoolGeometry scene.geometry) }
+        ensures region { IfOk result (λ made. IsRegion scene.scene.geometry.region) }
+        ensures geometry { IfOk result (λ made. IsPoolGeometry scene.scene.geometry) }
     {
         let words = Vec::from_elem(alloc, FREE, count_words(scene.geometry.count()))?;
         let (table, seat) = Table::of_words(alloc, words.as_slice(), &scene)?;
@@ -113,6 +125,73 @@ impl Flags {
         self.table
             .shared
             .store::<Returns>(seat, bucket as usize, FREE);
+    }
+
+    /// A load of its word, by the party after whose log this bucket is held: the party gives the bucket back, and the post takes
+    /// it at once. What is returned has the bucket in transit.
+    pub(super) fn hand_over(&self, seat: &mut Seat<u8, View>, bucket: u32) -> Seat<u8, View>
+        requires { MayHandOverAt self.now seat.old.table_id seat.old.me bucket }
+        ensures step { Stays self.now.table seat.new.table_id (TellsReturn self.now.scene
+            (number_of seat.old.me.0) (view_log seat.old.me.0) bucket seat.new.me) }
+        ensures transit { IsInTransitAt self.now result.table_id result.me bucket }
+    {
+        self.table.shared.load::<HandsOver>(seat, bucket as usize);
+        self.table.shared.split_seat::<GiveTransit>(seat)
+    }
+
+    /// A load of its word, by an idle party to whose seat this bucket in transit comes: the post gives the bucket back, and the
+    /// party takes it at once.
+    pub(super) fn take_over(&self, seat: &mut Seat<u8, View>, transit: Seat<u8, View>, bucket: u32)
+        requires { MayMeetTransit self.now seat.old.table_id seat.old.me
+            transit.table_id transit.me bucket }
+        ensures { Stays seat.old.table_id seat.new.table_id (HasTakenAt self.now.scene
+            (number_of seat.old.me.0) (view_log seat.old.me.0) bucket seat.new.me) }
+    {
+        let shared = &self.table.shared;
+        shared.join_seat::<TakeIn>(seat, transit);
+        shared.load::<TakesOver>(seat, bucket as usize);
+    }
+
+    /// A party and a bucket in transit meet at one seat, load a word there, and go back to their own.
+    pub(super) fn meet_in_transit(
+        &self,
+        seat: &mut Seat<u8, View>,
+        transit: &mut Seat<u8, View>,
+        bucket: u32,
+    )
+        requires { MayMeetTransit self.now seat.old.table_id seat.old.me
+            transit.old.table_id transit.old.me bucket }
+        ensures seat { Stays seat.old.table_id seat.new.table_id (seat.new.me ≡ seat.old.me) }
+        ensures transit { Stays transit.old.table_id transit.new.table_id
+            (transit.new.me ≡ transit.old.me) }
+        ensures apart { ¬ IsHeldAfter (view_log seat.old.me.0) bucket }
+    {
+        let shared = &self.table.shared;
+        let guest = shared.split_seat::<GiveTransit>(transit);
+        shared.join_seat::<TakeIn>(seat, guest);
+        shared.load::<MeetsTransit>(seat, 0);
+        *transit = shared.split_seat::<GiveTransit>(seat);
+    }
+
+    /// Two buckets in transit meet at one seat, load a word there, and go back to their own.
+    pub(super) fn tell_apart(
+        &self,
+        one: &mut Seat<u8, View>,
+        other: &mut Seat<u8, View>,
+        first: u32,
+        second: u32,
+    )
+        requires one { IsInTransitAt self.now one.old.table_id one.old.me first }
+        requires other { IsInTransitAt self.now other.old.table_id other.old.me second }
+        ensures one { Stays one.old.table_id one.new.table_id (one.new.me ≡ one.old.me) }
+        ensures other { Stays other.old.table_id other.new.table_id (other.new.me ≡ other.old.me) }
+        ensures differ { first ≢ second }
+    {
+        let shared = &self.table.shared;
+        let guest = shared.split_seat::<GiveTransit>(other);
+        shared.join_seat::<TakeIn>(one, guest);
+        shared.load::<TellsApart>(one, 0);
+        *other = shared.split_seat::<GiveTransit>(one);
     }
 
     /// A guest's parties go to this seat, before its own.

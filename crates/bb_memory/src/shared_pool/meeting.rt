@@ -25,6 +25,7 @@ impl Flags {
         let PoolParty {
             number,
             seat: guest,
+            has_post,
             near,
         } = party;
         self.gather(seat, guest);
@@ -33,6 +34,7 @@ impl Flags {
         rest.push_reserved(PoolParty {
             number,
             seat: back,
+            has_post,
             near,
         });
     }

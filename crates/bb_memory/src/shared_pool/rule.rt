@@ -3,19 +3,21 @@ use crate::pool_allocator::geometry::Geometry;
 use atomic_table::{Join, Play, Split, TableRule};
 use std::marker::Model;
 
-/// The scene of a shared pool's machine: where it begins.
+/// The scene of a shared pool's machine: where it begins, and whether the last of its parties is a post.
 #[derive(Drop)]
 pub(crate) struct Scene {
     pub(crate) geometry: Geometry,
     pub(crate) parties: u32,
+    pub(crate) has_post: bool,
 }
 
 impl Model for Scene {
-    ghost use Rattle.bb_memory_base.specs.PoolMachine.{PoolScene};
+    ghost use Rattle.bb_memory.specs.SharedPool.{scene_at};
+    ghost use Rattle.bb_memory.specs.SharedPoolRule.{PoolSetting};
 
-    ghost Value = { PoolScene };
+    ghost Value = { PoolSetting };
 
-    ghost view = { λ s. record { geometry = s.geometry; parties = s.parties } };
+    ghost view = { λ s. record { scene = scene_at s.geometry s.parties; has_post = s.has_post } };
 }
 
 /// What a seat knows: the parties that it stands for, each with its log. No value of this type is made.
@@ -74,6 +76,65 @@ impl Play<u8, View> for Meets {
     ghost use Rattle.bb_memory.specs.SharedPoolSteps.{meets};
 
     ghost then = { meets };
+}
+
+/// A load by a party after whose log the bucket is held, which hands it over.
+pub(crate) struct HandsOver;
+
+impl Play<u8, View> for HandsOver {
+    ghost use Rattle.bb_memory.specs.SharedPoolSteps.{hands_over};
+
+    ghost then = { hands_over };
+}
+
+/// A load by a party at whose seat the bucket is in transit, which takes it over.
+pub(crate) struct TakesOver;
+
+impl Play<u8, View> for TakesOver {
+    ghost use Rattle.bb_memory.specs.SharedPoolSteps.{takes_over};
+
+    ghost then = { takes_over };
+}
+
+/// A load by a party at whose seat a bucket is in transit.
+pub(crate) struct MeetsTransit;
+
+impl Play<u8, View> for MeetsTransit {
+    ghost use Rattle.bb_memory.specs.SharedPoolSteps.{meets_transit};
+
+    ghost then = { meets_transit };
+}
+
+/// A load by a seat at which two buckets are in transit.
+pub(crate) struct TellsApart;
+
+impl Play<u8, View> for TellsApart {
+    ghost use Rattle.bb_memory.specs.SharedPoolSteps.{tells_apart};
+
+    ghost then = { tells_apart };
+}
+
+/// The first bucket that is in transit goes to the new seat.
+pub(crate) struct GiveTransit;
+
+impl Split<View> for GiveTransit {
+    ghost use Rattle.bb_memory.specs.Seats.{first_in_transit, others_in_transit};
+
+    ghost left = { others_in_transit };
+
+    ghost right = { first_in_transit };
+}
+
+/// What is in transit at one seat comes to another.
+pub(crate) struct TakeIn;
+
+impl Join<View> for TakeIn {
+    ghost use Rattle.bb_memory.specs.Seats.{both_in_transit};
+    ghost use Rattle.bb_memory.specs.SharedPoolRule.{nobody};
+
+    ghost both = { both_in_transit };
+
+    ghost spent = { nobody };
 }
 
 /// The first party goes to the new seat.

@@ -62,7 +62,7 @@ pub(super) fn shared_fixed_over<const MOST: usize>(
 }
 
 /// What a test makes for itself was refused.
-const REFUSED: &str = "memory was refused";
+pub(super) const REFUSED: &str = "memory was refused";
 
 /// These rows hold of a pool that was just made.
 fn answers<P: SharedBuckets>(

@@ -207,6 +207,19 @@ pub fn shared_pool_by_number(alloc: Global) -> Result<(), AllocationError> {
     Ok(())
 }
 
+pub fn shared_pool_with_post(alloc: Global) -> Result<(), AllocationError> {
+    pool_count_law();
+    let bucket = Layout::from_size_align(128, 8).unwrap();
+    let (pool, mut parties) = SharedPoolAllocator::with_post(alloc, bucket, 4096, 1024, 2)?;
+    let mut receiver = parties.pop().unwrap();
+    let mut sender = parties.pop().unwrap();
+    let taken = pool.allocate(&mut sender, Layout::from_size_align(48, 4).unwrap())?;
+    let message = pool.hand_over(&mut sender, taken);
+    let received = pool.take_over(&mut receiver, message);
+    pool.deallocate_bucket(&mut receiver, received);
+    Ok(())
+}
+
 pub fn shared_fixed_pool(alloc: Global) -> Result<(), AllocationError> {
     pool_count_law();
     let bucket = Layout::from_size_align(128, 8).unwrap();

@@ -1,0 +1,113 @@
+//! Messages from thread to thread, each a bucket of one shared pool: one thread takes it and hands it over, while another takes
+//! over the one before, and gives it back.
+ghost use Rattle.std.specs.Prelude.{◌≡◌, IfOk, true};
+
+use crate::tests::transit::{posted_over, receive, send};
+use bb_memory::layout::Layout;
+use bb_memory::pool_allocator::AllocationError;
+use bb_memory::shared_pool::{BucketInTransit, PoolParty, SharedPoolAllocator};
+use std::process::Abort;
+use std::test::Fail;
+use std::thread;
+use std::thread::Threads;
+
+/// Takes a bucket, and hands it over.
+fn send_one(
+    pool: &SharedPoolAllocator,
+    mut party: PoolParty,
+    asked: Layout,
+) -> Result<(PoolParty, BucketInTransit), AllocationError>
+    requires post { pool.now.has_post ≡ true }
+    requires party { party.allocator ≡ pool.now }
+    ensures { IfOk result (λ sent. (sent.0.allocator ≡ pool.entry.now)
+        × (sent.1.allocator ≡ pool.entry.now)) }
+{
+    let message = send(pool, &mut party, asked)?;
+    Ok((party, message))
+}
+
+/// Takes over a bucket, and gives it back.
+fn receive_one(
+    pool: &SharedPoolAllocator,
+    mut party: PoolParty,
+    message: BucketInTransit,
+) -> PoolParty
+    requires party { party.allocator ≡ pool.now }
+    requires message { message.allocator ≡ pool.now }
+    ensures { result.allocator ≡ pool.entry.now }
+{
+    let _ = receive(pool, &mut party, message);
+    party
+}
+
+/// One thread sends a bucket, while another receives the one that was sent before.
+fn send_and_receive<R: Threads + Sync>(
+    rt: &R,
+    pool: &SharedPoolAllocator,
+    sender: PoolParty,
+    receiver: PoolParty,
+    message: BucketInTransit,
+    asked: Layout,
+) -> Result<(PoolParty, PoolParty, BucketInTransit), AllocationError>
+    requires post { pool.now.has_post ≡ true }
+    requires sender { sender.allocator ≡ pool.now }
+    requires receiver { receiver.allocator ≡ pool.now }
+    requires message { message.allocator ≡ pool.now }
+    ensures { IfOk result (λ then. (then.0.allocator ≡ pool.entry.now)
+        × (then.1.allocator ≡ pool.entry.now) × (then.2.allocator ≡ pool.entry.now)) }
+{
+    let (sent, receiver) = thread::join(
+        rt,
+        move || -> Result<(PoolParty, BucketInTransit), AllocationError>
+            requires { (sender.allocator ≡ pool.now) × (pool.now.has_post ≡ true) }
+            ensures { IfOk result (λ sent. (sent.0.allocator ≡ pool.entry.now)
+                × (sent.1.allocator ≡ pool.entry.now)) }
+        { send_one(pool, sender, asked) },
+        move || -> PoolParty
+            requires { (receiver.allocator ≡ pool.now) × (message.allocator ≡ pool.now) }
+            ensures { result.allocator ≡ pool.entry.now }
+        { receive_one(pool, receiver, message) },
+    );
+    let (sender, message) = sent?;
+    Ok((sender, receiver, message))
+}
+
+/// Two threads at a time pass a bucket from the one party to the other, once and then so many times more.
+fn pass_on<R: Threads + Sync>(
+    rt: &R,
+    pool: &SharedPoolAllocator,
+    sender: PoolParty,
+    receiver: PoolParty,
+    asked: Layout,
+    times: u32,
+) -> Result<PoolParty, AllocationError>
+    requires post { pool.now.has_post ≡ true }
+    requires sender { sender.allocator ≡ pool.now }
+    requires receiver { receiver.allocator ≡ pool.now }
+    ensures { IfOk result (λ party. party.allocator ≡ pool.entry.now) }
+{
+    let (mut sender, mut message) = send_one(pool, sender, asked)?;
+    let mut receiver = receiver;
+    for _ in 0..times {
+        (sender, receiver, message) = send_and_receive(rt, pool, sender, receiver, message, asked)?;
+    }
+    Ok(receive_one(pool, receiver, message))
+}
+
+/// A thousand messages in two buckets: none is lost, so that both buckets are free in the end, and there is no third.
+#[test]
+fn threads_pool_messages(rt: HostRuntime) -> Result<(), Fail> {
+    let asked = Layout::from_size_align(48, 4)?;
+    let (pool, mut parties) = posted_over(rt.alloc(), 4096, 256, 2)?;
+    let Some(receiver) = parties.pop() else {
+        return Err(Fail::from("no party"));
+    };
+    let Some(sender) = parties.pop() else {
+        return Err(Fail::from("one party alone"));
+    };
+    let mut receiver = pass_on(&rt, &pool, sender, receiver, asked, 999)?;
+    assert!(rt; pool.allocate(&mut receiver, asked).is_ok());
+    assert!(rt; pool.allocate(&mut receiver, asked).is_ok());
+    assert!(rt; pool.allocate(&mut receiver, asked).is_err());
+    Ok(())
+}

@@ -1,0 +1,43 @@
+//! Messages between threads, each in a bucket of one shared pool: the sender takes it, and the receiver gives it back.
+ghost use Rattle.std.specs.Prelude.{◌≡◌, ℕ, IfOk, true};
+ghost use Rattle.bb_memory_base.specs.PoolLogs.{IsHeldAfter};
+ghost use Rattle.bb_memory.specs.SharedPool.{chunk_of};
+
+use bb_memory::allocator::AllocationError;
+use bb_memory::layout::{Chunk, Layout};
+use bb_memory::shared_pool::{BucketInTransit, PoolParty, SharedPoolAllocator};
+
+/// Takes a bucket for a message, and hands it over. What is answered may go to any thread.
+pub fn send(
+    pool: &SharedPoolAllocator,
+    sender: &mut PoolParty,
+    layout: Layout,
+) -> Result<BucketInTransit, AllocationError>
+    requires post { pool.now.has_post ≡ true }
+    requires sender { sender.old.allocator ≡ pool.now }
+    ensures sender { sender.new.allocator ≡ pool.now }
+    ensures message { IfOk result (λ message. message.allocator ≡ pool.now) }
+    ensures long_enough { IfOk result (λ message. message.len ≡ layout.size) }
+{
+    let bucket = pool.allocate_near(sender, layout)?;
+    Ok(pool.hand_over(sender, bucket))
+}
+
+/// Takes a message over, reads where its chunk lies, and gives its bucket back.
+pub fn receive(
+    pool: &SharedPoolAllocator,
+    receiver: &mut PoolParty,
+    message: BucketInTransit,
+) -> Chunk
+    requires receiver { receiver.old.allocator ≡ pool.now }
+    requires message { message.allocator ≡ pool.now }
+    ensures receiver { receiver.new.allocator ≡ pool.now }
+    ensures chunk { result ≡ chunk_of message }
+    ensures keeps { (bucket : ℕ) → IsHeldAfter receiver.old.log bucket
+        → IsHeldAfter receiver.new.log bucket }
+{
+    let bucket = pool.take_over(receiver, message);
+    let chunk = bucket.chunk();
+    pool.deallocate_bucket(receiver, bucket);
+    chunk
+}
