@@ -1,20 +1,18 @@
 -- A seat's flags, and what a pass or a return makes of the log that they tell of.
-use Rattle.std.proofs.Common.{◌≡◌, ℕ, zero, suc, ◌<◌, Bool, true, false, List, [], ◌∷◌, ◌++◌, length, refl, sym, ap, ◌∙◌, subst, inl, inr}
-use Rattle.std.specs.Prelude.{Some, Ok, Err, fold, nat_lt, ◌==◌, ◌+◌, if◌then◌else◌, slice_get, slice_set}
+use Rattle.std.proofs.Common.{◌≡◌, ℕ, ◌<◌, Bool, true, false, List, ◌++◌, length, sym, ap, ◌∙◌, subst, inl, inr}
+use Rattle.std.specs.Prelude.{Some, Ok, Err, ◌==◌, if◌then◌else◌, slice_get, slice_set}
 use Rattle.std.proofs.lemmas.Bool.{cases_eq}
 use Rattle.std.proofs.lemmas.Option.{same_Some, slice_get-get_or, slice_get_within}
-use Rattle.bb_memory_base.specs.PoolHistory.{PoolLog, entry_of}
-use Rattle.bb_memory_base.specs.PoolLogs.{IsHeldAfter, held_after, loss_at}
+use Rattle.bb_memory_base.specs.PoolHistory.{PoolLog}
+use Rattle.bb_memory_base.specs.PoolLogs.{IsHeldAfter}
 use Rattle.bb_memory_base.specs.declared.layout.Layout.{Layout}
 use Rattle.bb_memory_base.specs.declared.allocator.AllocationError.{AllocationError}
 use Rattle.bb_memory_base.specs.declared.allocator.AllocationError.TheVariants.{SizeIsZero, SizeTooLarge, AlignmentFailure, OutOfMemory}
-use Rattle.bb_memory_base.specs.declared.steps.pool.PoolStep.TheVariants.{Try}
-use Rattle.bb_memory_base.specs.declared.steps.pool.PoolOutcome.TheVariants.{Takes, Loses, RefusedAtLoss}
 use Rattle.bb_memory_base.proofs.PoolSteps.{test_same, test_apart}
 use Rattle.bb_memory_base.proofs.SliceGets.{length-set_at}
 use Rattle.bb_memory_base.proofs.SliceSets.{slice_get-set_other, slice_get-set_same}
 use Rattle.bb_memory_base.proofs.PoolHolders.{held_through}
-use Rattle.bb_memory.specs.SharedPool.{MayTake, PoolParty, SharedPool, TakenBucket, losses, refused_pass, return_entry, taking_pass, with_entries}
+use Rattle.bb_memory.specs.SharedPool.{MayTake, PoolParty, SharedPool, TakenBucket, refused_pass, return_entry, taking_pass, with_entries}
 use Rattle.bb_memory.proofs.SharedPoolTries.{held-append, held-losses, held-taking}
 use Rattle.bb_memory_c.specs.SharedPools.{AreHeldFlags, IsSeatAt}
 
