@@ -113,7 +113,8 @@ static inline const char *bb_text(uint32_t code) {
     }
 }
 
-// Compilers warn where the answer of a call isn't looked at that gives something, or that may be refused with all handles made.
+// Compilers warn where the answer isn't looked at of a maker, a request, a resize, a call that gives a seat,
+// `bb_shared_bump_begin_anew` or `bb_shared_pool_leave`.
 #ifdef __GNUC__
 #define BB_MUST_USE __attribute__((warn_unused_result))
 #else
