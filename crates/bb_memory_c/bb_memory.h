@@ -113,7 +113,8 @@ static inline const char *bb_text(uint32_t code) {
     }
 }
 
-// Compilers warn where the answer of a call isn't looked at that gives something, or that may be refused with all handles made.
+// Compilers warn where the answer isn't looked at of a maker, a request, a resize, a call that gives a seat,
+// `bb_shared_bump_begin_anew` or `bb_shared_pool_leave`.
 #ifdef __GNUC__
 #define BB_MUST_USE __attribute__((warn_unused_result))
 #else
@@ -276,8 +277,8 @@ bb_figure bb_fixed_pool_size(bb_fixed_pool *);
 
 // A bump that threads share. It is made for some number of parties; `bb_shared_bump_seat` gives the last party without a
 // seat one, behind a handle of its own. Each thread that allocates has a seat, and no call waits for another. What a seat does
-// is named for the seat. A seat that came back can be given anew. Chunks go back all at once: when each seat has come back, the
-// bump can begin anew.
+// is named for the seat. A seat that comes back leaves its party to the next seat. Chunks go back all at once: when each seat has
+// come back, the bump can begin anew.
 
 // Over the region of `size` bytes at `start`. BB_CANNOT_MAKE where the start is 0, start plus size exceeds SIZE_MAX, or
 // there is no party.

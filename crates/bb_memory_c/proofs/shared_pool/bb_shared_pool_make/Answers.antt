@@ -1,4 +1,4 @@
-use Rattle.std.proofs.Common.{rules, refl, ◌∙◌, ap, arith, Err, Some}
+use Rattle.std.proofs.Common.{rules, refl, ap, arith, Err}
 use Rattle.bb_memory_base.specs.Region.{Region, region_at}
 use Rattle.bb_memory_c.specs.Layouts.{HasRoom, MayBeShared}
 use Rattle.bb_memory_c.proofs.Layouts.{cut-share, lacks-cut, lacks-layout, lacks-share, room-or-not, share-layout, share-or-not}
