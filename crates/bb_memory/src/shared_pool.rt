@@ -12,11 +12,11 @@ ghost use Rattle.bb_memory_base.specs.PoolHistory.{PoolLog};
 ghost use Rattle.bb_memory_base.specs.PoolLogs.{IsHeldAfter};
 ghost use Rattle.bb_memory_base.specs.declared.layout.Layout.{Layout};
 ghost use Rattle.bb_memory.specs.Pool.{AreAStrideApart, MayBeCut};
-ghost use Rattle.bb_memory.specs.SharedPool.{AreFresh, AreInterleaved, HasFoundAllHeld, IsHistoryRun};
+ghost use Rattle.bb_memory.specs.SharedPool.{AreFresh, AreFreshWithPost, AreInterleaved, HasFoundAllHeld, IsHistoryRun};
 ghost use Rattle.bb_memory.specs.SharedPool.{IsParty, PoolParty, TakenBucket, chunk_of};
 ghost use Rattle.bb_memory.specs.SharedPool.{refused_pass};
 ghost use Rattle.bb_memory.specs.SharedPoolRounds.{HasMissedAll, refused_round};
-ghost use Rattle.bb_memory.specs.SharedPoolTransit.{MakesWithPost, MayHavePost};
+ghost use Rattle.bb_memory.specs.SharedPoolTransit.{IsCutOrRefused, MayHavePost};
 
 mod all_parties;
 mod bucket;
@@ -122,7 +122,8 @@ impl SharedPoolAllocator {
         parties: u32,
     ) -> Result<(Self, Vec<PoolParty>), AllocationError>
         requires may { MayHavePost (region_at start size) bucket_layout parties }
-        ensures made { MakesWithPost (IsCut (region_at start size) bucket_layout) parties result }
+        ensures cut { IsCutOrRefused (IsCut (region_at start size) bucket_layout) result }
+        ensures parties { IfOk result (λ made. AreFreshWithPost made.0 parties made.1.items) }
     {
         let scene = Scene {
             geometry: Geometry::new(bucket_layout, start, size),
