@@ -106,13 +106,9 @@ impl SharedPoolAllocator {
     /// ```
     /// pool_count_law();
     /// let bucket = Layout::from_size_align(128, 8).unwrap();
-    /// let (pool, mut parties) = SharedPoolAllocator::with_post(alloc, bucket, 4096, 1024, 2)?;
-    /// let mut receiver = parties.pop().unwrap();
-    /// let mut sender = parties.pop().unwrap();
-    /// let taken = pool.allocate(&mut sender, Layout::from_size_align(48, 4).unwrap())?;
-    /// let message = pool.hand_over(&mut sender, taken);
-    /// let received = pool.take_over(&mut receiver, message);
-    /// pool.deallocate_bucket(&mut receiver, received);
+    /// let (pool, parties) = SharedPoolAllocator::with_post(alloc, bucket, 4096, 1024, 2)?;
+    /// let (count, has_post) = (parties.len(), pool.has_post());
+    /// prove!(count == 2 && has_post);
     /// ```
     pub fn with_post(
         alloc: Global,
