@@ -1,6 +1,5 @@
 -- Buckets in transit from one party of a shared pool to another: what the calls ask, and what they say of the party.
 use Rattle.std.specs.Prelude.{◌≡◌, ◌≢◌, ◌-◌, ◌<◌, ◌≤◌, ◌^◌, ℕ, true, Result, Ok, Err}
-use Rattle.std.specs.declared.vec.Vec.{Vec}
 use Rattle.bb_memory_base.specs.Region.{Region}
 use Rattle.bb_memory_base.specs.PoolGeometry.{PoolGeometry}
 use Rattle.bb_memory_base.specs.PoolLogs.{IsHeldAfter}
@@ -8,8 +7,7 @@ use Rattle.bb_memory_base.specs.declared.layout.Layout.{Layout}
 use Rattle.bb_memory_base.specs.declared.allocator.AllocationError.{AllocationError}
 use Rattle.bb_memory_base.specs.declared.allocator.AllocationError.TheVariants.{OutOfMemory}
 use Rattle.bb_memory.specs.Pool.{MayBeCut}
-use Rattle.bb_memory.specs.SharedPool.{AreFreshWithPost, IsSameParty, PoolParty, SharedPool, TakenBucket, return_entry}
-use Rattle.bb_memory.specs.SharedPool.{with_entries}
+use Rattle.bb_memory.specs.SharedPool.{IsSameParty, PoolParty, SharedPool, TakenBucket, return_entry, with_entries}
 use Rattle.bb_memory.specs.SharedPoolRounds.{taking_at}
 
 -- POOLS WITH A POST
@@ -20,17 +18,10 @@ pub record MayHavePost (region : Region) (bucket : Layout) (count : ℕ) : Type 
   pub some : 1 ≤ count
   pub one_more : count < 2 ^ 32 - 1
 
--- a pool with a post that was made: its buckets are cut so, and its parties are so many
-pub record IsMadeWithPost {Z : Type 0} (IsCutSo : PoolGeometry → Type 0) (count : ℕ) (pool : SharedPool)
-    (parties : Vec PoolParty Z) : Type 0 where
-  pub geometry : IsCutSo pool.scene.geometry
-  pub fresh : AreFreshWithPost pool count parties.items
-
--- what its maker may answer
-abbrev pub MakesWithPost : {Z : Type 0} → (PoolGeometry → Type 0) → ℕ
-    → Result (SharedPool × Vec PoolParty Z) AllocationError → Type 0
-MakesWithPost IsCutSo count (Ok made) = IsMadeWithPost IsCutSo count made.0 made.1
-MakesWithPost IsCutSo count (Err error) = error ≡ OutOfMemory
+-- what its maker may answer: a pool whose buckets are cut so, or that memory was refused
+abbrev pub IsCutOrRefused : {Made : Type 0} → (PoolGeometry → Type 0) → Result (SharedPool × Made) AllocationError → Type 0
+IsCutOrRefused IsCutSo (Ok made) = IsCutSo made.0.scene.geometry
+IsCutOrRefused IsCutSo (Err error) = error ≡ OutOfMemory
 
 -- FROM PARTY TO PARTY
 

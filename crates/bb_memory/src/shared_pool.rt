@@ -12,11 +12,11 @@ ghost use Rattle.bb_memory_base.specs.PoolHistory.{PoolLog};
 ghost use Rattle.bb_memory_base.specs.PoolLogs.{IsHeldAfter};
 ghost use Rattle.bb_memory_base.specs.declared.layout.Layout.{Layout};
 ghost use Rattle.bb_memory.specs.Pool.{AreAStrideApart, MayBeCut};
-ghost use Rattle.bb_memory.specs.SharedPool.{AreFresh, AreInterleaved, HasFoundAllHeld, IsHistoryRun};
+ghost use Rattle.bb_memory.specs.SharedPool.{AreFresh, AreFreshWithPost, AreInterleaved, HasFoundAllHeld, IsHistoryRun};
 ghost use Rattle.bb_memory.specs.SharedPool.{IsParty, PoolParty, TakenBucket, chunk_of};
 ghost use Rattle.bb_memory.specs.SharedPool.{refused_pass};
 ghost use Rattle.bb_memory.specs.SharedPoolRounds.{HasMissedAll, refused_round};
-ghost use Rattle.bb_memory.specs.SharedPoolTransit.{MakesWithPost, MayHavePost};
+ghost use Rattle.bb_memory.specs.SharedPoolTransit.{IsCutOrRefused, MayHavePost};
 
 mod all_parties;
 mod bucket;
@@ -106,13 +106,9 @@ impl SharedPoolAllocator {
     /// ```
     /// pool_count_law();
     /// let bucket = Layout::from_size_align(128, 8).unwrap();
-    /// let (pool, mut parties) = SharedPoolAllocator::with_post(alloc, bucket, 4096, 1024, 2)?;
-    /// let mut receiver = parties.pop().unwrap();
-    /// let mut sender = parties.pop().unwrap();
-    /// let taken = pool.allocate(&mut sender, Layout::from_size_align(48, 4).unwrap())?;
-    /// let message = pool.hand_over(&mut sender, taken);
-    /// let received = pool.take_over(&mut receiver, message);
-    /// pool.deallocate_bucket(&mut receiver, received);
+    /// let (pool, parties) = SharedPoolAllocator::with_post(alloc, bucket, 4096, 1024, 2)?;
+    /// let (count, has_post) = (parties.len(), pool.has_post());
+    /// prove!(count == 2 && has_post);
     /// ```
     pub fn with_post(
         alloc: Global,
@@ -122,7 +118,8 @@ impl SharedPoolAllocator {
         parties: u32,
     ) -> Result<(Self, Vec<PoolParty>), AllocationError>
         requires may { MayHavePost (region_at start size) bucket_layout parties }
-        ensures made { MakesWithPost (IsCut (region_at start size) bucket_layout) parties result }
+        ensures cut { IsCutOrRefused (IsCut (region_at start size) bucket_layout) result }
+        ensures parties { IfOk result (λ made. AreFreshWithPost made.0 parties made.1.items) }
     {
         let scene = Scene {
             geometry: Geometry::new(bucket_layout, start, size),

@@ -3,8 +3,8 @@ ghost use Rattle.std.specs.Prelude.{◌≡◌, ◌-◌, ◌<◌, ◌≤◌, ◌^
 ghost use Rattle.bb_memory_base.specs.Region.{region_at};
 ghost use Rattle.bb_memory_base.specs.PoolGeometry.{PoolGeometry, IsCut, at_most};
 ghost use Rattle.bb_memory.specs.Pool.{MayBeCut};
-ghost use Rattle.bb_memory.specs.SharedPool.{AreFresh};
-ghost use Rattle.bb_memory.specs.SharedPoolTransit.{MakesWithPost, MayHavePost};
+ghost use Rattle.bb_memory.specs.SharedPool.{AreFresh, AreFreshWithPost};
+ghost use Rattle.bb_memory.specs.SharedPoolTransit.{IsCutOrRefused, MayHavePost};
 
 use super::buckets::SharedBucketPool;
 use super::party::PoolParty;
@@ -80,11 +80,12 @@ impl<const MAX_NUMBER_OF_BUCKETS: usize> SharedFixedSizePoolAllocator<MAX_NUMBER
         size: usize,
         parties: u32,
     ) -> Result<(Self, Vec<PoolParty>), AllocationError>
-        requires may { MayHavePost (region_at start size) bucket_layout parties }
-        requires most { MAX_NUMBER_OF_BUCKETS < 2 ^ 32 - 1 }
-        ensures made { MakesWithPost (λ geometry. (whole : PoolGeometry)
+        requires may { MayHavePost (region_at start size) bucket_layout parties
+            × (MAX_NUMBER_OF_BUCKETS < 2 ^ 32 - 1) }
+        ensures cut { IsCutOrRefused (λ geometry. (whole : PoolGeometry)
             × IsCut (region_at start size) bucket_layout whole
-            × (geometry ≡ at_most MAX_NUMBER_OF_BUCKETS whole)) parties result }
+            × (geometry ≡ at_most MAX_NUMBER_OF_BUCKETS whole)) result }
+        ensures parties { IfOk result (λ made. AreFreshWithPost made.0 parties made.1.items) }
     {
         let geometry = Geometry::new(bucket_layout, start, size).at_most(
             MAX_NUMBER_OF_BUCKETS as u32,

@@ -57,10 +57,13 @@ impl<const CAPPED: usize, const MOST: usize> SharedBucketPool<CAPPED, MOST> {
     /// this party took it, and it wasn't given back or handed over since.
     ///
     /// ```
-    /// let taken = pool.allocate(&mut sender, Layout::from_size_align(48, 4).unwrap())?;
-    /// let message = pool.hand_over(&mut sender, taken);
-    /// let received = pool.take_over(&mut receiver, message);
-    /// pool.deallocate_bucket(&mut receiver, received);
+    /// let taken = pool.allocate(sender, Layout::from_size_align(48, 4).unwrap())?;
+    /// let message = pool.hand_over(sender, taken);
+    /// let (number, len) = (message.number(), message.len());
+    /// let received = pool.take_over(receiver, message);
+    /// let (its_number, its_len) = (received.number(), received.chunk().len());
+    /// prove!(its_number == number && its_len == len && len == 48);
+    /// pool.deallocate_bucket(receiver, received);
     /// ```
     pub fn hand_over(&self, party: &mut PoolParty, bucket: Bucket<'_>) -> BucketInTransit
         requires may { MayHandOver self.now party.old bucket }

@@ -1,7 +1,7 @@
 //! The examples of the libraries' doc comments, as they stand there. What each `prove!` says is decided by contracts alone.
 #![tactic(auto, unfolding(bb_memory_base::specs::LeastPlace::least_place))]
 
-ghost use Rattle.std.specs.Prelude.{◌≡◌, [], IfOk};
+ghost use Rattle.std.specs.Prelude.{◌≡◌, [], IfOk, true};
 ghost use Rattle.bb_memory.specs.Pool.{StandsFor};
 
 use crate::errors::GiveError;
@@ -14,7 +14,9 @@ use bb_memory::layout::{Chunk, Layout, LayoutError, round_up};
 use bb_memory::one_chunk_allocator::OneChunkAllocator;
 use bb_memory::pool_allocator::{FixedSizePoolAllocator, PoolAllocator, pool_count_law};
 use bb_memory::region::Region;
-use bb_memory::shared_pool::{SharedFixedSizePoolAllocator, SharedPoolAllocator, by_number};
+use bb_memory::shared_pool::{
+    PoolParty, SharedFixedSizePoolAllocator, SharedPoolAllocator, by_number,
+};
 use bb_memory::steps::{BumpOutcome, BumpStep, BumpWorld, PoolOutcome, PoolStep, PoolWorld};
 use loan_book::{LoanBook, LoanError};
 use std::alloc::{AllocError, Global};
@@ -210,13 +212,28 @@ pub fn shared_pool_by_number(alloc: Global) -> Result<(), AllocationError> {
 pub fn shared_pool_with_post(alloc: Global) -> Result<(), AllocationError> {
     pool_count_law();
     let bucket = Layout::from_size_align(128, 8).unwrap();
-    let (pool, mut parties) = SharedPoolAllocator::with_post(alloc, bucket, 4096, 1024, 2)?;
-    let mut receiver = parties.pop().unwrap();
-    let mut sender = parties.pop().unwrap();
-    let taken = pool.allocate(&mut sender, Layout::from_size_align(48, 4).unwrap())?;
-    let message = pool.hand_over(&mut sender, taken);
-    let received = pool.take_over(&mut receiver, message);
-    pool.deallocate_bucket(&mut receiver, received);
+    let (pool, parties) = SharedPoolAllocator::with_post(alloc, bucket, 4096, 1024, 2)?;
+    let (count, has_post) = (parties.len(), pool.has_post());
+    prove!(count == 2 && has_post);
+    Ok(())
+}
+
+pub fn shared_pool_hand_over(
+    pool: &SharedPoolAllocator,
+    sender: &mut PoolParty,
+    receiver: &mut PoolParty,
+) -> Result<(), AllocationError>
+    requires post { pool.now.has_post ≡ true }
+    requires sender { sender.old.allocator ≡ pool.now }
+    requires receiver { receiver.old.allocator ≡ pool.now }
+{
+    let taken = pool.allocate(sender, Layout::from_size_align(48, 4).unwrap())?;
+    let message = pool.hand_over(sender, taken);
+    let (number, len) = (message.number(), message.len());
+    let received = pool.take_over(receiver, message);
+    let (its_number, its_len) = (received.number(), received.chunk().len());
+    prove!(its_number == number && its_len == len && len == 48);
+    pool.deallocate_bucket(receiver, received);
     Ok(())
 }
 
