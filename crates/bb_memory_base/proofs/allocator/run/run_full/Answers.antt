@@ -62,7 +62,8 @@ returns-clause-run g c =
     record {
       run = rw all at invariant.run;
       stands = invariant.stands;
-      sound = subst (λ (geometry : A.Geometry). IsSound (A.region_of geometry) c.loop-command.live.items) invariant.geometry sound;
+      sound = subst (λ (geometry : A.Geometry). IsSound (A.region_of geometry) c.loop-command.live.items)
+          invariant.geometry sound;
       fits = rw all at invariant.fits;
       geometry = invariant.geometry;
       still = tt;

@@ -1,4 +1,5 @@
 use Rattle.script_runner.proofs.kinds.fixed_pool.FixedSizePoolAllocator512Scripted.make.Goals as goal
 
 pub returns-clause-opens : goal.returns-clause-opens
-returns-clause-opens c = rw (c.parts-start.ensures.start, c.parts-start.ensures.size, c.parts-start.ensures.bucket) at c.new.ensures.value
+returns-clause-opens c =
+    rw (c.parts-start.ensures.start, c.parts-start.ensures.size, c.parts-start.ensures.bucket) at c.new.ensures.value
