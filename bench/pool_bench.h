@@ -40,8 +40,8 @@ void bench_reads(const task *, const uint32_t *script, size_t calls, reads *);
 // In each round makes a request for each size, and gives back what it took.
 typedef uint64_t rounds_of(const uint32_t *sizes, size_t count, size_t align, uint32_t rounds);
 
-// The other allocators that are timed, likewise: what is asked, the loop here and its peer's in C, and whether the requests are of
-// mixed sizes.
+// The other allocators that are timed, likewise: what is asked, the loop here and its peer's in C, and whether the requests are
+// of mixed sizes.
 #define OTHER_ROWS(ROW) \
     ROW("bump, 48 bytes", bench_bump, plain_bump, 0) \
     ROW("bump, mixed sizes", bench_bump, plain_bump, 1) \

@@ -321,9 +321,10 @@ BB_MUST_USE uint32_t bb_shared_pool_seat(bb_shared_pool *, bb_pool_seat *);
 // back each of them first. Refused, the seat is as it was.
 BB_MUST_USE uint32_t bb_shared_pool_leave(bb_shared_pool *, bb_pool_seat *);
 uint32_t bb_pool_seat_free(bb_pool_seat *);
-// A chunk of `size` bytes in a bucket that isn't held, found by one round over the buckets. It begins where the seat has been last,
-// and at first in a part of the pool that is its party's own, so what other seats hold elsewhere costs it nothing. BB_OUT_OF_MEMORY
-// where each was held when the round looked at it; while other threads step, that need not have been at one moment.
+// A chunk of `size` bytes in a bucket that isn't held, found by one round over the buckets. It begins where the seat has been
+// last, and at first in a part of the pool that is its party's own, so what other seats hold elsewhere costs it nothing.
+// BB_OUT_OF_MEMORY where each was held when the round looked at it; while other threads step, that need not have been at one
+// moment.
 BB_MUST_USE bb_answer bb_pool_seat_allocate(bb_pool_seat *, size_t size, size_t align);
 // Gives back the bucket at this place; BB_NOT_HELD where it isn't that of a bucket which this seat holds.
 uint32_t bb_pool_seat_deallocate(bb_pool_seat *, bb_address place);

@@ -10,8 +10,8 @@
 //! - `byte_vector`: a vector of bytes at an offset of a region, which can move to another region.
 //! - `ring`: messages for several readers, over a loan book. In `ring/laws` what the book's calls do to its newest and its oldest
 //!   sample.
-//! - `workers`: two threads over one bump. `bump_workers`: four, and the bump that one owner then has again. `pool_workers`: threads
-//!   over one pool.
+//! - `workers`: two threads over one bump. `bump_workers`: four, and the bump that one owner then has again. `pool_workers`:
+//!   threads over one pool.
 //! - `job_board`: slots of a shared pool, each with one holder.
 //! - `pool_messages`: messages whose buckets are taken by one party and given back by another.
 #![tactic(auto)]
