@@ -223,9 +223,8 @@ pub fn shared_pool_hand_over(
     sender: &mut PoolParty,
     receiver: &mut PoolParty,
 ) -> Result<(), AllocationError>
-    requires post { pool.now.has_post ≡ true }
-    requires sender { sender.old.allocator ≡ pool.now }
-    requires receiver { receiver.old.allocator ≡ pool.now }
+    requires { (pool.now.has_post ≡ true) × (sender.old.allocator ≡ pool.now)
+        × (receiver.old.allocator ≡ pool.now) }
 {
     let taken = pool.allocate(sender, Layout::from_size_align(48, 4).unwrap())?;
     let message = pool.hand_over(sender, taken);
