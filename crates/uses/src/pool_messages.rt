@@ -1,7 +1,8 @@
 //! Messages between threads, each in a bucket of one shared pool: the sender takes it, and the receiver gives it back.
-ghost use Rattle.std.specs.Prelude.{◌≡◌, ℕ, IfOk, true};
+ghost use Rattle.std.specs.Prelude.{◌≡◌, IfErr, IfOk, true};
 ghost use Rattle.bb_memory_base.specs.PoolLogs.{IsHeldAfter};
-ghost use Rattle.bb_memory.specs.SharedPool.{chunk_of};
+ghost use Rattle.bb_memory.specs.SharedPool.{MayTakeBucket, chunk_of};
+ghost use Rattle.uses.specs.Messages.{IsRefused, having_received};
 
 use bb_memory::allocator::AllocationError;
 use bb_memory::layout::{Chunk, Layout};
@@ -17,7 +18,12 @@ pub fn send(
     requires sender { sender.old.allocator ≡ pool.now }
     ensures sender { sender.new.allocator ≡ pool.now }
     ensures message { IfOk result (λ message. message.allocator ≡ pool.now) }
+    ensures taken { IfOk result
+        (λ message. MayTakeBucket sender.old layout message.number) }
     ensures long_enough { IfOk result (λ message. message.len ≡ layout.size) }
+    ensures handed_over { IfOk result
+        (λ message. ¬ IsHeldAfter sender.new.log message.number) }
+    ensures refused { IfErr result (IsRefused sender.old layout sender.new) }
 {
     let bucket = pool.allocate_near(sender, layout)?;
     Ok(pool.hand_over(sender, bucket))
@@ -33,8 +39,7 @@ pub fn receive(
     requires message { message.allocator ≡ pool.now }
     ensures receiver { receiver.new.allocator ≡ pool.now }
     ensures chunk { result ≡ chunk_of message }
-    ensures keeps { (bucket : ℕ) → IsHeldAfter receiver.old.log bucket
-        → IsHeldAfter receiver.new.log bucket }
+    ensures given_back { receiver.new ≡ having_received message.number receiver.old }
 {
     let bucket = pool.take_over(receiver, message);
     let chunk = bucket.chunk();
