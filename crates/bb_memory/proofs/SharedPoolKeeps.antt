@@ -16,7 +16,8 @@ use Rattle.bb_memory_base.proofs.PoolLogSteps.{take_agrees, lose_agrees, give_ag
 use Rattle.bb_memory_base.proofs.PoolLogFacts.{free_not_held, taken_is_held_alone, length-flags, interleaved_log}
 use Rattle.bb_memory_base.proofs.SliceGets.{slice_get-set_same, length-set_at}
 use Rattle.bb_memory.specs.Seats.{alone}
-use Rattle.bb_memory.specs.SharedPoolRule.{IsSeatOf, IsSeatOfIdle, PoolSetting, SeatView, WordsAndLogsAgree, handed_out, word_of, words_of}
+use Rattle.bb_memory.specs.SharedPoolRule.{IsSeatOf, IsSeatOfIdle, PoolSetting, SeatView}
+use Rattle.bb_memory.specs.SharedPoolRule.{WordsAndLogsAgree, handed_out, word_of, words_of}
 use Rattle.bb_memory.specs.SharedPoolSteps.{returns, tries, tries_at}
 use Rattle.bb_memory.proofs.Seatings.{seated_step}
 use Rattle.bb_memory.proofs.SharedPoolPosts.{is_made, not_post, post_kept}

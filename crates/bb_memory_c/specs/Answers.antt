@@ -10,7 +10,8 @@ use Rattle.bb_memory_base.specs.declared.allocator.AllocationGrowError.{Allocati
 use Rattle.bb_memory_base.specs.declared.allocator.AllocationGrowError.TheVariants as grow
 use Rattle.bb_memory_base.specs.declared.allocator.AllocationShrinkError.{AllocationShrinkError}
 use Rattle.bb_memory_base.specs.declared.allocator.AllocationShrinkError.TheVariants as shrink
-use Rattle.bb_memory_c.specs.Codes.{done, size_is_zero, size_too_large, alignment_failure, out_of_memory, grow_would_shrink, more_than_reserved, shrink_would_grow, not_a_layout, not_held, not_the_old}
+use Rattle.bb_memory_c.specs.Codes.{done, size_is_zero, size_too_large, alignment_failure, out_of_memory, grow_would_shrink}
+use Rattle.bb_memory_c.specs.Codes.{more_than_reserved, shrink_would_grow, not_a_layout, not_held, not_the_old}
 
 -- nothing was given, by this code
 abbrev pub refused : ℕ → Answer

@@ -10,7 +10,8 @@ use Rattle.bb_memory_base.specs.declared.allocator.AllocationShrinkError.{Alloca
 use Rattle.bb_memory_c.specs.declared.answer.Answer.{Answer}
 use Rattle.bb_memory_c.specs.declared.answer.Figure.{Figure}
 use Rattle.bb_memory_c.specs.Answers.{TellsGrow, TellsShrink, answer_of, figure_of, no_figure, refused}
-use Rattle.bb_memory_c.specs.Codes.{already_made, cannot_make, done, malloc_refused, not_a_layout, not_held, not_made, no_bucket, no_seat, seat_holds}
+use Rattle.bb_memory_c.specs.Codes.{already_made, cannot_make, done, malloc_refused, not_a_layout}
+use Rattle.bb_memory_c.specs.Codes.{not_held, not_made, no_bucket, no_seat, seat_holds}
 use Rattle.bb_memory_c.specs.Layouts.{FailsOf, IsOf, LacksRoomOf}
 
 -- FIGURES
