@@ -10,11 +10,11 @@ use Rattle.atomic_table.specs.Seated.{TableId}
 use Rattle.atomic_table.specs.Table.{Me}
 use Rattle.bb_memory_base.specs.BumpMachine.{BumpScene}
 use Rattle.bb_memory_base.specs.BumpHistory.{BumpLog}
-use Rattle.bb_memory_base.specs.BumpLogs.{HasLog, seen_in}
+use Rattle.bb_memory_base.specs.BumpLogs.{HasLog, Interleaving, seen_in}
 use Rattle.bb_memory_base.proofs.BumpLogs.{opening_agrees}
-use Rattle.bb_memory_base.proofs.BumpPositions.{seen_below}
+use Rattle.bb_memory_base.proofs.BumpPositions.{interleaved, seen_below}
 use Rattle.bb_memory_base.proofs.BumpWholes.{opened_below, whole_bounds}
-use Rattle.bb_memory.specs.Seats.{HaveLogs, standing_for, times_in, view_log}
+use Rattle.bb_memory.specs.Seats.{HaveLogs, alone, numbered, standing_for, times_in, view_log}
 use Rattle.bb_memory.specs.SharedBump.{AgreeAt, BumpParty, HaveMet, IsSharedScene, SharedBump, floor_of, greatest_seen}
 use Rattle.bb_memory.specs.SharedBump.{meeting_at}
 use Rattle.bb_memory.specs.SharedBumpRule.{IsPartySeat, NumberedLog, SeatView, gathered, meeting_of, met_by, numbered_of}
@@ -22,6 +22,7 @@ use Rattle.bb_memory.specs.SharedBumpRule.{party_in, scene_of, sight}
 use Rattle.bb_memory.specs.SharedBumpSteps.{TellsMeeting}
 use Rattle.bb_memory.proofs.Positions.{contains-behind, contains-first}
 use Rattle.bb_memory.proofs.Seatings.{all_there, one_apart}
+use Rattle.bb_memory.proofs.SharedBumpParties.{party_seat}
 
 -- GATHERING
 
@@ -208,3 +209,34 @@ met_party table was number found me new party view_is same is = λ i. record {
   log = (ap (λ (m : Me ℕ SeatView). view_log m.0) is ∙ ap (λ (p : BumpParty). p.log) view_is) i;
   met = ap (λ (m : Me ℕ SeatView). met_by m.0) is i;
 }
+
+-- the log of one of the parties that met
+its_own : (made : ℕ) (logs : List BumpLog) (before behind : List NumberedLog) (one : NumberedLog) →
+    HaveLogs made logs (before ++ one ∷ behind) → HasLog logs one.number one.log
+its_own made logs [] behind one have = have.1
+its_own made logs (first ∷ before) behind one have = its_own made logs before behind one have.2
+
+-- the seat of a party that goes back: one interleaving has its log and leaves what the meeting found
+pub met_seat : (scene : BumpScene) (number met found : ℕ) (before behind : List NumberedLog) (me new : Me ℕ SeatView) →
+    IsPartySeat number me → scene_of me.0 ≡ scene →
+    TellsMeeting scene (before ++ (me.0.parties ++ behind)) met found →
+    new ≡ (alone (sight scene found) number (view_log me.0), []) → IsPartySeat number new
+met_seat scene number met found before behind me new fields same told is =
+    let log = view_log me.0 in
+    let own = its_own scene.parties told.logs before behind (numbered number log)
+    (subst (λ (m : Me ℕ SeatView). HaveLogs scene.parties told.logs (before ++ (m.0.parties ++ behind))) fields.seat.seat.is
+    told.theirs) in
+    let seen = seen_below scene found told.logs number log told.agree own in
+    let now : met_by new.0 ≡ found = ap (λ (m : Me ℕ SeatView). met_by m.0) is in
+    party_seat scene number log new
+    record {
+      seat = record {
+        is = is ∙ λ i. (alone (sight scene (met_by (sym is i).0)) number log, []);
+        interleaved = subst (λ (s : BumpScene). Interleaving s number log (seen_in s log)) same fields.seat.seat.interleaved;
+        reached = subst (Interleaving scene number log) (omega (arith, seen, now))
+            (interleaved scene found told.logs number log told.agree own);
+      };
+      idle = fields.seat.idle;
+    }
+    (subst (λ (s : BumpScene). number < s.parties) same fields.below) (subst IsSharedScene same fields.shared)
+    (omega (arith, now, told.within))

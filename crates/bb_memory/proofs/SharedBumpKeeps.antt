@@ -114,7 +114,10 @@ step_tells scene slots seat party log met left kind outcome fit sees state rule 
     let most : met ≤ rule.position = rule.met seat (alone (sight scene met) party log) at in
     let raises : found ≤ left found = let up = greater_of-above found (position_in scene.region (outcome found)) in
     let same = sees found found (omega arith) in omega (arith, up, same) in
-    let own : HasLog logs party new = slice_get-set_same rule.logs party new log know.own in (
+    let own : HasLog logs party new = slice_get-set_same rule.logs party new log know.own in
+    let seen_now : left found ≡ seen_in scene new =
+    sym (sees (seen_in scene log) found above) ∙ sym (seen_next scene log kind (outcome found)) in
+    let explained = interleaved scene (left found) logs party new agree own in (
       alone (sight scene met) party new,
       keeps,
       tt,
@@ -122,9 +125,8 @@ step_tells scene slots seat party log met left kind outcome fit sees state rule 
       record {
         seat = record {
           is = refl;
-          interleaved = subst (Interleaving scene party new)
-              (sym (sees (seen_in scene log) found above) ∙ sym (seen_next scene log kind (outcome found)))
-              (interleaved scene (left found) logs party new agree own);
+          interleaved = subst (Interleaving scene party new) seen_now explained;
+          reached = subst (Interleaving scene party new) (omega (arith, seen_now, word, most, raises)) explained;
         };
         still = refl;
         seen = above;

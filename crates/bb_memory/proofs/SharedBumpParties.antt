@@ -21,7 +21,10 @@ pub party_seat : (scene : BumpScene) (number : ℕ) (log : BumpLog) (me : Me ℕ
     number < scene.parties → IsSharedScene scene → met_by me.0 ≤ scene.region.size → IsPartySeat number me
 party_seat scene number log me of below shared met =
     subst (λ (m : Me ℕ SeatView). IsPartySeat number m) (sym of.seat.is) record {
-      seat = record { seat = record { is = refl; interleaved = of.seat.interleaved }; idle = of.idle };
+      seat = record {
+        seat = record { is = refl; interleaved = of.seat.interleaved; reached = of.seat.reached };
+        idle = of.idle;
+      };
       below = below;
       shared = shared;
       met = met;
@@ -35,6 +38,7 @@ party_known table number me fields = record {
   number = fields.below;
   idle = fields.seat.idle;
   interleaved = fields.seat.seat.interleaved;
+  reached = fields.seat.seat.reached;
   met = fields.met;
 }
 

@@ -146,17 +146,18 @@ IsAnsweredAt region used layout answer =
 
 -- INTERLEAVINGS
 
--- some interleaving of the party's log with some logs of the bump's other parties is allowed, and leaves what the party has seen
-abbrev pub IsInterleaved : BumpParty → Type 0
-IsInterleaved party = Interleaving party.allocator.scene party.number party.log (seen_by party)
+-- some interleaving of the party's log with some logs of the bump's other parties is allowed, and leaves this position
+abbrev pub IsInterleaved : BumpParty → ℕ → Type 0
+IsInterleaved party position = Interleaving party.allocator.scene party.number party.log position
 
--- what holds of every party: its number is below how many there are, it is in no call, some interleaving has its log, and no
--- meeting found more than the region's size
+-- What holds of every party: its number is below how many there are, and it is in no call. Some interleaving has its log and
+-- leaves what the party has seen, and some one leaves its floor. No meeting found more than the region's size.
 pub record IsParty (party : BumpParty) : Type 0 where
   pub scene : IsSharedScene party.allocator.scene
   pub number : party.number < party.allocator.scene.parties
   pub idle : call_in party.log ≡ None
-  pub interleaved : IsInterleaved party
+  pub interleaved : IsInterleaved party (seen_by party)
+  pub reached : IsInterleaved party (floor_of party)
   pub met : party.met ≤ party.allocator.scene.region.size
 
 -- a party before a call and after it: it has its number still, and what holds of every party holds of it

@@ -47,11 +47,13 @@ party_in table number view = record {
   met = met_by view;
 }
 
--- the seat stands for this party alone, whose log some interleaving has, which leaves what the party has seen
+-- The seat stands for this party alone. Some interleaving has its log and leaves what the party has seen, and some one leaves its
+-- floor.
 pub record IsSeatOf (scene : BumpScene) (number : ℕ) (log : BumpLog) (me : Me ℕ SeatView)
     : Type 0 where
   pub is : me ≡ (alone (sight scene (met_by me.0)) number log, [])
   pub interleaved : Interleaving scene number log (seen_in scene log)
+  pub reached : Interleaving scene number log (max (seen_in scene log) (met_by me.0))
 
 -- the same of an idle party
 pub record IsSeatOfIdle (scene : BumpScene) (number : ℕ) (log : BumpLog) (me : Me ℕ SeatView)

@@ -1,6 +1,6 @@
 //! The bump that threads share: its word is the position, and each thread steps with a party of its own.
 ghost use Rattle.std.specs.Prelude.{◌≡◌, ◌≢◌, ◌+◌, ◌-◌, ◌≤◌, ◌%◌, ◌∷◌, ◌++◌, [], List, All, IfOk};
-ghost use Rattle.std.specs.Prelude.{OnErr, length, Contains};
+ghost use Rattle.std.specs.Prelude.{ℕ, OnErr, length, Contains};
 ghost use Rattle.bb_memory_base.specs.Region.{IsRegion, region_at};
 ghost use Rattle.bb_memory_base.specs.Chunk.{AreApart, Chunk, IsInside};
 ghost use Rattle.bb_memory_base.specs.LiveList.{IsSound};
@@ -9,7 +9,7 @@ ghost use Rattle.bb_memory_base.specs.BumpHistory.{BumpLog, chunks_won, history_
 ghost use Rattle.bb_memory_base.specs.BumpCalls.{IsCallRun, OpensWith, calls_of, live_after};
 ghost use Rattle.bb_memory_base.specs.BumpLogs.{Interleaving};
 ghost use Rattle.bb_memory.specs.SharedBump.{AgreeAt, AreBothOf, AreFresh, AreInterleaved, BumpParty, HasChunksWithin, HaveChunksApart};
-ghost use Rattle.bb_memory.specs.SharedBump.{HasLoaded, HaveMet, IsAnsweredAt, IsFoundBy, IsParty, IsSameParty, IsSharedScene, MayTake, MeetAt};
+ghost use Rattle.bb_memory.specs.SharedBump.{HasLoaded, HaveMet, IsAnsweredAt, IsFoundBy, IsInterleaved, IsParty, IsSameParty, IsSharedScene, MayTake, MeetAt};
 ghost use Rattle.bb_memory.specs.SharedBump.{floor_of, greatest_seen, meeting_at, scene_at, seen_by};
 ghost use Rattle.bb_memory.specs.SharedBump.{with_entries};
 ghost use Rattle.bb_memory.specs.SharedBumpRule.{MaySeat};
@@ -302,34 +302,35 @@ impl SharedBumpAllocator {
 /// What a user of a shared bump has of each party, and of two that met, whatever the threads did. It does nothing: its
 /// contract is the law.
 ///
-/// A possible history of a party is an interleaving of its log, as `IsParty` has one: a list of allowed steps from the opening,
-/// in which the party's steps are exactly its log. The others' steps in it are some that explain the log, and needn't be those
-/// that were made. Two parties that met have such a list together, which `AreInterleaved` tells. A list that the opening stands
-/// for is one that was live before the bump was shared.
+/// A possible history of a party is an interleaving of its log: a list of allowed steps from the opening, in which the party's
+/// steps are exactly its log, and which leaves a position. `IsParty` has one that leaves what the party has seen, and one that
+/// leaves its floor, so that one list of steps explains its log and what its last meeting found. The others' steps in it are some
+/// that explain the log, and needn't be those that were made. Two parties that met have such a list together, which
+/// `AreInterleaved` tells. A list that the opening stands for is one that was live before the bump was shared.
 pub fn shared_bump_law()
     // The calls of a party's history are a run of the bump object from that list.
-    ensures run { (party : BumpParty) (live : List Chunk) (is : IsParty party)
-        → let scene = party.allocator.scene in
-        let steps = is.interleaved.steps in
+    ensures run { (party : BumpParty) (position : ℕ) (live : List Chunk)
+        (history : IsInterleaved party position) → let scene = party.allocator.scene in
+        let steps = history.steps in
         OpensWith scene live
         → IsCallRun scene.region live (calls_of scene steps) (live_after scene live steps) }
 
     // The run leads to that list with the chunks that were won since behind it.
-    ensures since { (party : BumpParty) (live : List Chunk) (is : IsParty party)
-        → let scene = party.allocator.scene in
-        let steps = is.interleaved.steps in
+    ensures since { (party : BumpParty) (position : ℕ) (live : List Chunk)
+        (history : IsInterleaved party position) → let scene = party.allocator.scene in
+        let steps = history.steps in
         live_after scene live steps ≡ live ++ chunks_won (history_of scene steps) }
 
     // Each chunk of the party is in the list that the run leaves.
-    ensures held { (party : BumpParty) (live : List Chunk) (is : IsParty party)
-        → let scene = party.allocator.scene in
-        All (Contains (live_after scene live is.interleaved.steps)) (chunks_won party.log) }
+    ensures held { (party : BumpParty) (position : ℕ) (live : List Chunk)
+        (history : IsInterleaved party position) → let scene = party.allocator.scene in
+        All (Contains (live_after scene live history.steps)) (chunks_won party.log) }
 
-    // A bump that has used what the party has seen stands for that list.
-    ensures stands { (party : BumpParty) (live : List Chunk) (is : IsParty party)
-        → let scene = party.allocator.scene in
+    // A bump that has used as much as the history leaves stands for that list.
+    ensures stands { (party : BumpParty) (position : ℕ) (live : List Chunk)
+        (history : IsInterleaved party position) → let scene = party.allocator.scene in
         OpensWith scene live
-        → StandsFor scene.region (seen_by party) (live_after scene live is.interleaved.steps) }
+        → StandsFor scene.region position (live_after scene live history.steps) }
 
     // The chunks that a party's log has won are a sound list of the region.
     ensures sound { (party : BumpParty)

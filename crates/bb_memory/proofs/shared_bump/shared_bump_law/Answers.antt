@@ -9,19 +9,19 @@ use Rattle.bb_memory.proofs.SharedBumpHistories.{held_in_list}
 use Rattle.bb_memory.proofs.shared_bump.shared_bump_law.Goals as goal
 
 pub returns-clause-run : goal.returns-clause-run
-returns-clause-run c = λ party live is. calls_run party.allocator.scene live is.interleaved.steps
+returns-clause-run c = λ party position live history. calls_run party.allocator.scene live history.steps
 
 pub returns-clause-since : goal.returns-clause-since
-returns-clause-since c = λ party live is.
-    interleaved_since party.allocator.scene (seen_by party) party.number party.log live is.interleaved
+returns-clause-since c = λ party position live history.
+    interleaved_since party.allocator.scene position party.number party.log live history
 
 pub returns-clause-held : goal.returns-clause-held
-returns-clause-held c = λ party live is.
-    held_in_list party.allocator.scene live (seen_by party) party.number party.log is.interleaved
+returns-clause-held c = λ party position live history.
+    held_in_list party.allocator.scene live position party.number party.log history
 
 pub returns-clause-stands : goal.returns-clause-stands
-returns-clause-stands c = λ party live is.
-    interleaving_stands party.allocator.scene (seen_by party) party.number party.log live is.interleaved
+returns-clause-stands c = λ party position live history.
+    interleaving_stands party.allocator.scene position party.number party.log live history
 
 pub returns-clause-sound : goal.returns-clause-sound
 returns-clause-sound c = λ party is.

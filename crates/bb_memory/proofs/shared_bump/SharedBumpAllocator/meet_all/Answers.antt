@@ -1,12 +1,28 @@
-use Rattle.std.proofs.Common.{[], length, refl, append-nil, ◌∷◌, ◌++◌, ◌≡◌, ◌≤◌, List, ap, sym, subst, ◌∙◌, arith}
+use Rattle.atomic_table.specs.Table.{Me}
+use Rattle.std.proofs.Common.{rules, ℕ, [], length, refl, append-nil, ◌∷◌, ◌++◌, ◌≡◌, ◌≤◌, List, ap, sym, subst, ◌∙◌, arith}
 use Rattle.std.specs.Prelude.{All, map}
 use Rattle.std.proofs.lemmas.List.{map-append}
 use Rattle.std.proofs.lemmas.List.Elements.{All-map, All-push}
 use Rattle.bb_memory.specs.SharedBump.{BumpParty, IsSharedScene, SharedBump, meeting_at}
-use Rattle.bb_memory.specs.SharedBumpRule.{NumberedLog, met_by, party_in}
+use Rattle.bb_memory.specs.Seats.{standing_for}
+use Rattle.bb_memory.specs.SharedBumpRule.{NumberedLog, SeatView, met_by, numbered_of, party_in, scene_of, sight}
 use Rattle.bb_memory.specs.SharedBumpSteps.{TellsMeeting}
-use Rattle.bb_memory.proofs.SharedBumpGatherings.{all_gathered, have_met, met_party, none_met}
+use Rattle.bb_memory.proofs.SharedBumpGatherings.{all_gathered, have_met, met_party, met_seat, none_met}
 use Rattle.bb_memory.proofs.shared_bump.SharedBumpAllocator.meet_all.Goals as goal
+
+pub invariant_of-push_reserved : goal.invariant_of-push_reserved
+invariant_of-push_reserved c =
+    let scene = c.args.self.now.scene in
+    let me = c.party.inside.seat.me in
+    let number = c.party.inside.number in
+    let found = c.meet_rest.result in
+    let first = map numbered_of c.pop.new.self.items in
+    let told = subst (λ (own : List NumberedLog). TellsMeeting scene (first ++ own) (met_by me.0) found)
+    (sym (append-nil me.0.parties)) c.meet_rest.ensures.found.told in
+    let same : scene_of me.0 ≡ scene = search rules in
+    let one = ap (λ (m : Me ℕ SeatView). m.0.parties) c.party.invariant.seat.seat.is in
+    met_seat scene number (met_by me.0) found first [] me c.meet_rest.new.seat.me c.party.invariant same told
+    (c.meet_rest.ensures.found.seat ∙ λ i. (standing_for (sight (same i) found) (one i), []))
 
 pub returns-in-Some-clause-met : goal.returns-in-Some-clause-met
 returns-in-Some-clause-met c =

@@ -20,18 +20,21 @@ invariant_of-push_reserved c =
     let is = c.loop-number.invariant.rest ∙ ap (λ (parties : List NumberedLog). (standing_for (sight scene 0) parties, []))
     (fresh_more number c.args.parties (omega arith)) in
     let seated = c.deal-seat.ensures.first ∙ ap (λ (m : Me ℕ SeatView). (first_of m.0, [])) is in
+    let unmet : met_by c.deal-seat.result.me.0 ≡ 0 = ap (λ (m : Me ℕ SeatView). met_by m.0) seated in
     party_seat scene number [] c.deal-seat.result.me
     record {
       seat = record {
         is = seated ∙ λ i. (alone (sight scene (met_by (sym seated i).0)) number [], []);
         interleaved = record
             { steps = []; allowed = none_allowed; leaves = refl; logged = refl };
+        reached = record
+            { steps = []; allowed = none_allowed; leaves = omega (arith, unmet); logged = refl };
       };
       idle = refl;
     }
     (omega (arith, c.requires.parties))
     (subst IsSharedScene (ap (λ (b : SharedBump). b.scene) c.self.view_is) c.self.invariant.shared)
-    (omega (arith, ap (λ (m : Me ℕ SeatView). met_by m.0) seated))
+    (omega (arith, unmet))
 
 pub loop-number-preserved : goal.loop-number-preserved
 loop-number-preserved c =
