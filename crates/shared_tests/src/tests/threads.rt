@@ -3,3 +3,4 @@
 mod bumps;
 mod messages;
 mod pools;
+mod queues;
