@@ -138,7 +138,7 @@ fn one_sends(
 }
 
 /// Two parties of a pool with a post, of so many bytes at 4096.
-fn two_of(
+pub(super) fn two_of(
     alloc: Global,
     size: usize,
 ) -> Result<(SharedPoolAllocator, PoolParty, PoolParty), &'static str>
@@ -157,7 +157,7 @@ fn two_of(
 }
 
 /// The layout of a message.
-fn message_layout() -> Result<Layout, &'static str> {
+pub(super) fn message_layout() -> Result<Layout, &'static str> {
     match Layout::from_size_align(48, 4) {
         Ok(layout) => Ok(layout),
         Err(_) => Err("no such layout"),
@@ -174,7 +174,7 @@ fn shared_pool_handed_over(rt: HostRuntime) -> Result<(), Fail> {
 }
 
 /// Two buckets are in transit at once, and are taken over in the other order.
-fn two_in_transit(
+pub(super) fn two_in_transit(
     rt: &impl Abort,
     pool: &SharedPoolAllocator,
     mut first: PoolParty,

@@ -1,6 +1,6 @@
 //! Calls of what threads share that take no memory, each on values that were made before. The sweep runs these tests with each
 //! request refused, too, that comes after the making, and every call has to answer as it does with memory, without a request.
-ghost use Rattle.std.specs.Prelude.{◌≡◌, All};
+ghost use Rattle.std.specs.Prelude.{◌≡◌, All, true};
 
 use super::was_refused;
 use crate::tests::bump_rows::{self, all_meet, owner_by_all};
@@ -14,8 +14,10 @@ use crate::tests::shared_buckets::Request::{Near, Pass};
 use crate::tests::shared_buckets::{Figures, SharedBuckets};
 use crate::tests::shared_bumps::two_parties;
 use crate::tests::shared_pools::{DROPPED_BUCKET, FOUR_BUCKETS, shared_fixed_over, shared_over};
+use crate::tests::transit::{message_layout, two_in_transit, two_of};
 use allocator_tests::marks::{none_was_asked, refuse_memory};
-use bb_memory::shared_pool::PoolParty;
+use bb_memory::layout::Layout;
+use bb_memory::shared_pool::{PoolParty, SharedPoolAllocator};
 use std::alloc::Global;
 use std::process::Abort;
 
@@ -195,6 +197,37 @@ fn all_parties_of_shared_pools(rt: HostRuntime) {
     }
     match shared_fixed_over::<4>(rt.alloc(), 4096, 1024, 3) {
         Ok((pool, parties)) => meet_without_memory(&rt, rt.alloc(), &pool, parties),
+        Err(cause) => was_refused(&rt, rt.alloc(), cause),
+    }
+}
+
+/// Two buckets go from party to party without a request for memory.
+fn transit_without_memory(
+    rt: &impl Abort,
+    alloc: Global,
+    pool: &SharedPoolAllocator,
+    first: PoolParty,
+    second: PoolParty,
+    asked: Layout,
+)
+    requires post { pool.now.has_post ≡ true }
+    requires first { first.allocator ≡ pool.now }
+    requires second { second.allocator ≡ pool.now }
+{
+    refuse_memory(alloc);
+    assert!(rt; two_in_transit(rt, pool, first, second, asked).is_ok());
+    assert!(rt; none_was_asked(alloc));
+}
+
+#[test]
+fn buckets_in_transit(rt: HostRuntime) {
+    let Ok(asked) = message_layout() else {
+        panic!(&rt; "no such layout");
+    };
+    match two_of(rt.alloc(), 256) {
+        Ok((pool, first, second)) => {
+            transit_without_memory(&rt, rt.alloc(), &pool, first, second, asked);
+        }
         Err(cause) => was_refused(&rt, rt.alloc(), cause),
     }
 }

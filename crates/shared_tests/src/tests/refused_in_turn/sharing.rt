@@ -1,5 +1,5 @@
 //! Rows of what threads share, whose maker was refused first.
-ghost use Rattle.std.specs.Prelude.{◌≡◌, All, IfOk};
+ghost use Rattle.std.specs.Prelude.{◌≡◌, All, IfOk, true};
 
 use super::was_refused;
 use crate::tests::bump_rows::figures_of;
@@ -7,12 +7,14 @@ use crate::tests::pool_rows::{Row, hold, users_of};
 use crate::tests::shared_buckets::SharedBuckets;
 use crate::tests::shared_bumps::two_parties;
 use crate::tests::shared_pools::{DROPPED_BUCKET, FOUR_BUCKETS, shared_fixed_over, shared_over};
+use crate::tests::transit::{message_layout, two_in_transit, two_of};
 use allocator_tests::marks::some_was_refused;
 use bb_memory::bump_allocator::{AllocationError, BumpAllocator};
 use bb_memory::shared_bump::{BumpParty, SharedBumpAllocator};
 use bb_memory::shared_pool::{PoolParty, SharedFixedSizePoolAllocator, SharedPoolAllocator};
 use std::alloc::Global;
 use std::process::Abort;
+use std::test::Fail;
 
 /// A bump of 64 bytes at 4096, shared by two. Where memory was refused it comes back as it was, and is shared once more.
 fn shared_by_two(
@@ -104,4 +106,30 @@ fn shared_fixed_four_buckets(rt: HostRuntime) {
         Ok((pool, parties)) => answers(&rt, rt.alloc(), &pool, parties, &FOUR_BUCKETS),
         Err(cause) => panic!(&rt; "{cause}"),
     }
+}
+
+/// A pool of two buckets with a post and two parties. Where memory was refused it is made once more.
+fn two_posted_buckets(
+    rt: &impl Abort,
+    alloc: Global,
+) -> Result<(SharedPoolAllocator, PoolParty, PoolParty), &'static str>
+    ensures post { IfOk result (λ made. made.0.has_post ≡ true) }
+    ensures first { IfOk result (λ made. made.1.allocator ≡ made.0) }
+    ensures second { IfOk result (λ made. made.2.allocator ≡ made.0) }
+{
+    match two_of(alloc, 256) {
+        Ok(made) => Ok(made),
+        Err(cause) => {
+            was_refused(rt, alloc, cause);
+            two_of(alloc, 256)
+        }
+    }
+}
+
+#[test]
+fn shared_pool_two_in_transit(rt: HostRuntime) -> Result<(), Fail> {
+    let asked = message_layout()?;
+    let (pool, first, second) = two_posted_buckets(&rt, rt.alloc())?;
+    two_in_transit(&rt, &pool, first, second, asked)?;
+    Ok(())
 }
