@@ -5,12 +5,16 @@
 //   by its address, which isn't null. Nothing but these functions writes it. It may be moved, and then the old one isn't
 //   used. One variable has one kind of handle. A function's type names the kind that it takes, so the compiler refuses
 //   another one (some compilers only warn); no function tests it, so a caller who casts has to see to it.
-// - One call at a time has a handle. A getter takes the allocator out of its handle and puts it back, as each call does, so
-//   none takes a const one, and it must not run beside another call with the same handle: else the allocator is lost for
-//   good, or two threads use it at once. A call that takes two handles is passed two; one that takes a seat back is passed
-//   a seat of what takes it. A handle may go to another thread between two calls, if the threads order that by a lock or by
-//   a thread's start or join. Threads that call at once share by the shared forms alone, each through a seat of its own; any
-//   other handle they share under one lock.
+// - One call at a time has a handle. Only a maker, a free and the calls that give a seat or take one back write a handle, but
+//   each other one may write what is behind it: so what two at once make of it is anything, a bucket that is given twice among
+//   that. A call that takes two handles is passed two; one that takes a seat back is passed a seat of what takes it. A handle
+//   may go to another thread between two calls, if the threads order that by a lock or by a thread's start or join. Threads
+//   that call at once share by the shared forms alone, each through a seat of its own; any other handle they share under one
+//   lock.
+// - But a getter whose handle is `const` may run beside any call with that handle but one that writes it: it reads the handle
+//   and what the maker fixed, which no other call writes. So a thread for statistics needs no lock, if it begins behind the
+//   maker and ends before the free; else it reads memory that was freed. The proofs are of one call at a time: that these
+//   getters read no more is seen in their code, and tried under checkers of threads (examples/c/statistics.c).
 // - No function is called from a signal handler, or in a child that a process of several threads forked. In a forked child
 //   handles are copies, so it uses none whose region both processes share.
 // - A region is the host's as long as chunks in it are used. No two allocators have a byte in common, but where the region
@@ -26,8 +30,8 @@
 // second return as long as the place was not given anew. A return after that takes the chunk from its new holder, so the
 // host returns each chunk once.
 //
-// Each call writes its handle. Handles of several threads are best kept 64 bytes apart, since two in one cache line make
-// both threads slower.
+// Handles are only read while calls run, so they may share a cache line. What is behind a handle is a block of `malloc`'s: where
+// two small ones share a cache line, two threads that use one each are slower.
 //
 // A Rust program has these calls in the crate of bindings/rust. One without it declares them in an `unsafe extern "C"`
 // block, with `#[repr(C)]` structs of the same fields; examples/c/from_rust.rs does so.
@@ -172,9 +176,9 @@ uint32_t bb_bump_deallocate(bb_bump *);
 // has.
 bb_figure bb_bump_used_space(bb_bump *);
 bb_figure bb_bump_free_space(bb_bump *);
-bb_figure bb_bump_total_space(bb_bump *);
+bb_figure bb_bump_total_space(const bb_bump *);
 // The region's start.
-bb_figure bb_bump_start_address(bb_bump *);
+bb_figure bb_bump_start_address(const bb_bump *);
 
 // A resize names a chunk that is out by its place, its old layout and its new one. It is tested in this order: BB_NOT_MADE;
 // BB_NOT_A_LAYOUT, of either; BB_NOT_HELD; BB_NOT_THE_OLD; then the causes that its function tells. The chunk keeps its place,
@@ -205,8 +209,8 @@ bb_figure bb_one_chunk_holds(bb_one_chunk *, bb_address place);
 // 1 where no chunk is out, else 0.
 bb_figure bb_one_chunk_has_chunk_available(bb_one_chunk *);
 // The region's start, and its size.
-bb_figure bb_one_chunk_start_address(bb_one_chunk *);
-bb_figure bb_one_chunk_size(bb_one_chunk *);
+bb_figure bb_one_chunk_start_address(const bb_one_chunk *);
+bb_figure bb_one_chunk_size(const bb_one_chunk *);
 
 // A pool cuts its region into buckets of one layout, and gives a bucket for each request. Each bucket is a stride behind the
 // one before it: the bucket's size rounded up to its alignment.
@@ -248,14 +252,14 @@ BB_MUST_USE bb_answer bb_pool_shrink(bb_pool *, bb_address place, size_t old_siz
                                      size_t new_align);
 // The bucket's size, which is reserved for a chunk at this place, or BB_NOT_HELD.
 bb_figure bb_pool_reserved(bb_pool *, bb_address place);
-bb_figure bb_pool_number_of_buckets(bb_pool *);
-bb_figure bb_pool_bucket_size(bb_pool *);
-bb_figure bb_pool_max_alignment(bb_pool *);
+bb_figure bb_pool_number_of_buckets(const bb_pool *);
+bb_figure bb_pool_bucket_size(const bb_pool *);
+bb_figure bb_pool_max_alignment(const bb_pool *);
 // The region's size as handed in, padding in front included.
-bb_figure bb_pool_size(bb_pool *);
+bb_figure bb_pool_size(const bb_pool *);
 // Where bucket 0 is: the region's start rounded up to the bucket's alignment. This plus the size may lie behind the region's
 // end.
-bb_figure bb_pool_start_address(bb_pool *);
+bb_figure bb_pool_start_address(const bb_pool *);
 
 // The same of at most BB_FIXED_POOL_BUCKETS buckets, which keeps what it knows of them in one block of fixed size. Of a larger
 // region it uses the first ones alone. It doesn't tell where bucket 0 is.
@@ -270,10 +274,10 @@ BB_MUST_USE bb_answer bb_fixed_pool_grow(bb_fixed_pool *, bb_address place, size
 BB_MUST_USE bb_answer bb_fixed_pool_shrink(bb_fixed_pool *, bb_address place, size_t old_size, size_t old_align, size_t new_size,
                                            size_t new_align);
 bb_figure bb_fixed_pool_reserved(bb_fixed_pool *, bb_address place);
-bb_figure bb_fixed_pool_number_of_buckets(bb_fixed_pool *);
-bb_figure bb_fixed_pool_bucket_size(bb_fixed_pool *);
-bb_figure bb_fixed_pool_max_alignment(bb_fixed_pool *);
-bb_figure bb_fixed_pool_size(bb_fixed_pool *);
+bb_figure bb_fixed_pool_number_of_buckets(const bb_fixed_pool *);
+bb_figure bb_fixed_pool_bucket_size(const bb_fixed_pool *);
+bb_figure bb_fixed_pool_max_alignment(const bb_fixed_pool *);
+bb_figure bb_fixed_pool_size(const bb_fixed_pool *);
 
 // A bump that threads share. It is made for some number of parties; `bb_shared_bump_seat` gives the last party without a
 // seat one, behind a handle of its own. Each thread that allocates has a seat, and no call waits for another. What a seat does
@@ -301,10 +305,10 @@ BB_MUST_USE bb_answer bb_bump_seat_allocate(bb_bump_seat *, size_t size, size_t 
 // What one look found; the start is the region's.
 bb_figure bb_bump_seat_used_space(bb_bump_seat *);
 bb_figure bb_bump_seat_free_space(bb_bump_seat *);
-bb_figure bb_bump_seat_total_space(bb_bump_seat *);
-bb_figure bb_bump_seat_start_address(bb_bump_seat *);
+bb_figure bb_bump_seat_total_space(const bb_bump_seat *);
+bb_figure bb_bump_seat_start_address(const bb_bump_seat *);
 // The party's number, from 0.
-bb_figure bb_bump_seat_party(bb_bump_seat *);
+bb_figure bb_bump_seat_party(const bb_bump_seat *);
 
 // A pool that threads share, in the same way. A bucket is given back through the seat that took it. A return comes before the
 // next taking of that bucket (the steps are sequentially consistent), so its bytes need no further lock. ThreadSanitizer can't
@@ -337,13 +341,13 @@ BB_MUST_USE bb_answer bb_pool_seat_shrink(bb_pool_seat *, bb_address place, size
                                           size_t new_align);
 bb_figure bb_pool_seat_reserved(bb_pool_seat *, bb_address place);
 // The figures as of a pool with one owner.
-bb_figure bb_pool_seat_number_of_buckets(bb_pool_seat *);
-bb_figure bb_pool_seat_bucket_size(bb_pool_seat *);
-bb_figure bb_pool_seat_max_alignment(bb_pool_seat *);
-bb_figure bb_pool_seat_size(bb_pool_seat *);
-bb_figure bb_pool_seat_start_address(bb_pool_seat *);
+bb_figure bb_pool_seat_number_of_buckets(const bb_pool_seat *);
+bb_figure bb_pool_seat_bucket_size(const bb_pool_seat *);
+bb_figure bb_pool_seat_max_alignment(const bb_pool_seat *);
+bb_figure bb_pool_seat_size(const bb_pool_seat *);
+bb_figure bb_pool_seat_start_address(const bb_pool_seat *);
 // The party's number, from 0.
-bb_figure bb_pool_seat_party(bb_pool_seat *);
+bb_figure bb_pool_seat_party(const bb_pool_seat *);
 
 // The names that calls of a seat had before 0.2.0. With BB_NO_OLD_NAMES defined above the header they are gone.
 #ifndef BB_NO_OLD_NAMES

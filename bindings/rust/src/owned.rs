@@ -54,9 +54,9 @@ pub unsafe trait Shared: Kind {
     const LEAVE: ffi::Seats;
 }
 
-/// A handle of this kind, which isn't empty, and where its region starts. Each call writes the handle, so no two threads may
-/// make one at once: the cell makes it `!Sync`. What is behind it belongs to no thread. What was made has a number of its own,
-/// which its seats have, too.
+/// A handle of this kind, which isn't empty, and where its region starts. A call writes what is behind the handle, so no two
+/// threads may make one at once: the cell makes it `!Sync`. What is behind it belongs to no thread. What was made has a number
+/// of its own, which its seats have, too.
 pub struct Owned<K: Kind> {
     handle: UnsafeCell<Handle>,
     start: NonNull<u8>,

@@ -1,6 +1,7 @@
 pub mod Values
 pub mod Holds
 pub mod Passing
+pub mod Looking
 pub mod Owners
 pub mod Crossing
 pub mod HeldFlags

@@ -1,5 +1,6 @@
 -- What is behind a handle, and what is told of it.
 use Rattle.std.proofs.Common.{◌≡◌, Option, Some, None, IfSome, sym, subst}
+use Rattle.std.specs.Option.{OnSome}
 use Rattle.bb_memory_base.specs.declared.layout.Layout.{Layout}
 use Rattle.bb_memory_c.specs.declared.answer.Answer.{Answer}
 use Rattle.bb_memory_c.specs.Answers.{TellsOfLayouts, refused}
@@ -18,3 +19,19 @@ is_told layouts told tells two is tell = subst (λ l. TellsOfLayouts l told tell
 pub is_told_none : (layouts : Option (Layout × Layout)) (told : Answer) (tells : Layout → Layout → Type 0) →
     layouts ≡ None → TellsOfLayouts layouts told tells → told ≡ refused not_a_layout
 is_told_none layouts told tells is tell = subst (λ l. TellsOfLayouts l told tells) is tell
+
+-- what holds where something was lent
+pub at_lent : {A : Type 0} {P : Type 0} (lent : Option A) (at : A) → lent ≡ Some at → OnSome lent P → P
+at_lent {P} lent at is holds = subst (λ o. OnSome o P) is holds
+
+-- what holds of nothing, where there is nothing
+pub at_none : {X : Type 0} (P : X → Type 0) (old : Option X) → old ≡ None → IfSome old P
+at_none P old is = subst (λ o. IfSome o P) (sym is) tt
+
+-- what is said of what is there, where it is this
+pub of_made : {X : Type 0} (P : X → Type 0) (old : Option X) (made : X) → old ≡ Some made → IfSome old P → P made
+of_made P old made is holds = subst (λ o. IfSome o P) is holds
+
+-- it isn't there and not there
+pub not_both : {X : Type 0} (old : Option X) (made : X) → old ≡ Some made → old ≡ None → ⊥
+not_both old made is none = of_made (λ _. ⊥) old made is (at_none (λ _. ⊥) old none)

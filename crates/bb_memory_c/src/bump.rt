@@ -68,18 +68,19 @@ pub extern "C" fn bb_bump_allocate(
 ///
 /// C guarantees of the handle what the crate's page says.
 #[unsafe(no_mangle)]
-pub extern "C" fn bb_bump_deallocate(alloc: Global, handle: &mut BumpHandle) -> u32
+pub extern "C" fn bb_bump_deallocate(_alloc: Global, handle: &mut BumpHandle) -> u32
     ensures emptied { IfSome handle.old.value (λ bump. (result ≡ done)
         × (handle.new.value ≡ Some (bump_of bump.region.start bump.region.size 0))) }
     ensures not_made { handle.old.value ≡ None
         → (result ≡ not_made) × (handle.new.value ≡ handle.old.value) }
 {
-    let Some(mut bump) = handle.take(alloc) else {
-        return code::NOT_MADE;
-    };
-    bump.deallocate(0, Layout::empty());
-    handle.put(bump);
-    code::DONE
+    match handle.made_mut() {
+        Some(bump) => {
+            bump.deallocate(0, Layout::empty());
+            code::DONE
+        }
+        None => code::NOT_MADE,
+    }
 }
 
 /// How many bytes are used: those from the region's start to the end of the last chunk, padding included.

@@ -21,15 +21,12 @@ use bb_memory::layout::Layout;
 use std::alloc::Global;
 
 /// Whether something is made behind the handle, which stays.
-pub(crate) fn is_made<H: Handle>(handle: &mut H, alloc: Global) -> bool
+pub(crate) fn is_made<H: Handle>(handle: &mut H, _alloc: Global) -> bool
     ensures value { IsTrue result ↔ (H.made handle.old ≢ None) }
     ensures kept { H.made handle.new ≡ H.made handle.old }
 {
-    match handle.take(alloc) {
-        Some(made) => {
-            handle.put(made);
-            true
-        }
+    match handle.made_mut() {
+        Some(_) => true,
         None => false,
     }
 }
@@ -64,7 +61,7 @@ pub(crate) fn free<H: Handle>(handle: &mut H, alloc: Global) -> u32
 /// What is told of what was made, which stays.
 pub(crate) fn tell<H: Handle, F: Fn(&H::Made) -> Figure>(
     handle: &mut H,
-    alloc: Global,
+    _alloc: Global,
     read: F,
 ) -> Figure
     requires { F.IsAlwaysCallable read }
@@ -72,12 +69,10 @@ pub(crate) fn tell<H: Handle, F: Fn(&H::Made) -> Figure>(
     ensures not_made { H.made handle.old ≡ None → result ≡ no_figure not_made }
     ensures kept { H.made handle.new ≡ H.made handle.old }
 {
-    let Some(made) = handle.take(alloc) else {
-        return Figure::refusal(code::NOT_MADE);
-    };
-    let figure = read(&made);
-    handle.put(made);
-    figure
+    match handle.made_mut() {
+        Some(made) => read(made),
+        None => Figure::refusal(code::NOT_MADE),
+    }
 }
 
 /// What is answered to a request for a chunk of this layout.
@@ -103,18 +98,21 @@ fn ask<M: Gives>(made: &mut M, size: usize, align: usize) -> Answer
 }
 
 /// Asks for a chunk of so many bytes at a multiple of `align`.
-pub(crate) fn request<H: Handle>(handle: &mut H, alloc: Global, size: usize, align: usize) -> Answer
+pub(crate) fn request<H: Handle>(
+    handle: &mut H,
+    _alloc: Global,
+    size: usize,
+    align: usize,
+) -> Answer
 where
     H::Made: Gives,
     ensures { AnswersRequest (H.made handle.old) (H.made handle.new) size align result
         H.Made.may_give }
 {
-    let Some(mut made) = handle.take(alloc) else {
-        return Answer::refusal(code::NOT_MADE);
-    };
-    let answer = ask(&mut *made, size, align);
-    handle.put(made);
-    answer
+    match handle.made_mut() {
+        Some(made) => ask(made, size, align),
+        None => Answer::refusal(code::NOT_MADE),
+    }
 }
 
 /// Gives back the chunk at this place, if one is held there.
@@ -130,52 +128,43 @@ fn release<M: Keeps>(made: &mut M, place: usize) -> u32
 }
 
 /// Gives back the chunk at this place, if one is held there.
-pub(crate) fn give_back<H: Handle>(handle: &mut H, alloc: Global, place: usize) -> u32
+pub(crate) fn give_back<H: Handle>(handle: &mut H, _alloc: Global, place: usize) -> u32
 where
     H::Made: Keeps,
     ensures { AnswersReturn (H.made handle.old) (H.made handle.new) result
         (λ made. H.Made.holds made place) (λ made after. H.Made.frees made place after) }
 {
-    let Some(mut made) = handle.take(alloc) else {
+    let Some(made) = handle.made_mut() else {
         return code::NOT_MADE;
     };
-    let code = release(&mut *made, place);
-    handle.put(made);
-    code
+    release(made, place)
 }
 
 /// Whether a chunk is held at this place: 1 or 0.
-pub(crate) fn holds<H: Handle>(handle: &mut H, alloc: Global, place: usize) -> Figure
+pub(crate) fn holds<H: Handle>(handle: &mut H, _alloc: Global, place: usize) -> Figure
 where
     H::Made: Keeps,
     ensures { TellsWhether (H.made handle.old) (H.made handle.new) result
         (λ made. H.Made.holds made place) }
 {
-    let Some(made) = handle.take(alloc) else {
-        return Figure::refusal(code::NOT_MADE);
-    };
-    let figure = Figure::whether(made.is_held(place));
-    handle.put(made);
-    figure
+    match handle.made_mut() {
+        Some(made) => Figure::whether(made.is_held(place)),
+        None => Figure::refusal(code::NOT_MADE),
+    }
 }
 
 /// How many bytes are reserved for the chunk at this place, if one is held there.
-pub(crate) fn reserved<H: Handle>(handle: &mut H, alloc: Global, place: usize) -> Figure
+pub(crate) fn reserved<H: Handle>(handle: &mut H, _alloc: Global, place: usize) -> Figure
 where
     H::Made: Keeps,
     ensures { TellsOfHeld (H.made handle.old) (H.made handle.new) result
         (λ made. H.Made.holds made place) (λ made. H.Made.bytes made place) }
 {
-    let Some(made) = handle.take(alloc) else {
-        return Figure::refusal(code::NOT_MADE);
-    };
-    let figure = if made.is_held(place) {
-        Figure::of(made.reserved_at(place))
-    } else {
-        Figure::refusal(code::NOT_HELD)
-    };
-    handle.put(made);
-    figure
+    match handle.made_mut() {
+        Some(made) if made.is_held(place) => Figure::of(made.reserved_at(place)),
+        Some(_) => Figure::refusal(code::NOT_HELD),
+        None => Figure::refusal(code::NOT_MADE),
+    }
 }
 
 /// Whether the chunk at this place may have the old layout, and what it is then answered that is to grow.
@@ -198,7 +187,7 @@ fn grow_one<M: Keeps>(made: &mut M, place: usize, layouts: Option<(Layout, Layou
 /// Gives the chunk at this place the new size or more.
 pub(crate) fn grow<H: Handle>(
     handle: &mut H,
-    alloc: Global,
+    _alloc: Global,
     place: usize,
     old_size: usize,
     old_align: usize,
@@ -211,13 +200,11 @@ where
         (resize old_size old_align new_size new_align) result
         (λ made. H.Made.holds made place) (λ made. H.Made.may_grow made place) }
 {
-    let Some(mut made) = handle.take(alloc) else {
-        return Answer::refusal(code::NOT_MADE);
-    };
     let layouts = layouts_of(old_size, old_align, new_size, new_align);
-    let answer = grow_one(&mut *made, place, layouts);
-    handle.put(made);
-    answer
+    match handle.made_mut() {
+        Some(made) => grow_one(made, place, layouts),
+        None => Answer::refusal(code::NOT_MADE),
+    }
 }
 
 /// Whether the chunk at this place may have the old layout, and what it is then answered that is to shrink.
@@ -241,7 +228,7 @@ fn shrink_one<M: Keeps>(made: &mut M, place: usize, layouts: Option<(Layout, Lay
 /// Gives the chunk at this place exactly the new size.
 pub(crate) fn shrink<H: Handle>(
     handle: &mut H,
-    alloc: Global,
+    _alloc: Global,
     place: usize,
     old_size: usize,
     old_align: usize,
@@ -255,13 +242,11 @@ where
         (λ made. H.Made.holds made place) (λ made. H.Made.bytes made place)
         (λ made. H.Made.may_shrink made place) }
 {
-    let Some(mut made) = handle.take(alloc) else {
-        return Answer::refusal(code::NOT_MADE);
-    };
     let layouts = layouts_of(old_size, old_align, new_size, new_align);
-    let answer = shrink_one(&mut *made, place, layouts);
-    handle.put(made);
-    answer
+    match handle.made_mut() {
+        Some(made) => shrink_one(made, place, layouts),
+        None => Answer::refusal(code::NOT_MADE),
+    }
 }
 
 /// Gives a seat to the last party that has none, behind a handle that has to be empty.
@@ -274,12 +259,10 @@ where
     if is_made(seat, alloc) {
         return code::ALREADY_MADE;
     }
-    let Some(mut shared) = handle.take(alloc) else {
+    let Some(shared) = handle.made_mut() else {
         return code::NOT_MADE;
     };
-    let dealt = shared.deal(alloc);
-    handle.put(shared);
-    match dealt {
+    match shared.deal(alloc) {
         Ok(dealt) => {
             seat.put(dealt);
             code::DONE
@@ -296,19 +279,18 @@ where
     ensures { GetsSeatBack (H.made handle.old) (H.made handle.new) (S.made seat.old)
         (S.made seat.new) result H.Made.is_busy H.Made.joined }
 {
-    let Some(mut shared) = handle.take(alloc) else {
+    let Some(shared) = handle.made_mut() else {
         return code::NOT_MADE;
     };
-    let Some(leaving) = seat.take(alloc) else {
-        handle.put(shared);
+    let Some(seated) = seat.made_mut() else {
         return code::NOT_MADE;
     };
-    if shared.is_in_use(&leaving) {
-        handle.put(shared);
-        seat.put(leaving);
+    if shared.is_in_use(seated) {
         return code::SEAT_HOLDS;
     }
+    let Some(leaving) = seat.take(alloc) else {
+        return code::NOT_MADE;
+    };
     shared.take_back(Box::into_inner(leaving));
-    handle.put(shared);
     code::DONE
 }

@@ -2,6 +2,8 @@
 //! is passed to C; all have the same two fields. The host holds a handle in a variable of its own, and passes that by its
 //! address. An empty one has both fields zero. It may be moved, and then the old one isn't used.
 ghost use Rattle.std.specs.Prelude.{◌≡◌, Option, Some, None, MatchOption};
+ghost use Rattle.std.specs.Option.{OnSome};
+ghost use Rattle.std.specs.Borrow.{sem, LendsSo};
 
 mod bump;
 mod bump_seat;
@@ -39,6 +41,12 @@ pub(crate) trait Handle: Drop {
     /// What it owns.
     fn into_held(self) -> Held<Self::Made>
         ensures { result.value ≡ made self };
+
+    /// What was made, where it lies, if the handle isn't empty. The handle isn't written.
+    fn made_mut(&mut self) -> Option<&mut Self::Made>
+        ensures value { MatchOption result (made self.old ≡ None) (λ lent. made self.old ≡ Some lent.now) }
+        ensures* writes_back { sem 𝓛 (LendsSo Self.row Self.Made.row self.entry result
+            (λ after last. OnSome result (made after ≡ Some last)) (λ after. made after ≡ made self.old)) };
 
     /// Owns this from now on. What it owned before is forgotten, so it has to be empty.
     final fn put(&mut self, fresh: Box<Self::Made>)

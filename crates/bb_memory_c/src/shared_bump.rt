@@ -108,12 +108,10 @@ pub extern "C" fn bb_shared_bump_leave(
 pub extern "C" fn bb_shared_bump_begin_anew(alloc: Global, handle: &mut SharedBumpHandle) -> u32
     ensures { BeginsAnew handle.old.value handle.new.value result }
 {
-    let Some(mut seats) = handle.take(alloc) else {
-        return code::NOT_MADE;
-    };
-    let code = begin_anew(&mut seats, alloc);
-    handle.put(seats);
-    code
+    match handle.made_mut() {
+        Some(seats) => begin_anew(seats, alloc),
+        None => code::NOT_MADE,
+    }
 }
 
 /// Frees the seat, whose handle is empty then. Its party gets no other, so the bump can't begin anew. The answer is 0, or
@@ -148,34 +146,28 @@ pub extern "C" fn bb_bump_seat_allocate(
 ///
 /// C guarantees of the handle what the crate's page says.
 #[unsafe(no_mangle)]
-pub extern "C" fn bb_bump_seat_used_space(alloc: Global, handle: &mut BumpSeatHandle) -> Figure
+pub extern "C" fn bb_bump_seat_used_space(_alloc: Global, handle: &mut BumpSeatHandle) -> Figure
     ensures { TellsLoad handle.old.value handle.new.value result
         (λ party used. used) }
 {
-    let Some(mut taken) = handle.take(alloc) else {
-        return Figure::refusal(code::NOT_MADE);
-    };
-    let seat = &mut *taken;
-    let figure = Figure::of(seat.bump.used_space(&mut seat.party));
-    handle.put(taken);
-    figure
+    match handle.made_mut() {
+        Some(seat) => Figure::of(seat.bump.used_space(&mut seat.party)),
+        None => Figure::refusal(code::NOT_MADE),
+    }
 }
 
 /// How many bytes are behind the last chunk, as one load found.
 ///
 /// C guarantees of the handle what the crate's page says.
 #[unsafe(no_mangle)]
-pub extern "C" fn bb_bump_seat_free_space(alloc: Global, handle: &mut BumpSeatHandle) -> Figure
+pub extern "C" fn bb_bump_seat_free_space(_alloc: Global, handle: &mut BumpSeatHandle) -> Figure
     ensures { TellsLoad handle.old.value handle.new.value result
         (λ party used. party.allocator.scene.region.size - used) }
 {
-    let Some(mut taken) = handle.take(alloc) else {
-        return Figure::refusal(code::NOT_MADE);
-    };
-    let seat = &mut *taken;
-    let figure = Figure::of(seat.bump.free_space(&mut seat.party));
-    handle.put(taken);
-    figure
+    match handle.made_mut() {
+        Some(seat) => Figure::of(seat.bump.free_space(&mut seat.party)),
+        None => Figure::refusal(code::NOT_MADE),
+    }
 }
 
 /// The number of this seat's party, from 0.

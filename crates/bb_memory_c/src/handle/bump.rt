@@ -47,6 +47,13 @@ impl Handle for BumpHandle {
             made,
         }
     }
+
+    fn made_mut(&mut self) -> Option<&mut BumpAllocator> {
+        if !self.made {
+            return None;
+        }
+        Some(unsafe { &mut *(self.at as *mut BumpAllocator) })
+    }
 }
 
 unsafe impl Send for BumpHandle {}

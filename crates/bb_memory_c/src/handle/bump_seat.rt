@@ -47,6 +47,13 @@ impl Handle for BumpSeatHandle {
             made,
         }
     }
+
+    fn made_mut(&mut self) -> Option<&mut BumpSeat> {
+        if !self.made {
+            return None;
+        }
+        Some(unsafe { &mut *(self.at as *mut BumpSeat) })
+    }
 }
 
 unsafe impl Send for BumpSeatHandle {}

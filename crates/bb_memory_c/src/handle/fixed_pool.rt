@@ -47,6 +47,13 @@ impl Handle for FixedPoolHandle {
             made,
         }
     }
+
+    fn made_mut(&mut self) -> Option<&mut FixedSizePoolAllocator<512>> {
+        if !self.made {
+            return None;
+        }
+        Some(unsafe { &mut *(self.at as *mut FixedSizePoolAllocator<512>) })
+    }
 }
 
 unsafe impl Send for FixedPoolHandle {}

@@ -47,6 +47,13 @@ impl Handle for OneChunkHandle {
             made,
         }
     }
+
+    fn made_mut(&mut self) -> Option<&mut OneChunkAllocator> {
+        if !self.made {
+            return None;
+        }
+        Some(unsafe { &mut *(self.at as *mut OneChunkAllocator) })
+    }
 }
 
 unsafe impl Send for OneChunkHandle {}

@@ -48,6 +48,13 @@ impl Handle for PoolHandle {
             made,
         }
     }
+
+    fn made_mut(&mut self) -> Option<&mut PoolAllocator<Global>> {
+        if !self.made {
+            return None;
+        }
+        Some(unsafe { &mut *(self.at as *mut PoolAllocator<Global>) })
+    }
 }
 
 unsafe impl Send for PoolHandle {}

@@ -47,6 +47,13 @@ impl Handle for PoolSeatHandle {
             made,
         }
     }
+
+    fn made_mut(&mut self) -> Option<&mut PoolSeat> {
+        if !self.made {
+            return None;
+        }
+        Some(unsafe { &mut *(self.at as *mut PoolSeat) })
+    }
 }
 
 unsafe impl Send for PoolSeatHandle {}

@@ -47,6 +47,13 @@ impl Handle for SharedBumpHandle {
             made,
         }
     }
+
+    fn made_mut(&mut self) -> Option<&mut BumpSeats> {
+        if !self.made {
+            return None;
+        }
+        Some(unsafe { &mut *(self.at as *mut BumpSeats) })
+    }
 }
 
 unsafe impl Send for SharedBumpHandle {}

@@ -47,6 +47,13 @@ impl Handle for SharedPoolHandle {
             made,
         }
     }
+
+    fn made_mut(&mut self) -> Option<&mut PoolSeats> {
+        if !self.made {
+            return None;
+        }
+        Some(unsafe { &mut *(self.at as *mut PoolSeats) })
+    }
 }
 
 unsafe impl Send for SharedPoolHandle {}
