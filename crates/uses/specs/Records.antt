@@ -31,7 +31,7 @@ pub record Stores {A G : Type 0} (geometry_of : A → G) (may_allocate : G → L
       (length bytes) old.chunks new.chunks)
   pub refused : IfErr result (IsWhyNotStored
       (may_allocate (geometry_of old.allocator) old.chunks) (length bytes))
-  pub kept : OnErr result (new ≡ record old { allocator = new.allocator })
+  pub still : OnErr result (new ≡ record old { allocator = new.allocator })
   pub geometry : geometry_of new.allocator ≡ geometry_of old.allocator
 
 -- just these records are left, in these chunks
