@@ -1,6 +1,6 @@
 -- Records under keys: a key is the index of a slot, and how often the slot was taken before.
-use Rattle.std.specs.Prelude.{◌≡◌, ◌+◌, ◌-◌, ◌^◌, ◌∷◌, ◌++◌, ◌&&◌, ◌||◌, ◌↔◌, [], ℕ, Bool, true, false, List, Option, Some, None}
-use Rattle.std.specs.Prelude.{Result, Ok, IfOk, IsOk, OnOk, OnErr, length, nat_eq, nat_lt, not, position, slice_get, slice_set}
+use Rattle.std.specs.Prelude.{◌≡◌, ◌+◌, ◌-◌, ◌^◌, ◌∷◌, ◌++◌, ◌&&◌, ◌||◌, ◌↔◌, [], ℕ, List, Result, Option}
+use Rattle.std.specs.Prelude.{Bool, true, false, Some, None, Ok, IfOk, IsOk, OnOk, OnErr, length, nat_eq, nat_lt, not, position, slice_get, slice_set}
 use Rattle.bb_memory_base.specs.Chunk.{Chunk}
 use Rattle.uses.specs.declared.keyed_slab.Key.{Key}
 use Rattle.uses.specs.declared.keyed_slab.Slot.{Slot}
@@ -12,7 +12,7 @@ use Rattle.uses.specs.Requests.{Answers}
 pub record Keyed (A : Type 0) : Type 0 where
   pub slab : Records A
   pub slots : List Slot
-  pub size : ℕ
+  pub record_size : ℕ
 
 -- the slot while this key names its record
 abbrev pub slot_of : Key → Slot

@@ -1,5 +1,5 @@
 //! Records under keys, which are refused once their record is taken out: a layer over the slab.
-ghost use Rattle.std.specs.Prelude.{◌≡◌, ◌<◌, ◌-◌, ◌^◌, ◌∷◌, ◌++◌, ◌↔◌, [], ℕ, List, Some, Ok};
+ghost use Rattle.std.specs.Prelude.{◌≡◌, ◌<◌, ◌-◌, ◌^◌, ◌∷◌, ◌++◌, ◌↔◌, [], ℕ, List, Some, None, Ok};
 ghost use Rattle.std.specs.Prelude.{IfOk, IfSome, IfNone, IsOk, IsTrue, length, slice_get, slice_set};
 ghost use Rattle.uses.specs.declared.keyed_slab.Slot.{Slot};
 ghost use Rattle.uses.specs.declared.keyed_slab.Key.{Key};
@@ -38,7 +38,7 @@ pub struct Slot {
 pub struct KeyedSlab<A: Allocator + Drop> {
     slab: Slab<A>,
     slots: Vec<Slot>,
-    size: usize,
+    record_size: usize,
 }
 
 impl<A: Allocator + Drop> Model for KeyedSlab<A> {
@@ -48,30 +48,30 @@ impl<A: Allocator + Drop> Model for KeyedSlab<A> {
     // A slab with keys is its records, the slot of each, and how many bytes each has.
     ghost Value = { Keyed A };
 
-    ghost view = { λ s. record { slab = s.slab; slots = s.slots.items; size = s.size } };
+    ghost view = { λ s. record { slab = s.slab; slots = s.slots.items; record_size = s.record_size } };
 
     ghost invariant = { λ s. (length s.slots.items ≡ length s.slab.records)
-        × All (λ bytes. length bytes ≡ s.size) s.slab.records };
+        × All (λ bytes. length bytes ≡ s.record_size) s.slab.records };
 }
 
 impl<A: Allocator + Drop> KeyedSlab<A> {
     /// No records. Each will have so many bytes.
-    pub fn new(alloc: Global, slab: Slab<A>, size: usize) -> Self
+    pub fn new(alloc: Global, slab: Slab<A>, record_size: usize) -> Self
         requires empty { slab.records ≡ [] }
-        ensures { result ≡ record { slab = slab; slots = []; size = size } }
+        ensures { result ≡ record { slab = slab; slots = []; record_size = record_size } }
     {
         KeyedSlab {
             slab,
             slots: Vec::new(alloc),
-            size,
+            record_size,
         }
     }
 
     /// How many bytes each record has.
-    pub fn size(&self) -> usize
-        ensures { result ≡ self.now.size }
+    pub fn record_size(&self) -> usize
+        ensures { result ≡ self.now.record_size }
     {
-        self.size
+        self.record_size
     }
 
     /// Whether the key names a record.
@@ -88,7 +88,7 @@ impl<A: Allocator + Drop> KeyedSlab<A> {
     /// generation; then no memory is taken. Else it takes a slot behind the others, with a record behind those of the slab: this
     /// is refused as the slab refuses it, or with `List` where the memory for the slots was. A refusal keeps all.
     pub fn put(&mut self, bytes: &[u8]) -> Result<Key, InsertError>
-        requires { length bytes.now ≡ self.old.size }
+        requires { length bytes.now ≡ self.old.record_size }
         ensures again { IfSome (first_free self.old.slots) (λ index. PutsAgain self.old index
             bytes.now result self.new) }
         ensures behind { IfNone (first_free self.old.slots) (PutsBehind A.geometry A.may_allocate
@@ -114,7 +114,7 @@ impl<A: Allocator + Drop> KeyedSlab<A> {
 
     /// Writes a record whole. The others keep their bytes, and each slot stays.
     pub fn write(&mut self, key: Key, bytes: &[u8]) -> Result<(), StaleKey>
-        requires { length bytes.now ≡ self.old.size }
+        requires { IsHeld self.old.slots key → length bytes.now ≡ self.old.record_size }
         ensures { ChangesWhereHeld self.old key result (with_bytes self.old key.index bytes.now)
             self.new }
     {
@@ -143,9 +143,8 @@ impl<A: Allocator + Drop> KeyedSlab<A> {
 
     /// Takes a slot again.
     fn put_again(&mut self, index: usize, bytes: &[u8]) -> Key
-        requires free { (slot : Slot) × (slice_get self.old.slots index ≡ Some slot)
-            × (slot.generation < 2 ^ 64 - 1) }
-        requires size { length bytes.now ≡ self.old.size }
+        requires { (slot : Slot) × (slice_get self.old.slots index ≡ Some slot)
+            × (slot.generation < 2 ^ 64 - 1) × (length bytes.now ≡ self.old.record_size) }
         ensures { PutsAgain self.old index bytes.now (Ok result) self.new }
     {
         let key = key_after(&self.slots, index);
@@ -162,14 +161,14 @@ impl<A: Allocator + Drop> KeyedSlab<A> {
     fn has_size(&self, index: usize)
         requires { index < length self.now.slots }
         ensures { (bytes : List ℕ) × (slice_get self.now.slab.records index ≡ Some bytes)
-            × (self.now.size ≡ length bytes) }
+            × (self.now.record_size ≡ length bytes) }
     {
         let _ = self.slab.read(index).len();
     }
 
     /// Takes a slot behind the others.
     fn put_behind(&mut self, bytes: &[u8]) -> Result<Key, InsertError>
-        requires { length bytes.now ≡ self.old.size }
+        requires { (first_free self.old.slots ≡ None) × (length bytes.now ≡ self.old.record_size) }
         ensures { PutsBehind A.geometry A.may_allocate self.old bytes.now result self.new }
     {
         Layout::from_size_align(bytes.len(), 1).map_err(InsertError::Layout)?;

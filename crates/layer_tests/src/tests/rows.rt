@@ -110,7 +110,7 @@ fn keyed_answer<'s, A: Allocator + Drop>(
     call: &KeyedCall<'_>,
 ) -> KeyedAnswer<'s> {
     match call {
-        KeyedCall::Put(bytes) if bytes.len() == slab.size() => match slab.put(bytes) {
+        KeyedCall::Put(bytes) if bytes.len() == slab.record_size() => match slab.put(bytes) {
             Ok(key) => KeyedAnswer::Key(key.index, key.generation),
             Err(_) => KeyedAnswer::Refused,
         },
@@ -120,13 +120,13 @@ fn keyed_answer<'s, A: Allocator + Drop>(
         KeyedCall::Read(index, generation) => slab
             .read(key(*index, *generation))
             .map_or(KeyedAnswer::Stale, KeyedAnswer::Record),
-        KeyedCall::Write(index, generation, bytes) if bytes.len() == slab.size() => {
+        KeyedCall::Write(index, generation, bytes) if bytes.len() == slab.record_size() => {
             done(slab.write(key(*index, *generation), bytes).is_ok())
         }
         KeyedCall::Remove(index, generation) => {
             done(slab.remove(key(*index, *generation)).is_ok())
         }
-        KeyedCall::Size => KeyedAnswer::Size(slab.size()),
+        KeyedCall::Size => KeyedAnswer::Size(slab.record_size()),
         _ => KeyedAnswer::Refused,
     }
 }
