@@ -14,11 +14,15 @@ use bb_memory::pool_allocator::pool_object_law;
 use bb_memory::shared_bump::{BumpParty, SharedBumpAllocator};
 use loan_book::LoanBook;
 use pools::{eight_buckets, its_region};
-use rows::{LineAnswer, LineCall, LineRow, SlabAnswer, SlabCall, SlabRow, all_kept};
+use rows::{
+    KeyedAnswer, KeyedCall, KeyedRow, LineAnswer, LineCall, LineRow, SlabAnswer, SlabCall, SlabRow,
+    all_kept,
+};
 use std::alloc::Global;
 use std::process::Abort;
 use std::sync::Arc;
 use std::thread::Threads;
+use uses::keyed_slab::KeyedSlab;
 use uses::mailbox::Mailbox;
 use uses::ring::MessageRing;
 use uses::slab::Slab;
@@ -49,6 +53,63 @@ fn slab_of_three_records(rt: HostRuntime) {
         (SlabCall::Read(1), SlabAnswer::Record(&[6])),
     ];
     slab_keeps(&rt, rt.alloc(), &rows);
+}
+
+/// A slab with keys, for records of two bytes, keeps each row.
+fn keyed_slab_keeps(rt: &impl Abort, alloc: Global, rows: &[KeyedRow<'_>]) {
+    match its_region(alloc) {
+        Some(region) => {
+            let slab = Slab::new(alloc, eight_buckets(), region);
+            all_kept(rt, KeyedSlab::new(alloc, slab, 2), rows);
+        }
+        None => panic!(rt; "{REFUSED}"),
+    }
+}
+
+#[test]
+fn keys_grow_stale(rt: HostRuntime) {
+    let rows = [
+        (KeyedCall::Size, KeyedAnswer::Size(2)),
+        (KeyedCall::Read(0, 0), KeyedAnswer::Stale),
+        (KeyedCall::Put(&[1, 2]), KeyedAnswer::Key(0, 0)),
+        (KeyedCall::Put(&[3, 4]), KeyedAnswer::Key(1, 0)),
+        (KeyedCall::Remove(0, 0), KeyedAnswer::Done),
+        (KeyedCall::Holds(0, 0), KeyedAnswer::Holds(false)),
+        (KeyedCall::Read(0, 0), KeyedAnswer::Stale),
+        (KeyedCall::Write(0, 0, &[9, 9]), KeyedAnswer::Stale),
+        (KeyedCall::Remove(0, 0), KeyedAnswer::Stale),
+        (KeyedCall::Put(&[5, 6]), KeyedAnswer::Key(0, 1)),
+        (KeyedCall::Read(0, 0), KeyedAnswer::Stale),
+        (KeyedCall::Read(0, 1), KeyedAnswer::Record(&[5, 6])),
+        (KeyedCall::Write(1, 0, &[7, 8]), KeyedAnswer::Done),
+        (KeyedCall::Read(1, 0), KeyedAnswer::Record(&[7, 8])),
+        (KeyedCall::Holds(1, 1), KeyedAnswer::Holds(false)),
+        (KeyedCall::Put(&[0, 0]), KeyedAnswer::Key(2, 0)),
+        (KeyedCall::Read(0, 1), KeyedAnswer::Record(&[5, 6])),
+    ];
+    keyed_slab_keeps(&rt, rt.alloc(), &rows);
+}
+
+#[test]
+fn full_slab_takes_a_free_slot_again(rt: HostRuntime) {
+    let rows = [
+        (KeyedCall::Put(&[0, 1]), KeyedAnswer::Key(0, 0)),
+        (KeyedCall::Put(&[0, 2]), KeyedAnswer::Key(1, 0)),
+        (KeyedCall::Put(&[0, 3]), KeyedAnswer::Key(2, 0)),
+        (KeyedCall::Put(&[0, 4]), KeyedAnswer::Key(3, 0)),
+        (KeyedCall::Put(&[0, 5]), KeyedAnswer::Key(4, 0)),
+        (KeyedCall::Put(&[0, 6]), KeyedAnswer::Key(5, 0)),
+        (KeyedCall::Put(&[0, 7]), KeyedAnswer::Key(6, 0)),
+        (KeyedCall::Put(&[0, 8]), KeyedAnswer::Key(7, 0)),
+        (KeyedCall::Put(&[0, 9]), KeyedAnswer::Refused),
+        (KeyedCall::Remove(6, 0), KeyedAnswer::Done),
+        (KeyedCall::Remove(3, 0), KeyedAnswer::Done),
+        (KeyedCall::Put(&[1, 0]), KeyedAnswer::Key(3, 1)),
+        (KeyedCall::Put(&[1, 1]), KeyedAnswer::Key(6, 1)),
+        (KeyedCall::Put(&[1, 2]), KeyedAnswer::Refused),
+        (KeyedCall::Read(3, 1), KeyedAnswer::Record(&[1, 0])),
+    ];
+    keyed_slab_keeps(&rt, rt.alloc(), &rows);
 }
 
 /// A mailbox keeps each row.

@@ -1,7 +1,7 @@
 pub mod Budgets
 pub mod ByteVectors
 pub mod Carvings
-pub mod Hints
+pub mod Keys
 pub mod Messages
 pub mod Records
 pub mod Requests

@@ -23,15 +23,15 @@ pub record Records (A : Type 0) : Type 0 where
 
 -- What a request to store these bytes says: of the records before it, its answer, and the records then. The words of the
 -- allocator below are its geometry and what it may answer.
-pub record Stores {A G : Type 0} (geometry_of : A → G) (may_allocate : G → List Chunk → Answers)
-    (old : Records A) (bytes : List ℕ) (result : Result (Unit {0}) InsertError) (new : Records A)
+pub record Stores {A G Stored : Type 0} (geometry_of : A → G) (may_allocate : G → List Chunk → Answers)
+    (old : Records A) (bytes : List ℕ) (result : Result Stored InsertError) (new : Records A)
     : Type 0 where
   pub appended : OnOk result (new.records ≡ old.records ++ bytes ∷ [])
   pub chunk : OnOk result (HasOneMore (may_allocate (geometry_of old.allocator) old.chunks)
       (length bytes) old.chunks new.chunks)
   pub refused : IfErr result (IsWhyNotStored
       (may_allocate (geometry_of old.allocator) old.chunks) (length bytes))
-  pub kept : OnErr result (new ≡ record old { allocator = new.allocator })
+  pub still : OnErr result (new ≡ record old { allocator = new.allocator })
   pub geometry : geometry_of new.allocator ≡ geometry_of old.allocator
 
 -- just these records are left, in these chunks

@@ -1,14 +1,14 @@
 //! A budget of bytes for one tenant of an allocator.
-ghost use Rattle.std.specs.Prelude.{◌≡◌, ◌≤◌, ◌<◌, ◌+◌, ◌∷◌, ◌++◌, [], ℕ, List, Some, IfOk, OnErr, length, remove, slice_get, slice_set};
+ghost use Rattle.std.specs.Prelude.{◌≡◌, ◌≤◌, ◌∷◌, ◌++◌, [], List};
 ghost use Rattle.bb_memory_base.specs.Chunk.{Chunk};
 ghost use Rattle.uses.specs.Budgets.{reserved_bytes};
 
 use crate::budget::Budget;
-use crate::live_lists::last_law;
 use bb_memory_base::allocator::{
     AllocationError, AllocationGrowError, AllocationShrinkError, Allocator, BaseAllocator,
 };
 use bb_memory_base::layout::{Chunk, Layout};
+use bb_memory_base::lists::{append_law, sum_law};
 use std::marker::Model;
 
 /// An allocator for whose chunks at most so many bytes are reserved. It is an allocator itself, so budgets nest. A resize
@@ -71,14 +71,14 @@ impl<A: Allocator + Drop> BaseAllocator for ByteBudget<A> {
             return_last(&mut self.inner, chunk, layout);
             return Err(AllocationError::OutOfMemory);
         }
-        appended_bytes_law();
+        sum_law::<Chunk>();
         self.out += reserved;
         Ok(chunk)
     }
 
     fn deallocate(&mut self, place: usize, layout: Layout) {
         let reserved = reserved_within(&self.inner, place);
-        removed_bytes_law();
+        sum_law::<Chunk>();
         self.inner.deallocate(place, layout);
         self.out -= reserved;
     }
@@ -122,7 +122,7 @@ impl<A: Allocator + Drop> Allocator for ByteBudget<A> {
         old: Layout,
         new: Layout,
     ) -> Result<Chunk, AllocationGrowError> {
-        resized_bytes_law();
+        sum_law::<Chunk>();
         self.inner.grow(place, old, new)
     }
 
@@ -132,7 +132,7 @@ impl<A: Allocator + Drop> Allocator for ByteBudget<A> {
         old: Layout,
         new: Layout,
     ) -> Result<Chunk, AllocationShrinkError> {
-        resized_bytes_law();
+        sum_law::<Chunk>();
         self.inner.shrink(place, old, new)
     }
 
@@ -182,7 +182,7 @@ fn return_last<A: Allocator>(inner: &mut A, chunk: Chunk, layout: Layout)
         → A.stands_for inner.new live }
     ensures geometry { A.geometry inner.new ≡ A.geometry inner.old }
 {
-    last_law();
+    append_law::<Chunk>();
     inner.deallocate(chunk.place(), layout);
 }
 
@@ -193,34 +193,6 @@ fn reserved_within<A: Allocator>(inner: &A, place: usize) -> usize
     ensures within { (live : List Chunk) → A.stands_for inner.now live
         → result ≤ reserved_bytes (A.reserved_at (A.figures inner.now)) live }
 {
-    removed_bytes_law();
+    sum_law::<Chunk>();
     inner.reserved(place)
 }
-
-/// What is reserved for a list once a chunk is taken out of it. It does nothing: its contract is the law.
-#[tactic(auto, using(std::proofs::lemmas::Grind::common_steps, std::proofs::lemmas::Option::gets))]
-fn removed_bytes_law()
-    ensures removed { (reserved_at : ℕ → ℕ) (live : List Chunk) (position : ℕ) (chunk : Chunk)
-        → slice_get live position ≡ Some chunk
-        → reserved_bytes reserved_at (remove live position) + reserved_at chunk.place
-        ≡ reserved_bytes reserved_at live }
-    ensures within { (reserved_at : ℕ → ℕ) (live : List Chunk) (position : ℕ) (chunk : Chunk)
-        → slice_get live position ≡ Some chunk
-        → reserved_at chunk.place ≤ reserved_bytes reserved_at live }
-{}
-
-/// What is reserved for a list once a chunk is put behind it. It does nothing: its contract is the law.
-fn appended_bytes_law()
-    ensures { (reserved_at : ℕ → ℕ) (live : List Chunk) (chunk : Chunk)
-        → reserved_bytes reserved_at (live ++ chunk ∷ [])
-        ≡ reserved_bytes reserved_at live + reserved_at chunk.place }
-{}
-
-/// What is reserved for a list whose chunk is resized at its place. It does nothing: its contract is the law.
-#[tactic(auto, using(std::proofs::lemmas::Grind::common_steps, std::proofs::lemmas::Option::gets))]
-fn resized_bytes_law()
-    ensures { (reserved_at : ℕ → ℕ) (live : List Chunk) (position : ℕ) (chunk resized : Chunk)
-        → slice_get live position ≡ Some chunk → resized.place ≡ chunk.place
-        → reserved_bytes reserved_at (slice_set live position resized)
-        ≡ reserved_bytes reserved_at live }
-{}

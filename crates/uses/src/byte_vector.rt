@@ -95,7 +95,7 @@ impl ByteVec {
         ensures inside { self.new.offset + self.new.capacity ≤ length region.now.bytes }
         ensures contents { contents region.now self.new ≡ contents region.now self.old }
         ensures others { self.new ≡ record self.old { capacity = self.new.capacity } }
-        ensures kept { OnErr result (self.new ≡ self.old) }
+        ensures still { OnErr result (self.new ≡ self.old) }
         ensures answer { MakesRoom (A.stands_for allocator.old)
             (A.may_grow (A.figures allocator.old)) region.now.start self.old result self.new }
         ensures allocator { allocator.new ≡ allocator.old }
@@ -125,7 +125,7 @@ impl ByteVec {
             region.old self.old }
         ensures pushed { OnOk result (IsPushed region.old region.new self.old byte self.new) }
         ensures longer { OnOk result (self.new.len ≡ self.old.len + 1) }
-        ensures kept { OnErr result ((self.new ≡ self.old) × (region.new ≡ region.old)) }
+        ensures still { OnErr result ((self.new ≡ self.old) × (region.new ≡ region.old)) }
         ensures answer { MakesRoom (A.stands_for allocator.old)
             (A.may_grow (A.figures allocator.old)) region.old.start self.old result self.new }
         ensures offset { self.new.offset ≡ self.old.offset }

@@ -1,12 +1,10 @@
 //! A budget of chunks for one tenant of an allocator.
-ghost use Rattle.std.specs.Prelude.{◌≡◌, ◌≤◌, ◌<◌, ◌+◌, [], ℕ, List, Some, length, remove, slice_get};
-ghost use Rattle.bb_memory_base.specs.Chunk.{Chunk};
-
 use crate::budget::Budget;
 use bb_memory_base::allocator::{
     AllocationError, AllocationGrowError, AllocationShrinkError, Allocator, BaseAllocator,
 };
 use bb_memory_base::layout::{Chunk, Layout};
+use bb_memory_base::lists::remove_law;
 use std::marker::Model;
 
 /// An allocator that has at most so many chunks out. It is an allocator itself, so budgets nest.
@@ -71,7 +69,7 @@ impl<A: BaseAllocator + Drop> BaseAllocator for ChunkBudget<A> {
     }
 
     fn deallocate(&mut self, place: usize, layout: Layout) {
-        removed_law();
+        remove_law::<Chunk>();
         self.inner.deallocate(place, layout);
         if A::RELEASE_EMPTIES {
             self.out = 0;
@@ -170,10 +168,3 @@ impl<A: BaseAllocator + Drop> Budget for ChunkBudget<A> {
         self.budget
     }
 }
-
-/// One fewer stands in a list once one is taken out. It does nothing: its contract is the law.
-fn removed_law()
-    ensures { (live : List Chunk) (position : ℕ) (chunk : Chunk)
-        → slice_get live position ≡ Some chunk
-        → length (remove live position) + 1 ≡ length live }
-{}

@@ -5,8 +5,8 @@
 //! - `scripts`: straight-line calls with literals, a file an allocator, and the examples of the libraries' comments.
 //! - `errors`: how the errors go through `?`.
 //! - `slab`: records of bytes, each in a chunk of its own. `mailbox`: messages in the order of their sending, over the slab.
+//!   `keyed_slab`: records under keys that are refused once their record is taken out, over the slab.
 //! - `budget`: what a budget tells. `chunk_budget`, `byte_budget`: budgets, which are allocators themselves.
-//! - `live_lists`: what the layers know of live lists.
 //! - `byte_vector`: a vector of bytes at an offset of a region, which can move to another region.
 //! - `ring`: messages for several readers, over a loan book. In `ring/laws` what the book's calls do to its newest and its oldest
 //!   sample.
@@ -23,7 +23,7 @@ pub mod byte_vector;
 pub mod chunk_budget;
 pub mod errors;
 pub mod job_board;
-mod live_lists;
+pub mod keyed_slab;
 pub mod mailbox;
 pub mod pool_messages;
 pub mod pool_workers;

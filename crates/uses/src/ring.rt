@@ -108,7 +108,7 @@ impl<A: Allocator + Drop> MessageRing<A> {
         ensures refused { IfErr result (IsWhyNotSent
             (A.may_allocate (A.geometry self.old.allocator) self.old.chunks)
             self.old.sent (length bytes.now)) }
-        ensures kept { OnErr result
+        ensures still { OnErr result
             (self.new ≡ record self.old { allocator = self.new.allocator }) }
         ensures geometry { A.geometry self.new.allocator ≡ A.geometry self.old.allocator }
     {
@@ -170,7 +170,7 @@ fn loan_exactly<A: Allocator>(
         (chunks_out book.new.book) }
     ensures geometry { A.geometry book.new.allocator ≡ A.geometry book.old.allocator }
     ensures book { IsBook book.old.book }
-    ensures kept { OnErr result (book.new.book ≡ book.old.book) }
+    ensures still { OnErr result (book.new.book ≡ book.old.book) }
 {
     book.law();
     book.loan(size)

@@ -8,9 +8,9 @@ ghost use Rattle.bb_memory_base.specs.HeldBytes.{HeldBytes, held_region};
 ghost use Rattle.uses.specs.Records.{HoldsThen, Leaves, Stores, records_in};
 ghost use Rattle.uses.specs.Requests.{IsOfBytes, MayGiveLonger};
 
-use crate::live_lists::last_law;
 use bb_memory_base::allocator::{AllocationError, Allocator, BaseAllocator};
 use bb_memory_base::layout::{Chunk, Layout, LayoutError};
+use bb_memory_base::lists::append_law;
 use bb_memory_base::region::{Region, live_bytes_law};
 use std::alloc::{AllocError, Global};
 use std::marker::Model;
@@ -91,7 +91,7 @@ impl<A: Allocator + Drop> Slab<A> {
             Err(error) => return Err(InsertError::Refused(error)),
         };
         if chunk.len() != bytes.len() {
-            last_law();
+            append_law::<Chunk>();
             longer_law::<A>();
             self.allocator.deallocate(chunk.place(), layout);
             return Err(InsertError::NoExactChunk);
@@ -162,7 +162,7 @@ pub(crate) fn put(region: &mut Region, chunks: &Vec<Chunk>, chunk: Chunk, bytes:
         (records_in region.old chunks.now.items ++ bytes.now ∷ []) }
 {
     let _ = chunks;
-    last_law();
+    append_law::<Chunk>();
     live_bytes_law();
     region.write(chunk, bytes);
 }
@@ -176,7 +176,7 @@ fn longer_law<A: Allocator>()
 {}
 
 /// Taking a chunk out of a list takes its record out. It does nothing: its contract is the law.
-#[tactic(auto, using(crate::specs::Hints::parts_of_lists))]
+#[tactic(auto, using(bb_memory_base::specs::Hints::parts_of_lists))]
 fn removed_records_law()
     ensures { (held : HeldBytes) (chunks : List Chunk) (position : ℕ)
         → records_in held (remove chunks position) ≡ remove (records_in held chunks) position }

@@ -3,6 +3,7 @@ ghost use Rattle.std.specs.Prelude.{◌≡◌, ℕ, List, Some, IsTrue, length, 
 
 use bb_memory::allocator::Allocator;
 use std::process::Abort;
+use uses::keyed_slab::{Key, KeyedSlab};
 use uses::mailbox::Mailbox;
 use uses::ring::MessageRing;
 use uses::slab::Slab;
@@ -69,6 +70,77 @@ fn slab_answer<'s, A: Allocator + Drop>(
         }
         SlabCall::Len => SlabAnswer::Len(slab.len()),
         _ => SlabAnswer::Refused,
+    }
+}
+
+/// A call of a slab with keys. A key is its index and its generation.
+#[derive(Drop)]
+pub(super) enum KeyedCall<'a> {
+    Put(&'a [u8]),
+    Holds(usize, u64),
+    Read(usize, u64),
+    Write(usize, u64, &'a [u8]),
+    Remove(usize, u64),
+    Size,
+}
+
+/// What it is answered.
+#[derive(Drop, PartialEq)]
+pub(super) enum KeyedAnswer<'a> {
+    Key(usize, u64),
+    Holds(bool),
+    Record(&'a [u8]),
+    Done,
+    Stale,
+    Size(usize),
+    /// No record was put, or its size isn't the slab's.
+    Refused,
+}
+
+pub(super) type KeyedRow<'a> = (KeyedCall<'a>, KeyedAnswer<'a>);
+
+impl<'a, A: Allocator + Drop> Driven<KeyedRow<'a>> for KeyedSlab<A> {
+    fn keeps(&mut self, row: &KeyedRow<'a>) -> bool {
+        keyed_answer(self, &row.0) == row.1
+    }
+}
+
+fn keyed_answer<'s, A: Allocator + Drop>(
+    slab: &'s mut KeyedSlab<A>,
+    call: &KeyedCall<'_>,
+) -> KeyedAnswer<'s> {
+    match call {
+        KeyedCall::Put(bytes) if bytes.len() == slab.record_size() => match slab.put(bytes) {
+            Ok(key) => KeyedAnswer::Key(key.index, key.generation),
+            Err(_) => KeyedAnswer::Refused,
+        },
+        KeyedCall::Holds(index, generation) => {
+            KeyedAnswer::Holds(slab.holds(key(*index, *generation)))
+        }
+        KeyedCall::Read(index, generation) => slab
+            .read(key(*index, *generation))
+            .map_or(KeyedAnswer::Stale, KeyedAnswer::Record),
+        KeyedCall::Write(index, generation, bytes) if bytes.len() == slab.record_size() => {
+            done(slab.write(key(*index, *generation), bytes).is_ok())
+        }
+        KeyedCall::Remove(index, generation) => {
+            done(slab.remove(key(*index, *generation)).is_ok())
+        }
+        KeyedCall::Size => KeyedAnswer::Size(slab.record_size()),
+        _ => KeyedAnswer::Refused,
+    }
+}
+
+fn key(index: usize, generation: u64) -> Key {
+    Key { index, generation }
+}
+
+/// What a call that was done is told as, or one whose key was stale.
+fn done<'s>(is_done: bool) -> KeyedAnswer<'s> {
+    if is_done {
+        KeyedAnswer::Done
+    } else {
+        KeyedAnswer::Stale
     }
 }
 

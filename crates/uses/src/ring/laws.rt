@@ -7,7 +7,7 @@ ghost use Rattle.loan_book.specs.Sample.{Sample, returns_to_come};
 ghost use Rattle.uses.specs.Rings.{Returned, WaitsOn, ids_of, readers_of};
 
 /// A sample keeps its chunk where it waits for other returns.
-#[tactic(auto, using(crate::specs::Hints::lists))]
+#[tactic(auto, using(bb_memory_base::specs::Hints::lists))]
 fn same_chunks_law()
     ensures { (book : Book) (position returns : ℕ) (sample : Sample)
         → slice_get book.out position ≡ Some sample
@@ -16,14 +16,14 @@ fn same_chunks_law()
 {}
 
 /// The sample that was loaned last stands last.
-#[tactic(auto, using(crate::specs::Hints::lists))]
+#[tactic(auto, using(bb_memory_base::specs::Hints::lists))]
 pub(super) fn newest_law()
     ensures { (book : Book) (chunk : Chunk) (position : ℕ) (sample : Sample) → IsBook book
         → IsAt (with_sample book chunk) book.loaned position sample → position ≡ length book.out }
 {}
 
 /// Where the sample that was loaned last stands.
-#[tactic(auto, using(crate::specs::Hints::lists))]
+#[tactic(auto, using(bb_memory_base::specs::Hints::lists))]
 fn newest_at_law()
     ensures { (book : Book) (chunk : Chunk)
         → IsAt (with_sample book chunk) book.loaned (length book.out)
@@ -33,7 +33,7 @@ fn newest_at_law()
 }
 
 /// The sample that was loaned last is out, and wasn't published yet.
-#[tactic(auto, using(crate::specs::Hints::lists))]
+#[tactic(auto, using(bb_memory_base::specs::Hints::lists))]
 pub(super) fn newest_state_law()
     ensures { (book : Book) (chunk : Chunk) → IsBook book
         → ¬ IsPublished (with_sample book chunk) book.loaned }
@@ -58,7 +58,7 @@ fn out_law()
 {}
 
 /// What becomes of the book where that sample is published.
-#[tactic(auto, using(crate::specs::Hints::lists))]
+#[tactic(auto, using(bb_memory_base::specs::Hints::lists))]
 pub(super) fn published_law()
     ensures { (book old new : Book) (chunk : Chunk) (id readers : ℕ) (done : Unit {0}) → IsBook book
         → old ≡ with_sample book chunk → id ≡ book.loaned → Publishes old id readers (Ok done) new
@@ -70,7 +70,7 @@ pub(super) fn published_law()
 }
 
 /// A sample behind the last is put in its place.
-#[tactic(auto, using(crate::specs::Hints::lists))]
+#[tactic(auto, using(bb_memory_base::specs::Hints::lists))]
 pub(super) fn seam_law()
     ensures set { (samples : List Sample) (one other : Sample)
         → slice_set (samples ++ one ∷ []) (length samples) other ≡ samples ++ other ∷ [] }
@@ -116,7 +116,7 @@ pub(super) fn first_out_law()
 }
 
 /// The first sample is found.
-#[tactic(auto, using(crate::specs::Hints::lists))]
+#[tactic(auto, using(bb_memory_base::specs::Hints::lists))]
 fn first_found_law()
     ensures { (samples : List Sample) (id : ℕ) → slice_get (ids_of samples) 0 ≡ Some id
         → ((position : ℕ) (sample : Sample) → slice_get samples position ≡ Some sample
@@ -155,7 +155,7 @@ fn further_return_law()
 }
 
 /// For how many readers a sample waits.
-#[tactic(auto, using(crate::specs::Hints::lists))]
+#[tactic(auto, using(bb_memory_base::specs::Hints::lists))]
 fn first_readers_law()
     ensures { (samples : List Sample) (position : ℕ) (sample : Sample)
         → slice_get samples position ≡ Some sample
@@ -172,7 +172,7 @@ fn returned_chunks_law()
 }
 
 /// The ids stay where a sample waits for other returns.
-#[tactic(auto, using(crate::specs::Hints::lists))]
+#[tactic(auto, using(bb_memory_base::specs::Hints::lists))]
 fn returned_ids_law()
     ensures { (old new : Book) (id position returns : ℕ) (sample : Sample)
         → IsAt old id position sample
@@ -180,7 +180,7 @@ fn returned_ids_law()
 {}
 
 /// How many readers are to come where a sample waits for other returns.
-#[tactic(auto, using(crate::specs::Hints::lists))]
+#[tactic(auto, using(bb_memory_base::specs::Hints::lists))]
 fn returned_readers_law()
     ensures { (old new : Book) (id position returns : ℕ) (sample : Sample)
         → IsAt old id position sample
