@@ -29,6 +29,7 @@ mod SharedBumpWholes
 mod SharedLogs
 mod SharedPoolGatherings
 mod SharedPoolHandOvers
+mod SharedPoolHistories
 mod SharedPoolKeeps
 mod SharedPoolLaws
 mod SharedPoolMeetings
@@ -37,5 +38,6 @@ mod SharedPoolPasses
 mod SharedPoolPosts
 pub mod SharedPoolRounds
 mod SharedPoolSeats
+mod SharedPoolSince
 pub mod SharedPoolTries
 mod SharedPoolWholes

@@ -168,12 +168,12 @@ have-append : {E : Type 0} (made : ℕ) (logs : List (List E)) (xs ys : List (Nu
 have-append made logs [] ys first second = second
 have-append made logs (x ∷ xs) ys first second = (first.0, first.1, have-append made logs xs ys first.2 second)
 
-have-parts : {E : Type 0} (made : ℕ) (logs : List (List E)) (parties : List (Numbered E)) → HaveLogs made logs parties →
+pub have-parts : {E : Type 0} (made : ℕ) (logs : List (List E)) (parties : List (Numbered E)) → HaveLogs made logs parties →
     HaveLogs made logs (head_of parties) × HaveLogs made logs (tail_of parties)
 have-parts made logs [] have = (tt, tt)
 have-parts made logs (party ∷ parties) have = ((have.0, have.1, tt), have.2)
 
-times_in-parts : {E : Type 0} (number : ℕ) (parties : List (Numbered E)) →
+pub times_in-parts : {E : Type 0} (number : ℕ) (parties : List (Numbered E)) →
     times_in number (head_of parties) + times_in number (tail_of parties) ≡ times_in number parties
 times_in-parts number [] = refl
 times_in-parts number (party ∷ parties) = omega arith

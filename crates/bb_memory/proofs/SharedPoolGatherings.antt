@@ -1,6 +1,6 @@
 -- Parties that come to one seat, and what their meeting says of their logs.
 use Rattle.std.proofs.Common.{◌≡◌, ℕ, zero, suc, replicate, ◌≤◌, List, [], ◌∷◌, ◌++◌, Bool, Some, length, refl, sym, ap, ◌∙◌}
-use Rattle.std.proofs.Common.{subst, arith, inl, inr, true, false}
+use Rattle.std.proofs.Common.{append-nil, subst, arith, inl, inr, true, false}
 use Rattle.std.specs.Prelude.{map, Contains, slice_get}
 use Rattle.std.specs.List.{AllByRecursion}
 use Rattle.std.proofs.lemmas.Bool.{cases_eq}
@@ -12,12 +12,14 @@ use Rattle.atomic_table.specs.Table.{Me}
 use Rattle.bb_memory_base.specs.PoolMachine.{PoolScene}
 use Rattle.bb_memory_base.specs.PoolHistory.{PoolLog}
 use Rattle.bb_memory_base.specs.PoolLogs.{HasLog, IsHeldAfter}
+use Rattle.bb_memory_base.specs.declared.steps.pool.PoolStep.{PoolStep}
 use Rattle.bb_memory_base.proofs.PoolLogFacts.{held_is_taken, taken_is_held_whole}
 use Rattle.bb_memory_base.proofs.PoolLogSteps.{opening_agrees}
 use Rattle.bb_memory.specs.Seats.{HaveLogs, times_in}
 use Rattle.bb_memory.specs.SharedPool.{HaveMet, IsHeldByOne, IsSharedScene, PoolParty}
+use Rattle.bb_memory.specs.SharedPoolHistory.{HaveMetBy}
 use Rattle.bb_memory.specs.SharedPoolRule.{IsPartySeat, NumberedLog, SeatView, numbered_of, party_in}
-use Rattle.bb_memory.specs.SharedPoolSteps.{TellsMeeting}
+use Rattle.bb_memory.specs.SharedPoolSteps.{TellsMeeting, TellsMeetingAgain}
 use Rattle.bb_memory.proofs.Positions.{contains-behind, contains-first}
 use Rattle.bb_memory.proofs.Seatings.{all_there, one_apart}
 
@@ -126,6 +128,23 @@ agrees scene items told =
             );
       },
     )
+
+-- they are the steps by which the logs agree
+agreed_steps : (scene : PoolScene) (items : List PoolParty) (told : TellsMeeting scene (map numbered_of items)) →
+    (agrees scene items told).1.agree.steps ≡ told.agree.steps
+unfolding agrees
+agreed_steps scene items told = refl
+
+-- the same by a seat that remembers the steps
+pub agrees_again : (scene : PoolScene) (items : List PoolParty) (before after : List PoolStep) →
+    TellsMeetingAgain scene (map numbered_of items ++ []) before after → HaveMetBy scene after items
+agrees_again scene items before after told =
+    let Told : List NumberedLog → Type 0 = λ parties. TellsMeetingAgain scene parties before after in
+    let again : TellsMeetingAgain scene (map numbered_of items) before after =
+    subst Told (append-nil (map numbered_of items)) told in record {
+      met = agrees scene items again.told;
+      found = agreed_steps scene items again.told ∙ again.found;
+    }
 
 -- a meeting of none
 pub none_met : (scene : PoolScene) (items : List PoolParty) → IsSharedScene scene → items ≡ [] → HaveMet scene items

@@ -11,12 +11,14 @@ use Rattle.bb_memory_base.specs.PoolLogs.{HasLog, IsHeldAfter, LogsAgree, pass_i
 use Rattle.bb_memory_base.specs.declared.steps.pool.PoolStep.TheVariants.{GiveBack, TryAt}
 use Rattle.bb_memory_base.specs.declared.steps.pool.PoolOutcome.TheVariants.{Gives, Takes}
 use Rattle.bb_memory_base.proofs.PoolLogFacts.{held_is_taken, interleaved_log, logs_apart}
-use Rattle.bb_memory_base.proofs.PoolLogSteps.{give_agrees, take_at_agrees}
+use Rattle.bb_memory_base.proofs.PoolLogSteps.{AgreesBehind, give_behind, take_at_behind}
 use Rattle.bb_memory_base.proofs.SliceGets.{length-set_at, slice_get-set_other, slice_get-set_same}
-use Rattle.bb_memory.specs.Seats.{alone, alone_with, seat_of}
-use Rattle.bb_memory.specs.SharedPoolRule.{IsPost, PoolSetting, SeatView, WordsAndLogsAgree, handed_out, post_of}
+use Rattle.bb_memory.specs.Seats.{seat_of}
+use Rattle.bb_memory.specs.SharedPoolRule.{IsPost, PoolSetting, SeatView, WordsAndLogsAgree, alone, alone_with, handed_out}
+use Rattle.bb_memory.specs.SharedPoolRule.{post_of, sight}
 use Rattle.bb_memory.specs.SharedPoolSteps.{hands_over, meets_transit, takes_over, tells_apart}
 use Rattle.bb_memory.proofs.Seatings.{seated_beyond, seated_with}
+use Rattle.bb_memory.proofs.SharedPoolHistories.{begins_further, begins_with_none, remember_set}
 use Rattle.bb_memory.proofs.SharedPoolMeetings.{same_word, unchanged}
 use Rattle.bb_memory.proofs.SharedPoolPosts.{before_post, held_in_transit, is_made, not_post, post_gives, post_takes}
 use Rattle.bb_memory.proofs.SharedPoolPosts.{transit_differ}
@@ -41,20 +43,23 @@ taking_of party bucket = entry_of (TryAt party bucket) (Takes bucket)
 -- One party gives a bucket back, and another, which is idle, takes it at once: the logs have both steps, and the flags are as
 -- they were.
 passed_on : (scene : PoolScene) (flags : List Bool) (logs : List PoolLog) (giver : ℕ) (log : PoolLog) (taker : ℕ)
-    (other_log : PoolLog) (bucket : ℕ) → LogsAgree scene flags logs → HasLog logs giver log → HasLog logs taker other_log →
-    giver ≢ taker → taker < scene.parties → IsHeldAfter log bucket → pass_in other_log ≡ None →
-    LogsAgree scene flags
+    (other_log : PoolLog) (bucket : ℕ) (agree : LogsAgree scene flags logs) → HasLog logs giver log →
+    HasLog logs taker other_log → giver ≢ taker → taker < scene.parties → IsHeldAfter log bucket → pass_in other_log ≡ None →
+    AgreesBehind scene agree.steps flags
     (with_entry (with_entry logs giver log (return_of giver bucket)) taker other_log (taking_of taker bucket))
 passed_on scene flags logs giver log taker other_log bucket agree at other_at apart made held idle =
     let taken = held_is_taken scene flags logs giver log bucket agree at held in
     let freed : List Bool = slice_set flags bucket false in
     let between : List PoolLog = with_entry logs giver log (return_of giver bucket) in
-    let given = give_agrees scene flags logs giver log bucket agree at held in
+    let given = give_behind scene flags logs giver log bucket agree at held in
     let still = slice_get-set_other logs giver taker (log ++ return_of giver bucket ∷ []) (λ same. apart (sym same)) ∙ other_at in
     let free = slice_get-set_same flags bucket false true taken in
-    subst (λ (f : List Bool). LogsAgree scene f (with_entry between taker other_log (taking_of taker bucket)))
-    (again_taken flags bucket taken)
-    (take_at_agrees scene freed between taker other_log bucket given made still idle free)
+    let taken_then = take_at_behind scene freed between taker other_log bucket given.agree made still idle free in
+    subst (λ (f : List Bool). AgreesBehind scene agree.steps f (with_entry between taker other_log (taking_of taker bucket)))
+    (again_taken flags bucket taken) record {
+      agree = taken_then.agree;
+      behind = begins_further agree.steps given.agree.steps taken_then.agree.steps given.behind taken_then.behind;
+    }
 
 -- HAND-OVERS
 
@@ -81,9 +86,10 @@ hands_over_one setting slots seat party bucket log has held state rule homes at 
     let between : List PoolLog = with_entry rule.logs party log (return_of party bucket) in
     let logs : List PoolLog = with_entry between post_number post.log (taking_of post_number bucket) in
     let new : SeatView = alone_with scene party longer bucket in
-    let agree : LogsAgree scene rule.flags logs =
+    let behind : AgreesBehind scene rule.agree.steps rule.flags logs =
     passed_on scene rule.flags rule.logs party log post_number post.log bucket rule.agree mine.1 post.its apart
     (post_made setting rule.logs post.log rule.one_a_party post.its) held post.idle in
+    let agree = behind.agree in
     let free : ¬ IsHeldAfter post.log bucket =
     λ both. apart
     (logs_apart scene rule.flags rule.logs party log post_number post.log bucket rule.agree mine.1 post.its held both) in
@@ -98,8 +104,10 @@ hands_over_one setting slots seat party bucket log has held state rule homes at 
         words = same_word state.words bucket ∙ rule.words;
         one_a_party = length-set_at between post_number post_longer ∙ length-set_at rule.logs party longer ∙ rule.one_a_party;
         seated = seated_beyond made between (set state.views seat new) post_number post_longer (omega arith)
-            (seated_with made rule.logs state.views seat scene party log longer [] (bucket ∷ []) rule.seated at);
+            (seated_with made rule.logs state.views seat (sight scene []) party log longer [] (bucket ∷ []) rule.seated at);
         post = λ _. post_takes scene rule.logs state.views seat party bucket longer old new refl refl at apart post free;
+        met = remember_set state.views seat new rule.agree.steps agree.steps rule.met behind.behind
+            (begins_with_none agree.steps);
       },
       record {
         is = refl;
@@ -138,9 +146,10 @@ takes_over_one setting slots seat party bucket log has idle state rule homes at 
     let logs : List PoolLog = with_entry between party log (taking_of party bucket) in
     let new : SeatView = alone scene party longer in
     let held : IsHeldAfter post.log bucket = held_in_transit scene rule.logs state.views seat bucket old refl at post in
-    let agree : LogsAgree scene rule.flags logs =
+    let behind : AgreesBehind scene rule.agree.steps rule.flags logs =
     passed_on scene rule.flags rule.logs post_number post.log party log bucket rule.agree post.its mine.1
     (λ same. apart (sym same)) (is_made setting party mine.0) held idle in
+    let agree = behind.agree in
     let before = before_post setting has in
     let still = slice_get-set_other rule.logs post_number party post_longer apart ∙ mine.1 in (
       new,
@@ -152,9 +161,11 @@ takes_over_one setting slots seat party bucket log has idle state rule homes at 
         agree = agree;
         words = same_word state.words bucket ∙ rule.words;
         one_a_party = length-set_at between party longer ∙ length-set_at rule.logs post_number post_longer ∙ rule.one_a_party;
-        seated = seated_with made between state.views seat scene party log longer (bucket ∷ []) []
+        seated = seated_with made between state.views seat (sight scene []) party log longer (bucket ∷ []) []
             (seated_beyond made rule.logs state.views post_number post_longer (omega arith) rule.seated) at;
         post = λ _. post_gives scene rule.logs state.views seat party bucket longer old new refl refl at apart post;
+        met = remember_set state.views seat new rule.agree.steps agree.steps rule.met behind.behind
+            (begins_with_none agree.steps);
       },
       record {
         ended = record {
@@ -204,15 +215,16 @@ meets_transit_as setting slots seat word party bucket log me is has =
 
 -- two buckets that are in transit at one seat
 tells_two : (setting : PoolSetting) (slots seat word one other : ℕ) → setting.has_post ≡ true →
-    Allows (WordsAndLogsAgree setting) slots seat (seat_of setting.scene [] (one ∷ other ∷ []), []) word (λ found. found)
-    (tells_apart (step slots word 0 0 none) (seat_of setting.scene [] (one ∷ other ∷ []), []))
+    Allows (WordsAndLogsAgree setting) slots seat (seat_of (sight setting.scene []) [] (one ∷ other ∷ []), []) word
+    (λ found. found)
+    (tells_apart (step slots word 0 0 none) (seat_of (sight setting.scene []) [] (one ∷ other ∷ []), []))
 tells_two setting slots seat word one other has state rule homes at fits =
-    let view : SeatView = seat_of setting.scene [] (one ∷ other ∷ []) in
+    let view : SeatView = seat_of (sight setting.scene []) [] (one ∷ other ∷ []) in
     let differ = transit_differ setting.scene rule.logs state.views seat one other view refl at (rule.post has) in
     (view, keeps, tt, unchanged setting state seat word view at rule, (refl, differ))
 
 pub tells_apart_as : (setting : PoolSetting) (slots seat word one other : ℕ) (me : Me ℕ SeatView) →
-    me ≡ (seat_of setting.scene [] (one ∷ other ∷ []), []) → setting.has_post ≡ true →
+    me ≡ (seat_of (sight setting.scene []) [] (one ∷ other ∷ []), []) → setting.has_post ≡ true →
     Allows (WordsAndLogsAgree setting) slots seat me word (λ found. found) (tells_apart (step slots word 0 0 none) me)
 tells_apart_as setting slots seat word one other me is has =
     subst (λ (m : Me ℕ SeatView). Allows (WordsAndLogsAgree setting) slots seat m word (λ found. found)

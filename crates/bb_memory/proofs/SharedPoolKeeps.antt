@@ -12,14 +12,14 @@ use Rattle.bb_memory_base.specs.PoolHistory.{PoolEntry, PoolLog, entry_of}
 use Rattle.bb_memory_base.specs.PoolLogs.{HasLog, IsHeldAfter, LogsAgree, loss_at, next_bucket, pass_after, pass_in, with_entry}
 use Rattle.bb_memory_base.specs.declared.steps.pool.PoolStep.TheVariants.{Try, GiveBack, TryAt}
 use Rattle.bb_memory_base.specs.declared.steps.pool.PoolOutcome.TheVariants.{Takes, Gives, Misses}
-use Rattle.bb_memory_base.proofs.PoolLogSteps.{take_agrees, lose_agrees, give_agrees, take_at_agrees, miss_agrees}
+use Rattle.bb_memory_base.proofs.PoolLogSteps.{AgreesBehind, take_behind, lose_behind, give_behind, take_at_behind, miss_behind}
 use Rattle.bb_memory_base.proofs.PoolLogFacts.{free_not_held, taken_is_held_alone, length-flags, interleaved_log}
 use Rattle.bb_memory_base.proofs.SliceGets.{slice_get-set_same, length-set_at}
-use Rattle.bb_memory.specs.Seats.{alone}
-use Rattle.bb_memory.specs.SharedPoolRule.{IsSeatOf, IsSeatOfIdle, PoolSetting, SeatView}
+use Rattle.bb_memory.specs.SharedPoolRule.{IsSeatOf, IsSeatOfIdle, PoolSetting, SeatView, alone, sight}
 use Rattle.bb_memory.specs.SharedPoolRule.{WordsAndLogsAgree, handed_out, word_of, words_of}
 use Rattle.bb_memory.specs.SharedPoolSteps.{returns, tries, tries_at}
 use Rattle.bb_memory.proofs.Seatings.{seated_step}
+use Rattle.bb_memory.proofs.SharedPoolHistories.{begins_with_none, remember_set}
 use Rattle.bb_memory.proofs.SharedPoolPosts.{is_made, not_post, post_kept}
 use Rattle.bb_memory.proofs.SharedPoolTries.{idle_after_one}
 
@@ -72,24 +72,26 @@ flag_again (flag ∷ flags) (suc i) at = ap (λ (rest : List Bool). flag ∷ res
 entered : (setting : PoolSetting) (state : State ℕ SeatView) (rule : WordsAndLogsAgree setting state) (seat party : ℕ)
     (log : PoolLog) (entry : PoolEntry) (words : List ℕ) (flags : List Bool) →
     get_elem? state.views seat ≡ some (alone setting.scene party log) →
-    LogsAgree setting.scene flags (with_entry rule.logs party log entry) →
+    AgreesBehind setting.scene rule.agree.steps flags (with_entry rule.logs party log entry) →
     words ≡ words_of flags →
     WordsAndLogsAgree setting
     record { words = words; homes = state.homes; views = set state.views seat (alone setting.scene party (log ++ entry ∷ [])) }
-entered setting state rule seat party log entry words flags at agree are =
+entered setting state rule seat party log entry words flags at behind are =
     let longer : PoolLog = log ++ entry ∷ [] in
     record {
       flags = flags;
       logs = with_entry rule.logs party log entry;
-      agree = agree;
+      agree = behind.agree;
       words = are;
       one_a_party = length-set_at rule.logs party longer ∙ rule.one_a_party;
-      seated = seated_step (handed_out setting.has_post setting.scene.parties) rule.logs state.views seat setting.scene party log
-          longer rule.seated at;
+      seated = seated_step (handed_out setting.has_post setting.scene.parties) rule.logs state.views seat
+          (sight setting.scene []) party log longer rule.seated at;
       post = λ has.
           post_kept setting.scene rule.logs state.views seat party longer (alone setting.scene party log)
           (alone setting.scene party longer) refl refl at
           (not_post setting party has (rule.seated.known seat (alone setting.scene party log) at).0) (rule.post has);
+      met = remember_set state.views seat (alone setting.scene party longer) rule.agree.steps behind.agree.steps rule.met
+          behind.behind (begins_with_none behind.agree.steps);
     }
 
 -- what it tells: the log is longer, and interleaved with others'
@@ -135,11 +137,12 @@ tries_flag setting slots seat party bucket log next state rule at false free =
     let made = is_made setting party mine.0 in
     let entry : PoolEntry = entry_of (Try party) (Takes bucket) in
     let flags : List Bool = slice_set rule.flags bucket true in
-    let agree = take_agrees setting.scene rule.flags rule.logs party log bucket rule.agree made mine.1 next free in (
+    let behind = take_behind setting.scene rule.flags rule.logs party log bucket rule.agree made mine.1 next free in
+    let agree = behind.agree in (
       alone setting.scene party (log ++ entry ∷ []),
       keeps,
       tt,
-      entered setting state rule seat party log entry (set state.words bucket 1) flags at agree
+      entered setting state rule seat party log entry (set state.words bucket 1) flags at behind
           (ap (λ (words : List ℕ). set words bucket 1) rule.words ∙ word_set rule.flags bucket false true free),
       (
         λ _. record {
@@ -153,11 +156,12 @@ tries_flag setting slots seat party bucket log next state rule at true taken =
     let mine = rule.seated.known seat (alone setting.scene party log) at in
     let made = is_made setting party mine.0 in
     let entry : PoolEntry = entry_of (Try party) (loss_at setting.scene.geometry.buckets bucket) in
-    let agree = lose_agrees setting.scene rule.flags rule.logs party log bucket rule.agree made mine.1 next taken in (
+    let behind = lose_behind setting.scene rule.flags rule.logs party log bucket rule.agree made mine.1 next taken in
+    let agree = behind.agree in (
       alone setting.scene party (log ++ entry ∷ []),
       keeps,
       tt,
-      entered setting state rule seat party log entry (set state.words bucket 1) rule.flags at agree
+      entered setting state rule seat party log entry (set state.words bucket 1) rule.flags at behind
           (ap (λ (words : List ℕ). set words bucket 1) rule.words ∙ word_set rule.flags bucket true true taken
           ∙ ap words_of (flag_again rule.flags bucket taken)),
       (
@@ -207,11 +211,12 @@ tries_one_flag setting slots seat party bucket log idle state rule at false free
     let made = is_made setting party mine.0 in
     let entry : PoolEntry = entry_of (TryAt party bucket) (Takes bucket) in
     let flags : List Bool = slice_set rule.flags bucket true in
-    let agree = take_at_agrees setting.scene rule.flags rule.logs party log bucket rule.agree made mine.1 idle free in (
+    let behind = take_at_behind setting.scene rule.flags rule.logs party log bucket rule.agree made mine.1 idle free in
+    let agree = behind.agree in (
       alone setting.scene party (log ++ entry ∷ []),
       keeps,
       tt,
-      entered setting state rule seat party log entry (set state.words bucket 1) flags at agree
+      entered setting state rule seat party log entry (set state.words bucket 1) flags at behind
           (ap (λ (words : List ℕ). set words bucket 1) rule.words ∙ word_set rule.flags bucket false true free),
       (
         λ _. record {
@@ -225,11 +230,12 @@ tries_one_flag setting slots seat party bucket log idle state rule at true taken
     let mine = rule.seated.known seat (alone setting.scene party log) at in
     let made = is_made setting party mine.0 in
     let entry : PoolEntry = entry_of (TryAt party bucket) (Misses bucket) in
-    let agree = miss_agrees setting.scene rule.flags rule.logs party log bucket rule.agree made mine.1 idle taken in (
+    let behind = miss_behind setting.scene rule.flags rule.logs party log bucket rule.agree made mine.1 idle taken in
+    let agree = behind.agree in (
       alone setting.scene party (log ++ entry ∷ []),
       keeps,
       tt,
-      entered setting state rule seat party log entry (set state.words bucket 1) rule.flags at agree
+      entered setting state rule seat party log entry (set state.words bucket 1) rule.flags at behind
           (ap (λ (words : List ℕ). set words bucket 1) rule.words ∙ word_set rule.flags bucket true true taken
           ∙ ap words_of (flag_again rule.flags bucket taken)),
       (
@@ -276,11 +282,12 @@ returns_one setting slots seat party bucket log held state rule homes at fits =
     let mine = rule.seated.known seat (alone setting.scene party log) at in
     let entry : PoolEntry = entry_of (GiveBack party bucket) (Gives bucket) in
     let flags : List Bool = slice_set rule.flags bucket false in
-    let agree = give_agrees setting.scene rule.flags rule.logs party log bucket rule.agree mine.1 held in (
+    let behind = give_behind setting.scene rule.flags rule.logs party log bucket rule.agree mine.1 held in
+    let agree = behind.agree in (
       alone setting.scene party (log ++ entry ∷ []),
       keeps,
       tt,
-      entered setting state rule seat party log entry (set state.words bucket 0) flags at agree
+      entered setting state rule seat party log entry (set state.words bucket 0) flags at behind
           (ap (λ (words : List ℕ). set words bucket 0) rule.words ∙ word_freed rule.flags bucket),
       told setting.scene flags rule.logs party log entry mine.1 agree,
     )

@@ -1,5 +1,5 @@
 -- What a load by a seat of several parties finds: how they agree with the flags, and what two of them have of one another.
-use Rattle.std.proofs.Common.{◌≡◌, ℕ, zero, suc, List, [], ◌∷◌, set, get_or, refl, sym, ap, subst, arith, inl, inr}
+use Rattle.std.proofs.Common.{◌≡◌, ℕ, zero, suc, List, [], ◌∷◌, set, get_or, refl, sym, ap, ◌∙◌, subst, arith, inl, inr}
 use Rattle.std.proofs.lemmas.Bool.{cases_lt}
 use mathlib.Core.Option.{none, some}
 use lib.ListN.{get_elem?}
@@ -7,12 +7,15 @@ use Rattle.atomic_table.specs.Table.{State, Me, keeps, step, Allows}
 use Rattle.atomic_table.proofs.Lists.{set_again}
 use Rattle.bb_memory_base.specs.PoolMachine.{PoolScene}
 use Rattle.bb_memory_base.specs.PoolHistory.{PoolLog}
+use Rattle.bb_memory_base.specs.declared.steps.pool.PoolStep.{PoolStep}
 use Rattle.bb_memory_base.proofs.PoolLogFacts.{logs_apart, interleaved_logs}
-use Rattle.bb_memory.specs.Seats.{numbered, standing_for}
-use Rattle.bb_memory.specs.SharedPoolRule.{NumberedLog, PoolSetting, SeatView, WordsAndLogsAgree, handed_out}
-use Rattle.bb_memory.specs.SharedPoolSteps.{TellsMeeting, TellsTwo, meets}
-use Rattle.bb_memory.proofs.Seatings.{have_within, none_beyond, once_in, two_parties}
-use Rattle.bb_memory.proofs.SharedPoolPosts.{handed_within}
+use Rattle.bb_memory.specs.Seats.{numbered}
+use Rattle.bb_memory.specs.SharedPoolRule.{NumberedLog, PoolSetting, SeatView, WordsAndLogsAgree, handed_out, remembering}
+use Rattle.bb_memory.specs.SharedPoolRule.{sight, standing_for}
+use Rattle.bb_memory.specs.SharedPoolSteps.{TellsMeeting, TellsTwo, meets, meets_again}
+use Rattle.bb_memory.proofs.Seatings.{have_within, none_beyond, once_in, seated_again, two_parties}
+use Rattle.bb_memory.proofs.SharedPoolHistories.{begins_with_all, remember_set}
+use Rattle.bb_memory.proofs.SharedPoolPosts.{handed_within, post_again}
 
 -- what the rule tells a seat
 told_by : (setting : PoolSetting) (state : State ℕ SeatView) (rule : WordsAndLogsAgree setting state) (seat : ℕ)
@@ -65,6 +68,40 @@ pub meets_as : (setting : PoolSetting) (slots seat word : ℕ) (parties : List N
 meets_as setting slots seat word parties me is =
     subst (λ (m : Me ℕ SeatView). Allows (WordsAndLogsAgree setting) slots seat m word (λ found. found)
     (meets (step slots word 0 0 none) m)) (sym is) (meets_at setting slots seat word parties)
+
+-- the same by a seat that remembers the steps, and then those that were made
+meets_again_at : (setting : PoolSetting) (slots seat word : ℕ) (met : List PoolStep) (parties : List NumberedLog) →
+    let view = remembering setting.scene met parties in
+    Allows (WordsAndLogsAgree setting) slots seat (view, []) word (λ found. found)
+    (meets_again (step slots word 0 0 none) (view, []))
+unfolding told_by
+meets_again_at setting slots seat word met parties state rule homes at fits =
+    let view : SeatView = remembering setting.scene met parties in
+    let steps : List PoolStep = rule.agree.steps in
+    let new : SeatView = remembering setting.scene steps parties in (
+      new,
+      keeps,
+      tt,
+      record {
+        flags = rule.flags;
+        logs = rule.logs;
+        agree = rule.agree;
+        words = same_word state.words word ∙ rule.words;
+        one_a_party = rule.one_a_party;
+        seated = seated_again (handed_out setting.has_post setting.scene.parties) rule.logs state.views seat view
+            (sight setting.scene steps) rule.seated at;
+        post = λ has. post_again setting.scene rule.logs state.views seat view new refl at (rule.post has);
+        met = remember_set state.views seat new steps steps rule.met (begins_with_all steps) (begins_with_all steps);
+      },
+      (refl, record { told = told_by setting state rule seat view at; found = refl; goes_on = rule.met seat view at }),
+    )
+
+pub meets_again_as : (setting : PoolSetting) (slots seat word : ℕ) (met : List PoolStep) (parties : List NumberedLog)
+    (me : Me ℕ SeatView) → me ≡ (remembering setting.scene met parties, []) →
+    Allows (WordsAndLogsAgree setting) slots seat me word (λ found. found) (meets_again (step slots word 0 0 none) me)
+meets_again_as setting slots seat word met parties me is =
+    subst (λ (m : Me ℕ SeatView). Allows (WordsAndLogsAgree setting) slots seat m word (λ found. found)
+    (meets_again (step slots word 0 0 none) m)) (sym is) (meets_again_at setting slots seat word met parties)
 
 -- what a meeting of two has found
 pub two_met : (scene : PoolScene) (number : ℕ) (log : PoolLog) (other : ℕ) (other_log : PoolLog) →

@@ -6,9 +6,9 @@ use Rattle.atomic_table.specs.Table.{Me}
 use Rattle.bb_memory_base.specs.PoolMachine.{PoolScene}
 use Rattle.bb_memory_base.specs.PoolHistory.{PoolEntry, PoolLog}
 use Rattle.bb_memory_base.specs.PoolLogs.{IsAllowed}
-use Rattle.bb_memory.specs.Seats.{alone, number_of, view_log}
+use Rattle.bb_memory.specs.Seats.{number_of, view_log}
 use Rattle.bb_memory.specs.SharedPool.{IsSharedScene, SharedPool, return_entry, with_entries}
-use Rattle.bb_memory.specs.SharedPoolRule.{IsPartySeat, IsSeatOfIdle, SeatView, party_in}
+use Rattle.bb_memory.specs.SharedPoolRule.{IsPartySeat, IsSeatOfIdle, SeatView, alone, party_in, scene_of}
 use Rattle.bb_memory.specs.SharedPoolSteps.{HasEnded, TellsReturn}
 use Rattle.bb_memory.proofs.SharedPoolTries.{idle_after_return}
 
@@ -35,7 +35,7 @@ no_step scene number me is = record {
 -- a seat of a party of this pool
 module _ (pool : SharedPool) (table : TableId) (post : Bool) (me : Me ℕ SeatView) (number : ℕ) (is : IsPartySeat number me)
     (own : (party_in table post number me.0).allocator ≡ pool) where
-  own_scene : me.0.scene ≡ pool.scene
+  own_scene : (scene_of me.0) ≡ pool.scene
   own_scene = ap (λ (p : SharedPool). p.scene) own
 
   same_number : number_of me.0 ≡ number
@@ -44,7 +44,7 @@ module _ (pool : SharedPool) (table : TableId) (post : Bool) (me : Me ℕ SeatVi
   pub idle_seat : IsSeatOfIdle pool.scene (number_of me.0) (view_log me.0) me
   idle_seat =
       subst (λ (s : PoolScene). IsSeatOfIdle s (number_of me.0) (view_log me.0) me) own_scene
-      (subst (λ (n : ℕ). IsSeatOfIdle me.0.scene n (view_log me.0) me) (sym same_number) is.seat)
+      (subst (λ (n : ℕ). IsSeatOfIdle (scene_of me.0) n (view_log me.0) me) (sym same_number) is.seat)
 
   -- its party, once these entries are added
   pub party_then : (new_table : TableId) (new : Me ℕ SeatView) (added : PoolLog) → new_table ≡ table →
@@ -53,7 +53,7 @@ module _ (pool : SharedPool) (table : TableId) (post : Bool) (me : Me ℕ SeatVi
   party_then new_table new added kept ended = λ i. record {
     allocator = record {
       table = kept i;
-      scene = (ap (λ (m : Me ℕ SeatView). m.0.scene) ended.seat.is ∙ sym own_scene) i;
+      scene = (ap (λ (m : Me ℕ SeatView). (scene_of m.0)) ended.seat.is ∙ sym own_scene) i;
       has_post = post;
     };
     number = number;
@@ -70,7 +70,7 @@ module _ (pool : SharedPool) (table : TableId) (post : Bool) (me : Me ℕ SeatVi
 
   -- a return has ended with its store
   pub returned : (bucket : ℕ) (new : Me ℕ SeatView) →
-      TellsReturn me.0.scene (number_of me.0) (view_log me.0) bucket new →
+      TellsReturn (scene_of me.0) (number_of me.0) (view_log me.0) bucket new →
       HasEnded pool.scene (number_of me.0) (view_log me.0) (return_entry (number_of me.0) bucket) new
   returned bucket new tells =
       subst (λ (s : PoolScene). HasEnded s (number_of me.0) (view_log me.0) (return_entry (number_of me.0) bucket) new) own_scene

@@ -125,6 +125,14 @@ post_joined scene logs views seat other view guest both spent empty parts at the
     let none = ap (times_of bucket) empty in
     let less = parts bucket in omega arith)
 
+-- a view that has nothing in transit becomes another one
+pub post_again : (scene : PoolScene) (logs : List PoolLog) (views : List SeatView) (seat : ℕ) (old new : SeatView) →
+    new.in_transit ≡ [] → get_elem? views seat ≡ some old → IsPost scene logs views → IsPost scene logs (set views seat new)
+post_again scene logs views seat old new none at post =
+    fewer_in_transit scene logs views (set views seat new) post (λ bucket.
+    let placed = transit-set bucket views seat old new at in
+    let empty = ap (times_of bucket) none in omega arith)
+
 pub both_parts : (guest view : List ℕ) (bucket : ℕ) →
     times_of bucket (guest ++ view) ≤ times_of bucket guest + times_of bucket view
 both_parts guest view bucket = let same = times_of-append bucket guest view in omega arith

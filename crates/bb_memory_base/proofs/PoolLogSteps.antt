@@ -10,7 +10,7 @@ use Rattle.bb_memory_base.specs.PoolMachine.{passed, try_flag, try_next, give_fl
 use Rattle.bb_memory_base.specs.PoolMachine.{pool_step, pool_after, opening_state, left_by}
 use Rattle.bb_memory_base.specs.PoolHistory.{entry_of, PoolLog, PoolEntry, pool_history, is_by, entries_by, history_of, log_of}
 use Rattle.bb_memory_base.specs.PoolLogs.{HasLog, pass_after, pass_in, next_bucket, loss_at}
-use Rattle.bb_memory_base.specs.PoolLogs.{flags_of, IsAllowed, IsHeldAfter, LogsAgree, with_entry}
+use Rattle.bb_memory_base.specs.PoolLogs.{flags_of, IsAllowed, IsBeginning, IsHeldAfter, LogsAgree, with_entry}
 use Rattle.bb_memory_base.specs.declared.steps.pool.PoolStep.{PoolStep}
 use Rattle.bb_memory_base.specs.declared.steps.pool.PoolStep.TheVariants.{Try, GiveBack, TryAt}
 use Rattle.bb_memory_base.specs.declared.steps.pool.PoolOutcome.{PoolOutcome}
@@ -161,11 +161,17 @@ logs-push logs party log step history entry at of same each other found there =
           others ∙ append-nil (entries_by other history) ∙ each other found (sym kept ∙ there)
     ]
 
+-- flags and logs agree by a list of steps of which these are a beginning
+pub record AgreesBehind (scene : PoolScene) (before : List PoolStep) (flags : List Bool) (logs : List PoolLog) : Type 0 where
+  pub agree : LogsAgree scene flags logs
+  pub behind : IsBeginning before agree.steps
+
 -- the step of a party that makes this move leaves flags and logs that agree again
 agree_on : (scene : PoolScene) (flags : List Bool) (logs : List PoolLog) (party : ℕ) (log : PoolLog) (step : PoolStep)
     (agree : LogsAgree scene flags logs) → HasLog logs party log → IsStepOf party step →
     (move : PoolMove) → pool_step (left_by scene agree.steps) step ≡ move → IsAllowed move.outcome →
-    (new : List Bool) → flags_of move.state ≡ new → LogsAgree scene new (with_entry logs party log (entry_of step move.outcome))
+    (new : List Bool) → flags_of move.state ≡ new →
+    AgreesBehind scene agree.steps new (with_entry logs party log (entry_of step move.outcome))
 agree_on scene flags logs party log step agree at of move is allowed new leaves =
     let opening : PoolState = opening_state scene in
     let history : PoolLog = history_of scene agree.steps in
@@ -174,11 +180,14 @@ agree_on scene flags logs party log step agree at of move is allowed new leaves 
     history-push opening agree.steps step ∙ ap (λ (m : PoolMove). history ++ entry_of step m.outcome ∷ []) is in
     let Allowed : PoolEntry → Type 0 = λ e. IsAllowed e.outcome in
     record {
-      steps = agree.steps ++ step ∷ [];
-      allowed = subst (All Allowed) (sym longer) (All-push Allowed history entry agree.allowed allowed);
-      leaves = ap flags_of (after-push opening agree.steps step) ∙ ap (λ (m : PoolMove). flags_of m.state) is ∙ leaves;
-      each = λ other found there.
-          ap (entries_by other) longer ∙ logs-push logs party log step history entry at of refl agree.each other found there;
+      agree = record {
+        steps = agree.steps ++ step ∷ [];
+        allowed = subst (All Allowed) (sym longer) (All-push Allowed history entry agree.allowed allowed);
+        leaves = ap flags_of (after-push opening agree.steps step) ∙ ap (λ (m : PoolMove). flags_of m.state) is ∙ leaves;
+        each = λ other found there.
+            ap (entries_by other) longer ∙ logs-push logs party log step history entry at of refl agree.each other found there;
+      };
+      behind = record { more = step ∷ []; is = refl };
     }
 
 -- THE KINDS OF STEP
@@ -196,11 +205,11 @@ tries scene flags logs party log bucket agree made at next found is =
     ∙ ap (λ (b : ℕ). try_flag state party b (slice_get state.holders b)) next
     ∙ ap (try_flag state party bucket) is
 
-pub take_agrees : (scene : PoolScene) (flags : List Bool) (logs : List PoolLog) (party : ℕ) (log : PoolLog) (bucket : ℕ) →
-    LogsAgree scene flags logs → party < scene.parties → HasLog logs party log →
+pub take_behind : (scene : PoolScene) (flags : List Bool) (logs : List PoolLog) (party : ℕ) (log : PoolLog) (bucket : ℕ) →
+    (agree : LogsAgree scene flags logs) → party < scene.parties → HasLog logs party log →
     next_bucket log ≡ bucket → slice_get flags bucket ≡ Some false →
-    LogsAgree scene (slice_set flags bucket true) (with_entry logs party log (entry_of (Try party) (Takes bucket)))
-take_agrees scene flags logs party log bucket agree made at next free =
+    AgreesBehind scene agree.steps (slice_set flags bucket true) (with_entry logs party log (entry_of (Try party) (Takes bucket)))
+take_behind scene flags logs party log bucket agree made at next free =
     let state : PoolState = left_by scene agree.steps in
     let found : slice_get state.holders bucket ≡ Some None = free_from_flag state flags bucket agree.leaves free in
     let is = tries scene flags logs party log bucket agree made at next (Some None) found in
@@ -209,33 +218,36 @@ take_agrees scene flags logs party log bucket agree made at next free =
     agree_on scene flags logs party log (Try party) agree at (try_is_of party) (taking state party bucket) is tt new leaves
 
 -- a loss, whether it is the pass's last one or not
-loss_agrees : (scene : PoolScene) (flags : List Bool) (logs : List PoolLog) (party : ℕ) (log : PoolLog) (bucket : ℕ)
+loss_behind : (scene : PoolScene) (flags : List Bool) (logs : List PoolLog) (party : ℕ) (log : PoolLog) (bucket : ℕ)
     (agree : LogsAgree scene flags logs) → HasLog logs party log → (more : Bool) →
     let state = left_by scene agree.steps in
     let move : PoolMove = (if more
     then move_of (Loses bucket) (with_pass state party (Some (bucket + 1)))
     else move_of (RefusedAtLoss bucket) (with_pass state party None)) in
     pool_step state (Try party) ≡ move →
-    LogsAgree scene flags (with_entry logs party log (entry_of (Try party) (if more then Loses bucket else RefusedAtLoss bucket)))
-loss_agrees scene flags logs party log bucket agree at true is =
+    AgreesBehind scene agree.steps flags
+    (with_entry logs party log (entry_of (Try party) (if more then Loses bucket else RefusedAtLoss bucket)))
+loss_behind scene flags logs party log bucket agree at true is =
     let move : PoolMove = move_of (Loses bucket) (with_pass (left_by scene agree.steps) party (Some (bucket + 1))) in
     agree_on scene flags logs party log (Try party) agree at (try_is_of party) move is tt flags agree.leaves
-loss_agrees scene flags logs party log bucket agree at false is =
+loss_behind scene flags logs party log bucket agree at false is =
     let move : PoolMove = move_of (RefusedAtLoss bucket) (with_pass (left_by scene agree.steps) party None) in
     agree_on scene flags logs party log (Try party) agree at (try_is_of party) move is tt flags agree.leaves
 
-pub lose_agrees : (scene : PoolScene) (flags : List Bool) (logs : List PoolLog) (party : ℕ) (log : PoolLog) (bucket : ℕ) →
-    LogsAgree scene flags logs → party < scene.parties → HasLog logs party log →
+pub lose_behind : (scene : PoolScene) (flags : List Bool) (logs : List PoolLog) (party : ℕ) (log : PoolLog) (bucket : ℕ) →
+    (agree : LogsAgree scene flags logs) → party < scene.parties → HasLog logs party log →
     next_bucket log ≡ bucket → slice_get flags bucket ≡ Some true →
-    LogsAgree scene flags (with_entry logs party log (entry_of (Try party) (loss_at scene.geometry.buckets bucket)))
-lose_agrees scene flags logs party log bucket agree made at next taken =
+    AgreesBehind scene agree.steps flags
+    (with_entry logs party log (entry_of (Try party) (loss_at scene.geometry.buckets bucket)))
+lose_behind scene flags logs party log bucket agree made at next taken =
     let state : PoolState = left_by scene agree.steps in
     let holder = taken_from_flag state flags bucket agree.leaves taken in
     let is = tries scene flags logs party log bucket agree made at next (Some (Some holder.0)) holder.1 in
     let Agree : ℕ → Type 0 =
-    λ buckets. LogsAgree scene flags (with_entry logs party log (entry_of (Try party) (loss_at buckets bucket))) in
+    λ buckets. AgreesBehind scene agree.steps flags
+    (with_entry logs party log (entry_of (Try party) (loss_at buckets bucket))) in
     let more : Bool = nat_lt (bucket + 1) (length state.holders) in
-    subst Agree (length-left_by scene agree.steps) (loss_agrees scene flags logs party log bucket agree at more is)
+    subst Agree (length-left_by scene agree.steps) (loss_behind scene flags logs party log bucket agree at more is)
 
 -- an idle party that was made tries one bucket
 tries_one : (scene : PoolScene) (flags : List Bool) (logs : List PoolLog) (party : ℕ) (log : PoolLog) (bucket : ℕ)
@@ -248,11 +260,12 @@ tries_one scene flags logs party log bucket agree made at idle found is =
     log_pass scene agree.steps party made ∙ ap (λ (l : PoolLog). Some (pass_in l)) (agree.each party log at) ∙ ap Some idle in
     ap (try_at state party bucket) pass ∙ ap (try_one state party bucket) is
 
-pub take_at_agrees : (scene : PoolScene) (flags : List Bool) (logs : List PoolLog) (party : ℕ) (log : PoolLog) (bucket : ℕ) →
-    LogsAgree scene flags logs → party < scene.parties → HasLog logs party log →
+pub take_at_behind : (scene : PoolScene) (flags : List Bool) (logs : List PoolLog) (party : ℕ) (log : PoolLog) (bucket : ℕ) →
+    (agree : LogsAgree scene flags logs) → party < scene.parties → HasLog logs party log →
     pass_in log ≡ None → slice_get flags bucket ≡ Some false →
-    LogsAgree scene (slice_set flags bucket true) (with_entry logs party log (entry_of (TryAt party bucket) (Takes bucket)))
-take_at_agrees scene flags logs party log bucket agree made at idle free =
+    AgreesBehind scene agree.steps (slice_set flags bucket true)
+    (with_entry logs party log (entry_of (TryAt party bucket) (Takes bucket)))
+take_at_behind scene flags logs party log bucket agree made at idle free =
     let state : PoolState = left_by scene agree.steps in
     let found : slice_get state.holders bucket ≡ Some None = free_from_flag state flags bucket agree.leaves free in
     let is = tries_one scene flags logs party log bucket agree made at idle (Some None) found in
@@ -261,11 +274,11 @@ take_at_agrees scene flags logs party log bucket agree made at idle free =
     let new : List Bool = slice_set flags bucket true in
     agree_on scene flags logs party log step agree at (try_at_is_of party bucket) (taking state party bucket) is tt new leaves
 
-pub miss_agrees : (scene : PoolScene) (flags : List Bool) (logs : List PoolLog) (party : ℕ) (log : PoolLog) (bucket : ℕ) →
-    LogsAgree scene flags logs → party < scene.parties → HasLog logs party log →
+pub miss_behind : (scene : PoolScene) (flags : List Bool) (logs : List PoolLog) (party : ℕ) (log : PoolLog) (bucket : ℕ) →
+    (agree : LogsAgree scene flags logs) → party < scene.parties → HasLog logs party log →
     pass_in log ≡ None → slice_get flags bucket ≡ Some true →
-    LogsAgree scene flags (with_entry logs party log (entry_of (TryAt party bucket) (Misses bucket)))
-miss_agrees scene flags logs party log bucket agree made at idle taken =
+    AgreesBehind scene agree.steps flags (with_entry logs party log (entry_of (TryAt party bucket) (Misses bucket)))
+miss_behind scene flags logs party log bucket agree made at idle taken =
     let state : PoolState = left_by scene agree.steps in
     let holder = taken_from_flag state flags bucket agree.leaves taken in
     let is = tries_one scene flags logs party log bucket agree made at idle (Some (Some holder.0)) holder.1 in
@@ -273,10 +286,11 @@ miss_agrees scene flags logs party log bucket agree made at idle taken =
     let move : PoolMove = move_of (Misses bucket) state in
     agree_on scene flags logs party log step agree at (try_at_is_of party bucket) move is tt flags agree.leaves
 
-pub give_agrees : (scene : PoolScene) (flags : List Bool) (logs : List PoolLog) (party : ℕ) (log : PoolLog) (bucket : ℕ) →
-    LogsAgree scene flags logs → HasLog logs party log → IsHeldAfter log bucket →
-    LogsAgree scene (slice_set flags bucket false) (with_entry logs party log (entry_of (GiveBack party bucket) (Gives bucket)))
-give_agrees scene flags logs party log bucket agree at holds =
+pub give_behind : (scene : PoolScene) (flags : List Bool) (logs : List PoolLog) (party : ℕ) (log : PoolLog) (bucket : ℕ) →
+    (agree : LogsAgree scene flags logs) → HasLog logs party log → IsHeldAfter log bucket →
+    AgreesBehind scene agree.steps (slice_set flags bucket false)
+    (with_entry logs party log (entry_of (GiveBack party bucket) (Gives bucket)))
+give_behind scene flags logs party log bucket agree at holds =
     let state : PoolState = left_by scene agree.steps in
     let in_log = subst (λ (l : PoolLog). IsHeldAfter l bucket) (sym (agree.each party log at)) holds in
     let found : IsHolder state bucket party = (holder_in_log scene agree.steps party bucket).1 in_log in
@@ -286,6 +300,42 @@ give_agrees scene flags logs party log bucket agree at holds =
     let step : PoolStep = GiveBack party bucket in
     let new : List Bool = slice_set flags bucket false in
     agree_on scene flags logs party log step agree at (give_is_of party bucket) (return_of state bucket) is tt new leaves
+
+-- THE SAME, WHICHEVER STEPS THEY AGREE BY
+
+pub take_agrees : (scene : PoolScene) (flags : List Bool) (logs : List PoolLog) (party : ℕ) (log : PoolLog) (bucket : ℕ) →
+    LogsAgree scene flags logs → party < scene.parties → HasLog logs party log →
+    next_bucket log ≡ bucket → slice_get flags bucket ≡ Some false →
+    LogsAgree scene (slice_set flags bucket true) (with_entry logs party log (entry_of (Try party) (Takes bucket)))
+take_agrees scene flags logs party log bucket agree made at next free =
+    (take_behind scene flags logs party log bucket agree made at next free).agree
+
+pub lose_agrees : (scene : PoolScene) (flags : List Bool) (logs : List PoolLog) (party : ℕ) (log : PoolLog) (bucket : ℕ) →
+    LogsAgree scene flags logs → party < scene.parties → HasLog logs party log →
+    next_bucket log ≡ bucket → slice_get flags bucket ≡ Some true →
+    LogsAgree scene flags (with_entry logs party log (entry_of (Try party) (loss_at scene.geometry.buckets bucket)))
+lose_agrees scene flags logs party log bucket agree made at next taken =
+    (lose_behind scene flags logs party log bucket agree made at next taken).agree
+
+pub take_at_agrees : (scene : PoolScene) (flags : List Bool) (logs : List PoolLog) (party : ℕ) (log : PoolLog) (bucket : ℕ) →
+    LogsAgree scene flags logs → party < scene.parties → HasLog logs party log →
+    pass_in log ≡ None → slice_get flags bucket ≡ Some false →
+    LogsAgree scene (slice_set flags bucket true) (with_entry logs party log (entry_of (TryAt party bucket) (Takes bucket)))
+take_at_agrees scene flags logs party log bucket agree made at idle free =
+    (take_at_behind scene flags logs party log bucket agree made at idle free).agree
+
+pub miss_agrees : (scene : PoolScene) (flags : List Bool) (logs : List PoolLog) (party : ℕ) (log : PoolLog) (bucket : ℕ) →
+    LogsAgree scene flags logs → party < scene.parties → HasLog logs party log →
+    pass_in log ≡ None → slice_get flags bucket ≡ Some true →
+    LogsAgree scene flags (with_entry logs party log (entry_of (TryAt party bucket) (Misses bucket)))
+miss_agrees scene flags logs party log bucket agree made at idle taken =
+    (miss_behind scene flags logs party log bucket agree made at idle taken).agree
+
+pub give_agrees : (scene : PoolScene) (flags : List Bool) (logs : List PoolLog) (party : ℕ) (log : PoolLog) (bucket : ℕ) →
+    LogsAgree scene flags logs → HasLog logs party log → IsHeldAfter log bucket →
+    LogsAgree scene (slice_set flags bucket false) (with_entry logs party log (entry_of (GiveBack party bucket) (Gives bucket)))
+give_agrees scene flags logs party log bucket agree at holds =
+    (give_behind scene flags logs party log bucket agree at holds).agree
 
 -- THE OPENING
 

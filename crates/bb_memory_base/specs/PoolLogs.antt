@@ -63,6 +63,11 @@ pub record LogsAgree (scene : PoolScene) (flags : List Bool) (logs : List PoolLo
   pub leaves : flags_of (left_by scene steps) ≡ flags
   pub each : (party : ℕ) (log : PoolLog) → HasLog logs party log → log_of scene steps party ≡ log
 
+-- the first list of steps is a beginning of the other
+pub record IsBeginning (before steps : List PoolStep) : Type 0 where
+  pub more : List PoolStep
+  pub is : steps ≡ before ++ more
+
 -- the logs, where a party's has one more entry
 abbrev pub with_entry : List PoolLog → ℕ → PoolLog → PoolEntry → List PoolLog
 with_entry logs party log entry = slice_set logs party (log ++ entry ∷ [])

@@ -1,5 +1,6 @@
 //! Rows of the forms that threads share.
 mod bump_rows;
+mod histories;
 mod pool_rows;
 mod pool_worlds;
 mod refused_in_turn;

@@ -3,21 +3,22 @@
 //! `try_flag`, `try_at` and `give_back` make one atomic step each, by the seat of the party whose step it is, and tell that its
 //! log then ends with that step and what it found. `hand_over` and `take_over` make two steps at one load of a bucket's word, one
 //! of the party's and one of the post's, and load a word more for the seat of what is in transit. `deal`, `gather`, `find`,
-//! `meet`, `meet_in_transit` and `tell_apart` only load words, and are in no log; `open` is before all sharing, and `geometry`
-//! touches no word.
-ghost use Rattle.std.specs.Prelude.{◌≡◌, ◌≢◌, ◌<◌, ◌≤◌, IfOk, MatchBool, max};
+//! `meet`, `meet_in_transit`, `tell_apart`, `begin_history`, `find_again` and `give_first_back` only load words, and are in no
+//! log; `open` is before all sharing, and `geometry` touches no word.
+ghost use Rattle.std.specs.Prelude.{◌≡◌, ◌≢◌, ◌<◌, ◌≤◌, [], IfOk, MatchBool, max};
 ghost use Rattle.bb_memory_base.specs.Region.{IsRegion};
 ghost use Rattle.bb_memory_base.specs.PoolGeometry.{IsPoolGeometry};
 ghost use Rattle.bb_memory_base.specs.PoolLogs.{IsHeldAfter};
-ghost use Rattle.bb_memory.specs.Seats.{IsDealt, MayGather, Stays, both_of, number_of, view_log};
+ghost use Rattle.bb_memory.specs.Seats.{IsDealt, MayGather, Stays, both_of, number_of, others_of, view_log};
 ghost use Rattle.bb_memory.specs.SharedPoolRule.{AreTwoAt, IsHeldAt, IsIdleAt, IsInTransitAt, IsNextFor, IsOpened, IsSeatAt};
-ghost use Rattle.bb_memory.specs.SharedPoolRule.{MayHandOverAt, MayMeetTransit, StandsAt};
+ghost use Rattle.bb_memory.specs.SharedPoolRule.{MayHandOverAt, MayMeetTransit, RemembersAt, StandsAt, first_back};
+ghost use Rattle.bb_memory.specs.SharedPoolRule.{IsSplit, fresh_history};
 ghost use Rattle.bb_memory.specs.SharedPoolSteps.{HasFound, HasMissedAt, HasTakenAt, TellsLoss, TellsReturn, TellsTaking};
-ghost use Rattle.bb_memory.specs.SharedPoolSteps.{TellsTwo};
+ghost use Rattle.bb_memory.specs.SharedPoolSteps.{HasFoundAgain, TellsTwo};
 
 use super::rule::{
-    Agreement, Gather, GiveFirst, GiveTransit, HandsOver, Meets, MeetsTransit, Returns, Scene,
-    TakeIn, TakesOver, TellsApart, Tries, TriesAt, View,
+    Agreement, Gather, GiveFirst, GiveFirstBack, GiveHistory, GiveTransit, HandsOver, Meets,
+    MeetsAgain, MeetsTransit, Returns, Scene, TakeIn, TakesOver, TellsApart, Tries, TriesAt, View,
 };
 use crate::pool_allocator::geometry::Geometry;
 use atomic_table::{Seat, Table};
@@ -225,6 +226,34 @@ impl Flags {
         self.gather(a, guest);
         self.find(a);
         *b = self.deal(a);
+    }
+
+    /// A seat for a history, which remembers nothing.
+    pub(super) fn begin_history(&self, seat: &mut Seat<u8, View>) -> Seat<u8, View>
+        requires { seat.old.table_id ≡ self.now.table }
+        ensures { IsSplit seat.old.table_id seat.new.table_id seat.new.me seat.old.me
+            result.table_id result.me (fresh_history seat.old.me.0, []) }
+    {
+        self.table.shared.split_seat::<GiveHistory>(seat)
+    }
+
+    /// A load where parties have met at the seat of a history.
+    pub(super) fn find_again(&self, seat: &mut Seat<u8, View>)
+        requires { RemembersAt self.now seat.old.table_id seat.old.me }
+        ensures { HasFoundAgain self.now.scene seat.old.me.0.parties
+            seat.old.table_id seat.old.me seat.new.table_id seat.new.me }
+    {
+        self.table.shared.load::<MeetsAgain>(seat, 0);
+    }
+
+    /// A seat of its own for the first party that is at the seat of a history.
+    pub(super) fn give_first_back(&self, history: &mut Seat<u8, View>) -> Seat<u8, View>
+        requires { history.old.table_id ≡ self.now.table }
+        ensures { IsSplit history.old.table_id history.new.table_id
+            history.new.me (others_of history.old.me.0, history.old.me.1)
+            result.table_id result.me (first_back history.old.me.0, []) }
+    {
+        self.table.shared.split_seat::<GiveFirstBack>(history)
     }
 
     /// The buckets that the flags are of.

@@ -78,6 +78,15 @@ impl Play<u8, View> for Meets {
     ghost then = { meets };
 }
 
+/// A load by the seat of a history, at which any number of parties are.
+pub(crate) struct MeetsAgain;
+
+impl Play<u8, View> for MeetsAgain {
+    ghost use Rattle.bb_memory.specs.SharedPoolSteps.{meets_again};
+
+    ghost then = { meets_again };
+}
+
 /// A load by a party after whose log the bucket is held, which hands it over.
 pub(crate) struct HandsOver;
 
@@ -146,6 +155,29 @@ impl Split<View> for GiveFirst {
     ghost left = { others_of };
 
     ghost right = { first_of };
+}
+
+/// The first party goes from the seat of a history to a new one.
+pub(crate) struct GiveFirstBack;
+
+impl Split<View> for GiveFirstBack {
+    ghost use Rattle.bb_memory.specs.Seats.{others_of};
+    ghost use Rattle.bb_memory.specs.SharedPoolRule.{first_back};
+
+    ghost left = { others_of };
+
+    ghost right = { first_back };
+}
+
+/// A new seat for a history. The parties stay.
+pub(crate) struct GiveHistory;
+
+impl Split<View> for GiveHistory {
+    ghost use Rattle.bb_memory.specs.SharedPoolRule.{fresh_history};
+
+    ghost left = { λ view. view };
+
+    ghost right = { fresh_history };
 }
 
 /// One seat stands for the parties of two.

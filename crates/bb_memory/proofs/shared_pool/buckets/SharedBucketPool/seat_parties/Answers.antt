@@ -3,8 +3,8 @@ use Rattle.std.specs.Prelude.{All, slice_get}
 use Rattle.std.proofs.lemmas.List.Elements.{All-push}
 use Rattle.atomic_table.specs.Table.{Me}
 use Rattle.bb_memory.specs.SharedPool.{IsSharedScene, PoolParty, SharedPool, fresh_party}
-use Rattle.bb_memory.specs.Seats.{first_of, others_of, standing_for, view_log}
-use Rattle.bb_memory.specs.SharedPoolRule.{NumberedLog, SeatView, party_in}
+use Rattle.bb_memory.specs.Seats.{first_of, others_of, view_log}
+use Rattle.bb_memory.specs.SharedPoolRule.{NumberedLog, SeatView, party_in, scene_of, standing_for}
 use Rattle.bb_memory.proofs.Seatings.{fresh_more, given_more}
 use Rattle.bb_memory.proofs.SharedPoolParties.{no_step, party_seat}
 use Rattle.bb_memory.proofs.SharedPoolPosts.{handed_few}
@@ -39,7 +39,7 @@ loop-number-preserved g c =
     let value_is : value ≡ fresh_party pool number = λ j. record {
       allocator = record {
         table = (dealt.its_table ∙ before.table) j;
-        scene = ap (λ (m : Me ℕ SeatView). m.0.scene) seated j;
+        scene = ap (λ (m : Me ℕ SeatView). (scene_of m.0)) seated j;
         has_post = c.has_post-has_post.ensures.value j;
       };
       number = number;

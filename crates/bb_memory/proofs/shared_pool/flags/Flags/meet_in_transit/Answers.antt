@@ -1,9 +1,9 @@
 use Rattle.std.proofs.Common.{ℕ, [], sym, ap, ◌∙◌, arith}
 use Rattle.atomic_table.specs.Table.{Me}
 use Rattle.bb_memory_base.specs.PoolMachine.{PoolScene}
-use Rattle.bb_memory.specs.Seats.{alone, both_in_transit, carrying, first_in_transit, number_of, view_log}
+use Rattle.bb_memory.specs.Seats.{both_in_transit, first_in_transit, number_of, view_log}
 use Rattle.bb_memory.specs.SharedPool.{SharedPool}
-use Rattle.bb_memory.specs.SharedPoolRule.{PoolSetting, SeatView}
+use Rattle.bb_memory.specs.SharedPoolRule.{PoolSetting, SeatView, alone, carrying}
 use Rattle.bb_memory.proofs.SharedPoolHandOvers.{meets_transit_as}
 use Rattle.bb_memory.proofs.SharedPoolSeats.{gives_transit, takes_in}
 use Rattle.bb_memory.proofs.shared_pool.flags.Flags.meet_in_transit.Goals as goal

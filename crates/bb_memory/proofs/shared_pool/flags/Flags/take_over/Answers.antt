@@ -1,8 +1,8 @@
 use Rattle.std.proofs.Common.{[], sym, ap, ◌∙◌, arith}
 use Rattle.bb_memory_base.specs.PoolMachine.{PoolScene}
-use Rattle.bb_memory.specs.Seats.{alone, both_in_transit, carrying, number_of, view_log}
+use Rattle.bb_memory.specs.Seats.{both_in_transit, number_of, view_log}
 use Rattle.bb_memory.specs.SharedPool.{SharedPool}
-use Rattle.bb_memory.specs.SharedPoolRule.{PoolSetting}
+use Rattle.bb_memory.specs.SharedPoolRule.{PoolSetting, alone, carrying}
 use Rattle.bb_memory.proofs.SharedPoolHandOvers.{takes_over_as}
 use Rattle.bb_memory.proofs.SharedPoolSeats.{takes_in}
 use Rattle.bb_memory.proofs.shared_pool.flags.Flags.take_over.Goals as goal

@@ -1,9 +1,9 @@
 use Rattle.std.proofs.Common.{ℕ, [], sym, ap, ◌∙◌, arith}
 use Rattle.atomic_table.specs.Table.{Me}
 use Rattle.bb_memory_base.specs.PoolMachine.{PoolScene}
-use Rattle.bb_memory.specs.Seats.{both_in_transit, carrying, first_in_transit}
+use Rattle.bb_memory.specs.Seats.{both_in_transit, first_in_transit}
 use Rattle.bb_memory.specs.SharedPool.{SharedPool}
-use Rattle.bb_memory.specs.SharedPoolRule.{PoolSetting, SeatView}
+use Rattle.bb_memory.specs.SharedPoolRule.{PoolSetting, SeatView, carrying}
 use Rattle.bb_memory.proofs.SharedPoolHandOvers.{tells_apart_as}
 use Rattle.bb_memory.proofs.SharedPoolSeats.{gives_transit, takes_in}
 use Rattle.bb_memory.proofs.shared_pool.flags.Flags.tell_apart.Goals as goal

@@ -1,0 +1,9 @@
+use Rattle.bb_memory.proofs.SharedPoolSince.{found_held, refused_held}
+use Rattle.bb_memory.proofs.shared_pool.history.shared_pool_history_law.Goals as goal
+
+pub returns-clause-found : goal.returns-clause-found
+returns-clause-found c scene before after others party added bucket between nothing one =
+    found_held scene before after others party added between nothing bucket one
+
+pub returns-clause-refused : goal.returns-clause-refused
+returns-clause-refused c = refused_held

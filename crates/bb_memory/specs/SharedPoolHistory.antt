@@ -1,0 +1,75 @@
+-- Histories of a shared pool: what is remembered from one meeting of its parties to the next.
+use Rattle.std.specs.Prelude.{◌≡◌, ℕ, ◌+◌, ◌<◌, List, [], ◌∷◌, ◌++◌, All, length}
+use Rattle.bb_memory_base.specs.PoolMachine.{PoolScene}
+use Rattle.bb_memory_base.specs.PoolLogs.{IsBeginning}
+use Rattle.bb_memory_base.specs.PoolHistory.{PoolLog}
+use Rattle.bb_memory_base.specs.declared.steps.pool.PoolStep.{PoolStep}
+use Rattle.bb_memory_base.specs.declared.steps.pool.PoolOutcome.{PoolOutcome}
+use Rattle.bb_memory_base.specs.declared.steps.pool.PoolOutcome.TheVariants.{Takes, Loses, RefusedAtLoss, Gives, Misses}
+use Rattle.bb_memory.specs.SharedPool.{HaveMet, IsHeldByOne, PoolParty, SharedPool, refused_pass, with_entries}
+
+-- a history: the pool that it is of, and the steps that its last meeting found, or none
+pub record PoolHistory : Type 0 where
+  pub allocator : SharedPool
+  pub steps : List PoolStep
+
+-- the history of a pool in which no parties have met
+abbrev pub empty_history : SharedPool → PoolHistory
+empty_history allocator = record { allocator = allocator; steps = [] }
+
+-- a history of this pool may begin at this party's seat
+pub record MayBegin (pool : SharedPool) (party : PoolParty) : Type 0 where
+  pub its_party : party.allocator ≡ pool
+
+-- a history of this pool may go on with a meeting of these parties
+pub record MayGoOn (pool : SharedPool) (history : PoolHistory) (parties : List PoolParty) : Type 0 where
+  pub its_history : history.allocator ≡ pool
+  pub its_parties : All (λ party. party.allocator ≡ pool) parties
+
+-- these parties have met, and these are the steps that explain it
+pub record HaveMetBy (scene : PoolScene) (steps : List PoolStep) (parties : List PoolParty) : Type 0 where
+  pub met : HaveMet scene parties
+  pub found : met.1.agree.steps ≡ steps
+
+-- A history has gone on with a meeting: what it remembered comes first, and what it remembers now explains the meeting. The
+-- parties stay as they are.
+pub record HasGoneOn (pool : SharedPool) (old new : PoolHistory) (parties after : List PoolParty) : Type 0 where
+  pub its_history : new.allocator ≡ pool
+  pub its_parties : All (λ party. party.allocator ≡ pool) after
+  pub kept : after ≡ parties
+  pub goes_on : IsBeginning old.steps new.steps
+  pub met : HaveMetBy pool.scene new.steps parties
+
+-- BETWEEN TWO MEETINGS
+
+-- All parties of a pool met, and met again; between the two the last of them alone has made steps, which are these.
+pub record OneAloneStepped (scene : PoolScene) (before after : List PoolStep) (others : List PoolParty) (party : PoolParty)
+    (added : PoolLog) : Type 0 where
+  pub all : length others + 1 ≡ scene.parties
+  pub met : HaveMetBy scene before (others ++ party ∷ [])
+  pub goes_on : IsBeginning before after
+  pub again : HaveMetBy scene after (others ++ with_entries party added ∷ [])
+
+-- the last of these parties was refused a pass, and is then the last of those
+pub record LastWasRefused (scene : PoolScene) (earlier later : List PoolParty) : Type 0 where
+  pub others : List PoolParty
+  pub party : PoolParty
+  pub was : earlier ≡ others ++ party ∷ []
+  pub is : later ≡ others ++ with_entries party (refused_pass scene.geometry.buckets party.number) ∷ []
+
+-- each bucket of the pool is held by one of these parties
+pub record AreAllHeldByOne (scene : PoolScene) (parties : List PoolParty) : Type 0 where
+  pub held : (bucket : ℕ) → bucket < scene.geometry.buckets → IsHeldByOne parties bucket
+
+-- a step took no bucket, and gave none back
+abbrev pub MovesNothing : PoolOutcome → Type 0
+MovesNothing (Takes bucket) = ⊥
+MovesNothing (Gives bucket) = ⊥
+MovesNothing _ = Unit {0}
+
+-- a step tried this bucket, and found it taken
+abbrev pub FoundTaken : ℕ → PoolOutcome → Type 0
+FoundTaken bucket (Loses other) = other ≡ bucket
+FoundTaken bucket (RefusedAtLoss other) = other ≡ bucket
+FoundTaken bucket (Misses other) = other ≡ bucket
+FoundTaken bucket _ = ⊥

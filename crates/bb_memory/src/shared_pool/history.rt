@@ -1,0 +1,116 @@
+//! What meetings of a shared pool's parties found, remembered from one to the next.
+ghost use Rattle.std.specs.Prelude.{◌≡◌, ◌<◌, ◌++◌, ◌∷◌, ℕ, All, Any, List, [], length, map};
+ghost use Rattle.bb_memory_base.specs.PoolMachine.{PoolScene};
+ghost use Rattle.bb_memory_base.specs.PoolHistory.{PoolLog};
+ghost use Rattle.bb_memory_base.specs.PoolLogs.{IsBeginning};
+ghost use Rattle.bb_memory_base.specs.declared.steps.pool.PoolStep.{PoolStep};
+ghost use Rattle.bb_memory.specs.Seats.{HasNow};
+ghost use Rattle.bb_memory.specs.SharedPool.{IsHeldByOne, PoolParty};
+ghost use Rattle.bb_memory.specs.SharedPoolHistory.{AreAllHeldByOne, FoundTaken, HasGoneOn, HaveMetBy, LastWasRefused, MayBegin};
+ghost use Rattle.bb_memory.specs.SharedPoolHistory.{MayGoOn, MovesNothing, OneAloneStepped, empty_history};
+ghost use Rattle.bb_memory.specs.SharedPoolRule.{MayMeetAgain, numbered_of};
+ghost use Rattle.bb_memory.specs.SharedPoolSteps.{HasFoundAgain};
+
+use super::buckets::SharedBucketPool;
+use super::flags::Flags;
+use super::party::PoolParty;
+use super::rule::View;
+use atomic_table::Seat;
+use std::marker::Model;
+
+/// What meetings of a shared pool's parties have found, one after the other. Contracts alone know what it remembers: one list
+/// of steps, which explains its last meeting, and of which the list of each meeting before is a beginning. So what parties do
+/// after a meeting comes after what they did before it.
+#[derive(Drop)]
+pub struct PoolHistory {
+    seat: Seat<u8, View>,
+    /// Whether its pool has a post.
+    has_post: bool,
+}
+
+impl Model for PoolHistory {
+    ghost use Rattle.bb_memory.specs.SharedPoolHistory.{PoolHistory};
+    ghost use Rattle.bb_memory.specs.SharedPoolRule.{IsHistorySeat, history_in};
+
+    ghost Value = { PoolHistory };
+
+    ghost view = { λ h. history_in h.seat.table_id h.has_post h.seat.me.0 };
+
+    ghost invariant = { λ h. IsHistorySeat h.seat.me };
+}
+
+/// What a user of a shared pool has of two meetings of all its parties in one history, where between the two one party alone
+/// made steps. It does nothing: its contract is the law.
+pub fn shared_pool_history_law()
+    // Where these steps took no bucket and gave none back, each bucket that one of them found taken was
+    // held by one of the parties when they first met.
+    ensures found { (scene : PoolScene) (before after : List PoolStep) (others : List PoolParty)
+        (party : PoolParty) (added : PoolLog) (bucket : ℕ)
+        → OneAloneStepped scene before after others party added
+        → All (λ entry. MovesNothing entry.outcome) added
+        → Any (λ entry. FoundTaken bucket entry.outcome) added
+        → IsHeldByOne (others ++ party ∷ []) bucket }
+
+    // Where all met, the last of them was refused a pass, and all met again, each bucket was held by one of
+    // them when they first met: a refusal after a meeting can't come from what was given back before it.
+    ensures refused { (scene : PoolScene) (before after : List PoolStep)
+        (earlier later : List PoolParty)
+        → HaveMetBy scene before earlier → IsBeginning before after → HaveMetBy scene after later
+        → length earlier ≡ scene.parties → LastWasRefused scene earlier later
+        → AreAllHeldByOne scene earlier }
+{}
+
+impl Flags {
+    /// These parties meet those at the seat of a history, and go back to their own.
+    fn meet_rest_again(&self, seat: &mut Seat<u8, View>, rest: &mut Vec<PoolParty>)
+        requires { MayMeetAgain self.now seat.old.table_id seat.old.me rest.old.items }
+        ensures { HasFoundAgain self.now.scene
+            (map numbered_of rest.old.items ++ seat.old.me.0.parties)
+            seat.old.table_id seat.old.me seat.new.table_id seat.new.me
+            × HasNow rest.old.items rest.old rest.new }
+    {
+        let Some(party) = rest.pop() else {
+            self.find_again(seat);
+            return;
+        };
+        let PoolParty {
+            number,
+            seat: guest,
+            has_post,
+            near,
+        } = party;
+        self.gather(seat, guest);
+        self.meet_rest_again(seat, rest);
+        let back = self.give_first_back(seat);
+        rest.push_reserved(PoolParty {
+            number,
+            seat: back,
+            has_post,
+            near,
+        });
+    }
+}
+
+impl<const CAPPED: usize, const MOST: usize> SharedBucketPool<CAPPED, MOST> {
+    /// A history of the pool in which no parties have met. It loads a word once, which is in no log, and changes nothing. The
+    /// party has to be this pool's.
+    pub fn begin_history(&self, party: &mut PoolParty) -> PoolHistory
+        requires may { MayBegin self.now party.old }
+        ensures kept { party.new ≡ party.old }
+        ensures history { result ≡ empty_history self.now }
+    {
+        let has_post = self.has_post();
+        let seat = self.flags.begin_history(&mut party.seat);
+        PoolHistory { seat, has_post }
+    }
+
+    /// These parties meet, and the history goes on with their meeting: one interleaving has all their logs, and the one that
+    /// the history had is its beginning. It loads a word once, and two times more for each party, which is in no log, and
+    /// changes nothing of the parties. The history and the parties have to be this pool's.
+    pub fn meet_again(&self, history: &mut PoolHistory, parties: &mut Vec<PoolParty>)
+        requires { MayGoOn self.now history.old parties.old.items }
+        ensures { HasGoneOn self.now history.old history.new parties.old.items parties.new.items }
+    {
+        self.flags.meet_rest_again(&mut history.seat, parties);
+    }
+}

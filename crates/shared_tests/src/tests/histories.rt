@@ -1,0 +1,103 @@
+//! Meetings of a shared pool's parties that a history remembers.
+ghost use Rattle.std.specs.Prelude.{◌≡◌, All};
+ghost use Rattle.bb_memory.specs.SharedPoolHistory.{MayGoOn};
+
+use crate::tests::shared_pools::shared_over;
+use bb_memory::layout::Layout;
+use bb_memory::shared_pool::{PoolHistory, PoolParty, SharedPoolAllocator};
+use std::process::Abort;
+use std::test::Fail;
+
+/// The party asks for a bucket, and gives it back where it isn't to keep it. Answers where the bucket was, or 0 where it was
+/// refused.
+fn ask_one(pool: &SharedPoolAllocator, party: &mut PoolParty, asked: Layout, keeps: bool) -> usize
+    requires { party.old.allocator ≡ pool.now }
+    ensures { party.new.allocator ≡ pool.now }
+{
+    let Ok(bucket) = pool.allocate(party, asked) else {
+        return 0;
+    };
+    let place = bucket.chunk().place();
+    if !keeps {
+        pool.deallocate_bucket(party, bucket);
+    }
+    place
+}
+
+/// The last of these parties asks so.
+fn ask_last(
+    pool: &SharedPoolAllocator,
+    parties: &mut Vec<PoolParty>,
+    asked: Layout,
+    keeps: bool,
+) -> usize
+    requires { All (λ party. party.allocator ≡ pool.now) parties.old.items }
+    ensures { All (λ party. party.allocator ≡ pool.now) parties.new.items }
+{
+    let Some(mut party) = parties.pop() else {
+        return 0;
+    };
+    let place = ask_one(pool, &mut party, asked, keeps);
+    parties.push_reserved(party);
+    place
+}
+
+/// The last of these parties asks so, and then all meet in the history.
+fn ask_and_meet(
+    pool: &SharedPoolAllocator,
+    history: &mut PoolHistory,
+    parties: &mut Vec<PoolParty>,
+    asked: Layout,
+    keeps: bool,
+) -> usize
+    requires { MayGoOn pool.now history.old parties.old.items }
+    ensures history { history.new.allocator ≡ pool.now }
+    ensures parties { All (λ party. party.allocator ≡ pool.now) parties.new.items }
+{
+    let place = ask_last(pool, parties, asked, keeps);
+    pool.meet_again(history, parties);
+    place
+}
+
+/// In a pool of one bucket, of two parties: the bucket goes to the one that asks, is free once it was given back and they have
+/// met, and is refused while it is held.
+#[test]
+fn a_history_goes_on(rt: HostRuntime) {
+    let Ok(asked) = Layout::from_size_align(48, 4) else {
+        panic!(rt; "no such layout");
+    };
+    let (pool, mut parties) = match shared_over(rt.alloc(), 4096, 128, 2) {
+        Ok(made) => made,
+        Err(cause) => panic!(rt; "{cause}"),
+    };
+    let Some(mut first) = parties.pop() else {
+        panic!(rt; "there is no party");
+    };
+    let mut history = pool.begin_history(&mut first);
+    parties.push_reserved(first);
+    assert!(rt; ask_and_meet(&pool, &mut history, &mut parties, asked, false) == 4096);
+    assert!(rt; ask_and_meet(&pool, &mut history, &mut parties, asked, true) == 4096);
+    assert!(rt; ask_and_meet(&pool, &mut history, &mut parties, asked, true) == 0);
+    let Some(last) = parties.pop() else {
+        panic!(rt; "a party is gone");
+    };
+    assert!(rt; last.number() == 1);
+    assert!(rt; ask_and_meet(&pool, &mut history, &mut parties, asked, true) == 0);
+    assert!(rt; parties.len() == 1);
+}
+
+/// A meeting of none goes on with a history, too.
+#[test]
+fn none_meet_again(rt: HostRuntime) {
+    let (pool, mut parties) = match shared_over(rt.alloc(), 4096, 128, 1) {
+        Ok(made) => made,
+        Err(cause) => panic!(rt; "{cause}"),
+    };
+    let Some(mut party) = parties.pop() else {
+        panic!(rt; "there is no party");
+    };
+    let mut history = pool.begin_history(&mut party);
+    pool.meet_again(&mut history, &mut parties);
+    assert!(rt; parties.is_empty());
+    assert!(rt; party.number() == 0);
+}
