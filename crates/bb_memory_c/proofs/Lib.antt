@@ -4,5 +4,6 @@ pub mod Passing
 pub mod Owners
 pub mod Crossing
 pub mod HeldFlags
+pub mod Leaving
 pub mod Layouts
 pub mod Made

@@ -1,10 +1,11 @@
 -- A shared pool, the seats of its parties, and what a seat's calls are answered.
-use Rattle.std.specs.Prelude.{◌≡◌, ◌≤◌, ◌↔◌, ℕ, All, Bool, List, Result, Ok, Err, length}
+use Rattle.std.specs.Prelude.{◌≡◌, ◌≤◌, ◌↔◌, ℕ, zero, suc, All, Bool, false, List, [], ◌++◌, Result, Ok, Err, length}
+use Rattle.std.specs.Prelude.{fold, if◌then◌else◌}
 use Rattle.bb_memory_base.specs.Region.{Region}
 use Rattle.bb_memory_base.specs.Chunk.{Chunk}
 use Rattle.bb_memory_base.specs.PoolGeometry.{IsCut, bucket_place}
 use Rattle.bb_memory_base.specs.PoolHistory.{PoolLog}
-use Rattle.bb_memory_base.specs.PoolLogs.{IsHeldAfter}
+use Rattle.bb_memory_base.specs.PoolLogs.{IsHeldAfter, held_after}
 use Rattle.bb_memory_base.specs.declared.layout.Layout.{Layout}
 use Rattle.bb_memory_base.specs.declared.allocator.AllocationError.{AllocationError}
 use Rattle.bb_memory_c.specs.Seats.{IsOneOf, Seats}
@@ -74,3 +75,23 @@ abbrev pub GivesBack : PoolParty → ℕ → PoolParty → Type 0
 GivesBack party place after =
     (number : ℕ) × HoldsAt party place number
     × (after ≡ with_entries party (return_entry party.number number))
+
+-- LEAVING
+
+-- whether the party holds the bucket
+abbrev pub holds_bucket : PoolParty → ℕ → Bool
+holds_bucket party bucket = fold (λ held entry. held_after bucket held entry.outcome) false party.log
+
+-- the party's return of the bucket, if it holds it
+abbrev pub return_of : PoolParty → ℕ → PoolLog
+return_of party bucket = if holds_bucket party bucket then return_entry party.number bucket else []
+
+-- those of so many buckets, in order of their numbers
+abbrev pub returns_of : PoolParty → ℕ → PoolLog
+returns_of party zero = []
+returns_of party (suc bucket) = returns_of party bucket ++ return_of party bucket
+
+-- the party gave back each bucket that it held, each by one step, and holds nothing then
+pub record GivesAllBack (party after : PoolParty) : Type 0 where
+  pub returned : after ≡ with_entries party (returns_of party party.allocator.scene.geometry.buckets)
+  pub idle : ¬ HoldsSome after

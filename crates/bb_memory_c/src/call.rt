@@ -294,7 +294,7 @@ where
     H::Made: Shares<S::Made>,
     requires { IfBoth (H.made handle.old) (S.made seat.old) H.Made.is_at }
     ensures { GetsSeatBack (H.made handle.old) (H.made handle.new) (S.made seat.old)
-        (S.made seat.new) result H.Made.is_busy H.Made.joined }
+        (S.made seat.new) result H.Made.leaves H.Made.joined }
 {
     let Some(mut shared) = handle.take(alloc) else {
         return code::NOT_MADE;
@@ -303,11 +303,6 @@ where
         handle.put(shared);
         return code::NOT_MADE;
     };
-    if shared.is_in_use(&leaving) {
-        handle.put(shared);
-        seat.put(leaving);
-        return code::SEAT_HOLDS;
-    }
     shared.take_back(Box::into_inner(leaving));
     handle.put(shared);
     code::DONE

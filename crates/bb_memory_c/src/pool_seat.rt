@@ -1,9 +1,12 @@
 //! The seats at a shared pool: a party each, and which buckets it holds.
-ghost use Rattle.std.specs.Prelude.{◌≡◌, ◌↔◌, IfSome, IfNone, IsTrue};
+ghost use Rattle.std.specs.Prelude.{◌≡◌, ◌<◌, IfSome, IfNone};
 ghost use Rattle.bb_memory_base.specs.Region.{region_at};
+ghost use Rattle.bb_memory_base.specs.PoolLogs.{IsHeldAfter};
 ghost use Rattle.bb_memory_base.specs.PoolObject.{MayGrow, MayShrink};
+ghost use Rattle.bb_memory.specs.SharedPool.{return_entry, with_entries};
 ghost use Rattle.bb_memory_c.specs.Layouts.{MayBeShared};
-ghost use Rattle.bb_memory_c.specs.SharedPools.{AreFreshOver, GivesBack, GivesChunk, HoldsAt, HoldsPlace, HoldsSome, IsAt};
+ghost use Rattle.bb_memory_c.specs.SharedPools.{AreFreshOver, GivesAllBack, GivesBack, GivesChunk, HoldsAt, HoldsPlace, IsAt};
+ghost use Rattle.bb_memory_c.specs.SharedPools.{return_of};
 ghost use Rattle.bb_memory_c.specs.Seats.{joined, left_at};
 
 use crate::code;
@@ -50,11 +53,33 @@ impl PoolSeat {
         }
     }
 
-    /// Whether the party holds a bucket.
-    fn holds_some(&self) -> bool
-        ensures { IsTrue result ↔ HoldsSome self.now }
+    /// Gives back the bucket of this number, which the party holds.
+    fn give_back_bucket(&mut self, number: u32)
+        requires { IsHeldAfter self.old.log number }
+        ensures { self.new ≡ with_entries self.old (return_entry self.old.number number) }
     {
-        self.held.contains(&true)
+        let bucket = by_number::bucket(&*self.pool, &self.party, number, 0);
+        self.pool.deallocate_bucket(&mut self.party, bucket);
+        self.held[number as usize] = false;
+    }
+
+    /// Gives back the bucket of this number, if the party holds it.
+    fn give_back_if_held(&mut self, number: u32)
+        requires { number < self.old.allocator.scene.geometry.buckets }
+        ensures { self.new ≡ with_entries self.old (return_of self.old number) }
+    {
+        if self.held[number as usize] {
+            self.give_back_bucket(number);
+        }
+    }
+
+    /// Gives back each bucket that the party holds.
+    fn give_all_back(&mut self)
+        ensures { GivesAllBack self.old self.new }
+    {
+        for number in 0..self.pool.number_of_buckets() {
+            self.give_back_if_held(number);
+        }
     }
 
     /// The pool at which this seat is.
@@ -93,9 +118,7 @@ impl Keeps for PoolSeat {
 
     fn give_back(&mut self, place: usize) {
         let number = self.held_at(place).unwrap();
-        let bucket = by_number::bucket(&*self.pool, &self.party, number, 0);
-        self.pool.deallocate_bucket(&mut self.party, bucket);
-        self.held[number as usize] = false;
+        self.give_back_bucket(number);
     }
 
     fn reserved_at(&self, _place: usize) -> usize {
@@ -176,7 +199,7 @@ impl Shares<PoolSeat> for PoolSeats {
 
     ghost is_at = { IsAt };
 
-    ghost is_busy = { HoldsSome };
+    ghost leaves = { GivesAllBack };
 
     fn deal(&mut self, alloc: Global) -> Result<Box<PoolSeat>, u32> {
         if self.parties.is_empty() {
@@ -205,11 +228,8 @@ impl Shares<PoolSeat> for PoolSeats {
         }
     }
 
-    fn is_in_use(&self, seat: &PoolSeat) -> bool {
-        seat.holds_some()
-    }
-
-    fn take_back(&mut self, seat: PoolSeat) {
+    fn take_back(&mut self, mut seat: PoolSeat) {
+        seat.give_all_back();
         let PoolSeat {
             pool: _pool,
             party,

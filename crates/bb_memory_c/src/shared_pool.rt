@@ -7,7 +7,7 @@ ghost use Rattle.bb_memory_c.specs.Calls.{AnswersShrink, GetsSeatBack, GivesSeat
 ghost use Rattle.bb_memory_c.specs.Calls.{TellsWhether, resize};
 ghost use Rattle.bb_memory_c.specs.Layouts.{HasRoom, MayBeShared};
 ghost use Rattle.bb_memory_c.specs.Seats.{joined, left_at};
-ghost use Rattle.bb_memory_c.specs.SharedPools.{GivesBack, GivesChunk, HoldsPlace, HoldsSome, IsAt};
+ghost use Rattle.bb_memory_c.specs.SharedPools.{GivesAllBack, GivesBack, GivesChunk, HoldsPlace, IsAt};
 ghost use Rattle.bb_memory_c.specs.SharedPoolHandles.{MakesSharedPool};
 
 use crate::answer::{Answer, Figure};
@@ -85,8 +85,8 @@ pub extern "C" fn bb_shared_pool_seat(
     seat_at(handle, alloc, seat)
 }
 
-/// Takes back a seat of this pool, whose handle is empty then: its party is the last one without a seat. The answer is 0, or
-/// `BB_NOT_MADE` where one of both handles is empty, or `BB_SEAT_HOLDS` where the seat holds a bucket.
+/// Takes back a seat of this pool, whose handle is empty then: each bucket that the seat holds is given back, and its party is the
+/// last one without a seat. The answer is 0, or `BB_NOT_MADE` where one of both handles is empty.
 ///
 /// C guarantees of both handles what the crate's page says, that they are two, and that the seat is at this pool.
 #[unsafe(no_mangle)]
@@ -97,7 +97,7 @@ pub extern "C" fn bb_shared_pool_leave(
 ) -> u32
     requires { IfBoth handle.old.value seat.old.value IsAt }
     ensures { GetsSeatBack handle.old.value handle.new.value seat.old.value seat.new.value result
-        HoldsSome joined }
+        GivesAllBack joined }
 {
     leave(handle, alloc, seat)
 }
