@@ -82,7 +82,7 @@ enum {
     BB_MALLOC_REFUSED = 14,      // of what takes memory alone: makers, the calls that give a seat, bb_shared_bump_begin_anew
     BB_MORE_THAN_RESERVED = 15,  // of a grow alone: the new size is greater than what is reserved for the chunk
     BB_NO_BUCKET = 16,           // of a pool's maker alone: the region has no room for one bucket
-    BB_SEAT_HOLDS = 17,          // of bb_shared_pool_leave alone: the seat holds a bucket
+    // 17 was BB_SEAT_HOLDS up to 0.4.0; nothing is answered it
     BB_SEATS_OUT = 18,           // of bb_shared_bump_begin_anew alone: not each party's seat has come back
     BB_LAST_CODE = BB_SEATS_OUT
 };
@@ -107,14 +107,13 @@ static inline const char *bb_text(uint32_t code) {
     case BB_MALLOC_REFUSED: return "malloc refused";
     case BB_MORE_THAN_RESERVED: return "the new size is greater than what is reserved";
     case BB_NO_BUCKET: return "the region has no room for one bucket";
-    case BB_SEAT_HOLDS: return "the seat holds a bucket";
     case BB_SEATS_OUT: return "not each party's seat has come back";
     default: return "not a code of bb_memory";
     }
 }
 
-// Compilers warn where the answer isn't looked at of a maker, a request, a resize, a call that gives a seat,
-// `bb_shared_bump_begin_anew` or `bb_shared_pool_leave`.
+// Compilers warn where the answer isn't looked at of a maker, a request, a resize, a call that gives a seat, or
+// `bb_shared_bump_begin_anew`.
 #ifdef __GNUC__
 #define BB_MUST_USE __attribute__((warn_unused_result))
 #else
@@ -147,7 +146,8 @@ typedef struct bb_figure { uint32_t code; size_t number; } bb_figure;
 // Each kind has a function that frees what is behind its handle, which is empty then: `bb_pool_free(&pool)`. It answers
 // BB_NOT_MADE where the handle was empty already. The bytes of chunks that are out stay the host's. A shared bump or pool
 // stays as long as one of its handles does, a seat's or its own, in whichever order they are freed. The buckets of a freed
-// seat stay held for good, and its party gets no other seat; that of a seat that came back does.
+// seat stay held for good, and its party gets no other seat. A seat that comes back gives back its buckets, and its party gets
+// another one.
 
 // Only makers, the calls that give a seat and `bb_shared_bump_begin_anew` take memory, outside the region. A seat's is given
 // back when the seat comes back or is freed, and the rest when the last handle is freed. They ask `malloc` for at most so many
@@ -317,9 +317,9 @@ BB_MUST_USE uint32_t bb_shared_pool_make(bb_shared_pool *, size_t bucket_size, s
 uint32_t bb_shared_pool_free(bb_shared_pool *);
 // As of the shared bump.
 BB_MUST_USE uint32_t bb_shared_pool_seat(bb_shared_pool *, bb_pool_seat *);
-// As of the shared bump, of a seat that holds nothing. Behind BB_NOT_MADE comes BB_SEAT_HOLDS where it holds a bucket: it gives
-// back each of them first. Refused, the seat is as it was.
-BB_MUST_USE uint32_t bb_shared_pool_leave(bb_shared_pool *, bb_pool_seat *);
+// As of the shared bump; and each bucket that the seat holds is given back, so that it goes to any seat's next request. So the
+// host uses no chunk that the seat holds any more, in no thread.
+uint32_t bb_shared_pool_leave(bb_shared_pool *, bb_pool_seat *);
 uint32_t bb_pool_seat_free(bb_pool_seat *);
 // A chunk of `size` bytes in a bucket that isn't held, found by one round over the buckets. It begins where the seat has been
 // last, and at first in a part of the pool that is its party's own, so what other seats hold elsewhere costs it nothing.
@@ -342,6 +342,8 @@ bb_figure bb_pool_seat_bucket_size(bb_pool_seat *);
 bb_figure bb_pool_seat_max_alignment(bb_pool_seat *);
 bb_figure bb_pool_seat_size(bb_pool_seat *);
 bb_figure bb_pool_seat_start_address(bb_pool_seat *);
+// How many buckets this seat holds: as many as `bb_shared_pool_leave` gives back.
+bb_figure bb_pool_seat_held_buckets(bb_pool_seat *);
 // The party's number, from 0.
 bb_figure bb_pool_seat_party(bb_pool_seat *);
 

@@ -55,8 +55,9 @@ static void run_version(void) {
 // Each code has a text of its own, and no other number has one.
 static void run_texts(void) {
     const char *none = bb_text(BB_LAST_CODE + 1);
-    EXPECT(strcmp(none, bb_text(UINT32_MAX)) == 0);
+    EXPECT(strcmp(none, bb_text(UINT32_MAX)) == 0 && strcmp(none, bb_text(17)) == 0);
     for (uint32_t code = BB_DONE; code <= BB_LAST_CODE; code++) {
+        if (code == 17) continue;  // A code of earlier versions.
         EXPECT(strcmp(bb_text(code), none) != 0);
         for (uint32_t before = BB_DONE; before < code; before++)
             EXPECT(strcmp(bb_text(code), bb_text(before)) != 0);
@@ -406,25 +407,39 @@ static void run_begin_anew(void) {
     EXPECT(bb_shared_bump_begin_anew(&bump) == BB_SEATS_OUT && bb_shared_bump_free(&bump) == BB_DONE);
 }
 
-// A seat at a pool comes back when it holds nothing, and its party gets the next seat.
+// Seats at a pool come and go ten thousand times. Each leaves with what it holds, some buckets or none, so the next one finds
+// every bucket free but what another seat holds; its party is that of the seat that left.
 static void run_seats_come_and_go(void) {
     bb_shared_pool pool = BB_EMPTY;
-    bb_pool_seat one = BB_EMPTY, other = BB_EMPTY;
-    EXPECT(bb_shared_pool_leave(&pool, &one) == BB_NOT_MADE && bb_shared_pool_make(&pool, 64, 8, 4096, 128, 1) == BB_DONE);
-    EXPECT(bb_shared_pool_seat(&pool, &one) == BB_DONE && bb_shared_pool_seat(&pool, &other) == BB_NO_SEAT);
-    for (size_t round = 0; round < 1000; round++) {
-        bb_answer first = bb_pool_seat_allocate(&one, 64, 8), second = bb_pool_seat_allocate(&one, 48, 8);
-        EXPECT(first.code == BB_DONE && second.code == BB_DONE && bb_pool_seat_allocate(&one, 1, 1).code == BB_OUT_OF_MEMORY);
+    bb_pool_seat one = BB_EMPTY, other = BB_EMPTY, none = BB_EMPTY;
+    EXPECT(bb_shared_pool_leave(&pool, &one) == BB_NOT_MADE && bb_shared_pool_make(&pool, 64, 8, 4096, 64 * 5, 2) == BB_DONE);
+    EXPECT(bb_shared_pool_leave(&pool, &one) == BB_NOT_MADE && has_none(bb_pool_seat_held_buckets(&one), BB_NOT_MADE));
+    EXPECT(bb_shared_pool_seat(&pool, &other) == BB_DONE && bb_shared_pool_seat(&pool, &one) == BB_DONE);
+    EXPECT(bb_shared_pool_seat(&pool, &none) == BB_NO_SEAT && is(bb_pool_seat_held_buckets(&one), 0));
+    bb_answer kept = bb_pool_seat_allocate(&other, 64, 8);
+    EXPECT(kept.code == BB_DONE && is(bb_pool_seat_held_buckets(&other), 1));
+    for (size_t round = 0; round < 10000; round++) {
+        size_t place = 0;
+        for (size_t held = 0; held < round % 5; held++) {
+            bb_answer given = bb_pool_seat_allocate(&one, 48, 8);
+            EXPECT(given.code == BB_DONE && given.place != kept.place && is(bb_pool_seat_held_buckets(&one), held + 1));
+            place = given.place;
+        }
+        if (round % 5 == 4) EXPECT(refused(bb_pool_seat_allocate(&one, 1, 1), BB_OUT_OF_MEMORY));
+        if (round % 5 == 3) EXPECT(bb_pool_seat_deallocate(&one, place) == BB_DONE && is(bb_pool_seat_held_buckets(&one), 2));
         requests = 0;
-        EXPECT(bb_shared_pool_leave(&pool, &one) == BB_SEAT_HOLDS && bb_pool_seat_deallocate(&one, first.place) == BB_DONE);
-        EXPECT(bb_shared_pool_leave(&pool, &one) == BB_SEAT_HOLDS && is(bb_pool_seat_holds(&one, second.place), 1));
-        EXPECT(bb_pool_seat_deallocate(&one, second.place) == BB_DONE && bb_shared_pool_leave(&pool, &one) == BB_DONE);
-        EXPECT(requests == 0 && bb_shared_pool_leave(&pool, &one) == BB_NOT_MADE && bb_pool_seat_free(&one) == BB_NOT_MADE);
-        WITHIN(128 + 2, bb_shared_pool_seat(&pool, &one));
-        EXPECT(is(bb_pool_seat_party(&one), 0) && is(bb_pool_seat_holds(&one, first.place), 0));
+        EXPECT(bb_shared_pool_leave(&pool, &one) == BB_DONE && requests == 0);
+        EXPECT(bb_shared_pool_leave(&pool, &one) == BB_NOT_MADE && bb_pool_seat_free(&one) == BB_NOT_MADE);
+        WITHIN(128 + 5, bb_shared_pool_seat(&pool, &one));
+        EXPECT(is(bb_pool_seat_party(&one), 0) && is(bb_pool_seat_holds(&one, place), 0));
+        EXPECT(is(bb_pool_seat_held_buckets(&one), 0) && is(bb_pool_seat_holds(&other, kept.place), 1));
     }
-    EXPECT(bb_shared_pool_free(&pool) == BB_DONE && bb_shared_pool_leave(&pool, &one) == BB_NOT_MADE);
-    EXPECT(bb_pool_seat_free(&one) == BB_DONE);
+    // What was left is any seat's.
+    EXPECT(bb_pool_seat_allocate(&one, 1, 1).code == BB_DONE && bb_shared_pool_leave(&pool, &one) == BB_DONE);
+    for (size_t held = 1; held < 5; held++) EXPECT(bb_pool_seat_allocate(&other, 64, 8).code == BB_DONE);
+    EXPECT(is(bb_pool_seat_held_buckets(&other), 5) && refused(bb_pool_seat_allocate(&other, 1, 1), BB_OUT_OF_MEMORY));
+    EXPECT(bb_shared_pool_free(&pool) == BB_DONE && bb_shared_pool_leave(&pool, &other) == BB_NOT_MADE);
+    EXPECT(bb_pool_seat_free(&other) == BB_DONE);
 }
 
 int main(void) {

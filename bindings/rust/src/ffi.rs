@@ -45,7 +45,6 @@ pub const NOT_THE_OLD: u32 = 13;
 pub const MALLOC_REFUSED: u32 = 14;
 pub const MORE_THAN_RESERVED: u32 = 15;
 pub const NO_BUCKET: u32 = 16;
-pub const SEAT_HOLDS: u32 = 17;
 pub const SEATS_OUT: u32 = 18;
 
 /// Frees what is behind a handle.
@@ -129,6 +128,7 @@ unsafe extern "C" {
     pub fn bb_shared_pool_free(handle: *mut Handle) -> u32;
     pub fn bb_shared_pool_seat(handle: *mut Handle, seat: *mut Handle) -> u32;
     pub fn bb_shared_pool_leave(handle: *mut Handle, seat: *mut Handle) -> u32;
+    pub fn bb_pool_seat_held_buckets(handle: *mut Handle) -> Figure;
     pub fn bb_pool_seat_party(handle: *mut Handle) -> Figure;
 
     pub fn bb_pool_make(

@@ -54,7 +54,8 @@ unsafe impl PoolKind for Seat {
 }
 
 /// A pool that threads share: it is made for some number of parties, each of which can have a seat. No call of a seat waits for
-/// another's. A seat that came back ([`leave`](SharedPoolAllocator::leave)) can be given anew.
+/// another's. A seat that came back ([`leave`](SharedPoolAllocator::leave), or with what it holds
+/// [`leave_with_buckets`](SharedPoolAllocator::leave_with_buckets)) can be given anew.
 ///
 /// ```
 /// use bb_memory::{BaseAllocator, SharedPoolAllocator};
@@ -135,10 +136,41 @@ impl<'region> SharedPoolAllocator<'region> {
     ///
     /// Where the seat is at another pool.
     pub fn leave(&self, seat: PoolSeat<'region>) -> Result<(), PoolSeat<'region>> {
-        self.owned.leave(seat.owned).map_err(|owned| BucketPool {
-            owned,
-            region: PhantomData,
-        })
+        self.owned.expect_own(&seat.owned);
+        if seat.held_buckets() > 0 {
+            return Err(seat);
+        }
+        self.owned.leave(seat.owned);
+        Ok(())
+    }
+
+    /// Takes a seat of this pool back with what it holds: each of its buckets is given back, and its party gets the next seat.
+    ///
+    /// ```
+    /// use bb_memory::{BaseAllocator, SharedPoolAllocator};
+    /// use core::alloc::Layout;
+    ///
+    /// let mut region = Box::new_uninit_slice(128);
+    /// let pool = SharedPoolAllocator::over(Layout::from_size_align(128, 1)?, &mut region, 1)?;
+    /// for _ in 0..1000 {
+    ///     let seat = pool.seat()?;
+    ///     let _chunk = seat.allocate(Layout::new::<u8>()).unwrap();
+    ///     assert_eq!(seat.held_buckets(), 1);
+    ///     // The chunk isn't used any more.
+    ///     unsafe { pool.leave_with_buckets(seat) };
+    /// }
+    /// # Ok::<(), Box<dyn std::error::Error>>(())
+    /// ```
+    ///
+    /// # Safety
+    ///
+    /// No chunk that the seat holds is used any more.
+    ///
+    /// # Panics
+    ///
+    /// Where the seat is at another pool.
+    pub unsafe fn leave_with_buckets(&self, seat: PoolSeat<'region>) {
+        self.owned.leave(seat.owned);
     }
 }
 
@@ -158,6 +190,12 @@ impl<'region> SharedPoolAllocator<'region> {
 pub type PoolSeat<'region> = BucketPool<'region, Seat>;
 
 impl PoolSeat<'_> {
+    /// How many buckets this seat holds.
+    pub fn held_buckets(&self) -> usize {
+        // SAFETY: the function is of this kind.
+        unsafe { self.owned.figure(ffi::bb_pool_seat_held_buckets) }
+    }
+
     /// The party's number, from 0.
     pub fn party(&self) -> u32 {
         // SAFETY: the function is of this kind. A number of a party is a `u32`.

@@ -1,15 +1,61 @@
--- A party that leaves its seat: what it holds is given back, bucket after bucket, and then it holds nothing.
+-- All that a party holds: how many buckets that are; and when it leaves its seat, each of them is given back, one after another,
+-- and then it holds nothing.
 use Rattle.std.proofs.Common.{◌≡◌, ◌≢◌, ℕ, zero, suc, ◌+◌, ◌<◌, ◌≤◌, Bool, true, false, List, [], ◌++◌, length, refl, sym, ap}
 use Rattle.std.proofs.Common.{◌∙◌, subst, inl, inr, arith, append-nil, append_assoc}
-use Rattle.std.specs.Prelude.{◌==◌, Some, get_or, if◌then◌else◌, slice_get}
+use Rattle.std.specs.Prelude.{◌==◌, Some, count_by, get_or, take, if◌then◌else◌, slice_get}
 use Rattle.std.proofs.lemmas.Bool.{cases_Bool, cases_eq, cases_lt, false≢true}
+use Rattle.std.proofs.lemmas.List.{take_all}
+use Rattle.std.proofs.lemmas.List.Sums.{count_by_more_no, count_by_more_yes}
 use Rattle.std.proofs.lemmas.Option.{same_Some, slice_get-get_or, slice_get_within}
 use Rattle.bb_memory_base.specs.PoolHistory.{PoolLog}
 use Rattle.bb_memory_base.proofs.PoolHolders.{held_through}
 use Rattle.bb_memory_base.proofs.PoolSteps.{test_same, test_apart}
 use Rattle.bb_memory.specs.SharedPool.{PoolParty, SharedPool, return_entry, with_entries}
 use Rattle.bb_memory.proofs.SharedPoolTries.{held-append}
-use Rattle.bb_memory_c.specs.SharedPools.{GivesAllBack, HoldsSome, IsSeatAt, holds_bucket, return_of, returns_of}
+use Rattle.bb_memory_c.specs.SharedPools.{GivesAllBack, HoldsSome, IsSeatAt, held_among, held_by, holds_bucket, return_of, returns_of}
+
+-- HOW MANY
+
+-- a flag is set exactly where its bucket is held
+flag-is : (pool : SharedPool) (party : PoolParty) (flags : List Bool) (number : ℕ) → IsSeatAt pool party flags →
+    number < length flags → get_or flags number false ≡ holds_bucket party number
+flag-is pool party flags number is below =
+    let there = slice_get-get_or flags number false below in
+    elim (cases_Bool (holds_bucket party number)) [
+      | inl held ↦ same_Some _ _ (sym there ∙ (is.exact number).1 held) ∙ sym held
+      | inr free ↦ elim (cases_Bool (get_or flags number false)) [
+        | inl set ↦ absurd (false≢true (sym free ∙ (is.exact number).0 (there ∙ ap Some set)))
+        | inr unset ↦ unset ∙ sym free
+      ]
+    ]
+
+held-among : (pool : SharedPool) (party : PoolParty) (flags : List Bool) (number : ℕ) → IsSeatAt pool party flags →
+    number ≤ length flags → count_by (λ flag. flag) (take number flags) ≡ held_among party number
+held-among pool party flags zero is within = refl
+held-among pool party flags (suc number) is within =
+    let next : suc number ≡ number + 1 = omega arith in
+    let below : number < length flags = omega arith in
+    let before = held-among pool party flags number is (omega arith) in
+    let flag = flag-is pool party flags number is below in
+    ap (λ (n : ℕ). count_by (λ (flag : Bool). flag) (take n flags)) next
+    ∙ elim (cases_Bool (holds_bucket party number)) [
+      | inl held ↦ count_by_more_yes (λ flag. flag) flags number false below (flag ∙ held)
+          ∙ ap (λ (n : ℕ). n + 1) before
+          ∙ ap (λ (b : Bool). held_among party number + (if b then 1 else 0)) (sym held)
+      | inr free ↦ count_by_more_no (λ flag. flag) flags number false below (flag ∙ free) ∙ before
+          ∙ (let none : held_among party number ≡ held_among party number + 0 = omega arith in none)
+          ∙ ap (λ (b : Bool). held_among party number + (if b then 1 else 0)) (sym free)
+    ]
+
+-- as many buckets are held as flags are set
+pub held-flags : (pool : SharedPool) (party : PoolParty) (flags : List Bool) → IsSeatAt pool party flags →
+    count_by (λ flag. flag) flags ≡ held_by party
+held-flags pool party flags is =
+    let as_many : length flags ≡ party.allocator.scene.geometry.buckets =
+    is.as_many ∙ ap (λ (p : SharedPool). p.scene.geometry.buckets) (sym is.theirs) in
+    ap (count_by (λ (flag : Bool). flag)) (sym (take_all (length flags) flags (omega arith)))
+    ∙ held-among pool party flags (length flags) is (omega arith)
+    ∙ ap (held_among party) as_many
 
 -- ONE RETURN
 
@@ -62,8 +108,8 @@ among-returns party (suc number) bucket below = elim (cases_eq number bucket) [
       one-more party number bucket (holds_bucket party bucket) (holds_bucket party bucket)
       (past-returns party number bucket (holds_bucket party bucket) (omega arith))
       ∙ (let is : holds_bucket party number ≡ holds_bucket party bucket = ap (holds_bucket party) same in
-        ap (λ (b : Bool). if holds_bucket party number then (if number == bucket then false else b) else b) (sym is)
-        ∙ this (holds_bucket party number) (number == bucket) (test_same number bucket same))
+      ap (λ (b : Bool). if holds_bucket party number then (if number == bucket then false else b) else b) (sym is)
+      ∙ this (holds_bucket party number) (number == bucket) (test_same number bucket same))
   | inr apart ↦
       one-more party number bucket (holds_bucket party bucket) false
       (among-returns party number bucket (omega arith))

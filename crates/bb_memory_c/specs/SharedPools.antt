@@ -1,5 +1,5 @@
 -- A shared pool, the seats of its parties, and what a seat's calls are answered.
-use Rattle.std.specs.Prelude.{◌≡◌, ◌≤◌, ◌↔◌, ℕ, zero, suc, All, Bool, false, List, [], ◌++◌, Result, Ok, Err, length}
+use Rattle.std.specs.Prelude.{◌≡◌, ◌+◌, ◌≤◌, ◌↔◌, ℕ, zero, suc, All, Bool, false, List, [], ◌++◌, Result, Ok, Err, length}
 use Rattle.std.specs.Prelude.{fold, if◌then◌else◌}
 use Rattle.bb_memory_base.specs.Region.{Region}
 use Rattle.bb_memory_base.specs.Chunk.{Chunk}
@@ -76,11 +76,20 @@ GivesBack party place after =
     (number : ℕ) × HoldsAt party place number
     × (after ≡ with_entries party (return_entry party.number number))
 
--- LEAVING
+-- ALL THAT A PARTY HOLDS
 
 -- whether the party holds the bucket
 abbrev pub holds_bucket : PoolParty → ℕ → Bool
 holds_bucket party bucket = fold (λ held entry. held_after bucket held entry.outcome) false party.log
+
+-- how many of so many buckets it holds
+abbrev pub held_among : PoolParty → ℕ → ℕ
+held_among party zero = 0
+held_among party (suc bucket) = held_among party bucket + (if holds_bucket party bucket then 1 else 0)
+
+-- how many of the pool's
+abbrev pub held_by : PoolParty → ℕ
+held_by party = held_among party party.allocator.scene.geometry.buckets
 
 -- the party's return of the bucket, if it holds it
 abbrev pub return_of : PoolParty → ℕ → PoolLog

@@ -1,12 +1,12 @@
 //! The seats at a shared pool: a party each, and which buckets it holds.
-ghost use Rattle.std.specs.Prelude.{◌≡◌, ◌<◌, IfSome, IfNone};
+ghost use Rattle.std.specs.Prelude.{◌≡◌, ◌<◌, IfSome, IfNone, count_by};
 ghost use Rattle.bb_memory_base.specs.Region.{region_at};
 ghost use Rattle.bb_memory_base.specs.PoolLogs.{IsHeldAfter};
 ghost use Rattle.bb_memory_base.specs.PoolObject.{MayGrow, MayShrink};
 ghost use Rattle.bb_memory.specs.SharedPool.{return_entry, with_entries};
 ghost use Rattle.bb_memory_c.specs.Layouts.{MayBeShared};
 ghost use Rattle.bb_memory_c.specs.SharedPools.{AreFreshOver, GivesAllBack, GivesBack, GivesChunk, HoldsAt, HoldsPlace, IsAt};
-ghost use Rattle.bb_memory_c.specs.SharedPools.{return_of};
+ghost use Rattle.bb_memory_c.specs.SharedPools.{held_by, return_of};
 ghost use Rattle.bb_memory_c.specs.Seats.{joined, left_at};
 
 use crate::code;
@@ -39,6 +39,13 @@ impl Model for PoolSeat {
     ghost invariant = { λ s. IsSeatAt (arc_value s.pool) s.party s.held.items };
 }
 
+/// How many of the flags are set.
+fn count_set(flags: &[bool]) -> usize
+    ensures { result ≡ count_by (λ flag. flag) flags.now }
+{
+    flags.iter().filter(|flag| **flag).count()
+}
+
 impl PoolSeat {
     /// The number of the bucket at this place, if the party holds it.
     fn held_at(&self, place: usize) -> Option<u32>
@@ -51,6 +58,13 @@ impl PoolSeat {
         } else {
             None
         }
+    }
+
+    /// How many buckets the party holds.
+    pub(crate) fn held_buckets(&self) -> usize
+        ensures { result ≡ held_by self.now }
+    {
+        count_set(&self.held)
     }
 
     /// Gives back the bucket of this number, which the party holds.
@@ -68,7 +82,8 @@ impl PoolSeat {
         requires { number < self.old.allocator.scene.geometry.buckets }
         ensures { self.new ≡ with_entries self.old (return_of self.old number) }
     {
-        if self.held[number as usize] {
+        let is_held = self.held[number as usize];
+        if is_held {
             self.give_back_bucket(number);
         }
     }

@@ -7,7 +7,7 @@ ghost use Rattle.bb_memory_c.specs.Calls.{AnswersShrink, GetsSeatBack, GivesSeat
 ghost use Rattle.bb_memory_c.specs.Calls.{TellsWhether, resize};
 ghost use Rattle.bb_memory_c.specs.Layouts.{HasRoom, MayBeShared};
 ghost use Rattle.bb_memory_c.specs.Seats.{joined, left_at};
-ghost use Rattle.bb_memory_c.specs.SharedPools.{GivesAllBack, GivesBack, GivesChunk, HoldsPlace, IsAt};
+ghost use Rattle.bb_memory_c.specs.SharedPools.{GivesAllBack, GivesBack, GivesChunk, HoldsPlace, IsAt, held_by};
 ghost use Rattle.bb_memory_c.specs.SharedPoolHandles.{MakesSharedPool};
 
 use crate::answer::{Answer, Figure};
@@ -160,6 +160,16 @@ pub extern "C" fn bb_pool_seat_holds(
         (λ party. HoldsPlace party place) }
 {
     holds(handle, alloc, place)
+}
+
+/// How many buckets this seat holds: as many as it gives back when it comes back.
+///
+/// C guarantees of the handle what the crate's page says.
+#[unsafe(no_mangle)]
+pub extern "C" fn bb_pool_seat_held_buckets(alloc: Global, handle: &mut PoolSeatHandle) -> Figure
+    ensures { TellsFigure handle.old.value handle.new.value result held_by }
+{
+    tell(handle, alloc, |seat| Figure::of(seat.held_buckets()))
 }
 
 /// The number of this seat's party, from 0.
