@@ -1,7 +1,7 @@
 -- All that a party holds: how many buckets that are; and when it leaves its seat, each of them is given back, one after another,
 -- and then it holds nothing.
-use Rattle.std.proofs.Common.{◌≡◌, ◌≢◌, ℕ, zero, suc, ◌+◌, ◌<◌, ◌≤◌, Bool, true, false, List, [], ◌++◌, length, refl, sym, ap}
-use Rattle.std.proofs.Common.{◌∙◌, subst, inl, inr, arith, append-nil, append_assoc}
+use Rattle.std.proofs.Common.{◌≡◌, ℕ, zero, suc, ◌+◌, ◌<◌, ◌≤◌, Bool, true, false, List, [], ◌++◌, length, refl, sym, ap}
+use Rattle.std.proofs.Common.{◌∙◌, inl, inr, arith, append-nil, append_assoc}
 use Rattle.std.specs.Prelude.{◌==◌, Some, count_by, get_or, take, if◌then◌else◌, slice_get}
 use Rattle.std.proofs.lemmas.Bool.{cases_Bool, cases_eq, cases_lt, false≢true}
 use Rattle.std.proofs.lemmas.List.{take_all}
@@ -12,7 +12,7 @@ use Rattle.bb_memory_base.proofs.PoolHolders.{held_through}
 use Rattle.bb_memory_base.proofs.PoolSteps.{test_same, test_apart}
 use Rattle.bb_memory.specs.SharedPool.{PoolParty, SharedPool, return_entry, with_entries}
 use Rattle.bb_memory.proofs.SharedPoolTries.{held-append}
-use Rattle.bb_memory_c.specs.SharedPools.{GivesAllBack, HoldsSome, IsSeatAt, held_among, held_by, holds_bucket, return_of, returns_of}
+use Rattle.bb_memory_c.specs.SharedPools.{GivesAllBack, IsSeatAt, held_among, held_by, holds_bucket, return_of, returns_of}
 
 -- HOW MANY
 
