@@ -249,6 +249,8 @@ BB_MUST_USE bb_answer bb_pool_shrink(bb_pool *, bb_address place, size_t old_siz
 // The bucket's size, which is reserved for a chunk at this place, or BB_NOT_HELD.
 bb_figure bb_pool_reserved(bb_pool *, bb_address place);
 bb_figure bb_pool_number_of_buckets(bb_pool *);
+// How many buckets are held. Each is looked at, so this takes longer the more buckets there are.
+bb_figure bb_pool_held_buckets(bb_pool *);
 bb_figure bb_pool_bucket_size(bb_pool *);
 bb_figure bb_pool_max_alignment(bb_pool *);
 // The region's size as handed in, padding in front included.
@@ -271,6 +273,7 @@ BB_MUST_USE bb_answer bb_fixed_pool_shrink(bb_fixed_pool *, bb_address place, si
                                            size_t new_align);
 bb_figure bb_fixed_pool_reserved(bb_fixed_pool *, bb_address place);
 bb_figure bb_fixed_pool_number_of_buckets(bb_fixed_pool *);
+bb_figure bb_fixed_pool_held_buckets(bb_fixed_pool *);
 bb_figure bb_fixed_pool_bucket_size(bb_fixed_pool *);
 bb_figure bb_fixed_pool_max_alignment(bb_fixed_pool *);
 bb_figure bb_fixed_pool_size(bb_fixed_pool *);
@@ -342,7 +345,7 @@ bb_figure bb_pool_seat_bucket_size(bb_pool_seat *);
 bb_figure bb_pool_seat_max_alignment(bb_pool_seat *);
 bb_figure bb_pool_seat_size(bb_pool_seat *);
 bb_figure bb_pool_seat_start_address(bb_pool_seat *);
-// How many buckets this seat holds: as many as `bb_shared_pool_leave` gives back.
+// How many buckets this seat holds: as many as `bb_shared_pool_leave` gives back. Each flag of the seat is looked at.
 bb_figure bb_pool_seat_held_buckets(bb_pool_seat *);
 // The party's number, from 0.
 bb_figure bb_pool_seat_party(bb_pool_seat *);
