@@ -317,6 +317,9 @@ bb_figure bb_bump_seat_party(bb_bump_seat *);
 // BB_CANNOT_MAKE and BB_NO_BUCKET as of `bb_pool_make`; the first also where there is no party.
 BB_MUST_USE uint32_t bb_shared_pool_make(bb_shared_pool *, size_t bucket_size, size_t bucket_align, bb_address start, size_t size,
                                          uint32_t parties);
+// The same of at most `most` buckets: of a larger region it uses the first ones alone. BB_CANNOT_MAKE also where `most` is 0.
+BB_MUST_USE uint32_t bb_shared_pool_make_at_most(bb_shared_pool *, size_t bucket_size, size_t bucket_align, bb_address start,
+                                                 size_t size, uint32_t parties, uint32_t most);
 uint32_t bb_shared_pool_free(bb_shared_pool *);
 // As of the shared bump.
 BB_MUST_USE uint32_t bb_shared_pool_seat(bb_shared_pool *, bb_pool_seat *);

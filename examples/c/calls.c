@@ -149,12 +149,13 @@ static void run_one_chunk(void) {
         EXPECT(is(POOL##_bucket_size(&pool), 128) && is(POOL##_max_alignment(&pool), 8));                                     \
         EXPECT(refused(POOL##_allocate(&pool, 129, 16), BB_SIZE_TOO_LARGE));                                                  \
         EXPECT(refused(POOL##_allocate(&pool, 48, 16), BB_ALIGNMENT_FAILURE));                                                \
-        EXPECT(refused(POOL##_allocate(&pool, 48, 0), BB_NOT_A_LAYOUT));                                                      \
+        EXPECT(refused(POOL##_allocate(&pool, 48, 0), BB_NOT_A_LAYOUT) && is(POOL##_held_buckets(&pool), 0));                 \
         size_t places[7];                                                                                                     \
         for (size_t at = 0; at < 7; at++) {                                                                                   \
             bb_answer answer = POOL##_allocate(&pool, 48, 4);                                                                 \
             EXPECT(answer.code == BB_DONE && answer.len == 48 && (answer.place - 4104) % 128 == 0);                           \
             places[at] = answer.place;                                                                                        \
+            EXPECT(is(POOL##_held_buckets(&pool), at + 1));                                                                   \
         }                                                                                                                     \
         EXPECT(refused(POOL##_allocate(&pool, 0, 1), BB_OUT_OF_MEMORY));                                                      \
         size_t place = places[3];                                                                                             \
@@ -172,11 +173,11 @@ static void run_one_chunk(void) {
         EXPECT(refused(POOL##_shrink(&pool, place, 200, 8, 100, 8), BB_NOT_THE_OLD));                                         \
         EXPECT(refused(POOL##_shrink(&pool, place, 32, 4, 16, 3), BB_NOT_A_LAYOUT));                                          \
         EXPECT(POOL##_deallocate(&pool, place + 1) == BB_NOT_HELD && POOL##_deallocate(&pool, place) == BB_DONE);             \
-        EXPECT(POOL##_deallocate(&pool, place) == BB_NOT_HELD);                                                               \
+        EXPECT(POOL##_deallocate(&pool, place) == BB_NOT_HELD && is(POOL##_held_buckets(&pool), 6));                          \
         EXPECT(given(POOL##_allocate(&pool, 48, 4), place, 48));                                                              \
         EXPECT(requests == 0);                                                                                                \
         EXPECT(POOL##_free(&pool) == BB_DONE && POOL##_free(&pool) == BB_NOT_MADE);                                           \
-        EXPECT(POOL##_deallocate(&pool, place) == BB_NOT_MADE);                                                               \
+        EXPECT(POOL##_deallocate(&pool, place) == BB_NOT_MADE && has_none(POOL##_held_buckets(&pool), BB_NOT_MADE));          \
     }
 
 RUN_POOL(bb_pool)
@@ -442,6 +443,31 @@ static void run_seats_come_and_go(void) {
     EXPECT(bb_pool_seat_free(&other) == BB_DONE);
 }
 
+// A shared pool of at most so many buckets has the first ones of its region, or as many as there is room for.
+static void run_at_most(void) {
+    bb_shared_pool pool = BB_EMPTY;
+    bb_pool_seat seat = BB_EMPTY;
+    EXPECT(bb_shared_pool_make_at_most(&pool, 64, 3, 4096, 1024, 1, 4) == BB_NOT_A_LAYOUT);
+    EXPECT(bb_shared_pool_make_at_most(&pool, 64, 8, 4096, 1024, 1, 0) == BB_CANNOT_MAKE);
+    EXPECT(bb_shared_pool_make_at_most(&pool, 64, 8, 4096, 1024, 0, 4) == BB_CANNOT_MAKE);
+    EXPECT(bb_shared_pool_make_at_most(&pool, 64, 8, 4096, 63, 1, 4) == BB_NO_BUCKET);
+    for (uint32_t most = 1; most <= 20; most++) {
+        size_t buckets = most < 16 ? most : 16;
+        EXPECT(bb_shared_pool_make_at_most(&pool, 64, 8, 4096, 1024, 1, most) == BB_DONE);
+        EXPECT(bb_shared_pool_make_at_most(&pool, 64, 8, 4096, 1024, 1, most) == BB_ALREADY_MADE);
+        EXPECT(bb_shared_pool_seat(&pool, &seat) == BB_DONE && is(bb_pool_seat_number_of_buckets(&seat), buckets));
+        EXPECT(is(bb_pool_seat_size(&seat), 1024) && is(bb_pool_seat_start_address(&seat), 4096));
+        for (size_t held = 0; held < buckets; held++) {
+            bb_answer given = bb_pool_seat_allocate(&seat, 64, 8);
+            EXPECT(given.code == BB_DONE && given.place % 64 == 0 && given.place < 4096 + 64 * buckets);
+        }
+        EXPECT(refused(bb_pool_seat_allocate(&seat, 1, 1), BB_OUT_OF_MEMORY) && is(bb_pool_seat_held_buckets(&seat), buckets));
+        EXPECT(bb_pool_seat_free(&seat) == BB_DONE && bb_shared_pool_free(&pool) == BB_DONE);
+    }
+    WITH_EACH_REFUSED(bb_shared_pool_free(&pool), bb_shared_pool_make_at_most(&pool, 64, 8, 4096, 1024, 2, 4));
+    EXPECT(bb_shared_pool_free(&pool) == BB_DONE);
+}
+
 int main(void) {
     run_version();
     run_texts();
@@ -460,6 +486,7 @@ int main(void) {
     run_makers();
     run_begin_anew();
     run_seats_come_and_go();
+    run_at_most();
     puts("calls: each is answered as it has to be");
     return 0;
 }

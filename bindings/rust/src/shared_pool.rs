@@ -48,6 +48,7 @@ unsafe impl Keeps for Seat {
 // SAFETY: as above.
 unsafe impl PoolKind for Seat {
     const NUMBER_OF_BUCKETS: ffi::Tell = ffi::bb_pool_seat_number_of_buckets;
+    const HELD_BUCKETS: ffi::Tell = ffi::bb_pool_seat_held_buckets;
     const BUCKET_SIZE: ffi::Tell = ffi::bb_pool_seat_bucket_size;
     const MAX_ALIGNMENT: ffi::Tell = ffi::bb_pool_seat_max_alignment;
     const SIZE: ffi::Tell = ffi::bb_pool_seat_size;
@@ -113,6 +114,52 @@ impl<'region> SharedPoolAllocator<'region> {
         let made = unsafe {
             Owned::made(ptr, |it, start| {
                 ffi::bb_shared_pool_make(it, bucket_size, align, start, size, parties)
+            })
+        };
+        Ok(SharedPoolAllocator {
+            owned: made.map_err(MakeError::of)?,
+            region: PhantomData,
+        })
+    }
+
+    /// A pool over this region as [`over`](Self::over) makes it, of at most `most` buckets, at least one: of a larger region it
+    /// uses the first ones alone.
+    pub fn over_at_most(
+        bucket_layout: Layout,
+        region: &'region mut [MaybeUninit<u8>],
+        parties: u32,
+        most: u32,
+    ) -> Result<Self, MakeError> {
+        let region = NonNull::from(region);
+        // SAFETY: the region is lent for as long as the pool or a seat lives.
+        unsafe { Self::new_at_most(bucket_layout, region.cast(), region.len(), parties, most) }
+    }
+
+    /// A pool over the `size` bytes at `ptr`, of at most `most` buckets, at least one.
+    ///
+    /// # Safety
+    ///
+    /// As of [`BumpAllocator::new`](crate::BumpAllocator::new).
+    pub unsafe fn new_at_most(
+        bucket_layout: Layout,
+        ptr: NonNull<u8>,
+        size: usize,
+        parties: u32,
+        most: u32,
+    ) -> Result<Self, MakeError> {
+        let (bucket_size, align) = (bucket_layout.size(), bucket_layout.align());
+        // SAFETY: the maker is of this kind.
+        let made = unsafe {
+            Owned::made(ptr, |it, start| {
+                ffi::bb_shared_pool_make_at_most(
+                    it,
+                    bucket_size,
+                    align,
+                    start,
+                    size,
+                    parties,
+                    most,
+                )
             })
         };
         Ok(SharedPoolAllocator {
@@ -190,12 +237,6 @@ impl<'region> SharedPoolAllocator<'region> {
 pub type PoolSeat<'region> = BucketPool<'region, Seat>;
 
 impl PoolSeat<'_> {
-    /// How many buckets this seat holds.
-    pub fn held_buckets(&self) -> usize {
-        // SAFETY: the function is of this kind.
-        unsafe { self.owned.figure(ffi::bb_pool_seat_held_buckets) }
-    }
-
     /// The party's number, from 0.
     pub fn party(&self) -> u32 {
         // SAFETY: the function is of this kind. A number of a party is a `u32`.

@@ -185,6 +185,17 @@ fn a_seat_does_not_go_back_to_another_pool() {
 }
 
 #[test]
+fn a_shared_pool_has_at_most_so_many_buckets() {
+    let mut region = Box::new_uninit_slice(64 * 8);
+    for (most, buckets) in [(1, 1), (4, 4), (8, 8), (9, 8)] {
+        let pool = SharedPoolAllocator::over_at_most(bucket(), &mut region, 1, most).unwrap();
+        assert_eq!(pool.seat().unwrap().number_of_buckets(), buckets);
+    }
+    let made = SharedPoolAllocator::over_at_most(bucket(), &mut region, 1, 0);
+    assert_eq!(made.err(), Some(MakeError::CannotMake));
+}
+
+#[test]
 fn nothing_is_made_for_no_party() {
     let mut region = Box::new_uninit_slice(64);
     let made = SharedBumpAllocator::over(&mut region, 0);

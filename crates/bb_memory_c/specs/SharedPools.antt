@@ -1,14 +1,15 @@
 -- A shared pool, the seats of its parties, and what a seat's calls are answered.
 use Rattle.std.specs.Prelude.{◌≡◌, ◌+◌, ◌≤◌, ◌↔◌, ℕ, zero, suc, All, Bool, false, List, [], ◌++◌, Result, Ok, Err, length}
-use Rattle.std.specs.Prelude.{fold, if◌then◌else◌}
+use Rattle.std.specs.Prelude.{Option, Some, None, fold, if◌then◌else◌}
 use Rattle.bb_memory_base.specs.Region.{Region}
 use Rattle.bb_memory_base.specs.Chunk.{Chunk}
-use Rattle.bb_memory_base.specs.PoolGeometry.{IsCut, bucket_place}
+use Rattle.bb_memory_base.specs.PoolGeometry.{IsCut, PoolGeometry, bucket_place}
 use Rattle.bb_memory_base.specs.PoolHistory.{PoolLog}
 use Rattle.bb_memory_base.specs.PoolLogs.{IsHeldAfter, held_after}
 use Rattle.bb_memory_base.specs.declared.layout.Layout.{Layout}
 use Rattle.bb_memory_base.specs.declared.allocator.AllocationError.{AllocationError}
 use Rattle.bb_memory_c.specs.Seats.{IsOneOf, Seats}
+use Rattle.bb_memory.specs.HeldBuckets.{IsCutAtMost}
 use Rattle.bb_memory.specs.NumberSet.{Has}
 use Rattle.bb_memory.specs.SharedPool.{AreFresh, PoolParty, SharedPool, TakenBucket, chunk_of, return_entry, with_entries}
 use Rattle.bb_memory.specs.SharedPoolRounds.{MayTakeFrom}
@@ -45,9 +46,14 @@ pub record IsSeatAt (pool : SharedPool) (party : PoolParty) (flags : List Bool) 
   pub as_many : length flags ≡ pool.scene.geometry.buckets
   pub exact : AreHeldFlags flags party.log
 
--- a pool over the region, cut into buckets of the layout, of so many parties, which all have no seat and have made no step
-pub record AreFreshOver (region : Region) (bucket : Layout) (count : ℕ) (seats : PoolSeats) : Type 0 where
-  pub cut : IsCut region bucket seats.shared.scene.geometry
+-- the buckets are those that the region has room for, or of these the first ones, at most so many
+abbrev pub IsCutInto : Option ℕ → Region → Layout → PoolGeometry → Type 0
+IsCutInto None region bucket geometry = IsCut region bucket geometry
+IsCutInto (Some most) region bucket geometry = IsCutAtMost most region bucket geometry
+
+-- a pool over the region, cut so into buckets of the layout, of so many parties, which all have no seat and have made no step
+pub record AreFreshOver (most : Option ℕ) (region : Region) (bucket : Layout) (count : ℕ) (seats : PoolSeats) : Type 0 where
+  pub cut : IsCutInto most region bucket seats.shared.scene.geometry
   pub parties : AreFresh seats.shared count seats.parties
 
 -- the party holds the bucket of this number, which is at this place

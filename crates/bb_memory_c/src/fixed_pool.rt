@@ -137,7 +137,11 @@ pub extern "C" fn bb_fixed_pool_number_of_buckets(
 pub extern "C" fn bb_fixed_pool_held_buckets(alloc: Global, handle: &mut FixedPoolHandle) -> Figure
     ensures { TellsFigure handle.old.value handle.new.value result held_count }
 {
-    tell(handle, alloc, |pool| Figure::of(pool.held_buckets() as usize))
+    tell(
+        handle,
+        alloc,
+        |pool| Figure::of(pool.held_buckets() as usize),
+    )
 }
 
 /// The size of a bucket in bytes, as it was asked for.

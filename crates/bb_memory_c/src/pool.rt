@@ -127,7 +127,11 @@ pub extern "C" fn bb_pool_number_of_buckets(alloc: Global, handle: &mut PoolHand
 pub extern "C" fn bb_pool_held_buckets(alloc: Global, handle: &mut PoolHandle) -> Figure
     ensures { TellsFigure handle.old.value handle.new.value result (λ pool. held_count pool.pool) }
 {
-    tell(handle, alloc, |pool| Figure::of(pool.held_buckets() as usize))
+    tell(
+        handle,
+        alloc,
+        |pool| Figure::of(pool.held_buckets() as usize),
+    )
 }
 
 /// The size of a bucket in bytes, as it was asked for.

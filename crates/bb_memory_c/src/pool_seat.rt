@@ -1,12 +1,12 @@
 //! The seats at a shared pool: a party each, and which buckets it holds.
-ghost use Rattle.std.specs.Prelude.{◌≡◌, ◌<◌, IfSome, IfNone, count_by};
+ghost use Rattle.std.specs.Prelude.{◌≡◌, ◌<◌, IfSome, IfNone, IfOk, count_by};
 ghost use Rattle.bb_memory_base.specs.Region.{region_at};
 ghost use Rattle.bb_memory_base.specs.PoolLogs.{IsHeldAfter};
 ghost use Rattle.bb_memory_base.specs.PoolObject.{MayGrow, MayShrink};
-ghost use Rattle.bb_memory.specs.SharedPool.{return_entry, with_entries};
+ghost use Rattle.bb_memory.specs.SharedPool.{AreFresh, return_entry, with_entries};
 ghost use Rattle.bb_memory_c.specs.Layouts.{MayBeShared};
 ghost use Rattle.bb_memory_c.specs.SharedPools.{AreFreshOver, GivesAllBack, GivesBack, GivesChunk, HoldsAt, HoldsPlace, IsAt};
-ghost use Rattle.bb_memory_c.specs.SharedPools.{held_by, return_of};
+ghost use Rattle.bb_memory_c.specs.SharedPools.{IsCutInto, held_by, return_of};
 ghost use Rattle.bb_memory_c.specs.Seats.{joined, left_at};
 
 use crate::code;
@@ -182,21 +182,41 @@ impl Model for PoolSeats {
     ghost invariant = { λ s. AreUnseated (arc_value s.pool) (vec_capacity s.parties) s.parties.items };
 }
 
+/// A shared pool and its parties.
+fn shared_pool(
+    alloc: Global,
+    bucket: Layout,
+    start: usize,
+    size: usize,
+    count: u32,
+    most: Option<u32>,
+) -> Result<(SharedPoolAllocator, Vec<PoolParty>), AllocationError>
+    requires { MayBeShared (region_at start size) count bucket }
+    ensures cut { IfOk result (λ made. IsCutInto most (region_at start size) bucket
+        made.0.scene.geometry) }
+    ensures parties { IfOk result (λ made. AreFresh made.0 count made.1.items) }
+{
+    match most {
+        None => SharedPoolAllocator::new(alloc, bucket, start, size, count),
+        Some(most) => SharedPoolAllocator::new_at_most(alloc, bucket, start, size, count, most),
+    }
+}
+
 impl PoolSeats {
-    /// A shared pool over the region of `size` bytes at `start`, cut into buckets of this layout, whose parties all have no
-    /// seat yet. It is `None` where a request for memory was refused.
+    /// A shared pool over the region of `size` bytes at `start`, cut into buckets of this layout, at most so many where a number
+    /// is given, whose parties all have no seat yet. It is `None` where a request for memory was refused.
     pub(crate) fn new(
         alloc: Global,
         bucket: Layout,
         start: usize,
         size: usize,
         count: u32,
+        most: Option<u32>,
     ) -> Option<PoolSeats>
         requires { MayBeShared (region_at start size) count bucket }
-        ensures { IfSome result (AreFreshOver (region_at start size) bucket count) }
+        ensures { IfSome result (AreFreshOver most (region_at start size) bucket count) }
     {
-        let Ok((pool, mut parties)) = SharedPoolAllocator::new(alloc, bucket, start, size, count)
-        else {
+        let Ok((pool, mut parties)) = shared_pool(alloc, bucket, start, size, count, most) else {
             return None;
         };
         parties.reserve(0).ok()?;
