@@ -86,7 +86,7 @@ enum {
     BB_MALLOC_REFUSED = 14,      // of what takes memory alone: makers, the calls that give a seat, bb_shared_bump_begin_anew
     BB_MORE_THAN_RESERVED = 15,  // of a grow alone: the new size is greater than what is reserved for the chunk
     BB_NO_BUCKET = 16,           // of a pool's maker alone: the region has no room for one bucket
-    BB_SEAT_HOLDS = 17,          // of bb_shared_pool_leave alone: the seat holds a bucket
+    // 17 was BB_SEAT_HOLDS up to 0.4.0; nothing is answered it
     BB_SEATS_OUT = 18,           // of bb_shared_bump_begin_anew alone: not each party's seat has come back
     BB_LAST_CODE = BB_SEATS_OUT
 };
@@ -111,14 +111,13 @@ static inline const char *bb_text(uint32_t code) {
     case BB_MALLOC_REFUSED: return "malloc refused";
     case BB_MORE_THAN_RESERVED: return "the new size is greater than what is reserved";
     case BB_NO_BUCKET: return "the region has no room for one bucket";
-    case BB_SEAT_HOLDS: return "the seat holds a bucket";
     case BB_SEATS_OUT: return "not each party's seat has come back";
     default: return "not a code of bb_memory";
     }
 }
 
-// Compilers warn where the answer isn't looked at of a maker, a request, a resize, a call that gives a seat,
-// `bb_shared_bump_begin_anew` or `bb_shared_pool_leave`.
+// Compilers warn where the answer isn't looked at of a maker, a request, a resize, a call that gives a seat, or
+// `bb_shared_bump_begin_anew`.
 #ifdef __GNUC__
 #define BB_MUST_USE __attribute__((warn_unused_result))
 #else
@@ -151,7 +150,8 @@ typedef struct bb_figure { uint32_t code; size_t number; } bb_figure;
 // Each kind has a function that frees what is behind its handle, which is empty then: `bb_pool_free(&pool)`. It answers
 // BB_NOT_MADE where the handle was empty already. The bytes of chunks that are out stay the host's. A shared bump or pool
 // stays as long as one of its handles does, a seat's or its own, in whichever order they are freed. The buckets of a freed
-// seat stay held for good, and its party gets no other seat; that of a seat that came back does.
+// seat stay held for good, and its party gets no other seat. A seat that comes back gives back its buckets, and its party gets
+// another one.
 
 // Only makers, the calls that give a seat and `bb_shared_bump_begin_anew` take memory, outside the region. A seat's is given
 // back when the seat comes back or is freed, and the rest when the last handle is freed. They ask `malloc` for at most so many
@@ -253,6 +253,8 @@ BB_MUST_USE bb_answer bb_pool_shrink(bb_pool *, bb_address place, size_t old_siz
 // The bucket's size, which is reserved for a chunk at this place, or BB_NOT_HELD.
 bb_figure bb_pool_reserved(bb_pool *, bb_address place);
 bb_figure bb_pool_number_of_buckets(const bb_pool *);
+// How many buckets are held. Each is looked at, so this takes longer the more buckets there are.
+bb_figure bb_pool_held_buckets(bb_pool *);
 bb_figure bb_pool_bucket_size(const bb_pool *);
 bb_figure bb_pool_max_alignment(const bb_pool *);
 // The region's size as handed in, padding in front included.
@@ -275,6 +277,7 @@ BB_MUST_USE bb_answer bb_fixed_pool_shrink(bb_fixed_pool *, bb_address place, si
                                            size_t new_align);
 bb_figure bb_fixed_pool_reserved(bb_fixed_pool *, bb_address place);
 bb_figure bb_fixed_pool_number_of_buckets(const bb_fixed_pool *);
+bb_figure bb_fixed_pool_held_buckets(bb_fixed_pool *);
 bb_figure bb_fixed_pool_bucket_size(const bb_fixed_pool *);
 bb_figure bb_fixed_pool_max_alignment(const bb_fixed_pool *);
 bb_figure bb_fixed_pool_size(const bb_fixed_pool *);
@@ -318,12 +321,15 @@ bb_figure bb_bump_seat_party(const bb_bump_seat *);
 // BB_CANNOT_MAKE and BB_NO_BUCKET as of `bb_pool_make`; the first also where there is no party.
 BB_MUST_USE uint32_t bb_shared_pool_make(bb_shared_pool *, size_t bucket_size, size_t bucket_align, bb_address start, size_t size,
                                          uint32_t parties);
+// The same of at most `most` buckets: of a larger region it uses the first ones alone. BB_CANNOT_MAKE also where `most` is 0.
+BB_MUST_USE uint32_t bb_shared_pool_make_at_most(bb_shared_pool *, size_t bucket_size, size_t bucket_align, bb_address start,
+                                                 size_t size, uint32_t parties, uint32_t most);
 uint32_t bb_shared_pool_free(bb_shared_pool *);
 // As of the shared bump.
 BB_MUST_USE uint32_t bb_shared_pool_seat(bb_shared_pool *, bb_pool_seat *);
-// As of the shared bump, of a seat that holds nothing. Behind BB_NOT_MADE comes BB_SEAT_HOLDS where it holds a bucket: it gives
-// back each of them first. Refused, the seat is as it was.
-BB_MUST_USE uint32_t bb_shared_pool_leave(bb_shared_pool *, bb_pool_seat *);
+// As of the shared bump; and each bucket that the seat holds is given back, so that it goes to any seat's next request. So the
+// host uses no chunk that the seat holds any more, in no thread.
+uint32_t bb_shared_pool_leave(bb_shared_pool *, bb_pool_seat *);
 uint32_t bb_pool_seat_free(bb_pool_seat *);
 // A chunk of `size` bytes in a bucket that isn't held, found by one round over the buckets. It begins where the seat has been
 // last, and at first in a part of the pool that is its party's own, so what other seats hold elsewhere costs it nothing.
@@ -346,6 +352,8 @@ bb_figure bb_pool_seat_bucket_size(const bb_pool_seat *);
 bb_figure bb_pool_seat_max_alignment(const bb_pool_seat *);
 bb_figure bb_pool_seat_size(const bb_pool_seat *);
 bb_figure bb_pool_seat_start_address(const bb_pool_seat *);
+// How many buckets this seat holds: as many as `bb_shared_pool_leave` gives back. Each flag of the seat is looked at.
+bb_figure bb_pool_seat_held_buckets(bb_pool_seat *);
 // The party's number, from 0.
 bb_figure bb_pool_seat_party(const bb_pool_seat *);
 

@@ -55,8 +55,9 @@ static void run_version(void) {
 // Each code has a text of its own, and no other number has one.
 static void run_texts(void) {
     const char *none = bb_text(BB_LAST_CODE + 1);
-    EXPECT(strcmp(none, bb_text(UINT32_MAX)) == 0);
+    EXPECT(strcmp(none, bb_text(UINT32_MAX)) == 0 && strcmp(none, bb_text(17)) == 0);
     for (uint32_t code = BB_DONE; code <= BB_LAST_CODE; code++) {
+        if (code == 17) continue;  // A code of earlier versions.
         EXPECT(strcmp(bb_text(code), none) != 0);
         for (uint32_t before = BB_DONE; before < code; before++)
             EXPECT(strcmp(bb_text(code), bb_text(before)) != 0);
@@ -148,12 +149,13 @@ static void run_one_chunk(void) {
         EXPECT(is(POOL##_bucket_size(&pool), 128) && is(POOL##_max_alignment(&pool), 8));                                     \
         EXPECT(refused(POOL##_allocate(&pool, 129, 16), BB_SIZE_TOO_LARGE));                                                  \
         EXPECT(refused(POOL##_allocate(&pool, 48, 16), BB_ALIGNMENT_FAILURE));                                                \
-        EXPECT(refused(POOL##_allocate(&pool, 48, 0), BB_NOT_A_LAYOUT));                                                      \
+        EXPECT(refused(POOL##_allocate(&pool, 48, 0), BB_NOT_A_LAYOUT) && is(POOL##_held_buckets(&pool), 0));                 \
         size_t places[7];                                                                                                     \
         for (size_t at = 0; at < 7; at++) {                                                                                   \
             bb_answer answer = POOL##_allocate(&pool, 48, 4);                                                                 \
             EXPECT(answer.code == BB_DONE && answer.len == 48 && (answer.place - 4104) % 128 == 0);                           \
             places[at] = answer.place;                                                                                        \
+            EXPECT(is(POOL##_held_buckets(&pool), at + 1));                                                                   \
         }                                                                                                                     \
         EXPECT(refused(POOL##_allocate(&pool, 0, 1), BB_OUT_OF_MEMORY));                                                      \
         size_t place = places[3];                                                                                             \
@@ -171,11 +173,11 @@ static void run_one_chunk(void) {
         EXPECT(refused(POOL##_shrink(&pool, place, 200, 8, 100, 8), BB_NOT_THE_OLD));                                         \
         EXPECT(refused(POOL##_shrink(&pool, place, 32, 4, 16, 3), BB_NOT_A_LAYOUT));                                          \
         EXPECT(POOL##_deallocate(&pool, place + 1) == BB_NOT_HELD && POOL##_deallocate(&pool, place) == BB_DONE);             \
-        EXPECT(POOL##_deallocate(&pool, place) == BB_NOT_HELD);                                                               \
+        EXPECT(POOL##_deallocate(&pool, place) == BB_NOT_HELD && is(POOL##_held_buckets(&pool), 6));                          \
         EXPECT(given(POOL##_allocate(&pool, 48, 4), place, 48));                                                              \
         EXPECT(requests == 0);                                                                                                \
         EXPECT(POOL##_free(&pool) == BB_DONE && POOL##_free(&pool) == BB_NOT_MADE);                                           \
-        EXPECT(POOL##_deallocate(&pool, place) == BB_NOT_MADE);                                                               \
+        EXPECT(POOL##_deallocate(&pool, place) == BB_NOT_MADE && has_none(POOL##_held_buckets(&pool), BB_NOT_MADE));          \
     }
 
 RUN_POOL(bb_pool)
@@ -406,25 +408,64 @@ static void run_begin_anew(void) {
     EXPECT(bb_shared_bump_begin_anew(&bump) == BB_SEATS_OUT && bb_shared_bump_free(&bump) == BB_DONE);
 }
 
-// A seat at a pool comes back when it holds nothing, and its party gets the next seat.
+// Seats at a pool come and go ten thousand times. Each leaves with what it holds, some buckets or none, so the next one finds
+// every bucket free but what another seat holds; its party is that of the seat that left.
 static void run_seats_come_and_go(void) {
     bb_shared_pool pool = BB_EMPTY;
-    bb_pool_seat one = BB_EMPTY, other = BB_EMPTY;
-    EXPECT(bb_shared_pool_leave(&pool, &one) == BB_NOT_MADE && bb_shared_pool_make(&pool, 64, 8, 4096, 128, 1) == BB_DONE);
-    EXPECT(bb_shared_pool_seat(&pool, &one) == BB_DONE && bb_shared_pool_seat(&pool, &other) == BB_NO_SEAT);
-    for (size_t round = 0; round < 1000; round++) {
-        bb_answer first = bb_pool_seat_allocate(&one, 64, 8), second = bb_pool_seat_allocate(&one, 48, 8);
-        EXPECT(first.code == BB_DONE && second.code == BB_DONE && bb_pool_seat_allocate(&one, 1, 1).code == BB_OUT_OF_MEMORY);
+    bb_pool_seat one = BB_EMPTY, other = BB_EMPTY, none = BB_EMPTY;
+    EXPECT(bb_shared_pool_leave(&pool, &one) == BB_NOT_MADE && bb_shared_pool_make(&pool, 64, 8, 4096, 64 * 5, 2) == BB_DONE);
+    EXPECT(bb_shared_pool_leave(&pool, &one) == BB_NOT_MADE && has_none(bb_pool_seat_held_buckets(&one), BB_NOT_MADE));
+    EXPECT(bb_shared_pool_seat(&pool, &other) == BB_DONE && bb_shared_pool_seat(&pool, &one) == BB_DONE);
+    EXPECT(bb_shared_pool_seat(&pool, &none) == BB_NO_SEAT && is(bb_pool_seat_held_buckets(&one), 0));
+    bb_answer kept = bb_pool_seat_allocate(&other, 64, 8);
+    EXPECT(kept.code == BB_DONE && is(bb_pool_seat_held_buckets(&other), 1));
+    for (size_t round = 0; round < 10000; round++) {
+        size_t place = 0;
+        for (size_t held = 0; held < round % 5; held++) {
+            bb_answer given = bb_pool_seat_allocate(&one, 48, 8);
+            EXPECT(given.code == BB_DONE && given.place != kept.place && is(bb_pool_seat_held_buckets(&one), held + 1));
+            place = given.place;
+        }
+        if (round % 5 == 4) EXPECT(refused(bb_pool_seat_allocate(&one, 1, 1), BB_OUT_OF_MEMORY));
+        if (round % 5 == 3) EXPECT(bb_pool_seat_deallocate(&one, place) == BB_DONE && is(bb_pool_seat_held_buckets(&one), 2));
         requests = 0;
-        EXPECT(bb_shared_pool_leave(&pool, &one) == BB_SEAT_HOLDS && bb_pool_seat_deallocate(&one, first.place) == BB_DONE);
-        EXPECT(bb_shared_pool_leave(&pool, &one) == BB_SEAT_HOLDS && is(bb_pool_seat_holds(&one, second.place), 1));
-        EXPECT(bb_pool_seat_deallocate(&one, second.place) == BB_DONE && bb_shared_pool_leave(&pool, &one) == BB_DONE);
-        EXPECT(requests == 0 && bb_shared_pool_leave(&pool, &one) == BB_NOT_MADE && bb_pool_seat_free(&one) == BB_NOT_MADE);
-        WITHIN(128 + 2, bb_shared_pool_seat(&pool, &one));
-        EXPECT(is(bb_pool_seat_party(&one), 0) && is(bb_pool_seat_holds(&one, first.place), 0));
+        EXPECT(bb_shared_pool_leave(&pool, &one) == BB_DONE && requests == 0);
+        EXPECT(bb_shared_pool_leave(&pool, &one) == BB_NOT_MADE && bb_pool_seat_free(&one) == BB_NOT_MADE);
+        WITHIN(128 + 5, bb_shared_pool_seat(&pool, &one));
+        EXPECT(is(bb_pool_seat_party(&one), 0) && is(bb_pool_seat_holds(&one, place), 0));
+        EXPECT(is(bb_pool_seat_held_buckets(&one), 0) && is(bb_pool_seat_holds(&other, kept.place), 1));
     }
-    EXPECT(bb_shared_pool_free(&pool) == BB_DONE && bb_shared_pool_leave(&pool, &one) == BB_NOT_MADE);
-    EXPECT(bb_pool_seat_free(&one) == BB_DONE);
+    // What was left is any seat's.
+    EXPECT(bb_pool_seat_allocate(&one, 1, 1).code == BB_DONE && bb_shared_pool_leave(&pool, &one) == BB_DONE);
+    for (size_t held = 1; held < 5; held++) EXPECT(bb_pool_seat_allocate(&other, 64, 8).code == BB_DONE);
+    EXPECT(is(bb_pool_seat_held_buckets(&other), 5) && refused(bb_pool_seat_allocate(&other, 1, 1), BB_OUT_OF_MEMORY));
+    EXPECT(bb_shared_pool_free(&pool) == BB_DONE && bb_shared_pool_leave(&pool, &other) == BB_NOT_MADE);
+    EXPECT(bb_pool_seat_free(&other) == BB_DONE);
+}
+
+// A shared pool of at most so many buckets has the first ones of its region, or as many as there is room for.
+static void run_at_most(void) {
+    bb_shared_pool pool = BB_EMPTY;
+    bb_pool_seat seat = BB_EMPTY;
+    EXPECT(bb_shared_pool_make_at_most(&pool, 64, 3, 4096, 1024, 1, 4) == BB_NOT_A_LAYOUT);
+    EXPECT(bb_shared_pool_make_at_most(&pool, 64, 8, 4096, 1024, 1, 0) == BB_CANNOT_MAKE);
+    EXPECT(bb_shared_pool_make_at_most(&pool, 64, 8, 4096, 1024, 0, 4) == BB_CANNOT_MAKE);
+    EXPECT(bb_shared_pool_make_at_most(&pool, 64, 8, 4096, 63, 1, 4) == BB_NO_BUCKET);
+    for (uint32_t most = 1; most <= 20; most++) {
+        size_t buckets = most < 16 ? most : 16;
+        EXPECT(bb_shared_pool_make_at_most(&pool, 64, 8, 4096, 1024, 1, most) == BB_DONE);
+        EXPECT(bb_shared_pool_make_at_most(&pool, 64, 8, 4096, 1024, 1, most) == BB_ALREADY_MADE);
+        EXPECT(bb_shared_pool_seat(&pool, &seat) == BB_DONE && is(bb_pool_seat_number_of_buckets(&seat), buckets));
+        EXPECT(is(bb_pool_seat_size(&seat), 1024) && is(bb_pool_seat_start_address(&seat), 4096));
+        for (size_t held = 0; held < buckets; held++) {
+            bb_answer given = bb_pool_seat_allocate(&seat, 64, 8);
+            EXPECT(given.code == BB_DONE && given.place % 64 == 0 && given.place < 4096 + 64 * buckets);
+        }
+        EXPECT(refused(bb_pool_seat_allocate(&seat, 1, 1), BB_OUT_OF_MEMORY) && is(bb_pool_seat_held_buckets(&seat), buckets));
+        EXPECT(bb_pool_seat_free(&seat) == BB_DONE && bb_shared_pool_free(&pool) == BB_DONE);
+    }
+    WITH_EACH_REFUSED(bb_shared_pool_free(&pool), bb_shared_pool_make_at_most(&pool, 64, 8, 4096, 1024, 2, 4));
+    EXPECT(bb_shared_pool_free(&pool) == BB_DONE);
 }
 
 int main(void) {
@@ -445,6 +486,7 @@ int main(void) {
     run_makers();
     run_begin_anew();
     run_seats_come_and_go();
+    run_at_most();
     puts("calls: each is answered as it has to be");
     return 0;
 }

@@ -45,7 +45,6 @@ pub const NOT_THE_OLD: u32 = 13;
 pub const MALLOC_REFUSED: u32 = 14;
 pub const MORE_THAN_RESERVED: u32 = 15;
 pub const NO_BUCKET: u32 = 16;
-pub const SEAT_HOLDS: u32 = 17;
 pub const SEATS_OUT: u32 = 18;
 
 /// Frees what is behind a handle.
@@ -126,9 +125,19 @@ unsafe extern "C" {
         size: usize,
         parties: u32,
     ) -> u32;
+    pub fn bb_shared_pool_make_at_most(
+        handle: *mut Handle,
+        bucket_size: usize,
+        bucket_align: usize,
+        start: *const c_void,
+        size: usize,
+        parties: u32,
+        most: u32,
+    ) -> u32;
     pub fn bb_shared_pool_free(handle: *mut Handle) -> u32;
     pub fn bb_shared_pool_seat(handle: *mut Handle, seat: *mut Handle) -> u32;
     pub fn bb_shared_pool_leave(handle: *mut Handle, seat: *mut Handle) -> u32;
+    pub fn bb_pool_seat_held_buckets(handle: *mut Handle) -> Figure;
     pub fn bb_pool_seat_party(handle: *mut Handle) -> Figure;
 
     pub fn bb_pool_make(
@@ -160,6 +169,7 @@ unsafe extern "C" {
     pub fn bb_pool_reserved(handle: *mut Handle, place: *const c_void) -> Figure;
     pub fn bb_pool_holds(handle: *mut Handle, place: *const c_void) -> Figure;
     pub fn bb_pool_number_of_buckets(handle: *mut Handle) -> Figure;
+    pub fn bb_pool_held_buckets(handle: *mut Handle) -> Figure;
     pub fn bb_pool_bucket_size(handle: *mut Handle) -> Figure;
     pub fn bb_pool_max_alignment(handle: *mut Handle) -> Figure;
     pub fn bb_pool_size(handle: *mut Handle) -> Figure;
@@ -193,6 +203,7 @@ unsafe extern "C" {
     pub fn bb_fixed_pool_reserved(handle: *mut Handle, place: *const c_void) -> Figure;
     pub fn bb_fixed_pool_holds(handle: *mut Handle, place: *const c_void) -> Figure;
     pub fn bb_fixed_pool_number_of_buckets(handle: *mut Handle) -> Figure;
+    pub fn bb_fixed_pool_held_buckets(handle: *mut Handle) -> Figure;
     pub fn bb_fixed_pool_bucket_size(handle: *mut Handle) -> Figure;
     pub fn bb_fixed_pool_max_alignment(handle: *mut Handle) -> Figure;
     pub fn bb_fixed_pool_size(handle: *mut Handle) -> Figure;

@@ -220,13 +220,17 @@ impl<K: Shared> Owned<K> {
         }
     }
 
-    /// Takes the seat back, or hands it back where it holds a bucket. It panics where the seat is at another one.
-    pub fn leave(&self, seat: Owned<K::Seat>) -> Result<(), Owned<K::Seat>> {
+    /// Panics where the seat is at another one.
+    pub fn expect_own(&self, seat: &Owned<K::Seat>) {
         assert_eq!(self.number, seat.number, "the seat is at another allocator");
+    }
+
+    /// Takes the seat back, with all that it holds. It panics where the seat is at another one.
+    pub fn leave(&self, seat: Owned<K::Seat>) {
+        self.expect_own(&seat);
         // SAFETY: as of `seat`; and the seat is this one's.
         match unsafe { K::LEAVE(self.handle(), seat.handle()) } {
-            ffi::DONE => Ok(()),
-            ffi::SEAT_HOLDS => Err(seat),
+            ffi::DONE => (),
             code => no_such_answer(code),
         }
     }

@@ -16,6 +16,7 @@ use core::ptr::NonNull;
 /// As of [`Gives`].
 pub unsafe trait PoolKind: Keeps {
     const NUMBER_OF_BUCKETS: ffi::Tell;
+    const HELD_BUCKETS: ffi::Tell;
     const BUCKET_SIZE: ffi::Tell;
     const MAX_ALIGNMENT: ffi::Tell;
     const SIZE: ffi::Tell;
@@ -63,6 +64,7 @@ unsafe impl Keeps for Pool {
 // SAFETY: as above.
 unsafe impl PoolKind for Pool {
     const NUMBER_OF_BUCKETS: ffi::Tell = ffi::bb_pool_number_of_buckets;
+    const HELD_BUCKETS: ffi::Tell = ffi::bb_pool_held_buckets;
     const BUCKET_SIZE: ffi::Tell = ffi::bb_pool_bucket_size;
     const MAX_ALIGNMENT: ffi::Tell = ffi::bb_pool_max_alignment;
     const SIZE: ffi::Tell = ffi::bb_pool_size;
@@ -95,6 +97,7 @@ unsafe impl Keeps for FixedPool {
 // SAFETY: as above.
 unsafe impl PoolKind for FixedPool {
     const NUMBER_OF_BUCKETS: ffi::Tell = ffi::bb_fixed_pool_number_of_buckets;
+    const HELD_BUCKETS: ffi::Tell = ffi::bb_fixed_pool_held_buckets;
     const BUCKET_SIZE: ffi::Tell = ffi::bb_fixed_pool_bucket_size;
     const MAX_ALIGNMENT: ffi::Tell = ffi::bb_fixed_pool_max_alignment;
     const SIZE: ffi::Tell = ffi::bb_fixed_pool_size;
@@ -189,6 +192,12 @@ impl<K: PoolKind> BucketPool<'_, K> {
     pub fn number_of_buckets(&self) -> u32 {
         // SAFETY: the function is of this kind, as those below are. There are less than `u32::MAX` buckets.
         unsafe { self.owned.figure(K::NUMBER_OF_BUCKETS) as u32 }
+    }
+
+    /// How many buckets are held; of a seat at a shared pool, by this seat. Each bucket is looked at.
+    pub fn held_buckets(&self) -> u32 {
+        // SAFETY: as above.
+        unsafe { self.owned.figure(K::HELD_BUCKETS) as u32 }
     }
 
     /// The size of a bucket, as it was asked for.

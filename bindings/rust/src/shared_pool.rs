@@ -48,13 +48,15 @@ unsafe impl Keeps for Seat {
 // SAFETY: as above.
 unsafe impl PoolKind for Seat {
     const NUMBER_OF_BUCKETS: ffi::Tell = ffi::bb_pool_seat_number_of_buckets;
+    const HELD_BUCKETS: ffi::Tell = ffi::bb_pool_seat_held_buckets;
     const BUCKET_SIZE: ffi::Tell = ffi::bb_pool_seat_bucket_size;
     const MAX_ALIGNMENT: ffi::Tell = ffi::bb_pool_seat_max_alignment;
     const SIZE: ffi::Tell = ffi::bb_pool_seat_size;
 }
 
 /// A pool that threads share: it is made for some number of parties, each of which can have a seat. No call of a seat waits for
-/// another's. A seat that came back ([`leave`](SharedPoolAllocator::leave)) can be given anew.
+/// another's. A seat that came back ([`leave`](SharedPoolAllocator::leave), or with what it holds
+/// [`leave_with_buckets`](SharedPoolAllocator::leave_with_buckets)) can be given anew.
 ///
 /// ```
 /// use bb_memory::{BaseAllocator, SharedPoolAllocator};
@@ -120,6 +122,52 @@ impl<'region> SharedPoolAllocator<'region> {
         })
     }
 
+    /// A pool over this region as [`over`](Self::over) makes it, of at most `most` buckets, at least one: of a larger region it
+    /// uses the first ones alone.
+    pub fn over_at_most(
+        bucket_layout: Layout,
+        region: &'region mut [MaybeUninit<u8>],
+        parties: u32,
+        most: u32,
+    ) -> Result<Self, MakeError> {
+        let region = NonNull::from(region);
+        // SAFETY: the region is lent for as long as the pool or a seat lives.
+        unsafe { Self::new_at_most(bucket_layout, region.cast(), region.len(), parties, most) }
+    }
+
+    /// A pool over the `size` bytes at `ptr`, of at most `most` buckets, at least one.
+    ///
+    /// # Safety
+    ///
+    /// As of [`BumpAllocator::new`](crate::BumpAllocator::new).
+    pub unsafe fn new_at_most(
+        bucket_layout: Layout,
+        ptr: NonNull<u8>,
+        size: usize,
+        parties: u32,
+        most: u32,
+    ) -> Result<Self, MakeError> {
+        let (bucket_size, align) = (bucket_layout.size(), bucket_layout.align());
+        // SAFETY: the maker is of this kind.
+        let made = unsafe {
+            Owned::made(ptr, |it, start| {
+                ffi::bb_shared_pool_make_at_most(
+                    it,
+                    bucket_size,
+                    align,
+                    start,
+                    size,
+                    parties,
+                    most,
+                )
+            })
+        };
+        Ok(SharedPoolAllocator {
+            owned: made.map_err(MakeError::of)?,
+            region: PhantomData,
+        })
+    }
+
     /// A seat for the last party that has none. The pool stays as long as it or one of its seats does.
     pub fn seat(&self) -> Result<PoolSeat<'region>, SeatError> {
         Ok(BucketPool {
@@ -135,10 +183,41 @@ impl<'region> SharedPoolAllocator<'region> {
     ///
     /// Where the seat is at another pool.
     pub fn leave(&self, seat: PoolSeat<'region>) -> Result<(), PoolSeat<'region>> {
-        self.owned.leave(seat.owned).map_err(|owned| BucketPool {
-            owned,
-            region: PhantomData,
-        })
+        self.owned.expect_own(&seat.owned);
+        if seat.held_buckets() > 0 {
+            return Err(seat);
+        }
+        self.owned.leave(seat.owned);
+        Ok(())
+    }
+
+    /// Takes a seat of this pool back with what it holds: each of its buckets is given back, and its party gets the next seat.
+    ///
+    /// ```
+    /// use bb_memory::{BaseAllocator, SharedPoolAllocator};
+    /// use core::alloc::Layout;
+    ///
+    /// let mut region = Box::new_uninit_slice(128);
+    /// let pool = SharedPoolAllocator::over(Layout::from_size_align(128, 1)?, &mut region, 1)?;
+    /// for _ in 0..1000 {
+    ///     let seat = pool.seat()?;
+    ///     let _chunk = seat.allocate(Layout::new::<u8>()).unwrap();
+    ///     assert_eq!(seat.held_buckets(), 1);
+    ///     // The chunk isn't used any more.
+    ///     unsafe { pool.leave_with_buckets(seat) };
+    /// }
+    /// # Ok::<(), Box<dyn std::error::Error>>(())
+    /// ```
+    ///
+    /// # Safety
+    ///
+    /// No chunk that the seat holds is used any more.
+    ///
+    /// # Panics
+    ///
+    /// Where the seat is at another pool.
+    pub unsafe fn leave_with_buckets(&self, seat: PoolSeat<'region>) {
+        self.owned.leave(seat.owned);
     }
 }
 

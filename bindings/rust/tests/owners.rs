@@ -234,8 +234,10 @@ fn a_pool_lies_in_a_chunk_of_a_bump() {
     // SAFETY: the chunk is ours, serves nothing else, and isn't given back.
     let pool = unsafe { PoolAllocator::new(layout(64, 8), chunk.cast(), chunk.len()) }.unwrap();
     assert_eq!(pool.number_of_buckets(), 8);
+    assert_eq!(pool.held_buckets(), 0);
     let given = pool.allocate(layout(64, 8)).unwrap();
     assert!(behind(given, bump.start_address()) + given.len() <= 512);
+    assert_eq!(pool.held_buckets(), 1);
 }
 
 #[test]

@@ -139,12 +139,40 @@ fn a_seat_at_a_pool_comes_back_when_it_holds_nothing() {
     let seat = pool.seat().unwrap();
     let chunk = seat.allocate(bucket()).unwrap().cast::<u8>();
     let seat = pool.leave(seat).unwrap_err();
-    assert!(seat.holds(chunk));
+    assert!(seat.holds(chunk) && seat.held_buckets() == 1);
     // SAFETY: the bucket isn't used.
     assert_eq!(unsafe { seat.try_deallocate(chunk) }, Ok(()));
+    assert_eq!(seat.held_buckets(), 0);
     assert!(pool.leave(seat).is_ok());
     assert_eq!(pool.seat().unwrap().party(), 0);
     assert_eq!(pool.seat().err(), Some(SeatError::NoSeat));
+}
+
+#[test]
+fn a_seat_comes_back_with_what_it_holds() {
+    let mut region = Box::new_uninit_slice(64 * 3);
+    let pool = SharedPoolAllocator::over(bucket(), &mut region, 4).unwrap();
+    let kept = pool.seat().unwrap();
+    let chunk = kept.allocate(bucket()).unwrap().cast::<u8>();
+    for _ in 0..1_000 {
+        let workers = [pool.seat().unwrap(), pool.seat().unwrap()];
+        let workers = thread::scope(|scope| {
+            workers
+                .map(|worker| {
+                    scope.spawn(move || {
+                        assert!(worker.allocate(bucket()).is_ok());
+                        worker
+                    })
+                })
+                .map(|thread| thread.join().unwrap())
+        });
+        for worker in workers {
+            assert_eq!(worker.held_buckets(), 1);
+            // SAFETY: the bucket isn't used.
+            unsafe { pool.leave_with_buckets(worker) };
+        }
+    }
+    assert!(kept.holds(chunk) && kept.held_buckets() == 1);
 }
 
 #[test]
@@ -154,6 +182,17 @@ fn a_seat_does_not_go_back_to_another_pool() {
     let mine = SharedPoolAllocator::over(bucket(), &mut mine, 1).unwrap();
     let other = SharedPoolAllocator::over(bucket(), &mut other, 1).unwrap();
     let _ = mine.leave(other.seat().unwrap());
+}
+
+#[test]
+fn a_shared_pool_has_at_most_so_many_buckets() {
+    let mut region = Box::new_uninit_slice(64 * 8);
+    for (most, buckets) in [(1, 1), (4, 4), (8, 8), (9, 8)] {
+        let pool = SharedPoolAllocator::over_at_most(bucket(), &mut region, 1, most).unwrap();
+        assert_eq!(pool.seat().unwrap().number_of_buckets(), buckets);
+    }
+    let made = SharedPoolAllocator::over_at_most(bucket(), &mut region, 1, 0);
+    assert_eq!(made.err(), Some(MakeError::CannotMake));
 }
 
 #[test]

@@ -1,6 +1,7 @@
 mod Contained
 mod Cuts
 mod Geometries
+mod HeldBuckets
 mod Listings
 mod LowestBits
 mod Measures

@@ -11,6 +11,7 @@ ghost use Rattle.bb_memory_base.specs.PoolCalls.{AreAsked, IsPoolRun};
 ghost use Rattle.bb_memory_base.specs.PoolHistory.{PoolLog};
 ghost use Rattle.bb_memory_base.specs.PoolLogs.{IsHeldAfter};
 ghost use Rattle.bb_memory_base.specs.declared.layout.Layout.{Layout};
+ghost use Rattle.bb_memory.specs.HeldBuckets.{IsCutAtMost, MayBeMadeFor};
 ghost use Rattle.bb_memory.specs.Pool.{AreAStrideApart, MayBeCut};
 ghost use Rattle.bb_memory.specs.SharedPool.{AreFresh, AreFreshWithPost, AreInterleaved, HasFoundAllHeld, IsHistoryRun};
 ghost use Rattle.bb_memory.specs.SharedPool.{IsParty, PoolParty, TakenBucket, chunk_of};
@@ -91,6 +92,32 @@ impl SharedPoolAllocator {
         let geometry = Geometry::new(bucket_layout, start, size);
         let scene = Scene {
             geometry,
+            parties,
+            has_post: false,
+        };
+        match Self::open(alloc, scene, parties) {
+            Ok(made) => Ok(made),
+            Err(AllocError) => Err(AllocationError::OutOfMemory),
+        }
+    }
+
+    /// A pool as `new` makes it, of at most `most` buckets: of a region that has room for more it uses the first ones alone. A
+    /// constant that is known when the program is compiled can be a part of the type instead, as of
+    /// [`SharedFixedSizePoolAllocator`]. Its conditions and its refusal are those of `new`.
+    pub fn new_at_most(
+        alloc: Global,
+        bucket_layout: Layout,
+        start: usize,
+        size: usize,
+        parties: u32,
+        most: u32,
+    ) -> Result<(Self, Vec<PoolParty>), AllocationError>
+        requires may { MayBeMadeFor parties (region_at start size) bucket_layout }
+        ensures cut { IsCutOrRefused (IsCutAtMost most (region_at start size) bucket_layout) result }
+        ensures parties { IfOk result (λ made. AreFresh made.0 parties made.1.items) }
+    {
+        let scene = Scene {
+            geometry: Geometry::new(bucket_layout, start, size).at_most(most),
             parties,
             has_post: false,
         };

@@ -5,5 +5,6 @@ pub mod Looking
 pub mod Owners
 pub mod Crossing
 pub mod HeldFlags
+pub mod Leaving
 pub mod Layouts
 pub mod Made

@@ -11,7 +11,7 @@ use Rattle.bb_memory_c.specs.declared.answer.Answer.{Answer}
 use Rattle.bb_memory_c.specs.declared.answer.Figure.{Figure}
 use Rattle.bb_memory_c.specs.Answers.{TellsGrow, TellsShrink, answer_of, figure_of, no_figure, refused}
 use Rattle.bb_memory_c.specs.Codes.{already_made, cannot_make, done, malloc_refused, not_a_layout}
-use Rattle.bb_memory_c.specs.Codes.{not_held, not_made, no_bucket, no_seat, seat_holds}
+use Rattle.bb_memory_c.specs.Codes.{not_held, not_made, no_bucket, no_seat}
 use Rattle.bb_memory_c.specs.Layouts.{FailsOf, IsOf, LacksRoomOf}
 
 -- FIGURES
@@ -147,12 +147,11 @@ pub record TakesSeat {X Y : Type 0} (old new : X) (told : Result Y ℕ) (left : 
 abbrev pub IfBoth : {X Y : Type 0} → Option X → Option Y → (X → Y → Type 0) → Type 0
 IfBoth made party are = IfSome made (λ m. IfSome party (λ p. are m p))
 
--- A seat's party comes back as the last one without a seat, and the seat's handle is empty then. A busy one is refused, and where
--- one of the handles is empty, and then all stays.
-pub record GetsSeatBack {X Y : Type 0} (old new : Option X) (old_seat new_seat : Option Y) (code : ℕ) (busy : Y → Type 0)
+-- A seat's party comes back as the last one without a seat, as what it is when it has left the seat, whose handle is empty then.
+-- Where one of the handles is empty, it is refused, and then all stays.
+pub record GetsSeatBack {X Y : Type 0} (old new : Option X) (old_seat new_seat : Option Y) (code : ℕ) (leaves : Y → Y → Type 0)
     (joined : X → Y → X) : Type 0 where
-  pub returned : IfBoth old old_seat (λ made party. ¬ busy party
-      → (code ≡ done) × (new ≡ Some (joined made party)) × (new_seat ≡ None))
-  pub still_busy : IfBoth old old_seat (λ made party. busy party → code ≡ seat_holds)
+  pub returned : IfBoth old old_seat (λ made party. (after : Y) × leaves party after
+      × (code ≡ done) × (new ≡ Some (joined made after)) × (new_seat ≡ None))
   pub empty : (old ≡ None) ⊎ (old_seat ≡ None) → code ≡ not_made
   pub kept : code ≢ done → (new ≡ old) × (new_seat ≡ old_seat)

@@ -69,10 +69,6 @@ more_than_reserved = 15
 abbrev pub no_bucket : ℕ
 no_bucket = 16
 
--- the seat still holds a bucket
-abbrev pub seat_holds : ℕ
-seat_holds = 17
-
 -- not each party's seat has come back
 abbrev pub seats_out : ℕ
 seats_out = 18

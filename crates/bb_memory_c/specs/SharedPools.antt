@@ -1,13 +1,15 @@
 -- A shared pool, the seats of its parties, and what a seat's calls are answered.
-use Rattle.std.specs.Prelude.{◌≡◌, ◌≤◌, ◌↔◌, ℕ, All, Bool, List, Result, Ok, Err, length}
+use Rattle.std.specs.Prelude.{◌≡◌, ◌+◌, ◌≤◌, ◌↔◌, ℕ, zero, suc, All, Bool, false, List, [], ◌++◌, Result, Ok, Err, length}
+use Rattle.std.specs.Prelude.{Option, Some, None, fold, if◌then◌else◌}
 use Rattle.bb_memory_base.specs.Region.{Region}
 use Rattle.bb_memory_base.specs.Chunk.{Chunk}
-use Rattle.bb_memory_base.specs.PoolGeometry.{IsCut, bucket_place}
+use Rattle.bb_memory_base.specs.PoolGeometry.{IsCut, PoolGeometry, bucket_place}
 use Rattle.bb_memory_base.specs.PoolHistory.{PoolLog}
-use Rattle.bb_memory_base.specs.PoolLogs.{IsHeldAfter}
+use Rattle.bb_memory_base.specs.PoolLogs.{IsHeldAfter, held_after}
 use Rattle.bb_memory_base.specs.declared.layout.Layout.{Layout}
 use Rattle.bb_memory_base.specs.declared.allocator.AllocationError.{AllocationError}
 use Rattle.bb_memory_c.specs.Seats.{IsOneOf, Seats}
+use Rattle.bb_memory.specs.HeldBuckets.{IsCutAtMost}
 use Rattle.bb_memory.specs.NumberSet.{Has}
 use Rattle.bb_memory.specs.SharedPool.{AreFresh, PoolParty, SharedPool, TakenBucket, chunk_of, return_entry, with_entries}
 use Rattle.bb_memory.specs.SharedPoolRounds.{MayTakeFrom}
@@ -44,9 +46,14 @@ pub record IsSeatAt (pool : SharedPool) (party : PoolParty) (flags : List Bool) 
   pub as_many : length flags ≡ pool.scene.geometry.buckets
   pub exact : AreHeldFlags flags party.log
 
--- a pool over the region, cut into buckets of the layout, of so many parties, which all have no seat and have made no step
-pub record AreFreshOver (region : Region) (bucket : Layout) (count : ℕ) (seats : PoolSeats) : Type 0 where
-  pub cut : IsCut region bucket seats.shared.scene.geometry
+-- the buckets are those that the region has room for, or of these the first ones, at most so many
+abbrev pub IsCutInto : Option ℕ → Region → Layout → PoolGeometry → Type 0
+IsCutInto None region bucket geometry = IsCut region bucket geometry
+IsCutInto (Some most) region bucket geometry = IsCutAtMost most region bucket geometry
+
+-- a pool over the region, cut so into buckets of the layout, of so many parties, which all have no seat and have made no step
+pub record AreFreshOver (most : Option ℕ) (region : Region) (bucket : Layout) (count : ℕ) (seats : PoolSeats) : Type 0 where
+  pub cut : IsCutInto most region bucket seats.shared.scene.geometry
   pub parties : AreFresh seats.shared count seats.parties
 
 -- the party holds the bucket of this number, which is at this place
@@ -74,3 +81,32 @@ abbrev pub GivesBack : PoolParty → ℕ → PoolParty → Type 0
 GivesBack party place after =
     (number : ℕ) × HoldsAt party place number
     × (after ≡ with_entries party (return_entry party.number number))
+
+-- ALL THAT A PARTY HOLDS
+
+-- whether the party holds the bucket
+abbrev pub holds_bucket : PoolParty → ℕ → Bool
+holds_bucket party bucket = fold (λ held entry. held_after bucket held entry.outcome) false party.log
+
+-- how many of so many buckets it holds
+abbrev pub held_among : PoolParty → ℕ → ℕ
+held_among party zero = 0
+held_among party (suc bucket) = held_among party bucket + (if holds_bucket party bucket then 1 else 0)
+
+-- how many of the pool's
+abbrev pub held_by : PoolParty → ℕ
+held_by party = held_among party party.allocator.scene.geometry.buckets
+
+-- the party's return of the bucket, if it holds it
+abbrev pub return_of : PoolParty → ℕ → PoolLog
+return_of party bucket = if holds_bucket party bucket then return_entry party.number bucket else []
+
+-- those of so many buckets, in order of their numbers
+abbrev pub returns_of : PoolParty → ℕ → PoolLog
+returns_of party zero = []
+returns_of party (suc bucket) = returns_of party bucket ++ return_of party bucket
+
+-- the party gave back each bucket that it held, each by one step, and holds nothing then
+pub record GivesAllBack (party after : PoolParty) : Type 0 where
+  pub returned : after ≡ with_entries party (returns_of party party.allocator.scene.geometry.buckets)
+  pub idle : ¬ HoldsSome after

@@ -121,7 +121,7 @@ impl Shares<BumpSeat> for BumpSeats {
 
     ghost is_at = { IsAt };
 
-    ghost is_busy = { λ party. ⊥ };
+    ghost leaves = { λ party after. after ≡ party };
 
     fn deal(&mut self, alloc: Global) -> Result<Box<BumpSeat>, u32> {
         if self.parties.is_empty() {
@@ -141,10 +141,6 @@ impl Shares<BumpSeat> for BumpSeats {
                 Err(code::MALLOC_REFUSED)
             }
         }
-    }
-
-    fn is_in_use(&self, _seat: &BumpSeat) -> bool {
-        false
     }
 
     fn take_back(&mut self, seat: BumpSeat) {

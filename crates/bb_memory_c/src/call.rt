@@ -277,17 +277,11 @@ where
     H::Made: Shares<S::Made>,
     requires { IfBoth (H.made handle.old) (S.made seat.old) H.Made.is_at }
     ensures { GetsSeatBack (H.made handle.old) (H.made handle.new) (S.made seat.old)
-        (S.made seat.new) result H.Made.is_busy H.Made.joined }
+        (S.made seat.new) result H.Made.leaves H.Made.joined }
 {
     let Some(shared) = handle.made_mut() else {
         return code::NOT_MADE;
     };
-    let Some(seated) = seat.made_mut() else {
-        return code::NOT_MADE;
-    };
-    if shared.is_in_use(seated) {
-        return code::SEAT_HOLDS;
-    }
     let Some(leaving) = seat.take(alloc) else {
         return code::NOT_MADE;
     };

@@ -43,8 +43,5 @@ pub(crate) const MORE_THAN_RESERVED: u32 = 15;
 /// The region has no room for one bucket.
 pub(crate) const NO_BUCKET: u32 = 16;
 
-/// The seat still holds a bucket.
-pub(crate) const SEAT_HOLDS: u32 = 17;
-
 /// Not each party's seat has come back.
 pub(crate) const SEATS_OUT: u32 = 18;

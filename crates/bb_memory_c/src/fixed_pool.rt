@@ -2,6 +2,7 @@
 ghost use Rattle.std.specs.Prelude.{◌≡◌};
 ghost use Rattle.bb_memory_base.specs.PoolObject.{MayGrow, MayShrink};
 ghost use Rattle.bb_memory_base.specs.Region.{region_at};
+ghost use Rattle.bb_memory.specs.HeldBuckets.{held_count};
 ghost use Rattle.bb_memory.specs.Pool.{Frees, HoldsPlace, MayBeCut, Takes};
 ghost use Rattle.bb_memory_c.specs.Calls.{AnswersFree, AnswersGrow, AnswersPoolMake, AnswersRequest, AnswersReturn};
 ghost use Rattle.bb_memory_c.specs.Calls.{AnswersShrink, TellsFigure, TellsOfHeld, TellsWhether, resize};
@@ -126,6 +127,20 @@ pub extern "C" fn bb_fixed_pool_number_of_buckets(
         handle,
         alloc,
         |pool| Figure::of(pool.number_of_buckets() as usize),
+    )
+}
+
+/// How many buckets are held.
+///
+/// C guarantees of the handle what the crate's page says.
+#[unsafe(no_mangle)]
+pub extern "C" fn bb_fixed_pool_held_buckets(alloc: Global, handle: &mut FixedPoolHandle) -> Figure
+    ensures { TellsFigure handle.old.value handle.new.value result held_count }
+{
+    tell(
+        handle,
+        alloc,
+        |pool| Figure::of(pool.held_buckets() as usize),
     )
 }
 

@@ -85,21 +85,16 @@ pub(crate) trait Shares<S: Drop>: Drop {
     /// The party is one of its own, and isn't among those that have no seat.
     ghost is_at: { Self → S → Type 0 };
 
-    /// The party can't leave its seat.
-    ghost is_busy: { S → Type 0 };
+    /// What a party is when it has left its seat.
+    ghost leaves: { S → S → Type 0 };
 
     /// A seat for the last party that has none, in memory of its own.
     fn deal(&mut self, alloc: Global) -> Result<Box<S>, u32>
         ensures { TakesSeat self.old self.new result left (λ shared seat. joined shared seat.value)
             (λ shared seat. is_at shared seat.value) };
 
-    /// Whether the party can't leave its seat.
-    fn is_in_use(&self, seat: &S) -> bool
-        ensures { IsTrue result ↔ is_busy seat.now };
-
-    /// Takes the seat's party back, behind those that have no seat.
+    /// Takes the seat's party back, behind those that have no seat, when it has left the seat.
     fn take_back(&mut self, seat: S)
-        requires out { is_at self.old seat }
-        requires idle { ¬ is_busy seat }
-        ensures { self.new ≡ joined self.old seat };
+        requires { is_at self.old seat }
+        ensures { (after : S) × leaves seat after × (self.new ≡ joined self.old after) };
 }

@@ -3,6 +3,7 @@ ghost use Rattle.std.specs.Prelude.{◌≡◌};
 ghost use Rattle.bb_memory_base.specs.FirstPlace.{first_place};
 ghost use Rattle.bb_memory_base.specs.PoolObject.{MayGrow, MayShrink};
 ghost use Rattle.bb_memory_base.specs.Region.{region_at};
+ghost use Rattle.bb_memory.specs.HeldBuckets.{held_count};
 ghost use Rattle.bb_memory.specs.Pool.{Frees, HoldsPlace, MayBeCut, Takes};
 ghost use Rattle.bb_memory_c.specs.Calls.{AnswersFree, AnswersGrow, AnswersPoolMake, AnswersRequest, AnswersReturn};
 ghost use Rattle.bb_memory_c.specs.Calls.{AnswersShrink, TellsFigure, TellsOfHeld, TellsWhether, resize};
@@ -116,6 +117,20 @@ pub extern "C" fn bb_pool_number_of_buckets(alloc: Global, handle: &mut PoolHand
         handle,
         alloc,
         |pool| Figure::of(pool.number_of_buckets() as usize),
+    )
+}
+
+/// How many buckets are held.
+///
+/// C guarantees of the handle what the crate's page says.
+#[unsafe(no_mangle)]
+pub extern "C" fn bb_pool_held_buckets(alloc: Global, handle: &mut PoolHandle) -> Figure
+    ensures { TellsFigure handle.old.value handle.new.value result (λ pool. held_count pool.pool) }
+{
+    tell(
+        handle,
+        alloc,
+        |pool| Figure::of(pool.held_buckets() as usize),
     )
 }
 

@@ -1,9 +1,12 @@
 //! The seats at a shared pool: a party each, and which buckets it holds.
-ghost use Rattle.std.specs.Prelude.{◌≡◌, ◌↔◌, IfSome, IfNone, IsTrue};
+ghost use Rattle.std.specs.Prelude.{◌≡◌, ◌<◌, IfSome, IfNone, IfOk, count_by};
 ghost use Rattle.bb_memory_base.specs.Region.{region_at};
+ghost use Rattle.bb_memory_base.specs.PoolLogs.{IsHeldAfter};
 ghost use Rattle.bb_memory_base.specs.PoolObject.{MayGrow, MayShrink};
+ghost use Rattle.bb_memory.specs.SharedPool.{AreFresh, return_entry, with_entries};
 ghost use Rattle.bb_memory_c.specs.Layouts.{MayBeShared};
-ghost use Rattle.bb_memory_c.specs.SharedPools.{AreFreshOver, GivesBack, GivesChunk, HoldsAt, HoldsPlace, HoldsSome, IsAt};
+ghost use Rattle.bb_memory_c.specs.SharedPools.{AreFreshOver, GivesAllBack, GivesBack, GivesChunk, HoldsAt, HoldsPlace, IsAt};
+ghost use Rattle.bb_memory_c.specs.SharedPools.{IsCutInto, held_by, return_of};
 ghost use Rattle.bb_memory_c.specs.Seats.{joined, left_at};
 
 use crate::code;
@@ -36,6 +39,13 @@ impl Model for PoolSeat {
     ghost invariant = { λ s. IsSeatAt (arc_value s.pool) s.party s.held.items };
 }
 
+/// How many of the flags are set.
+fn count_set(flags: &[bool]) -> usize
+    ensures { result ≡ count_by (λ flag. flag) flags.now }
+{
+    flags.iter().filter(|flag| **flag).count()
+}
+
 impl PoolSeat {
     /// The number of the bucket at this place, if the party holds it.
     fn held_at(&self, place: usize) -> Option<u32>
@@ -50,11 +60,41 @@ impl PoolSeat {
         }
     }
 
-    /// Whether the party holds a bucket.
-    fn holds_some(&self) -> bool
-        ensures { IsTrue result ↔ HoldsSome self.now }
+    /// How many buckets the party holds.
+    pub(crate) fn held_buckets(&self) -> usize
+        ensures { result ≡ held_by self.now }
     {
-        self.held.contains(&true)
+        count_set(&self.held)
+    }
+
+    /// Gives back the bucket of this number, which the party holds.
+    fn give_back_bucket(&mut self, number: u32)
+        requires { IsHeldAfter self.old.log number }
+        ensures { self.new ≡ with_entries self.old (return_entry self.old.number number) }
+    {
+        let bucket = by_number::bucket(&*self.pool, &self.party, number, 0);
+        self.pool.deallocate_bucket(&mut self.party, bucket);
+        self.held[number as usize] = false;
+    }
+
+    /// Gives back the bucket of this number, if the party holds it.
+    fn give_back_if_held(&mut self, number: u32)
+        requires { number < self.old.allocator.scene.geometry.buckets }
+        ensures { self.new ≡ with_entries self.old (return_of self.old number) }
+    {
+        let is_held = self.held[number as usize];
+        if is_held {
+            self.give_back_bucket(number);
+        }
+    }
+
+    /// Gives back each bucket that the party holds.
+    fn give_all_back(&mut self)
+        ensures { GivesAllBack self.old self.new }
+    {
+        for number in 0..self.pool.number_of_buckets() {
+            self.give_back_if_held(number);
+        }
     }
 
     /// The pool at which this seat is.
@@ -93,9 +133,7 @@ impl Keeps for PoolSeat {
 
     fn give_back(&mut self, place: usize) {
         let number = self.held_at(place).unwrap();
-        let bucket = by_number::bucket(&*self.pool, &self.party, number, 0);
-        self.pool.deallocate_bucket(&mut self.party, bucket);
-        self.held[number as usize] = false;
+        self.give_back_bucket(number);
     }
 
     fn reserved_at(&self, _place: usize) -> usize {
@@ -144,21 +182,41 @@ impl Model for PoolSeats {
     ghost invariant = { λ s. AreUnseated (arc_value s.pool) (vec_capacity s.parties) s.parties.items };
 }
 
+/// A shared pool and its parties.
+fn shared_pool(
+    alloc: Global,
+    bucket: Layout,
+    start: usize,
+    size: usize,
+    count: u32,
+    most: Option<u32>,
+) -> Result<(SharedPoolAllocator, Vec<PoolParty>), AllocationError>
+    requires { MayBeShared (region_at start size) count bucket }
+    ensures cut { IfOk result (λ made. IsCutInto most (region_at start size) bucket
+        made.0.scene.geometry) }
+    ensures parties { IfOk result (λ made. AreFresh made.0 count made.1.items) }
+{
+    match most {
+        None => SharedPoolAllocator::new(alloc, bucket, start, size, count),
+        Some(most) => SharedPoolAllocator::new_at_most(alloc, bucket, start, size, count, most),
+    }
+}
+
 impl PoolSeats {
-    /// A shared pool over the region of `size` bytes at `start`, cut into buckets of this layout, whose parties all have no
-    /// seat yet. It is `None` where a request for memory was refused.
+    /// A shared pool over the region of `size` bytes at `start`, cut into buckets of this layout, at most so many where a number
+    /// is given, whose parties all have no seat yet. It is `None` where a request for memory was refused.
     pub(crate) fn new(
         alloc: Global,
         bucket: Layout,
         start: usize,
         size: usize,
         count: u32,
+        most: Option<u32>,
     ) -> Option<PoolSeats>
         requires { MayBeShared (region_at start size) count bucket }
-        ensures { IfSome result (AreFreshOver (region_at start size) bucket count) }
+        ensures { IfSome result (AreFreshOver most (region_at start size) bucket count) }
     {
-        let Ok((pool, mut parties)) = SharedPoolAllocator::new(alloc, bucket, start, size, count)
-        else {
+        let Ok((pool, mut parties)) = shared_pool(alloc, bucket, start, size, count, most) else {
             return None;
         };
         parties.reserve(0).ok()?;
@@ -176,7 +234,7 @@ impl Shares<PoolSeat> for PoolSeats {
 
     ghost is_at = { IsAt };
 
-    ghost is_busy = { HoldsSome };
+    ghost leaves = { GivesAllBack };
 
     fn deal(&mut self, alloc: Global) -> Result<Box<PoolSeat>, u32> {
         if self.parties.is_empty() {
@@ -205,11 +263,8 @@ impl Shares<PoolSeat> for PoolSeats {
         }
     }
 
-    fn is_in_use(&self, seat: &PoolSeat) -> bool {
-        seat.holds_some()
-    }
-
-    fn take_back(&mut self, seat: PoolSeat) {
+    fn take_back(&mut self, mut seat: PoolSeat) {
+        seat.give_all_back();
         let PoolSeat {
             pool: _pool,
             party,

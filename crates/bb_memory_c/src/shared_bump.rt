@@ -1,5 +1,5 @@
 //! A shared bump behind handles: one for the bump, and one for the seat of each party.
-ghost use Rattle.std.specs.Prelude.{◌-◌, Some};
+ghost use Rattle.std.specs.Prelude.{◌≡◌, ◌-◌, Some};
 ghost use Rattle.bb_memory_base.specs.Region.{region_at};
 ghost use Rattle.bb_memory.specs.SharedBump.{MayTake};
 ghost use Rattle.bb_memory_c.specs.Calls.{AnswersFree, AnswersMake, AnswersRequest, GetsSeatBack, GivesSeat, IfBoth, TellsFigure};
@@ -95,7 +95,7 @@ pub extern "C" fn bb_shared_bump_leave(
 ) -> u32
     requires { IfBoth handle.old.value seat.old.value IsAt }
     ensures { GetsSeatBack handle.old.value handle.new.value seat.old.value seat.new.value result
-        (λ party. ⊥) joined }
+        (λ party after. after ≡ party) joined }
 {
     leave(handle, alloc, seat)
 }

@@ -1,13 +1,14 @@
 //! A shared pool behind handles: one for the pool, and one for the seat of each party.
+ghost use Rattle.std.specs.Prelude.{◌≡◌, Some, None};
 ghost use Rattle.bb_memory_base.specs.FirstPlace.{first_place};
 ghost use Rattle.bb_memory_base.specs.PoolObject.{MayGrow, MayShrink};
 ghost use Rattle.bb_memory_base.specs.Region.{region_at};
 ghost use Rattle.bb_memory_c.specs.Calls.{AnswersFree, AnswersGrow, AnswersPoolMake, AnswersRequest, AnswersReturn};
 ghost use Rattle.bb_memory_c.specs.Calls.{AnswersShrink, GetsSeatBack, GivesSeat, IfBoth, TellsFigure, TellsOfHeld};
 ghost use Rattle.bb_memory_c.specs.Calls.{TellsWhether, resize};
-ghost use Rattle.bb_memory_c.specs.Layouts.{HasRoom, MayBeShared};
+ghost use Rattle.bb_memory_c.specs.Layouts.{HasRoom, MayBeShared, MayBeSharedAmong, least_of};
 ghost use Rattle.bb_memory_c.specs.Seats.{joined, left_at};
-ghost use Rattle.bb_memory_c.specs.SharedPools.{GivesBack, GivesChunk, HoldsPlace, HoldsSome, IsAt};
+ghost use Rattle.bb_memory_c.specs.SharedPools.{GivesAllBack, GivesBack, GivesChunk, HoldsPlace, IsAt, held_by};
 ghost use Rattle.bb_memory_c.specs.SharedPoolHandles.{MakesSharedPool};
 
 use crate::answer::{Answer, Figure};
@@ -20,6 +21,51 @@ use crate::handle::{Handle, PoolSeatHandle, SharedPoolHandle};
 use crate::layout::{cut_into, has_room};
 use crate::pool_seat::PoolSeats;
 use std::alloc::Global;
+
+/// The parties, or the most buckets, if there are fewer of these.
+fn least_of(parties: u32, most: Option<u32>) -> u32
+    ensures { result ≡ least_of parties most }
+{
+    match most {
+        None => parties,
+        Some(most) => parties.min(most),
+    }
+}
+
+/// Makes a shared pool of all buckets that the region has room for, or of at most so many.
+fn make(
+    alloc: Global,
+    handle: &mut SharedPoolHandle,
+    bucket_size: usize,
+    bucket_align: usize,
+    start: usize,
+    size: usize,
+    parties: u32,
+    most: Option<u32>,
+) -> u32
+    ensures { AnswersPoolMake handle.old.value handle.new.value bucket_size bucket_align result
+        (MayBeSharedAmong (region_at start size) parties most) (HasRoom (region_at start size))
+        (λ bucket. MakesSharedPool most (region_at start size) bucket parties) }
+{
+    if is_made(handle, alloc) {
+        return code::ALREADY_MADE;
+    }
+    let bucket = match cut_into(bucket_size, bucket_align, start, size) {
+        Ok(bucket) => bucket,
+        Err(code) => return code,
+    };
+    let least = least_of(parties, most);
+    if least == 0 {
+        return code::CANNOT_MAKE;
+    }
+    if !has_room(bucket, start, size) {
+        return code::NO_BUCKET;
+    }
+    let Some(seats) = PoolSeats::new(alloc, bucket, start, size, parties, most) else {
+        return code::MALLOC_REFUSED;
+    };
+    keep(handle, alloc, seats)
+}
 
 /// Makes a shared pool over the region of `size` bytes at `start`, behind a handle that has to be empty. The region is cut into
 /// buckets of `bucket_size` bytes at multiples of `bucket_align`, and has to have room for one. Each of the parties, at least
@@ -38,25 +84,49 @@ pub extern "C" fn bb_shared_pool_make(
 ) -> u32
     ensures { AnswersPoolMake handle.old.value handle.new.value bucket_size bucket_align result
         (MayBeShared (region_at start size) parties) (HasRoom (region_at start size))
-        (λ bucket. MakesSharedPool (region_at start size) bucket parties) }
+        (λ bucket. MakesSharedPool None (region_at start size) bucket parties) }
 {
-    if is_made(handle, alloc) {
-        return code::ALREADY_MADE;
-    }
-    let bucket = match cut_into(bucket_size, bucket_align, start, size) {
-        Ok(bucket) => bucket,
-        Err(code) => return code,
-    };
-    if parties == 0 {
-        return code::CANNOT_MAKE;
-    }
-    if !has_room(bucket, start, size) {
-        return code::NO_BUCKET;
-    }
-    let Some(seats) = PoolSeats::new(alloc, bucket, start, size, parties) else {
-        return code::MALLOC_REFUSED;
-    };
-    keep(handle, alloc, seats)
+    make(
+        alloc,
+        handle,
+        bucket_size,
+        bucket_align,
+        start,
+        size,
+        parties,
+        None,
+    )
+}
+
+/// The same of at most `most` buckets, at least one: of a region that has room for more the first ones alone are used.
+///
+/// C guarantees of the handle what the crate's page says.
+#[unsafe(no_mangle)]
+pub extern "C" fn bb_shared_pool_make_at_most(
+    alloc: Global,
+    handle: &mut SharedPoolHandle,
+    bucket_size: usize,
+    bucket_align: usize,
+    start: usize,
+    size: usize,
+    parties: u32,
+    most: u32,
+) -> u32
+    ensures { AnswersPoolMake handle.old.value handle.new.value bucket_size bucket_align result
+        (MayBeSharedAmong (region_at start size) parties (Some most))
+        (HasRoom (region_at start size))
+        (λ bucket. MakesSharedPool (Some most) (region_at start size) bucket parties) }
+{
+    make(
+        alloc,
+        handle,
+        bucket_size,
+        bucket_align,
+        start,
+        size,
+        parties,
+        Some(most),
+    )
 }
 
 /// Frees the handle of a shared pool, which is empty then. The pool stays as long as a seat at it does. The
@@ -85,8 +155,8 @@ pub extern "C" fn bb_shared_pool_seat(
     seat_at(handle, alloc, seat)
 }
 
-/// Takes back a seat of this pool, whose handle is empty then: its party is the last one without a seat. The answer is 0, or
-/// `BB_NOT_MADE` where one of both handles is empty, or `BB_SEAT_HOLDS` where the seat holds a bucket.
+/// Takes back a seat of this pool, whose handle is empty then: each bucket that the seat holds is given back, and its party is the
+/// last one without a seat. The answer is 0, or `BB_NOT_MADE` where one of both handles is empty.
 ///
 /// C guarantees of both handles what the crate's page says, that they are two, and that the seat is at this pool.
 #[unsafe(no_mangle)]
@@ -97,7 +167,7 @@ pub extern "C" fn bb_shared_pool_leave(
 ) -> u32
     requires { IfBoth handle.old.value seat.old.value IsAt }
     ensures { GetsSeatBack handle.old.value handle.new.value seat.old.value seat.new.value result
-        HoldsSome joined }
+        GivesAllBack joined }
 {
     leave(handle, alloc, seat)
 }
@@ -160,6 +230,16 @@ pub extern "C" fn bb_pool_seat_holds(
         (λ party. HoldsPlace party place) }
 {
     holds(handle, alloc, place)
+}
+
+/// How many buckets this seat holds: as many as it gives back when it comes back.
+///
+/// C guarantees of the handle what the crate's page says.
+#[unsafe(no_mangle)]
+pub extern "C" fn bb_pool_seat_held_buckets(alloc: Global, handle: &mut PoolSeatHandle) -> Figure
+    ensures { TellsFigure handle.old.value handle.new.value result held_by }
+{
+    tell(handle, alloc, |seat| Figure::of(seat.held_buckets()))
 }
 
 /// The number of this seat's party, from 0.

@@ -3,6 +3,7 @@ ghost use Rattle.std.specs.Prelude.{◌≡◌, ◌↔◌, OnOk, IsTrue};
 ghost use Rattle.bb_memory_base.specs.Run.{AnswersRun, Step};
 ghost use Rattle.bb_memory_base.specs.ResizableObject.{ResizableStep};
 ghost use Rattle.bb_memory_base.specs.PoolObject.{pool_object};
+ghost use Rattle.bb_memory.specs.HeldBuckets.{held_count};
 ghost use Rattle.bb_memory.specs.Pool.{HoldsPlace, StandsFor, reads_after};
 
 use super::buckets::Buckets;
@@ -68,6 +69,13 @@ impl<S: HeldSet> BucketPool<S> {
         ensures { result ≡ (S.pool self.now).geometry.region.size }
     {
         self.buckets.region_size()
+    }
+
+    /// How many buckets are held: as many as were given and not given back. Each bucket is looked at, and no read is counted.
+    pub fn held_buckets(&self) -> u32
+        ensures { result ≡ held_count (S.pool self.now) }
+    {
+        self.buckets.held_count()
     }
 
     /// Whether this is the place of a held bucket, which may be given back: true exactly where `deallocate` may be called with

@@ -3,6 +3,7 @@ ghost use Rattle.std.specs.Prelude.{◌≡◌, ℕ, ◌≤◌, ◌↔◌, length
 ghost use Rattle.bb_memory_base.specs.FirstPlace.{first_place};
 ghost use Rattle.bb_memory_base.specs.PoolGeometry.{bucket_place};
 ghost use Rattle.bb_memory_base.specs.PoolObject.{MayGrow, MayShrink};
+ghost use Rattle.bb_memory.specs.HeldBuckets.{held_count};
 ghost use Rattle.bb_memory.specs.Pool.{Frees, HoldsPlace, Takes, pool_of, reads_of};
 
 use super::geometry::Geometry;
@@ -107,6 +108,19 @@ impl<S: IndexSet> Buckets<S> {
             Some(number) => self.held.has(number as usize),
             None => false,
         }
+    }
+
+    /// How many buckets are held.
+    pub fn held_count(&self) -> u32
+        ensures { result ≡ held_count self.now }
+    {
+        let mut held = 0;
+        for number in 0..self.count() {
+            if self.held.has(number as usize) {
+                held += 1;
+            }
+        }
+        held
     }
 
     /// Frees the held bucket at this place.

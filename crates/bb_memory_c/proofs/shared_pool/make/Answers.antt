@@ -1,8 +1,8 @@
 use Rattle.std.proofs.Common.{rules, refl, ap, arith, Err}
 use Rattle.bb_memory_base.specs.Region.{Region, region_at}
-use Rattle.bb_memory_c.specs.Layouts.{HasRoom, MayBeShared}
+use Rattle.bb_memory_c.specs.Layouts.{HasRoom, MayBeShared, least_of}
 use Rattle.bb_memory_c.proofs.Layouts.{cut-share, lacks-cut, lacks-layout, lacks-share, room-or-not, share-layout, share-or-not}
-use Rattle.bb_memory_c.proofs.shared_pool.bb_shared_pool_make.Goals as goal
+use Rattle.bb_memory_c.proofs.shared_pool.make.Goals as goal
 
 pub returns-in-Err : goal.returns-in-Err
 returns-in-Err c = let region : Region = region_at c.args.start c.args.size in record {
@@ -12,37 +12,37 @@ returns-in-Err c = let region : Region = region_at c.args.start c.args.size in r
   cannot = (
     λ is. (
       search rules,
-      cut-share c.args.bucket_size c.args.bucket_align region c.args.parties (c.in-Err.ensures.cannot_make.0 (ap Err is)),
+      cut-share c.args.bucket_size c.args.bucket_align region (least_of c.args.parties c.args.most) (c.in-Err.ensures.cannot_make.0 (ap Err is)),
     ),
     λ not. c.in-Err.ensures.others (λ is. c.in-Err.ensures.not_a_layout.0 (ap Err is)
-        (share-layout c.args.bucket_size c.args.bucket_align region c.args.parties not.1)),
+        (share-layout c.args.bucket_size c.args.bucket_align region (least_of c.args.parties c.args.most) not.1)),
   );
   no_room = (
     λ wrong. search rules,
     λ lacks. lacks-cut c.args.bucket_size c.args.bucket_align region
-        (lacks-share c.args.bucket_size c.args.bucket_align region c.args.parties lacks.1)
+        (lacks-share c.args.bucket_size c.args.bucket_align region (least_of c.args.parties c.args.most) lacks.1)
         (c.in-Err.ensures.cannot_make.0 (ap Err (c.in-Err.ensures.others (λ is. c.in-Err.ensures.not_a_layout.0 (ap Err is)
-        (lacks-layout c.args.bucket_size c.args.bucket_align (MayBeShared region c.args.parties) (HasRoom region) lacks.1))))),
+        (lacks-layout c.args.bucket_size c.args.bucket_align (MayBeShared region (least_of c.args.parties c.args.most)) (HasRoom region) lacks.1))))),
   );
   else_memory = search rules;
   kept = search rules;
 }
 
-pub returns-then-parties-eq0 : goal.returns-then-parties-eq0
-returns-then-parties-eq0 c = record {
+pub returns-then-least-eq0 : goal.returns-then-least-eq0
+returns-then-least-eq0 c = record {
   made = search rules;
   held_one = search rules;
   no_layout = search rules;
   cannot = (
     λ _. (
       search rules,
-      (c.in-Ok.bucket, c.in-Ok.ensures.cut.layout, λ both. absurd (omega (arith, c.if-parties-eq0.true, both.0))),
+      (c.in-Ok.bucket, c.in-Ok.ensures.cut.layout, λ both. absurd (omega (arith, c.if-least-eq0.true, both.0))),
     ),
     λ _. refl,
   );
   no_room = (
     λ wrong. absurd (cc),
-    λ lacks. absurd (omega (arith, c.if-parties-eq0.true, lacks.1.2.0)),
+    λ lacks. absurd (omega (arith, c.if-least-eq0.true, lacks.1.2.0)),
   );
   else_memory = search rules;
   kept = search rules;
@@ -55,7 +55,7 @@ returns-then-not-has_room c = let region : Region = region_at c.args.start c.arg
   no_layout = search rules;
   cannot = (
     λ wrong. absurd (cc),
-    λ not. share-or-not c.args.bucket_size c.args.bucket_align region c.args.parties c.in-Ok.bucket c.in-Ok.ensures.cut
+    λ not. share-or-not c.args.bucket_size c.args.bucket_align region (least_of c.args.parties c.args.most) c.in-Ok.bucket c.in-Ok.ensures.cut
         (search rules) not.1,
   );
   no_room = (
@@ -76,12 +76,12 @@ returns-in_default c = let region : Region = region_at c.args.start c.args.size 
   no_layout = search rules;
   cannot = (
     λ wrong. absurd (cc),
-    λ not. share-or-not c.args.bucket_size c.args.bucket_align region c.args.parties c.in-Ok.bucket c.in-Ok.ensures.cut
+    λ not. share-or-not c.args.bucket_size c.args.bucket_align region (least_of c.args.parties c.args.most) c.in-Ok.bucket c.in-Ok.ensures.cut
         (search rules) not.1,
   );
   no_room = (
     λ wrong. absurd (cc),
-    λ lacks. room-or-not c.args.bucket_size c.args.bucket_align (MayBeShared region c.args.parties) (HasRoom region)
+    λ lacks. room-or-not c.args.bucket_size c.args.bucket_align (MayBeShared region (least_of c.args.parties c.args.most)) (HasRoom region)
         c.in-Ok.bucket c.in-Ok.ensures.cut.layout (search rules) lacks.1,
   );
   else_memory = search rules;
@@ -101,12 +101,12 @@ returns c = let region : Region = region_at c.args.start c.args.size in record {
   no_layout = search rules;
   cannot = (
     λ wrong. search rules,
-    λ not. share-or-not c.args.bucket_size c.args.bucket_align region c.args.parties c.in-Ok.bucket c.in-Ok.ensures.cut
+    λ not. share-or-not c.args.bucket_size c.args.bucket_align region (least_of c.args.parties c.args.most) c.in-Ok.bucket c.in-Ok.ensures.cut
         (search rules) not.1,
   );
   no_room = (
     λ wrong. search rules,
-    λ lacks. room-or-not c.args.bucket_size c.args.bucket_align (MayBeShared region c.args.parties) (HasRoom region)
+    λ lacks. room-or-not c.args.bucket_size c.args.bucket_align (MayBeShared region (least_of c.args.parties c.args.most)) (HasRoom region)
         c.in-Ok.bucket c.in-Ok.ensures.cut.layout (search rules) lacks.1,
   );
   else_memory = search rules;

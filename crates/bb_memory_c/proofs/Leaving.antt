@@ -1,0 +1,187 @@
+-- All that a party holds: how many buckets that are; and when it leaves its seat, each of them is given back, one after another,
+-- and then it holds nothing.
+use Rattle.std.proofs.Common.{◌≡◌, ℕ, zero, suc, ◌+◌, ◌<◌, ◌≤◌, Bool, true, false, List, [], ◌++◌, length, refl, sym, ap}
+use Rattle.std.proofs.Common.{◌∙◌, inl, inr, arith, append-nil, append_assoc}
+use Rattle.std.specs.Prelude.{◌==◌, Some, count_by, get_or, take, if◌then◌else◌, slice_get}
+use Rattle.std.proofs.lemmas.Bool.{cases_Bool, cases_eq, cases_lt, false≢true}
+use Rattle.std.proofs.lemmas.List.{take_all}
+use Rattle.std.proofs.lemmas.List.Sums.{count_by_more_no, count_by_more_yes}
+use Rattle.std.proofs.lemmas.Option.{same_Some, slice_get-get_or, slice_get_within}
+use Rattle.bb_memory_base.specs.PoolHistory.{PoolLog}
+use Rattle.bb_memory_base.proofs.PoolHolders.{held_through}
+use Rattle.bb_memory_base.proofs.PoolSteps.{test_same, test_apart}
+use Rattle.bb_memory.specs.SharedPool.{PoolParty, SharedPool, return_entry, with_entries}
+use Rattle.bb_memory.proofs.SharedPoolTries.{held-append}
+use Rattle.bb_memory_c.specs.SharedPools.{GivesAllBack, IsSeatAt, held_among, held_by, holds_bucket, return_of, returns_of}
+
+-- HOW MANY
+
+-- a flag is set exactly where its bucket is held
+flag-is : (pool : SharedPool) (party : PoolParty) (flags : List Bool) (number : ℕ) → IsSeatAt pool party flags →
+    number < length flags → get_or flags number false ≡ holds_bucket party number
+flag-is pool party flags number is below =
+    let there = slice_get-get_or flags number false below in
+    elim (cases_Bool (holds_bucket party number)) [
+      | inl held ↦ same_Some _ _ (sym there ∙ (is.exact number).1 held) ∙ sym held
+      | inr free ↦ elim (cases_Bool (get_or flags number false)) [
+        | inl set ↦ absurd (false≢true (sym free ∙ (is.exact number).0 (there ∙ ap Some set)))
+        | inr unset ↦ unset ∙ sym free
+      ]
+    ]
+
+held-among : (pool : SharedPool) (party : PoolParty) (flags : List Bool) (number : ℕ) → IsSeatAt pool party flags →
+    number ≤ length flags → count_by (λ flag. flag) (take number flags) ≡ held_among party number
+held-among pool party flags zero is within = refl
+held-among pool party flags (suc number) is within =
+    let next : suc number ≡ number + 1 = omega arith in
+    let below : number < length flags = omega arith in
+    let before = held-among pool party flags number is (omega arith) in
+    let flag = flag-is pool party flags number is below in
+    ap (λ (n : ℕ). count_by (λ (flag : Bool). flag) (take n flags)) next
+    ∙ elim (cases_Bool (holds_bucket party number)) [
+      | inl held ↦ count_by_more_yes (λ flag. flag) flags number false below (flag ∙ held)
+          ∙ ap (λ (n : ℕ). n + 1) before
+          ∙ ap (λ (b : Bool). held_among party number + (if b then 1 else 0)) (sym held)
+      | inr free ↦ count_by_more_no (λ flag. flag) flags number false below (flag ∙ free) ∙ before
+          ∙ (let none : held_among party number ≡ held_among party number + 0 = omega arith in none)
+          ∙ ap (λ (b : Bool). held_among party number + (if b then 1 else 0)) (sym free)
+    ]
+
+-- as many buckets are held as flags are set
+pub held-flags : (pool : SharedPool) (party : PoolParty) (flags : List Bool) → IsSeatAt pool party flags →
+    count_by (λ flag. flag) flags ≡ held_by party
+held-flags pool party flags is =
+    let as_many : length flags ≡ party.allocator.scene.geometry.buckets =
+    is.as_many ∙ ap (λ (p : SharedPool). p.scene.geometry.buckets) (sym is.theirs) in
+    ap (count_by (λ (flag : Bool). flag)) (sym (take_all (length flags) flags (omega arith)))
+    ∙ held-among pool party flags (length flags) is (omega arith)
+    ∙ ap (held_among party) as_many
+
+-- ONE RETURN
+
+-- whether a bucket is held after the return of one, if that one is held
+through-return : (party number bucket : ℕ) (is held : Bool) →
+    held_through bucket held (if is then return_entry party number else [])
+    ≡ (if is then (if number == bucket then false else held) else held)
+through-return party number bucket true held = refl
+through-return party number bucket false held = refl
+
+other : (is same held : Bool) → same ≡ false → (if is then (if same then false else held) else held) ≡ held
+other true same held apart = ap (λ (b : Bool). if b then false else held) apart
+other false same held apart = refl
+
+this : (is same : Bool) → same ≡ true → (if is then (if same then false else is) else is) ≡ false
+this true same at = ap (λ (b : Bool). if b then false else true) at
+this false same at = refl
+
+neither : (is same : Bool) → (if is then (if same then false else false) else false) ≡ false
+neither true true = refl
+neither true false = refl
+neither false same = refl
+
+-- ALL OF SO MANY
+
+-- one more return, of a bucket that is held after the others or not
+one-more : (party : PoolParty) (number bucket : ℕ) (held before : Bool) →
+    held_through bucket held (returns_of party number) ≡ before →
+    held_through bucket held (returns_of party (suc number))
+    ≡ (if holds_bucket party number then (if number == bucket then false else before) else before)
+one-more party number bucket held before is =
+    held-append bucket held (returns_of party number) (return_of party number)
+    ∙ ap (λ (b : Bool). held_through bucket b (return_of party number)) is
+    ∙ through-return party.number number bucket (holds_bucket party number) before
+
+-- a bucket that isn't among them is as before
+pub past-returns : (party : PoolParty) (number bucket : ℕ) (held : Bool) → number ≤ bucket →
+    held_through bucket held (returns_of party number) ≡ held
+past-returns party zero bucket held past = refl
+past-returns party (suc number) bucket held past =
+    one-more party number bucket held held (past-returns party number bucket held (omega arith))
+    ∙ other (holds_bucket party number) (number == bucket) held (test_apart number bucket (λ same. omega arith))
+
+-- one among them isn't held
+pub among-returns : (party : PoolParty) (number bucket : ℕ) → bucket < number →
+    held_through bucket (holds_bucket party bucket) (returns_of party number) ≡ false
+among-returns party zero bucket below = absurd (omega arith)
+among-returns party (suc number) bucket below = elim (cases_eq number bucket) [
+  | inl same ↦
+      one-more party number bucket (holds_bucket party bucket) (holds_bucket party bucket)
+      (past-returns party number bucket (holds_bucket party bucket) (omega arith))
+      ∙ (let is : holds_bucket party number ≡ holds_bucket party bucket = ap (holds_bucket party) same in
+      ap (λ (b : Bool). if holds_bucket party number then (if number == bucket then false else b) else b) (sym is)
+      ∙ this (holds_bucket party number) (number == bucket) (test_same number bucket same))
+  | inr apart ↦
+      one-more party number bucket (holds_bucket party bucket) false
+      (among-returns party number bucket (omega arith))
+      ∙ neither (holds_bucket party number) (number == bucket)
+]
+
+-- THE PARTY
+
+-- a bucket whose flag isn't set isn't held
+pub unset-flag : (pool : SharedPool) (party : PoolParty) (flags : List Bool) (number : ℕ) → IsSeatAt pool party flags →
+    number < party.allocator.scene.geometry.buckets → (flag : Bool) → flag ≡ get_or flags number flag → flag ≡ false →
+    holds_bucket party number ≡ false
+unset-flag pool party flags number is below flag reads unset =
+    let as_many : length flags ≡ party.allocator.scene.geometry.buckets =
+    is.as_many ∙ ap (λ (p : SharedPool). p.scene.geometry.buckets) (sym is.theirs) in
+    let there : slice_get flags number ≡ Some false =
+    slice_get-get_or flags number flag (omega arith) ∙ ap Some (sym reads ∙ unset) in
+    elim (cases_Bool (holds_bucket party number)) [
+      | inl held ↦ absurd (false≢true (same_Some _ _ (sym there ∙ (is.exact number).1 held)))
+      | inr free ↦ free
+    ]
+
+-- a bucket that isn't held adds nothing
+pub none-returned : (party : PoolParty) (number : ℕ) → holds_bucket party number ≡ false →
+    party ≡ with_entries party (return_of party number)
+none-returned party number free =
+    ap (λ (log : PoolLog). record { allocator = party.allocator; number = party.number; log = log }) (
+    sym (append-nil party.log)
+    ∙ ap (λ (b : Bool). party.log ++ (if b then return_entry party.number number else [])) (sym free))
+
+pub one-returned : (party : PoolParty) (number : ℕ) → holds_bucket party number ≡ true →
+    with_entries party (return_entry party.number number) ≡ with_entries party (return_of party number)
+one-returned party number held =
+    ap (λ (b : Bool). with_entries party (if b then return_entry party.number number else [])) (sym held)
+
+-- the next bucket is held after the returns of those in front of it exactly as before them
+next-held : (party : PoolParty) (number : ℕ) →
+    holds_bucket (with_entries party (returns_of party number)) number ≡ holds_bucket party number
+next-held party number =
+    held-append number false party.log (returns_of party number)
+    ∙ past-returns party number number (holds_bucket party number) (omega arith)
+
+pub next-returned : (party : PoolParty) (number : ℕ) →
+    with_entries (with_entries party (returns_of party number))
+    (return_of (with_entries party (returns_of party number)) number)
+    ≡ with_entries party (returns_of party (number + 1))
+next-returned party number =
+    let next : suc number ≡ number + 1 = omega arith in
+    ap (λ (b : Bool). with_entries (with_entries party (returns_of party number))
+    (if b then return_entry party.number number else [])) (next-held party number)
+    ∙ ap (λ (log : PoolLog). record { allocator = party.allocator; number = party.number; log = log })
+    (append_assoc party.log (returns_of party number) (return_of party number))
+    ∙ ap (λ (n : ℕ). with_entries party (returns_of party n)) next
+
+-- with all returned, nothing is held
+pub all-returned : (pool : SharedPool) (party : PoolParty) (flags : List Bool) → IsSeatAt pool party flags →
+    GivesAllBack party (with_entries party (returns_of party party.allocator.scene.geometry.buckets))
+all-returned pool party flags is =
+    let buckets = party.allocator.scene.geometry.buckets in
+    let as_many : length flags ≡ buckets =
+    is.as_many ∙ ap (λ (p : SharedPool). p.scene.geometry.buckets) (sym is.theirs) in
+    record {
+      returned = refl;
+      idle = λ some.
+          let bucket = some.0 in
+          let after = sym (held-append bucket false party.log (returns_of party buckets)) ∙ some.1 in
+          elim (cases_lt bucket buckets) [
+            | inl below ↦ false≢true (sym (among-returns party buckets bucket below) ∙ after)
+            | inr past ↦
+                let held : holds_bucket party bucket ≡ true =
+                sym (past-returns party buckets bucket (holds_bucket party bucket) past) ∙ after in
+                let below : bucket < length flags = slice_get_within flags bucket true ((is.exact bucket).1 held) in
+                omega arith
+          ];
+    }
