@@ -151,15 +151,7 @@ impl<'region> SharedPoolAllocator<'region> {
         // SAFETY: the maker is of this kind.
         let made = unsafe {
             Owned::made(ptr, |it, start| {
-                ffi::bb_shared_pool_make_at_most(
-                    it,
-                    bucket_size,
-                    align,
-                    start,
-                    size,
-                    parties,
-                    most,
-                )
+                ffi::bb_shared_pool_make_at_most(it, bucket_size, align, start, size, parties, most)
             })
         };
         Ok(SharedPoolAllocator {

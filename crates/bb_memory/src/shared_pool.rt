@@ -1,6 +1,6 @@
 //! Pools that threads share: each call takes its pool by `&`, and steps on one atomic flag for each bucket.
 ghost use Rattle.std.specs.Prelude.{◌≡◌, ◌≢◌, ◌<◌, ◌≤◌, ℕ, List};
-ghost use Rattle.std.specs.Prelude.{IfOk, IfErr, ◌++◌, ◌⊎◌};
+ghost use Rattle.std.specs.Prelude.{IfOk, IfErr, ◌++◌, ◌⊎◌, false};
 ghost use Rattle.bb_memory_base.specs.Region.{region_at};
 ghost use Rattle.bb_memory_base.specs.Chunk.{AreApart, Chunk};
 ghost use Rattle.bb_memory_base.specs.LiveList.{IsSound};
@@ -14,7 +14,7 @@ ghost use Rattle.bb_memory_base.specs.declared.layout.Layout.{Layout};
 ghost use Rattle.bb_memory.specs.HeldBuckets.{IsCutAtMost, MayBeMadeFor};
 ghost use Rattle.bb_memory.specs.Pool.{AreAStrideApart, MayBeCut};
 ghost use Rattle.bb_memory.specs.SharedPool.{AreFresh, AreFreshWithPost, AreInterleaved, HasFoundAllHeld, IsHistoryRun};
-ghost use Rattle.bb_memory.specs.SharedPool.{IsParty, PoolParty, TakenBucket, chunk_of};
+ghost use Rattle.bb_memory.specs.SharedPool.{AreHandedOut, IsParty, PoolParty, TakenBucket, chunk_of};
 ghost use Rattle.bb_memory.specs.SharedPool.{refused_pass};
 ghost use Rattle.bb_memory.specs.SharedPoolRounds.{HasMissedAll, refused_round};
 ghost use Rattle.bb_memory.specs.SharedPoolTransit.{IsCutOrRefused, MayHavePost};
@@ -114,7 +114,7 @@ impl SharedPoolAllocator {
     ) -> Result<(Self, Vec<PoolParty>), AllocationError>
         requires may { MayBeMadeFor parties (region_at start size) bucket_layout }
         ensures cut { IsCutOrRefused (IsCutAtMost most (region_at start size) bucket_layout) result }
-        ensures parties { IfOk result (λ made. AreFresh made.0 parties made.1.items) }
+        ensures parties { IfOk result (λ made. AreHandedOut false made.0 parties made.1.items) }
     {
         let scene = Scene {
             geometry: Geometry::new(bucket_layout, start, size).at_most(most),
