@@ -9,7 +9,8 @@ ghost use Rattle.bb_memory_base.specs.BumpHistory.{BumpLog, chunks_won, history_
 ghost use Rattle.bb_memory_base.specs.BumpCalls.{IsCallRun, OpensWith, calls_of, live_after};
 ghost use Rattle.bb_memory_base.specs.BumpLogs.{Interleaving};
 ghost use Rattle.bb_memory.specs.SharedBump.{AgreeAt, AreBothOf, AreFresh, AreInterleaved, BumpParty, HasChunksWithin, HaveChunksApart};
-ghost use Rattle.bb_memory.specs.SharedBump.{HasLoaded, HaveMet, IsAnsweredAt, IsFoundBy, IsInterleaved, IsParty, IsSameParty, IsSharedScene, MayTake, MeetAt};
+ghost use Rattle.bb_memory.specs.SharedBump.{HasLoaded, HaveMet, IsAnsweredAt, IsFoundBy, IsInterleaved, IsParty, IsSameParty};
+ghost use Rattle.bb_memory.specs.SharedBump.{IsSharedScene, MayTake, MeetAt};
 ghost use Rattle.bb_memory.specs.SharedBump.{floor_of, greatest_seen, meeting_at, scene_at, seen_by};
 ghost use Rattle.bb_memory.specs.SharedBump.{with_entries};
 ghost use Rattle.bb_memory.specs.SharedBumpRule.{MaySeat};

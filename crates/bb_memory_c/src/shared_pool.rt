@@ -155,8 +155,8 @@ pub extern "C" fn bb_shared_pool_seat(
     seat_at(handle, alloc, seat)
 }
 
-/// Takes back a seat of this pool, whose handle is empty then: each bucket that the seat holds is given back, and its party is the
-/// last one without a seat. The answer is 0, or `BB_NOT_MADE` where one of both handles is empty.
+/// Takes back a seat of this pool, whose handle is empty then: each bucket that the seat holds is given back, and its party is
+/// the last one without a seat. The answer is 0, or `BB_NOT_MADE` where one of both handles is empty.
 ///
 /// C guarantees of both handles what the crate's page says, that they are two, and that the seat is at this pool.
 #[unsafe(no_mangle)]

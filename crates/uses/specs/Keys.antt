@@ -1,6 +1,7 @@
 -- Records under keys: a key is the index of a slot, and how often the slot was taken before.
 use Rattle.std.specs.Prelude.{◌≡◌, ◌+◌, ◌-◌, ◌^◌, ◌∷◌, ◌++◌, ◌&&◌, ◌||◌, ◌↔◌, [], ℕ, List, Result, Option}
-use Rattle.std.specs.Prelude.{Bool, true, false, Some, None, Ok, IfOk, IsOk, OnOk, OnErr, length, nat_eq, nat_lt, not, position, slice_get, slice_set}
+use Rattle.std.specs.Prelude.{Bool, true, false, Some, None, Ok, IfOk, IsOk, OnOk, OnErr}
+use Rattle.std.specs.Prelude.{length, nat_eq, nat_lt, not, position, slice_get, slice_set}
 use Rattle.bb_memory_base.specs.Chunk.{Chunk}
 use Rattle.uses.specs.declared.keyed_slab.Key.{Key}
 use Rattle.uses.specs.declared.keyed_slab.Slot.{Slot}

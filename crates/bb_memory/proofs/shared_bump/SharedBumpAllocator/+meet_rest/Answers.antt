@@ -1,8 +1,8 @@
-use Rattle.std.proofs.Common.{rules, ◌≡◌, [], ◌∷◌, ◌++◌, List, ℕ, ap, subst, ◌∙◌}
+use Rattle.std.proofs.Common.{rules, ◌≡◌, [], ◌++◌, ℕ, ap, subst, ◌∙◌}
 use Rattle.std.specs.Prelude.{map}
 use Rattle.atomic_table.specs.Table.{Me}
 use Rattle.bb_memory.specs.Seats.{first_of, standing_for}
-use Rattle.bb_memory.specs.SharedBumpRule.{NumberedLog, SeatView, gathered, meeting_of, met_by, numbered_of, scene_of, sight}
+use Rattle.bb_memory.specs.SharedBumpRule.{SeatView, meeting_of, met_by, numbered_of, scene_of, sight}
 use Rattle.bb_memory.specs.SharedBumpSteps.{TellsMeeting}
 use Rattle.bb_memory.proofs.SharedBumpGatherings.{met_seat}
 use Rattle.bb_memory.proofs.shared_bump.SharedBumpAllocator.+meet_rest.Goals as goal
@@ -16,7 +16,8 @@ invariant_of-push_reserved t c =
     let met = met_by c.gather.new.seat.me.0 in
     let first = map numbered_of c.pop.new.self.items in
     let has = c.meet_rest-found.ensures.found in
-    let told = subst (λ (m : Me ℕ SeatView). TellsMeeting scene (first ++ m.0.parties) met found) c.gather.ensures.step has.told in
+    let told = subst (λ (m : Me ℕ SeatView). TellsMeeting scene (first ++ m.0.parties) met found)
+    c.gather.ensures.step has.told in
     let same : scene_of me.0 ≡ scene = search rules in
     let host : scene_of seat.0 ≡ scene = search rules in
     let one = ap (λ (m : Me ℕ SeatView). m.0.parties) c.party.invariant.seat.seat.is in
