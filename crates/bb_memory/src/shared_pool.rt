@@ -1,6 +1,6 @@
 //! Pools that threads share: each call takes its pool by `&`, and steps on one atomic flag for each bucket.
 ghost use Rattle.std.specs.Prelude.{◌≡◌, ◌≢◌, ◌<◌, ◌≤◌, ℕ, List};
-ghost use Rattle.std.specs.Prelude.{IfOk, IfErr, ◌++◌, ◌⊎◌, false};
+ghost use Rattle.std.specs.Prelude.{IfOk, IfErr, ◌++◌, ◌⊎◌};
 ghost use Rattle.bb_memory_base.specs.Region.{region_at};
 ghost use Rattle.bb_memory_base.specs.Chunk.{AreApart, Chunk};
 ghost use Rattle.bb_memory_base.specs.LiveList.{IsSound};
@@ -11,10 +11,10 @@ ghost use Rattle.bb_memory_base.specs.PoolCalls.{AreAsked, IsPoolRun};
 ghost use Rattle.bb_memory_base.specs.PoolHistory.{PoolLog};
 ghost use Rattle.bb_memory_base.specs.PoolLogs.{IsHeldAfter};
 ghost use Rattle.bb_memory_base.specs.declared.layout.Layout.{Layout};
-ghost use Rattle.bb_memory.specs.HeldBuckets.{IsCutAtMost, MayBeMadeFor};
+ghost use Rattle.bb_memory.specs.HeldBuckets.{IsCutAtMost};
 ghost use Rattle.bb_memory.specs.Pool.{AreAStrideApart, MayBeCut};
 ghost use Rattle.bb_memory.specs.SharedPool.{AreFresh, AreFreshWithPost, AreInterleaved, HasFoundAllHeld, IsHistoryRun};
-ghost use Rattle.bb_memory.specs.SharedPool.{AreHandedOut, IsParty, PoolParty, TakenBucket, chunk_of};
+ghost use Rattle.bb_memory.specs.SharedPool.{IsParty, PoolParty, TakenBucket, chunk_of};
 ghost use Rattle.bb_memory.specs.SharedPool.{refused_pass};
 ghost use Rattle.bb_memory.specs.SharedPoolRounds.{HasMissedAll, refused_round};
 ghost use Rattle.bb_memory.specs.SharedPoolTransit.{IsCutOrRefused, MayHavePost};
@@ -41,8 +41,7 @@ use buckets::SharedBucketPool;
 pub use fixed_size::SharedFixedSizePoolAllocator;
 pub use history::{PoolHistory, shared_pool_history_law};
 pub use party::PoolParty;
-use rule::Scene;
-use std::alloc::{AllocError, Global};
+use std::alloc::Global;
 pub use transit::BucketInTransit;
 
 /// Gives buckets of one layout to any number of threads. The pool is made for some number of parties, and each thread that
@@ -90,15 +89,7 @@ impl SharedPoolAllocator {
         ensures refused { IfErr result (λ error. error ≡ AllocationError.OutOfMemory) }
     {
         let geometry = Geometry::new(bucket_layout, start, size);
-        let scene = Scene {
-            geometry,
-            parties,
-            has_post: false,
-        };
-        match Self::open(alloc, scene, parties) {
-            Ok(made) => Ok(made),
-            Err(AllocError) => Err(AllocationError::OutOfMemory),
-        }
+        Self::make(alloc, geometry, parties, false)
     }
 
     /// A pool as `new` makes it, of at most `most` buckets: of a region that has room for more it uses the first ones alone. A
@@ -112,19 +103,15 @@ impl SharedPoolAllocator {
         parties: u32,
         most: u32,
     ) -> Result<(Self, Vec<PoolParty>), AllocationError>
-        requires may { MayBeMadeFor parties (region_at start size) bucket_layout }
-        ensures cut { IsCutOrRefused (IsCutAtMost most (region_at start size) bucket_layout) result }
-        ensures parties { IfOk result (λ made. AreHandedOut false made.0 parties made.1.items) }
+        requires cut { MayBeCut (region_at start size) bucket_layout }
+        requires parties { 1 ≤ parties }
+        ensures geometry { IfOk result (λ made. IsCutAtMost most
+            (region_at start size) bucket_layout made.0.scene.geometry) }
+        ensures parties { IfOk result (λ made. AreFresh made.0 parties made.1.items) }
+        ensures refused { IfErr result (λ error. error ≡ AllocationError.OutOfMemory) }
     {
-        let scene = Scene {
-            geometry: Geometry::new(bucket_layout, start, size).at_most(most),
-            parties,
-            has_post: false,
-        };
-        match Self::open(alloc, scene, parties) {
-            Ok(made) => Ok(made),
-            Err(AllocError) => Err(AllocationError::OutOfMemory),
-        }
+        let geometry = Geometry::cut_at_most(bucket_layout, start, size, most);
+        Self::make(alloc, geometry, parties, false)
     }
 
     /// A pool as `new` makes it, and with a post: one more party of the pool, which is handed out to nobody, and holds each
@@ -150,15 +137,8 @@ impl SharedPoolAllocator {
         ensures cut { IsCutOrRefused (IsCut (region_at start size) bucket_layout) result }
         ensures parties { IfOk result (λ made. AreFreshWithPost made.0 parties made.1.items) }
     {
-        let scene = Scene {
-            geometry: Geometry::new(bucket_layout, start, size),
-            parties: parties + 1,
-            has_post: true,
-        };
-        match Self::open(alloc, scene, parties) {
-            Ok(made) => Ok(made),
-            Err(AllocError) => Err(AllocationError::OutOfMemory),
-        }
+        let geometry = Geometry::new(bucket_layout, start, size);
+        Self::make(alloc, geometry, parties, true)
     }
 
     /// Where the first bucket is: the region's start, rounded up to the bucket's alignment.

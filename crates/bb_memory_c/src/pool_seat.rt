@@ -3,7 +3,6 @@ ghost use Rattle.std.specs.Prelude.{◌≡◌, ◌<◌, IfSome, IfNone, IfOk, co
 ghost use Rattle.bb_memory_base.specs.Region.{region_at};
 ghost use Rattle.bb_memory_base.specs.PoolLogs.{IsHeldAfter};
 ghost use Rattle.bb_memory_base.specs.PoolObject.{MayGrow, MayShrink};
-ghost use Rattle.bb_memory.specs.HeldBuckets.{MayBeMadeFor};
 ghost use Rattle.bb_memory.specs.SharedPool.{AreFresh, return_entry, with_entries};
 ghost use Rattle.bb_memory_c.specs.Layouts.{MayBeShared};
 ghost use Rattle.bb_memory_c.specs.SharedPools.{AreFreshOver, GivesAllBack, GivesBack, GivesChunk, HoldsAt, HoldsPlace, IsAt};
@@ -192,7 +191,7 @@ fn shared_pool(
     count: u32,
     most: Option<u32>,
 ) -> Result<(SharedPoolAllocator, Vec<PoolParty>), AllocationError>
-    requires { MayBeMadeFor count (region_at start size) bucket }
+    requires { MayBeShared (region_at start size) count bucket }
     ensures cut { IfOk result (λ made. IsCutInto most (region_at start size) bucket
         made.0.scene.geometry) }
     ensures parties { IfOk result (λ made. AreFresh made.0 count made.1.items) }

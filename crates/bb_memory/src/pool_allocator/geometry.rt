@@ -6,6 +6,7 @@ ghost use Rattle.bb_memory_base.specs.FirstPlace.{first_place};
 ghost use Rattle.bb_memory_base.specs.PoolGeometry.{IsCut, IsPoolGeometry, at_most, bucket_place, pool_geometry, stride};
 ghost use Rattle.bb_memory_base.specs.PoolObject.{MayGrow, MayShrink};
 ghost use Rattle.bb_memory.specs.Buckets.{IsPlaceOfBucket, Shifts};
+ghost use Rattle.bb_memory.specs.HeldBuckets.{IsCutAtMost};
 ghost use Rattle.bb_memory.specs.Pool.{MayBeCut};
 
 use crate::allocator::{AllocationGrowError, AllocationShrinkError};
@@ -99,6 +100,14 @@ impl Geometry {
             shift: shift_of(stride),
             buckets: count_buckets(bucket_layout, start, size),
         }
+    }
+
+    /// The first of the buckets that the region has room for, at most so many.
+    pub fn cut_at_most(bucket_layout: Layout, start: usize, size: usize, most: u32) -> Self
+        requires { MayBeCut (region_at start size) bucket_layout }
+        ensures { IsCutAtMost most (region_at start size) bucket_layout result }
+    {
+        Self::new(bucket_layout, start, size).at_most(most)
     }
 
     /// The first of these buckets, at most so many.

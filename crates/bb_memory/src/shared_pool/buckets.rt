@@ -1,5 +1,5 @@
 //! What the shared pools are: buckets with a flag each, on which any number of threads step.
-ghost use Rattle.std.specs.Prelude.{◌≡◌, ◌≢◌, ℕ, ◌≤◌, ◌↔◌, ◌%◌, All, IsErr, IfOk};
+ghost use Rattle.std.specs.Prelude.{◌≡◌, ◌≢◌, ℕ, ◌<◌, ◌≤◌, ◌↔◌, ◌%◌, ◌^◌, All, IsErr, IfErr, IfOk};
 ghost use Rattle.std.specs.Prelude.{MatchOption};
 ghost use Rattle.bb_memory_base.specs.Region.{IsRegion};
 ghost use Rattle.bb_memory_base.specs.Chunk.{Chunk, IsInside};
@@ -19,8 +19,9 @@ use super::rounds::part_of;
 use super::rule::{Scene, View};
 use crate::allocator::{AllocationError, AllocationGrowError, AllocationShrinkError};
 use crate::layout::{Chunk, Layout};
+use crate::pool_allocator::geometry::Geometry;
 use atomic_table::Seat;
-use std::alloc::{AllocError, Global};
+use std::alloc::Global;
 use std::marker::Model;
 
 /// Buckets with a flag each: all that the region has room for where `CAPPED` is 0, and at most `MOST` of them where it is 1.
@@ -46,19 +47,32 @@ impl<const CAPPED: usize, const MOST: usize> Model for SharedBucketPool<CAPPED, 
 }
 
 impl<const CAPPED: usize, const MOST: usize> SharedBucketPool<CAPPED, MOST> {
-    /// A pool with all flags free, and so many parties that are handed out, which are idle.
-    pub(super) fn open(
+    /// A pool over these buckets, with all flags free, and so many parties that are handed out, which are idle. A post is one
+    /// party more.
+    pub(super) fn make(
         alloc: Global,
-        scene: Scene,
+        geometry: Geometry,
         parties: u32,
-    ) -> Result<(Self, Vec<PoolParty>), AllocError>
+        has_post: bool,
+    ) -> Result<(Self, Vec<PoolParty>), AllocationError>
         requires some { 1 ≤ parties }
-        requires parties { scene.scene.parties ≡ count_with_post scene.has_post parties }
-        ensures geometry { IfOk result (λ made. made.0.scene.geometry ≡ scene.scene.geometry) }
-        ensures parties { IfOk result (λ made. AreHandedOut scene.has_post made.0 parties made.1.items) }
+        requires fit { count_with_post has_post parties < 2 ^ 32 }
+        ensures geometry { IfOk result (λ made. made.0.scene.geometry ≡ geometry) }
+        ensures parties { IfOk result (λ made. AreHandedOut has_post made.0 parties made.1.items) }
+        ensures refused { IfErr result (λ error. error ≡ AllocationError.OutOfMemory) }
     {
-        let mut all = Vec::with_capacity(alloc, parties as usize)?;
-        let (flags, seat) = Flags::open(alloc, scene)?;
+        let all_parties = if has_post { parties + 1 } else { parties };
+        let scene = Scene {
+            geometry,
+            parties: all_parties,
+            has_post,
+        };
+        let Ok(mut all) = Vec::with_capacity(alloc, parties as usize) else {
+            return Err(AllocationError::OutOfMemory);
+        };
+        let Ok((flags, seat)) = Flags::open(alloc, scene) else {
+            return Err(AllocationError::OutOfMemory);
+        };
         let pool = SharedBucketPool { flags };
         pool.seat_parties(seat, parties, &mut all);
         Ok((pool, all))

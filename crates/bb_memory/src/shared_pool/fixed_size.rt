@@ -1,18 +1,17 @@
 //! A shared pool of at most a constant of buckets.
 ghost use Rattle.std.specs.Prelude.{◌≡◌, ◌-◌, ◌<◌, ◌≤◌, ◌^◌, IfOk, IfErr};
 ghost use Rattle.bb_memory_base.specs.Region.{region_at};
-ghost use Rattle.bb_memory_base.specs.PoolGeometry.{PoolGeometry, IsCut, at_most};
+ghost use Rattle.bb_memory.specs.HeldBuckets.{IsCutAtMost};
 ghost use Rattle.bb_memory.specs.Pool.{MayBeCut};
 ghost use Rattle.bb_memory.specs.SharedPool.{AreFresh, AreFreshWithPost};
 ghost use Rattle.bb_memory.specs.SharedPoolTransit.{IsCutOrRefused, MayHavePost};
 
 use super::buckets::SharedBucketPool;
 use super::party::PoolParty;
-use super::rule::Scene;
 use crate::allocator::AllocationError;
 use crate::layout::Layout;
 use crate::pool_allocator::geometry::Geometry;
-use std::alloc::{AllocError, Global};
+use std::alloc::Global;
 
 /// Gives buckets of one layout, at most `MAX_NUMBER_OF_BUCKETS` of them, to any number of threads, as
 /// [`SharedPoolAllocator`](super::SharedPoolAllocator) does.
@@ -49,24 +48,14 @@ impl<const MAX_NUMBER_OF_BUCKETS: usize> SharedFixedSizePoolAllocator<MAX_NUMBER
         requires cut { MayBeCut (region_at start size) bucket_layout }
         requires most { MAX_NUMBER_OF_BUCKETS < 2 ^ 32 - 1 }
         requires parties { 1 ≤ parties }
-        ensures geometry { IfOk result (λ made. (whole : PoolGeometry)
-            × IsCut (region_at start size) bucket_layout whole
-            × (made.0.scene.geometry ≡ at_most MAX_NUMBER_OF_BUCKETS whole)) }
+        ensures geometry { IfOk result (λ made. IsCutAtMost MAX_NUMBER_OF_BUCKETS
+            (region_at start size) bucket_layout made.0.scene.geometry) }
         ensures parties { IfOk result (λ made. AreFresh made.0 parties made.1.items) }
         ensures refused { IfErr result (λ error. error ≡ AllocationError.OutOfMemory) }
     {
-        let geometry = Geometry::new(bucket_layout, start, size).at_most(
-            MAX_NUMBER_OF_BUCKETS as u32,
-        );
-        let scene = Scene {
-            geometry,
-            parties,
-            has_post: false,
-        };
-        match Self::open(alloc, scene, parties) {
-            Ok(made) => Ok(made),
-            Err(AllocError) => Err(AllocationError::OutOfMemory),
-        }
+        let most = MAX_NUMBER_OF_BUCKETS as u32;
+        let geometry = Geometry::cut_at_most(bucket_layout, start, size, most);
+        Self::make(alloc, geometry, parties, false)
     }
 
     /// A pool as `new` makes it, and with a post, as
@@ -82,22 +71,12 @@ impl<const MAX_NUMBER_OF_BUCKETS: usize> SharedFixedSizePoolAllocator<MAX_NUMBER
     ) -> Result<(Self, Vec<PoolParty>), AllocationError>
         requires may { MayHavePost (region_at start size) bucket_layout parties
             × (MAX_NUMBER_OF_BUCKETS < 2 ^ 32 - 1) }
-        ensures cut { IsCutOrRefused (λ geometry. (whole : PoolGeometry)
-            × IsCut (region_at start size) bucket_layout whole
-            × (geometry ≡ at_most MAX_NUMBER_OF_BUCKETS whole)) result }
+        ensures cut { IsCutOrRefused
+            (IsCutAtMost MAX_NUMBER_OF_BUCKETS (region_at start size) bucket_layout) result }
         ensures parties { IfOk result (λ made. AreFreshWithPost made.0 parties made.1.items) }
     {
-        let geometry = Geometry::new(bucket_layout, start, size).at_most(
-            MAX_NUMBER_OF_BUCKETS as u32,
-        );
-        let scene = Scene {
-            geometry,
-            parties: parties + 1,
-            has_post: true,
-        };
-        match Self::open(alloc, scene, parties) {
-            Ok(made) => Ok(made),
-            Err(AllocError) => Err(AllocationError::OutOfMemory),
-        }
+        let most = MAX_NUMBER_OF_BUCKETS as u32;
+        let geometry = Geometry::cut_at_most(bucket_layout, start, size, most);
+        Self::make(alloc, geometry, parties, true)
     }
 }
