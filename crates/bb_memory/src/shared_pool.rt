@@ -88,8 +88,8 @@ impl SharedPoolAllocator {
         ensures parties { IfOk result (λ made. AreFresh made.0 parties made.1.items) }
         ensures refused { IfErr result (λ error. error ≡ AllocationError.OutOfMemory) }
     {
-        let geometry = Geometry::new(bucket_layout, start, size);
-        Self::make(alloc, geometry, parties, false)
+        let whole = Geometry::new(bucket_layout, start, size);
+        Self::make(alloc, whole, parties, false)
     }
 
     /// A pool as `new` makes it, of at most `most` buckets: of a region that has room for more it uses the first ones alone. A
