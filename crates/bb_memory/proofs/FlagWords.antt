@@ -5,8 +5,10 @@ use Rattle.std.specs.Prelude.{slice_get, slice_set, unwrap_or}
 use Rattle.std.proofs.lemmas.Option.{slice_get_within, unwrap_or-slice_get}
 use Rattle.std.proofs.lemmas.List.{length-replicate}
 use native.Mathlib.Decide.{ℕ_discrete}
+use Rattle.atomic_table.specs.Table.{State, Me, Allows}
 use Rattle.bb_memory_base.proofs.SliceGets.{slice_get-replicate, slice_get-replicated, slice_get-set_other, slice_get-set_same}
 use Rattle.bb_memory.specs.FlagWords.{HaveFlags, as_word, bucket_of, word_of, words_for}
+use Rattle.bb_memory.specs.SharedPoolRule.{SeatView}
 
 -- THE WORD OF A BUCKET
 
@@ -22,9 +24,9 @@ within bucket buckets below = omega arith
 -- WORDS AND FLAGS
 
 -- what is found in the word of a flag
-pub found : (words : List ℕ) (flags : List Bool) (bucket : ℕ) (flag : Bool) → HaveFlags words flags →
+pub found_in : (words : List ℕ) (flags : List Bool) (bucket : ℕ) (flag : Bool) → HaveFlags words flags →
     slice_get flags bucket ≡ Some flag → get_or words (word_of bucket) 0 ≡ as_word flag
-found words flags bucket flag have at =
+found_in words flags bucket flag have at =
     sym (unwrap_or-slice_get words (word_of bucket) 0) ∙ ap (λ (word : Option ℕ). unwrap_or word 0) (have bucket flag at)
 
 -- the word of a flag that becomes another
@@ -64,3 +66,14 @@ all_free buckets bucket flag at =
     let count = length-replicate buckets false in
     slice_get-replicate (words_for buckets) (word_of bucket) 0 (within bucket buckets (omega arith))
     ∙ ap (λ (f : Bool). Some (as_word f)) (slice_get-replicated buckets bucket false flag at)
+
+-- STEPS AT THE WORD OF A BUCKET
+
+-- what such a step tells of the bucket it tells of the bucket of its word
+pub at_word : (holds : State ℕ SeatView → Type 0) (slots seat bucket word : ℕ) (me : Me ℕ SeatView) (becomes : ℕ → ℕ)
+    (tells : ℕ → ℕ → Me ℕ SeatView → Type 0) → word ≡ word_of bucket →
+    Allows holds slots seat me (word_of bucket) becomes (tells bucket) →
+    Allows holds slots seat me word becomes (tells (bucket_of word))
+at_word holds slots seat bucket word me becomes tells is allowed =
+    subst (λ (b : ℕ). Allows holds slots seat me word becomes (tells b)) (sym (ap bucket_of is ∙ back bucket))
+    (subst (λ (w : ℕ). Allows holds slots seat me w becomes (tells bucket)) (sym is) allowed)
