@@ -1,6 +1,6 @@
 -- Each atomic step keeps words and logs in agreement.
-use Rattle.std.proofs.Common.{◌≡◌, ℕ, zero, suc, ◌<◌, List, [], ◌∷◌, ◌++◌, length, map, set, get_or, Bool}
-use Rattle.std.proofs.Common.{true, false, None, Some, Option, eqb, refl, sym, ap, ◌∙◌, subst, arith, suc-ne-zero}
+use Rattle.std.proofs.Common.{◌≡◌, ℕ, zero, suc, ◌<◌, List, [], ◌∷◌, ◌++◌, length, set, Bool}
+use Rattle.std.proofs.Common.{true, false, None, Some, eqb, refl, sym, ◌∙◌, subst, arith, suc-ne-zero}
 use Rattle.std.specs.Prelude.{slice_get, slice_set}
 use mathlib.Core.Option.{none, some}
 use lib.ListN.{get_elem?}
