@@ -1,5 +1,6 @@
 mod Contained
 mod Cuts
+mod FlagWords
 mod Geometries
 mod HeldBuckets
 mod Listings

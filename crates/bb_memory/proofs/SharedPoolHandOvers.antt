@@ -13,10 +13,12 @@ use Rattle.bb_memory_base.specs.declared.steps.pool.PoolOutcome.TheVariants.{Giv
 use Rattle.bb_memory_base.proofs.PoolLogFacts.{held_is_taken, interleaved_log, logs_apart}
 use Rattle.bb_memory_base.proofs.PoolLogSteps.{AgreesBehind, give_behind, take_at_behind}
 use Rattle.bb_memory_base.proofs.SliceGets.{length-set_at, slice_get-set_other, slice_get-set_same}
-use Rattle.bb_memory.specs.Seats.{seat_of}
+use Rattle.bb_memory.specs.FlagWords.{HaveFlags, word_of}
+use Rattle.bb_memory.specs.Seats.{number_of, seat_of, view_log}
 use Rattle.bb_memory.specs.SharedPoolRule.{IsPost, PoolSetting, SeatView, WordsAndLogsAgree, alone, alone_with, handed_out}
-use Rattle.bb_memory.specs.SharedPoolRule.{post_of, sight}
-use Rattle.bb_memory.specs.SharedPoolSteps.{hands_over, meets_transit, takes_over, tells_apart}
+use Rattle.bb_memory.specs.SharedPoolRule.{post_of, scene_of, sight}
+use Rattle.bb_memory.specs.SharedPoolSteps.{HasTakenAt, TellsHandOver, hands_over, meets_transit, takes_over, tells_apart}
+use Rattle.bb_memory.proofs.FlagWords.{at_word}
 use Rattle.bb_memory.proofs.Seatings.{seated_beyond, seated_with}
 use Rattle.bb_memory.proofs.SharedPoolHistories.{begins_further, begins_with_none, remember_set}
 use Rattle.bb_memory.proofs.SharedPoolMeetings.{same_word, unchanged}
@@ -71,8 +73,8 @@ post_made setting logs log count at =
 
 hands_over_one : (setting : PoolSetting) (slots seat party bucket : ℕ) (log : PoolLog) → setting.has_post ≡ true →
     IsHeldAfter log bucket →
-    Allows (WordsAndLogsAgree setting) slots seat (alone setting.scene party log, []) bucket (λ found. found)
-    (hands_over (step slots bucket 0 0 none) (alone setting.scene party log, []))
+    Allows (WordsAndLogsAgree setting) slots seat (alone setting.scene party log, []) (word_of bucket) (λ found. found)
+    (λ _. TellsHandOver setting.scene party log bucket)
 hands_over_one setting slots seat party bucket log has held state rule homes at fits =
     let scene : PoolScene = setting.scene in
     let made : ℕ = handed_out setting.has_post scene.parties in
@@ -101,7 +103,7 @@ hands_over_one setting slots seat party bucket log has held state rule homes at 
         flags = rule.flags;
         logs = logs;
         agree = agree;
-        words = same_word state.words bucket ∙ rule.words;
+        words = subst (λ (w : List ℕ). HaveFlags w rule.flags) (sym (same_word state.words (word_of bucket))) rule.words;
         one_a_party = length-set_at between post_number post_longer ∙ length-set_at rule.logs party longer ∙ rule.one_a_party;
         seated = seated_beyond made between (set state.views seat new) post_number post_longer (omega arith)
             (seated_with made rule.logs state.views seat (sight scene []) party log longer [] (bucket ∷ []) rule.seated at);
@@ -118,20 +120,22 @@ hands_over_one setting slots seat party bucket log has held state rule homes at 
     )
 
 -- a seat of one party of a pool with a post may hand over a bucket that is held after its log
-pub hands_over_as : (setting : PoolSetting) (slots seat party bucket : ℕ) (log : PoolLog) (me : Me ℕ SeatView) →
-    me ≡ (alone setting.scene party log, []) → setting.has_post ≡ true → IsHeldAfter log bucket →
-    Allows (WordsAndLogsAgree setting) slots seat me bucket (λ found. found) (hands_over (step slots bucket 0 0 none) me)
-hands_over_as setting slots seat party bucket log me is has held =
-    subst (λ (m : Me ℕ SeatView). Allows (WordsAndLogsAgree setting) slots seat m bucket (λ found. found)
-    (hands_over (step slots bucket 0 0 none) m)) (sym is)
-    (hands_over_one setting slots seat party bucket log has held)
+pub hands_over_as : (setting : PoolSetting) (slots seat word party bucket : ℕ) (log : PoolLog) (me : Me ℕ SeatView) →
+    word ≡ word_of bucket → me ≡ (alone setting.scene party log, []) → setting.has_post ≡ true → IsHeldAfter log bucket →
+    Allows (WordsAndLogsAgree setting) slots seat me word (λ found. found) (hands_over (step slots word 0 0 none) me)
+hands_over_as setting slots seat word party bucket log me there is has held =
+    at_word (WordsAndLogsAgree setting) slots seat bucket word me (λ found. found)
+    (λ b _. TellsHandOver (scene_of me.0) (number_of me.0) (view_log me.0) b) there
+    (subst (λ (m : Me ℕ SeatView). Allows (WordsAndLogsAgree setting) slots seat m (word_of bucket) (λ found. found)
+    (λ _. TellsHandOver (scene_of m.0) (number_of m.0) (view_log m.0) bucket)) (sym is)
+    (hands_over_one setting slots seat party bucket log has held))
 
 -- TAKE-OVERS
 
 takes_over_one : (setting : PoolSetting) (slots seat party bucket : ℕ) (log : PoolLog) → setting.has_post ≡ true →
     pass_in log ≡ None →
-    Allows (WordsAndLogsAgree setting) slots seat (alone_with setting.scene party log bucket, []) bucket (λ found. found)
-    (takes_over (step slots bucket 0 0 none) (alone_with setting.scene party log bucket, []))
+    Allows (WordsAndLogsAgree setting) slots seat (alone_with setting.scene party log bucket, []) (word_of bucket)
+    (λ found. found) (λ _. HasTakenAt setting.scene party log bucket)
 takes_over_one setting slots seat party bucket log has idle state rule homes at fits =
     let scene : PoolScene = setting.scene in
     let made : ℕ = handed_out setting.has_post scene.parties in
@@ -159,7 +163,7 @@ takes_over_one setting slots seat party bucket log has idle state rule homes at 
         flags = rule.flags;
         logs = logs;
         agree = agree;
-        words = same_word state.words bucket ∙ rule.words;
+        words = subst (λ (w : List ℕ). HaveFlags w rule.flags) (sym (same_word state.words (word_of bucket))) rule.words;
         one_a_party = length-set_at between party longer ∙ length-set_at rule.logs post_number post_longer ∙ rule.one_a_party;
         seated = seated_with made between state.views seat (sight scene []) party log longer (bucket ∷ []) []
             (seated_beyond made rule.logs state.views post_number post_longer (omega arith) rule.seated) at;
@@ -182,13 +186,16 @@ takes_over_one setting slots seat party bucket log has idle state rule homes at 
     )
 
 -- a seat of one idle party may take over the bucket that is in transit there
-pub takes_over_as : (setting : PoolSetting) (slots seat party bucket : ℕ) (log : PoolLog) (me : Me ℕ SeatView) →
-    me ≡ (alone_with setting.scene party log bucket, []) → setting.has_post ≡ true → pass_in log ≡ None →
-    Allows (WordsAndLogsAgree setting) slots seat me bucket (λ found. found) (takes_over (step slots bucket 0 0 none) me)
-takes_over_as setting slots seat party bucket log me is has idle =
-    subst (λ (m : Me ℕ SeatView). Allows (WordsAndLogsAgree setting) slots seat m bucket (λ found. found)
-    (takes_over (step slots bucket 0 0 none) m)) (sym is)
-    (takes_over_one setting slots seat party bucket log has idle)
+pub takes_over_as : (setting : PoolSetting) (slots seat word party bucket : ℕ) (log : PoolLog) (me : Me ℕ SeatView) →
+    word ≡ word_of bucket → me ≡ (alone_with setting.scene party log bucket, []) → setting.has_post ≡ true →
+    pass_in log ≡ None →
+    Allows (WordsAndLogsAgree setting) slots seat me word (λ found. found) (takes_over (step slots word 0 0 none) me)
+takes_over_as setting slots seat word party bucket log me there is has idle =
+    at_word (WordsAndLogsAgree setting) slots seat bucket word me (λ found. found)
+    (λ b _. HasTakenAt (scene_of me.0) (number_of me.0) (view_log me.0) b) there
+    (subst (λ (m : Me ℕ SeatView). Allows (WordsAndLogsAgree setting) slots seat m (word_of bucket) (λ found. found)
+    (λ _. HasTakenAt (scene_of m.0) (number_of m.0) (view_log m.0) bucket)) (sym is)
+    (takes_over_one setting slots seat party bucket log has idle))
 
 -- LOADS THAT CHANGE NOTHING
 

@@ -1,70 +1,36 @@
 -- Each atomic step keeps words and logs in agreement.
-use Rattle.std.proofs.Common.{◌≡◌, ℕ, zero, suc, ◌<◌, List, [], ◌∷◌, ◌++◌, length, map, set, get_or, Bool}
-use Rattle.std.proofs.Common.{true, false, None, Some, Option, eqb, refl, sym, ap, ◌∙◌, subst, arith, suc-ne-zero}
+use Rattle.std.proofs.Common.{◌≡◌, ℕ, zero, suc, ◌<◌, List, [], ◌∷◌, ◌++◌, length, set, Bool}
+use Rattle.std.proofs.Common.{true, false, None, Some, eqb, refl, sym, ◌∙◌, subst, arith, suc-ne-zero}
 use Rattle.std.specs.Prelude.{slice_get, slice_set}
 use mathlib.Core.Option.{none, some}
 use lib.ListN.{get_elem?}
-use lib.Seq.{map-set}
 use prog.Atomic.{either}
-use Rattle.atomic_table.specs.Table.{State, Me, Act, Step, keeps, step, stepped, carried_after, Valid, Allows}
+use Rattle.atomic_table.specs.Table.{State, Me, Act, keeps, step, stepped, carried_after, Valid, Allows}
 use Rattle.bb_memory_base.specs.PoolMachine.{PoolScene}
 use Rattle.bb_memory_base.specs.PoolHistory.{PoolEntry, PoolLog, entry_of}
 use Rattle.bb_memory_base.specs.PoolLogs.{HasLog, IsHeldAfter, LogsAgree, loss_at, next_bucket, pass_after, pass_in, with_entry}
 use Rattle.bb_memory_base.specs.declared.steps.pool.PoolStep.TheVariants.{Try, GiveBack, TryAt}
 use Rattle.bb_memory_base.specs.declared.steps.pool.PoolOutcome.TheVariants.{Takes, Gives, Misses}
 use Rattle.bb_memory_base.proofs.PoolLogSteps.{AgreesBehind, take_behind, lose_behind, give_behind, take_at_behind, miss_behind}
-use Rattle.bb_memory_base.proofs.PoolLogFacts.{free_not_held, taken_is_held_alone, length-flags, interleaved_log}
+use Rattle.bb_memory_base.proofs.PoolLogFacts.{free_not_held, held_is_taken, taken_is_held_alone, length-flags, interleaved_log}
 use Rattle.bb_memory_base.proofs.SliceGets.{slice_get-set_same, length-set_at}
+use Rattle.bb_memory.specs.FlagWords.{HaveFlags, as_word, word_of}
+use Rattle.bb_memory.specs.Seats.{number_of, view_log}
 use Rattle.bb_memory.specs.SharedPoolRule.{IsSeatOf, IsSeatOfIdle, PoolSetting, SeatView, alone, sight}
-use Rattle.bb_memory.specs.SharedPoolRule.{WordsAndLogsAgree, handed_out, word_of, words_of}
-use Rattle.bb_memory.specs.SharedPoolSteps.{returns, tries, tries_at}
+use Rattle.bb_memory.specs.SharedPoolRule.{WordsAndLogsAgree, handed_out, scene_of}
+use Rattle.bb_memory.specs.SharedPoolSteps.{TellsReturn, TellsTry, TellsTryAt, returns, tries, tries_at}
+use Rattle.bb_memory.proofs.FlagWords.{at_word, changed, found_in, taken_again}
 use Rattle.bb_memory.proofs.Seatings.{seated_step}
 use Rattle.bb_memory.proofs.SharedPoolHistories.{begins_with_none, remember_set}
 use Rattle.bb_memory.proofs.SharedPoolPosts.{is_made, not_post, post_kept}
 use Rattle.bb_memory.proofs.SharedPoolTries.{idle_after_one}
 
--- WORDS AND FLAGS
+-- FLAGS
 
 some_at : (flags : List Bool) (i : ℕ) → i < length flags → (flag : Bool) × (slice_get flags i ≡ Some flag)
 some_at [] i below = absurd (omega arith)
 some_at (flag ∷ flags) zero below = (flag, refl)
 some_at (flag ∷ flags) (suc i) below = some_at flags i (omega arith)
-
--- the word of a flag
-word_in : (flags : List Bool) (i : ℕ) (flag : Bool) → slice_get flags i ≡ Some flag →
-    get_or (map word_of flags) i 0 ≡ word_of flag
-word_in [] i flag at = absurd (cc)
-word_in (first ∷ flags) zero flag at = ap word_of (same first flag at)
-  where
-    same : (one other : Bool) → ◌≡◌ {A = Option Bool} (Some one) (Some other) → one ≡ other
-    same one other at = cc
-word_in (first ∷ flags) (suc i) flag at = word_in flags i flag at
-
-word_at : (flags : List Bool) (i : ℕ) (flag : Bool) → slice_get flags i ≡ Some flag →
-    get_or (words_of flags) i 0 ≡ word_of flag
-word_at [] i flag at = absurd (cc)
-word_at (first ∷ flags) i flag at = word_in (first ∷ flags) i flag at
-
--- the word of a flag that becomes another
-word_set : (flags : List Bool) (i : ℕ) (was flag : Bool) → slice_get flags i ≡ Some was →
-    set (words_of flags) i (word_of flag) ≡ words_of (slice_set flags i flag)
-word_set [] i was flag at = absurd (cc)
-word_set (first ∷ flags) zero was flag at = refl
-word_set (first ∷ flags) (suc i) was flag at = ap (λ (words : List ℕ). word_of first ∷ words) (sym (map-set word_of flags i flag))
-
--- a word that is 0 where it isn't a taken flag's, and is made so
-word_freed : (flags : List Bool) (i : ℕ) → set (words_of flags) i 0 ≡ words_of (slice_set flags i false)
-word_freed [] zero = refl
-word_freed [] (suc i) = refl
-word_freed (first ∷ flags) zero = refl
-word_freed (first ∷ flags) (suc i) = ap (λ (words : List ℕ). word_of first ∷ words) (sym (map-set word_of flags i false))
-
--- a taken flag that is made so again stays
-flag_again : (flags : List Bool) (i : ℕ) → slice_get flags i ≡ Some true → slice_set flags i true ≡ flags
-flag_again [] i at = refl
-flag_again (true ∷ flags) zero at = refl
-flag_again (false ∷ flags) zero at = absurd (cc)
-flag_again (flag ∷ flags) (suc i) at = ap (λ (rest : List Bool). flag ∷ rest) (flag_again flags i at)
 
 -- ONE STEP
 
@@ -73,7 +39,7 @@ entered : (setting : PoolSetting) (state : State ℕ SeatView) (rule : WordsAndL
     (log : PoolLog) (entry : PoolEntry) (words : List ℕ) (flags : List Bool) →
     get_elem? state.views seat ≡ some (alone setting.scene party log) →
     AgreesBehind setting.scene rule.agree.steps flags (with_entry rule.logs party log entry) →
-    words ≡ words_of flags →
+    HaveFlags words flags →
     WordsAndLogsAgree setting
     record { words = words; homes = state.homes; views = set state.views seat (alone setting.scene party (log ++ entry ∷ [])) }
 entered setting state rule seat party log entry words flags at behind are =
@@ -116,23 +82,26 @@ told_idle scene flags logs party log entry at agree idle is = record {
 
 -- EXCHANGES
 
--- what a step tells
+-- what a step tells of a bucket
 abbrev Telling : Type 1
-Telling = Step ℕ → Me ℕ SeatView → ℕ → Me ℕ SeatView → Type 0
+Telling = PoolScene → ℕ → PoolLog → ℕ → ℕ → Me ℕ SeatView → Type 0
+
+abbrev tells_of : Telling → Me ℕ SeatView → ℕ → ℕ → Me ℕ SeatView → Type 0
+tells_of tells me bucket found new = tells (scene_of me.0) (number_of me.0) (view_log me.0) bucket found new
 
 -- what an exchange that found a word may do
-abbrev Allowed : Telling → PoolSetting → State ℕ SeatView → ℕ → ℕ → ℕ → Me ℕ SeatView → ℕ → Type 0
-Allowed tells setting state seat slots bucket me found =
+abbrev Allowed : Telling → PoolSetting → State ℕ SeatView → ℕ → ℕ → Me ℕ SeatView → ℕ → Type 0
+Allowed tells setting state seat bucket me found =
     (new : SeatView) × (act : Act ℕ) × Valid state.homes me.1 act
-    × WordsAndLogsAgree setting (stepped state bucket (either (eqb found 0) 1 found) seat me.1 new act)
-    × tells (step slots bucket 0 1 none) me found (new, carried_after me.1 act)
+    × WordsAndLogsAgree setting (stepped state (word_of bucket) (either (eqb found 0) 1 found) seat me.1 new act)
+    × tells_of tells me bucket found (new, carried_after me.1 act)
 
-tries_flag : (setting : PoolSetting) (slots seat party bucket : ℕ) (log : PoolLog) → next_bucket log ≡ bucket →
+tries_flag : (setting : PoolSetting) (seat party bucket : ℕ) (log : PoolLog) → next_bucket log ≡ bucket →
     (state : State ℕ SeatView) (rule : WordsAndLogsAgree setting state) →
     get_elem? state.views seat ≡ some (alone setting.scene party log) →
     (flag : Bool) → slice_get rule.flags bucket ≡ Some flag →
-    Allowed tries setting state seat slots bucket (alone setting.scene party log, []) (word_of flag)
-tries_flag setting slots seat party bucket log next state rule at false free =
+    Allowed TellsTry setting state seat bucket (alone setting.scene party log, []) (as_word flag)
+tries_flag setting seat party bucket log next state rule at false free =
     let mine = rule.seated.known seat (alone setting.scene party log) at in
     let made = is_made setting party mine.0 in
     let entry : PoolEntry = entry_of (Try party) (Takes bucket) in
@@ -142,8 +111,8 @@ tries_flag setting slots seat party bucket log next state rule at false free =
       alone setting.scene party (log ++ entry ∷ []),
       keeps,
       tt,
-      entered setting state rule seat party log entry (set state.words bucket 1) flags at behind
-          (ap (λ (words : List ℕ). set words bucket 1) rule.words ∙ word_set rule.flags bucket false true free),
+      entered setting state rule seat party log entry (set state.words (word_of bucket) 1) flags at behind
+          (changed state.words rule.flags bucket false true rule.words free),
       (
         λ _. record {
           seat = told setting.scene flags rule.logs party log entry mine.1 agree;
@@ -152,7 +121,7 @@ tries_flag setting slots seat party bucket log next state rule at false free =
         λ not_free. absurd (not_free refl),
       ),
     )
-tries_flag setting slots seat party bucket log next state rule at true taken =
+tries_flag setting seat party bucket log next state rule at true taken =
     let mine = rule.seated.known seat (alone setting.scene party log) at in
     let made = is_made setting party mine.0 in
     let entry : PoolEntry = entry_of (Try party) (loss_at setting.scene.geometry.buckets bucket) in
@@ -161,9 +130,8 @@ tries_flag setting slots seat party bucket log next state rule at true taken =
       alone setting.scene party (log ++ entry ∷ []),
       keeps,
       tt,
-      entered setting state rule seat party log entry (set state.words bucket 1) rule.flags at behind
-          (ap (λ (words : List ℕ). set words bucket 1) rule.words ∙ word_set rule.flags bucket true true taken
-          ∙ ap words_of (flag_again rule.flags bucket taken)),
+      entered setting state rule seat party log entry (set state.words (word_of bucket) 1) rule.flags at behind
+          (taken_again state.words rule.flags bucket rule.words taken),
       (
         λ zero_found. absurd (suc-ne-zero zero zero_found),
         λ _. record {
@@ -178,35 +146,37 @@ tries_flag setting slots seat party bucket log next state rule at true taken =
 
 tries_one : (setting : PoolSetting) (slots seat party bucket : ℕ) (log : PoolLog) → bucket < setting.scene.geometry.buckets →
     next_bucket log ≡ bucket →
-    Allows (WordsAndLogsAgree setting) slots seat (alone setting.scene party log, []) bucket
+    Allows (WordsAndLogsAgree setting) slots seat (alone setting.scene party log, []) (word_of bucket)
     (λ found. either (eqb found 0) 1 found)
-    (tries (step slots bucket 0 1 none) (alone setting.scene party log, []))
+    (tells_of TellsTry (alone setting.scene party log, []) bucket)
 tries_one setting slots seat party bucket log below next state rule homes at fits =
     let count = length-flags setting.scene rule.flags rule.logs rule.agree in
     let flag = some_at rule.flags bucket (omega arith) in
-    let found : get_or state.words bucket 0 ≡ word_of flag.0 =
-    ap (λ (words : List ℕ). get_or words bucket 0) rule.words ∙ word_at rule.flags bucket flag.0 flag.1 in
-    subst (Allowed tries setting state seat slots bucket (alone setting.scene party log, [])) (sym found)
-    (tries_flag setting slots seat party bucket log next state rule at flag.0 flag.1)
+    let found = found_in state.words rule.flags bucket flag.0 rule.words flag.1 in
+    subst (Allowed TellsTry setting state seat bucket (alone setting.scene party log, [])) (sym found)
+    (tries_flag setting seat party bucket log next state rule at flag.0 flag.1)
 
 -- a seat of one party may try the bucket that is next
-pub tries_as : (setting : PoolSetting) (slots seat party bucket : ℕ) (log : PoolLog) (me : Me ℕ SeatView) →
-    me ≡ (alone setting.scene party log, []) → bucket < setting.scene.geometry.buckets → next_bucket log ≡ bucket →
-    Allows (WordsAndLogsAgree setting) slots seat me bucket (λ found. either (eqb found 0) 1 found)
-    (tries (step slots bucket 0 1 none) me)
-tries_as setting slots seat party bucket log me is below next =
-    subst (λ (m : Me ℕ SeatView). Allows (WordsAndLogsAgree setting) slots seat m bucket (λ found. either (eqb found 0) 1 found)
-    (tries (step slots bucket 0 1 none) m)) (sym is)
-    (tries_one setting slots seat party bucket log below next)
+pub tries_as : (setting : PoolSetting) (slots seat word party bucket : ℕ) (log : PoolLog) (me : Me ℕ SeatView) →
+    word ≡ word_of bucket → me ≡ (alone setting.scene party log, []) → bucket < setting.scene.geometry.buckets →
+    next_bucket log ≡ bucket →
+    Allows (WordsAndLogsAgree setting) slots seat me word (λ found. either (eqb found 0) 1 found)
+    (tries (step slots word 0 1 none) me)
+tries_as setting slots seat word party bucket log me there is below next =
+    at_word (WordsAndLogsAgree setting) slots seat bucket word me (λ found. either (eqb found 0) 1 found)
+    (tells_of TellsTry me) there
+    (subst (λ (m : Me ℕ SeatView). Allows (WordsAndLogsAgree setting) slots seat m (word_of bucket)
+    (λ found. either (eqb found 0) 1 found) (tells_of TellsTry m bucket)) (sym is)
+    (tries_one setting slots seat party bucket log below next))
 
 -- EXCHANGES OF AN IDLE PARTY
 
-tries_one_flag : (setting : PoolSetting) (slots seat party bucket : ℕ) (log : PoolLog) → pass_in log ≡ None →
+tries_one_flag : (setting : PoolSetting) (seat party bucket : ℕ) (log : PoolLog) → pass_in log ≡ None →
     (state : State ℕ SeatView) (rule : WordsAndLogsAgree setting state) →
     get_elem? state.views seat ≡ some (alone setting.scene party log) →
     (flag : Bool) → slice_get rule.flags bucket ≡ Some flag →
-    Allowed tries_at setting state seat slots bucket (alone setting.scene party log, []) (word_of flag)
-tries_one_flag setting slots seat party bucket log idle state rule at false free =
+    Allowed TellsTryAt setting state seat bucket (alone setting.scene party log, []) (as_word flag)
+tries_one_flag setting seat party bucket log idle state rule at false free =
     let mine = rule.seated.known seat (alone setting.scene party log) at in
     let made = is_made setting party mine.0 in
     let entry : PoolEntry = entry_of (TryAt party bucket) (Takes bucket) in
@@ -216,8 +186,8 @@ tries_one_flag setting slots seat party bucket log idle state rule at false free
       alone setting.scene party (log ++ entry ∷ []),
       keeps,
       tt,
-      entered setting state rule seat party log entry (set state.words bucket 1) flags at behind
-          (ap (λ (words : List ℕ). set words bucket 1) rule.words ∙ word_set rule.flags bucket false true free),
+      entered setting state rule seat party log entry (set state.words (word_of bucket) 1) flags at behind
+          (changed state.words rule.flags bucket false true rule.words free),
       (
         λ _. record {
           ended = told_idle setting.scene flags rule.logs party log entry mine.1 agree idle refl;
@@ -226,7 +196,7 @@ tries_one_flag setting slots seat party bucket log idle state rule at false free
         λ not_free. absurd (not_free refl),
       ),
     )
-tries_one_flag setting slots seat party bucket log idle state rule at true taken =
+tries_one_flag setting seat party bucket log idle state rule at true taken =
     let mine = rule.seated.known seat (alone setting.scene party log) at in
     let made = is_made setting party mine.0 in
     let entry : PoolEntry = entry_of (TryAt party bucket) (Misses bucket) in
@@ -235,9 +205,8 @@ tries_one_flag setting slots seat party bucket log idle state rule at true taken
       alone setting.scene party (log ++ entry ∷ []),
       keeps,
       tt,
-      entered setting state rule seat party log entry (set state.words bucket 1) rule.flags at behind
-          (ap (λ (words : List ℕ). set words bucket 1) rule.words ∙ word_set rule.flags bucket true true taken
-          ∙ ap words_of (flag_again rule.flags bucket taken)),
+      entered setting state rule seat party log entry (set state.words (word_of bucket) 1) rule.flags at behind
+          (taken_again state.words rule.flags bucket rule.words taken),
       (
         λ zero_found. absurd (suc-ne-zero zero zero_found),
         λ _. record {
@@ -252,32 +221,34 @@ tries_one_flag setting slots seat party bucket log idle state rule at true taken
 
 tries_at_one : (setting : PoolSetting) (slots seat party bucket : ℕ) (log : PoolLog) → bucket < setting.scene.geometry.buckets →
     pass_in log ≡ None →
-    Allows (WordsAndLogsAgree setting) slots seat (alone setting.scene party log, []) bucket
+    Allows (WordsAndLogsAgree setting) slots seat (alone setting.scene party log, []) (word_of bucket)
     (λ found. either (eqb found 0) 1 found)
-    (tries_at (step slots bucket 0 1 none) (alone setting.scene party log, []))
+    (tells_of TellsTryAt (alone setting.scene party log, []) bucket)
 tries_at_one setting slots seat party bucket log below idle state rule homes at fits =
     let count = length-flags setting.scene rule.flags rule.logs rule.agree in
     let flag = some_at rule.flags bucket (omega arith) in
-    let found : get_or state.words bucket 0 ≡ word_of flag.0 =
-    ap (λ (words : List ℕ). get_or words bucket 0) rule.words ∙ word_at rule.flags bucket flag.0 flag.1 in
-    subst (Allowed tries_at setting state seat slots bucket (alone setting.scene party log, [])) (sym found)
-    (tries_one_flag setting slots seat party bucket log idle state rule at flag.0 flag.1)
+    let found = found_in state.words rule.flags bucket flag.0 rule.words flag.1 in
+    subst (Allowed TellsTryAt setting state seat bucket (alone setting.scene party log, [])) (sym found)
+    (tries_one_flag setting seat party bucket log idle state rule at flag.0 flag.1)
 
 -- a seat of one idle party may try any bucket
-pub tries_at_as : (setting : PoolSetting) (slots seat party bucket : ℕ) (log : PoolLog) (me : Me ℕ SeatView) →
-    me ≡ (alone setting.scene party log, []) → bucket < setting.scene.geometry.buckets → pass_in log ≡ None →
-    Allows (WordsAndLogsAgree setting) slots seat me bucket (λ found. either (eqb found 0) 1 found)
-    (tries_at (step slots bucket 0 1 none) me)
-tries_at_as setting slots seat party bucket log me is below idle =
-    subst (λ (m : Me ℕ SeatView). Allows (WordsAndLogsAgree setting) slots seat m bucket (λ found. either (eqb found 0) 1 found)
-    (tries_at (step slots bucket 0 1 none) m)) (sym is)
-    (tries_at_one setting slots seat party bucket log below idle)
+pub tries_at_as : (setting : PoolSetting) (slots seat word party bucket : ℕ) (log : PoolLog) (me : Me ℕ SeatView) →
+    word ≡ word_of bucket → me ≡ (alone setting.scene party log, []) → bucket < setting.scene.geometry.buckets →
+    pass_in log ≡ None →
+    Allows (WordsAndLogsAgree setting) slots seat me word (λ found. either (eqb found 0) 1 found)
+    (tries_at (step slots word 0 1 none) me)
+tries_at_as setting slots seat word party bucket log me there is below idle =
+    at_word (WordsAndLogsAgree setting) slots seat bucket word me (λ found. either (eqb found 0) 1 found)
+    (tells_of TellsTryAt me) there
+    (subst (λ (m : Me ℕ SeatView). Allows (WordsAndLogsAgree setting) slots seat m (word_of bucket)
+    (λ found. either (eqb found 0) 1 found) (tells_of TellsTryAt m bucket)) (sym is)
+    (tries_at_one setting slots seat party bucket log below idle))
 
 -- STORES
 
 returns_one : (setting : PoolSetting) (slots seat party bucket : ℕ) (log : PoolLog) → IsHeldAfter log bucket →
-    Allows (WordsAndLogsAgree setting) slots seat (alone setting.scene party log, []) bucket (λ _. 0)
-    (λ _. returns (step slots bucket 0 0 none) (alone setting.scene party log, []) 0)
+    Allows (WordsAndLogsAgree setting) slots seat (alone setting.scene party log, []) (word_of bucket) (λ _. 0)
+    (λ _. TellsReturn setting.scene party log bucket)
 returns_one setting slots seat party bucket log held state rule homes at fits =
     let mine = rule.seated.known seat (alone setting.scene party log) at in
     let entry : PoolEntry = entry_of (GiveBack party bucket) (Gives bucket) in
@@ -287,16 +258,19 @@ returns_one setting slots seat party bucket log held state rule homes at fits =
       alone setting.scene party (log ++ entry ∷ []),
       keeps,
       tt,
-      entered setting state rule seat party log entry (set state.words bucket 0) flags at behind
-          (ap (λ (words : List ℕ). set words bucket 0) rule.words ∙ word_freed rule.flags bucket),
+      entered setting state rule seat party log entry (set state.words (word_of bucket) 0) flags at behind
+          (changed state.words rule.flags bucket true false rule.words
+          (held_is_taken setting.scene rule.flags rule.logs party log bucket rule.agree mine.1 held)),
       told setting.scene flags rule.logs party log entry mine.1 agree,
     )
 
 -- a seat of one party may free a bucket that is held after its log
-pub returns_as : (setting : PoolSetting) (slots seat party bucket : ℕ) (log : PoolLog) (me : Me ℕ SeatView) →
-    me ≡ (alone setting.scene party log, []) → IsHeldAfter log bucket →
-    Allows (WordsAndLogsAgree setting) slots seat me bucket (λ _. 0) (λ _. returns (step slots bucket 0 0 none) me 0)
-returns_as setting slots seat party bucket log me is held =
-    subst (λ (m : Me ℕ SeatView). Allows (WordsAndLogsAgree setting) slots seat m bucket (λ _. 0)
-    (λ _. returns (step slots bucket 0 0 none) m 0)) (sym is)
-    (returns_one setting slots seat party bucket log held)
+pub returns_as : (setting : PoolSetting) (slots seat word party bucket : ℕ) (log : PoolLog) (me : Me ℕ SeatView) →
+    word ≡ word_of bucket → me ≡ (alone setting.scene party log, []) → IsHeldAfter log bucket →
+    Allows (WordsAndLogsAgree setting) slots seat me word (λ _. 0) (λ _. returns (step slots word 0 0 none) me 0)
+returns_as setting slots seat word party bucket log me there is held =
+    at_word (WordsAndLogsAgree setting) slots seat bucket word me (λ _. 0)
+    (λ b _. TellsReturn (scene_of me.0) (number_of me.0) (view_log me.0) b) there
+    (subst (λ (m : Me ℕ SeatView). Allows (WordsAndLogsAgree setting) slots seat m (word_of bucket) (λ _. 0)
+    (λ _. TellsReturn (scene_of m.0) (number_of m.0) (view_log m.0) bucket)) (sym is)
+    (returns_one setting slots seat party bucket log held))

@@ -1,5 +1,5 @@
 -- What a load by a seat of several parties finds: how they agree with the flags, and what two of them have of one another.
-use Rattle.std.proofs.Common.{◌≡◌, ℕ, zero, suc, List, [], ◌∷◌, set, get_or, refl, sym, ap, ◌∙◌, subst, arith, inl, inr}
+use Rattle.std.proofs.Common.{◌≡◌, ℕ, zero, suc, List, [], ◌∷◌, set, get_or, refl, sym, ap, subst, arith, inl, inr}
 use Rattle.std.proofs.lemmas.Bool.{cases_lt}
 use mathlib.Core.Option.{none, some}
 use lib.ListN.{get_elem?}
@@ -9,6 +9,7 @@ use Rattle.bb_memory_base.specs.PoolMachine.{PoolScene}
 use Rattle.bb_memory_base.specs.PoolHistory.{PoolLog}
 use Rattle.bb_memory_base.specs.declared.steps.pool.PoolStep.{PoolStep}
 use Rattle.bb_memory_base.proofs.PoolLogFacts.{logs_apart, interleaved_logs}
+use Rattle.bb_memory.specs.FlagWords.{HaveFlags}
 use Rattle.bb_memory.specs.Seats.{numbered}
 use Rattle.bb_memory.specs.SharedPoolRule.{NumberedLog, PoolSetting, SeatView, WordsAndLogsAgree, handed_out, remembering}
 use Rattle.bb_memory.specs.SharedPoolRule.{sight, standing_for}
@@ -86,7 +87,7 @@ meets_again_at setting slots seat word met parties state rule homes at fits =
         flags = rule.flags;
         logs = rule.logs;
         agree = rule.agree;
-        words = same_word state.words word ∙ rule.words;
+        words = subst (λ (w : List ℕ). HaveFlags w rule.flags) (sym (same_word state.words word)) rule.words;
         one_a_party = rule.one_a_party;
         seated = seated_again (handed_out setting.has_post setting.scene.parties) rule.logs state.views seat view
             (sight setting.scene steps) rule.seated at;

@@ -1,7 +1,6 @@
 -- How parties go to seats of their own, and two of them to one seat.
-use Rattle.std.proofs.Common.{◌≡◌, ◌≤◌, ℕ, zero, suc, arith, List, [], ◌∷◌, ◌++◌, map, replicate, false, refl, sym, subst, ap}
-use Rattle.std.proofs.Common.{◌∙◌}
-use Rattle.std.specs.Prelude.{All, max}
+use Rattle.std.proofs.Common.{◌≡◌, ◌≤◌, ℕ, zero, suc, arith, List, [], ◌∷◌, ◌++◌, replicate, false, refl, sym, subst}
+use Rattle.std.specs.Prelude.{All}
 use Rattle.std.proofs.lemmas.List.{length-replicate}
 use Rattle.std.proofs.lemmas.List.Elements.{All-replicate}
 use mathlib.Core.Option.{some-injective, some-ne-none}
@@ -11,10 +10,11 @@ use Rattle.bb_memory_base.specs.PoolLogs.{IsBeginning}
 use Rattle.bb_memory_base.specs.declared.steps.pool.PoolStep.{PoolStep}
 use Rattle.bb_memory_base.proofs.PoolLogSteps.{opening_agrees}
 use Rattle.bb_memory_base.proofs.SliceGets.{slice_get-replicate}
+use Rattle.bb_memory.specs.FlagWords.{HaveFlags, words_for}
 use Rattle.bb_memory.specs.Seats.{both_in_transit, both_of, first_in_transit, first_of, others_in_transit, others_of}
 use Rattle.bb_memory.specs.SharedPoolRule.{PoolSetting, RememberSteps, SeatView, WordsAndLogsAgree, all_parties, fresh_history}
 use Rattle.bb_memory.specs.SharedPoolRule.{first_back, handed_out, met_by, nobody, post_of, sight}
-use Rattle.bb_memory.specs.SharedPoolRule.{word_of, words_of}
+use Rattle.bb_memory.proofs.FlagWords.{all_free}
 use Rattle.bb_memory.proofs.Seatings.{have-parts, seated_few, seated_joined, seated_others, seated_split, times_in-parts}
 use Rattle.bb_memory.proofs.SharedPoolHistories.{begins_with_none, remember_joined, remember_split}
 use Rattle.bb_memory.proofs.SharedPoolPosts.{both_parts, handed_within, post_joined, post_split, times_of-parts}
@@ -130,17 +130,6 @@ takes_in setting seat other view guest state rule at apart there = record {
 all_empty : (n : ℕ) → All (λ (log : PoolLog). log ≡ []) (replicate n [])
 all_empty n = All-replicate (λ (log : PoolLog). log ≡ []) n [] refl
 
--- all flags free are words that are zero
-zeros : (n : ℕ) → map word_of (replicate n false) ≡ replicate n 0
-zeros zero = refl
-zeros (suc n) = ap (λ (words : List ℕ). 0 ∷ words) (zeros n)
-
-all_zero : (buckets : ℕ) → words_of (replicate buckets false) ≡ replicate (max buckets 1) 0
-all_zero zero = refl
-all_zero (suc buckets) =
-    let most : max (suc buckets) 1 ≡ suc buckets = omega arith in
-    ap (λ (words : List ℕ). 0 ∷ words) (zeros buckets) ∙ ap (λ (n : ℕ). replicate n 0) (sym most)
-
 -- the first seat remembers nothing
 none_met : (view : SeatView) (steps : List PoolStep) → met_by view ≡ [] → RememberSteps (view ∷ []) steps
 none_met view steps none zero found is =
@@ -148,7 +137,7 @@ none_met view steps none zero found is =
     (subst (λ (met : List PoolStep). IsBeginning met steps) (sym none) (begins_with_none steps))
 none_met view steps none (suc seat) found is = absurd (some-ne-none found (sym is))
 
-pub opens : (setting : PoolSetting) (words : List ℕ) → words ≡ replicate (max setting.scene.geometry.buckets 1) 0 →
+pub opens : (setting : PoolSetting) (words : List ℕ) → words ≡ replicate (words_for setting.scene.geometry.buckets) 0 →
     1 ≤ setting.scene.parties → WordsAndLogsAgree setting (opening words [] (all_parties setting))
 opens setting words are some_party =
     let scene = setting.scene in
@@ -156,7 +145,8 @@ opens setting words are some_party =
       flags = replicate scene.geometry.buckets false;
       logs = logs;
       agree = opening_agrees scene logs (all_empty scene.parties);
-      words = are ∙ sym (all_zero scene.geometry.buckets);
+      words = subst (λ (w : List ℕ). HaveFlags w (replicate scene.geometry.buckets false)) (sym are)
+          (all_free scene.geometry.buckets);
       one_a_party = length-replicate {A = PoolLog} scene.parties [];
       seated = seated_few (handed_out setting.has_post scene.parties) scene.parties (sight scene [])
           (handed_within setting.has_post scene.parties);

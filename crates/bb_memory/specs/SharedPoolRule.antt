@@ -1,5 +1,5 @@
 -- The rule of a shared pool's words, and what its seats and fields stand for.
-use Rattle.std.specs.Prelude.{◌≡◌, ℕ, ◌-◌, ◌<◌, ◌≤◌, Bool, true, false, List, [], ◌∷◌, All, None, map, max, length}
+use Rattle.std.specs.Prelude.{◌≡◌, ℕ, ◌-◌, ◌<◌, ◌≤◌, Bool, true, false, List, [], All, None, length}
 use Rattle.std.specs.declared.vec.Vec.{Vec}
 use mathlib.Core.Option.{some}
 use mathlib.Core.Path.{refl}
@@ -14,6 +14,7 @@ use Rattle.bb_memory_base.specs.PoolHistory.{PoolEntry, PoolLog}
 use Rattle.bb_memory_base.specs.PoolLogs.{HasLog, Interleaving, IsBeginning, IsHeldAfter, LogsAgree, next_bucket, pass_in}
 use Rattle.bb_memory_base.specs.declared.steps.pool.PoolStep.{PoolStep}
 use Rattle.bb_memory_base.specs.declared.layout.Layout.{Layout}
+use Rattle.bb_memory.specs.FlagWords.{HaveFlags, words_for}
 use Rattle.bb_memory.specs.SharedPoolHistory.{PoolHistory}
 use Rattle.bb_memory.specs.SharedPool.{PoolParty, IsSharedScene, SharedPool, scene_at, count_with_post}
 use Rattle.bb_memory.specs.Seats as seats
@@ -198,16 +199,6 @@ handed_out true parties = parties - 1
 abbrev pub post_of : PoolScene → ℕ
 post_of scene = scene.parties - 1
 
--- how a flag stands in its word
-abbrev pub word_of : Bool → ℕ
-word_of false = 0
-word_of true = 1
-
--- The words of the flags, one each. A pool without buckets has one word, which is no flag.
-abbrev pub words_of : List Bool → List ℕ
-words_of [] = 0 ∷ []
-words_of (flag ∷ flags) = word_of flag ∷ map word_of flags
-
 -- The post is idle, and holds each bucket that is in transit in some view. That bucket stands in the one view, once.
 pub record IsPost (scene : PoolScene) (logs : List PoolLog) (views : List SeatView) : Type 0 where
   pub log : PoolLog
@@ -226,15 +217,15 @@ pub record WordsAndLogsAgree (setting : PoolSetting) (state : State ℕ SeatView
   pub flags : List Bool
   pub logs : List PoolLog
   pub agree : LogsAgree setting.scene flags logs
-  pub words : state.words ≡ words_of flags
+  pub words : HaveFlags state.words flags
   pub one_a_party : length logs ≡ setting.scene.parties
   pub seated : AreSeated (handed_out setting.has_post setting.scene.parties) logs state.views
   pub post : setting.has_post ≡ true → IsPost setting.scene logs state.views
   pub met : RememberSteps state.views agree.steps
 
--- the table has a word for each bucket, and one where there is none
+-- the table has the words of the buckets' flags
 pub record HasWords (table : TableId) (scene : PoolScene) : Type 0 where
-  pub words : table.words ≡ max scene.geometry.buckets 1
+  pub words : table.words ≡ words_for scene.geometry.buckets
 
 -- the buckets lie in a region
 pub record IsSharedPool (scene : PoolScene) : Type 0 where

@@ -9,6 +9,7 @@ use Rattle.bb_memory_base.specs.PoolLogs.{CommonInterleaving, Interleaving, IsBe
 use Rattle.bb_memory_base.specs.declared.steps.pool.PoolStep.{PoolStep}
 use Rattle.bb_memory_base.specs.declared.steps.pool.PoolStep.TheVariants.{Try}
 use Rattle.bb_memory_base.specs.declared.steps.pool.PoolOutcome.TheVariants.{Takes}
+use Rattle.bb_memory.specs.FlagWords.{bucket_of}
 use Rattle.bb_memory.specs.Seats.{HaveLogs, number_of, times_in, view_log}
 use Rattle.bb_memory.specs.SharedPool.{AreAllHeldAfter, refused_pass, return_entry, taking_pass}
 use Rattle.bb_memory.specs.SharedPoolRounds.{at_turn, miss_at, refused_round, taking_at, taking_round}
@@ -105,17 +106,19 @@ pub record TellsTwo (scene : PoolScene) (number : ℕ) (log : PoolLog) (other : 
 
 -- THE STEPS AS THE TABLE KNOWS THEM
 
+-- each is of the bucket whose flag is the word
+
 abbrev pub tries : Step ℕ → Me ℕ SeatView → ℕ → Me ℕ SeatView → Type 0
 tries step old found new =
-    TellsTry (scene_of old.0) (number_of old.0) (view_log old.0) step.word found new
+    TellsTry (scene_of old.0) (number_of old.0) (view_log old.0) (bucket_of step.word) found new
 
 abbrev pub tries_at : Step ℕ → Me ℕ SeatView → ℕ → Me ℕ SeatView → Type 0
 tries_at step old found new =
-    TellsTryAt (scene_of old.0) (number_of old.0) (view_log old.0) step.word found new
+    TellsTryAt (scene_of old.0) (number_of old.0) (view_log old.0) (bucket_of step.word) found new
 
 abbrev pub returns : Step ℕ → Me ℕ SeatView → ℕ → Me ℕ SeatView → Type 0
 returns step old found new =
-    TellsReturn (scene_of old.0) (number_of old.0) (view_log old.0) step.word new
+    TellsReturn (scene_of old.0) (number_of old.0) (view_log old.0) (bucket_of step.word) new
 
 -- a load that changes nothing, by a seat that stands for any number of parties
 abbrev pub meets : Step ℕ → Me ℕ SeatView → ℕ → Me ℕ SeatView → Type 0
@@ -130,12 +133,12 @@ meets_again step old found new =
 -- a load of its word by the party that hands a bucket over
 abbrev pub hands_over : Step ℕ → Me ℕ SeatView → ℕ → Me ℕ SeatView → Type 0
 hands_over step old found new =
-    TellsHandOver (scene_of old.0) (number_of old.0) (view_log old.0) step.word new
+    TellsHandOver (scene_of old.0) (number_of old.0) (view_log old.0) (bucket_of step.word) new
 
 -- a load of its word by an idle party at whose seat the bucket is in transit, and which takes it
 abbrev pub takes_over : Step ℕ → Me ℕ SeatView → ℕ → Me ℕ SeatView → Type 0
 takes_over step old found new =
-    HasTakenAt (scene_of old.0) (number_of old.0) (view_log old.0) step.word new
+    HasTakenAt (scene_of old.0) (number_of old.0) (view_log old.0) (bucket_of step.word) new
 
 -- loads that change nothing, by a party at whose seat a bucket is in transit, and by a seat at which two are
 abbrev pub meets_transit : Step ℕ → Me ℕ SeatView → ℕ → Me ℕ SeatView → Type 0

@@ -5,10 +5,11 @@
 //! of the party's and one of the post's, and load a word more for the seat of what is in transit. `deal`, `gather`, `find`,
 //! `meet`, `meet_in_transit`, `tell_apart`, `begin_history`, `find_again` and `give_first_back` only load words, and are in no
 //! log; `open` is before all sharing, and `geometry` touches no word.
-ghost use Rattle.std.specs.Prelude.{◌≡◌, ◌≢◌, ◌<◌, ◌≤◌, [], IfOk, MatchBool, max};
+ghost use Rattle.std.specs.Prelude.{◌≡◌, ◌≢◌, ℕ, ◌<◌, ◌≤◌, [], IfOk, MatchBool};
 ghost use Rattle.bb_memory_base.specs.Region.{IsRegion};
 ghost use Rattle.bb_memory_base.specs.PoolGeometry.{IsPoolGeometry};
 ghost use Rattle.bb_memory_base.specs.PoolLogs.{IsHeldAfter};
+ghost use Rattle.bb_memory.specs.FlagWords.{bucket_of, word_of, words_for};
 ghost use Rattle.bb_memory.specs.Seats.{IsDealt, MayGather, Stays, both_of, number_of, others_of, view_log};
 ghost use Rattle.bb_memory.specs.SharedPoolRule.{AreTwoAt, IsHeldAt, IsIdleAt, IsInTransitAt, IsNextFor, IsOpened, IsSeatAt};
 ghost use Rattle.bb_memory.specs.SharedPoolRule.{MayHandOverAt, MayMeetTransit, RemembersAt, StandsAt, first_back};
@@ -29,11 +30,23 @@ const FREE: u64 = 0;
 
 const TAKEN: u64 = 1;
 
-/// How many words the flags of so many buckets are. A pool without buckets has one word, which is no flag.
+/// How many words there are for so many buckets. The first eight, a cache line of them, are no flag: word 0 is loaded by steps that
+/// are about no flag. Behind them each 64 buckets have 64 words.
 fn count_words(buckets: u32) -> usize
-    ensures { result ≡ max buckets 1 }
+    ensures { result ≡ words_for buckets }
 {
-    buckets.max(1) as usize
+    8 + (buckets as usize + 63) / 64 * 64
+}
+
+/// The word of a bucket's flag: nine words behind the one before it, round and round in the 64 words of its 64 buckets. With eight
+/// words on a cache line, flags that are tried one after the other are on different ones.
+fn word_of(bucket: u32) -> usize
+    ensures value { result ≡ word_of bucket }
+    ensures back { bucket_of result ≡ bucket }
+    ensures within { (buckets : ℕ) → bucket < buckets → result < words_for buckets }
+{
+    let number = bucket as usize;
+    8 + number / 64 * 64 + number * 9 % 64
 }
 
 /// The words that have the flags, and the buckets that these are of.
@@ -95,7 +108,7 @@ impl Flags {
         let found = self
             .table
             .shared
-            .compare_exchange::<Tries>(seat, bucket as usize, FREE, TAKEN);
+            .compare_exchange::<Tries>(seat, word_of(bucket), FREE, TAKEN);
         found == FREE
     }
 
@@ -112,7 +125,7 @@ impl Flags {
         let flag = self
             .table
             .shared
-            .compare_exchange::<TriesAt>(seat, bucket as usize, FREE, TAKEN);
+            .compare_exchange::<TriesAt>(seat, word_of(bucket), FREE, TAKEN);
         flag == FREE
     }
 
@@ -125,7 +138,7 @@ impl Flags {
     {
         self.table
             .shared
-            .store::<Returns>(seat, bucket as usize, FREE);
+            .store::<Returns>(seat, word_of(bucket), FREE);
     }
 
     /// A load of its word, by the party after whose log this bucket is held: the party gives the bucket back, and the post takes
@@ -136,7 +149,7 @@ impl Flags {
             (number_of seat.old.me.0) (view_log seat.old.me.0) bucket seat.new.me) }
         ensures transit { IsInTransitAt self.now result.table_id result.me bucket }
     {
-        self.table.shared.load::<HandsOver>(seat, bucket as usize);
+        self.table.shared.load::<HandsOver>(seat, word_of(bucket));
         self.table.shared.split_seat::<GiveTransit>(seat)
     }
 
@@ -150,7 +163,7 @@ impl Flags {
     {
         let shared = &self.table.shared;
         shared.join_seat::<TakeIn>(seat, transit);
-        shared.load::<TakesOver>(seat, bucket as usize);
+        shared.load::<TakesOver>(seat, word_of(bucket));
     }
 
     /// A party and a bucket in transit meet at one seat, load a word there, and go back to their own.

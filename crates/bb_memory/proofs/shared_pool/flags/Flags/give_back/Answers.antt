@@ -14,7 +14,8 @@ store-requires c =
     let counted = c.self.invariant.1.words in (
       c.requires.seat.table ∙ sym (ap (λ (p : SharedPool). p.table) c.self.view_is),
       omega arith,
-      returns_as c.self.inside.table.shared.key _ _ (number_of me.0) c.args.bucket (view_log me.0) me
+      returns_as c.self.inside.table.shared.key _ _ c.word_of.result (number_of me.0) c.args.bucket (view_log me.0) me
+          c.word_of.ensures.value
           (c.requires.seat.seat.is ∙ ap (λ (s : PoolScene). (alone s (number_of me.0) (view_log me.0), [])) (sym key))
           c.requires.held.held,
     )

@@ -16,7 +16,8 @@ compare_exchange-found-requires c =
     let counted = words.words in (
       c.requires.seat.table ∙ sym (ap (λ (p : SharedPool). p.table) c.self.view_is),
       omega arith,
-      tries_as c.self.inside.table.shared.key _ _ (number_of me.0) c.args.bucket (view_log me.0) me
+      tries_as c.self.inside.table.shared.key _ _ c.word_of.result (number_of me.0) c.args.bucket (view_log me.0) me
+          c.word_of.ensures.value
           (c.requires.seat.seat.is ∙ ap (λ (s : PoolScene). (alone s (number_of me.0) (view_log me.0), [])) (sym key))
           (subst (λ (s : PoolScene). c.args.bucket < s.geometry.buckets) (sym key) c.requires.next.below) c.requires.next.next,
     )
