@@ -1,5 +1,5 @@
 -- Envelopes, in which buckets of a shared pool with a post go from seat to seat, and what their calls are answered.
-use Rattle.std.specs.Prelude.{◌≡◌, ◌≢◌, ◌<◌, ◌≤◌, ◌⊎◌, ℕ, true, false, Option, Some, None, Ok, IfSome}
+use Rattle.std.specs.Prelude.{◌≡◌, ◌≢◌, ◌<◌, ◌≤◌, ◌-◌, ◌^◌, ◌⊎◌, ℕ, true, Option, Some, None, Ok, IfSome}
 use Rattle.bb_memory_base.specs.Region.{Region}
 use Rattle.bb_memory_base.specs.Chunk.{IsInside}
 use Rattle.bb_memory_base.specs.PoolGeometry.{IsCut}
@@ -18,6 +18,10 @@ abbrev pub Envelope : Type 0
 Envelope = Option TakenBucket
 
 -- POOLS WITH A POST
+
+-- so many parties may be handed out beside a post, which is one more
+abbrev pub AreBesidePost : ℕ → Type 0
+AreBesidePost parties = (1 ≤ parties) × (parties < 2 ^ 32 - 1)
 
 -- a pool with a post over the region, cut into buckets of the layout, of so many parties, which all have no seat and have made
 -- no step

@@ -1,12 +1,13 @@
 //! Buckets that go from seat to seat, in envelopes: pools with a post, envelopes, and what a seat does with one.
-ghost use Rattle.std.specs.Prelude.{◌≡◌, ◌≢◌, None, Some};
+ghost use Rattle.std.specs.Prelude.{◌≡◌, ◌≢◌, ◌↔◌, IsTrue, None, Some};
 ghost use Rattle.bb_memory_base.specs.Region.{region_at};
 ghost use Rattle.bb_memory.specs.SharedPoolTransit.{MayHavePost};
 ghost use Rattle.bb_memory_c.specs.Answers.{refused};
 ghost use Rattle.bb_memory_c.specs.Calls.{AnswersFree, AnswersMake, AnswersPoolMake, IfBoth, TellsWhether};
 ghost use Rattle.bb_memory_c.specs.Codes.{not_made};
 ghost use Rattle.bb_memory_c.specs.Layouts.{HasRoom};
-ghost use Rattle.bb_memory_c.specs.Transit.{AnswersOfBoth, IsForPool, MakesPoolWithPost, TellsHandOver, TellsTakeOver};
+ghost use Rattle.bb_memory_c.specs.Transit.{AnswersOfBoth, AreBesidePost, IsForPool, MakesPoolWithPost, TellsHandOver};
+ghost use Rattle.bb_memory_c.specs.Transit.{TellsTakeOver};
 
 use crate::answer::{Answer, Figure};
 use crate::call::{free, is_made, keep, tell};
@@ -16,6 +17,13 @@ use crate::handle::{EnvelopeHandle, Handle, PoolSeatHandle, SharedPoolHandle};
 use crate::layout::{cut_into, has_room};
 use crate::pool_seat::PoolSeats;
 use std::alloc::Global;
+
+/// Whether so many parties may be handed out beside a post: at least one, and fewer than `u32::MAX`.
+fn may_have_post(parties: u32) -> bool
+    ensures { IsTrue result ↔ AreBesidePost parties }
+{
+    parties > 0 && parties < u32::MAX
+}
 
 /// Makes a shared pool as `bb_shared_pool_make` does, and with a post, so that its seats may hand buckets over. Its parties are at
 /// least one, and fewer than `UINT32_MAX`.
@@ -43,7 +51,7 @@ pub extern "C" fn bb_shared_pool_make_with_post(
         Ok(bucket) => bucket,
         Err(code) => return code,
     };
-    if parties == 0 || parties == u32::MAX {
+    if !may_have_post(parties) {
         return code::CANNOT_MAKE;
     }
     if !has_room(bucket, start, size) {
