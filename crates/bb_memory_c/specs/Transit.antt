@@ -1,5 +1,5 @@
 -- Envelopes, in which buckets of a shared pool with a post go from seat to seat, and what their calls are answered.
-use Rattle.std.specs.Prelude.{◌≡◌, ◌≢◌, ◌<◌, ◌≤◌, ◌-◌, ◌^◌, ◌⊎◌, ℕ, true, Option, Some, None, Ok, IfSome}
+use Rattle.std.specs.Prelude.{◌≡◌, ◌≢◌, ◌<◌, ◌≤◌, ◌-◌, ◌^◌, ℕ, true, Option, Some, None, Ok, IfSome}
 use Rattle.bb_memory_base.specs.Region.{Region}
 use Rattle.bb_memory_base.specs.Chunk.{IsInside}
 use Rattle.bb_memory_base.specs.PoolGeometry.{IsCut}
@@ -7,10 +7,10 @@ use Rattle.bb_memory_base.specs.PoolLogs.{IsHeldAfter}
 use Rattle.bb_memory_base.specs.declared.layout.Layout.{Layout}
 use Rattle.bb_memory_c.specs.declared.answer.Answer.{Answer}
 use Rattle.bb_memory_c.specs.Answers.{answer_of, refused}
-use Rattle.bb_memory_c.specs.Calls.{IfBoth}
-use Rattle.bb_memory_c.specs.Codes.{done, envelope_empty, envelope_full, no_post, not_held, not_made, size_too_large}
+use Rattle.bb_memory_c.specs.Codes.{done, envelope_empty, envelope_full, no_post, not_held, size_too_large}
 use Rattle.bb_memory_c.specs.SharedPools.{HoldsAt, HoldsPlace, PoolSeats}
-use Rattle.bb_memory.specs.SharedPool.{AreFreshWithPost, PoolParty, TakenBucket, chunk_of, return_entry, taken_bucket, with_entries}
+use Rattle.bb_memory.specs.SharedPool.{AreFreshWithPost, PoolParty, TakenBucket, chunk_of, return_entry, taken_bucket}
+use Rattle.bb_memory.specs.SharedPool.{with_entries}
 use Rattle.bb_memory.specs.SharedPoolRounds.{taking_at}
 
 -- what is in an envelope: a bucket in transit, or nothing
@@ -91,13 +91,3 @@ pub record TellsTakeOver (party : PoolParty) (envelope : Envelope) (told : Answe
   pub taken_over : IfSome envelope (λ transit. (told ≡ answer_of (Ok (chunk_of transit))) × HasTakenOver party transit after)
   pub nothing : envelope ≡ None → (told ≡ refused envelope_empty) × (after ≡ party)
   pub empty : emptied ≡ None
-
--- CALLS OF TWO HANDLES
-
--- Where there is something behind both handles, the call answers so, and what is there becomes this. Where one of them is
--- empty, it is refused, and all stays.
-pub record AnswersOfBoth {X Y : Type 0} (old new : Option X) (old_other new_other : Option Y) (no_handle : Type 0)
-    (tells : X → Y → X → Y → Type 0) : Type 0 where
-  pub both : IfBoth old old_other (λ made other. (after : X) × (other_after : Y)
-      × (new ≡ Some after) × (new_other ≡ Some other_after) × tells made other after other_after)
-  pub empty : (old ≡ None) ⊎ (old_other ≡ None) → no_handle × (new ≡ old) × (new_other ≡ old_other)

@@ -3,11 +3,11 @@ ghost use Rattle.std.specs.Prelude.{◌≡◌, ◌≢◌, ◌↔◌, IsTrue, Non
 ghost use Rattle.bb_memory_base.specs.Region.{region_at};
 ghost use Rattle.bb_memory.specs.SharedPoolTransit.{MayHavePost};
 ghost use Rattle.bb_memory_c.specs.Answers.{refused};
-ghost use Rattle.bb_memory_c.specs.Calls.{AnswersFree, AnswersMake, AnswersPoolMake, IfBoth, TellsWhether};
+ghost use Rattle.bb_memory_c.specs.Calls.{AnswersFree, AnswersMake, AnswersOfBoth, AnswersPoolMake, IfBoth};
+ghost use Rattle.bb_memory_c.specs.Calls.{TellsWhether};
 ghost use Rattle.bb_memory_c.specs.Codes.{not_made};
 ghost use Rattle.bb_memory_c.specs.Layouts.{HasRoom};
-ghost use Rattle.bb_memory_c.specs.Transit.{AnswersOfBoth, AreBesidePost, IsForPool, MakesPoolWithPost, TellsHandOver};
-ghost use Rattle.bb_memory_c.specs.Transit.{TellsTakeOver};
+ghost use Rattle.bb_memory_c.specs.Transit.{AreBesidePost, IsForPool, MakesPoolWithPost, TellsHandOver, TellsTakeOver};
 
 use crate::answer::{Answer, Figure};
 use crate::call::{free, is_made, keep, tell};
@@ -25,8 +25,8 @@ fn may_have_post(parties: u32) -> bool
     parties > 0 && parties < u32::MAX
 }
 
-/// Makes a shared pool as `bb_shared_pool_make` does, and with a post, so that its seats may hand buckets over. Its parties are at
-/// least one, and fewer than `UINT32_MAX`.
+/// Makes a shared pool as `bb_shared_pool_make` does, and with a post, so that its seats may hand buckets over. Its parties are
+/// at least one, and fewer than `UINT32_MAX`.
 ///
 /// C guarantees of the handle what the crate's page says.
 #[unsafe(no_mangle)]
@@ -128,8 +128,8 @@ pub extern "C" fn bb_pool_seat_hand_over(
     seat.hand_over(place, len, inside)
 }
 
-/// Takes the bucket that is in the envelope, which is empty then: this seat holds it, with the chunk that is answered. It takes no
-/// memory, and waits for nothing.
+/// Takes the bucket that is in the envelope, which is empty then: this seat holds it, with the chunk that is answered. It takes
+/// no memory, and waits for nothing.
 ///
 /// C guarantees of both handles what the crate's page says, and that the bucket is of this seat's pool.
 #[unsafe(no_mangle)]

@@ -26,7 +26,8 @@ returns-in-Err c =
         λ lacks. lacks-cut c.args.bucket_size c.args.bucket_align region
             (lacks-post c.args.bucket_size c.args.bucket_align region c.args.parties lacks.1)
             (c.in-Err.ensures.cannot_make.0 (ap Err (c.in-Err.ensures.others (λ is. c.in-Err.ensures.not_a_layout.0 (ap Err is)
-            (lacks-layout c.args.bucket_size c.args.bucket_align (λ b. MayHavePost region b c.args.parties) (HasRoom region) lacks.1))))),
+            (lacks-layout c.args.bucket_size c.args.bucket_align (λ b. MayHavePost region b c.args.parties) (HasRoom region)
+            lacks.1))))),
       );
       else_memory = search rules;
       kept = search rules;
@@ -67,7 +68,13 @@ returns-then-not-has_room c =
       no_room = (
         λ _. (
           search rules,
-          (c.in-Ok.bucket, c.in-Ok.ensures.cut.layout, may-post c.args.bucket_size c.args.bucket_align region c.args.parties c.in-Ok.bucket c.in-Ok.ensures.cut (search rules), search rules),
+          (
+            c.in-Ok.bucket,
+            c.in-Ok.ensures.cut.layout,
+            may-post c.args.bucket_size c.args.bucket_align region c.args.parties
+                c.in-Ok.bucket c.in-Ok.ensures.cut (search rules),
+            search rules,
+          ),
         ),
         λ _. refl,
       );
