@@ -114,6 +114,20 @@ error! {
 }
 
 error! {
+    /// Why a bucket wasn't handed over. Its seat holds it still, if it did.
+    HandOverError {
+        /// The seat's pool has no post.
+        NoPost = NO_POST: "the pool has no post",
+        /// The place isn't that of a bucket which this seat holds.
+        NotHeld = NOT_HELD: "nothing is held at the place",
+        /// The length is greater than the bucket's size.
+        SizeTooLarge = SIZE_TOO_LARGE: "the size is greater than a bucket's",
+        /// A bucket is in the envelope already.
+        EnvelopeFull = ENVELOPE_FULL: "a bucket is in the envelope already",
+    }
+}
+
+error! {
     /// Why a bump that threads share didn't begin anew. It is as it was.
     BeginError {
         /// Not each party's seat has come back; for good where one was dropped.

@@ -46,6 +46,8 @@ pub const MALLOC_REFUSED: u32 = 14;
 pub const MORE_THAN_RESERVED: u32 = 15;
 pub const NO_BUCKET: u32 = 16;
 pub const SEATS_OUT: u32 = 18;
+pub const NO_POST: u32 = 19;
+pub const ENVELOPE_FULL: u32 = 20;
 
 /// Frees what is behind a handle.
 pub type Free = unsafe extern "C" fn(*mut Handle) -> u32;
@@ -134,6 +136,14 @@ unsafe extern "C" {
         parties: u32,
         most: u32,
     ) -> u32;
+    pub fn bb_shared_pool_make_with_post(
+        handle: *mut Handle,
+        bucket_size: usize,
+        bucket_align: usize,
+        start: *const c_void,
+        size: usize,
+        parties: u32,
+    ) -> u32;
     pub fn bb_shared_pool_free(handle: *mut Handle) -> u32;
     pub fn bb_shared_pool_seat(handle: *mut Handle, seat: *mut Handle) -> u32;
     pub fn bb_shared_pool_leave(handle: *mut Handle, seat: *mut Handle) -> u32;
@@ -207,6 +217,17 @@ unsafe extern "C" {
     pub fn bb_fixed_pool_bucket_size(handle: *mut Handle) -> Figure;
     pub fn bb_fixed_pool_max_alignment(handle: *mut Handle) -> Figure;
     pub fn bb_fixed_pool_size(handle: *mut Handle) -> Figure;
+
+    pub fn bb_envelope_make(handle: *mut Handle) -> u32;
+    pub fn bb_envelope_free(handle: *mut Handle) -> u32;
+    pub fn bb_envelope_is_full(handle: *mut Handle) -> Figure;
+    pub fn bb_pool_seat_hand_over(
+        handle: *mut Handle,
+        place: *const c_void,
+        len: usize,
+        envelope: *mut Handle,
+    ) -> u32;
+    pub fn bb_pool_seat_take_over(handle: *mut Handle, envelope: *mut Handle) -> Answer;
 
     pub fn bb_pool_seat_free(handle: *mut Handle) -> u32;
     pub fn bb_pool_seat_allocate(handle: *mut Handle, size: usize, align: usize) -> Answer;

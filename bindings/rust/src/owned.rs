@@ -95,6 +95,11 @@ impl<K: Kind> Owned<K> {
         self.start
     }
 
+    /// The number of what was made, which a seat shares with what it is at.
+    pub fn number(&self) -> usize {
+        self.number
+    }
+
     /// The handle's address, for one call.
     pub fn handle(&self) -> *mut Handle {
         self.handle.get()
@@ -111,7 +116,7 @@ impl<K: Kind> Owned<K> {
     }
 
     /// The chunk that was given, by the pointer with which the region was handed in.
-    fn chunk(&self, answer: ffi::Answer) -> Result<NonNull<[u8]>, u32> {
+    pub fn chunk(&self, answer: ffi::Answer) -> Result<NonNull<[u8]>, u32> {
         if answer.code != ffi::DONE {
             return Err(answer.code);
         }

@@ -1,10 +1,11 @@
 //! What threads share: each has a seat, which it takes along.
 use bb_memory::{
-    AllocationError, BaseAllocator, BeginError, BumpSeat, DeallocationError, MakeError, PoolSeat,
-    SeatError, SharedBumpAllocator, SharedPoolAllocator,
+    AllocationError, BaseAllocator, BeginError, BumpSeat, DeallocationError, Envelope,
+    HandOverError, MakeError, PoolSeat, SeatError, SharedBumpAllocator, SharedPoolAllocator,
 };
 use std::alloc::Layout;
 use std::ptr::NonNull;
+use std::sync::mpsc;
 use std::thread;
 
 const THREADS: u32 = 4;
@@ -196,10 +197,127 @@ fn a_shared_pool_has_at_most_so_many_buckets() {
 }
 
 #[test]
+fn a_receiver_gives_back_what_it_was_sent() {
+    let mut region = Box::new_uninit_slice(64 * 3);
+    let pool = SharedPoolAllocator::over_with_post(bucket(), &mut region, 2).unwrap();
+    let (sender, receiver) = (pool.seat().unwrap(), pool.seat().unwrap());
+    let (full, sent) = mpsc::sync_channel::<Envelope>(1);
+    let (empty, returned) = mpsc::channel::<Envelope>();
+    for _ in 0..2 {
+        empty.send(Envelope::new().unwrap()).unwrap();
+    }
+    let (sender, receiver) = thread::scope(|scope| {
+        let sending = scope.spawn(move || {
+            for number in 0..ROUNDS {
+                let mut envelope = returned.recv().unwrap();
+                let chunk = sender.allocate(bucket()).unwrap().cast::<u64>();
+                let len = 8 + (number % 57) as usize;
+                // SAFETY: the chunk is this thread's until it is handed over.
+                unsafe {
+                    chunk.write(number);
+                    assert_eq!(sender.hand_over(chunk.cast(), len, &mut envelope), Ok(()));
+                }
+                assert!(!sender.holds(chunk.cast()) && envelope.is_full());
+                full.send(envelope).unwrap();
+            }
+            sender
+        });
+        let receiving = scope.spawn(move || {
+            for number in 0..ROUNDS {
+                let mut envelope = sent.recv().unwrap();
+                let chunk = receiver.take_over(&mut envelope).unwrap();
+                assert_eq!(chunk.len(), 8 + (number % 57) as usize);
+                assert!(receiver.take_over(&mut envelope).is_none() && !envelope.is_full());
+                // SAFETY: the chunk is this thread's until it gives it back.
+                unsafe {
+                    assert_eq!(chunk.cast::<u64>().read(), number);
+                    assert_eq!(receiver.try_deallocate(chunk.cast()), Ok(()));
+                }
+                // The sender is done before the last ones.
+                let _ = empty.send(envelope);
+            }
+            receiver
+        });
+        (sending.join().unwrap(), receiving.join().unwrap())
+    });
+    assert_eq!((sender.held_buckets(), receiver.held_buckets()), (0, 0));
+    for _ in 0..3 {
+        assert!(sender.allocate(bucket()).is_ok());
+    }
+}
+
+#[test]
+fn a_bucket_is_handed_over_only_where_it_can_be() {
+    let mut region = Box::new_uninit_slice(64 * 2);
+    let mut without = Box::new_uninit_slice(64);
+    let pool = SharedPoolAllocator::over_with_post(bucket(), &mut region, 2).unwrap();
+    let (mine, other) = (pool.seat().unwrap(), pool.seat().unwrap());
+    let mut envelope = Envelope::new().unwrap();
+    assert!(!envelope.is_full() && mine.take_over(&mut envelope).is_none());
+    let chunk = mine.allocate(bucket()).unwrap().cast::<u8>();
+    let kept = mine.allocate(bucket()).unwrap().cast::<u8>();
+    let without = SharedPoolAllocator::over(bucket(), &mut without, 1).unwrap();
+    let elsewhere = without.seat().unwrap();
+    let there = elsewhere.allocate(bucket()).unwrap().cast::<u8>();
+    // SAFETY: no chunk is used, here and below.
+    unsafe {
+        assert_eq!(
+            elsewhere.hand_over(there, 64, &mut envelope),
+            Err(HandOverError::NoPost)
+        );
+        assert_eq!(
+            other.hand_over(chunk, 64, &mut envelope),
+            Err(HandOverError::NotHeld)
+        );
+        assert_eq!(
+            mine.hand_over(chunk, 65, &mut envelope),
+            Err(HandOverError::SizeTooLarge)
+        );
+        assert_eq!(mine.hand_over(chunk, 64, &mut envelope), Ok(()));
+        assert_eq!(
+            mine.hand_over(kept, 64, &mut envelope),
+            Err(HandOverError::EnvelopeFull)
+        );
+        assert_eq!(mine.try_deallocate(chunk), Err(DeallocationError::NotHeld));
+    }
+    assert_eq!(
+        other.allocate(bucket()).err(),
+        Some(AllocationError::OutOfMemory)
+    );
+    let taken = other.take_over(&mut envelope).unwrap();
+    assert_eq!(
+        (taken.cast(), taken.len(), other.holds(chunk)),
+        (chunk, 64, true)
+    );
+    // SAFETY: as above.
+    unsafe {
+        assert_eq!(mine.try_deallocate(chunk), Err(DeallocationError::NotHeld));
+        assert_eq!(other.try_deallocate(chunk), Ok(()));
+    }
+}
+
+#[test]
+#[should_panic(expected = "the bucket is another pool's")]
+fn a_bucket_is_not_taken_over_at_another_pool() {
+    let (mut mine, mut other) = (Box::new_uninit_slice(64), Box::new_uninit_slice(64));
+    let mine = SharedPoolAllocator::over_with_post(bucket(), &mut mine, 1).unwrap();
+    let other = SharedPoolAllocator::over_with_post(bucket(), &mut other, 1).unwrap();
+    let (seat, mut envelope) = (mine.seat().unwrap(), Envelope::new().unwrap());
+    let chunk = seat.allocate(bucket()).unwrap().cast::<u8>();
+    // SAFETY: the chunk isn't used.
+    unsafe { seat.hand_over(chunk, 64, &mut envelope).unwrap() };
+    other.seat().unwrap().take_over(&mut envelope);
+}
+
+#[test]
 fn nothing_is_made_for_no_party() {
     let mut region = Box::new_uninit_slice(64);
     let made = SharedBumpAllocator::over(&mut region, 0);
     assert_eq!(made.err(), Some(MakeError::CannotMake));
     let made = SharedPoolAllocator::over(bucket(), &mut region, 0);
     assert_eq!(made.err(), Some(MakeError::CannotMake));
+    for parties in [0, u32::MAX] {
+        let made = SharedPoolAllocator::over_with_post(bucket(), &mut region, parties);
+        assert_eq!(made.err(), Some(MakeError::CannotMake));
+    }
 }

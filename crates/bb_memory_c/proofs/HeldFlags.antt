@@ -13,7 +13,7 @@ use Rattle.bb_memory_base.proofs.SliceGets.{length-set_at}
 use Rattle.bb_memory_base.proofs.SliceSets.{slice_get-set_other, slice_get-set_same}
 use Rattle.bb_memory_base.proofs.PoolHolders.{held_through}
 use Rattle.bb_memory.specs.SharedPool.{PoolParty, SharedPool, TakenBucket, return_entry, with_entries}
-use Rattle.bb_memory.specs.SharedPoolRounds.{MayTakeFrom, taking_round}
+use Rattle.bb_memory.specs.SharedPoolRounds.{MayTakeFrom, taking_at, taking_round}
 use Rattle.bb_memory.proofs.SharedPoolRounds.{held-round, missed_same}
 use Rattle.bb_memory.proofs.SharedPoolTries.{held-append}
 use Rattle.bb_memory_c.specs.SharedPools.{AreHeldFlags, IsSeatAt}
@@ -24,6 +24,11 @@ after-return : (party returned bucket : ℕ) (log : PoolLog) →
     held_through bucket false (log ++ return_entry party returned)
     ≡ (if returned == bucket then false else held_through bucket false log)
 after-return party returned bucket log = held-append bucket false log (return_entry party returned)
+
+after-taking : (party taken bucket : ℕ) (log : PoolLog) →
+    held_through bucket false (log ++ taking_at party taken)
+    ≡ (if taken == bucket then true else held_through bucket false log)
+after-taking party taken bucket log = held-append bucket false log (taking_at party taken)
 
 -- FLAGS
 
@@ -98,4 +103,18 @@ returned-seat pool party new flags number is held told =
       as_many = length-set_at flags number false ∙ is.as_many;
       exact = flags-set flags number false party.log (party.log ++ return_entry party.number number) below is.exact
           (λ bucket. after-return party.number number bucket party.log);
+    }
+
+-- the taking of one bucket sets it
+pub taken-over-seat : (pool : SharedPool) (party new : PoolParty) (flags : List Bool) (number : ℕ) →
+    IsSeatAt pool party flags → number < pool.scene.geometry.buckets →
+    new ≡ with_entries party (taking_at party.number number) →
+    IsSeatAt pool new (slice_set flags number true)
+taken-over-seat pool party new flags number is below told =
+    let there : number < length flags = subst (λ n. number < n) (sym is.as_many) below in
+    subst (λ (p : PoolParty). IsSeatAt pool p (slice_set flags number true)) (sym told) record {
+      theirs = is.theirs;
+      as_many = length-set_at flags number true ∙ is.as_many;
+      exact = flags-set flags number true party.log (party.log ++ taking_at party.number number) there is.exact
+          (λ bucket. after-taking party.number number bucket party.log);
     }

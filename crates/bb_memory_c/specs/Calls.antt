@@ -147,6 +147,14 @@ pub record TakesSeat {X Y : Type 0} (old new : X) (told : Result Y ℕ) (left : 
 abbrev pub IfBoth : {X Y : Type 0} → Option X → Option Y → (X → Y → Type 0) → Type 0
 IfBoth made party are = IfSome made (λ m. IfSome party (λ p. are m p))
 
+-- Where there is something behind both handles, the call answers so, and what is there becomes this. Where one of them is
+-- empty, it is refused, and all stays.
+pub record AnswersOfBoth {X Y : Type 0} (old new : Option X) (old_other new_other : Option Y) (refused_so : Type 0)
+    (tells : X → Y → X → Y → Type 0) : Type 0 where
+  pub both : IfBoth old old_other (λ made other. (after : X) × (other_after : Y)
+      × (new ≡ Some after) × (new_other ≡ Some other_after) × tells made other after other_after)
+  pub empty : (old ≡ None) ⊎ (old_other ≡ None) → refused_so × (new ≡ old) × (new_other ≡ old_other)
+
 -- A seat's party comes back as the last one without a seat, as what it is when it has left the seat, whose handle is empty then.
 -- Where one of the handles is empty, it is refused, and then all stays.
 pub record GetsSeatBack {X Y : Type 0} (old new : Option X) (old_seat new_seat : Option Y) (code : ℕ) (leaves : Y → Y → Type 0)

@@ -72,3 +72,15 @@ no_bucket = 16
 -- not each party's seat has come back
 abbrev pub seats_out : ℕ
 seats_out = 18
+
+-- the pool has no post
+abbrev pub no_post : ℕ
+no_post = 19
+
+-- a bucket is in the envelope already
+abbrev pub envelope_full : ℕ
+envelope_full = 20
+
+-- no bucket is in the envelope
+abbrev pub envelope_empty : ℕ
+envelope_empty = 21

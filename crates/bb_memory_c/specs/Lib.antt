@@ -12,3 +12,4 @@ pub mod SharedBumpHandles
 pub mod SharedBumps
 pub mod SharedPoolHandles
 pub mod SharedPools
+pub mod Transit

@@ -7,6 +7,7 @@ ghost use Rattle.std.specs.Borrow.{sem, LendsSo};
 
 mod bump;
 mod bump_seat;
+mod envelope;
 mod fixed_pool;
 mod one_chunk;
 mod pool;
@@ -17,6 +18,7 @@ mod shared_pool;
 use crate::held::Held;
 pub use bump::BumpHandle;
 pub use bump_seat::BumpSeatHandle;
+pub use envelope::EnvelopeHandle;
 pub use fixed_pool::FixedPoolHandle;
 pub use one_chunk::OneChunkHandle;
 pub use pool::PoolHandle;

@@ -9,18 +9,20 @@
 //! - `layout`: layouts of two numbers that C hands in.
 //! - `loose`: a box whose pointer is in sight. `held`: what was made, or nothing.
 //! - `handle`: what the host holds, with a file for each kind: `bump`, `one_chunk`, `pool`, `fixed_pool`, `shared_bump`,
-//!   `bump_seat`, `shared_pool` and `pool_seat`.
+//!   `bump_seat`, `shared_pool`, `pool_seat` and `envelope`.
 //! - `kind`: what is made behind a handle has to do. `call`: each call, written once over any handle.
 //! - `bump`, `one_chunk`, `pool`, `fixed_pool`: the exported functions of each allocator with one owner.
 //! - `bump_seat`, `pool_seat`: what a party's seat has, and what it does.
 //! - `shared_bump`, `shared_pool`: the exported functions of what threads share, and of its seats.
+//! - `envelope`: in what buckets go from seat to seat. `transit`: the exported functions for that.
 //!
 //! Every function of a handle requires this of C: the handle is one variable of the host's, whose address isn't null, both
 //! fields zero before its first use, and nothing else writes it; it is of the kind that the function's type names, all its life;
 //! it may be moved, and then the old one isn't used; one call at a time has it, but for the getters that the header says may run
 //! beside others, and it goes to another thread only in an order that the threads keep; a seat is passed back to what it is at
-//! alone; no call comes from a signal handler, or in a child that a process of several threads forked; and `malloc`, `realloc`
-//! and `free` are those of one allocator, and align as C says.
+//! alone, and a bucket in an envelope is taken over by a seat of its own pool alone; no call comes from a signal handler, or in a
+//! child that a process of several threads forked; and `malloc`, `realloc` and `free` are those of one allocator, and align as C
+//! says.
 #![tactic(auto)]
 
 mod answer;
@@ -28,6 +30,7 @@ mod bump;
 mod bump_seat;
 mod call;
 mod code;
+mod envelope;
 mod fixed_pool;
 mod handle;
 mod held;
@@ -39,3 +42,4 @@ mod pool;
 mod pool_seat;
 mod shared_bump;
 mod shared_pool;
+mod transit;

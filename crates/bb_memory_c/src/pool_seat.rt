@@ -48,7 +48,7 @@ fn count_set(flags: &[bool]) -> usize
 
 impl PoolSeat {
     /// The number of the bucket at this place, if the party holds it.
-    fn held_at(&self, place: usize) -> Option<u32>
+    pub(crate) fn held_at(&self, place: usize) -> Option<u32>
         ensures held { IfSome result (HoldsAt self.now place) }
         ensures none { IfNone result (¬ HoldsPlace self.now place) }
     {

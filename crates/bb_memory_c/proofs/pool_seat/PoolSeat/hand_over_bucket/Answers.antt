@@ -1,0 +1,13 @@
+use Rattle.std.proofs.Common.{◌∙◌, ap}
+use Rattle.std.specs.Arc.{arc_value}
+use Rattle.bb_memory.specs.SharedPool.{TakenBucket, return_entry, with_entries}
+use Rattle.bb_memory_c.proofs.HeldFlags.{returned-seat}
+use Rattle.bb_memory_c.proofs.pool_seat.PoolSeat.hand_over_bucket.Goals as goal
+
+pub invariant_of-self : goal.invariant_of-self
+invariant_of-self c =
+    let there = rw (← c.self.view_is) at c.requires.held in
+    let party = c.self.inside.party in
+    returned-seat (arc_value c.self.inside.pool) party c.hand_over-transit.new.party c.self.inside.held.items
+    c.args.number c.self.invariant there (c.hand_over-transit.ensures.party.logged
+    ∙ ap (λ (b : TakenBucket). with_entries party (return_entry party.number b.number)) c.bucket-bucket.ensures.value)

@@ -1,0 +1,153 @@
+//! Buckets that go from seat to seat, in envelopes: pools with a post, envelopes, and what a seat does with one.
+ghost use Rattle.std.specs.Prelude.{◌≡◌, ◌≢◌, ◌↔◌, IsTrue, None, Some};
+ghost use Rattle.bb_memory_base.specs.Region.{region_at};
+ghost use Rattle.bb_memory.specs.SharedPoolTransit.{MayHavePost};
+ghost use Rattle.bb_memory_c.specs.Answers.{refused};
+ghost use Rattle.bb_memory_c.specs.Calls.{AnswersFree, AnswersMake, AnswersOfBoth, AnswersPoolMake, IfBoth};
+ghost use Rattle.bb_memory_c.specs.Calls.{TellsWhether};
+ghost use Rattle.bb_memory_c.specs.Codes.{not_made};
+ghost use Rattle.bb_memory_c.specs.Layouts.{HasRoom};
+ghost use Rattle.bb_memory_c.specs.Transit.{AreBesidePost, IsForPool, MakesPoolWithPost, TellsHandOver, TellsTakeOver};
+
+use crate::answer::{Answer, Figure};
+use crate::call::{free, is_made, keep, tell};
+use crate::code;
+use crate::envelope::Envelope;
+use crate::handle::{EnvelopeHandle, Handle, PoolSeatHandle, SharedPoolHandle};
+use crate::layout::{cut_into, has_room};
+use crate::pool_seat::PoolSeats;
+use std::alloc::Global;
+
+/// Whether so many parties may be handed out beside a post: at least one, and fewer than `u32::MAX`.
+fn may_have_post(parties: u32) -> bool
+    ensures { IsTrue result ↔ AreBesidePost parties }
+{
+    parties > 0 && parties < u32::MAX
+}
+
+/// Makes a shared pool as `bb_shared_pool_make` does, and with a post, so that its seats may hand buckets over. Its parties are
+/// at least one, and fewer than `UINT32_MAX`.
+///
+/// C guarantees of the handle what the crate's page says.
+#[unsafe(no_mangle)]
+pub extern "C" fn bb_shared_pool_make_with_post(
+    alloc: Global,
+    handle: &mut SharedPoolHandle,
+    bucket_size: usize,
+    bucket_align: usize,
+    start: usize,
+    size: usize,
+    parties: u32,
+) -> u32
+    ensures { AnswersPoolMake handle.old.value handle.new.value bucket_size bucket_align result
+        (λ bucket. MayHavePost (region_at start size) bucket parties)
+        (HasRoom (region_at start size))
+        (λ bucket. MakesPoolWithPost (region_at start size) bucket parties) }
+{
+    if is_made(handle, alloc) {
+        return code::ALREADY_MADE;
+    }
+    let bucket = match cut_into(bucket_size, bucket_align, start, size) {
+        Ok(bucket) => bucket,
+        Err(code) => return code,
+    };
+    if !may_have_post(parties) {
+        return code::CANNOT_MAKE;
+    }
+    if !has_room(bucket, start, size) {
+        return code::NO_BUCKET;
+    }
+    let Some(seats) = PoolSeats::with_post(alloc, bucket, start, size, parties) else {
+        return code::MALLOC_REFUSED;
+    };
+    keep(handle, alloc, seats)
+}
+
+/// Makes an envelope with nothing in it, behind a handle that has to be empty.
+///
+/// C guarantees of the handle what the crate's page says.
+#[unsafe(no_mangle)]
+pub extern "C" fn bb_envelope_make(alloc: Global, handle: &mut EnvelopeHandle) -> u32
+    ensures { AnswersMake handle.old.value handle.new.value result (Unit {0})
+        (λ new. new ≡ Some None) }
+{
+    if is_made(handle, alloc) {
+        return code::ALREADY_MADE;
+    }
+    keep(handle, alloc, Envelope::new())
+}
+
+/// Frees an envelope, whose handle is empty then. A bucket that is in it stays in transit for good. The answer is 0, or
+/// `BB_NOT_MADE` where the handle was empty already.
+///
+/// C guarantees of the handle what the crate's page says.
+#[unsafe(no_mangle)]
+pub extern "C" fn bb_envelope_free(alloc: Global, handle: &mut EnvelopeHandle) -> u32
+    ensures { AnswersFree handle.old.value handle.new.value result }
+{
+    free(handle, alloc)
+}
+
+/// Whether a bucket is in the envelope: 1 or 0.
+///
+/// C guarantees of the handle what the crate's page says.
+#[unsafe(no_mangle)]
+pub extern "C" fn bb_envelope_is_full(alloc: Global, handle: &mut EnvelopeHandle) -> Figure
+    ensures { TellsWhether handle.old.value handle.new.value result
+        (λ envelope. envelope ≢ None) }
+{
+    tell(
+        handle,
+        alloc,
+        |envelope| Figure::whether(envelope.is_full()),
+    )
+}
+
+/// Puts the bucket at this place, which this seat holds, into an envelope that is empty, with a chunk of `len` bytes. The seat
+/// doesn't hold it then. It takes no memory, and waits for nothing.
+///
+/// C guarantees of both handles what the crate's page says.
+#[unsafe(no_mangle)]
+pub extern "C" fn bb_pool_seat_hand_over(
+    _alloc: Global,
+    handle: &mut PoolSeatHandle,
+    place: usize,
+    len: usize,
+    envelope: &mut EnvelopeHandle,
+) -> u32
+    ensures { AnswersOfBoth handle.old.value handle.new.value
+        envelope.old.value envelope.new.value (result ≡ not_made)
+        (λ party inside. TellsHandOver party inside place len result) }
+{
+    let Some(seat) = handle.made_mut() else {
+        return code::NOT_MADE;
+    };
+    let Some(inside) = envelope.made_mut() else {
+        return code::NOT_MADE;
+    };
+    seat.hand_over(place, len, inside)
+}
+
+/// Takes the bucket that is in the envelope, which is empty then: this seat holds it, with the chunk that is answered. It takes
+/// no memory, and waits for nothing.
+///
+/// C guarantees of both handles what the crate's page says, and that the bucket is of this seat's pool.
+#[unsafe(no_mangle)]
+pub extern "C" fn bb_pool_seat_take_over(
+    _alloc: Global,
+    handle: &mut PoolSeatHandle,
+    envelope: &mut EnvelopeHandle,
+) -> Answer
+    requires { IfBoth handle.old.value envelope.old.value IsForPool }
+    ensures { AnswersOfBoth handle.old.value handle.new.value
+        envelope.old.value envelope.new.value (result ≡ refused not_made)
+        (λ party inside. TellsTakeOver party inside result) }
+{
+    let Some(seat) = handle.made_mut() else {
+        return Answer::refusal(code::NOT_MADE);
+    };
+    let Some(inside) = envelope.made_mut() else {
+        return Answer::refusal(code::NOT_MADE);
+    };
+    seat.take_over(inside)
+}

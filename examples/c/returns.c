@@ -1,0 +1,217 @@
+// A queue whose receivers return what they received: two threads send, two receive, and all share one pool, each by a seat of
+// its own. A sender takes a bucket, fills it, and hands it over into an envelope. The receiver that gets the envelope takes the
+// bucket over, reads the message, and gives the bucket back by its own seat, with no word to the sender.
+//
+// The envelopes are made with the queue. Who puts one into a slot takes the slot's empty one in its place, so no message takes
+// memory, and no call of a seat is made under the lock.
+#define _POSIX_C_SOURCE 200809L
+#include <pthread.h>
+#include <sched.h>
+#include <stdint.h>
+#include <stdio.h>
+#include <stdlib.h>
+#include <string.h>
+
+#include "bb_memory.h"
+
+enum { SENDERS = 2, RECEIVERS = 2, MESSAGES = 5000, BUCKETS = 12, BUCKET_SIZE = 64, SLOTS = 8 };
+
+static uint64_t pool_words[BB_BYTES_FOR(BUCKET_SIZE, 8, BUCKETS) / 8];
+
+// What a message begins with. Behind it all bytes are one that its number makes.
+typedef struct { uint64_t sender, number; } head;
+
+typedef struct {
+    pthread_mutex_t lock;
+    pthread_cond_t changed;
+    bb_envelope slots[SLOTS];
+    size_t first, count;
+    size_t taken;  // how many messages receivers took out
+} queue;
+
+static queue shared = {PTHREAD_MUTEX_INITIALIZER, PTHREAD_COND_INITIALIZER, {BB_EMPTY}, 0, 0, 0};
+
+// A thread: its seat, and the one envelope that it has in hand.
+typedef struct {
+    size_t number;
+    bb_pool_seat seat;
+    bb_envelope envelope;
+    unsigned char seen[SENDERS][MESSAGES];  // of a receiver: how often it received each message
+} worker;
+
+static worker senders[SENDERS], receivers[RECEIVERS];
+
+#if defined(__SANITIZE_THREAD__)
+#define HAS_THREAD_SANITIZER
+#elif defined(__has_feature)
+#if __has_feature(thread_sanitizer)
+#define HAS_THREAD_SANITIZER
+#endif
+#endif
+
+// A return of a bucket comes before its next taking, by steps that the checker of threads can't see in the library.
+#ifdef HAS_THREAD_SANITIZER
+#ifdef __cplusplus
+extern "C" {
+#endif
+void __tsan_acquire(void *at);
+void __tsan_release(void *at);
+#ifdef __cplusplus
+}
+#endif
+
+static void tell_taking(void *place) { __tsan_acquire(place); }
+
+static void tell_return(void *place) { __tsan_release(place); }
+#else
+static void tell_taking(void *place) { (void)place; }
+
+static void tell_return(void *place) { (void)place; }
+#endif
+
+static void expect(int holds, const char *what) {
+    if (!holds) {
+        fprintf(stderr, "returns: not so: %s\n", what);
+        exit(1);
+    }
+}
+
+static void change_places(bb_envelope *one, bb_envelope *other) {
+    bb_envelope moved = *one;
+    *one = *other;
+    *other = moved;
+}
+
+static size_t length_of(size_t sender, size_t number) {
+    return sizeof(head) + (number * 13 + sender) % (BUCKET_SIZE - sizeof(head));
+}
+
+static int byte_of(size_t sender, size_t number) { return (int)((sender * 61 + number * 7 + 1) % 256); }
+
+// A full envelope goes into a slot, and the slot's empty one comes out.
+static void put(bb_envelope *envelope) {
+    pthread_mutex_lock(&shared.lock);
+    while (shared.count == SLOTS)
+        pthread_cond_wait(&shared.changed, &shared.lock);
+    change_places(envelope, &shared.slots[(shared.first + shared.count) % SLOTS]);
+    shared.count++;
+    pthread_cond_broadcast(&shared.changed);
+    pthread_mutex_unlock(&shared.lock);
+}
+
+// The reverse of the oldest full one, or 0 where each message was taken out.
+static int get(bb_envelope *envelope) {
+    pthread_mutex_lock(&shared.lock);
+    while (shared.count == 0 && shared.taken < SENDERS * MESSAGES)
+        pthread_cond_wait(&shared.changed, &shared.lock);
+    int is_there = shared.count > 0;
+    if (is_there) {
+        change_places(envelope, &shared.slots[shared.first]);
+        shared.first = (shared.first + 1) % SLOTS;
+        shared.count--;
+        shared.taken++;
+        pthread_cond_broadcast(&shared.changed);
+    }
+    pthread_mutex_unlock(&shared.lock);
+    return is_there;
+}
+
+static void *send_all(void *argument) {
+    worker *self = (worker *)argument;
+    for (size_t number = 0; number < MESSAGES; number++) {
+        size_t len = length_of(self->number, number);
+        bb_answer given;
+        while ((given = bb_pool_seat_allocate(&self->seat, len, 8)).code == BB_OUT_OF_MEMORY)
+            sched_yield();
+        expect(given.code == BB_DONE && given.len == len, "a bucket is given");
+        tell_taking(given.place);
+        head begins = {self->number, number};
+        memcpy(given.place, &begins, sizeof begins);
+        memset((unsigned char *)given.place + sizeof begins, byte_of(self->number, number), len - sizeof begins);
+        expect(bb_pool_seat_hand_over(&self->seat, given.place, len, &self->envelope) == BB_DONE, "a bucket is handed over");
+        expect(bb_pool_seat_deallocate(&self->seat, given.place) == BB_NOT_HELD, "its sender doesn't hold it any more");
+        put(&self->envelope);
+    }
+    return NULL;
+}
+
+static void *receive_all(void *argument) {
+    worker *self = (worker *)argument;
+    while (get(&self->envelope)) {
+        bb_answer taken = bb_pool_seat_take_over(&self->seat, &self->envelope);
+        expect(taken.code == BB_DONE && taken.len >= sizeof(head), "a bucket is taken over");
+        head begins;
+        memcpy(&begins, taken.place, sizeof begins);
+        expect(begins.sender < SENDERS && begins.number < MESSAGES, "a message begins as its sender wrote it");
+        expect(taken.len == length_of(begins.sender, begins.number), "it is as long as its sender said");
+        const unsigned char *bytes = (const unsigned char *)taken.place;
+        for (size_t at = sizeof begins; at < taken.len; at++)
+            expect(bytes[at] == byte_of(begins.sender, begins.number), "it has what its sender wrote");
+        self->seen[begins.sender][begins.number]++;
+        tell_return(taken.place);
+        expect(bb_pool_seat_deallocate(&self->seat, taken.place) == BB_DONE, "its receiver gives it back");
+    }
+    return NULL;
+}
+
+static void make(worker *workers, size_t count, bb_shared_pool *pool) {
+    for (size_t number = 0; number < count; number++) {
+        workers[number].number = number;
+        expect(bb_shared_pool_seat(pool, &workers[number].seat) == BB_DONE, "a party has a seat");
+        expect(bb_envelope_make(&workers[number].envelope) == BB_DONE, "an envelope is made");
+    }
+}
+
+static void take_back(worker *workers, size_t count, bb_shared_pool *pool) {
+    for (size_t number = 0; number < count; number++) {
+        expect(bb_pool_seat_held_buckets(&workers[number].seat).number == 0, "no seat holds a bucket");
+        expect(bb_shared_pool_leave(pool, &workers[number].seat) == BB_DONE, "a seat comes back");
+        expect(bb_envelope_is_full(&workers[number].envelope).number == 0, "no bucket is in transit");
+        expect(bb_envelope_free(&workers[number].envelope) == BB_DONE, "an envelope is freed");
+    }
+}
+
+// Each message was received once, and each bucket can be taken again.
+static void expect_all(bb_shared_pool *pool) {
+    for (size_t sender = 0; sender < SENDERS; sender++)
+        for (size_t number = 0; number < MESSAGES; number++) {
+            unsigned times = 0;
+            for (size_t receiver = 0; receiver < RECEIVERS; receiver++)
+                times += receivers[receiver].seen[sender][number];
+            expect(times == 1, "each message is received once");
+        }
+    bb_pool_seat seat = BB_EMPTY;
+    expect(bb_shared_pool_seat(pool, &seat) == BB_DONE, "a seat is given anew");
+    for (size_t bucket = 0; bucket < BUCKETS; bucket++)
+        expect(bb_pool_seat_allocate(&seat, BUCKET_SIZE, 8).code == BB_DONE, "each bucket is free again");
+    expect(bb_shared_pool_leave(pool, &seat) == BB_DONE, "the seat comes back");
+}
+
+int main(void) {
+    bb_shared_pool pool = BB_EMPTY;
+    expect(bb_shared_pool_make_with_post(&pool, BUCKET_SIZE, 8, pool_words, sizeof pool_words, SENDERS + RECEIVERS) == BB_DONE,
+           "a pool with a post is made");
+    make(senders, SENDERS, &pool);
+    make(receivers, RECEIVERS, &pool);
+    for (size_t slot = 0; slot < SLOTS; slot++)
+        expect(bb_envelope_make(&shared.slots[slot]) == BB_DONE, "a slot has an envelope");
+
+    pthread_t sending[SENDERS], receiving[RECEIVERS];
+    for (size_t number = 0; number < RECEIVERS; number++)
+        expect(pthread_create(&receiving[number], NULL, receive_all, &receivers[number]) == 0, "a thread starts");
+    for (size_t number = 0; number < SENDERS; number++)
+        expect(pthread_create(&sending[number], NULL, send_all, &senders[number]) == 0, "a thread starts");
+    for (size_t number = 0; number < SENDERS; number++)
+        pthread_join(sending[number], NULL);
+    for (size_t number = 0; number < RECEIVERS; number++)
+        pthread_join(receiving[number], NULL);
+
+    take_back(senders, SENDERS, &pool);
+    take_back(receivers, RECEIVERS, &pool);
+    expect_all(&pool);
+    for (size_t slot = 0; slot < SLOTS; slot++)
+        expect(bb_envelope_free(&shared.slots[slot]) == BB_DONE, "an envelope is freed");
+    expect(bb_shared_pool_free(&pool) == BB_DONE, "the pool is freed");
+    puts("returns: every message came once, and its receiver returned it");
+    return 0;
+}
