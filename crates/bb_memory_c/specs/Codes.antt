@@ -72,3 +72,7 @@ no_bucket = 16
 -- not each party's seat has come back
 abbrev pub seats_out : ℕ
 seats_out = 18
+
+-- no bucket has the number, or begins at the place
+abbrev pub not_a_bucket : ℕ
+not_a_bucket = 19

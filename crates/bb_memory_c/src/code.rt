@@ -45,3 +45,6 @@ pub(crate) const NO_BUCKET: u32 = 16;
 
 /// Not each party's seat has come back.
 pub(crate) const SEATS_OUT: u32 = 18;
+
+/// No bucket has the number, or begins at the place.
+pub(crate) const NOT_A_BUCKET: u32 = 19;

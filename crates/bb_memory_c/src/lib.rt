@@ -14,6 +14,8 @@
 //! - `bump`, `one_chunk`, `pool`, `fixed_pool`: the exported functions of each allocator with one owner.
 //! - `bump_seat`, `pool_seat`: what a party's seat has, and what it does.
 //! - `shared_bump`, `shared_pool`: the exported functions of what threads share, and of its seats.
+//! - `by_number`: a bucket's place by its number, and back, of each pool. `meeting`: two seats that meet. `into_owner`: a shared
+//!   bump that has one owner again.
 //!
 //! Every function of a handle requires this of C: the handle is one variable of the host's, whose address isn't null, both
 //! fields zero before its first use, and nothing else writes it; it is of the kind that the function's type names, all its life;
@@ -26,14 +28,17 @@
 mod answer;
 mod bump;
 mod bump_seat;
+mod by_number;
 mod call;
 mod code;
 mod fixed_pool;
 mod handle;
 mod held;
+mod into_owner;
 mod kind;
 mod layout;
 mod loose;
+mod meeting;
 mod one_chunk;
 mod pool;
 mod pool_seat;
