@@ -8,14 +8,16 @@ use Rattle.bb_memory_c.specs.Answers.{figure_of, no_figure}
 use Rattle.bb_memory_c.specs.Codes.{not_a_bucket, not_made}
 
 -- C is told the place of the bucket of this number, or that there is no such bucket
-pub record TellsPlaceAt {X : Type 0} (old new : Option X) (told : Figure) (number : ℕ) (geometry : X → PoolGeometry) : Type 0 where
+pub record TellsPlaceAt {X : Type 0} (old new : Option X) (told : Figure) (number : ℕ) (geometry : X → PoolGeometry)
+    : Type 0 where
   pub there : IfSome old (λ made. number < (geometry made).buckets → told ≡ figure_of (bucket_place (geometry made) number))
   pub none : IfSome old (λ made. (geometry made).buckets ≤ number → told ≡ no_figure not_a_bucket)
   pub empty : old ≡ None → told ≡ no_figure not_made
   pub kept : new ≡ old
 
 -- C is told the number of the bucket at this place, or that no bucket begins there
-pub record TellsNumberAt {X : Type 0} (old new : Option X) (told : Figure) (place : ℕ) (geometry : X → PoolGeometry) : Type 0 where
+pub record TellsNumberAt {X : Type 0} (old new : Option X) (told : Figure) (place : ℕ) (geometry : X → PoolGeometry)
+    : Type 0 where
   pub there : IfSome old (λ made. (number : ℕ) → number < (geometry made).buckets
       → place ≡ bucket_place (geometry made) number → told ≡ figure_of number)
   pub none : IfSome old (λ made. ¬ IsPlaceOfBucket (geometry made) place → told ≡ no_figure not_a_bucket)
