@@ -21,8 +21,8 @@
 //! fields zero before its first use, and nothing else writes it; it is of the kind that the function's type names, all its life;
 //! it may be moved, and then the old one isn't used; one call at a time has it, but for the getters that the header says may run
 //! beside others, and it goes to another thread only in an order that the threads keep; a seat is passed back to what it is at
-//! alone; no call comes from a signal handler, or in a child that a process of several threads forked; and `malloc`, `realloc`
-//! and `free` are those of one allocator, and align as C says.
+//! alone, and seats that meet are two at one bump or pool; no call comes from a signal handler, or in a child that a process of
+//! several threads forked; and `malloc`, `realloc` and `free` are those of one allocator, and align as C says.
 #![tactic(auto)]
 
 mod answer;
