@@ -133,6 +133,14 @@ static int has_row(pattern p, size_t row) {
     return p != REFUSED || (fills[row % FILLS] == 100 && sizes[row / FILLS] < MOST_BUCKETS);
 }
 
+// The nanoseconds for a call of the script behind the first ones, which make and fill the pool, and take so many buckets.
+static double call_time(follow *run, const task *t, size_t before, uint32_t first) {
+    // The first run finds what the loop before left in the caches and in the heap, and isn't counted.
+    timed(run, t, before, first);
+    double made = timed(run, t, before, first);
+    return (timed(run, t, calls, born) - made) * 1e9 / (double)(calls - before);
+}
+
 // The nanoseconds for a call, in each round.
 static double spent[PATTERNS][ROWS][POOLS][ROUNDS];
 
@@ -144,12 +152,8 @@ static void time_row(pattern p, size_t row, int round) {
     uint32_t first = born;
     while (calls < before + CALLS)
         some_calls(p, t.buckets);
-    for (int kind = 0; kind < POOLS; kind++) {
-        // The first run finds what the loop before left in the caches and in the heap, and isn't counted.
-        timed(pools[kind].run, &t, before, first);
-        double made = timed(pools[kind].run, &t, before, first);
-        spent[p][row][kind][round] = (timed(pools[kind].run, &t, calls, born) - made) * 1e9 / (double)(calls - before);
-    }
+    for (int kind = 0; kind < POOLS; kind++)
+        spent[p][row][kind][round] = call_time(pools[kind].run, &t, before, first);
 }
 
 // The lines take turns, so that each has its rounds spread over the whole run.
@@ -165,6 +169,40 @@ static void time_pools(void) {
                 printf("pools,%s,%u,%u,%s,", pattern_names[p], sizes[row / FILLS], fills[row % FILLS], pools[kind].name);
                 print_times(spent[p][row][kind]);
             }
+}
+
+// The pools that C has, each by its calls themselves and by those through C: half of the buckets are held, and one is given back
+// and one taken.
+static const struct {
+    const char *name;
+    follow *run[2];
+} borders[] = {
+#define BORDER_ENTRY(name, direct, through) {name, {direct, through}},
+    BORDER_ROWS(BORDER_ENTRY)};
+enum { BORDERS = sizeof borders / sizeof *borders, BORDER_SIZES = 2 };
+static const uint32_t border_sizes[BORDER_SIZES] = {64, 512};
+
+static double border_spent[BORDERS][BORDER_SIZES][2][ROUNDS];
+
+static void time_border(void) {
+    static const char *const ways[2] = {"directly", "through C"};
+    for (int round = 0; round < ROUNDS; round++)
+        for (size_t i = 0; i < BORDERS * BORDER_SIZES; i++) {
+            task t = task_of(border_sizes[i % BORDER_SIZES]);
+            fill(t.buckets, part(t.buckets, 50));
+            size_t before = calls;
+            uint32_t first = born;
+            while (calls < before + CALLS)
+                some_calls(ONE, t.buckets);
+            for (int way = 0; way < 2; way++)
+                border_spent[i / BORDER_SIZES][i % BORDER_SIZES][way][round] =
+                    call_time(borders[i / BORDER_SIZES].run[way], &t, before, first);
+        }
+    for (size_t i = 0; i < BORDERS * BORDER_SIZES; i++)
+        for (int way = 0; way < 2; way++) {
+            printf("border,%s,%u,50,%s,", borders[i / BORDER_SIZES].name, border_sizes[i % BORDER_SIZES], ways[way]);
+            print_times(border_spent[i / BORDER_SIZES][i % BORDER_SIZES][way]);
+        }
 }
 
 static void count_reads(void) {
@@ -224,5 +262,6 @@ static void time_lines(void) {
 int main(void) {
     count_reads();
     time_lines();
+    time_border();
     time_pools();
 }

@@ -1,5 +1,7 @@
-// A bump and a list of free buckets in C, by several threads at once, as shared_bench times the shared forms. Its arguments are
-// the number of rounds and the number of calls of each thread in a round.
+// A bump and a list of free buckets in C, and seats of the C library at a shared pool, by several threads at once, as shared_bench
+// times the shared forms. Its arguments are the number of rounds and the number of calls of each thread in a round.
+#define BB_PLACES_ARE_NUMBERS
+#include <bb_memory.h>
 #include <pthread.h>
 #include <stdatomic.h>
 #include <stdint.h>
@@ -53,12 +55,39 @@ static size_t heap_call(void) {
     return 1;
 }
 
-static size_t (*const kinds[])(void) = {bump_call, list_call, heap_call};
-static const char *const names[] = {"bump,%u,0,in C", "pool,%u,0,lock-free list", "pool,%u,0,malloc and free"};
-enum { KINDS = 3 };
+// The seats at a shared pool of as many buckets, made one after the other, each with the handle of the next behind its own.
+static bb_pool_seat seats[MOST_THREADS];
+static _Thread_local bb_pool_seat *seat;
+
+static size_t seat_call(void) {
+    bb_answer given = bb_pool_seat_allocate(seat, 48, 8);
+    return given.code == BB_DONE && bb_pool_seat_deallocate(seat, given.place) == BB_DONE ? given.place : 0;
+}
+
+static void make_seats(void) {
+    bb_shared_pool pool = BB_EMPTY;
+    if (bb_shared_pool_make(&pool, 128, 8, START, BUCKETS * 128, threads) != BB_DONE)
+        abort();
+    for (unsigned i = 0; i < threads; i++)
+        if (bb_shared_pool_seat(&pool, &seats[i]) != BB_DONE)
+            abort();
+    bb_shared_pool_free(&pool);
+}
+
+static size_t (*const kinds[])(void) = {bump_call, list_call, heap_call, seat_call};
+static const char *const names[] = {"bump,%u,0,in C", "pool,%u,0,lock-free list", "pool,%u,0,malloc and free",
+                                    "pool,%u,0,seat in C"};
+enum { KINDS = 4 };
+
+// What a thread calls, and its seat.
+typedef struct {
+    size_t (*call)(void);
+    bb_pool_seat *seat;
+} job;
 
 static void *work(void *arg) {
-    size_t (*call)(void) = *(size_t (**)(void))arg;
+    size_t (*call)(void) = ((job *)arg)->call;
+    seat = ((job *)arg)->seat;
     struct timespec start, end;
     volatile size_t kept = 0;
     atomic_fetch_add(&came, 1);
@@ -79,20 +108,25 @@ static void *work(void *arg) {
 // The nanoseconds of a thread's call.
 static double timed(int kind) {
     pthread_t all[MOST_THREADS];
+    job jobs[MOST_THREADS];
     double sum = 0;
+    make_seats();
     atomic_store(&used, 0);
     atomic_store(&head, 0);
     atomic_store(&came, 0);
     for (uint32_t i = 0; i < BUCKETS; i++)
         atomic_store(&next[i], i + 1 < BUCKETS ? i + 1 : NONE);
-    for (unsigned i = 0; i < threads; i++)
-        if (pthread_create(&all[i], NULL, work, (void *)&kinds[kind]))
+    for (unsigned i = 0; i < threads; i++) {
+        jobs[i] = (job){kinds[kind], &seats[i]};
+        if (pthread_create(&all[i], NULL, work, &jobs[i]))
             abort();
+    }
     for (unsigned i = 0; i < threads; i++) {
         void *spent;
         pthread_join(all[i], &spent);
         sum += *(double *)spent;
         free(spent);
+        bb_pool_seat_free(&seats[i]);
     }
     return sum / ((double)threads * calls);
 }

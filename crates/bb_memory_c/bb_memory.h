@@ -83,15 +83,16 @@ enum {
     BB_CANNOT_MAKE = 11,         // the region, the buckets or the parties can't be; each maker says when
     BB_NO_SEAT = 12,             // each party has its seat, or had one that was freed: a freed seat's party gets no other
     BB_NOT_THE_OLD = 13,         // the place isn't a multiple of the old alignment, or more bytes are to be shrunk than reserved
-    BB_MALLOC_REFUSED = 14,      // of what takes memory alone: makers, the calls that give a seat, bb_shared_bump_begin_anew
+    BB_MALLOC_REFUSED = 14,      // of what takes memory alone: makers, calls that give a seat, begin_anew and into_owner
     BB_MORE_THAN_RESERVED = 15,  // of a grow alone: the new size is greater than what is reserved for the chunk
     BB_NO_BUCKET = 16,           // of a pool's maker alone: the region has no room for one bucket
     // 17 was BB_SEAT_HOLDS up to 0.4.0; nothing is answered it
-    BB_SEATS_OUT = 18,           // of bb_shared_bump_begin_anew alone: not each party's seat has come back
+    BB_SEATS_OUT = 18,           // of bb_shared_bump_begin_anew and _into_owner alone: not each party's seat has come back
     BB_NO_POST = 19,             // of bb_pool_seat_hand_over alone: the seat's pool has no post
     BB_ENVELOPE_FULL = 20,       // of bb_pool_seat_hand_over alone: a bucket is in the envelope already
     BB_ENVELOPE_EMPTY = 21,      // of bb_pool_seat_take_over alone: no bucket is in the envelope
-    BB_LAST_CODE = BB_ENVELOPE_EMPTY
+    BB_NOT_A_BUCKET = 22,        // of place_at and number_at alone: no bucket has the number, or begins at the place
+    BB_LAST_CODE = BB_NOT_A_BUCKET
 };
 
 // What a code says, for a log. Of a number that is no code it says that.
@@ -118,12 +119,13 @@ static inline const char *bb_text(uint32_t code) {
     case BB_NO_POST: return "the pool has no post";
     case BB_ENVELOPE_FULL: return "a bucket is in the envelope already";
     case BB_ENVELOPE_EMPTY: return "no bucket is in the envelope";
+    case BB_NOT_A_BUCKET: return "no bucket has the number, or begins at the place";
     default: return "not a code of bb_memory";
     }
 }
 
 // Compilers warn where the answer isn't looked at of a maker, a request, a resize, a call that gives a seat, one that hands a
-// bucket over or takes one over, or `bb_shared_bump_begin_anew`.
+// bucket over or takes one over, `bb_shared_bump_begin_anew`, or `bb_shared_bump_into_owner`.
 #ifdef __GNUC__
 #define BB_MUST_USE __attribute__((warn_unused_result))
 #else
@@ -160,14 +162,15 @@ typedef struct bb_figure { uint32_t code; size_t number; } bb_figure;
 // seat stay held for good, and its party gets no other seat. A seat that comes back gives back its buckets, and its party gets
 // another one.
 
-// Only makers, the calls that give a seat and `bb_shared_bump_begin_anew` take memory, outside the region. A seat's is given
-// back when the seat comes back or is freed, and the rest when the last handle is freed. They ask `malloc` for at most so many
-// bytes in all:
+// Only makers, the calls that give a seat, `bb_shared_bump_begin_anew` and `bb_shared_bump_into_owner` take memory, outside the
+// region. A seat's is given back when the seat comes back or is freed, and the rest when the last handle is freed. They ask
+// `malloc` for at most so many bytes in all:
 //
 //     bb_bump, bb_one_chunk    64
 //     bb_pool                  256, and 16 for each 64 buckets
 //     bb_fixed_pool            4096
-//     bb_shared_bump           256, and 16 for each party; as many to begin anew, before it frees those; 64 for each seat
+//     bb_shared_bump           256, and 16 for each party; as many to begin anew, before it frees those; 64 more to become one
+//                              with an owner, of which the 64 stay; 64 for each seat
 //     bb_shared_pool           512, and 16 for each bucket and each party; 128 for each seat, and 1 for each bucket
 //     bb_envelope              64; a pool with a post takes 16 more for each party
 
@@ -270,9 +273,13 @@ bb_figure bb_pool_size(const bb_pool *);
 // Where bucket 0 is: the region's start rounded up to the bucket's alignment. This plus the size may lie behind the region's
 // end.
 bb_figure bb_pool_start_address(const bb_pool *);
+// Where the bucket of this number begins, from 0 on; and the number of the bucket that begins at this place. It is held or not.
+// BB_NOT_A_BUCKET where there is none. So processes that map a region at different addresses may pass numbers to one another.
+bb_figure bb_pool_place_at(const bb_pool *, uint32_t number);
+bb_figure bb_pool_number_at(const bb_pool *, bb_address place);
 
 // The same of at most BB_FIXED_POOL_BUCKETS buckets, which keeps what it knows of them in one block of fixed size. Of a larger
-// region it uses the first ones alone. It doesn't tell where bucket 0 is.
+// region it uses the first ones alone. Where bucket 0 is, is told by `bb_fixed_pool_place_at`.
 #define BB_FIXED_POOL_BUCKETS 512
 BB_MUST_USE uint32_t bb_fixed_pool_make(bb_fixed_pool *, size_t bucket_size, size_t bucket_align, bb_address start, size_t size);
 uint32_t bb_fixed_pool_free(bb_fixed_pool *);
@@ -289,6 +296,8 @@ bb_figure bb_fixed_pool_held_buckets(bb_fixed_pool *);
 bb_figure bb_fixed_pool_bucket_size(const bb_fixed_pool *);
 bb_figure bb_fixed_pool_max_alignment(const bb_fixed_pool *);
 bb_figure bb_fixed_pool_size(const bb_fixed_pool *);
+bb_figure bb_fixed_pool_place_at(const bb_fixed_pool *, uint32_t number);
+bb_figure bb_fixed_pool_number_at(const bb_fixed_pool *, bb_address place);
 
 // A bump that threads share. It is made for some number of parties; `bb_shared_bump_seat` gives the last party without a
 // seat one, behind a handle of its own. Each thread that allocates has a seat, and no call waits for another. What a seat does
@@ -310,6 +319,10 @@ uint32_t bb_shared_bump_leave(bb_shared_bump *, bb_bump_seat *);
 // chunk that was given before. BB_NOT_MADE; then BB_SEATS_OUT where not each party's seat has come back, which is for good where
 // one was freed; then BB_MALLOC_REFUSED. Refused, the bump is as it was.
 BB_MUST_USE uint32_t bb_shared_bump_begin_anew(bb_shared_bump *);
+// A bump with one owner is made of it behind the other handle, which has to be empty, and the shared bump's handle is empty then.
+// It goes on behind what is used, so chunks that were given stay the host's. BB_ALREADY_MADE; BB_NOT_MADE; BB_SEATS_OUT, as
+// above; BB_MALLOC_REFUSED. Refused, both handles are as they were.
+BB_MUST_USE uint32_t bb_shared_bump_into_owner(bb_shared_bump *, bb_bump *);
 uint32_t bb_bump_seat_free(bb_bump_seat *);
 // A chunk of exactly `size` bytes at the least multiple of `align` behind what is used.
 BB_MUST_USE bb_answer bb_bump_seat_allocate(bb_bump_seat *, size_t size, size_t align);
@@ -320,6 +333,10 @@ bb_figure bb_bump_seat_total_space(const bb_bump_seat *);
 bb_figure bb_bump_seat_start_address(const bb_bump_seat *);
 // The party's number, from 0.
 bb_figure bb_bump_seat_party(const bb_bump_seat *);
+// Two seats meet. Nothing of them changes that a call tells, but what they were given is known to be apart then: its contract
+// says that no chunk of the one overlaps one of the other. BB_NOT_MADE where one of the handles is empty. Two handles, and seats
+// of one bump, which nothing tests; one thread has both.
+uint32_t bb_bump_seat_meet(bb_bump_seat *, bb_bump_seat *);
 
 // A pool that threads share, in the same way. A bucket is given back through the seat that holds it: the one that took it, or one
 // that took it over (below). A return comes before the next taking of that bucket (the steps are sequentially consistent), so its
@@ -360,10 +377,14 @@ bb_figure bb_pool_seat_bucket_size(const bb_pool_seat *);
 bb_figure bb_pool_seat_max_alignment(const bb_pool_seat *);
 bb_figure bb_pool_seat_size(const bb_pool_seat *);
 bb_figure bb_pool_seat_start_address(const bb_pool_seat *);
+bb_figure bb_pool_seat_place_at(const bb_pool_seat *, uint32_t number);
+bb_figure bb_pool_seat_number_at(const bb_pool_seat *, bb_address place);
 // How many buckets this seat holds: as many as `bb_shared_pool_leave` gives back. Each flag of the seat is looked at.
 bb_figure bb_pool_seat_held_buckets(bb_pool_seat *);
 // The party's number, from 0.
 bb_figure bb_pool_seat_party(const bb_pool_seat *);
+// As of the shared bump: no bucket is held by both.
+uint32_t bb_pool_seat_meet(bb_pool_seat *, bb_pool_seat *);
 
 // A bucket that another seat gives back. In a pool with a post a seat may hand over a bucket that it holds: the bucket goes into
 // an envelope, and no seat holds it. Whoever has the envelope takes the bucket over by a seat of the same pool, in any thread,

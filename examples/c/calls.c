@@ -183,6 +183,52 @@ static void run_one_chunk(void) {
 RUN_POOL(bb_pool)
 RUN_POOL(bb_fixed_pool)
 
+// Buckets of 48 bytes at multiples of 32 are 64 bytes apart, the first at 4096, and the region has room for five. A number or a
+// place is told whether the bucket is held or not, and it takes no memory.
+#define RUN_NUMBERS(POOL, MADE)                                                                                           \
+    do {                                                                                                                  \
+        requests = 0;                                                                                                     \
+        for (uint32_t number = 0; number < 5; number++) {                                                                 \
+            EXPECT(is(POOL##_place_at(&MADE, number), 4096 + 64 * (size_t)number));                                       \
+            EXPECT(is(POOL##_number_at(&MADE, 4096 + 64 * (size_t)number), number));                                      \
+            EXPECT(has_none(POOL##_number_at(&MADE, 4096 + 64 * (size_t)number + 1), BB_NOT_A_BUCKET));                   \
+            EXPECT(has_none(POOL##_number_at(&MADE, 4096 + 64 * (size_t)number + 63), BB_NOT_A_BUCKET));                  \
+        }                                                                                                                 \
+        EXPECT(has_none(POOL##_place_at(&MADE, 5), BB_NOT_A_BUCKET));                                                     \
+        EXPECT(has_none(POOL##_place_at(&MADE, UINT32_MAX), BB_NOT_A_BUCKET));                                            \
+        EXPECT(has_none(POOL##_number_at(&MADE, 0), BB_NOT_A_BUCKET));                                                    \
+        EXPECT(has_none(POOL##_number_at(&MADE, 4095), BB_NOT_A_BUCKET));                                                 \
+        EXPECT(has_none(POOL##_number_at(&MADE, 4096 + 64 * 5), BB_NOT_A_BUCKET));                                        \
+        EXPECT(has_none(POOL##_number_at(&MADE, SIZE_MAX), BB_NOT_A_BUCKET));                                             \
+        bb_answer given = POOL##_allocate(&MADE, 48, 4);                                                                  \
+        bb_figure number = POOL##_number_at(&MADE, given.place);                                                          \
+        EXPECT(given.code == BB_DONE && is(number, (given.place - 4096) / 64));                                           \
+        EXPECT(is(POOL##_place_at(&MADE, (uint32_t)number.number), given.place) && requests == 0);                        \
+        EXPECT(POOL##_free(&MADE) == BB_DONE);                                                                            \
+        EXPECT(has_none(POOL##_place_at(&MADE, 0), BB_NOT_MADE) && has_none(POOL##_number_at(&MADE, 4096), BB_NOT_MADE)); \
+    } while (0)
+
+// A bucket's place by its number, and back, of each pool. The region starts in front of bucket 0, and ends behind the last.
+static void run_numbers(void) {
+    bb_pool pool = BB_EMPTY;
+    bb_fixed_pool fixed = BB_EMPTY, large = BB_EMPTY;
+    bb_shared_pool shared = BB_EMPTY;
+    bb_pool_seat seat = BB_EMPTY;
+    EXPECT(bb_pool_make(&pool, 48, 32, 4065, 31 + 64 * 5 + 63) == BB_DONE);
+    RUN_NUMBERS(bb_pool, pool);
+    EXPECT(bb_fixed_pool_make(&fixed, 48, 32, 4065, 31 + 64 * 5 + 63) == BB_DONE);
+    RUN_NUMBERS(bb_fixed_pool, fixed);
+    EXPECT(bb_shared_pool_make(&shared, 48, 32, 4065, 31 + 64 * 5 + 63, 1) == BB_DONE);
+    EXPECT(bb_shared_pool_seat(&shared, &seat) == BB_DONE);
+    RUN_NUMBERS(bb_pool_seat, seat);
+    EXPECT(bb_shared_pool_free(&shared) == BB_DONE);
+    // A fixed pool has no more than its 512 buckets.
+    EXPECT(bb_fixed_pool_make(&large, 1, 1, 4096, 100000) == BB_DONE && is(bb_fixed_pool_place_at(&large, 511), 4096 + 511));
+    EXPECT(has_none(bb_fixed_pool_place_at(&large, 512), BB_NOT_A_BUCKET));
+    EXPECT(has_none(bb_fixed_pool_number_at(&large, 4096 + 512), BB_NOT_A_BUCKET));
+    EXPECT(bb_fixed_pool_free(&large) == BB_DONE);
+}
+
 // Bucket 0 is at the region's start rounded up, and the size is the region's as it was handed in.
 static void run_starts(void) {
     bb_pool unaligned = BB_EMPTY;
@@ -419,6 +465,76 @@ static void run_begin_anew(void) {
     EXPECT(bb_shared_bump_begin_anew(&bump) == BB_SEATS_OUT && bb_shared_bump_free(&bump) == BB_DONE);
 }
 
+// A shared bump whose seats have all come back becomes a bump with one owner, which goes on behind what is used.
+static void run_into_owner(void) {
+    bb_shared_bump shared = BB_EMPTY;
+    bb_bump_seat one = BB_EMPTY, other = BB_EMPTY;
+    bb_bump bump = BB_EMPTY, none = BB_EMPTY;
+    EXPECT(bb_shared_bump_into_owner(&shared, &bump) == BB_NOT_MADE);
+    EXPECT(bb_shared_bump_make(&shared, 4096, 64, 2) == BB_DONE && bb_shared_bump_seat(&shared, &one) == BB_DONE);
+    EXPECT(bb_shared_bump_seat(&shared, &other) == BB_DONE && bb_shared_bump_into_owner(&shared, &bump) == BB_SEATS_OUT);
+    EXPECT(given(bb_bump_seat_allocate(&one, 10, 8), 4096, 10) && given(bb_bump_seat_allocate(&other, 10, 8), 4112, 10));
+    EXPECT(given(bb_bump_seat_allocate(&one, 2, 1), 4122, 2) && bb_shared_bump_leave(&shared, &one) == BB_DONE);
+    EXPECT(bb_shared_bump_into_owner(&shared, &bump) == BB_SEATS_OUT && bb_bump_free(&bump) == BB_NOT_MADE);
+    EXPECT(bb_bump_make(&bump, 8192, 16) == BB_DONE && bb_shared_bump_into_owner(&shared, &bump) == BB_ALREADY_MADE);
+    EXPECT(is(bb_bump_start_address(&bump), 8192) && bb_bump_free(&bump) == BB_DONE);
+    EXPECT(bb_shared_bump_leave(&shared, &other) == BB_DONE);
+    // Refused memory changes nothing: the seats are given as before.
+    EXPECT(bb_shared_bump_seat(&shared, &one) == BB_DONE && is(bb_bump_seat_party(&one), 0));
+    EXPECT(is(bb_bump_seat_used_space(&one), 28) && bb_shared_bump_leave(&shared, &one) == BB_DONE);
+    for (size_t nth = 1;; nth++) {
+        requests = 0;
+        to_refuse = nth;
+        uint32_t told = bb_shared_bump_into_owner(&shared, &bump);
+        to_refuse = 0;
+        if (told == BB_DONE) {
+            EXPECT(nth > 1 && requests == nth - 1);
+            break;
+        }
+        EXPECT(told == BB_MALLOC_REFUSED && requests == nth && bb_bump_free(&bump) == BB_NOT_MADE);
+        EXPECT(bb_shared_bump_seat(&shared, &one) == BB_DONE && is(bb_bump_seat_party(&one), 0));
+        EXPECT(is(bb_bump_seat_used_space(&one), 28) && bb_shared_bump_leave(&shared, &one) == BB_DONE);
+    }
+    EXPECT(bb_shared_bump_free(&shared) == BB_NOT_MADE && bb_shared_bump_into_owner(&shared, &none) == BB_NOT_MADE);
+    EXPECT(is(bb_bump_start_address(&bump), 4096) && is(bb_bump_total_space(&bump), 64) && is(bb_bump_used_space(&bump), 28));
+    EXPECT(given(bb_bump_allocate(&bump, 36, 1), 4124, 36) && refused(bb_bump_allocate(&bump, 1, 1), BB_OUT_OF_MEMORY));
+    EXPECT(bb_bump_deallocate(&bump) == BB_DONE && given(bb_bump_allocate(&bump, 64, 1), 4096, 64));
+    EXPECT(bb_bump_free(&bump) == BB_DONE);
+    // Nothing was used; and a seat that was freed never comes back.
+    EXPECT(bb_shared_bump_make(&shared, 4096, 64, 1) == BB_DONE);
+    WITHIN(64 + 256 + 16, bb_shared_bump_into_owner(&shared, &bump));
+    EXPECT(is(bb_bump_used_space(&bump), 0) && bb_bump_free(&bump) == BB_DONE);
+    EXPECT(bb_shared_bump_make(&shared, 4096, 64, 1) == BB_DONE && bb_shared_bump_seat(&shared, &one) == BB_DONE);
+    EXPECT(bb_bump_seat_free(&one) == BB_DONE && bb_shared_bump_into_owner(&shared, &bump) == BB_SEATS_OUT);
+    EXPECT(bb_shared_bump_free(&shared) == BB_DONE);
+}
+
+// Two seats that meet are as they were. It takes no memory.
+static void run_meetings(void) {
+    bb_shared_bump bump = BB_EMPTY;
+    bb_bump_seat one_of_bump = BB_EMPTY, other_of_bump = BB_EMPTY;
+    bb_shared_pool pool = BB_EMPTY;
+    bb_pool_seat one = BB_EMPTY, other = BB_EMPTY;
+    EXPECT(bb_bump_seat_meet(&one_of_bump, &other_of_bump) == BB_NOT_MADE && bb_pool_seat_meet(&one, &other) == BB_NOT_MADE);
+    EXPECT(bb_shared_bump_make(&bump, 4096, 64, 2) == BB_DONE && bb_shared_pool_make(&pool, 64, 8, 4096, 128, 2) == BB_DONE);
+    EXPECT(bb_shared_bump_seat(&bump, &one_of_bump) == BB_DONE && bb_shared_pool_seat(&pool, &one) == BB_DONE);
+    EXPECT(bb_bump_seat_meet(&one_of_bump, &other_of_bump) == BB_NOT_MADE && bb_pool_seat_meet(&one, &other) == BB_NOT_MADE);
+    EXPECT(bb_bump_seat_meet(&other_of_bump, &one_of_bump) == BB_NOT_MADE && bb_pool_seat_meet(&other, &one) == BB_NOT_MADE);
+    EXPECT(bb_shared_bump_seat(&bump, &other_of_bump) == BB_DONE && bb_shared_pool_seat(&pool, &other) == BB_DONE);
+    requests = 0;
+    EXPECT(given(bb_bump_seat_allocate(&one_of_bump, 40, 8), 4096, 40) && bb_pool_seat_allocate(&one, 64, 8).code == BB_DONE);
+    EXPECT(bb_bump_seat_meet(&one_of_bump, &other_of_bump) == BB_DONE && bb_pool_seat_meet(&one, &other) == BB_DONE);
+    EXPECT(given(bb_bump_seat_allocate(&other_of_bump, 24, 8), 4136, 24) && bb_pool_seat_allocate(&other, 64, 8).code == BB_DONE);
+    EXPECT(bb_bump_seat_meet(&other_of_bump, &one_of_bump) == BB_DONE && bb_pool_seat_meet(&other, &one) == BB_DONE);
+    EXPECT(is(bb_bump_seat_party(&one_of_bump), 1) && is(bb_bump_seat_used_space(&one_of_bump), 64));
+    for (size_t place = 4096; place < 4096 + 128; place += 64)
+        EXPECT(bb_pool_seat_holds(&one, place).number + bb_pool_seat_holds(&other, place).number == 1);
+    EXPECT(is(bb_pool_seat_held_buckets(&one), 1) && is(bb_pool_seat_held_buckets(&other), 1) && requests == 0);
+    EXPECT(bb_shared_bump_leave(&bump, &other_of_bump) == BB_DONE && bb_bump_seat_free(&one_of_bump) == BB_DONE);
+    EXPECT(bb_shared_pool_leave(&pool, &other) == BB_DONE && bb_pool_seat_free(&one) == BB_DONE);
+    EXPECT(bb_shared_bump_free(&bump) == BB_DONE && bb_shared_pool_free(&pool) == BB_DONE);
+}
+
 // Seats at a pool come and go ten thousand times. Each leaves with what it holds, some buckets or none, so the next one finds
 // every bucket free but what another seat holds; its party is that of the seat that left.
 static void run_seats_come_and_go(void) {
@@ -594,6 +710,7 @@ int main(void) {
     run_one_chunk();
     run_bb_pool();
     run_bb_fixed_pool();
+    run_numbers();
     run_starts();
     run_no_bucket();
     run_memory();
@@ -603,6 +720,8 @@ int main(void) {
     run_many_seats();
     run_makers();
     run_begin_anew();
+    run_into_owner();
+    run_meetings();
     run_seats_come_and_go();
     run_at_most();
     run_with_post();

@@ -58,6 +58,9 @@ static void read_figures(size_t pool_at, size_t shared_at) {
         expect_figure(bb_pool_start_address(&pool), pool_at);
         expect_figure(bb_pool_seat_number_of_buckets(&seat), BUCKETS);
         expect_figure(bb_pool_seat_start_address(&seat), shared_at);
+        expect_figure(bb_pool_place_at(&pool, 0), pool_at);
+        expect_figure(bb_pool_number_at(&pool, pool_words + (pool_at - (size_t)pool_words) / 8), 0);
+        expect_figure(bb_pool_seat_place_at(&seat, 0), shared_at);
         expect_figure(bb_pool_seat_party(&seat), 0);
         expect_figure(bb_bump_total_space(&bump), BUMP_SIZE);
         expect_figure(bb_bump_start_address(&bump), (size_t)bump_words);

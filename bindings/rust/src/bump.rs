@@ -8,7 +8,8 @@ use core::marker::PhantomData;
 use core::mem::MaybeUninit;
 use core::ptr::NonNull;
 
-enum Bump {}
+/// The kind of [`BumpAllocator`].
+pub(crate) enum Bump {}
 
 // SAFETY: all are functions of `bb_bump`.
 unsafe impl Kind for Bump {
@@ -82,6 +83,14 @@ impl<'region> BumpAllocator<'region> {
             owned: made.map_err(MakeError::of)?,
             region: PhantomData,
         })
+    }
+
+    /// What was made of a region that is lent for as long.
+    pub(crate) fn of(owned: Owned<Bump>) -> Self {
+        BumpAllocator {
+            owned,
+            region: PhantomData,
+        }
     }
 
     /// Where the region starts.

@@ -128,7 +128,7 @@ error! {
 }
 
 error! {
-    /// Why a bump that threads share didn't begin anew. It is as it was.
+    /// Why a bump that threads share didn't begin anew, or got no owner. It is as it was.
     BeginError {
         /// Not each party's seat has come back; for good where one was dropped.
         SeatsOut = SEATS_OUT: "not each party's seat has come back",

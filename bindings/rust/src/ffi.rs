@@ -48,6 +48,7 @@ pub const NO_BUCKET: u32 = 16;
 pub const SEATS_OUT: u32 = 18;
 pub const NO_POST: u32 = 19;
 pub const ENVELOPE_FULL: u32 = 20;
+pub const NOT_A_BUCKET: u32 = 22;
 
 /// Frees what is behind a handle.
 pub type Free = unsafe extern "C" fn(*mut Handle) -> u32;
@@ -62,6 +63,8 @@ pub type Resize =
 pub type Seats = unsafe extern "C" fn(*mut Handle, *mut Handle) -> u32;
 /// Tells a number.
 pub type Tell = unsafe extern "C" fn(*mut Handle) -> Figure;
+/// Tells the place of the bucket of this number.
+pub type TellOf = unsafe extern "C" fn(*mut Handle, u32) -> Figure;
 /// Tells a number of the chunk at this place.
 pub type TellAt = unsafe extern "C" fn(*mut Handle, *const c_void) -> Figure;
 
@@ -111,6 +114,7 @@ unsafe extern "C" {
     pub fn bb_shared_bump_seat(handle: *mut Handle, seat: *mut Handle) -> u32;
     pub fn bb_shared_bump_leave(handle: *mut Handle, seat: *mut Handle) -> u32;
     pub fn bb_shared_bump_begin_anew(handle: *mut Handle) -> u32;
+    pub fn bb_shared_bump_into_owner(handle: *mut Handle, bump: *mut Handle) -> u32;
     pub fn bb_bump_seat_free(handle: *mut Handle) -> u32;
     pub fn bb_bump_seat_allocate(handle: *mut Handle, size: usize, align: usize) -> Answer;
     pub fn bb_bump_seat_used_space(handle: *mut Handle) -> Figure;
@@ -118,6 +122,7 @@ unsafe extern "C" {
     pub fn bb_bump_seat_total_space(handle: *mut Handle) -> Figure;
     pub fn bb_bump_seat_start_address(handle: *mut Handle) -> Figure;
     pub fn bb_bump_seat_party(handle: *mut Handle) -> Figure;
+    pub fn bb_bump_seat_meet(handle: *mut Handle, other: *mut Handle) -> u32;
 
     pub fn bb_shared_pool_make(
         handle: *mut Handle,
@@ -183,6 +188,8 @@ unsafe extern "C" {
     pub fn bb_pool_bucket_size(handle: *mut Handle) -> Figure;
     pub fn bb_pool_max_alignment(handle: *mut Handle) -> Figure;
     pub fn bb_pool_size(handle: *mut Handle) -> Figure;
+    pub fn bb_pool_place_at(handle: *mut Handle, number: u32) -> Figure;
+    pub fn bb_pool_number_at(handle: *mut Handle, place: *const c_void) -> Figure;
 
     pub fn bb_fixed_pool_make(
         handle: *mut Handle,
@@ -217,6 +224,8 @@ unsafe extern "C" {
     pub fn bb_fixed_pool_bucket_size(handle: *mut Handle) -> Figure;
     pub fn bb_fixed_pool_max_alignment(handle: *mut Handle) -> Figure;
     pub fn bb_fixed_pool_size(handle: *mut Handle) -> Figure;
+    pub fn bb_fixed_pool_place_at(handle: *mut Handle, number: u32) -> Figure;
+    pub fn bb_fixed_pool_number_at(handle: *mut Handle, place: *const c_void) -> Figure;
 
     pub fn bb_envelope_make(handle: *mut Handle) -> u32;
     pub fn bb_envelope_free(handle: *mut Handle) -> u32;
@@ -254,4 +263,7 @@ unsafe extern "C" {
     pub fn bb_pool_seat_bucket_size(handle: *mut Handle) -> Figure;
     pub fn bb_pool_seat_max_alignment(handle: *mut Handle) -> Figure;
     pub fn bb_pool_seat_size(handle: *mut Handle) -> Figure;
+    pub fn bb_pool_seat_place_at(handle: *mut Handle, number: u32) -> Figure;
+    pub fn bb_pool_seat_number_at(handle: *mut Handle, place: *const c_void) -> Figure;
+    pub fn bb_pool_seat_meet(handle: *mut Handle, other: *mut Handle) -> u32;
 }

@@ -115,14 +115,50 @@ impl<K: Kind> Owned<K> {
         number(unsafe { tell(self.handle()) }).unwrap_or_else(|code| no_such_answer(code))
     }
 
+    /// The number that is told, or `None` where the answer is this code.
+    ///
+    /// # Safety
+    ///
+    /// `tell` calls a function of this kind, with the handle that it is handed.
+    pub unsafe fn figure_if(
+        &self,
+        none: u32,
+        tell: impl FnOnce(*mut Handle) -> ffi::Figure,
+    ) -> Option<usize> {
+        match number(tell(self.handle())) {
+            Ok(figure) => Some(figure),
+            Err(code) if code == none => None,
+            Err(code) => no_such_answer(code),
+        }
+    }
+
+    /// A place of the region, by the pointer with which it was handed in.
+    pub fn at(&self, place: usize) -> NonNull<u8> {
+        let place = self.start.as_ptr().with_addr(place);
+        NonNull::new(place).unwrap_or_else(|| no_such_answer(ffi::DONE))
+    }
+
     /// The chunk that was given, by the pointer with which the region was handed in.
     pub fn chunk(&self, answer: ffi::Answer) -> Result<NonNull<[u8]>, u32> {
         if answer.code != ffi::DONE {
             return Err(answer.code);
         }
-        let place = self.start.as_ptr().with_addr(answer.place.addr());
-        let place = NonNull::new(place).unwrap_or_else(|| no_such_answer(answer.code));
+        let place = self.at(answer.place.addr());
         Ok(NonNull::slice_from_raw_parts(place, answer.len))
+    }
+
+    /// Two of one kind that are at one allocator meet. It panics where they are at two.
+    ///
+    /// # Safety
+    ///
+    /// `meet` is of this kind.
+    pub unsafe fn meet(&mut self, other: &mut Self, meet: ffi::Seats) {
+        assert_eq!(self.number, other.number, "the seats are at two allocators");
+        // SAFETY: the function is of this kind, no other call has one of the handles, and they are two.
+        match unsafe { meet(self.handle(), other.handle()) } {
+            ffi::DONE => (),
+            code => no_such_answer(code),
+        }
     }
 }
 
@@ -195,12 +231,7 @@ impl<K: Keeps> Owned<K> {
 
     pub fn reserved(&self, place: NonNull<u8>) -> Option<usize> {
         // SAFETY: as of `allocate`.
-        let figure = unsafe { K::RESERVED(self.handle(), place.as_ptr().cast()) };
-        match number(figure) {
-            Ok(bytes) => Some(bytes),
-            Err(ffi::NOT_HELD) => None,
-            Err(code) => no_such_answer(code),
-        }
+        unsafe { self.figure_if(ffi::NOT_HELD, |it| K::RESERVED(it, place.as_ptr().cast())) }
     }
 
     pub fn holds(&self, place: NonNull<u8>) -> bool {

@@ -20,6 +20,8 @@ pub unsafe trait PoolKind: Keeps {
     const BUCKET_SIZE: ffi::Tell;
     const MAX_ALIGNMENT: ffi::Tell;
     const SIZE: ffi::Tell;
+    const PLACE_AT: ffi::TellOf;
+    const NUMBER_AT: ffi::TellAt;
 }
 
 /// Makes a pool of buckets of this size and alignment, over the region of so many bytes that starts here.
@@ -68,6 +70,8 @@ unsafe impl PoolKind for Pool {
     const BUCKET_SIZE: ffi::Tell = ffi::bb_pool_bucket_size;
     const MAX_ALIGNMENT: ffi::Tell = ffi::bb_pool_max_alignment;
     const SIZE: ffi::Tell = ffi::bb_pool_size;
+    const PLACE_AT: ffi::TellOf = ffi::bb_pool_place_at;
+    const NUMBER_AT: ffi::TellAt = ffi::bb_pool_number_at;
 }
 
 // SAFETY: as above.
@@ -101,6 +105,8 @@ unsafe impl PoolKind for FixedPool {
     const BUCKET_SIZE: ffi::Tell = ffi::bb_fixed_pool_bucket_size;
     const MAX_ALIGNMENT: ffi::Tell = ffi::bb_fixed_pool_max_alignment;
     const SIZE: ffi::Tell = ffi::bb_fixed_pool_size;
+    const PLACE_AT: ffi::TellOf = ffi::bb_fixed_pool_place_at;
+    const NUMBER_AT: ffi::TellAt = ffi::bb_fixed_pool_number_at;
 }
 
 // SAFETY: as above.
@@ -222,6 +228,40 @@ impl<K: PoolKind> BucketPool<'_, K> {
     pub fn start_address(&self) -> usize {
         let start = self.owned.start().addr().get();
         start.next_multiple_of(self.max_alignment())
+    }
+
+    /// Where the bucket of this number begins, from 0 on, held or not; `None` where there is no such bucket.
+    ///
+    /// ```
+    /// use bb_memory::{BaseAllocator, PoolAllocator};
+    /// use core::alloc::Layout;
+    ///
+    /// let mut region = Box::new_uninit_slice(1024);
+    /// let pool = PoolAllocator::over(Layout::from_size_align(128, 1)?, &mut region)?;
+    /// let chunk = pool.allocate(Layout::new::<u8>())?.cast();
+    /// let number = pool.number_at(chunk).unwrap();
+    /// assert_eq!(pool.place_at(number), Some(chunk));
+    /// assert_eq!(pool.place_at(pool.number_of_buckets()), None);
+    /// # Ok::<(), Box<dyn std::error::Error>>(())
+    /// ```
+    pub fn place_at(&self, number: u32) -> Option<NonNull<u8>> {
+        // SAFETY: as above.
+        let told = unsafe {
+            self.owned
+                .figure_if(ffi::NOT_A_BUCKET, |it| K::PLACE_AT(it, number))
+        };
+        told.map(|place| self.owned.at(place))
+    }
+
+    /// The number of the bucket that begins here, held or not; `None` where none does.
+    pub fn number_at(&self, ptr: NonNull<u8>) -> Option<u32> {
+        let place = ptr.as_ptr().cast();
+        // SAFETY: as above. A bucket's number is a `u32`.
+        let told = unsafe {
+            self.owned
+                .figure_if(ffi::NOT_A_BUCKET, |it| K::NUMBER_AT(it, place))
+        };
+        told.map(|number| number as u32)
     }
 
     /// Whether a held bucket begins here; of a seat, one that this seat holds.

@@ -1,4 +1,5 @@
 //! A bump that threads share.
+use crate::bump::BumpAllocator;
 use crate::error::{AllocationError, BeginError, MakeError, SeatError};
 use crate::ffi;
 use crate::owned::{Gives, Kind, Owned, Shared};
@@ -113,6 +114,35 @@ impl<'region> SharedBumpAllocator<'region> {
             code => Err(BeginError::of(code)),
         }
     }
+
+    /// A bump with one owner, which goes on behind what is used. Each party's seat has to have come back; else this bump is
+    /// handed back as it was.
+    ///
+    /// ```
+    /// use bb_memory::{BaseAllocator, SharedBumpAllocator};
+    /// use core::alloc::Layout;
+    ///
+    /// let mut region = Box::new_uninit_slice(1024);
+    /// let shared = SharedBumpAllocator::over(&mut region, 1)?;
+    /// let seat = shared.seat()?;
+    /// seat.allocate(Layout::new::<[u8; 40]>())?;
+    /// shared.leave(seat);
+    /// let bump = shared.into_owner().unwrap();
+    /// assert_eq!(bump.used_space(), 40);
+    /// # Ok::<(), Box<dyn std::error::Error>>(())
+    /// ```
+    pub fn into_owner(self) -> Result<BumpAllocator<'region>, (Self, BeginError)> {
+        // SAFETY: the function makes a bump of this region; no other call has the handle, and they are two.
+        let made = unsafe {
+            Owned::made(self.owned.start(), |bump, _| {
+                ffi::bb_shared_bump_into_owner(self.owned.handle(), bump)
+            })
+        };
+        match made {
+            Ok(owned) => Ok(BumpAllocator::of(owned)),
+            Err(code) => Err((self, BeginError::of(code))),
+        }
+    }
 }
 
 /// A seat at a [`SharedBumpAllocator`], for one thread at a time.
@@ -161,5 +191,15 @@ impl BumpSeat<'_> {
     pub fn party(&self) -> u32 {
         // SAFETY: as above. A number of a party is a `u32`.
         unsafe { self.owned.figure(ffi::bb_bump_seat_party) as u32 }
+    }
+
+    /// Meets another seat of this bump: no chunk of the one overlaps one of the other. Nothing changes that a call tells.
+    ///
+    /// # Panics
+    ///
+    /// Where the other seat is at another bump.
+    pub fn meet(&mut self, other: &mut BumpSeat<'_>) {
+        // SAFETY: the function is of this kind.
+        unsafe { self.owned.meet(&mut other.owned, ffi::bb_bump_seat_meet) }
     }
 }

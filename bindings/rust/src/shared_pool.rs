@@ -52,6 +52,8 @@ unsafe impl PoolKind for Seat {
     const BUCKET_SIZE: ffi::Tell = ffi::bb_pool_seat_bucket_size;
     const MAX_ALIGNMENT: ffi::Tell = ffi::bb_pool_seat_max_alignment;
     const SIZE: ffi::Tell = ffi::bb_pool_seat_size;
+    const PLACE_AT: ffi::TellOf = ffi::bb_pool_seat_place_at;
+    const NUMBER_AT: ffi::TellAt = ffi::bb_pool_seat_number_at;
 }
 
 /// A pool that threads share: it is made for some number of parties, each of which can have a seat. No call of a seat waits for
@@ -269,5 +271,15 @@ impl PoolSeat<'_> {
     pub fn party(&self) -> u32 {
         // SAFETY: the function is of this kind. A number of a party is a `u32`.
         unsafe { self.owned.figure(ffi::bb_pool_seat_party) as u32 }
+    }
+
+    /// Meets another seat of this pool: no bucket is held by both. Nothing changes that a call tells.
+    ///
+    /// # Panics
+    ///
+    /// Where the other seat is at another pool.
+    pub fn meet(&mut self, other: &mut PoolSeat<'_>) {
+        // SAFETY: the function is of this kind.
+        unsafe { self.owned.meet(&mut other.owned, ffi::bb_pool_seat_meet) }
     }
 }

@@ -255,3 +255,41 @@ fn makers_refuse_what_cannot_be() {
     let one = OneChunkAllocator::over(&mut region.0).unwrap();
     assert!(format!("{one:?}").starts_with("OneChunkAllocator"));
 }
+
+#[test]
+fn a_bucket_is_known_by_its_number() {
+    let mut region = Region::new();
+    let pool = PoolAllocator::over(layout(48, 64), &mut region.0).unwrap();
+    let start = pool.start_address();
+    for number in 0..16 {
+        let place = pool.place_at(number).unwrap();
+        assert_eq!(place.addr().get(), start + 64 * number as usize);
+        assert_eq!(pool.number_at(place), Some(number));
+        // SAFETY: the bucket has more than a byte.
+        assert_eq!(pool.number_at(unsafe { place.add(1) }), None);
+    }
+    assert_eq!((pool.place_at(16), pool.place_at(u32::MAX)), (None, None));
+    assert_eq!(pool.number_at(NonNull::dangling()), None);
+    let chunk = pool.allocate(layout(48, 64)).unwrap().cast::<u8>();
+    let again = pool.place_at(pool.number_at(chunk).unwrap()).unwrap();
+    // SAFETY: the chunk is ours, and the place is its own.
+    unsafe {
+        again.write(7);
+        assert_eq!(chunk.read(), 7);
+    }
+}
+
+#[test]
+fn a_fixed_pool_knows_its_own_buckets_alone() {
+    let mut region = Region::new();
+    let pool = FixedSizePoolAllocator::over(layout(1, 1), &mut region.0).unwrap();
+    let start = pool.start_address();
+    let last = pool.place_at(511).unwrap();
+    assert_eq!(last.addr().get(), start + 511);
+    assert_eq!(
+        (pool.number_at(last), pool.place_at(512)),
+        (Some(511), None)
+    );
+    // SAFETY: the region is longer.
+    assert_eq!(pool.number_at(unsafe { last.add(1) }), None);
+}

@@ -321,3 +321,79 @@ fn nothing_is_made_for_no_party() {
         assert_eq!(made.err(), Some(MakeError::CannotMake));
     }
 }
+
+#[test]
+fn a_shared_bump_becomes_one_with_an_owner() {
+    let mut region: Box<[std::mem::MaybeUninit<u64>]> = Box::new_uninit_slice(8);
+    let start = NonNull::from(&mut *region).cast::<u8>();
+    // SAFETY: the region is this function's, and used through chunks alone.
+    let shared = unsafe { SharedBumpAllocator::new(start, 64, 2) }.unwrap();
+    let (one, other) = (shared.seat().unwrap(), shared.seat().unwrap());
+    let first = one.allocate(Layout::new::<[u8; 10]>()).unwrap();
+    // SAFETY: the chunk is ours.
+    unsafe { first.cast::<u8>().write(7) };
+    assert!(other.allocate(Layout::new::<u64>()).is_ok());
+    shared.leave(one);
+    let (shared, error) = shared.into_owner().unwrap_err();
+    assert_eq!(error, BeginError::SeatsOut);
+    shared.leave(other);
+    let bump = shared.into_owner().unwrap();
+    assert_eq!((bump.used_space(), bump.free_space()), (24, 40));
+    assert_eq!(bump.start_address(), start.addr().get());
+    let last = bump.allocate(Layout::new::<[u64; 5]>()).unwrap();
+    assert_eq!(last.cast::<u8>().addr().get(), start.addr().get() + 24);
+    assert_eq!(
+        bump.allocate(Layout::new::<u8>()),
+        Err(AllocationError::OutOfMemory)
+    );
+    // SAFETY: the chunk is ours still.
+    assert_eq!(unsafe { first.cast::<u8>().read() }, 7);
+}
+
+#[test]
+fn a_dropped_seat_leaves_a_bump_shared() {
+    let mut region = Box::new_uninit_slice(64);
+    let shared = SharedBumpAllocator::over(&mut region, 2).unwrap();
+    drop(shared.seat().unwrap());
+    let (shared, error) = shared.into_owner().unwrap_err();
+    assert_eq!(error, BeginError::SeatsOut);
+    assert_eq!(shared.seat().unwrap().party(), 0);
+}
+
+#[test]
+fn seats_meet() {
+    let (mut region, mut buckets) = (Box::new_uninit_slice(64), Box::new_uninit_slice(64 * 2));
+    let bump = SharedBumpAllocator::over(&mut region, 2).unwrap();
+    let (mut one, mut other) = (bump.seat().unwrap(), bump.seat().unwrap());
+    assert!(one.allocate(Layout::new::<[u8; 40]>()).is_ok());
+    one.meet(&mut other);
+    other.meet(&mut one);
+    assert_eq!((other.used_space(), other.party()), (40, 0));
+    let pool = SharedPoolAllocator::over(bucket(), &mut buckets, 2).unwrap();
+    let (mut one, mut other) = (pool.seat().unwrap(), pool.seat().unwrap());
+    let chunk = one.allocate(bucket()).unwrap().cast::<u8>();
+    one.meet(&mut other);
+    assert!(one.holds(chunk) && !other.holds(chunk));
+    assert_eq!((one.held_buckets(), other.held_buckets()), (1, 0));
+}
+
+#[test]
+#[should_panic(expected = "the seats are at two allocators")]
+fn seats_at_two_pools_do_not_meet() {
+    let (mut mine, mut other) = (Box::new_uninit_slice(64), Box::new_uninit_slice(64));
+    let mine = SharedPoolAllocator::over(bucket(), &mut mine, 1).unwrap();
+    let other = SharedPoolAllocator::over(bucket(), &mut other, 1).unwrap();
+    mine.seat().unwrap().meet(&mut other.seat().unwrap());
+}
+
+#[test]
+fn a_seat_tells_places_of_buckets_that_another_holds() {
+    let mut region = Box::new_uninit_slice(64 * 3);
+    let pool = SharedPoolAllocator::over(bucket(), &mut region, 2).unwrap();
+    let (one, other) = (pool.seat().unwrap(), pool.seat().unwrap());
+    let chunk = one.allocate(bucket()).unwrap().cast::<u8>();
+    let number = one.number_at(chunk).unwrap();
+    assert_eq!(other.place_at(number), Some(chunk));
+    assert_eq!(other.number_at(chunk), Some(number));
+    assert_eq!(other.place_at(other.number_of_buckets()), None);
+}

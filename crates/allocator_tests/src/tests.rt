@@ -4,6 +4,7 @@ mod counted;
 mod errors;
 mod fixed_pools;
 mod heap_blocks;
+mod held_buckets;
 mod laws;
 mod layouts;
 mod loans;

@@ -1,5 +1,5 @@
 -- What the buckets of a region store.
-use Rattle.std.specs.Prelude.{◌≡◌, ℕ, ◌<◌, ◌^◌, Option, IfSome}
+use Rattle.std.specs.Prelude.{◌≡◌, ℕ, ◌<◌, ◌≤◌, ◌^◌, Option, IfSome, IfNone}
 use Rattle.bb_memory_base.specs.Region.{IsRegion}
 use Rattle.bb_memory_base.specs.FirstPlace.{first_place}
 use Rattle.bb_memory_base.specs.PoolGeometry.{PoolGeometry, IsPoolGeometry, bucket_place, stride}
@@ -21,3 +21,16 @@ pub record IsMeasured (geometry : PoolGeometry) (first step : ℕ) (shift : Opti
 abbrev pub IsPlaceOfBucket : PoolGeometry → ℕ → Type 0
 IsPlaceOfBucket geometry place =
     (i : ℕ) × (i < geometry.buckets) × (place ≡ bucket_place geometry i)
+
+-- the number of the bucket that begins at the place, or none where no bucket does
+pub record TellsNumber (geometry : PoolGeometry) (place : ℕ) (told : Option ℕ) : Type 0 where
+  pub below : IfSome told (λ number. number < geometry.buckets)
+  pub there : IfSome told (λ number. place ≡ bucket_place geometry number)
+  pub one : IfSome told (λ number. (other : ℕ) → place ≡ bucket_place geometry other → other ≡ number)
+  pub none : IfNone told (¬ IsPlaceOfBucket geometry place)
+
+-- the place at which the bucket of this number begins, or none where there is no such bucket
+pub record TellsPlace (geometry : PoolGeometry) (number : ℕ) (told : Option ℕ) : Type 0 where
+  pub below : IfSome told (λ place. number < geometry.buckets)
+  pub there : IfSome told (λ place. place ≡ bucket_place geometry number)
+  pub none : IfNone told (geometry.buckets ≤ number)

@@ -84,3 +84,7 @@ envelope_full = 20
 -- no bucket is in the envelope
 abbrev pub envelope_empty : ℕ
 envelope_empty = 21
+
+-- no bucket has the number, or begins at the place
+abbrev pub not_a_bucket : ℕ
+not_a_bucket = 22

@@ -1,9 +1,12 @@
 pub mod Answers
+pub mod BumpOwners
 pub mod Bumps
+pub mod ByNumber
 pub mod Calls
 pub mod Codes
 pub mod Handles
 pub mod Layouts
+pub mod Meetings
 pub mod OneChunks
 pub mod Pools
 pub mod Rows

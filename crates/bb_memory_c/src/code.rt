@@ -54,3 +54,6 @@ pub(crate) const ENVELOPE_FULL: u32 = 20;
 
 /// No bucket is in the envelope.
 pub(crate) const ENVELOPE_EMPTY: u32 = 21;
+
+/// No bucket has the number, or begins at the place.
+pub(crate) const NOT_A_BUCKET: u32 = 22;

@@ -15,28 +15,33 @@
 //! - `bump_seat`, `pool_seat`: what a party's seat has, and what it does.
 //! - `shared_bump`, `shared_pool`: the exported functions of what threads share, and of its seats.
 //! - `envelope`: in what buckets go from seat to seat. `transit`: the exported functions for that.
+//! - `by_number`: a bucket's place by its number, and back, of each pool. `meeting`: two seats that meet. `into_owner`: a shared
+//!   bump that has one owner again.
 //!
 //! Every function of a handle requires this of C: the handle is one variable of the host's, whose address isn't null, both
 //! fields zero before its first use, and nothing else writes it; it is of the kind that the function's type names, all its life;
 //! it may be moved, and then the old one isn't used; one call at a time has it, but for the getters that the header says may run
 //! beside others, and it goes to another thread only in an order that the threads keep; a seat is passed back to what it is at
-//! alone, and a bucket in an envelope is taken over by a seat of its own pool alone; no call comes from a signal handler, or in a
-//! child that a process of several threads forked; and `malloc`, `realloc` and `free` are those of one allocator, and align as C
-//! says.
+//! alone, seats that meet are two at one bump or pool, and a bucket in an envelope is taken over by a seat of its own pool alone;
+//! no call comes from a signal handler, or in a child that a process of several threads forked; and `malloc`, `realloc` and
+//! `free` are those of one allocator, and align as C says.
 #![tactic(auto)]
 
 mod answer;
 mod bump;
 mod bump_seat;
+mod by_number;
 mod call;
 mod code;
 mod envelope;
 mod fixed_pool;
 mod handle;
 mod held;
+mod into_owner;
 mod kind;
 mod layout;
 mod loose;
+mod meeting;
 mod one_chunk;
 mod pool;
 mod pool_seat;

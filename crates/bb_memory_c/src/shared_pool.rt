@@ -1,8 +1,9 @@
 //! A shared pool behind handles: one for the pool, and one for the seat of each party.
-ghost use Rattle.std.specs.Prelude.{◌≡◌, Some, None};
+ghost use Rattle.std.specs.Prelude.{◌≡◌, IfSome, Some, None};
 ghost use Rattle.bb_memory_base.specs.FirstPlace.{first_place};
 ghost use Rattle.bb_memory_base.specs.PoolObject.{MayGrow, MayShrink};
 ghost use Rattle.bb_memory_base.specs.Region.{region_at};
+ghost use Rattle.bb_memory.specs.SharedPool.{IsParty};
 ghost use Rattle.bb_memory_c.specs.Calls.{AnswersFree, AnswersGrow, AnswersPoolMake, AnswersRequest, AnswersReturn};
 ghost use Rattle.bb_memory_c.specs.Calls.{AnswersShrink, GetsSeatBack, GivesSeat, IfBoth, TellsFigure, TellsOfHeld};
 ghost use Rattle.bb_memory_c.specs.Calls.{TellsWhether, resize};
@@ -246,14 +247,16 @@ pub extern "C" fn bb_pool_seat_held_buckets(alloc: Global, handle: &mut PoolSeat
 ///
 /// C guarantees of the handle what the crate's page says.
 #[unsafe(no_mangle)]
-pub extern "C" fn bb_pool_seat_party(alloc: Global, handle: &mut PoolSeatHandle) -> Figure
-    ensures { TellsFigure handle.old.value handle.new.value result (λ party. party.number) }
+pub extern "C" fn bb_pool_seat_party(_alloc: Global, handle: &mut PoolSeatHandle) -> Figure
+    ensures figure { TellsFigure handle.old.value handle.new.value result (λ party. party.number) }
+
+    // The party is in no pass, and some interleaving has its log.
+    ensures is_party { IfSome handle.old.value IsParty }
 {
-    tell(
-        handle,
-        alloc,
-        |seat| Figure::of(seat.party.number() as usize),
-    )
+    match handle.made_mut() {
+        Some(seat) => Figure::of(seat.party.number() as usize),
+        None => Figure::refusal(code::NOT_MADE),
+    }
 }
 
 /// How many buckets the pool has.

@@ -1,4 +1,5 @@
 //! Rows of the forms that threads share.
+mod at_most;
 mod bump_rows;
 mod histories;
 mod pool_rows;

@@ -3,6 +3,7 @@ ghost use Rattle.std.specs.Prelude.{◌≡◌, ◌↔◌, OnOk, IsTrue};
 ghost use Rattle.bb_memory_base.specs.Run.{AnswersRun, Step};
 ghost use Rattle.bb_memory_base.specs.ResizableObject.{ResizableStep};
 ghost use Rattle.bb_memory_base.specs.PoolObject.{pool_object};
+ghost use Rattle.bb_memory.specs.Buckets.{TellsNumber, TellsPlace};
 ghost use Rattle.bb_memory.specs.HeldBuckets.{held_count};
 ghost use Rattle.bb_memory.specs.Pool.{HoldsPlace, StandsFor, reads_after};
 
@@ -69,6 +70,20 @@ impl<S: HeldSet> BucketPool<S> {
         ensures { result ≡ (S.pool self.now).geometry.region.size }
     {
         self.buckets.region_size()
+    }
+
+    /// Where the bucket of this number begins, held or not, or `None` where there is no such bucket.
+    pub fn place_at(&self, number: u32) -> Option<usize>
+        ensures { TellsPlace (S.pool self.now).geometry number result }
+    {
+        self.buckets.place_at(number)
+    }
+
+    /// The number of the bucket that begins at this place, held or not, or `None` where none does.
+    pub fn number_at(&self, place: usize) -> Option<u32>
+        ensures { TellsNumber (S.pool self.now).geometry place result }
+    {
+        self.buckets.number_at(place)
     }
 
     /// How many buckets are held: as many as were given and not given back. Each bucket is looked at, and no read is counted.

@@ -3,6 +3,7 @@ ghost use Rattle.std.specs.Prelude.{◌≡◌, ℕ, ◌≤◌, ◌↔◌, length
 ghost use Rattle.bb_memory_base.specs.FirstPlace.{first_place};
 ghost use Rattle.bb_memory_base.specs.PoolGeometry.{bucket_place};
 ghost use Rattle.bb_memory_base.specs.PoolObject.{MayGrow, MayShrink};
+ghost use Rattle.bb_memory.specs.Buckets.{TellsNumber, TellsPlace};
 ghost use Rattle.bb_memory.specs.HeldBuckets.{held_count};
 ghost use Rattle.bb_memory.specs.Pool.{Frees, HoldsPlace, Takes, pool_of, reads_of};
 
@@ -108,6 +109,20 @@ impl<S: IndexSet> Buckets<S> {
             Some(number) => self.held.has(number as usize),
             None => false,
         }
+    }
+
+    /// The number of the bucket at this place, or `None` where no bucket begins there.
+    pub fn number_at(&self, place: usize) -> Option<u32>
+        ensures { TellsNumber self.now.geometry place result }
+    {
+        self.geometry.number_at(place)
+    }
+
+    /// Where the bucket of this number begins, or `None` where there is no such bucket.
+    pub fn place_at(&self, number: u32) -> Option<usize>
+        ensures { TellsPlace self.now.geometry number result }
+    {
+        self.geometry.place_at(number)
     }
 
     /// How many buckets are held.

@@ -5,7 +5,7 @@ ghost use Rattle.bb_memory_base.specs.Chunk.{Chunk, IsInside};
 ghost use Rattle.bb_memory_base.specs.FirstPlace.{first_place};
 ghost use Rattle.bb_memory_base.specs.PoolGeometry.{IsCut, IsPoolGeometry, at_most, bucket_place, pool_geometry, stride};
 ghost use Rattle.bb_memory_base.specs.PoolObject.{MayGrow, MayShrink};
-ghost use Rattle.bb_memory.specs.Buckets.{IsPlaceOfBucket, Shifts};
+ghost use Rattle.bb_memory.specs.Buckets.{IsPlaceOfBucket, Shifts, TellsPlace};
 ghost use Rattle.bb_memory.specs.HeldBuckets.{IsCutAtMost};
 ghost use Rattle.bb_memory.specs.Pool.{MayBeCut};
 
@@ -190,6 +190,16 @@ impl Geometry {
             return None;
         }
         Some(number as u32)
+    }
+
+    /// Where the bucket of this number begins, or `None` where there is no such bucket.
+    pub fn place_at(&self, number: u32) -> Option<usize>
+        ensures { TellsPlace self.now number result }
+    {
+        if number >= self.count() {
+            return None;
+        }
+        Some(self.chunk(number as usize, 0).place())
     }
 
     /// The first `len` bytes of a bucket.

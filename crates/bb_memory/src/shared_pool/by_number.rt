@@ -2,7 +2,7 @@
 ghost use Rattle.std.specs.Prelude.{◌≡◌, ℕ, ◌<◌, ◌≤◌, IfSome, IfNone};
 ghost use Rattle.bb_memory_base.specs.PoolGeometry.{bucket_place};
 ghost use Rattle.bb_memory_base.specs.PoolLogs.{IsHeldAfter};
-ghost use Rattle.bb_memory.specs.Buckets.{IsPlaceOfBucket};
+ghost use Rattle.bb_memory.specs.Buckets.{IsPlaceOfBucket, TellsPlace};
 ghost use Rattle.bb_memory.specs.SharedPool.{taken_bucket};
 
 use super::bucket::Bucket;
@@ -20,6 +20,13 @@ impl<const CAPPED: usize, const MOST: usize> SharedBucketPool<CAPPED, MOST> {
         ensures none { IfNone result (¬ IsPlaceOfBucket self.now.scene.geometry place) }
     {
         self.flags.geometry().number_at(place)
+    }
+
+    /// Where the bucket of this number begins, or `None` where there is no such bucket.
+    pub fn place_at(&self, number: u32) -> Option<usize>
+        ensures { TellsPlace self.now.scene.geometry number result }
+    {
+        self.flags.geometry().place_at(number)
     }
 }
 

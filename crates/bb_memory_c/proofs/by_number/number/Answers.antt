@@ -1,0 +1,19 @@
+use Rattle.std.proofs.Common.{rules, ◌∙◌, sym}
+use Rattle.bb_memory_c.proofs.Made.{at_made, at_lent}
+use Rattle.bb_memory_c.proofs.by_number.number.Goals as goal
+
+pub returns-in-Some-number_of : goal.returns-in-Some-number_of
+returns-in-Some-number_of g c = let is = c.in-Some.ensures.value in record {
+  there = at_made _ _ _ is (search rules);
+  none = at_made _ _ _ is (search rules);
+  empty = search rules;
+  kept = at_lent _ _ c.in-Some.is (c.made_mut.follows.holds _) ∙ sym is;
+}
+
+pub returns-in-None : goal.returns-in-None
+returns-in-None g c = let is = c.in-Some.ensures.value in record {
+  there = at_made _ _ _ is (search rules);
+  none = at_made _ _ _ is (search rules);
+  empty = search rules;
+  kept = at_lent _ _ c.in-Some.is (c.made_mut.follows.holds _) ∙ sym is;
+}

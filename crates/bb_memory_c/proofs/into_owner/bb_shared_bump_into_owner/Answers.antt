@@ -1,0 +1,15 @@
+use Rattle.std.proofs.Common.{rules, ◌≡◌, Some}
+use Rattle.bb_memory_c.proofs.Made.{at_made, at_lent}
+use Rattle.bb_memory_c.proofs.into_owner.bb_shared_bump_into_owner.Goals as goal
+
+pub returns-in-Err : goal.returns-in-Err
+returns-in-Err c = let is = c.in-Some.ensures.value in
+    let new : (c.made_mut.follows.lender c.own.new.seats).value ≡ Some c.own.new.seats =
+    at_lent _ _ c.in-Some.is (c.made_mut.follows.holds c.own.new.seats) in record {
+      owned = at_made _ _ _ is (search rules);
+      held_one = search rules;
+      empty = search rules;
+      out = at_made _ _ _ is (search rules);
+      else_memory = search rules;
+      kept = search rules;
+    }

@@ -1,0 +1,89 @@
+//! Shared pools of at most so many buckets.
+ghost use Rattle.std.specs.Prelude.{◌≡◌, All, IfOk};
+
+use super::shared_pools::REFUSED;
+use bb_memory::layout::Layout;
+use bb_memory::pool_allocator::PoolAllocator;
+use bb_memory::shared_pool::{PoolParty, SharedPoolAllocator};
+use std::alloc::Global;
+use std::process::Abort;
+
+/// A shared pool of at most so many buckets of 16 bytes, over a region at 4096 that has room for so many.
+fn made(
+    alloc: Global,
+    room: usize,
+    parties: u32,
+    most: u32,
+) -> Result<(SharedPoolAllocator, Vec<PoolParty>), &'static str>
+    ensures { IfOk result (λ made. All (λ party. party.allocator ≡ made.0) made.1.items) }
+{
+    let Ok(bucket) = Layout::from_size_align(16, 8) else {
+        return Err("no such layout");
+    };
+    let size = room.saturating_mul(16);
+    if parties == 0 || !PoolAllocator::can_make(bucket, 4096, size) {
+        return Err("no pool can be made of that");
+    }
+    SharedPoolAllocator::new_at_most(alloc, bucket, 4096, size, parties, most).map_err(|_| REFUSED)
+}
+
+/// Takes a bucket, and tells its number.
+fn take(pool: &SharedPoolAllocator, party: &mut PoolParty, layout: Layout) -> Option<u32>
+    requires { party.old.allocator ≡ pool.now }
+    ensures { party.new.allocator ≡ pool.now }
+{
+    Some(pool.allocate(party, layout).ok()?.number())
+}
+
+/// The pool has so many buckets, the first of its region, and its party takes each of them once.
+fn has(rt: &impl Abort, pool: &SharedPoolAllocator, mut party: PoolParty, buckets: u32)
+    requires { party.allocator ≡ pool.now }
+{
+    assert_eq!(rt; pool.number_of_buckets(), buckets);
+    for number in 0..buckets {
+        let place = 4096 + 16 * number as usize;
+        assert_eq!(rt; (pool.place_at(number), pool.number_at(place)), (Some(place), Some(number)));
+        assert_eq!(rt; take(pool, &mut party, Layout::empty()), Some(number));
+    }
+    assert_eq!(rt; pool.place_at(buckets), None);
+    assert_eq!(rt; pool.number_at(4096 + 16 * buckets as usize), None);
+    assert_eq!(rt; take(pool, &mut party, Layout::empty()), None);
+}
+
+/// Less than the region has room for, as many, more, and as many as a number can say; none; and of a region without room.
+#[test]
+fn a_shared_pool_has_at_most_so_many_buckets(rt: HostRuntime) {
+    for (room, most, buckets) in &[
+        (8usize, 3u32, 3u32),
+        (8, 7, 7),
+        (8, 8, 8),
+        (8, 9, 8),
+        (8, u32::MAX, 8),
+        (8, 1, 1),
+        (8, 0, 0),
+        (0, 4, 0),
+        (0, 0, 0),
+    ] {
+        match made(rt.alloc(), *room, 1, *most) {
+            Ok((pool, mut parties)) => match parties.pop() {
+                Some(party) => has(&rt, &pool, party, *buckets),
+                None => panic!(&rt; "there is a party"),
+            },
+            Err(cause) => panic!(&rt; "{cause}"),
+        }
+    }
+}
+
+/// There are as many parties as were asked for, and their numbers are from 0.
+#[test]
+fn it_has_its_parties(rt: HostRuntime) {
+    match made(rt.alloc(), 8, 3, 2) {
+        Ok((pool, parties)) => {
+            assert_eq!(rt; (pool.number_of_buckets(), parties.len()), (2, 3));
+            for (at, party) in parties.iter().enumerate() {
+                assert_eq!(rt; party.number() as usize, at);
+            }
+        }
+        Err(cause) => panic!(&rt; "{cause}"),
+    }
+}
