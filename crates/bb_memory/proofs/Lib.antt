@@ -41,4 +41,5 @@ pub mod SharedPoolRounds
 mod SharedPoolSeats
 mod SharedPoolSince
 pub mod SharedPoolTries
+mod SharedPoolStretches
 mod SharedPoolWholes

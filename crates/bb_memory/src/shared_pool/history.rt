@@ -1,13 +1,13 @@
 //! What meetings of a shared pool's parties found, remembered from one to the next.
-ghost use Rattle.std.specs.Prelude.{◌≡◌, ◌<◌, ◌++◌, ◌∷◌, ℕ, All, Any, List, [], length, map};
+ghost use Rattle.std.specs.Prelude.{◌≡◌, ◌<◌, ◌↔◌, ◌++◌, ◌∷◌, ℕ, All, Any, Bool, List, Some, [], length, map, true};
 ghost use Rattle.bb_memory_base.specs.PoolMachine.{PoolScene};
 ghost use Rattle.bb_memory_base.specs.PoolHistory.{PoolLog};
 ghost use Rattle.bb_memory_base.specs.PoolLogs.{IsBeginning};
 ghost use Rattle.bb_memory_base.specs.declared.steps.pool.PoolStep.{PoolStep};
 ghost use Rattle.bb_memory.specs.Seats.{HasNow};
-ghost use Rattle.bb_memory.specs.SharedPool.{IsHeldByOne, PoolParty};
+ghost use Rattle.bb_memory.specs.SharedPool.{IsHeldByOne, PoolParty, with_entries};
 ghost use Rattle.bb_memory.specs.SharedPoolHistory.{AreAllHeldByOne, FoundTaken, HasGoneOn, HaveMetBy, LastWasRefused, MayBegin};
-ghost use Rattle.bb_memory.specs.SharedPoolHistory.{MayGoOn, MovesNothing, OneAloneStepped, empty_history};
+ghost use Rattle.bb_memory.specs.SharedPoolHistory.{MayGoOn, MovesNothing, OneAloneStepped, empty_history, first_found, last_left};
 ghost use Rattle.bb_memory.specs.SharedPoolRule.{MayMeetAgain, numbered_of};
 ghost use Rattle.bb_memory.specs.SharedPoolSteps.{HasFoundAgain};
 
@@ -58,6 +58,19 @@ pub fn shared_pool_history_law()
         → HaveMetBy scene before earlier → IsBeginning before after → HaveMetBy scene after later
         → length earlier ≡ scene.parties → LastWasRefused scene earlier later
         → AreAllHeldByOne scene earlier }
+
+    // The first of these steps on a bucket found it taken exactly where one of the parties held it when they
+    // first met, and the last left it taken exactly where one held it when they met again.
+    ensures first { (scene : PoolScene) (before after : List PoolStep) (others : List PoolParty)
+        (party : PoolParty) (added : PoolLog) (bucket : ℕ) (taken : Bool)
+        → OneAloneStepped scene before after others party added
+        → first_found bucket added ≡ Some taken
+        → (taken ≡ true ↔ IsHeldByOne (others ++ party ∷ []) bucket) }
+    ensures last { (scene : PoolScene) (before after : List PoolStep) (others : List PoolParty)
+        (party : PoolParty) (added : PoolLog) (bucket : ℕ) (taken : Bool)
+        → OneAloneStepped scene before after others party added
+        → last_left bucket added ≡ Some taken
+        → (taken ≡ true ↔ IsHeldByOne (others ++ with_entries party added ∷ []) bucket) }
 {}
 
 impl Flags {
