@@ -28,6 +28,10 @@ mod SharedBumpSeats
 mod SharedBumpTries
 mod SharedBumpWholes
 mod SharedLogs
+mod SharedPoolAlone
+mod SharedPoolAmong
+mod SharedPoolAsked
+mod SharedPoolFinds
 mod SharedPoolGatherings
 mod SharedPoolHandOvers
 mod SharedPoolHistories

@@ -1,17 +1,18 @@
 -- What lists of a pool's steps find first of a bucket's flag, and leave it as.
-use Rattle.std.proofs.Common.{◌≡◌, ◌≢◌, ℕ, zero, suc, ◌+◌, ◌<◌, List, [], ◌∷◌, ◌++◌, Bool, true, false, Option, Some, None}
-use Rattle.std.proofs.Common.{refl, sym, ap, ◌∙◌, subst, arith, inl, inr}
+use Rattle.std.proofs.Common.{◌≡◌, ◌≢◌, ℕ, zero, suc, List, [], ◌∷◌, Bool, true, false, Option, Some, None}
+use Rattle.std.proofs.Common.{refl, sym, ap, ◌∙◌, arith, inl, inr}
 use Rattle.std.specs.Prelude.{◌==◌, Contains, if◌then◌else◌, is_some, map, slice_get, slice_set}
 use Rattle.std.specs.List.{All}
 use Rattle.std.proofs.lemmas.Bool.{cases_eq}
-use Rattle.std.proofs.lemmas.Option.{none-some, same_Some, slice_get-map}
+use Rattle.std.proofs.lemmas.Option.{none-some, same_Some}
 use Rattle.std.proofs.lemmas.List.Elements.{All-head, All-tail}
-use Rattle.bb_memory_base.specs.PoolMachine.{IsHolder, PoolMove, PoolState, pool_after, pool_step}
-use Rattle.bb_memory_base.specs.PoolHistory.{PoolEntry, PoolLog, entry_of, pool_history}
+use Rattle.bb_memory_base.specs.PoolMachine.{PoolMove, PoolState, pool_after, pool_step}
+use Rattle.bb_memory_base.specs.PoolHistory.{PoolEntry, entry_of, pool_history}
 use Rattle.bb_memory_base.specs.PoolLogs.{flags_of}
 use Rattle.bb_memory_base.specs.declared.steps.pool.PoolStep.{PoolStep}
 use Rattle.bb_memory_base.specs.declared.steps.pool.PoolOutcome.{PoolOutcome}
-use Rattle.bb_memory_base.specs.declared.steps.pool.PoolOutcome.TheVariants.{Gives, Takes}
+use Rattle.bb_memory_base.specs.declared.steps.pool.PoolOutcome.TheVariants.{Gives}
+use Rattle.bb_memory_base.specs.declared.steps.pool.PoolOutcome.TheVariants.{Takes}
 use Rattle.bb_memory_base.proofs.PoolFlags.{flags_of-set}
 use Rattle.bb_memory_base.proofs.PoolSteps.{StepKind, takes, takes_at, loses, is_refused, gives, misses, passes, kind_of}
 use Rattle.bb_memory_base.proofs.PoolSteps.{test_apart, test_same}

@@ -8,6 +8,7 @@ use Rattle.bb_memory_base.specs.declared.steps.pool.PoolStep.{PoolStep}
 use Rattle.bb_memory_base.specs.declared.steps.pool.PoolOutcome.{PoolOutcome}
 use Rattle.bb_memory_base.specs.declared.steps.pool.PoolOutcome.TheVariants.{Takes, Loses, RefusedAtLoss, Gives, Misses, Passed}
 use Rattle.bb_memory.specs.SharedPool.{HaveMet, IsHeldByOne, PoolParty, SharedPool, refused_pass, with_entries}
+use Rattle.bb_memory.specs.SharedPoolRounds.{at_turn}
 
 -- a history: the pool that it is of, and the steps that its last meeting found, or none
 pub record PoolHistory : Type 0 where
@@ -120,3 +121,12 @@ last_left bucket (entry ∷ log) =
 pub record IsLeastFree (parties : List PoolParty) (bucket : ℕ) : Type 0 where
   pub free : ¬ IsHeldByOne parties bucket
   pub below : (other : ℕ) → other < bucket → IsHeldByOne parties other
+
+-- the first bucket, in the order of a round that begins at this one, that none of them holds
+pub record IsFirstFree (scene : PoolScene) (parties : List PoolParty) (first bucket : ℕ) : Type 0 where
+  pub turn : ℕ
+  pub before_end : turn < scene.geometry.buckets
+  pub there : at_turn scene.geometry.buckets first turn ≡ bucket
+  pub free : ¬ IsHeldByOne parties bucket
+  pub passed : (other : ℕ) → other < turn →
+      IsHeldByOne parties (at_turn scene.geometry.buckets first other)

@@ -1,13 +1,19 @@
 //! What meetings of a shared pool's parties found, remembered from one to the next.
-ghost use Rattle.std.specs.Prelude.{◌≡◌, ◌<◌, ◌↔◌, ◌++◌, ◌∷◌, ℕ, All, Any, Bool, List, Some, [], length, map, true};
+ghost use Rattle.std.specs.Prelude.{◌≡◌, ◌<◌, ◌↔◌, ◌++◌, ◌∷◌, ℕ, All, Any, Bool, IfOk, IsErr, List, Result, Some};
+ghost use Rattle.std.specs.Prelude.{[], length, map, true};
+ghost use Rattle.bb_memory_base.specs.PoolObject.{IsWithin};
+ghost use Rattle.bb_memory_base.specs.declared.allocator.AllocationError.{AllocationError};
+ghost use Rattle.bb_memory_base.specs.declared.layout.Layout.{Layout};
 ghost use Rattle.bb_memory_base.specs.PoolMachine.{PoolScene};
 ghost use Rattle.bb_memory_base.specs.PoolHistory.{PoolLog};
 ghost use Rattle.bb_memory_base.specs.PoolLogs.{IsBeginning};
 ghost use Rattle.bb_memory_base.specs.declared.steps.pool.PoolStep.{PoolStep};
 ghost use Rattle.bb_memory.specs.Seats.{HasNow};
-ghost use Rattle.bb_memory.specs.SharedPool.{IsHeldByOne, PoolParty, with_entries};
+ghost use Rattle.bb_memory.specs.SharedPool.{IsHeldByOne, MayTake, PoolParty, TakenBucket, with_entries};
+ghost use Rattle.bb_memory.specs.SharedPoolRounds.{MayTakeAt, MayTakeFrom};
 ghost use Rattle.bb_memory.specs.SharedPoolHistory.{AreAllHeldByOne, FoundTaken, HasGoneOn, HaveMetBy, LastWasRefused, MayBegin};
-ghost use Rattle.bb_memory.specs.SharedPoolHistory.{MayGoOn, MovesNothing, OneAloneStepped, empty_history, first_found, last_left};
+ghost use Rattle.bb_memory.specs.SharedPoolHistory.{IsFirstFree, IsLeastFree, MayGoOn, MovesNothing, OneAloneCalled};
+ghost use Rattle.bb_memory.specs.SharedPoolHistory.{OneAloneStepped, empty_history, first_found, last_left};
 ghost use Rattle.bb_memory.specs.SharedPoolRule.{MayMeetAgain, numbered_of};
 ghost use Rattle.bb_memory.specs.SharedPoolSteps.{HasFoundAgain};
 
@@ -71,6 +77,36 @@ pub fn shared_pool_history_law()
         → OneAloneStepped scene before after others party added
         → last_left bucket added ≡ Some taken
         → (taken ≡ true ↔ IsHeldByOne (others ++ with_entries party added ∷ []) bucket) }
+
+    // One request of the last party's between the two, within the bucket's size and alignment. A pass or a round was
+    // refused exactly where each bucket was held by one of the parties when they first met, and a try of one bucket
+    // where that one was. A pass had the least bucket that none of them held, and a round the first in its order.
+    ensures pass_refused { (scene : PoolScene) (before after : List PoolStep) (others : List PoolParty)
+        (party now : PoolParty) (layout : Layout) (answer : Result TakenBucket AllocationError)
+        → OneAloneCalled scene before after others party now → IsWithin scene.geometry.bucket layout
+        → MayTake party layout answer now
+        → (IsErr answer ↔ AreAllHeldByOne scene (others ++ party ∷ [])) }
+    ensures pass_least { (scene : PoolScene) (before after : List PoolStep) (others : List PoolParty)
+        (party now : PoolParty) (layout : Layout) (answer : Result TakenBucket AllocationError)
+        → OneAloneCalled scene before after others party now → IsWithin scene.geometry.bucket layout
+        → MayTake party layout answer now
+        → IfOk answer (λ bucket. IsLeastFree (others ++ party ∷ []) bucket.number) }
+    ensures round_refused { (scene : PoolScene) (before after : List PoolStep) (others : List PoolParty)
+        (party now : PoolParty) (layout : Layout) (answer : Result TakenBucket AllocationError)
+        (first : ℕ) → OneAloneCalled scene before after others party now
+        → IsWithin scene.geometry.bucket layout → MayTakeFrom first party layout answer now
+        → (IsErr answer ↔ AreAllHeldByOne scene (others ++ party ∷ [])) }
+    ensures round_first { (scene : PoolScene) (before after : List PoolStep) (others : List PoolParty)
+        (party now : PoolParty) (layout : Layout) (answer : Result TakenBucket AllocationError)
+        (first : ℕ) → OneAloneCalled scene before after others party now
+        → IsWithin scene.geometry.bucket layout → MayTakeFrom first party layout answer now
+        → IfOk answer (λ bucket. IsFirstFree scene (others ++ party ∷ []) first bucket.number) }
+    ensures one_refused { (scene : PoolScene) (before after : List PoolStep) (others : List PoolParty)
+        (party now : PoolParty) (layout : Layout) (answer : Result TakenBucket AllocationError)
+        (number : ℕ) → OneAloneCalled scene before after others party now
+        → IsWithin scene.geometry.bucket layout → number < scene.geometry.buckets
+        → MayTakeAt number party layout answer now
+        → (IsErr answer ↔ IsHeldByOne (others ++ party ∷ []) number) }
 {}
 
 impl Flags {
