@@ -1,13 +1,12 @@
 -- What one has who has all parties of a pool, and calls one of them between two meetings.
-use Rattle.std.proofs.Common.{◌≡◌, ◌≢◌, ℕ, zero, suc, ◌+◌, ◌<◌, List, [], ◌∷◌, ◌++◌, length, Bool, true, false, Option, Some}
+use Rattle.std.proofs.Common.{◌≡◌, ◌≢◌, ℕ, zero, suc, ◌<◌, List, [], ◌∷◌, ◌++◌, length, Bool, true, false, Some}
 use Rattle.std.proofs.Common.{None, refl, sym, ap, ◌∙◌, subst, arith, inl, inr}
-use Rattle.std.specs.Prelude.{◌↔◌, ◌⊎◌, ◌==◌, Contains, IfOk, IsErr, Ok, Err, Result, if◌then◌else◌, slice_get, slice_index_or, slice_set}
+use Rattle.std.specs.Prelude.{◌↔◌, ◌⊎◌, Contains, IfOk, IsErr, Ok, Err, Result, if◌then◌else◌, slice_get, slice_index_or, slice_set}
 use Rattle.std.specs.List.{All}
 use Rattle.std.proofs.lemmas.List.{length-set}
 use Rattle.std.proofs.lemmas.List.Elements.{All-contains}
 use Rattle.std.proofs.lemmas.Option.{same_Some, slice_get-get_or}
 use Rattle.bb_memory_base.specs.PoolMachine.{PoolScene}
-use Rattle.bb_memory_base.specs.PoolHistory.{PoolLog}
 use Rattle.bb_memory_base.specs.PoolLogs.{IsBeginning, IsHeldAfter}
 use Rattle.bb_memory_base.specs.PoolObject.{IsWithin}
 use Rattle.bb_memory_base.specs.declared.layout.Layout.{Layout}
@@ -16,11 +15,11 @@ use Rattle.bb_memory_base.specs.declared.allocator.AllocationError.TheVariants.{
 use Rattle.bb_memory_base.specs.declared.allocator.AllocationError.TheVariants.{AlignmentFailure, OutOfMemory}
 use Rattle.bb_memory_base.specs.declared.steps.pool.PoolStep.{PoolStep}
 use Rattle.bb_memory_base.proofs.PoolSteps.{test_apart, test_same}
-use Rattle.bb_memory.specs.SharedPool.{IsHeldByOne, MayTake, PoolParty, SharedPool, TakenBucket, return_entry, taking_pass}
+use Rattle.bb_memory.specs.SharedPool.{IsHeldByOne, MayTake, PoolParty, SharedPool, TakenBucket, return_entry}
 use Rattle.bb_memory.specs.SharedPool.{with_entries}
 use Rattle.bb_memory.specs.SharedPoolAmong.{HasAskedAt, HasGivenBackAt}
 use Rattle.bb_memory.specs.SharedPoolHistory.{AreAllHeldByOne, HaveMetBy, IsLeastFree}
-use Rattle.bb_memory.proofs.Contained.{any_contained, contains-behind, contains-first, contains-none}
+use Rattle.bb_memory.proofs.Contained.{any_contained, contains-behind, contains-first}
 use Rattle.bb_memory.proofs.SharedPoolAlone.{AloneBetween, last_of_all}
 use Rattle.bb_memory.proofs.SharedPoolAsked.{pass_least, pass_refused}
 use Rattle.bb_memory.proofs.SharedPoolTries.{held-append, held-taking, same_held}
@@ -83,29 +82,29 @@ its_pool pool parties index party all was =
 
 -- where that one holds a bucket as before, one of all does as before
 module _ (parties : List PoolParty) (index : ℕ) (party now : PoolParty) (bucket : ℕ) (was : slice_get parties index ≡ Some party)
-    where
-  abbrev Holds : PoolParty → Type 0
-  Holds one = IsHeldAfter one.log bucket
+  where
+    abbrev Holds : PoolParty → Type 0
+    Holds one = IsHeldAfter one.log bucket
 
-  pub set_held : (IsHeldAfter now.log bucket → IsHeldAfter party.log bucket) →
-      (IsHeldAfter party.log bucket → IsHeldAfter now.log bucket) →
-      IsHeldByOne (slice_set parties index now) bucket ↔ IsHeldByOne parties bucket
-  set_held back on = (
-    λ (held : IsHeldByOne (slice_set parties index now) bucket).
-        elim (set_rest parties index now held.1 (held.0, held.2, held.3)) [
-          | inl is ↦
-              let mine = subst Holds is held.4 in
-              any_contained Holds parties party (at_place parties index party was) (back mine)
-          | inr has ↦ any_contained Holds parties held.1 has held.4
-        ],
-    λ (held : IsHeldByOne parties bucket).
-        elim (set_keeps parties index party now held.1 was (held.0, held.2, held.3)) [
-          | inl is ↦
-              let mine = subst Holds is held.4 in
-              any_contained Holds (slice_set parties index now) now (set_there parties index party now was) (on mine)
-          | inr has ↦ any_contained Holds (slice_set parties index now) held.1 has held.4
-        ],
-  )
+    pub set_held : (IsHeldAfter now.log bucket → IsHeldAfter party.log bucket) →
+        (IsHeldAfter party.log bucket → IsHeldAfter now.log bucket) →
+        IsHeldByOne (slice_set parties index now) bucket ↔ IsHeldByOne parties bucket
+    set_held back on = (
+      λ (held : IsHeldByOne (slice_set parties index now) bucket).
+          elim (set_rest parties index now held.1 (held.0, held.2, held.3)) [
+            | inl is ↦
+                let mine = subst Holds is held.4 in
+                any_contained Holds parties party (at_place parties index party was) (back mine)
+            | inr has ↦ any_contained Holds parties held.1 has held.4
+          ],
+      λ (held : IsHeldByOne parties bucket).
+          elim (set_keeps parties index party now held.1 was (held.0, held.2, held.3)) [
+            | inl is ↦
+                let mine = subst Holds is held.4 in
+                any_contained Holds (slice_set parties index now) now (set_there parties index party now was) (on mine)
+            | inr has ↦ any_contained Holds (slice_set parties index now) held.1 has held.4
+          ],
+    )
 
 -- WHAT A PARTY HOLDS AFTER A CALL
 

@@ -55,6 +55,18 @@ impl<const CAPPED: usize, const MOST: usize> SharedBucketPool<CAPPED, MOST> {
     /// pool, so nobody else steps meanwhile, and what each call tells is exact: it is refused with `OutOfMemory` exactly where
     /// each bucket is held by one of them, and takes the least bucket that none of them holds. The parties meet before it and
     /// after it, which loads words that are in no log.
+    ///
+    /// ```
+    /// pool_count_law();
+    /// let bucket = Layout::from_size_align(128, 8).unwrap();
+    /// let (pool, mut parties) = SharedPoolAllocator::new(alloc, bucket, 4096, 128, 2)?;
+    /// let asked = Layout::from_size_align(48, 4).unwrap();
+    /// let taken = pool.allocate_among(&mut parties, 0, asked)?;
+    /// let number = taken.number();
+    /// let refused = pool.allocate_among(&mut parties, 1, asked).is_err();
+    /// prove!(number == 0 && refused);
+    /// pool.deallocate_among(&mut parties, 0, taken);
+    /// ```
     pub fn allocate_among(
         &self,
         parties: &mut Vec<PoolParty>,

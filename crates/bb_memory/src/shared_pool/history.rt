@@ -156,6 +156,16 @@ impl<const CAPPED: usize, const MOST: usize> SharedBucketPool<CAPPED, MOST> {
     /// These parties meet, and the history goes on with their meeting: one interleaving has all their logs, and the one that
     /// the history had is its beginning. It loads a word once, and two times more for each party, which is in no log, and
     /// changes nothing of the parties. The history and the parties have to be this pool's.
+    ///
+    /// ```
+    /// pool_count_law();
+    /// let bucket = Layout::from_size_align(128, 8).unwrap();
+    /// let (pool, mut parties) = SharedPoolAllocator::new(alloc, bucket, 4096, 1024, 2)?;
+    /// let mut history = pool.begin_history(&mut parties[0]);
+    /// pool.meet_again(&mut history, &mut parties);
+    /// let count = parties.len();
+    /// prove!(count == 2);
+    /// ```
     pub fn meet_again(&self, history: &mut PoolHistory, parties: &mut Vec<PoolParty>)
         requires { MayGoOn self.now history.old parties.old.items }
         ensures { HasGoneOn self.now history.old history.new parties.old.items parties.new.items }

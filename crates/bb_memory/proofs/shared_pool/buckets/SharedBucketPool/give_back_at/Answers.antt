@@ -1,4 +1,4 @@
-use Rattle.std.proofs.Common.{List, ap, slice_set}
+use Rattle.std.proofs.Common.{ap, slice_set}
 use Rattle.bb_memory.specs.SharedPool.{PoolParty}
 use Rattle.bb_memory.proofs.SharedPoolAmong.{at_index}
 use Rattle.bb_memory.proofs.shared_pool.buckets.SharedBucketPool.give_back_at.Goals as goal
