@@ -31,6 +31,7 @@ mod SharedLogs
 mod SharedPoolAlone
 mod SharedPoolAmong
 mod SharedPoolAsked
+mod SharedPoolEntries
 mod SharedPoolFinds
 mod SharedPoolGatherings
 mod SharedPoolHandOvers

@@ -1,7 +1,8 @@
 -- What one has who has all parties of a pool, and calls one of them between two meetings.
 use Rattle.std.proofs.Common.{◌≡◌, ◌≢◌, ℕ, zero, suc, ◌<◌, List, [], ◌∷◌, ◌++◌, length, Bool, true, false, Some}
 use Rattle.std.proofs.Common.{None, refl, sym, ap, ◌∙◌, subst, arith, inl, inr}
-use Rattle.std.specs.Prelude.{◌↔◌, ◌⊎◌, Contains, IfOk, IsErr, Ok, Err, Result, if◌then◌else◌, slice_get, slice_index_or, slice_set}
+use Rattle.std.specs.Prelude.{◌↔◌, ◌⊎◌, Contains, IfOk, IsErr, Ok}
+use Rattle.std.specs.Prelude.{Err, Result, if◌then◌else◌, slice_get, slice_index_or, slice_set}
 use Rattle.std.specs.List.{All}
 use Rattle.std.proofs.lemmas.List.{length-set}
 use Rattle.std.proofs.lemmas.List.Elements.{All-contains}
