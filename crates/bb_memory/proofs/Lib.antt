@@ -29,6 +29,11 @@ mod SharedBumpSeats
 mod SharedBumpTries
 mod SharedBumpWholes
 mod SharedLogs
+mod SharedPoolAlone
+mod SharedPoolAmong
+mod SharedPoolAsked
+mod SharedPoolEntries
+mod SharedPoolFinds
 mod SharedPoolGatherings
 mod SharedPoolHandOvers
 mod SharedPoolHistories
@@ -42,4 +47,5 @@ pub mod SharedPoolRounds
 mod SharedPoolSeats
 mod SharedPoolSince
 pub mod SharedPoolTries
+mod SharedPoolStretches
 mod SharedPoolWholes

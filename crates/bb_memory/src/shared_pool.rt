@@ -20,6 +20,7 @@ ghost use Rattle.bb_memory.specs.SharedPoolRounds.{HasMissedAll, refused_round};
 ghost use Rattle.bb_memory.specs.SharedPoolTransit.{IsCutOrRefused, MayHavePost};
 
 mod all_parties;
+mod among;
 mod bucket;
 mod buckets;
 pub mod by_number;

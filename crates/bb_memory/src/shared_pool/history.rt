@@ -1,13 +1,19 @@
 //! What meetings of a shared pool's parties found, remembered from one to the next.
-ghost use Rattle.std.specs.Prelude.{◌≡◌, ◌<◌, ◌++◌, ◌∷◌, ℕ, All, Any, List, [], length, map};
+ghost use Rattle.std.specs.Prelude.{◌≡◌, ◌<◌, ◌↔◌, ◌++◌, ◌∷◌, ℕ, All, Any, Bool, IfOk, IsErr, List, Result, Some};
+ghost use Rattle.std.specs.Prelude.{[], length, map, true};
+ghost use Rattle.bb_memory_base.specs.PoolObject.{IsWithin};
+ghost use Rattle.bb_memory_base.specs.declared.allocator.AllocationError.{AllocationError};
+ghost use Rattle.bb_memory_base.specs.declared.layout.Layout.{Layout};
 ghost use Rattle.bb_memory_base.specs.PoolMachine.{PoolScene};
 ghost use Rattle.bb_memory_base.specs.PoolHistory.{PoolLog};
 ghost use Rattle.bb_memory_base.specs.PoolLogs.{IsBeginning};
 ghost use Rattle.bb_memory_base.specs.declared.steps.pool.PoolStep.{PoolStep};
 ghost use Rattle.bb_memory.specs.Seats.{HasNow};
-ghost use Rattle.bb_memory.specs.SharedPool.{IsHeldByOne, PoolParty};
+ghost use Rattle.bb_memory.specs.SharedPool.{IsHeldByOne, MayTake, PoolParty, TakenBucket, with_entries};
+ghost use Rattle.bb_memory.specs.SharedPoolRounds.{MayTakeAt, MayTakeFrom};
 ghost use Rattle.bb_memory.specs.SharedPoolHistory.{AreAllHeldByOne, FoundTaken, HasGoneOn, HaveMetBy, LastWasRefused, MayBegin};
-ghost use Rattle.bb_memory.specs.SharedPoolHistory.{MayGoOn, MovesNothing, OneAloneStepped, empty_history};
+ghost use Rattle.bb_memory.specs.SharedPoolHistory.{IsFirstFree, IsLeastFree, MayGoOn, MovesNothing, OneAloneCalled};
+ghost use Rattle.bb_memory.specs.SharedPoolHistory.{OneAloneStepped, empty_history, first_found, last_left};
 ghost use Rattle.bb_memory.specs.SharedPoolRule.{MayMeetAgain, numbered_of};
 ghost use Rattle.bb_memory.specs.SharedPoolSteps.{HasFoundAgain};
 
@@ -58,6 +64,49 @@ pub fn shared_pool_history_law()
         → HaveMetBy scene before earlier → IsBeginning before after → HaveMetBy scene after later
         → length earlier ≡ scene.parties → LastWasRefused scene earlier later
         → AreAllHeldByOne scene earlier }
+
+    // The first of these steps on a bucket found it taken exactly where one of the parties held it when they
+    // first met, and the last left it taken exactly where one held it when they met again.
+    ensures first { (scene : PoolScene) (before after : List PoolStep) (others : List PoolParty)
+        (party : PoolParty) (added : PoolLog) (bucket : ℕ) (taken : Bool)
+        → OneAloneStepped scene before after others party added
+        → first_found bucket added ≡ Some taken
+        → (taken ≡ true ↔ IsHeldByOne (others ++ party ∷ []) bucket) }
+    ensures last { (scene : PoolScene) (before after : List PoolStep) (others : List PoolParty)
+        (party : PoolParty) (added : PoolLog) (bucket : ℕ) (taken : Bool)
+        → OneAloneStepped scene before after others party added
+        → last_left bucket added ≡ Some taken
+        → (taken ≡ true ↔ IsHeldByOne (others ++ with_entries party added ∷ []) bucket) }
+
+    // One request of the last party's between the two, within the bucket's size and alignment. A pass or a round was
+    // refused exactly where each bucket was held by one of the parties when they first met, and a try of one bucket
+    // where that one was. A pass had the least bucket that none of them held, and a round the first in its order.
+    ensures pass_refused { (scene : PoolScene) (before after : List PoolStep) (others : List PoolParty)
+        (party now : PoolParty) (layout : Layout) (answer : Result TakenBucket AllocationError)
+        → OneAloneCalled scene before after others party now → IsWithin scene.geometry.bucket layout
+        → MayTake party layout answer now
+        → (IsErr answer ↔ AreAllHeldByOne scene (others ++ party ∷ [])) }
+    ensures pass_least { (scene : PoolScene) (before after : List PoolStep) (others : List PoolParty)
+        (party now : PoolParty) (layout : Layout) (answer : Result TakenBucket AllocationError)
+        → OneAloneCalled scene before after others party now → IsWithin scene.geometry.bucket layout
+        → MayTake party layout answer now
+        → IfOk answer (λ bucket. IsLeastFree (others ++ party ∷ []) bucket.number) }
+    ensures round_refused { (scene : PoolScene) (before after : List PoolStep) (others : List PoolParty)
+        (party now : PoolParty) (layout : Layout) (answer : Result TakenBucket AllocationError)
+        (first : ℕ) → OneAloneCalled scene before after others party now
+        → IsWithin scene.geometry.bucket layout → MayTakeFrom first party layout answer now
+        → (IsErr answer ↔ AreAllHeldByOne scene (others ++ party ∷ [])) }
+    ensures round_first { (scene : PoolScene) (before after : List PoolStep) (others : List PoolParty)
+        (party now : PoolParty) (layout : Layout) (answer : Result TakenBucket AllocationError)
+        (first : ℕ) → OneAloneCalled scene before after others party now
+        → IsWithin scene.geometry.bucket layout → MayTakeFrom first party layout answer now
+        → IfOk answer (λ bucket. IsFirstFree scene (others ++ party ∷ []) first bucket.number) }
+    ensures one_refused { (scene : PoolScene) (before after : List PoolStep) (others : List PoolParty)
+        (party now : PoolParty) (layout : Layout) (answer : Result TakenBucket AllocationError)
+        (number : ℕ) → OneAloneCalled scene before after others party now
+        → IsWithin scene.geometry.bucket layout → number < scene.geometry.buckets
+        → MayTakeAt number party layout answer now
+        → (IsErr answer ↔ IsHeldByOne (others ++ party ∷ []) number) }
 {}
 
 impl Flags {
@@ -107,6 +156,16 @@ impl<const CAPPED: usize, const MOST: usize> SharedBucketPool<CAPPED, MOST> {
     /// These parties meet, and the history goes on with their meeting: one interleaving has all their logs, and the one that
     /// the history had is its beginning. It loads a word once, and two times more for each party, which is in no log, and
     /// changes nothing of the parties. The history and the parties have to be this pool's.
+    ///
+    /// ```
+    /// pool_count_law();
+    /// let bucket = Layout::from_size_align(128, 8).unwrap();
+    /// let (pool, mut parties) = SharedPoolAllocator::new(alloc, bucket, 4096, 1024, 2)?;
+    /// let mut history = pool.begin_history(&mut parties[0]);
+    /// pool.meet_again(&mut history, &mut parties);
+    /// let count = parties.len();
+    /// prove!(count == 2);
+    /// ```
     pub fn meet_again(&self, history: &mut PoolHistory, parties: &mut Vec<PoolParty>)
         requires { MayGoOn self.now history.old parties.old.items }
         ensures { HasGoneOn self.now history.old history.new parties.old.items parties.new.items }

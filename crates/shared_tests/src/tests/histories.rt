@@ -1,10 +1,12 @@
 //! Meetings of a shared pool's parties that a history remembers.
-ghost use Rattle.std.specs.Prelude.{◌≡◌, All};
+ghost use Rattle.std.specs.Prelude.{◌≡◌, ◌<◌, All, IfOk, length};
 ghost use Rattle.bb_memory.specs.SharedPoolHistory.{MayGoOn};
 
 use crate::tests::shared_pools::shared_over;
 use bb_memory::layout::Layout;
+use bb_memory::pool_allocator::{AllocationError, PoolAllocator};
 use bb_memory::shared_pool::{PoolHistory, PoolParty, SharedPoolAllocator};
+use std::alloc::Global;
 use std::process::Abort;
 use std::test::Fail;
 
@@ -100,4 +102,41 @@ fn none_meet_again(rt: HostRuntime) {
     pool.meet_again(&mut history, &mut parties);
     assert!(rt; parties.is_empty());
     assert!(rt; party.number() == 0);
+}
+
+/// A pool of one bucket at 4096, with two parties.
+fn one_for_two(alloc: Global) -> Result<(SharedPoolAllocator, Vec<PoolParty>), AllocationError>
+    ensures theirs { IfOk result (λ made. All (λ party. party.allocator ≡ made.0) made.1.items) }
+    ensures all { IfOk result (λ made. length made.1.items ≡ made.0.scene.parties) }
+    ensures two { IfOk result (λ made. 1 < length made.1.items) }
+{
+    let Ok(bucket) = Layout::from_size_align(128, 8) else {
+        return Err(AllocationError::SizeIsZero);
+    };
+    if !PoolAllocator::can_make(bucket, 4096, 128) {
+        return Err(AllocationError::SizeIsZero);
+    }
+    SharedPoolAllocator::new(alloc, bucket, 4096, 128, 2)
+}
+
+/// Where all parties of a pool are here, one of them is refused exactly while another has the one bucket.
+#[test]
+fn all_parties_ask(rt: HostRuntime) {
+    let Ok(asked) = Layout::from_size_align(48, 4) else {
+        panic!(rt; "no such layout");
+    };
+    let Ok((pool, mut parties)) = one_for_two(rt.alloc()) else {
+        panic!(rt; "no pool was made");
+    };
+    let Ok(first) = pool.allocate_among(&mut parties, 0, asked) else {
+        panic!(rt; "a free bucket was refused");
+    };
+    assert!(rt; first.chunk().place() == 4096);
+    let refused = pool.allocate_among(&mut parties, 1, asked).err();
+    assert_eq!(rt; refused, Some(AllocationError::OutOfMemory));
+    pool.deallocate_among(&mut parties, 0, first);
+    let Ok(again) = pool.allocate_among(&mut parties, 1, asked) else {
+        panic!(rt; "a bucket that was given back was refused");
+    };
+    assert!(rt; again.chunk().place() == 4096);
 }

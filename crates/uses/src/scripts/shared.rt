@@ -60,3 +60,29 @@ pub fn rounds_of_a_pool(alloc: Global) -> Result<(), AllocationError> {
     pool.deallocate_bucket(&mut party, taken);
     Ok(())
 }
+
+/// Parties of a pool meet in a history.
+pub fn history_of_a_pool(alloc: Global) -> Result<(), AllocationError> {
+    pool_count_law();
+    let bucket = Layout::from_size_align(128, 8).unwrap();
+    let (pool, mut parties) = SharedPoolAllocator::new(alloc, bucket, 4096, 1024, 2)?;
+    let mut history = pool.begin_history(&mut parties[0]);
+    pool.meet_again(&mut history, &mut parties);
+    let count = parties.len();
+    prove!(count == 2);
+    Ok(())
+}
+
+/// Of a pool with one bucket, whose parties are all here, one takes it, and the other is refused.
+pub fn all_of_a_pool(alloc: Global) -> Result<(), AllocationError> {
+    pool_count_law();
+    let bucket = Layout::from_size_align(128, 8).unwrap();
+    let (pool, mut parties) = SharedPoolAllocator::new(alloc, bucket, 4096, 128, 2)?;
+    let asked = Layout::from_size_align(48, 4).unwrap();
+    let taken = pool.allocate_among(&mut parties, 0, asked)?;
+    let number = taken.number();
+    let refused = pool.allocate_among(&mut parties, 1, asked).is_err();
+    prove!(number == 0 && refused);
+    pool.deallocate_among(&mut parties, 0, taken);
+    Ok(())
+}

@@ -17,7 +17,7 @@ use std::thread::{Promise, PromisedHandle, Threads};
 
 /// A thread's party comes back as this pool's.
 #[derive(Drop)]
-struct ComesBack(Snapshot<SharedPoolAllocator>);
+pub(super) struct ComesBack(Snapshot<SharedPoolAllocator>);
 
 impl Promise<(PoolParty, u64)> for ComesBack {
     ghost kept_by = { λ promise answer. answer.0.allocator ≡ promise.0.value };
@@ -116,7 +116,7 @@ fn take_and_drop(
 
 /// What a thread does with its party.
 #[derive(Clone, Copy)]
-enum Work {
+pub(super) enum Work {
     /// Takes a bucket and gives it back 1000 times, and counts clashes.
     TakeAndReturn,
     /// Takes a bucket and drops its token, and counts what it took.
@@ -125,10 +125,10 @@ enum Work {
 
 /// What each thread is started with beside its party.
 #[derive(Clone, Copy)]
-struct Job {
-    work: Work,
-    request: Request,
-    asked: Layout,
+pub(super) struct Job {
+    pub(super) work: Work,
+    pub(super) request: Request,
+    pub(super) asked: Layout,
 }
 
 /// What a thread hands back when its job is done.
@@ -160,10 +160,10 @@ fn start(
 }
 
 /// A promised handle of a thread that works.
-type Working = PromisedHandle<(PoolParty, u64), ComesBack>;
+pub(super) type Working = PromisedHandle<(PoolParty, u64), ComesBack>;
 
 /// A thread for each of these parties, all at once.
-fn start_all(
+pub(super) fn start_all(
     rt: &impl Threads,
     alloc: Global,
     pool: &Arc<SharedPoolAllocator, Global>,
@@ -183,7 +183,7 @@ fn start_all(
 }
 
 /// The parties that these threads hand back, and what each counted, in order.
-fn join_all(
+pub(super) fn join_all(
     rt: &impl Threads,
     alloc: Global,
     pool: &Arc<SharedPoolAllocator, Global>,
@@ -202,7 +202,7 @@ fn join_all(
 }
 
 /// These parties meet, and then so many buckets are left for one of them.
-fn are_left(
+pub(super) fn are_left(
     rt: &impl Abort,
     pool: &SharedPoolAllocator,
     mut parties: Vec<PoolParty>,

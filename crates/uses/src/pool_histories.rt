@@ -1,0 +1,85 @@
+//! Workers of one pool whose meetings are remembered, and a pool whose parties are all in one place.
+ghost use Rattle.std.specs.Prelude.{◌≡◌, ◌<◌, All, IfOk, length};
+ghost use Rattle.bb_memory_base.specs.PoolLogs.{IsBeginning};
+ghost use Rattle.bb_memory_base.specs.PoolObject.{IsWithin};
+ghost use Rattle.bb_memory.specs.SharedPoolHistory.{HaveMetBy, MayGoOn};
+
+use crate::pool_workers::take_one;
+use bb_memory::allocator::AllocationError;
+use bb_memory::layout::Layout;
+use bb_memory::pool_allocator::pool_count_law;
+use bb_memory::shared_pool::{Bucket, PoolHistory, PoolParty, SharedPoolAllocator};
+use std::alloc::{AllocError, Global};
+use std::thread;
+use std::thread::Threads;
+
+/// Each of these parties' workers takes a bucket, all at once, and when all are back, they meet in the history. It is refused
+/// where memory was, and for nothing else.
+pub fn out_and_back<R: Threads + Sync>(
+    rt: &R,
+    pool: &SharedPoolAllocator,
+    history: &mut PoolHistory,
+    parties: Vec<PoolParty>,
+    layout: Layout,
+) -> Result<Vec<PoolParty>, AllocError>
+    requires may { MayGoOn pool.now history.old parties.items }
+    ensures met { IfOk result (λ back. HaveMetBy pool.now.scene history.new.steps back.items) }
+    ensures after { IfOk result (λ back. IsBeginning history.old.steps history.new.steps) }
+    ensures may { IfOk result (λ back. MayGoOn pool.now history.new back.items) }
+    ensures all { IfOk result (λ back. length back.items ≡ length parties.items) }
+{
+    let back = thread::map_vec(rt, parties, &|party| take_one(pool, party, layout));
+    let Ok(mut back) = back else {
+        return Err(AllocError);
+    };
+    pool.meet_again(history, &mut back);
+    Ok(back)
+}
+
+/// Four workers of one pool: when all are back, they meet, go out once more, and meet again. One history remembers both
+/// meetings, so that what was done after the first comes after what was done before it. It is refused, with `OutOfMemory`,
+/// where memory was, and for nothing else.
+#[tactic(auto, unfolding(bb_memory_base::specs::LeastPlace::least_place))]
+pub fn four_workers_twice<R: Threads + Sync>(
+    rt: &R,
+    alloc: Global,
+    layout: Layout,
+) -> Result<(SharedPoolAllocator, PoolHistory, Vec<PoolParty>), AllocationError>
+    ensures all { IfOk result (λ made. length made.2.items ≡ made.0.scene.parties) }
+    ensures met { IfOk result (λ made. HaveMetBy made.0.scene made.1.steps made.2.items) }
+{
+    pool_count_law();
+    let bucket = Layout::from_size_align(128, 8).unwrap();
+    let (pool, mut parties) = SharedPoolAllocator::new(alloc, bucket, 4096, 1024, 4)?;
+    let mut history = pool.begin_history(&mut parties[0]);
+    let Ok(back) = out_and_back(rt, &pool, &mut history, parties, layout) else {
+        return Err(AllocationError::OutOfMemory);
+    };
+    let Ok(back) = out_and_back(rt, &pool, &mut history, back, layout) else {
+        return Err(AllocationError::OutOfMemory);
+    };
+    Ok((pool, history, back))
+}
+
+/// Who has all parties of a pool with one bucket: the first takes it and gives it back, and then the second asks. It gets the
+/// bucket: what was given back can't be what it is refused by, and there is nobody else. Answers the first one's refusal.
+pub fn free_again<'a>(
+    pool: &'a SharedPoolAllocator,
+    parties: &mut Vec<PoolParty>,
+    layout: Layout,
+) -> Result<Bucket<'a>, AllocationError>
+    requires parties { All (λ party. party.allocator ≡ pool.now) parties.old.items }
+    requires all { length parties.old.items ≡ pool.now.scene.parties }
+    requires two { 1 < length parties.old.items }
+    requires one { pool.now.scene.geometry.buckets ≡ 1 }
+    requires within { IsWithin pool.now.scene.geometry.bucket layout }
+{
+    let taken = pool.allocate_among(parties, 0, layout)?;
+    let number = taken.number();
+    prove!(number == 0);
+    pool.deallocate_among(parties, 0, taken);
+    match pool.allocate_among(parties, 1, layout) {
+        Ok(again) => Ok(again),
+        Err(_) => unreachable!(),
+    }
+}
