@@ -1,7 +1,7 @@
 //! Laws of lists, for a user whose contracts speak of what a vector has. Each is a function that does nothing: called in a
 //! body, it puts its clauses in reach there.
 ghost use Rattle.std.specs.Prelude.{◌≡◌, ◌≢◌, ◌==◌, if◌then◌else◌, ◌<◌, ◌≤◌, ◌+◌, ◌-◌, ◌∷◌, ◌++◌};
-ghost use Rattle.std.specs.Prelude.{ℕ, [], List, Some, length, map, remove, slice_get, slice_set, sum_by};
+ghost use Rattle.std.specs.Prelude.{ℕ, [], List, Some, length, map, remove, slice_get, slice_index_or, slice_set, sum, sum_by};
 
 /// One more item behind the others.
 pub fn append_law<T>()
@@ -71,4 +71,15 @@ pub fn map_law<T, U>()
         → slice_get items position ≡ Some item
         → slice_get (map of items) position ≡ Some (of item) }
     ensures length { (of : T → U) (items : List T) → length (map of items) ≡ length items }
+{}
+
+/// The sum of a measure over items that are of groups, each group with a number: what the groups make together is what all items
+/// make.
+pub fn group_law<T>()
+    ensures together { (group measure : T → ℕ) (items : List T) (sums : List ℕ)
+        → ((number : ℕ) → (sum_by (λ item. if group item == number then measure item else 0) items
+        ≡ slice_index_or sums number 0)) → sum_by measure items ≡ sum sums }
+    ensures within { (group measure : T → ℕ) (items : List T) (bounds : List ℕ)
+        → ((number : ℕ) → sum_by (λ item. if group item == number then measure item else 0) items
+        ≤ slice_index_or bounds number 0) → sum_by measure items ≤ sum bounds }
 {}
