@@ -22,18 +22,18 @@ less-there : (sums : List ℕ) (number by : ℕ) → get_or (less sums number by
 less-there sums number by = ⊎_elim
     (λ within. get_or-set_same sums number (get_or sums number 0 - by) 0 within)
     (λ past.
-      let none = get_or_past sums number 0 past in
-      let still = ap (λ s. get_or s number 0) (set_past sums number (get_or sums number 0 - by) past) in
-      omega (arith, none, still))
+    let none = get_or_past sums number 0 past in
+    let still = ap (λ s. get_or s number 0) (set_past sums number (get_or sums number 0 - by) past) in
+    omega (arith, none, still))
     (cases_lt number (length sums))
 
 less-sum : (sums : List ℕ) (number by : ℕ) → by ≤ get_or sums number 0 → sum (less sums number by) + by ≡ sum sums
 less-sum sums number by le = ⊎_elim
     (λ within. omega (arith, le, sum_by-set (λ n. n) sums number (get_or sums number 0 - by) 0 within))
     (λ past.
-      let none = get_or_past sums number 0 past in
-      let still = ap sum (set_past sums number (get_or sums number 0 - by) past) in
-      omega (arith, le, none, still))
+    let none = get_or_past sums number 0 past in
+    let still = ap sum (set_past sums number (get_or sums number 0 - by) past) in
+    omega (arith, le, none, still))
     (cases_lt number (length sums))
 
 module _ {X : Type 0} (group measure : X → ℕ) where
@@ -57,10 +57,10 @@ module _ {X : Type 0} (group measure : X → ℕ) where
       (λ same. subst (λ k. get_or (without x sums) k 0 ≡ get_or sums k 0 - share k x) same
       (less-there sums (group x) (measure x) ∙ ap (λ n. get_or sums (group x) 0 - n) (sym (own x))))
       (λ differ.
-        let none = other x number differ in
-        let still = get_or-set_other sums (group x) number (get_or sums (group x) 0 - measure x) 0
-            (λ same. differ (sym same)) in
-        omega (arith, none, still))
+      let none = other x number differ in
+      let still = get_or-set_other sums (group x) number (get_or sums (group x) 0 - measure x) 0
+      (λ same. differ (sym same)) in
+      omega (arith, none, still))
       (cases_eq (group x) number)
 
   pub within : (xs : List X) (bounds : List ℕ) → ((number : ℕ) → sum_by (share number) xs ≤ get_or bounds number 0) →
@@ -68,9 +68,9 @@ module _ {X : Type 0} (group measure : X → ℕ) where
   within [] bounds all = omega arith
   within (x ∷ xs) bounds all =
       let below : measure x ≤ get_or bounds (group x) 0 =
-          omega (arith, own x, all (group x), sum_by-cons (share (group x)) x xs) in
+      omega (arith, own x, all (group x), sum_by-cons (share (group x)) x xs) in
       let rest = within xs (without x bounds)
-          (λ number. omega (arith, left x bounds number, all number, sum_by-cons (share number) x xs)) in
+      (λ number. omega (arith, left x bounds number, all number, sum_by-cons (share number) x xs)) in
       omega (arith, rest, less-sum bounds (group x) (measure x) below, sum_by-cons measure x xs)
 
   pub together : (xs : List X) (sums : List ℕ) → ((number : ℕ) → sum_by (share number) xs ≡ get_or sums number 0) →
@@ -78,7 +78,7 @@ module _ {X : Type 0} (group measure : X → ℕ) where
   together [] sums all = zeros sums all
   together (x ∷ xs) sums all =
       let below : measure x ≤ get_or sums (group x) 0 =
-          omega (arith, own x, all (group x), sum_by-cons (share (group x)) x xs) in
+      omega (arith, own x, all (group x), sum_by-cons (share (group x)) x xs) in
       let rest = together xs (without x sums)
-          (λ number. omega (arith, left x sums number, all number, sum_by-cons (share number) x xs)) in
+      (λ number. omega (arith, left x sums number, all number, sum_by-cons (share number) x xs)) in
       omega (arith, rest, less-sum sums (group x) (measure x) below, sum_by-cons measure x xs)

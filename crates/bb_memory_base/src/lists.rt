@@ -73,13 +73,23 @@ pub fn map_law<T, U>()
     ensures length { (of : T → U) (items : List T) → length (map of items) ≡ length items }
 {}
 
-/// The sum of a measure over items that are of groups, each group with a number: what the groups make together is what all items
-/// make.
-pub fn group_law<T>()
-    ensures together { (group measure : T → ℕ) (items : List T) (sums : List ℕ)
-        → ((number : ℕ) → (sum_by (λ item. if group item == number then measure item else 0) items
-        ≡ slice_index_or sums number 0)) → sum_by measure items ≡ sum sums }
-    ensures within { (group measure : T → ℕ) (items : List T) (bounds : List ℕ)
-        → ((number : ℕ) → sum_by (λ item. if group item == number then measure item else 0) items
-        ≤ slice_index_or bounds number 0) → sum_by measure items ≤ sum bounds }
+/// Items of which each is of a group, which has a number, and has so much of what is added up: a type says it for `group_law`.
+pub trait Grouped {
+    ghost use Rattle.std.specs.Prelude.{ℕ};
+
+    /// The number of the item's group.
+    ghost group: { Self → ℕ };
+
+    /// How much the item has.
+    ghost measure: { Self → ℕ };
+}
+
+/// What all items have is what the groups have together, and within the bounds of the groups together.
+pub fn group_law<T: Grouped>()
+    ensures together { (items : List T) (sums : List ℕ)
+        → ((number : ℕ) → (sum_by (λ item. if T.group item == number then T.measure item else 0) items
+        ≡ slice_index_or sums number 0)) → sum_by T.measure items ≡ sum sums }
+    ensures within { (items : List T) (bounds : List ℕ)
+        → ((number : ℕ) → sum_by (λ item. if T.group item == number then T.measure item else 0) items
+        ≤ slice_index_or bounds number 0) → sum_by T.measure items ≤ sum bounds }
 {}

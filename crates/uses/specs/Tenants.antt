@@ -1,6 +1,6 @@
 -- Tenants of one allocator, each with a limit in bytes.
 use Rattle.std.specs.Prelude.{◌≡◌, ◌+◌, ◌<◌, ◌≤◌, ◌==◌, ◌&&◌, ◌∷◌, ◌++◌, if◌then◌else◌, [], ℕ, List, Result, Option}
-use Rattle.std.specs.Prelude.{Bool, Ok, Err, length, map, nat_eq, position, slice_index_or, sum, sum_by}
+use Rattle.std.specs.Prelude.{Bool, Ok, Err, length, map, nat_eq, position, remove, slice_index_or, sum, sum_by}
 use Rattle.bb_memory_base.specs.Chunk.{Chunk}
 use Rattle.bb_memory_base.specs.declared.layout.Layout.{Layout}
 use Rattle.bb_memory_base.specs.declared.allocator.AllocationError.{AllocationError}
@@ -51,6 +51,19 @@ lease_at tenant place leases = position (is_lease_of tenant place) leases
 abbrev pub with_tenant : {A : Type 0} → Tenancy A → ℕ → Tenancy A
 with_tenant old limit = record old { limits = old.limits ++ limit ∷ [] }
 
+-- one lease more, and one less, with the allocator that gave the chunk or took it back
+abbrev pub with_lease : {A : Type 0} → Tenancy A → A → Lease → Tenancy A
+with_lease old allocator lease = record old {
+  allocator = allocator;
+  leases = old.leases ++ lease ∷ [];
+}
+
+abbrev pub without_lease : {A : Type 0} → Tenancy A → A → ℕ → Tenancy A
+without_lease old allocator position = record old {
+  allocator = allocator;
+  leases = remove old.leases position;
+}
+
 -- why a tenant with this limit wasn't admitted
 abbrev pub IsWhyNotAdmitted : {A : Type 0} → Tenancy A → ℕ → AdmitError → Type 0
 IsWhyNotAdmitted old limit admit.OverWhole = old.whole < sum old.limits + limit
@@ -59,7 +72,7 @@ IsWhyNotAdmitted old limit (admit.List error) = sum old.limits + limit ≤ old.w
 
 -- a tenant has this number, and as many bytes are left of its limit
 pub record HasLeft {A : Type 0} (old : Tenancy A) (tenant size : ℕ) : Type 0 where
-  pub tenant : tenant < length old.limits
+  pub known : tenant < length old.limits
   pub within : used_by tenant old.leases + size ≤ limit_of old.limits tenant
 
 -- why a tenant wasn't given a chunk, where an allocator may answer so
