@@ -1,6 +1,7 @@
 //! Laws of lists, for a user whose contracts speak of what a vector has. Each is a function that does nothing: called in a
 //! body, it puts its clauses in reach there.
 ghost use Rattle.std.specs.Prelude.{◌≡◌, ◌≢◌, ◌==◌, if◌then◌else◌, ◌<◌, ◌≤◌, ◌+◌, ◌-◌, ◌∷◌, ◌++◌};
+ghost use Rattle.std.specs.Prelude.{Bool, IsSome, position, true};
 ghost use Rattle.std.specs.Prelude.{ℕ, [], List, Some, length, map, remove, slice_get, slice_index_or, slice_set, sum, sum_by};
 
 /// One more item behind the others.
@@ -92,4 +93,14 @@ pub fn group_law<T: Grouped>()
     ensures within { (items : List T) (bounds : List ℕ)
         → ((number : ℕ) → sum_by (λ item. if T.group item == number then T.measure item else 0) items
         ≤ slice_index_or bounds number 0) → sum_by T.measure items ≤ sum bounds }
+{}
+
+/// The first position of an item that passes a test.
+pub fn position_law<T>()
+    ensures there { (test : T → Bool) (items : List T) (index : ℕ) (item : T)
+        → slice_get items index ≡ Some item → test item ≡ true → IsSome (position test items) }
+    ensures last { (test : T → Bool) (items : List T) (item : T) → test item ≡ true
+        → IsSome (position test (items ++ item ∷ [])) }
+    ensures others { (test : T → Bool) (items : List T) (item : T) → IsSome (position test items)
+        → position test (items ++ item ∷ []) ≡ position test items }
 {}

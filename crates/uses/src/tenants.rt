@@ -1,16 +1,16 @@
 //! Tenants of one allocator, each with a limit of its own.
-ghost use Rattle.std.specs.Prelude.{◌≡◌, ◌≢◌, ◌<◌, ◌≤◌, ◌+◌, ◌%◌, ◌↔◌, ◌∷◌, ◌++◌, [], ℕ, List, Some, Ok};
+ghost use Rattle.std.specs.Prelude.{◌≡◌, ◌≢◌, ◌<◌, ◌≤◌, ◌+◌, ◌%◌, ◌↔◌, ◌∷◌, ◌++◌, [], ℕ, List, Some, Ok, true};
 ghost use Rattle.std.specs.Prelude.{IfOk, IfErr, IfSome, IsOk, IsSome, IsTrue, OnOk, OnErr};
 ghost use Rattle.std.specs.Prelude.{length, remove, slice_get, slice_index_or, sum};
 ghost use Rattle.bb_memory_base.specs.Chunk.{IsInside};
 ghost use Rattle.bb_memory_base.specs.LiveList.{IsSound};
 ghost use Rattle.uses.specs.declared.tenants.Lease.{Lease};
 ghost use Rattle.uses.specs.Tenants.{HasLeft, IsWhyNotAdmitted, IsWhyNotLeased};
-ghost use Rattle.uses.specs.Tenants.{bytes_for, bytes_out, chunks_of, lease_at, limit_of, used_by, with_lease, with_tenant, without_lease};
+ghost use Rattle.uses.specs.Tenants.{bytes_for, bytes_out, chunks_of, is_lease_of, lease_at, limit_of, used_by, with_lease, with_tenant, without_lease};
 
 use bb_memory_base::allocator::{AllocationError, Allocator, BaseAllocator};
 use bb_memory_base::layout::{Chunk, Layout};
-use bb_memory_base::lists::{Grouped, append_law, group_law, map_law, sum_law};
+use bb_memory_base::lists::{Grouped, append_law, group_law, map_law, position_law, sum_law};
 use std::alloc::{AllocError, Global};
 use std::marker::Model;
 use thiserror::Error;
@@ -323,11 +323,6 @@ pub fn leases_law()
     ensures own { (lease : Lease) → bytes_for lease.tenant lease ≡ lease.chunk.len }
     ensures others { (lease : Lease) (other : ℕ) → other ≢ lease.tenant
         → bytes_for other lease ≡ 0 }
-    ensures held { (leases : List Lease) (lease : Lease)
-        → IsSome (lease_at lease.tenant lease.chunk.place (leases ++ lease ∷ [])) }
-    ensures still_held { (leases : List Lease) (lease : Lease) (tenant place : ℕ)
-        → IsSome (lease_at tenant place leases)
-        → IsSome (lease_at tenant place (leases ++ lease ∷ [])) }
     ensures chunks { (leases : List Lease) (lease : Lease)
         → chunks_of (leases ++ lease ∷ []) ≡ chunks_of leases ++ lease.chunk ∷ [] }
     ensures chunk { (leases : List Lease) (position : ℕ) (lease : Lease)
@@ -351,3 +346,20 @@ pub fn all_leases_law()
 {
     group_law::<Lease>();
 }
+
+/// A tenant holds what it was given last, and what it held before. It does nothing: its contract is the law.
+pub fn held_law()
+    ensures held { (leases : List Lease) (lease : Lease)
+        → IsSome (lease_at lease.tenant lease.chunk.place (leases ++ lease ∷ [])) }
+    ensures still_held { (leases : List Lease) (lease : Lease) (tenant place : ℕ)
+        → IsSome (lease_at tenant place leases)
+        → IsSome (lease_at tenant place (leases ++ lease ∷ [])) }
+{
+    own_lease_law();
+    position_law::<Lease>();
+}
+
+/// A lease is that of its tenant and its place. It does nothing: its contract is the law.
+fn own_lease_law()
+    ensures { (lease : Lease) → is_lease_of lease.tenant lease.chunk.place lease ≡ true }
+{}
