@@ -10,6 +10,8 @@ pub mod BumpRuns
 pub mod BumpSteps
 pub mod BumpStretches
 pub mod BumpWholes
+pub mod FirstPositions
+pub mod GroupSums
 pub mod Layouts
 pub mod LeastPlaces
 pub mod LiveBytes

@@ -1,7 +1,8 @@
 //! Laws of lists, for a user whose contracts speak of what a vector has. Each is a function that does nothing: called in a
 //! body, it puts its clauses in reach there.
 ghost use Rattle.std.specs.Prelude.{◌≡◌, ◌≢◌, ◌==◌, if◌then◌else◌, ◌<◌, ◌≤◌, ◌+◌, ◌-◌, ◌∷◌, ◌++◌};
-ghost use Rattle.std.specs.Prelude.{ℕ, [], List, Some, length, map, remove, slice_get, slice_set, sum_by};
+ghost use Rattle.std.specs.Prelude.{Bool, IsSome, position, true};
+ghost use Rattle.std.specs.Prelude.{ℕ, [], List, Some, length, map, remove, slice_get, slice_index_or, slice_set, sum, sum_by};
 
 /// One more item behind the others.
 pub fn append_law<T>()
@@ -71,4 +72,35 @@ pub fn map_law<T, U>()
         → slice_get items position ≡ Some item
         → slice_get (map of items) position ≡ Some (of item) }
     ensures length { (of : T → U) (items : List T) → length (map of items) ≡ length items }
+{}
+
+/// Items of which each is of a group, which has a number, and has so much of what is added up: a type says it for `group_law`.
+pub trait Grouped {
+    ghost use Rattle.std.specs.Prelude.{ℕ};
+
+    /// The number of the item's group.
+    ghost group: { Self → ℕ };
+
+    /// How much the item has.
+    ghost measure: { Self → ℕ };
+}
+
+/// What all items have is what the groups have together, and within the bounds of the groups together.
+pub fn group_law<T: Grouped>()
+    ensures together { (items : List T) (sums : List ℕ)
+        → ((number : ℕ) → (sum_by (λ item. if T.group item == number then T.measure item else 0) items
+        ≡ slice_index_or sums number 0)) → sum_by T.measure items ≡ sum sums }
+    ensures within { (items : List T) (bounds : List ℕ)
+        → ((number : ℕ) → sum_by (λ item. if T.group item == number then T.measure item else 0) items
+        ≤ slice_index_or bounds number 0) → sum_by T.measure items ≤ sum bounds }
+{}
+
+/// The first position of an item that passes a test.
+pub fn position_law<T>()
+    ensures there { (test : T → Bool) (items : List T) (index : ℕ) (item : T)
+        → slice_get items index ≡ Some item → test item ≡ true → IsSome (position test items) }
+    ensures last { (test : T → Bool) (items : List T) (item : T) → test item ≡ true
+        → IsSome (position test (items ++ item ∷ [])) }
+    ensures others { (test : T → Bool) (items : List T) (item : T) → IsSome (position test items)
+        → position test (items ++ item ∷ []) ≡ position test items }
 {}

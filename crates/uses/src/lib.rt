@@ -31,4 +31,5 @@ pub mod pool_workers;
 pub mod ring;
 pub mod scripts;
 pub mod slab;
+pub mod tenants;
 pub mod workers;

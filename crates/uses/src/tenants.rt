@@ -1,0 +1,365 @@
+//! Tenants of one allocator, each with a limit of its own.
+ghost use Rattle.std.specs.Prelude.{◌≡◌, ◌≢◌, ◌<◌, ◌≤◌, ◌+◌, ◌%◌, ◌↔◌, ◌∷◌, ◌++◌, [], ℕ, List, Some, Ok, true};
+ghost use Rattle.std.specs.Prelude.{IfOk, IfErr, IfSome, IsOk, IsSome, IsTrue, OnOk, OnErr};
+ghost use Rattle.std.specs.Prelude.{length, remove, slice_get, slice_index_or, sum};
+ghost use Rattle.bb_memory_base.specs.Chunk.{IsInside};
+ghost use Rattle.bb_memory_base.specs.LiveList.{IsSound};
+ghost use Rattle.uses.specs.declared.tenants.Lease.{Lease};
+ghost use Rattle.uses.specs.Tenants.{HasLeft, IsWhyNotAdmitted, IsWhyNotLeased};
+ghost use Rattle.uses.specs.Tenants.{bytes_for, bytes_out, chunks_of, is_lease_of, lease_at, limit_of, used_by, with_lease, with_tenant, without_lease};
+
+use bb_memory_base::allocator::{AllocationError, Allocator, BaseAllocator};
+use bb_memory_base::layout::{Chunk, Layout};
+use bb_memory_base::lists::{Grouped, append_law, group_law, map_law, position_law, sum_law};
+use std::alloc::{AllocError, Global};
+use std::marker::Model;
+use thiserror::Error;
+
+/// Why a tenant wasn't admitted.
+#[derive(Debug, Drop, Error)]
+pub enum AdmitError {
+    #[error("the limits would exceed the whole")]
+    OverWhole,
+    #[error("no memory for the list of limits")]
+    List(#[from] AllocError),
+}
+
+/// Why a tenant wasn't given a chunk.
+#[derive(Debug, Drop, Error)]
+pub enum LeaseError {
+    #[error("no tenant has this number")]
+    NoTenant,
+    #[error("the tenant's limit would be exceeded")]
+    OverLimit,
+    #[error("no memory for the list of leases")]
+    List(#[from] AllocError),
+    #[error("no chunk: {0}")]
+    Refused(#[from] AllocationError),
+    #[error("the allocator gave a longer chunk than asked, which exceeds the tenant's limit")]
+    TooLong,
+}
+
+/// The tenant holds no chunk at the place.
+#[derive(Debug, Clone, Copy, PartialEq, Eq, Error)]
+#[error("the tenant holds no chunk at this place")]
+pub struct NotHeld {}
+
+/// A chunk that is out, and the number of the tenant that holds it.
+#[derive(Debug, Clone, Copy, PartialEq, Eq)]
+pub struct Lease {
+    pub tenant: usize,
+    pub chunk: Chunk,
+}
+
+impl Grouped for Lease {
+    ghost group = { λ lease. lease.tenant };
+
+    ghost measure = { λ lease. lease.chunk.len };
+}
+
+impl Lease {
+    /// How many of its bytes are this tenant's: all or none.
+    fn bytes_for(&self, tenant: usize) -> usize
+        ensures { result ≡ bytes_for tenant self.now }
+    {
+        if self.tenant == tenant {
+            self.chunk.len()
+        } else {
+            0
+        }
+    }
+}
+
+/// Tenants that share an allocator. Each is named by its number, from 0 in the order of their admission, and has a limit in bytes,
+/// within which its chunks stay. The limits together are at most a whole that the maker fixed.
+#[derive(Drop)]
+pub struct Tenants<A: Allocator + Drop> {
+    allocator: A,
+    whole: usize,
+    promised: usize,
+    limits: Vec<usize>,
+    leases: Vec<Lease>,
+}
+
+impl<A: Allocator + Drop> Model for Tenants<A> {
+    ghost use Rattle.std.specs.Prelude.{◌≡◌, ◌≤◌, ℕ, sum};
+    ghost use Rattle.uses.specs.Tenants.{Tenancy, chunks_of, limit_of, used_by};
+
+    // Tenants are their allocator, the whole, the limit of each, and the chunks that they hold.
+    ghost Value = { Tenancy A };
+
+    ghost view = { λ t. record {
+      allocator = t.allocator;
+      whole = t.whole;
+      limits = t.limits.items;
+      leases = t.leases.items;
+    } };
+
+    ghost invariant = { λ t. A.stands_for t.allocator (chunks_of t.leases.items)
+        × (t.promised ≡ sum t.limits.items) × (t.promised ≤ t.whole)
+        × ((tenant : ℕ) → used_by tenant t.leases.items ≤ limit_of t.limits.items tenant) };
+}
+
+impl<A: Allocator + Drop> Tenants<A> {
+    /// No tenants. The allocator has nothing out, and all limits together will be at most `whole` bytes.
+    pub fn new(alloc: Global, allocator: A, whole: usize) -> Self
+        requires fresh { A.stands_for allocator [] }
+        ensures empty { result
+            ≡ record { allocator = allocator; whole = whole; limits = []; leases = [] } }
+    {
+        Tenants {
+            allocator,
+            whole,
+            promised: 0,
+            limits: Vec::new(alloc),
+            leases: Vec::new(alloc),
+        }
+    }
+
+    /// Admits a tenant with a limit in bytes, and answers its number. It is refused with `OverWhole` exactly where all limits
+    /// together would exceed the whole, and else with `List` where memory was.
+    pub fn admit(&mut self, limit: usize) -> Result<usize, AdmitError>
+        ensures number { IfOk result (λ number. number ≡ length self.old.limits) }
+        ensures within { OnOk result (sum self.old.limits + limit ≤ self.old.whole) }
+        ensures admitted { OnOk result (self.new ≡ with_tenant self.old limit) }
+        ensures refused { IfErr result (IsWhyNotAdmitted self.old limit) }
+        ensures still { OnErr result (self.new ≡ self.old) }
+    {
+        if limit > self.whole - self.promised {
+            return Err(AdmitError::OverWhole);
+        }
+        self.limits.reserve(1).map_err(AdmitError::List)?;
+        let number = self.limits.len();
+        sum_law::<usize>();
+        append_law::<usize>();
+        self.limits.push_reserved(limit);
+        self.promised += limit;
+        Ok(number)
+    }
+
+    /// How many tenants there are.
+    pub fn count(&self) -> usize
+        ensures { result ≡ length self.now.limits }
+    {
+        self.limits.len()
+    }
+
+    /// How many bytes all limits may be together.
+    pub fn whole(&self) -> usize
+        ensures value { result ≡ self.now.whole }
+        ensures within { sum self.now.limits ≤ result }
+    {
+        self.whole
+    }
+
+    /// A tenant's limit in bytes, and 0 of a number that is no tenant's.
+    pub fn limit(&self, tenant: usize) -> usize
+        ensures { result ≡ limit_of self.now.limits tenant }
+    {
+        self.limits.get(tenant).copied().unwrap_or(0)
+    }
+
+    /// How many bytes a tenant uses: those of the chunks that it holds, which are within its limit.
+    pub fn used(&self, tenant: usize) -> usize
+        ensures value { result ≡ used_by tenant self.now.leases }
+        ensures within { result ≤ limit_of self.now.limits tenant }
+    {
+        used_within(&self.leases, tenant, self.limit(tenant))
+    }
+
+    /// How many bytes are out: those of all chunks that the allocator has given. Whatever list has what each tenant uses, this is
+    /// its sum; and it is within the whole.
+    pub fn out(&self) -> usize
+        ensures value { result ≡ bytes_out self.now.leases }
+        ensures within { result ≤ self.now.whole }
+        ensures together { (used : List ℕ)
+            → ((tenant : ℕ) → used_by tenant self.now.leases ≡ slice_index_or used tenant 0)
+            → result ≡ sum used }
+    {
+        all_leases_law();
+        out_within(&self.leases, self.promised)
+    }
+
+    /// Whether a tenant holds the chunk at a place.
+    pub fn holds(&self, tenant: usize, place: usize) -> bool
+        ensures { IsTrue result ↔ IsSome (lease_at tenant place self.now.leases) }
+    {
+        lease_of(&self.leases, tenant, place).is_some()
+    }
+
+    /// Asks for a chunk for a tenant. It is refused in this order: with `NoTenant` where no tenant has the number, with `OverLimit`
+    /// exactly where the asked bytes would exceed the tenant's limit, with `List` where memory was refused, with `Refused` as the
+    /// allocator refuses the layout, and with `TooLong` where it gives a chunk so much longer that the limit would be exceeded,
+    /// which goes back. A refusal keeps all.
+    pub fn allocate(&mut self, tenant: usize, layout: Layout) -> Result<Chunk, LeaseError>
+        ensures given { IfOk result (λ chunk. A.may_allocate (A.geometry self.old.allocator)
+            (chunks_of self.old.leases) layout (Ok chunk)) }
+        ensures inside { IfOk result
+            (IsInside (A.region_of (A.geometry self.old.allocator))) }
+        ensures aligned { IfOk result (λ chunk. chunk.place % layout.align ≡ 0) }
+        ensures long_enough { IfOk result (λ chunk. layout.size ≤ chunk.len) }
+        ensures within { IfOk result (λ chunk. HasLeft self.old tenant chunk.len) }
+        ensures leased { IfOk result (λ chunk. self.new ≡ with_lease self.old self.new.allocator
+            (record { tenant = tenant; chunk = chunk })) }
+        ensures refused { IfErr result (IsWhyNotLeased
+            (A.may_allocate (A.geometry self.old.allocator) (chunks_of self.old.leases))
+            self.old tenant layout) }
+        ensures still { OnErr result
+            (self.new ≡ record self.old { allocator = self.new.allocator }) }
+        ensures geometry { A.geometry self.new.allocator ≡ A.geometry self.old.allocator }
+    {
+        if tenant >= self.limits.len() {
+            return Err(LeaseError::NoTenant);
+        }
+        let left = self.limit(tenant) - self.used(tenant);
+        if layout.size() > left {
+            return Err(LeaseError::OverLimit);
+        }
+        self.leases.reserve(1).map_err(LeaseError::List)?;
+        let chunk = match self.allocator.allocate(layout) {
+            Ok(chunk) => chunk,
+            Err(error) => return Err(LeaseError::Refused(error)),
+        };
+        append_law::<Chunk>();
+        if chunk.len() > left {
+            self.allocator.deallocate(chunk.place(), layout);
+            return Err(LeaseError::TooLong);
+        }
+        leases_law();
+        self.leases.push_reserved(Lease { tenant, chunk });
+        Ok(chunk)
+    }
+
+    /// Gives back the chunk at a place, which the tenant holds. Else it is refused, and changes nothing.
+    pub fn deallocate(&mut self, tenant: usize, place: usize) -> Result<(), NotHeld>
+        ensures held { IsOk result ↔ IsSome (lease_at tenant place self.old.leases) }
+        ensures returned { IfSome (lease_at tenant place self.old.leases) (λ position.
+            self.new ≡ without_lease self.old self.new.allocator position) }
+        ensures still { OnErr result (self.new ≡ self.old) }
+        ensures geometry { A.geometry self.new.allocator ≡ A.geometry self.old.allocator }
+    {
+        let Some(position) = lease_of(&self.leases, tenant, place) else {
+            return Err(NotHeld {});
+        };
+        leases_law();
+        give_back(&mut self.allocator, &self.leases, position);
+        self.leases.remove(position);
+        Ok(())
+    }
+
+    /// Does nothing. It is the proof that the allocator stands for exactly the chunks that the tenants hold, which so lie inside its
+    /// region and are apart.
+    pub fn law(&self)
+        ensures stands { A.stands_for self.now.allocator (chunks_of self.now.leases) }
+        ensures sound { IsSound (A.region_of (A.geometry self.now.allocator))
+            (chunks_of self.now.leases) }
+    {
+        let _ = &self.leases;
+    }
+}
+
+/// How many bytes of the leases are a tenant's. They are within a limit.
+fn used_within(leases: &Vec<Lease>, tenant: usize, limit: usize) -> usize
+    requires { used_by tenant leases.now.items ≤ limit }
+    ensures value { result ≡ used_by tenant leases.now.items }
+    ensures within { result ≤ limit }
+{
+    let _ = limit;
+    leases.iter().map(|lease| lease.bytes_for(tenant)).sum()
+}
+
+/// How many bytes the leases have. They are within what is promised.
+fn out_within(leases: &Vec<Lease>, promised: usize) -> usize
+    requires { bytes_out leases.now.items ≤ promised }
+    ensures value { result ≡ bytes_out leases.now.items }
+    ensures within { result ≤ promised }
+{
+    let _ = promised;
+    leases.iter().map(|lease| lease.chunk.len()).sum()
+}
+
+/// The position of the lease of the chunk at a place, where the tenant holds it.
+fn lease_of(leases: &Vec<Lease>, tenant: usize, place: usize) -> Option<usize>
+    ensures first { result ≡ lease_at tenant place leases.now.items }
+    ensures there { IfSome result (λ position. (lease : Lease)
+        × (slice_get leases.now.items position ≡ Some lease)
+        × (lease.tenant ≡ tenant) × (lease.chunk.place ≡ place)) }
+{
+    leases
+        .iter()
+        .position(|lease| lease.tenant == tenant && lease.chunk.place() == place)
+}
+
+/// The lease at a position.
+fn lease_there(leases: &Vec<Lease>, position: usize) -> Lease
+    requires { position < length leases.now.items }
+    ensures { slice_get leases.now.items position ≡ Some result }
+{
+    leases[position]
+}
+
+/// Gives the chunk of the lease at a position back to the allocator, and answers the lease.
+fn give_back<A: Allocator>(allocator: &mut A, leases: &Vec<Lease>, position: usize) -> Lease
+    requires stands { A.stands_for allocator.old (chunks_of leases.now.items) }
+    requires within { position < length leases.now.items }
+    ensures there { slice_get leases.now.items position ≡ Some result }
+    ensures stands { A.stands_for allocator.new (chunks_of (remove leases.now.items position)) }
+    ensures geometry { A.geometry allocator.new ≡ A.geometry allocator.old }
+{
+    leases_law();
+    let lease = lease_there(leases, position);
+    allocator.deallocate(lease.chunk.place(), Layout::empty());
+    lease
+}
+
+/// What one lease more, or one less, makes of each tenant's use, and of the chunks that are out. It does nothing: its contract is the law.
+pub fn leases_law()
+    ensures more { (leases : List Lease) (lease : Lease) (tenant : ℕ)
+        → used_by tenant (leases ++ lease ∷ []) ≡ used_by tenant leases + bytes_for tenant lease }
+    ensures less { (leases : List Lease) (position : ℕ) (lease : Lease) (tenant : ℕ)
+        → slice_get leases position ≡ Some lease
+        → (used_by tenant (remove leases position) + bytes_for tenant lease
+        ≡ used_by tenant leases) }
+    ensures own { (lease : Lease) → bytes_for lease.tenant lease ≡ lease.chunk.len }
+    ensures others { (lease : Lease) (other : ℕ) → other ≢ lease.tenant
+        → bytes_for other lease ≡ 0 }
+    ensures chunks { (leases : List Lease) (lease : Lease)
+        → chunks_of (leases ++ lease ∷ []) ≡ chunks_of leases ++ lease.chunk ∷ [] }
+    ensures chunk { (leases : List Lease) (position : ℕ) (lease : Lease)
+        → slice_get leases position ≡ Some lease
+        → slice_get (chunks_of leases) position ≡ Some lease.chunk }
+    ensures rest { (leases : List Lease) (position : ℕ)
+        → chunks_of (remove leases position) ≡ remove (chunks_of leases) position }
+{
+    sum_law::<Lease>();
+    map_law::<Lease, Chunk>();
+}
+
+/// What the tenants use is what is out. It does nothing: its contract is the law.
+pub fn all_leases_law()
+    ensures together { (leases : List Lease) (used : List ℕ)
+        → ((tenant : ℕ) → used_by tenant leases ≡ slice_index_or used tenant 0)
+        → bytes_out leases ≡ sum used }
+    ensures within { (leases : List Lease) (limits : List ℕ)
+        → ((tenant : ℕ) → used_by tenant leases ≤ limit_of limits tenant)
+        → bytes_out leases ≤ sum limits }
+{
+    group_law::<Lease>();
+}
+
+/// A tenant holds what it was given last, and what it held before. It does nothing: its contract is the law.
+pub fn held_law()
+    ensures held { (leases : List Lease) (lease : Lease)
+        → IsSome (lease_at lease.tenant lease.chunk.place (leases ++ lease ∷ [])) }
+    ensures still_held { (leases : List Lease) (lease : Lease) (tenant place : ℕ)
+        → IsSome (lease_at tenant place leases)
+        → IsSome (lease_at tenant place (leases ++ lease ∷ [])) }
+{
+    own_lease_law();
+    position_law::<Lease>();
+}
+
+/// A lease is that of its tenant and its place. It does nothing: its contract is the law.
+fn own_lease_law()
+    ensures { (lease : Lease) → is_lease_of lease.tenant lease.chunk.place lease ≡ true }
+{}
