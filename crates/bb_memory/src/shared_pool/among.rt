@@ -67,12 +67,7 @@ impl<const CAPPED: usize, const MOST: usize> SharedBucketPool<CAPPED, MOST> {
     /// Gives back a bucket of the party at place `index` of the list, as `deallocate_bucket` does, so that none of the parties
     /// holds it then. The list has to have all parties of the pool, and that party's log has to hold the bucket. The parties
     /// meet before it and after it, which loads words that are in no log.
-    pub fn deallocate_among(
-        &self,
-        parties: &mut Vec<PoolParty>,
-        index: usize,
-        bucket: Bucket<'_>,
-    )
+    pub fn deallocate_among(&self, parties: &mut Vec<PoolParty>, index: usize, bucket: Bucket<'_>)
         requires { HoldsAmongAll self.now parties.old.items index bucket }
         ensures given { HasGivenBackAt self.now parties.old.items index bucket.entry.number
             parties.new.items }

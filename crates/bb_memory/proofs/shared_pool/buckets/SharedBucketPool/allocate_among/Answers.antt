@@ -1,5 +1,4 @@
-use Rattle.std.proofs.Common.{List, ◌∙◌, subst, sym}
-use Rattle.bb_memory.specs.SharedPool.{PoolParty}
+use Rattle.std.proofs.Common.{◌∙◌, subst, sym}
 use Rattle.bb_memory.specs.SharedPoolHistory.{HaveMetBy}
 use Rattle.bb_memory.proofs.SharedPoolAmong.{among_held, among_least, among_others, among_refused, among_still}
 use Rattle.bb_memory.proofs.SharedPoolAmong.{among_taken, asked_at}

@@ -1,5 +1,4 @@
-use Rattle.std.proofs.Common.{List, ◌∙◌, subst, sym}
-use Rattle.bb_memory.specs.SharedPool.{PoolParty}
+use Rattle.std.proofs.Common.{◌∙◌, subst, sym}
 use Rattle.bb_memory.specs.SharedPoolHistory.{HaveMetBy}
 use Rattle.bb_memory.proofs.SharedPoolAmong.{among_given, among_given_others, among_given_still, given_at}
 use Rattle.bb_memory.proofs.shared_pool.buckets.SharedBucketPool.deallocate_among.Goals as goal
