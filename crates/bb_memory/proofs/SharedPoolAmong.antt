@@ -4,6 +4,9 @@ use Rattle.std.proofs.Common.{None, refl, sym, ap, ◌∙◌, subst, arith, inl,
 use Rattle.std.specs.Prelude.{◌↔◌, ◌⊎◌, Contains, IfOk, IsErr, Ok}
 use Rattle.std.specs.Prelude.{Err, Result, if◌then◌else◌, slice_get, slice_index_or, slice_set}
 use Rattle.std.specs.List.{All}
+use Rattle.std.specs.Prelude.{IfSome, Option}
+use Rattle.bb_memory_base.proofs.SliceSets.{slice_get-set_other, slice_get-set_same}
+use Rattle.std.proofs.lemmas.Bool.{cases_eq}
 use Rattle.std.proofs.lemmas.List.{length-set}
 use Rattle.std.proofs.lemmas.List.Elements.{All-contains}
 use Rattle.std.proofs.lemmas.Option.{same_Some, slice_get-get_or}
@@ -18,12 +21,12 @@ use Rattle.bb_memory_base.specs.declared.steps.pool.PoolStep.{PoolStep}
 use Rattle.bb_memory_base.proofs.PoolSteps.{test_apart, test_same}
 use Rattle.bb_memory.specs.SharedPool.{IsHeldByOne, MayTake, PoolParty, SharedPool, TakenBucket, return_entry}
 use Rattle.bb_memory.specs.SharedPool.{with_entries}
-use Rattle.bb_memory.specs.SharedPoolAmong.{HasAskedAt, HasGivenBackAt}
+use Rattle.bb_memory.specs.SharedPoolAmong.{AreAllOf, HasAskedAt, HasGivenBackAt, HoldsAmongAll, HoldsAt, IsAmongAll}
 use Rattle.bb_memory.specs.SharedPoolHistory.{AreAllHeldByOne, HaveMetBy, IsLeastFree}
 use Rattle.bb_memory.proofs.Contained.{any_contained, contains-behind, contains-first}
 use Rattle.bb_memory.proofs.SharedPoolAlone.{AloneBetween, last_of_all}
 use Rattle.bb_memory.proofs.SharedPoolAsked.{pass_least, pass_refused}
-use Rattle.bb_memory.proofs.SharedPoolTries.{held-append, held-taking, same_held}
+use Rattle.bb_memory.proofs.SharedPoolTries.{held-append, held-taking, held_after_taking, same_held}
 use Rattle.bb_memory_base.proofs.PoolHolders.{held_through}
 
 -- ONE OF A LIST IS SET
@@ -129,6 +132,14 @@ asked_held party now layout (Err OutOfMemory) other may apart =
     ∙ same_held buckets party.number buckets other party.log
 asked_held party now layout (Err SizeIsZero) other may apart = absurd may
 
+-- what it held it still holds
+asked_still : (party now : PoolParty) (layout : Layout) (answer : Result TakenBucket AllocationError) (other : ℕ) →
+    MayTake party layout answer now → IsHeldAfter party.log other → IsHeldAfter now.log other
+asked_still party now layout (Ok bucket) other may held =
+    ap (λ (p : PoolParty). held_through other false p.log) may.2
+    ∙ held_after_taking party.allocator.scene.geometry.buckets party.number bucket.number other party.log held
+asked_still party now layout (Err error) other may held = asked_held party now layout (Err error) other may tt ∙ held
+
 -- as before, but for the bucket that it gave back
 given_held : (party : PoolParty) (bucket other : ℕ) → other ≢ bucket →
     held_through other false (party.log ++ return_entry party.number bucket) ≡ held_through other false party.log
@@ -145,16 +156,81 @@ took_held party now layout bucket may =
     ∙ ap (λ (b : Bool). if b then true else held_through bucket.number false party.log)
     (test_same bucket.number bucket.number refl)
 
+-- WHO WAS CALLED
+
+-- the list as the first meeting left it, and the one that is handed back
+module _ (pool : SharedPool) (old met new : List PoolParty) (index : ℕ) (among : IsAmongAll pool old index)
+    (kept : met ≡ old) (party : PoolParty) (its : party ≡ slice_index_or met index party)
+    (theirs : All (λ one. one.allocator ≡ pool) new) where
+  its_place : slice_get old index ≡ Some party
+  its_place =
+      at_index old index party among.there
+      (subst (λ (list : List PoolParty). party ≡ slice_index_or list index party) kept its)
+
+  set_of_all : (now : PoolParty) → new ≡ slice_set met index now → AreAllOf pool new
+  set_of_all now is = record {
+    theirs = theirs;
+    so_many = ap (λ (list : List PoolParty). length list) is ∙ length-set met index now
+        ∙ ap (λ (list : List PoolParty). length list) kept ∙ among.all.so_many;
+  }
+
+  pub asked_at : (layout : Layout) (answer : Result TakenBucket AllocationError) (now : PoolParty) →
+      MayTake party layout answer now → new ≡ slice_set met index now → HasAskedAt pool old index layout answer new
+  asked_at layout answer now may is = record {
+    party = party;
+    now = now;
+    was = its_place;
+    answered = may;
+    is = is ∙ ap (λ (list : List PoolParty). slice_set list index now) kept;
+    all = set_of_all now is;
+  }
+
+  pub given_at : (bucket : ℕ) (now : PoolParty) → now ≡ with_entries party (return_entry party.number bucket) →
+      new ≡ slice_set met index now → HasGivenBackAt pool old index bucket new
+  given_at bucket now logged is = record {
+    party = party;
+    was = its_place;
+    is = is ∙ ap (λ (list : List PoolParty). slice_set list index now) kept
+        ∙ ap (λ (one : PoolParty). slice_set old index one) logged;
+    all = set_of_all now is;
+  }
+
+-- where the one that was called holds a bucket still, each place does that did
+set_still : (parties : List PoolParty) (index : ℕ) (party now : PoolParty) (place bucket : ℕ) →
+    slice_get parties index ≡ Some party → (IsHeldAfter party.log bucket → IsHeldAfter now.log bucket) →
+    HoldsAt parties place bucket → HoldsAt (slice_set parties index now) place bucket
+set_still parties index party now place bucket was still held =
+    let Holds : Option PoolParty → Type 0 = λ o. IfSome o (λ one. IsHeldAfter one.log bucket) in
+    elim (cases_eq index place) [
+      | inl same ↦
+          let there = slice_get-set_same parties index place now party same was in
+          let before = ap (slice_get parties) (sym same) ∙ was in
+          subst Holds (sym there) (still (subst Holds before held))
+      | inr apart ↦ subst Holds (sym (slice_get-set_other parties index place now apart)) held
+    ]
+
+-- the party at a place holds what is held there
+pub its_held : (old met : List PoolParty) (index bucket : ℕ) (party : PoolParty) → met ≡ old → index < length old →
+    party ≡ slice_index_or met index party → IfSome (slice_get old index) (λ one. IsHeldAfter one.log bucket) →
+    IsHeldAfter party.log bucket
+its_held old met index bucket party kept below its held =
+    let there = at_index old index party below
+    (subst (λ (list : List PoolParty). party ≡ slice_index_or list index party) kept its) in
+    subst (λ (o : Option PoolParty). IfSome o (λ one. IsHeldAfter one.log bucket)) there held
+
 -- CALLS BETWEEN TWO MEETINGS
 
-module _ (scene : PoolScene) (before after : List PoolStep) (old new : List PoolParty) (index : ℕ)
-    (all : length old ≡ scene.parties) (met : HaveMetBy scene before old) (on : IsBeginning before after)
-    (again : HaveMetBy scene after new) where
+module _ (pool : SharedPool) (before after : List PoolStep) (old new : List PoolParty) (index : ℕ)
+    (all : AreAllOf pool old) (met : HaveMetBy pool.scene before old) (on : IsBeginning before after)
+    (again : HaveMetBy pool.scene after new) where
+  abbrev scene : PoolScene
+  scene = pool.scene
+
   between : (party now : PoolParty) → slice_get old index ≡ Some party → new ≡ slice_set old index now →
       AloneBetween scene before after old new party now
   between party now was is = record {
-    all_earlier = all;
-    all_later = ap length is ∙ length-set old index now ∙ all;
+    all_earlier = all.so_many;
+    all_later = ap length is ∙ length-set old index now ∙ all.so_many;
     met = met;
     goes_on = on;
     again = again;
@@ -164,19 +240,21 @@ module _ (scene : PoolScene) (before after : List PoolStep) (old new : List Pool
         set_rest old index now one (subst (λ (list : List PoolParty). Contains list one) is there);
   }
 
-  module _ (layout : Layout) (answer : Result TakenBucket AllocationError) (asked : HasAskedAt old index layout answer new) where
-    pub among_refused : asked.party.allocator.scene ≡ scene → IsWithin scene.geometry.bucket layout →
-        IsErr answer ↔ AreAllHeldByOne scene old
-    among_refused its within =
+  module _ (layout : Layout) (answer : Result TakenBucket AllocationError) (asked : HasAskedAt pool old index layout answer new) where
+    its : asked.party.allocator.scene ≡ scene
+    its = its_pool pool old index asked.party all.theirs asked.was
+
+    pub among_refused : IsWithin scene.geometry.bucket layout → IsErr answer ↔ AreAllHeldByOne scene old
+    among_refused within =
         pass_refused scene before after old new asked.party asked.now (between asked.party asked.now asked.was asked.is) its
         layout answer within asked.answered
 
-    pub among_least : asked.party.allocator.scene ≡ scene → IfOk answer (λ bucket. IsLeastFree old bucket.number)
-    among_least its =
+    pub among_least : IfOk answer (λ bucket. IsLeastFree old bucket.number)
+    among_least =
         pass_least scene before after old new asked.party asked.now (between asked.party asked.now asked.was asked.is) its
         layout answer asked.answered
 
-  pub among_given : (bucket : ℕ) → HasGivenBackAt old index bucket new → ¬ IsHeldByOne new bucket
+  pub among_given : (bucket : ℕ) → HasGivenBackAt pool old index bucket new → ¬ IsHeldByOne new bucket
   among_given bucket given held =
       let party = given.party in
       let now = with_entries party (return_entry party.number bucket) in
@@ -186,15 +264,15 @@ module _ (scene : PoolScene) (before after : List PoolStep) (old new : List Pool
       let free = flag.1 held in
       absurd (cc)
 
-module _ (old new : List PoolParty) (index : ℕ) where
-  pub among_others : (layout : Layout) (answer : Result TakenBucket AllocationError) → HasAskedAt old index layout answer new →
+module _ (pool : SharedPool) (old new : List PoolParty) (index : ℕ) where
+  pub among_others : (layout : Layout) (answer : Result TakenBucket AllocationError) → HasAskedAt pool old index layout answer new →
       (other : ℕ) → IfOk answer (λ bucket. other ≢ bucket.number) → IsHeldByOne new other ↔ IsHeldByOne old other
   among_others layout answer asked other apart =
       let same = asked_held asked.party asked.now layout answer other asked.answered apart in
       subst (λ (list : List PoolParty). IsHeldByOne list other ↔ IsHeldByOne old other) (sym asked.is)
       (set_held old index asked.party asked.now other asked.was (λ now. sym same ∙ now) (λ was. same ∙ was))
 
-  pub among_taken : (layout : Layout) (answer : Result TakenBucket AllocationError) → HasAskedAt old index layout answer new →
+  pub among_taken : (layout : Layout) (answer : Result TakenBucket AllocationError) → HasAskedAt pool old index layout answer new →
       IfOk answer (λ bucket. IsHeldByOne new bucket.number)
   among_taken layout (Ok bucket) asked =
       let set = slice_set old index asked.now in
@@ -203,7 +281,40 @@ module _ (old new : List PoolParty) (index : ℕ) where
       (set_there old index asked.party asked.now asked.was) (took_held asked.party asked.now layout bucket asked.answered))
   among_taken layout (Err error) asked = tt
 
-  pub among_given_others : (bucket : ℕ) → HasGivenBackAt old index bucket new → (other : ℕ) → other ≢ bucket →
+  pub among_held : (layout : Layout) (answer : Result TakenBucket AllocationError) → HasAskedAt pool old index layout answer new →
+      index < length old → IfOk answer (λ bucket. bucket.allocator ≡ pool) →
+      IfOk answer (HoldsAmongAll pool new index)
+  among_held layout (Ok bucket) asked below own =
+      let now = asked.now in
+      let there : slice_get new index ≡ Some now = ap (λ (list : List PoolParty). slice_get list index) asked.is
+      ∙ slice_get-set_same old index index (asked.now) (asked.party) refl asked.was in
+      record {
+        among = record {
+          all = asked.all;
+          there = omega (arith, below, ap (λ (list : List PoolParty). length list) asked.is, length-set old index now);
+        };
+        its_bucket = own;
+        held = subst (λ (o : Option PoolParty). IfSome o (λ one. IsHeldAfter one.log bucket.number)) (sym there)
+            (took_held asked.party now layout bucket asked.answered);
+      }
+  among_held layout (Err error) asked below own = tt
+
+  pub among_still : (layout : Layout) (answer : Result TakenBucket AllocationError) → HasAskedAt pool old index layout answer new →
+      (place other : ℕ) → HoldsAt old place other → HoldsAt new place other
+  among_still layout answer asked place other held =
+      subst (λ (list : List PoolParty). HoldsAt list place other) (sym asked.is)
+      (set_still old index asked.party asked.now place other asked.was
+      (asked_still asked.party asked.now layout answer other asked.answered) held)
+
+  pub among_given_still : (bucket : ℕ) → HasGivenBackAt pool old index bucket new → (place other : ℕ) → other ≢ bucket →
+      HoldsAt old place other → HoldsAt new place other
+  among_given_still bucket given place other apart held =
+      let party = given.party in
+      let now = with_entries party (return_entry party.number bucket) in
+      subst (λ (list : List PoolParty). HoldsAt list place other) (sym given.is)
+      (set_still old index party now place other given.was (λ was. given_held party bucket other apart ∙ was) held)
+
+  pub among_given_others : (bucket : ℕ) → HasGivenBackAt pool old index bucket new → (other : ℕ) → other ≢ bucket →
       IsHeldByOne new other ↔ IsHeldByOne old other
   among_given_others bucket given other apart =
       let party = given.party in

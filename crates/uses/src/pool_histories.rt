@@ -1,7 +1,9 @@
 //! Workers of one pool whose meetings are remembered, and a pool whose parties are all in one place.
-ghost use Rattle.std.specs.Prelude.{◌≡◌, ◌<◌, All, IfOk, length};
+ghost use Rattle.std.specs.Prelude.{◌≡◌, ◌<◌, IfOk, length};
 ghost use Rattle.bb_memory_base.specs.PoolLogs.{IsBeginning};
 ghost use Rattle.bb_memory_base.specs.PoolObject.{IsWithin};
+ghost use Rattle.bb_memory.specs.SharedPool.{IsHeldByOne};
+ghost use Rattle.bb_memory.specs.SharedPoolAmong.{AreAllOf, HoldsAmongAll, IsAmongAll};
 ghost use Rattle.bb_memory.specs.SharedPoolHistory.{HaveMetBy, MayGoOn};
 
 use crate::pool_workers::take_one;
@@ -61,25 +63,40 @@ pub fn four_workers_twice<R: Threads + Sync>(
     Ok((pool, history, back))
 }
 
-/// Who has all parties of a pool with one bucket: the first takes it and gives it back, and then the second asks. It gets the
-/// bucket: what was given back can't be what it is refused by, and there is nobody else. Answers the first one's refusal.
+/// Who has all parties of a pool, and knows a bucket that none of them holds, is given one, and not refused.
+pub fn take_free<'a>(
+    pool: &'a SharedPoolAllocator,
+    parties: &mut Vec<PoolParty>,
+    index: usize,
+    layout: Layout,
+    number: u32,
+) -> Bucket<'a>
+    requires all { IsAmongAll pool.now parties.old.items index }
+    requires within { IsWithin pool.now.scene.geometry.bucket layout }
+    requires below { number < pool.now.scene.geometry.buckets }
+    requires free { ¬ IsHeldByOne parties.old.items number }
+    ensures { HoldsAmongAll pool.now parties.new.items index result }
+{
+    match pool.allocate_among(parties, index, layout) {
+        Ok(bucket) => bucket,
+        Err(_) => unreachable!(),
+    }
+}
+
+/// Who has all parties of a pool: the first takes a bucket and gives it back, and then the second asks. It gets a bucket: what was
+/// given back can't be what it is refused by, and there is nobody else. It is refused where the first one is.
 pub fn free_again<'a>(
     pool: &'a SharedPoolAllocator,
     parties: &mut Vec<PoolParty>,
     layout: Layout,
 ) -> Result<Bucket<'a>, AllocationError>
-    requires parties { All (λ party. party.allocator ≡ pool.now) parties.old.items }
-    requires all { length parties.old.items ≡ pool.now.scene.parties }
-    requires two { 1 < length parties.old.items }
-    requires one { pool.now.scene.geometry.buckets ≡ 1 }
-    requires within { IsWithin pool.now.scene.geometry.bucket layout }
+    requires all { AreAllOf pool.now parties.old.items }
+    requires may { (1 < length parties.old.items)
+        × IsWithin pool.now.scene.geometry.bucket layout }
+    ensures { IfOk result (HoldsAmongAll pool.now parties.new.items 1) }
 {
     let taken = pool.allocate_among(parties, 0, layout)?;
     let number = taken.number();
-    prove!(number == 0);
     pool.deallocate_among(parties, 0, taken);
-    match pool.allocate_among(parties, 1, layout) {
-        Ok(again) => Ok(again),
-        Err(_) => unreachable!(),
-    }
+    Ok(take_free(pool, parties, 1, layout, number))
 }

@@ -1,5 +1,6 @@
 //! Meetings of a shared pool's parties that a history remembers.
 ghost use Rattle.std.specs.Prelude.{◌≡◌, ◌<◌, All, IfOk, length};
+ghost use Rattle.bb_memory.specs.SharedPoolAmong.{AreAllOf};
 ghost use Rattle.bb_memory.specs.SharedPoolHistory.{MayGoOn};
 
 use crate::tests::shared_pools::shared_over;
@@ -106,8 +107,7 @@ fn none_meet_again(rt: HostRuntime) {
 
 /// A pool of one bucket at 4096, with two parties.
 fn one_for_two(alloc: Global) -> Result<(SharedPoolAllocator, Vec<PoolParty>), AllocationError>
-    ensures theirs { IfOk result (λ made. All (λ party. party.allocator ≡ made.0) made.1.items) }
-    ensures all { IfOk result (λ made. length made.1.items ≡ made.0.scene.parties) }
+    ensures all { IfOk result (λ made. AreAllOf made.0 made.1.items) }
     ensures two { IfOk result (λ made. 1 < length made.1.items) }
 {
     let Ok(bucket) = Layout::from_size_align(128, 8) else {

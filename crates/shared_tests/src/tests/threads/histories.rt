@@ -56,10 +56,18 @@ fn twice(
     ensures { IfOk result (λ back. All (λ party. party.allocator ≡ arc_value pool.now) back.items) }
 {
     let request = Request::Near;
-    let job = Job { work: Work::TakeAndReturn, request, asked };
+    let job = Job {
+        work: Work::TakeAndReturn,
+        request,
+        asked,
+    };
     let (back, clashes) = out_and_back(rt, alloc, pool, history, parties, job)?;
     four_counted(rt, &clashes, 0);
-    let job = Job { work: Work::TakeAndDrop, request, asked };
+    let job = Job {
+        work: Work::TakeAndDrop,
+        request,
+        asked,
+    };
     let (back, taken) = out_and_back(rt, alloc, pool, history, back, job)?;
     four_counted(rt, &taken, 1);
     Ok(back)

@@ -1,55 +1,52 @@
-use Rattle.std.proofs.Common.{List, ◌∙◌, ap, length, subst, sym}
-use Rattle.std.specs.Prelude.{◌↔◌, IfOk, IsErr}
-use Rattle.bb_memory.specs.SharedPool.{IsHeldByOne, PoolParty, TakenBucket}
-use Rattle.bb_memory.specs.SharedPoolHistory.{AreAllHeldByOne, HaveMetBy, IsLeastFree}
-use Rattle.bb_memory.proofs.SharedPoolAmong.{among_least, among_others, among_refused, among_taken, its_pool}
+use Rattle.std.proofs.Common.{◌∙◌, subst, sym}
+use Rattle.bb_memory.specs.SharedPoolHistory.{HaveMetBy}
+use Rattle.bb_memory.proofs.SharedPoolAmong.{among_held, among_least, among_others, among_refused, among_still}
+use Rattle.bb_memory.proofs.SharedPoolAmong.{among_taken, asked_at}
 use Rattle.bb_memory.proofs.shared_pool.buckets.SharedBucketPool.allocate_among.Goals as goal
+
+pub returns-clause-asked : goal.returns-clause-asked
+returns-clause-asked g c =
+    asked_at c.args.self.now c.args.parties.now.items c.meet_again.new.parties.items c.meet_again-2.new.parties.items c.args.index
+    c.requires (c.meet_again.ensures.kept ∙ c.begin_among-history.ensures.0) c.index_mut.result.now c.index_mut.ensures.value
+    c.meet_again-2.ensures.its_parties c.args.layout c.allocate-answer.result c.allocate-answer.new.party
+    c.allocate-answer.ensures.answer c.meet_again-2.ensures.kept
 
 pub returns-clause-refused : goal.returns-clause-refused
 returns-clause-refused g c within =
     let pool = c.args.self.now in
     let first = c.meet_again in
     let then = c.meet_again-2 in
-    let asked = c.ask_at-answer.ensures.asked in
-    let answer = c.ask_at-answer.result in
-    let same = first.ensures.kept ∙ c.begin_among-history.ensures.kept in
-    subst (λ (list : List PoolParty). IsErr answer ↔ AreAllHeldByOne pool.scene list) same
-    (among_refused pool.scene first.new.history.steps then.new.history.steps first.new.parties.items
-    c.ask_at-answer.new.parties.items c.args.index (ap (λ (list : List PoolParty). length list) same ∙ c.requires.all)
-    (subst (HaveMetBy pool.scene first.new.history.steps) (sym first.ensures.kept) first.ensures.met) then.ensures.goes_on
-    then.ensures.met c.args.layout answer asked
-    (its_pool pool first.new.parties.items c.args.index asked.party first.ensures.its_parties asked.was) within)
+    among_refused pool first.new.history.steps then.new.history.steps c.args.parties.now.items then.new.parties.items c.args.index
+    c.requires.all (subst (HaveMetBy pool.scene first.new.history.steps) c.begin_among-history.ensures.0 first.ensures.met)
+    then.ensures.goes_on (subst (HaveMetBy pool.scene then.new.history.steps) (sym then.ensures.kept) then.ensures.met)
+    c.args.layout c.allocate-answer.result (returns-clause-asked g c) within
 
 pub returns-clause-least : goal.returns-clause-least
 returns-clause-least g c =
     let pool = c.args.self.now in
     let first = c.meet_again in
     let then = c.meet_again-2 in
-    let asked = c.ask_at-answer.ensures.asked in
-    let answer = c.ask_at-answer.result in
-    let same = first.ensures.kept ∙ c.begin_among-history.ensures.kept in
-    subst (λ (list : List PoolParty). IfOk answer (λ (bucket : TakenBucket). IsLeastFree list bucket.number)) same
-    (among_least pool.scene first.new.history.steps then.new.history.steps first.new.parties.items
-    c.ask_at-answer.new.parties.items c.args.index (ap (λ (list : List PoolParty). length list) same ∙ c.requires.all)
-    (subst (HaveMetBy pool.scene first.new.history.steps) (sym first.ensures.kept) first.ensures.met) then.ensures.goes_on
-    then.ensures.met c.args.layout answer asked
-    (its_pool pool first.new.parties.items c.args.index asked.party first.ensures.its_parties asked.was))
+    among_least pool first.new.history.steps then.new.history.steps c.args.parties.now.items then.new.parties.items c.args.index
+    c.requires.all (subst (HaveMetBy pool.scene first.new.history.steps) c.begin_among-history.ensures.0 first.ensures.met)
+    then.ensures.goes_on (subst (HaveMetBy pool.scene then.new.history.steps) (sym then.ensures.kept) then.ensures.met)
+    c.args.layout c.allocate-answer.result (returns-clause-asked g c)
+
+pub returns-clause-held : goal.returns-clause-held
+returns-clause-held g c =
+    among_held c.args.self.now c.args.parties.now.items c.meet_again-2.new.parties.items c.args.index c.args.layout
+    c.allocate-answer.result (returns-clause-asked g c) c.requires.there c.allocate-answer.ensures.bucket
 
 pub returns-clause-taken : goal.returns-clause-taken
 returns-clause-taken g c =
-    let answer = c.ask_at-answer.result in
-    subst (λ (list : List PoolParty). IfOk answer (λ (bucket : TakenBucket). IsHeldByOne list bucket.number))
-    (sym c.meet_again-2.ensures.kept)
-    (among_taken c.meet_again.new.parties.items c.ask_at-answer.new.parties.items c.args.index c.args.layout answer
-    c.ask_at-answer.ensures.asked)
+    among_taken c.args.self.now c.args.parties.now.items c.meet_again-2.new.parties.items c.args.index c.args.layout
+    c.allocate-answer.result (returns-clause-asked g c)
 
 pub returns-clause-others : goal.returns-clause-others
 returns-clause-others g c other apart =
-    let first = c.meet_again in
-    let same = first.ensures.kept ∙ c.begin_among-history.ensures.kept in
-    let met = c.meet_again-2.new.parties.items in
-    subst (λ (list : List PoolParty). IsHeldByOne met other ↔ IsHeldByOne list other) same
-    (subst (λ (list : List PoolParty). IsHeldByOne list other ↔ IsHeldByOne first.new.parties.items other)
-    (sym c.meet_again-2.ensures.kept)
-    (among_others first.new.parties.items c.ask_at-answer.new.parties.items c.args.index c.args.layout
-    c.ask_at-answer.result c.ask_at-answer.ensures.asked other apart))
+    among_others c.args.self.now c.args.parties.now.items c.meet_again-2.new.parties.items c.args.index c.args.layout
+    c.allocate-answer.result (returns-clause-asked g c) other apart
+
+pub returns-clause-still_held : goal.returns-clause-still_held
+returns-clause-still_held g c place other held =
+    among_still c.args.self.now c.args.parties.now.items c.meet_again-2.new.parties.items c.args.index c.args.layout
+    c.allocate-answer.result (returns-clause-asked g c) place other held
