@@ -1,5 +1,5 @@
 -- Envelopes, in which buckets of a shared pool with a post go from seat to seat, and what their calls are answered.
-use Rattle.std.specs.Prelude.{◌≡◌, ◌≢◌, ◌<◌, ◌≤◌, ◌-◌, ◌^◌, ℕ, true, Option, Some, None, Ok, IfSome}
+use Rattle.std.specs.Prelude.{◌≡◌, ◌≢◌, ◌<◌, ◌≤◌, ◌-◌, ◌^◌, ℕ, true, Option, Some, None, Ok, IfSome, MatchOption}
 use Rattle.bb_memory_base.specs.Region.{Region}
 use Rattle.bb_memory_base.specs.Chunk.{IsInside}
 use Rattle.bb_memory_base.specs.PoolGeometry.{IsCut}
@@ -54,12 +54,16 @@ pub record MayHandOverBucket (party : PoolParty) (number len : ℕ) : Type 0 whe
   pub held : IsHeldAfter party.log number
   pub short : len ≤ party.allocator.scene.geometry.bucket.size
 
--- the party gave the bucket at the place back, by one step, and the bucket is in the envelope, with a chunk of so many bytes
-abbrev pub HasHandedOver : PoolParty → ℕ → ℕ → PoolParty → Envelope → Type 0
-HasHandedOver party place len after filled =
+-- the party gave the bucket of a number back, by one step, and the bucket is in transit, with a chunk of so many bytes
+pub record HasHandedOver (party : PoolParty) (number len : ℕ) (after : PoolParty) (transit : TakenBucket) : Type 0 where
+  pub returned : after ≡ with_entries party (return_entry party.number number)
+  pub its : transit ≡ taken_bucket party.allocator number len
+
+-- the party has handed over the bucket at the place, and that is in the envelope
+abbrev pub HasFilled : PoolParty → ℕ → ℕ → PoolParty → Envelope → Type 0
+HasFilled party place len after filled =
     (number : ℕ) × HoldsAt party place number
-    × (after ≡ with_entries party (return_entry party.number number))
-    × (filled ≡ Some (taken_bucket party.allocator number len))
+    × MatchOption filled ⊥ (HasHandedOver party number len after)
 
 -- What a party and an envelope are answered where the bucket at a place, with a chunk of so many bytes, is to go into it: each
 -- cause of a refusal where none before it is one, and then all stays.
@@ -70,7 +74,7 @@ pub record TellsHandOver (party : PoolParty) (envelope : Envelope) (place len co
   pub too_large : MayHandOverAt party place → party.allocator.scene.geometry.bucket.size < len → code ≡ size_too_large
   pub full : MayHandOverChunk party place len → envelope ≢ None → code ≡ envelope_full
   pub handed_over : MayHandOverChunk party place len → envelope ≡ None →
-      (code ≡ done) × HasHandedOver party place len after filled
+      (code ≡ done) × HasFilled party place len after filled
   pub kept : code ≢ done → (after ≡ party) × (filled ≡ envelope)
 
 -- TAKING OVER

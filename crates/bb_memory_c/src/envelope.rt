@@ -1,10 +1,10 @@
 //! Envelopes, in which buckets of a shared pool with a post go from seat to seat, and what a seat does with one.
 ghost use Rattle.std.specs.Prelude.{◌≡◌, ◌↔◌, ◌≢◌, IfSome, IsTrue, None};
 ghost use Rattle.bb_memory_base.specs.Region.{region_at};
-ghost use Rattle.bb_memory.specs.SharedPool.{chunk_of, return_entry, taken_bucket, with_entries};
+ghost use Rattle.bb_memory.specs.SharedPool.{chunk_of};
 ghost use Rattle.bb_memory.specs.SharedPoolTransit.{MayHavePost};
-ghost use Rattle.bb_memory_c.specs.Transit.{AreFreshBesidePost, HasTakenOver, IsForPool, MayHandOverBucket, TellsHandOver};
-ghost use Rattle.bb_memory_c.specs.Transit.{TellsTakeOver};
+ghost use Rattle.bb_memory_c.specs.Transit.{AreFreshBesidePost, HasHandedOver, HasTakenOver, IsForPool, MayHandOverBucket};
+ghost use Rattle.bb_memory_c.specs.Transit.{TellsHandOver, TellsTakeOver};
 
 use crate::answer::Answer;
 use crate::code;
@@ -49,8 +49,7 @@ impl PoolSeat {
     /// Puts the bucket of this number, which the party holds, in transit, with a chunk of `len` bytes.
     fn hand_over_bucket(&mut self, number: u32, len: usize) -> BucketInTransit
         requires { MayHandOverBucket self.old number len }
-        ensures party { self.new ≡ with_entries self.old (return_entry self.old.number number) }
-        ensures transit { result ≡ taken_bucket self.old.allocator number len }
+        ensures { HasHandedOver self.old number len self.new result }
     {
         let bucket = by_number::bucket(&*self.pool, &self.party, number, len);
         let transit = self.pool.hand_over(&mut self.party, bucket);

@@ -67,14 +67,14 @@ pub extern "C" fn bb_shared_pool_make_with_post(
 ///
 /// C guarantees of the handle what the crate's page says.
 #[unsafe(no_mangle)]
-pub extern "C" fn bb_envelope_make(alloc: Global, handle: &mut EnvelopeHandle) -> u32
-    ensures { AnswersMake handle.old.value handle.new.value result (Unit {0})
+pub extern "C" fn bb_envelope_make(alloc: Global, envelope: &mut EnvelopeHandle) -> u32
+    ensures { AnswersMake envelope.old.value envelope.new.value result (Unit {0})
         (λ new. new ≡ Some None) }
 {
-    if is_made(handle, alloc) {
+    if is_made(envelope, alloc) {
         return code::ALREADY_MADE;
     }
-    keep(handle, alloc, Envelope::new())
+    keep(envelope, alloc, Envelope::new())
 }
 
 /// Frees an envelope, whose handle is empty then. A bucket that is in it stays in transit for good. The answer is 0, or
@@ -82,25 +82,21 @@ pub extern "C" fn bb_envelope_make(alloc: Global, handle: &mut EnvelopeHandle) -
 ///
 /// C guarantees of the handle what the crate's page says.
 #[unsafe(no_mangle)]
-pub extern "C" fn bb_envelope_free(alloc: Global, handle: &mut EnvelopeHandle) -> u32
-    ensures { AnswersFree handle.old.value handle.new.value result }
+pub extern "C" fn bb_envelope_free(alloc: Global, envelope: &mut EnvelopeHandle) -> u32
+    ensures { AnswersFree envelope.old.value envelope.new.value result }
 {
-    free(handle, alloc)
+    free(envelope, alloc)
 }
 
 /// Whether a bucket is in the envelope: 1 or 0.
 ///
 /// C guarantees of the handle what the crate's page says.
 #[unsafe(no_mangle)]
-pub extern "C" fn bb_envelope_is_full(alloc: Global, handle: &mut EnvelopeHandle) -> Figure
-    ensures { TellsWhether handle.old.value handle.new.value result
-        (λ envelope. envelope ≢ None) }
+pub extern "C" fn bb_envelope_is_full(alloc: Global, envelope: &mut EnvelopeHandle) -> Figure
+    ensures { TellsWhether envelope.old.value envelope.new.value result
+        (λ inside. inside ≢ None) }
 {
-    tell(
-        handle,
-        alloc,
-        |envelope| Figure::whether(envelope.is_full()),
-    )
+    tell(envelope, alloc, |inside| Figure::whether(inside.is_full()))
 }
 
 /// Puts the bucket at this place, which this seat holds, into an envelope that is empty, with a chunk of `len` bytes. The seat

@@ -1,4 +1,4 @@
-use Rattle.std.proofs.Common.{rules, refl, ◌∙◌, sym}
+use Rattle.std.proofs.Common.{rules, ◌∙◌, sym}
 use Rattle.bb_memory_c.proofs.Made.{at_made, at_lent, at_none}
 use Rattle.bb_memory_c.proofs.transit.bb_pool_seat_take_over.Goals as goal
 

@@ -1,7 +1,6 @@
-use Rattle.std.proofs.Common.{◌∙◌, ◌<◌, ap, rules, subst, sym}
-use Rattle.std.specs.Prelude.{slice_set, true}
+use Rattle.std.proofs.Common.{◌∙◌, ◌<◌, ap, rules, sym}
 use Rattle.std.specs.Arc.{arc_value}
-use Rattle.bb_memory.specs.SharedPool.{SharedPool, TakenBucket, with_entries}
+use Rattle.bb_memory.specs.SharedPool.{TakenBucket, with_entries}
 use Rattle.bb_memory.specs.SharedPoolRounds.{taking_at}
 use Rattle.bb_memory_c.proofs.HeldFlags.{taken-over-seat}
 use Rattle.bb_memory_c.proofs.pool_seat.PoolSeat.take_over_bucket.Goals as goal
