@@ -161,7 +161,7 @@ typedef struct bb_figure { uint32_t code; size_t number; } bb_figure;
 //     bb_pool                  256, and 16 for each 64 buckets
 //     bb_fixed_pool            4096
 //     bb_shared_bump           256, and 16 for each party; as many to begin anew, before it frees those; 64 for each seat
-//     bb_shared_pool           512, and 16 for each bucket and each party; 128 for each seat, and 1 for each bucket
+//     bb_shared_pool           1648, and 16 for each bucket and each party; 128 for each seat, and 1 for each bucket
 
 // A bump gives one chunk after another, and takes all of them back at once.
 

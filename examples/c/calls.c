@@ -239,7 +239,7 @@ static void run_memory(void) {
             WITHIN(4096, bb_fixed_pool_make(&fixed, 8, 8, 4096, 8 * buckets));
             WITHIN(256 + 16 * parties, bb_shared_bump_make(&shared_bump, 4096, 8 * buckets, parties));
             WITHIN(64, bb_shared_bump_seat(&shared_bump, &bump_seat));
-            WITHIN(512 + 16 * (buckets + parties), bb_shared_pool_make(&shared_pool, 8, 8, 4096, 8 * buckets, parties));
+            WITHIN(1648 + 16 * (buckets + parties), bb_shared_pool_make(&shared_pool, 8, 8, 4096, 8 * buckets, parties));
             WITHIN(128 + buckets, bb_shared_pool_seat(&shared_pool, &pool_seat));
             EXPECT(bb_pool_free(&pool) == BB_DONE && bb_fixed_pool_free(&fixed) == BB_DONE);
             EXPECT(bb_shared_bump_free(&shared_bump) == BB_DONE && bb_bump_seat_free(&bump_seat) == BB_DONE);
