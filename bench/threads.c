@@ -1,5 +1,6 @@
 // A bump and a list of free buckets in C, and seats of the C library at a shared pool, by several threads at once, as shared_bench
-// times the shared forms. Its arguments are the number of rounds and the number of calls of each thread in a round.
+// times the shared forms, and a queue between two threads whose receiver gives each message's memory back. Its arguments are the
+// number of rounds and the number of calls of each thread in a round.
 #define BB_PLACES_ARE_NUMBERS
 #include <bb_memory.h>
 #include <pthread.h>
@@ -9,15 +10,17 @@
 #include <stdlib.h>
 #include <time.h>
 
-enum { MOST_THREADS = 4, BUCKETS = 64, START = 4096 };
+enum { MOST_THREADS = 4, BUCKETS = 64, START = 4096, ROOM = 32 };
 #define NONE UINT32_MAX
 #define SIZE ((size_t)1 << 50)
 
-static _Atomic size_t used;
-static _Atomic uint64_t head;
-static _Atomic uint32_t next[BUCKETS];
-static atomic_uint came;
-static unsigned threads, calls;
+// What threads write while they are timed shares no cache line with anything else.
+static _Alignas(128) _Atomic size_t used;
+static _Alignas(128) _Atomic uint64_t head;
+static _Alignas(128) _Atomic uint32_t next[BUCKETS];
+static _Alignas(128) atomic_uint came;
+static _Alignas(128) unsigned threads;
+static _Alignas(128) unsigned calls;
 
 // A request for 48 bytes at 8: the place is rounded up, and the position exchanged.
 static size_t bump_call(void) {
@@ -32,22 +35,37 @@ static size_t bump_call(void) {
 
 static uint64_t headed(uint64_t old, uint32_t i) { return ((old >> 32) + 1) << 32 | i; }
 
-// A bucket is taken from a lock-free list, whose head is exchanged together with a count, and given back.
-static size_t list_call(void) {
+// A bucket is taken from a lock-free list, whose head is exchanged together with a count: its number and 1, or 0 where none is
+// free.
+static inline size_t list_take(void) {
     uint64_t old = atomic_load(&head);
     while ((uint32_t)old != NONE) {
         uint32_t i = (uint32_t)old;
         uint32_t after = atomic_load_explicit(&next[i], memory_order_relaxed);
-        if (!atomic_compare_exchange_weak(&head, &old, headed(old, after)))
-            continue;
-        old = atomic_load(&head);
-        do
-            atomic_store_explicit(&next[i], (uint32_t)old, memory_order_relaxed);
-        while (!atomic_compare_exchange_weak(&head, &old, headed(old, i)));
-        return i + 1;
+        if (atomic_compare_exchange_weak(&head, &old, headed(old, after)))
+            return (size_t)i + 1;
     }
     return 0;
 }
+
+// It is given back, by any thread.
+static inline void list_give(size_t taken) {
+    uint32_t i = (uint32_t)taken - 1;
+    uint64_t old = atomic_load(&head);
+    do
+        atomic_store_explicit(&next[i], (uint32_t)old, memory_order_relaxed);
+    while (!atomic_compare_exchange_weak(&head, &old, headed(old, i)));
+}
+
+static size_t list_call(void) {
+    size_t taken = list_take();
+    if (taken)
+        list_give(taken);
+    return taken;
+}
+
+static inline size_t heap_take(void) { return (size_t)malloc(48); }
+static inline void heap_give(size_t taken) { free((void *)taken); }
 
 static size_t heap_call(void) {
     void *volatile block = malloc(48);
@@ -74,6 +92,55 @@ static void make_seats(void) {
     bb_shared_pool_free(&pool);
 }
 
+static inline size_t none_take(void) { return 1; }
+static inline void none_give(size_t taken) { (void)taken; }
+
+// The ring of rtrb, which shared_bench has: each end owns a position, which it stores in one sequentially consistent step, and
+// keeps a copy of the other's, which it loads anew where the copy says that the ring is full or empty. The positions are 128 bytes
+// apart.
+static _Alignas(128) _Atomic uint64_t ring_head;
+static _Alignas(128) _Atomic uint64_t ring_tail;
+static _Alignas(128) size_t ring[ROOM];
+
+static inline void spin(void) {
+#if defined(__x86_64__)
+    __builtin_ia32_pause();
+#endif
+}
+
+// The two ends of a queue: the sender takes memory for each message, and the receiver gives it back.
+#define QUEUE(NAME)                                                         \
+    static void NAME##_send(void) {                                         \
+        uint64_t tail = 0, seen = 0;                                        \
+        while (tail < calls) {                                              \
+            if (tail - seen == ROOM)                                        \
+                seen = atomic_load(&ring_head);                             \
+            size_t taken = tail - seen < ROOM ? NAME##_take() : 0;          \
+            if (!taken) {                                                   \
+                spin();                                                     \
+                continue;                                                   \
+            }                                                               \
+            ring[tail % ROOM] = taken;                                      \
+            atomic_store(&ring_tail, ++tail);                               \
+        }                                                                   \
+    }                                                                       \
+    static void NAME##_receive(void) {                                      \
+        uint64_t head = 0, seen = 0;                                        \
+        while (head < calls) {                                              \
+            if (head == seen && head == (seen = atomic_load(&ring_tail))) { \
+                spin();                                                     \
+                continue;                                                   \
+            }                                                               \
+            size_t taken = ring[head % ROOM];                               \
+            atomic_store(&ring_head, ++head);                               \
+            NAME##_give(taken);                                             \
+        }                                                                   \
+    }
+
+QUEUE(list)
+QUEUE(heap)
+QUEUE(none)
+
 static size_t (*const kinds[])(void) = {bump_call, list_call, heap_call, seat_call};
 static const char *const names[] = {"bump,%u,0,in C", "pool,%u,0,lock-free list", "pool,%u,0,malloc and free",
                                     "pool,%u,0,seat in C"};
@@ -85,14 +152,27 @@ typedef struct {
     bb_pool_seat *seat;
 } job;
 
+struct ends { void (*send)(void), (*receive)(void); };
+static const struct ends queues[] = {{list_send, list_receive}, {heap_send, heap_receive}, {none_send, none_receive}};
+static const char *const queue_names[] = {"lock-free list", "malloc and free", "ring alone"};
+enum { QUEUES = 3 };
+
+static void pass_gate(void) {
+    atomic_fetch_add(&came, 1);
+    while (atomic_load(&came) < threads)
+        ;
+}
+
+static double nanos(struct timespec start, struct timespec end) {
+    return (double)(end.tv_sec - start.tv_sec) * 1e9 + (double)(end.tv_nsec - start.tv_nsec);
+}
+
 static void *work(void *arg) {
     size_t (*call)(void) = ((job *)arg)->call;
     seat = ((job *)arg)->seat;
     struct timespec start, end;
     volatile size_t kept = 0;
-    atomic_fetch_add(&came, 1);
-    while (atomic_load(&came) < threads)
-        ;
+    pass_gate();
     clock_gettime(CLOCK_MONOTONIC, &start);
     for (unsigned i = 0; i < calls; i++)
         kept = call();
@@ -101,8 +181,40 @@ static void *work(void *arg) {
     double *spent = malloc(sizeof *spent);
     if (!spent)
         abort();
-    *spent = (double)(end.tv_sec - start.tv_sec) * 1e9 + (double)(end.tv_nsec - start.tv_nsec);
+    *spent = nanos(start, end);
     return spent;
+}
+
+static void *send_all(void *arg) {
+    pass_gate();
+    ((const struct ends *)arg)->send();
+    return NULL;
+}
+
+static void open_all(void) {
+    atomic_store(&used, 0);
+    atomic_store(&head, 0);
+    atomic_store(&came, 0);
+    atomic_store(&ring_head, 0);
+    atomic_store(&ring_tail, 0);
+    for (uint32_t i = 0; i < BUCKETS; i++)
+        atomic_store(&next[i], i + 1 < BUCKETS ? i + 1 : NONE);
+}
+
+// The nanoseconds of a message: from the gate to the last one, of which the memory is given back.
+static double queue_timed(int kind) {
+    pthread_t sender;
+    struct timespec start, end;
+    threads = 2;
+    open_all();
+    if (pthread_create(&sender, NULL, send_all, (void *)&queues[kind]))
+        abort();
+    pass_gate();
+    clock_gettime(CLOCK_MONOTONIC, &start);
+    queues[kind].receive();
+    clock_gettime(CLOCK_MONOTONIC, &end);
+    pthread_join(sender, NULL);
+    return nanos(start, end) / calls;
 }
 
 // The nanoseconds of a thread's call.
@@ -111,11 +223,7 @@ static double timed(int kind) {
     job jobs[MOST_THREADS];
     double sum = 0;
     make_seats();
-    atomic_store(&used, 0);
-    atomic_store(&head, 0);
-    atomic_store(&came, 0);
-    for (uint32_t i = 0; i < BUCKETS; i++)
-        atomic_store(&next[i], i + 1 < BUCKETS ? i + 1 : NONE);
+    open_all();
     for (unsigned i = 0; i < threads; i++) {
         jobs[i] = (job){kinds[kind], &seats[i]};
         if (pthread_create(&all[i], NULL, work, &jobs[i]))
@@ -136,25 +244,37 @@ static int by_size(const void *one, const void *other) {
     return (x > y) - (x < y);
 }
 
+// Sorts the figures of a line, and prints it.
+static void print_line(double *found, unsigned rounds) {
+    qsort(found, rounds, sizeof *found, by_size);
+    printf(",%.1f,%.1f,%.1f,0\n", found[rounds / 2], found[rounds / 4], found[rounds - 1 - rounds / 4]);
+}
+
 int main(int argc, char **argv) {
     unsigned rounds = argc > 1 ? (unsigned)atoi(argv[1]) : 3;
     calls = argc > 2 ? (unsigned)atoi(argv[2]) : 10000;
-    double *found = calloc((size_t)KINDS * 3 * (rounds + 1), sizeof *found);
+    double *found = calloc((size_t)(KINDS * 3 + QUEUES) * (rounds + 1), sizeof *found);
     if (!found || !rounds)
         return 1;
-    for (unsigned round = 0; round < rounds; round++)
+    double *queue_found = found + (size_t)KINDS * 3 * rounds;
+    for (unsigned round = 0; round < rounds; round++) {
         for (int kind = 0; kind < KINDS; kind++)
             for (int at = 0; at < 3; at++) {
                 threads = 1u << at;
                 found[(unsigned)(kind * 3 + at) * rounds + round] = timed(kind);
             }
+        for (int kind = 0; kind < QUEUES; kind++)
+            queue_found[(unsigned)kind * rounds + round] = queue_timed(kind);
+    }
     for (int kind = 0; kind < KINDS; kind++)
         for (int at = 0; at < 3; at++) {
-            double *of = &found[(unsigned)(kind * 3 + at) * rounds];
-            qsort(of, rounds, sizeof *of, by_size);
             printf("shared,");
             printf(names[kind], 1u << at);
-            printf(",%.1f,%.1f,%.1f,0\n", of[rounds / 2], of[rounds / 4], of[rounds - 1 - rounds / 4]);
+            print_line(&found[(unsigned)(kind * 3 + at) * rounds], rounds);
         }
+    for (int kind = 0; kind < QUEUES; kind++) {
+        printf("shared,queue,2,0,%s", queue_names[kind]);
+        print_line(&queue_found[(unsigned)kind * rounds], rounds);
+    }
     free(found);
 }

@@ -171,7 +171,7 @@ typedef struct bb_figure { uint32_t code; size_t number; } bb_figure;
 //     bb_fixed_pool            4096
 //     bb_shared_bump           256, and 16 for each party; as many to begin anew, before it frees those; 64 more to become one
 //                              with an owner, of which the 64 stay; 64 for each seat
-//     bb_shared_pool           512, and 16 for each bucket and each party; 128 for each seat, and 1 for each bucket
+//     bb_shared_pool           1648, and 16 for each bucket and each party; 128 for each seat, and 1 for each bucket
 //     bb_envelope              64; a pool with a post takes 16 more for each party
 
 // A bump gives one chunk after another, and takes all of them back at once.

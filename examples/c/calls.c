@@ -288,7 +288,7 @@ static void run_memory(void) {
             WITHIN(4096, bb_fixed_pool_make(&fixed, 8, 8, 4096, 8 * buckets));
             WITHIN(256 + 16 * parties, bb_shared_bump_make(&shared_bump, 4096, 8 * buckets, parties));
             WITHIN(64, bb_shared_bump_seat(&shared_bump, &bump_seat));
-            WITHIN(512 + 16 * (buckets + parties), bb_shared_pool_make(&shared_pool, 8, 8, 4096, 8 * buckets, parties));
+            WITHIN(1648 + 16 * (buckets + parties), bb_shared_pool_make(&shared_pool, 8, 8, 4096, 8 * buckets, parties));
             WITHIN(128 + buckets, bb_shared_pool_seat(&shared_pool, &pool_seat));
             bb_shared_pool with_post = BB_EMPTY;
             WITHIN(512 + 16 * (buckets + 2 * parties),

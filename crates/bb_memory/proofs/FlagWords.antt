@@ -34,10 +34,11 @@ pub changed : (words : List ℕ) (flags : List Bool) (bucket : ℕ) (was flag : 
     slice_get flags bucket ≡ Some was → HaveFlags (set words (word_of bucket) (as_word flag)) (slice_set flags bucket flag)
 changed words flags bucket was flag have at other its is = elim (ℕ_discrete other bucket) [
   | yes same ↦
+      let there = ap (λ (b : ℕ). slice_get (slice_set flags bucket flag) b) same in
       ap (λ (b : ℕ). slice_get (set words (word_of bucket) (as_word flag)) (word_of b)) same
       ∙ slice_get-set_same words (word_of bucket) (as_word flag) (as_word was) (have bucket was at)
-      ∙ ap (λ (f : Bool). Some (as_word f)) (one_flag flag its
-      (sym (slice_get-set_same flags bucket flag was at) ∙ sym (ap (λ (b : ℕ). slice_get (slice_set flags bucket flag) b) same) ∙ is))
+      ∙ ap (λ (f : Bool). Some (as_word f))
+      (one_flag flag its (sym (slice_get-set_same flags bucket flag was at) ∙ sym there ∙ is))
   | no differ ↦
       slice_get-set_other words (word_of bucket) (word_of other) (as_word flag) (λ both. differ (apart other bucket both))
       ∙ have other its (sym (slice_get-set_other flags bucket other flag differ) ∙ is)

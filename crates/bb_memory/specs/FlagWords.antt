@@ -1,8 +1,8 @@
 -- Where the flags of a shared pool's buckets stand among the words of its table.
 use Rattle.std.specs.Prelude.{◌≡◌, ℕ, ◌+◌, ◌-◌, ◌*◌, ◌/◌, ◌%◌, Bool, true, false, List, Some, slice_get}
 
--- The word of a bucket's flag. The first 8 words are no flag. Behind them each 64 buckets have 64 words, in which a bucket stands 9
--- words behind the bucket before it, round and round: with 8 words on a cache line, no two of 7 in a row are on one.
+-- The word of a bucket's flag. The first 8 words are no flag. Behind them each 64 buckets have 64 words, in which a bucket stands
+-- 9 words behind the bucket before it, round and round: with 8 words on a cache line, no two of 7 in a row are on one.
 abbrev pub word_of : ℕ → ℕ
 word_of bucket = 8 + (64 * (bucket / 64) + (9 * bucket) % 64)
 

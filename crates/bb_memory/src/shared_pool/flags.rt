@@ -30,16 +30,16 @@ const FREE: u64 = 0;
 
 const TAKEN: u64 = 1;
 
-/// How many words there are for so many buckets. The first eight, a cache line of them, are no flag: word 0 is loaded by steps that
-/// are about no flag. Behind them each 64 buckets have 64 words.
+/// How many words there are for so many buckets. The first eight, a cache line of them, are no flag: word 0 is loaded by steps
+/// that are about no flag. Behind them each 64 buckets have 64 words.
 fn count_words(buckets: u32) -> usize
     ensures { result ≡ words_for buckets }
 {
     8 + (buckets as usize + 63) / 64 * 64
 }
 
-/// The word of a bucket's flag: nine words behind the one before it, round and round in the 64 words of its 64 buckets. With eight
-/// words on a cache line, flags that are tried one after the other are on different ones.
+/// The word of a bucket's flag: nine words behind the one before it, round and round in the 64 words of its 64 buckets. With
+/// eight words on a cache line, flags that are tried one after the other are on different ones.
 fn word_of(bucket: u32) -> usize
     ensures value { result ≡ word_of bucket }
     ensures back { bucket_of result ≡ bucket }

@@ -29,7 +29,7 @@ load-requires c =
     let counted = c.self.invariant.1.words in (
       c.join_seat.ensures.0 ∙ c.requires.seat.table ∙ sym (ap (λ (p : SharedPool). p.table) c.self.view_is),
       omega arith,
-      takes_over_as c.self.inside.table.shared.key _ _ c.word_of.result (number_of me.0) c.args.bucket (view_log me.0) c.join_seat.new.seat.me
-          c.word_of.ensures.value
+      takes_over_as c.self.inside.table.shared.key _ _ c.word_of.result (number_of me.0) c.args.bucket (view_log me.0)
+          c.join_seat.new.seat.me c.word_of.ensures.value
           both (has ∙ c.requires.transit.post) c.requires.seat.seat.idle,
     )
