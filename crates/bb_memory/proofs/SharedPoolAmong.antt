@@ -240,7 +240,8 @@ module _ (pool : SharedPool) (before after : List PoolStep) (old new : List Pool
         set_rest old index now one (subst (λ (list : List PoolParty). Contains list one) is there);
   }
 
-  module _ (layout : Layout) (answer : Result TakenBucket AllocationError) (asked : HasAskedAt pool old index layout answer new) where
+  module _ (layout : Layout) (answer : Result TakenBucket AllocationError)
+      (asked : HasAskedAt pool old index layout answer new) where
     its : asked.party.allocator.scene ≡ scene
     its = its_pool pool old index asked.party all.theirs asked.was
 
@@ -265,14 +266,16 @@ module _ (pool : SharedPool) (before after : List PoolStep) (old new : List Pool
       absurd (cc)
 
 module _ (pool : SharedPool) (old new : List PoolParty) (index : ℕ) where
-  pub among_others : (layout : Layout) (answer : Result TakenBucket AllocationError) → HasAskedAt pool old index layout answer new →
+  pub among_others : (layout : Layout) (answer : Result TakenBucket AllocationError) →
+      HasAskedAt pool old index layout answer new →
       (other : ℕ) → IfOk answer (λ bucket. other ≢ bucket.number) → IsHeldByOne new other ↔ IsHeldByOne old other
   among_others layout answer asked other apart =
       let same = asked_held asked.party asked.now layout answer other asked.answered apart in
       subst (λ (list : List PoolParty). IsHeldByOne list other ↔ IsHeldByOne old other) (sym asked.is)
       (set_held old index asked.party asked.now other asked.was (λ now. sym same ∙ now) (λ was. same ∙ was))
 
-  pub among_taken : (layout : Layout) (answer : Result TakenBucket AllocationError) → HasAskedAt pool old index layout answer new →
+  pub among_taken : (layout : Layout) (answer : Result TakenBucket AllocationError) →
+      HasAskedAt pool old index layout answer new →
       IfOk answer (λ bucket. IsHeldByOne new bucket.number)
   among_taken layout (Ok bucket) asked =
       let set = slice_set old index asked.now in
@@ -281,7 +284,8 @@ module _ (pool : SharedPool) (old new : List PoolParty) (index : ℕ) where
       (set_there old index asked.party asked.now asked.was) (took_held asked.party asked.now layout bucket asked.answered))
   among_taken layout (Err error) asked = tt
 
-  pub among_held : (layout : Layout) (answer : Result TakenBucket AllocationError) → HasAskedAt pool old index layout answer new →
+  pub among_held : (layout : Layout) (answer : Result TakenBucket AllocationError) →
+      HasAskedAt pool old index layout answer new →
       index < length old → IfOk answer (λ bucket. bucket.allocator ≡ pool) →
       IfOk answer (HoldsAmongAll pool new index)
   among_held layout (Ok bucket) asked below own =
@@ -299,7 +303,8 @@ module _ (pool : SharedPool) (old new : List PoolParty) (index : ℕ) where
       }
   among_held layout (Err error) asked below own = tt
 
-  pub among_still : (layout : Layout) (answer : Result TakenBucket AllocationError) → HasAskedAt pool old index layout answer new →
+  pub among_still : (layout : Layout) (answer : Result TakenBucket AllocationError) →
+      HasAskedAt pool old index layout answer new →
       (place other : ℕ) → HoldsAt old place other → HoldsAt new place other
   among_still layout answer asked place other held =
       subst (λ (list : List PoolParty). HoldsAt list place other) (sym asked.is)

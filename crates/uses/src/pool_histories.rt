@@ -83,20 +83,25 @@ pub fn take_free<'a>(
     }
 }
 
-/// Who has all parties of a pool: the first takes a bucket and gives it back, and then the second asks. It gets a bucket: what was
-/// given back can't be what it is refused by, and there is nobody else. It is refused where the first one is.
+/// Who has all parties of a pool: one gives back a bucket, and then another asks. It gets a bucket: what was given back can't be
+/// what it is refused by, and there is nobody else, also where the pool has that one bucket alone.
 pub fn free_again<'a>(
     pool: &'a SharedPoolAllocator,
     parties: &mut Vec<PoolParty>,
+    index: usize,
+    bucket: Bucket<'a>,
+    other: usize,
     layout: Layout,
-) -> Result<Bucket<'a>, AllocationError>
-    requires all { AreAllOf pool.now parties.old.items }
-    requires may { (1 < length parties.old.items)
+) -> Bucket<'a>
+    requires has { HoldsAmongAll pool.now parties.old.items index bucket
+        × (bucket.number < pool.now.scene.geometry.buckets) }
+    requires may { (other < length parties.old.items)
         × IsWithin pool.now.scene.geometry.bucket layout }
-    ensures { IfOk result (HoldsAmongAll pool.now parties.new.items 1) }
+    ensures gets { HoldsAmongAll pool.now parties.new.items other result }
 {
-    let taken = pool.allocate_among(parties, 0, layout)?;
-    let number = taken.number();
-    pool.deallocate_among(parties, 0, taken);
-    Ok(take_free(pool, parties, 1, layout, number))
+    pool.deallocate_among(parties, index, bucket);
+    match pool.allocate_among(parties, other, layout) {
+        Ok(again) => again,
+        Err(_) => unreachable!(),
+    }
 }

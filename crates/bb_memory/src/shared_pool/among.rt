@@ -33,8 +33,6 @@ impl<const CAPPED: usize, const MOST: usize> SharedBucketPool<CAPPED, MOST> {
     /// let (pool, mut parties) = SharedPoolAllocator::new(alloc, bucket, 4096, 1024, 2)?;
     /// let asked = Layout::from_size_align(48, 4).unwrap();
     /// let taken = pool.allocate_among(&mut parties, 1, asked)?;
-    /// let number = taken.number();
-    /// prove!(number < 8);
     /// pool.deallocate_among(&mut parties, 1, taken);
     /// ```
     pub fn allocate_among(

@@ -1,9 +1,11 @@
 //! Calls of what threads share that take no memory, each on values that were made before. The sweep runs these tests with each
 //! request refused, too, that comes after the making, and every call has to answer as it does with memory, without a request.
-ghost use Rattle.std.specs.Prelude.{◌≡◌, All, true};
+ghost use Rattle.std.specs.Prelude.{◌≡◌, ◌<◌, All, length, true};
+ghost use Rattle.bb_memory.specs.SharedPoolAmong.{AreAllOf};
 
 use super::was_refused;
 use crate::tests::bump_rows::{self, all_meet, owner_by_all};
+use crate::tests::histories::one_for_two;
 use crate::tests::pool_rows::Answer::{Bucket, Chunk, Nothing};
 use crate::tests::pool_rows::Call::{
     FindAgain, GiveBack, Grow, Keep, NumberAt, Shrink, Take, Token,
@@ -198,6 +200,38 @@ fn all_parties_of_shared_pools(rt: HostRuntime) {
     match shared_fixed_over::<4>(rt.alloc(), 4096, 1024, 3) {
         Ok((pool, parties)) => meet_without_memory(&rt, rt.alloc(), &pool, parties),
         Err(cause) => was_refused(&rt, rt.alloc(), cause),
+    }
+}
+
+/// Parties meet in a history, and one of all asks and gives back, without a request for memory.
+fn history_without_memory(
+    rt: &impl Abort,
+    alloc: Global,
+    pool: &SharedPoolAllocator,
+    mut parties: Vec<PoolParty>,
+    asked: Layout,
+)
+    requires all { AreAllOf pool.now parties.items }
+    requires two { 1 < length parties.items }
+{
+    refuse_memory(alloc);
+    let mut history = pool.begin_history(&mut parties[0]);
+    pool.meet_again(&mut history, &mut parties);
+    let Ok(taken) = pool.allocate_among(&mut parties, 1, asked) else {
+        panic!(rt; "a free bucket was refused");
+    };
+    pool.deallocate_among(&mut parties, 1, taken);
+    assert!(rt; none_was_asked(alloc));
+}
+
+#[test]
+fn a_history_of_a_shared_pool(rt: HostRuntime) {
+    let Ok(asked) = Layout::from_size_align(48, 4) else {
+        panic!(rt; "no such layout");
+    };
+    match one_for_two(rt.alloc()) {
+        Ok((pool, parties)) => history_without_memory(&rt, rt.alloc(), &pool, parties, asked),
+        Err(_) => was_refused(&rt, rt.alloc(), REFUSED),
     }
 }
 
