@@ -34,6 +34,14 @@ pub struct Slot {
 }
 
 /// Records of one size, each under a key of its own. A slot keeps its chunk, and is taken again once its record is taken out.
+///
+/// ```
+/// spent_law();
+/// let key = records.put(bytes)?;
+/// let _ = records.remove(key);
+/// let stale = records.read(key).is_err();
+/// prove!(stale);
+/// ```
 #[derive(Drop)]
 pub struct KeyedSlab<A: Allocator + Drop> {
     slab: Slab<A>,

@@ -6,7 +6,8 @@ ghost use Rattle.bb_memory_base.specs.Chunk.{IsInside};
 ghost use Rattle.bb_memory_base.specs.LiveList.{IsSound};
 ghost use Rattle.uses.specs.declared.tenants.Lease.{Lease};
 ghost use Rattle.uses.specs.Tenants.{HasLeft, IsWhyNotAdmitted, IsWhyNotLeased};
-ghost use Rattle.uses.specs.Tenants.{bytes_for, bytes_out, chunks_of, is_lease_of, lease_at, limit_of, used_by, with_lease, with_tenant, without_lease};
+ghost use Rattle.uses.specs.Tenants.{bytes_for, bytes_out, chunks_of, is_lease_of, lease_at};
+ghost use Rattle.uses.specs.Tenants.{limit_of, used_by, with_lease, with_tenant, without_lease};
 
 use bb_memory_base::allocator::{AllocationError, Allocator, BaseAllocator};
 use bb_memory_base::layout::{Chunk, Layout};
@@ -70,8 +71,16 @@ impl Lease {
     }
 }
 
-/// Tenants that share an allocator. Each is named by its number, from 0 in the order of their admission, and has a limit in bytes,
-/// within which its chunks stay. The limits together are at most a whole that the maker fixed.
+/// Tenants that share an allocator. Each is named by its number, from 0 in the order of their admission, and has a limit in
+/// bytes, within which its chunks stay. The limits together are at most a whole that the maker fixed.
+///
+/// ```
+/// let mut tenants = Tenants::new(alloc, allocator, 1000);
+/// let tenant = tenants.admit(100)?;
+/// let layout = Layout::from_size_align(101, 1).unwrap();
+/// let refused = tenants.allocate(tenant, layout).is_err();
+/// prove!(refused);
+/// ```
 #[derive(Drop)]
 pub struct Tenants<A: Allocator + Drop> {
     allocator: A,
@@ -187,10 +196,10 @@ impl<A: Allocator + Drop> Tenants<A> {
         lease_of(&self.leases, tenant, place).is_some()
     }
 
-    /// Asks for a chunk for a tenant. It is refused in this order: with `NoTenant` where no tenant has the number, with `OverLimit`
-    /// exactly where the asked bytes would exceed the tenant's limit, with `List` where memory was refused, with `Refused` as the
-    /// allocator refuses the layout, and with `TooLong` where it gives a chunk so much longer that the limit would be exceeded,
-    /// which goes back. A refusal keeps all.
+    /// Asks for a chunk for a tenant. It is refused in this order: with `NoTenant` where no tenant has the number, with
+    /// `OverLimit` exactly where the asked bytes would exceed the tenant's limit, with `List` where memory was refused, with
+    /// `Refused` as the allocator refuses the layout, and with `TooLong` where it gives a chunk so much longer that the limit
+    /// would be exceeded, which goes back. A refusal keeps all.
     pub fn allocate(&mut self, tenant: usize, layout: Layout) -> Result<Chunk, LeaseError>
         ensures given { IfOk result (λ chunk. A.may_allocate (A.geometry self.old.allocator)
             (chunks_of self.old.leases) layout (Ok chunk)) }
@@ -247,8 +256,8 @@ impl<A: Allocator + Drop> Tenants<A> {
         Ok(())
     }
 
-    /// Does nothing. It is the proof that the allocator stands for exactly the chunks that the tenants hold, which so lie inside its
-    /// region and are apart.
+    /// Does nothing. It is the proof that the allocator stands for exactly the chunks that the tenants hold, which so lie
+    /// inside its region and are apart.
     pub fn law(&self)
         ensures stands { A.stands_for self.now.allocator (chunks_of self.now.leases) }
         ensures sound { IsSound (A.region_of (A.geometry self.now.allocator))
@@ -285,9 +294,7 @@ fn lease_of(leases: &Vec<Lease>, tenant: usize, place: usize) -> Option<usize>
         × (slice_get leases.now.items position ≡ Some lease)
         × (lease.tenant ≡ tenant) × (lease.chunk.place ≡ place)) }
 {
-    leases
-        .iter()
-        .position(|lease| lease.tenant == tenant && lease.chunk.place() == place)
+    leases.iter().position(|lease| lease.tenant == tenant && lease.chunk.place() == place)
 }
 
 /// The lease at a position.
@@ -312,7 +319,8 @@ fn give_back<A: Allocator>(allocator: &mut A, leases: &Vec<Lease>, position: usi
     lease
 }
 
-/// What one lease more, or one less, makes of each tenant's use, and of the chunks that are out. It does nothing: its contract is the law.
+/// What one lease more, or one less, makes of each tenant's use, and of the chunks that are out. It does nothing: its contract
+/// is the law.
 pub fn leases_law()
     ensures more { (leases : List Lease) (lease : Lease) (tenant : ℕ)
         → used_by tenant (leases ++ lease ∷ []) ≡ used_by tenant leases + bytes_for tenant lease }
