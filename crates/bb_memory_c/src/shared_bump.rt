@@ -1,7 +1,7 @@
 //! A shared bump behind handles: one for the bump, and one for the seat of each party.
 ghost use Rattle.std.specs.Prelude.{◌≡◌, ◌-◌, IfSome, Some};
 ghost use Rattle.bb_memory_base.specs.Region.{region_at};
-ghost use Rattle.bb_memory.specs.SharedBump.{IsParty, MayTake};
+ghost use Rattle.bb_memory.specs.SharedBump.{IsParty as IsBumpParty, MayTake};
 ghost use Rattle.bb_memory_c.specs.Calls.{AnswersFree, AnswersMake, AnswersRequest, GetsSeatBack, GivesSeat, IfBoth, TellsFigure};
 ghost use Rattle.bb_memory_c.specs.Seats.{joined, left_at};
 ghost use Rattle.bb_memory_c.specs.SharedBumpHandles.{BeginsAnew, IsShareable, MakesSharedBump, TellsLoad};
@@ -178,7 +178,7 @@ pub extern "C" fn bb_bump_seat_party(_alloc: Global, handle: &mut BumpSeatHandle
     ensures figure { TellsFigure handle.old.value handle.new.value result (λ party. party.number) }
 
     // The party is in no call, and some interleaving has its log.
-    ensures is_party { IfSome handle.old.value IsParty }
+    ensures is_party { IfSome handle.old.value IsBumpParty }
 {
     match handle.made_mut() {
         Some(seat) => Figure::of(seat.party.number() as usize),

@@ -103,12 +103,21 @@ fn counts(rt: &impl Abort, alloc: Global, pool: &mut impl Buckets, buckets: u32)
 fn tells_numbers(rt: &impl Abort, pool: &mut impl Buckets, buckets: u32) {
     for number in 0..buckets {
         let place = 4096 + 16 * number as usize;
-        assert_eq!(rt; (pool.place(number), pool.number(place)), (Some(place), Some(number)));
-        assert_eq!(rt; (pool.number(place + 1), pool.number(place + 15)), (None, None));
+        assert_eq!(rt;
+            (pool.place(number), pool.number(place)),
+            (Some(place), Some(number))
+        );
+        assert_eq!(rt;
+            (pool.number(place + 1), pool.number(place + 15)),
+            (None, None)
+        );
     }
     let end = 4096 + 16 * buckets as usize;
     assert_eq!(rt; (pool.place(buckets), pool.place(u32::MAX)), (None, None));
-    assert_eq!(rt; (pool.number(end), pool.number(4095), pool.number(0)), (None, None, None));
+    assert_eq!(rt;
+        (pool.number(end), pool.number(4095), pool.number(0)),
+        (None, None, None)
+    );
     assert_eq!(rt; (pool.number(4080), pool.number(usize::MAX)), (None, None));
     if let Some(place) = pool.take(layout(rt, 16, 8)) {
         let number = pool.number(place);

@@ -24,7 +24,10 @@ fn made(
     if parties == 0 || !PoolAllocator::can_make(bucket, 4096, size) {
         return Err("no pool can be made of that");
     }
-    SharedPoolAllocator::new_at_most(alloc, bucket, 4096, size, parties, most).map_err(|_| REFUSED)
+    match SharedPoolAllocator::new_at_most(alloc, bucket, 4096, size, parties, most) {
+        Ok(made) => Ok(made),
+        Err(_) => Err(REFUSED),
+    }
 }
 
 /// Takes a bucket, and tells its number.
@@ -35,40 +38,52 @@ fn take(pool: &SharedPoolAllocator, party: &mut PoolParty, layout: Layout) -> Op
     Some(pool.allocate(party, layout).ok()?.number())
 }
 
-/// The pool has so many buckets, the first of its region, and its party takes each of them once.
-fn has(rt: &impl Abort, pool: &SharedPoolAllocator, mut party: PoolParty, buckets: u32)
+/// The numbers of the first two buckets that the party takes.
+fn first_two(pool: &SharedPoolAllocator, mut party: PoolParty) -> (Option<u32>, Option<u32>)
     requires { party.allocator ≡ pool.now }
 {
+    let first = take(pool, &mut party, Layout::empty());
+    let second = take(pool, &mut party, Layout::empty());
+    (first, second)
+}
+
+/// The pool has so many buckets, the first ones of its region.
+fn has(rt: &impl Abort, pool: &SharedPoolAllocator, buckets: u32) {
     assert_eq!(rt; pool.number_of_buckets(), buckets);
     for number in 0..buckets {
         let place = 4096 + 16 * number as usize;
-        assert_eq!(rt; (pool.place_at(number), pool.number_at(place)), (Some(place), Some(number)));
-        assert_eq!(rt; take(pool, &mut party, Layout::empty()), Some(number));
+        assert_eq!(rt;
+            (pool.place_at(number), pool.number_at(place)),
+            (Some(place), Some(number))
+        );
     }
     assert_eq!(rt; pool.place_at(buckets), None);
     assert_eq!(rt; pool.number_at(4096 + 16 * buckets as usize), None);
-    assert_eq!(rt; take(pool, &mut party, Layout::empty()), None);
 }
 
-/// Less than the region has room for, as many, more, and as many as a number can say; none; and of a region without room.
+/// Less than the region has room for, as many, more, and as many as a number can say; none; and of a region without room. A pass
+/// takes the first bucket that is free.
 #[test]
 fn a_shared_pool_has_at_most_so_many_buckets(rt: HostRuntime) {
-    for (room, most, buckets) in &[
-        (8usize, 3u32, 3u32),
-        (8, 7, 7),
-        (8, 8, 8),
-        (8, 9, 8),
-        (8, u32::MAX, 8),
-        (8, 1, 1),
-        (8, 0, 0),
-        (0, 4, 0),
-        (0, 0, 0),
+    for (room, most, buckets, taken) in &[
+        (8usize, 3u32, 3u32, (Some(0u32), Some(1u32))),
+        (8, 7, 7, (Some(0), Some(1))),
+        (8, 8, 8, (Some(0), Some(1))),
+        (8, 9, 8, (Some(0), Some(1))),
+        (8, u32::MAX, 8, (Some(0), Some(1))),
+        (8, 1, 1, (Some(0), None)),
+        (8, 0, 0, (None, None)),
+        (0, 4, 0, (None, None)),
+        (0, 0, 0, (None, None)),
     ] {
         match made(rt.alloc(), *room, 1, *most) {
-            Ok((pool, mut parties)) => match parties.pop() {
-                Some(party) => has(&rt, &pool, party, *buckets),
-                None => panic!(&rt; "there is a party"),
-            },
+            Ok((pool, mut parties)) => {
+                has(&rt, &pool, *buckets);
+                match parties.pop() {
+                    Some(party) => assert_eq!(rt; first_two(&pool, party), *taken),
+                    None => panic!(&rt; "there is a party"),
+                }
+            }
             Err(cause) => panic!(&rt; "{cause}"),
         }
     }
