@@ -12,8 +12,6 @@ pub mod Hints
 pub mod LeastPlace
 pub mod Lending
 pub mod LiveList
-pub mod LiveParts
-pub mod LivePartsLaws
 pub mod Object
 pub mod OneChunkObject
 pub mod PoolCalls

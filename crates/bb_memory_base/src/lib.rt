@@ -11,7 +11,7 @@
 //!   - `bump`, `pool`: the machines' steps, and what holds of every list of them.
 //!   - `bump_world`, `pool_world`: machines that a caller steps by hand.
 //! - `equality`: what `==` says of the types above.
-//! - `lists`: laws of lists, for users. `live_parts`: laws of a live list in two parts.
+//! - `lists`: laws of lists, for users.
 //!
 //! The examples in the comments of this crate stand in `crates/uses/src/scripts/examples.rt`, where they are proved; its first
 //! lines have the imports, and the attribute that computes least places.
@@ -21,6 +21,5 @@ pub mod allocator;
 pub mod equality;
 pub mod layout;
 pub mod lists;
-pub mod live_parts;
 pub mod region;
 pub mod steps;

@@ -31,7 +31,6 @@ pub mod pool_messages;
 pub mod pool_workers;
 pub mod ring;
 pub mod scripts;
-pub mod segregated;
 pub mod slab;
 pub mod tenants;
 pub mod workers;
