@@ -8,7 +8,7 @@ ghost use Rattle.bb_memory_base.specs.UsualLayout.{IsUsual};
 
 mod chunk;
 
-pub use chunk::{Chunk, given_law};
+pub use chunk::{Chunk, given_law, parts_law};
 use thiserror::Error;
 
 /// A size in bytes and an alignment, as `core::alloc::Layout` has them: the alignment is a power of two, and the size
