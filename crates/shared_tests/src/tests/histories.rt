@@ -106,7 +106,9 @@ fn none_meet_again(rt: HostRuntime) {
 }
 
 /// A pool of one bucket at 4096, with two parties.
-pub(super) fn one_for_two(alloc: Global) -> Result<(SharedPoolAllocator, Vec<PoolParty>), AllocationError>
+pub(super) fn one_for_two(
+    alloc: Global,
+) -> Result<(SharedPoolAllocator, Vec<PoolParty>), AllocationError>
     ensures all { IfOk result (λ made. AreAllOf made.0 made.1.items) }
     ensures two { IfOk result (λ made. 1 < length made.1.items) }
 {
