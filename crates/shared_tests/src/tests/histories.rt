@@ -134,11 +134,11 @@ fn all_parties_ask(rt: HostRuntime) {
         panic!(rt; "a free bucket was refused");
     };
     assert!(rt; first.chunk().place() == 4096);
-    let refused = pool.allocate_among(&mut parties, 1, asked).err();
-    assert_eq!(rt; refused, Some(AllocationError::OutOfMemory));
     pool.deallocate_among(&mut parties, 0, first);
     let Ok(again) = pool.allocate_among(&mut parties, 1, asked) else {
         panic!(rt; "a bucket that was given back was refused");
     };
     assert!(rt; again.chunk().place() == 4096);
+    let refused = pool.allocate_among(&mut parties, 0, asked).err();
+    assert_eq!(rt; refused, Some(AllocationError::OutOfMemory));
 }
