@@ -106,7 +106,9 @@ fn none_meet_again(rt: HostRuntime) {
 }
 
 /// A pool of one bucket at 4096, with two parties.
-pub(super) fn one_for_two(alloc: Global) -> Result<(SharedPoolAllocator, Vec<PoolParty>), AllocationError>
+pub(super) fn one_for_two(
+    alloc: Global,
+) -> Result<(SharedPoolAllocator, Vec<PoolParty>), AllocationError>
     ensures all { IfOk result (λ made. AreAllOf made.0 made.1.items) }
     ensures two { IfOk result (λ made. 1 < length made.1.items) }
 {
@@ -132,11 +134,11 @@ fn all_parties_ask(rt: HostRuntime) {
         panic!(rt; "a free bucket was refused");
     };
     assert!(rt; first.chunk().place() == 4096);
-    let refused = pool.allocate_among(&mut parties, 1, asked).err();
-    assert_eq!(rt; refused, Some(AllocationError::OutOfMemory));
     pool.deallocate_among(&mut parties, 0, first);
     let Ok(again) = pool.allocate_among(&mut parties, 1, asked) else {
         panic!(rt; "a bucket that was given back was refused");
     };
     assert!(rt; again.chunk().place() == 4096);
+    let refused = pool.allocate_among(&mut parties, 0, asked).err();
+    assert_eq!(rt; refused, Some(AllocationError::OutOfMemory));
 }
