@@ -30,10 +30,10 @@ impl Handle for EnvelopeHandle {
 
     ghost made = { λ h. h.value };
 
-    fn of(inside: Held<Envelope>) -> EnvelopeHandle
-        ensures { result.value ≡ inside.value }
+    fn of(held: Held<Envelope>) -> EnvelopeHandle
+        ensures { result.value ≡ held.value }
     {
-        let Held { at, made } = inside;
+        let Held { at, made } = held;
         EnvelopeHandle {
             at: at as *mut u8,
             made,
