@@ -1,10 +1,9 @@
 -- Tenants of one allocator, each with a limit in bytes.
 use Rattle.std.specs.Prelude.{◌≡◌, ◌+◌, ◌<◌, ◌≤◌, ◌==◌, ◌&&◌, ◌∷◌, ◌++◌, if◌then◌else◌, [], ℕ, List, Result, Option}
-use Rattle.std.specs.Prelude.{◌%◌, ◌↔◌, IfOk, IfErr, IfSome, IsOk, IsSome, OnErr}
 use Rattle.std.specs.Prelude.{Bool, Ok, Err, length, map, nat_eq, position, remove, slice_index_or, sum, sum_by}
-use Rattle.bb_memory_base.specs.Chunk.{Chunk, IsInside}
-use Rattle.bb_memory_base.specs.Region.{Region}
+use Rattle.bb_memory_base.specs.Chunk.{Chunk}
 use Rattle.bb_memory_base.specs.declared.layout.Layout.{Layout}
+use Rattle.bb_memory_base.specs.declared.allocator.AllocationError.{AllocationError}
 use Rattle.uses.specs.declared.tenants.Lease.{Lease}
 use Rattle.uses.specs.declared.tenants.AdmitError.{AdmitError}
 use Rattle.uses.specs.declared.tenants.AdmitError.TheVariants as admit
@@ -88,29 +87,3 @@ IsWhyNotLeased may_answer old tenant layout (lease.Refused error) =
 IsWhyNotLeased may_answer old tenant layout lease.TooLong =
     HasLeft old tenant layout.size × ((chunk : Chunk) × may_answer layout (Ok chunk)
     × (limit_of old.limits tenant < used_by tenant old.leases + chunk.len))
-
--- a request of a tenant for a chunk, over an allocator of which these are the geometry, its region, and what it may answer
-pub record Leases {A G : Type 0} (geometry_of : A → G) (region_of : G → Region)
-    (may_allocate : G → List Chunk → Answers) (old : Tenancy A) (tenant : ℕ) (layout : Layout)
-    (result : Result Chunk LeaseError) (new : Tenancy A) : Type 0 where
-  pub given : IfOk result (λ chunk.
-      may_allocate (geometry_of old.allocator) (chunks_of old.leases) layout (Ok chunk))
-  pub inside : IfOk result (IsInside (region_of (geometry_of old.allocator)))
-  pub aligned : IfOk result (λ chunk. chunk.place % layout.align ≡ 0)
-  pub long_enough : IfOk result (λ chunk. layout.size ≤ chunk.len)
-  pub within : IfOk result (λ chunk. HasLeft old tenant chunk.len)
-  pub leased : IfOk result (λ chunk. new ≡ with_lease old new.allocator
-      (record { tenant = tenant; chunk = chunk }))
-  pub refused : IfErr result (IsWhyNotLeased
-      (may_allocate (geometry_of old.allocator) (chunks_of old.leases)) old tenant layout)
-  pub still : OnErr result (new ≡ record old { allocator = new.allocator })
-  pub geometry : geometry_of new.allocator ≡ geometry_of old.allocator
-
--- a return of the chunk at a place by a tenant: it is done exactly where the tenant holds it
-pub record TakesBack {A G Error : Type 0} (geometry_of : A → G) (old : Tenancy A) (tenant place : ℕ)
-    (result : Result (Unit {0}) Error) (new : Tenancy A) : Type 0 where
-  pub held : IsOk result ↔ IsSome (lease_at tenant place old.leases)
-  pub returned : IfSome (lease_at tenant place old.leases)
-      (λ position. new ≡ without_lease old new.allocator position)
-  pub still : OnErr result (new ≡ old)
-  pub geometry : geometry_of new.allocator ≡ geometry_of old.allocator

@@ -5,7 +5,7 @@ ghost use Rattle.std.specs.Prelude.{length, remove, slice_get, slice_index_or, s
 ghost use Rattle.bb_memory_base.specs.Chunk.{IsInside};
 ghost use Rattle.bb_memory_base.specs.LiveList.{IsSound};
 ghost use Rattle.uses.specs.declared.tenants.Lease.{Lease};
-ghost use Rattle.uses.specs.Tenants.{IsWhyNotAdmitted, Leases, TakesBack};
+ghost use Rattle.uses.specs.Tenants.{HasLeft, IsWhyNotAdmitted, IsWhyNotLeased};
 ghost use Rattle.uses.specs.Tenants.{bytes_for, bytes_out, chunks_of, is_lease_of, lease_at};
 ghost use Rattle.uses.specs.Tenants.{limit_of, used_by, with_lease, with_tenant, without_lease};
 
@@ -75,6 +75,7 @@ impl Lease {
 /// bytes, within which its chunks stay. The limits together are at most a whole that the maker fixed.
 ///
 /// ```
+/// let mut tenants = Tenants::new(alloc, allocator, 1000);
 /// let tenant = tenants.admit(100)?;
 /// let layout = Layout::from_size_align(101, 1).unwrap();
 /// let refused = tenants.allocate(tenant, layout).is_err();
@@ -111,7 +112,7 @@ impl<A: Allocator + Drop> Model for Tenants<A> {
 impl<A: Allocator + Drop> Tenants<A> {
     /// No tenants. The allocator has nothing out, and all limits together will be at most `whole` bytes.
     pub fn new(alloc: Global, allocator: A, whole: usize) -> Self
-        requires fresh { A.stands_for allocator (chunks_of []) }
+        requires fresh { A.stands_for allocator [] }
         ensures empty { result
             ≡ record { allocator = allocator; whole = whole; limits = []; leases = [] } }
     {
@@ -130,8 +131,8 @@ impl<A: Allocator + Drop> Tenants<A> {
         ensures number { IfOk result (λ number. number ≡ length self.old.limits) }
         ensures within { OnOk result (sum self.old.limits + limit ≤ self.old.whole) }
         ensures admitted { OnOk result (self.new ≡ with_tenant self.old limit) }
-        ensures refused { IfErr result (λ error. IsWhyNotAdmitted self.old limit error
-            × (self.new ≡ self.old)) }
+        ensures refused { IfErr result (IsWhyNotAdmitted self.old limit) }
+        ensures still { OnErr result (self.new ≡ self.old) }
     {
         if limit > self.whole - self.promised {
             return Err(AdmitError::OverWhole);
@@ -200,8 +201,21 @@ impl<A: Allocator + Drop> Tenants<A> {
     /// `Refused` as the allocator refuses the layout, and with `TooLong` where it gives a chunk so much longer that the limit
     /// would be exceeded, which goes back. A refusal keeps all.
     pub fn allocate(&mut self, tenant: usize, layout: Layout) -> Result<Chunk, LeaseError>
-        ensures { Leases A.geometry A.region_of A.may_allocate self.old tenant layout result
-            self.new }
+        ensures given { IfOk result (λ chunk. A.may_allocate (A.geometry self.old.allocator)
+            (chunks_of self.old.leases) layout (Ok chunk)) }
+        ensures inside { IfOk result
+            (IsInside (A.region_of (A.geometry self.old.allocator))) }
+        ensures aligned { IfOk result (λ chunk. chunk.place % layout.align ≡ 0) }
+        ensures long_enough { IfOk result (λ chunk. layout.size ≤ chunk.len) }
+        ensures within { IfOk result (λ chunk. HasLeft self.old tenant chunk.len) }
+        ensures leased { IfOk result (λ chunk. self.new ≡ with_lease self.old self.new.allocator
+            (record { tenant = tenant; chunk = chunk })) }
+        ensures refused { IfErr result (IsWhyNotLeased
+            (A.may_allocate (A.geometry self.old.allocator) (chunks_of self.old.leases))
+            self.old tenant layout) }
+        ensures still { OnErr result
+            (self.new ≡ record self.old { allocator = self.new.allocator }) }
+        ensures geometry { A.geometry self.new.allocator ≡ A.geometry self.old.allocator }
     {
         if tenant >= self.limits.len() {
             return Err(LeaseError::NoTenant);
@@ -227,7 +241,11 @@ impl<A: Allocator + Drop> Tenants<A> {
 
     /// Gives back the chunk at a place, which the tenant holds. Else it is refused, and changes nothing.
     pub fn deallocate(&mut self, tenant: usize, place: usize) -> Result<(), NotHeld>
-        ensures { TakesBack A.geometry self.old tenant place result self.new }
+        ensures held { IsOk result ↔ IsSome (lease_at tenant place self.old.leases) }
+        ensures returned { IfSome (lease_at tenant place self.old.leases) (λ position.
+            self.new ≡ without_lease self.old self.new.allocator position) }
+        ensures still { OnErr result (self.new ≡ self.old) }
+        ensures geometry { A.geometry self.new.allocator ≡ A.geometry self.old.allocator }
     {
         let Some(position) = lease_of(&self.leases, tenant, place) else {
             return Err(NotHeld {});
@@ -289,10 +307,10 @@ fn lease_there(leases: &Vec<Lease>, position: usize) -> Lease
 
 /// Gives the chunk of the lease at a position back to the allocator, and answers the lease.
 fn give_back<A: Allocator>(allocator: &mut A, leases: &Vec<Lease>, position: usize) -> Lease
-    requires { A.stands_for allocator.old (chunks_of leases.now.items)
-        × (position < length leases.now.items) }
-    ensures lease { (slice_get leases.now.items position ≡ Some result)
-        × A.stands_for allocator.new (chunks_of (remove leases.now.items position)) }
+    requires stands { A.stands_for allocator.old (chunks_of leases.now.items) }
+    requires within { position < length leases.now.items }
+    ensures there { slice_get leases.now.items position ≡ Some result }
+    ensures stands { A.stands_for allocator.new (chunks_of (remove leases.now.items position)) }
     ensures geometry { A.geometry allocator.new ≡ A.geometry allocator.old }
 {
     leases_law();
