@@ -1,9 +1,8 @@
 -- Tenants of one allocator, each with a limit in bytes.
-use Rattle.std.specs.Prelude.{◌≡◌, ◌+◌, ◌<◌, ◌≤◌, ◌==◌, ◌&&◌, ◌∷◌, ◌++◌, if◌then◌else◌, [], ℕ, List, Result, Option}
+use Rattle.std.specs.Prelude.{◌+◌, ◌<◌, ◌≤◌, ◌==◌, ◌&&◌, ◌∷◌, ◌++◌, if◌then◌else◌, [], ℕ, List, Option}
 use Rattle.std.specs.Prelude.{Bool, Ok, Err, length, map, nat_eq, position, remove, slice_index_or, sum, sum_by}
 use Rattle.bb_memory_base.specs.Chunk.{Chunk}
 use Rattle.bb_memory_base.specs.declared.layout.Layout.{Layout}
-use Rattle.bb_memory_base.specs.declared.allocator.AllocationError.{AllocationError}
 use Rattle.uses.specs.declared.tenants.Lease.{Lease}
 use Rattle.uses.specs.declared.tenants.AdmitError.{AdmitError}
 use Rattle.uses.specs.declared.tenants.AdmitError.TheVariants as admit
