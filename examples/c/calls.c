@@ -291,7 +291,7 @@ static void run_memory(void) {
             WITHIN(1648 + 16 * (buckets + parties), bb_shared_pool_make(&shared_pool, 8, 8, 4096, 8 * buckets, parties));
             WITHIN(128 + buckets, bb_shared_pool_seat(&shared_pool, &pool_seat));
             bb_shared_pool with_post = BB_EMPTY;
-            WITHIN(512 + 16 * (buckets + 2 * parties),
+            WITHIN(1648 + 16 * (buckets + 2 * parties),
                    bb_shared_pool_make_with_post(&with_post, 8, 8, 4096, 8 * buckets, parties));
             EXPECT(bb_shared_pool_free(&with_post) == BB_DONE);
             EXPECT(bb_pool_free(&pool) == BB_DONE && bb_fixed_pool_free(&fixed) == BB_DONE);
