@@ -1,5 +1,5 @@
 -- What a pool's requests and releases make of each live list that it stands for.
-use Rattle.std.proofs.Common.{◌≡◌, ◌≢◌, ℕ, suc, ◌+◌, ◌-◌, ◌*◌, ◌/◌, ◌%◌, ◌^◌, ◌<◌, ◌≤◌, ◌↔◌, true, false, List, [], ◌∷◌, ◌++◌}
+use Rattle.std.proofs.Common.{◌≡◌, ◌≢◌, ℕ, suc, ◌+◌, ◌-◌, ◌*◌, ◌/◌, ◌%◌, ◌^◌, ◌<◌, ◌≤◌, ◌↔◌, Bool, true, false, List, [], ◌∷◌, ◌++◌}
 use Rattle.std.proofs.Common.{Result, Ok, Err, refl, sym, ap, subst, ◌∙◌, arith, Some, inl, inr, div-add-mod', pow_pos, pow_mono}
 use Rattle.std.proofs.Common.{pow-add, pow-suc}
 use Rattle.std.specs.Prelude.{slice_get, slice_set, remove, IsOk, IfOk, OnErr}
@@ -233,6 +233,22 @@ FreesBucket-is pool place new is holds frees = record {
   given_back = Frees-given_back pool place new is holds frees;
   room = Frees-room pool place new holds frees;
 }
+
+-- So no bucket is held at the place after a return that looks first whether one is, whatever it finds.
+pub none-held-there : (found : Bool) (pool : Pool) (place : ℕ) (new : Pool) → (found ≡ true ↔ HoldsPlace pool place) →
+    (found ≡ true → FreesBucket pool place new) → (found ≡ false → new ≡ pool) → ¬ HoldsPlace new place
+none-held-there true pool place new is freed still = (freed refl).given_back
+none-held-there false pool place new is freed still = λ holds.
+    let found : false ≡ true = is.1 (subst (λ (p : Pool). HoldsPlace p place) (still refl) holds) in
+    absurd (cc)
+
+-- and each other one still is
+pub others-held-then : (found : Bool) (pool : Pool) (place : ℕ) (new : Pool) →
+    (found ≡ true → FreesBucket pool place new) → (found ≡ false → new ≡ pool) →
+    (other : ℕ) → HoldsPlace pool other → other ≢ place → HoldsPlace new other
+others-held-then true pool place new freed still = (freed refl).still_held
+others-held-then false pool place new freed still = λ other holds differ.
+    subst (λ (p : Pool). HoldsPlace p other) (sym (still refl)) holds
 
 -- RESIZES
 

@@ -120,11 +120,11 @@ fn release<M: Keeps>(made: &mut M, place: usize) -> u32
     ensures freed { M.holds made.old place → (result ≡ done) × M.frees made.old place made.new }
     ensures not_held { ¬ M.holds made.old place → (result ≡ not_held) × (made.new ≡ made.old) }
 {
-    if !made.is_held(place) {
-        return code::NOT_HELD;
+    if made.give_back(place) {
+        code::DONE
+    } else {
+        code::NOT_HELD
     }
-    made.give_back(place);
-    code::DONE
 }
 
 /// Gives back the chunk at this place, if one is held there.

@@ -262,8 +262,8 @@ impl Keeps for FixedSizePoolAllocator<512> {
         self.holds(place)
     }
 
-    fn give_back(&mut self, place: usize) {
-        self.deallocate(place, Layout::empty());
+    fn give_back(&mut self, place: usize) -> bool {
+        self.deallocate_if_held(place)
     }
 
     fn reserved_at(&self, place: usize) -> usize {

@@ -222,8 +222,12 @@ impl Keeps for OneChunkAllocator {
         self.holds(place)
     }
 
-    fn give_back(&mut self, place: usize) {
+    fn give_back(&mut self, place: usize) -> bool {
+        if !self.is_held(place) {
+            return false;
+        }
         self.deallocate(place, Layout::empty());
+        true
     }
 
     fn reserved_at(&self, place: usize) -> usize {

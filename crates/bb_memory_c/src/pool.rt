@@ -259,8 +259,8 @@ impl Keeps for PoolAllocator<Global> {
         self.holds(place)
     }
 
-    fn give_back(&mut self, place: usize) {
-        self.deallocate_bucket(place);
+    fn give_back(&mut self, place: usize) -> bool {
+        self.deallocate_if_held(place)
     }
 
     fn reserved_at(&self, place: usize) -> usize {

@@ -131,9 +131,12 @@ impl Keeps for PoolSeat {
         self.held_at(place).is_some()
     }
 
-    fn give_back(&mut self, place: usize) {
-        let number = self.held_at(place).unwrap();
+    fn give_back(&mut self, place: usize) -> bool {
+        let Some(number) = self.held_at(place) else {
+            return false;
+        };
         self.give_back_bucket(number);
+        true
     }
 
     fn reserved_at(&self, _place: usize) -> usize {

@@ -28,11 +28,7 @@ impl Buckets for PoolAllocator<Global> {
     }
 
     fn give(&mut self, place: usize) -> bool {
-        let is_held = self.holds(place);
-        if is_held {
-            self.deallocate(place, Layout::empty());
-        }
-        is_held
+        self.deallocate_if_held(place)
     }
 
     fn held(&self) -> u32 {
@@ -54,11 +50,7 @@ impl<const N: usize> Buckets for FixedSizePoolAllocator<N> {
     }
 
     fn give(&mut self, place: usize) -> bool {
-        let is_held = self.holds(place);
-        if is_held {
-            self.deallocate(place, Layout::empty());
-        }
-        is_held
+        self.deallocate_if_held(place)
     }
 
     fn held(&self) -> u32 {
@@ -72,6 +64,17 @@ impl<const N: usize> Buckets for FixedSizePoolAllocator<N> {
     fn number(&self, place: usize) -> Option<u32> {
         self.number_at(place)
     }
+}
+
+/// A place where no bucket of 16 bytes begins from 4096 on, of so many of them, gives none back.
+fn gives_nothing_back(rt: &impl Abort, pool: &mut impl Buckets, buckets: u32) {
+    let held = pool.held();
+    let end = 4096 + 16 * buckets as usize;
+    for wild in &[0usize, 1, 4080, 4095, 4097, 4104, 4111, usize::MAX] {
+        assert!(rt; !pool.give(*wild));
+    }
+    assert!(rt; !pool.give(end));
+    assert_eq!(rt; pool.held(), held);
 }
 
 /// A pool of so many buckets holds none at first, one more after each taking, as many after a refusal, and one less after each
@@ -88,6 +91,7 @@ fn counts(rt: &impl Abort, alloc: Global, pool: &mut impl Buckets, buckets: u32)
         assert_eq!(rt; pool.held(), held + 1);
     }
     assert_eq!(rt; (pool.take(sixteen), pool.held()), (None, buckets));
+    gives_nothing_back(rt, pool, buckets);
     let mut left = buckets;
     for place in &places {
         assert!(rt; pool.give(*place));

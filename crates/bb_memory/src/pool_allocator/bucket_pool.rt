@@ -1,11 +1,12 @@
 //! Pools over a set of held buckets: what the pools of this crate have in common.
-ghost use Rattle.std.specs.Prelude.{◌≡◌, ◌↔◌, OnOk, IsTrue};
+ghost use Rattle.std.specs.Prelude.{◌≡◌, ◌≢◌, ◌↔◌, ℕ, false, true, List, OnOk, Some, IsTrue, remove, slice_get};
+ghost use Rattle.bb_memory_base.specs.Chunk.{Chunk};
 ghost use Rattle.bb_memory_base.specs.Run.{AnswersRun, Step};
 ghost use Rattle.bb_memory_base.specs.ResizableObject.{ResizableStep};
 ghost use Rattle.bb_memory_base.specs.PoolObject.{pool_object};
 ghost use Rattle.bb_memory.specs.Buckets.{TellsNumber, TellsPlace};
 ghost use Rattle.bb_memory.specs.HeldBuckets.{held_count};
-ghost use Rattle.bb_memory.specs.Pool.{HoldsPlace, StandsFor, reads_after};
+ghost use Rattle.bb_memory.specs.Pool.{FreesBucket, HoldsPlace, StandsFor, reads_after};
 
 use super::buckets::Buckets;
 use super::held_set::HeldSet;
@@ -108,6 +109,35 @@ impl<S: HeldSet> BucketPool<S> {
             ↔ ⟦<BucketPool<S> as BaseAllocator>⟧.may_release self.now place }
     {
         self.buckets.holds(place)
+    }
+
+    /// Gives back the bucket at this place where a held one begins there, and answers whether one did. Else it changes nothing.
+    /// It is for places of which nothing is known, as they come from another process: `deallocate` asks that the bucket is held,
+    /// and doesn't look.
+    ///
+    /// ```
+    /// let chunk = pool.allocate(Layout::empty())?;
+    /// let given_back = pool.deallocate_if_held(chunk.place());
+    /// prove!(given_back);
+    /// let again = pool.deallocate_if_held(chunk.place());
+    /// prove!(!again);
+    /// ```
+    #[inline(always)]
+    pub fn deallocate_if_held(&mut self, place: usize) -> bool
+        ensures held { IsTrue result ↔ HoldsPlace (S.pool self.old) place }
+        ensures freed { result ≡ true
+            → FreesBucket (S.pool self.old) place (S.pool self.new) }
+        ensures released { (live : List Chunk) (position : ℕ) (chunk : Chunk)
+            → StandsFor (S.pool self.old) live → slice_get live position ≡ Some chunk
+            → chunk.place ≡ place → StandsFor (S.pool self.new) (remove live position) }
+        ensures given_back { ¬ HoldsPlace (S.pool self.new) place }
+        ensures still_held { (other : ℕ) → HoldsPlace (S.pool self.old) other → other ≢ place
+            → HoldsPlace (S.pool self.new) other }
+        ensures still { result ≡ false → self.new ≡ self.old }
+        ensures geometry { (S.pool self.new).geometry ≡ (S.pool self.old).geometry }
+        ensures reads { S.reads self.new ≡ S.reads self.old }
+    {
+        self.buckets.free_if_held(place)
     }
 }
 

@@ -1,5 +1,5 @@
 //! What both pools are: the buckets of a region, and a set of those that are held.
-ghost use Rattle.std.specs.Prelude.{◌≡◌, ℕ, ◌≤◌, ◌↔◌, length, IsTrue};
+ghost use Rattle.std.specs.Prelude.{◌≡◌, ℕ, ◌≤◌, ◌↔◌, false, length, true, IsTrue};
 ghost use Rattle.bb_memory_base.specs.FirstPlace.{first_place};
 ghost use Rattle.bb_memory_base.specs.PoolGeometry.{bucket_place};
 ghost use Rattle.bb_memory_base.specs.PoolObject.{MayGrow, MayShrink};
@@ -146,6 +146,24 @@ impl<S: IndexSet> Buckets<S> {
     {
         let number = self.number(place);
         self.held.release(number);
+    }
+
+    /// Frees the bucket at this place where a held one begins there, and answers whether one did. Else it changes nothing.
+    #[inline(always)]
+    pub fn free_if_held(&mut self, place: usize) -> bool
+        ensures held { IsTrue result ↔ HoldsPlace self.old place }
+        ensures freed { result ≡ true → Frees self.old place self.new }
+        ensures still { result ≡ false → self.new ≡ self.old }
+    {
+        let Some(number) = self.geometry.number_at(place) else {
+            return false;
+        };
+        let number = number as usize;
+        if !self.held.has(number) {
+            return false;
+        }
+        self.held.release(number);
+        true
     }
 
     /// What the chunk at this place of a held bucket is answered that is to grow.

@@ -67,6 +67,16 @@ pub fn two_chunks(
     Ok(())
 }
 
+/// A place of which nothing is known is given back where it is a held bucket's, and once.
+pub fn back_if_held(pool: &mut FixedSizePoolAllocator<16>) -> Result<(), AllocationError> {
+    let chunk = pool.allocate(Layout::empty())?;
+    let given_back = pool.deallocate_if_held(chunk.place());
+    prove!(given_back);
+    let again = pool.deallocate_if_held(chunk.place());
+    prove!(!again);
+    Ok(())
+}
+
 /// Takes one more bucket. The place `out` is still held then, and the new chunk has another one.
 fn one_more(
     pool: &mut FixedSizePoolAllocator<16>,

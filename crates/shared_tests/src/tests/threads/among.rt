@@ -1,0 +1,106 @@
+//! Threads whose parties come back to one who has them all, and calls them between their meetings.
+ghost use Rattle.std.specs.Prelude.{◌≡◌, IfOk, IfSome};
+ghost use Rattle.bb_memory.specs.SharedPoolAmong.{AreAllOf, IsAmongAll};
+
+use bb_memory::layout::Layout;
+use bb_memory::pool_allocator::{AllocationError, PoolAllocator};
+use bb_memory::shared_pool::{PoolParty, SharedPoolAllocator};
+use std::alloc::Global;
+use std::process::Abort;
+use std::thread;
+use std::thread::Threads;
+
+/// A pool of eight buckets of 128 bytes, with four parties. The part of each party is two buckets.
+fn eight_for_four(
+    alloc: Global,
+) -> Result<(SharedPoolAllocator, Vec<PoolParty>), AllocationError>
+    ensures all { IfOk result (λ made. AreAllOf made.0 made.1.items) }
+    ensures four { IfOk result (λ made. made.0.scene.parties ≡ 4) }
+{
+    let Ok(bucket) = Layout::from_size_align(128, 8) else {
+        return Err(AllocationError::SizeIsZero);
+    };
+    if !PoolAllocator::can_make(bucket, 4096, 1024) {
+        return Err(AllocationError::SizeIsZero);
+    }
+    SharedPoolAllocator::new(alloc, bucket, 4096, 1024, 4)
+}
+
+/// The party takes the first bucket of its own part, and drops the token.
+fn keep_one(pool: &SharedPoolAllocator, mut party: PoolParty, asked: Layout) -> PoolParty
+    requires { party.allocator ≡ pool.now }
+    ensures { result.allocator ≡ pool.entry.now }
+{
+    let _ = pool.allocate_near(&mut party, asked);
+    party
+}
+
+/// Each of these parties' threads keeps a bucket, all at once. It answers them when all are back.
+fn each_keeps_one<R: Threads + Sync>(
+    rt: &R,
+    pool: &SharedPoolAllocator,
+    parties: Vec<PoolParty>,
+    asked: Layout,
+) -> Option<Vec<PoolParty>>
+    requires { AreAllOf pool.now parties.items }
+    ensures { IfSome result (λ back. AreAllOf pool.now back.items) }
+{
+    thread::map_vec(rt, parties, &|party| keep_one(pool, party, asked)).ok()
+}
+
+/// The number of the bucket that the party at this place of the list is given, or `None` where it is refused since all are held.
+fn given(
+    rt: &impl Abort,
+    pool: &SharedPoolAllocator,
+    parties: &mut Vec<PoolParty>,
+    index: usize,
+    asked: Layout,
+) -> Option<u32>
+    requires { IsAmongAll pool.now parties.old.items index }
+    ensures { AreAllOf pool.now parties.new.items }
+{
+    match pool.allocate_among(parties, index, asked) {
+        Ok(bucket) => Some(bucket.number()),
+        Err(error) => {
+            assert_eq!(rt; error, AllocationError::OutOfMemory);
+            None
+        }
+    }
+}
+
+/// The party at place 1 takes a bucket, and gives it back. It answers the bucket's number, or `None` where it was refused.
+fn out_and_back(
+    pool: &SharedPoolAllocator,
+    parties: &mut Vec<PoolParty>,
+    asked: Layout,
+) -> Option<u32>
+    requires { IsAmongAll pool.now parties.old.items 1 }
+    ensures { AreAllOf pool.now parties.new.items }
+{
+    let bucket = pool.allocate_among(parties, 1, asked).ok()?;
+    let number = bucket.number();
+    pool.deallocate_among(parties, 1, bucket);
+    Some(number)
+}
+
+/// Each thread keeps the first bucket of its party's part. Of the other four, the least that none holds is given first, whichever
+/// party asks; what was given back is the next that another is given; and when all are held, each is refused.
+#[test]
+fn threads_pool_among(rt: HostRuntime) {
+    let Ok(asked) = Layout::from_size_align(48, 4) else {
+        panic!(rt; "no such layout");
+    };
+    let Ok((pool, parties)) = eight_for_four(rt.alloc()) else {
+        panic!(rt; "no pool was made");
+    };
+    let Some(mut back) = each_keeps_one(&rt, &pool, parties, asked) else {
+        panic!(rt; "memory was refused");
+    };
+    assert_eq!(rt; given(&rt, &pool, &mut back, 3, asked), Some(1));
+    assert_eq!(rt; given(&rt, &pool, &mut back, 0, asked), Some(3));
+    assert_eq!(rt; given(&rt, &pool, &mut back, 0, asked), Some(5));
+    assert_eq!(rt; out_and_back(&pool, &mut back, asked), Some(7));
+    assert_eq!(rt; given(&rt, &pool, &mut back, 2, asked), Some(7));
+    assert_eq!(rt; given(&rt, &pool, &mut back, 1, asked), None);
+    assert_eq!(rt; out_and_back(&pool, &mut back, asked), None);
+}
