@@ -7,6 +7,7 @@ mod Listings
 mod LowestBits
 mod Measures
 mod NumberFlags
+mod NumberSets
 mod NumberWords
 mod OpenWords
 mod OneChunks

@@ -138,19 +138,25 @@ released bound words new number are has sets =
       numbers_of-set bound words new number false there.0 sets,
     )
 
--- A taking: a number whose bit was clear wasn't in the set. With its bit set it is the set with the number.
+-- a number whose bit is clear isn't in the set
+pub lacks : (bound : ℕ) (words : List ℕ) (number : ℕ) → AreIndexWords bound words → number / 64 < length words →
+    has_bit words number ≡ false → (number < bound) × Lacks (numbers_of bound words) number
+lacks bound words number are within clear =
+    let below : number < bound = elim (cases_lt number bound) [
+      | inl is ↦ is
+      | inr past ↦ absurd (false≢true (sym clear ∙ are.past number past (omega (arith, within))))
+    ] in (below, slice_get-numbers_of bound words number below ∙ ap Some clear)
+
+-- A taking: such a number wasn't in the set. With its bit set it is the set with the number.
 pub taken : (bound : ℕ) (words new : List ℕ) (number : ℕ) → AreIndexWords bound words → number / 64 < length words →
     has_bit words number ≡ false → SetsBit words number true new →
     Lacks (numbers_of bound words) number × AreIndexWords bound new
     × (numbers_of bound new ≡ set (numbers_of bound words) number true)
 taken bound words new number are within clear sets =
-    let below : number < bound = elim (cases_lt number bound) [
-      | inl is ↦ is
-      | inr past ↦ absurd (false≢true (sym clear ∙ are.past number past (omega (arith, within))))
-    ] in (
-      slice_get-numbers_of bound words number below ∙ ap Some clear,
-      AreIndexWords-set bound words new number true below sets are,
-      numbers_of-set bound words new number true below sets,
+    let free = lacks bound words number are within clear in (
+      free.1,
+      AreIndexWords-set bound words new number true free.0 sets are,
+      numbers_of-set bound words new number true free.0 sets,
     )
 
 -- no bit below the bound is set, and each from the bound on is

@@ -42,4 +42,8 @@ pub trait IndexSet: Drop {
     fn has(&self, number: usize) -> bool
         requires { number < length (numbers self.now) }
         ensures { IsTrue result ↔ Has (numbers self.now) number };
+
+    /// Whether some number below the bound isn't in the set, so that one can be taken. No word is read through a counter.
+    fn has_room(&self) -> bool
+        ensures { IsTrue result ↔ ((number : ℕ) × Lacks (numbers self.now) number) };
 }

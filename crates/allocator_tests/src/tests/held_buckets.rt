@@ -17,6 +17,8 @@ trait Buckets: Drop {
 
     fn held(&self) -> u32;
 
+    fn room(&self) -> bool;
+
     fn place(&self, number: u32) -> Option<usize>;
 
     fn number(&self, place: usize) -> Option<u32>;
@@ -33,6 +35,10 @@ impl Buckets for PoolAllocator<Global> {
 
     fn held(&self) -> u32 {
         self.held_buckets()
+    }
+
+    fn room(&self) -> bool {
+        self.has_room()
     }
 
     fn place(&self, number: u32) -> Option<usize> {
@@ -57,6 +63,10 @@ impl<const N: usize> Buckets for FixedSizePoolAllocator<N> {
         self.held_buckets()
     }
 
+    fn room(&self) -> bool {
+        self.has_room()
+    }
+
     fn place(&self, number: u32) -> Option<usize> {
         self.place_at(number)
     }
@@ -78,12 +88,13 @@ fn gives_nothing_back(rt: &impl Abort, pool: &mut impl Buckets, buckets: u32) {
 }
 
 /// A pool of so many buckets holds none at first, one more after each taking, as many after a refusal, and one less after each
-/// return. A return of what isn't held changes nothing.
+/// return. It has room but where it holds them all. A return of what isn't held changes nothing.
 fn counts(rt: &impl Abort, alloc: Global, pool: &mut impl Buckets, buckets: u32) {
     let sixteen = layout(rt, 16, 8);
     let mut places = Vec::new(alloc);
     assert_eq!(rt; pool.held(), 0);
     for held in 0..buckets {
+        assert!(rt; pool.room());
         let Some(place) = pool.take(sixteen) else {
             panic!(rt; "a bucket is free");
         };
@@ -91,12 +102,14 @@ fn counts(rt: &impl Abort, alloc: Global, pool: &mut impl Buckets, buckets: u32)
         assert_eq!(rt; pool.held(), held + 1);
     }
     assert_eq!(rt; (pool.take(sixteen), pool.held()), (None, buckets));
+    assert!(rt; !pool.room());
     gives_nothing_back(rt, pool, buckets);
     let mut left = buckets;
     for place in &places {
         assert!(rt; pool.give(*place));
         left = left.saturating_sub(1);
         assert_eq!(rt; pool.held(), left);
+        assert!(rt; pool.room());
         assert!(rt; !pool.give(*place));
         assert_eq!(rt; pool.held(), left);
     }

@@ -77,4 +77,9 @@ impl<const N: usize> IndexSet for Flags<N> {
     fn has(&self, number: usize) -> bool {
         self.held[number]
     }
+
+    #[inline(always)]
+    fn has_room(&self) -> bool {
+        self.left > 0
+    }
 }

@@ -116,6 +116,17 @@ impl<A: Allocator> IndexWords<A> {
         self.slots[number / 64] >> (number % 64) & 1 == 1
     }
 
+    /// Whether a word isn't full. It is read in place, and isn't counted.
+    #[inline(always)]
+    pub fn is_open(&self, at: usize) -> bool
+        requires { at < length self.now.words }
+        ensures clear { IsTrue result → (number : ℕ) × (number / 64 ≡ at)
+            × (has_bit self.now.words number ≡ false) }
+        ensures full { IsFalse result → slice_index self.now.words at ≡ 2 ^ 64 - 1 }
+    {
+        self.slots[at] != u64::MAX
+    }
+
     /// Clears the bit of a number, and no other, and says whether its word was full.
     #[inline(always)]
     pub fn clear(&mut self, number: usize) -> bool

@@ -93,4 +93,9 @@ impl<A: Allocator> IndexSet for Words<A> {
     fn has(&self, number: usize) -> bool {
         self.words.has(number)
     }
+
+    #[inline(always)]
+    fn has_room(&self) -> bool {
+        self.words.len() > 0 && self.words.is_open(self.hand)
+    }
 }

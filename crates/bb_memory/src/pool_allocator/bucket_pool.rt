@@ -6,6 +6,7 @@ ghost use Rattle.bb_memory_base.specs.ResizableObject.{ResizableStep};
 ghost use Rattle.bb_memory_base.specs.PoolObject.{pool_object};
 ghost use Rattle.bb_memory.specs.Buckets.{TellsNumber, TellsPlace};
 ghost use Rattle.bb_memory.specs.HeldBuckets.{held_count};
+ghost use Rattle.bb_memory.specs.NumberSet.{Lacks};
 ghost use Rattle.bb_memory.specs.Pool.{FreesBucket, HoldsPlace, StandsFor, reads_after};
 
 use super::buckets::Buckets;
@@ -92,6 +93,22 @@ impl<S: HeldSet> BucketPool<S> {
         ensures { result ≡ held_count (S.pool self.now) }
     {
         self.buckets.held_count()
+    }
+
+    /// Whether a bucket is free, so that a request that is no greater than a bucket, in size and alignment, is accepted. Nothing
+    /// is searched, and no read is counted.
+    ///
+    /// ```
+    /// let before = pool.has_room();
+    /// let answer = pool.allocate(Layout::empty());
+    /// let given = answer.is_ok();
+    /// prove!(given == before);
+    /// ```
+    #[inline(always)]
+    pub fn has_room(&self) -> bool
+        ensures { IsTrue result ↔ ((i : ℕ) × Lacks (S.pool self.now).held i) }
+    {
+        self.buckets.has_room()
     }
 
     /// Whether this is the place of a held bucket, which may be given back: true exactly where `deallocate` may be called with

@@ -5,6 +5,7 @@ ghost use Rattle.bb_memory_base.specs.PoolGeometry.{bucket_place};
 ghost use Rattle.bb_memory_base.specs.PoolObject.{MayGrow, MayShrink};
 ghost use Rattle.bb_memory.specs.Buckets.{TellsNumber, TellsPlace};
 ghost use Rattle.bb_memory.specs.HeldBuckets.{held_count};
+ghost use Rattle.bb_memory.specs.NumberSet.{Lacks};
 ghost use Rattle.bb_memory.specs.Pool.{Frees, HoldsPlace, Takes, pool_of, reads_of};
 
 use super::geometry::Geometry;
@@ -109,6 +110,14 @@ impl<S: IndexSet> Buckets<S> {
             Some(number) => self.held.has(number as usize),
             None => false,
         }
+    }
+
+    /// Whether some bucket isn't held.
+    #[inline(always)]
+    pub fn has_room(&self) -> bool
+        ensures { IsTrue result ↔ ((i : ℕ) × Lacks self.now.held i) }
+    {
+        self.held.has_room()
     }
 
     /// The number of the bucket at this place, or `None` where no bucket begins there.

@@ -67,6 +67,14 @@ pub fn two_chunks(
     Ok(())
 }
 
+/// A pool tells beforehand whether it will give a bucket.
+pub fn room_told(pool: &mut FixedSizePoolAllocator<16>) {
+    let before = pool.has_room();
+    let answer = pool.allocate(Layout::empty());
+    let given = answer.is_ok();
+    prove!(given == before);
+}
+
 /// A place of which nothing is known is given back where it is a held bucket's, and once.
 pub fn back_if_held(pool: &mut FixedSizePoolAllocator<16>) -> Result<(), AllocationError> {
     let chunk = pool.allocate(Layout::empty())?;
