@@ -3,7 +3,7 @@ use Rattle.bb_memory_base.specs.Region.{Region, region_at}
 use Rattle.bb_memory.specs.Pool.{MayBeCut}
 use Rattle.bb_memory_c.specs.Layouts.{HasRoom}
 use Rattle.bb_memory_c.proofs.Layouts.{cut-or-not, lacks-cut, lacks-layout, room-or-not, same_Err}
-use Rattle.bb_memory_c.proofs.fixed_pool.bb_fixed_pool_make.Goals as goal
+use Rattle.bb_memory_c.proofs.flags_pool.bb_fixed_pool_make.Goals as goal
 
 pub returns-in-Err : goal.returns-in-Err
 returns-in-Err c = let region : Region = region_at c.args.start c.args.size in record {
