@@ -2,7 +2,7 @@
 mod bumps;
 mod counted;
 mod errors;
-mod fixed_pools;
+mod fixed;
 mod heap_blocks;
 mod held_buckets;
 mod laws;

@@ -1,7 +1,7 @@
 -- A pool, as its contracts see it.
 use Rattle.std.specs.Prelude.{◌≡◌, ◌≢◌, ℕ, ◌-◌, ◌+◌, ◌%◌, ◌≤◌, ◌<◌, ◌^◌, ◌⊎◌, ◌↔◌, Bool, true, false}
 use Rattle.std.specs.Prelude.{◌&&◌, if◌then◌else◌, nat_le}
-use Rattle.std.specs.Prelude.{List, All, length, min, replicate, slice_set, Result, Ok, Err, IsOk, IfOk, OnErr}
+use Rattle.std.specs.Prelude.{List, All, length, min, replicate, slice_set, Result, Ok, Err, IsOk, IfOk, OnErr, IsTrue}
 use Rattle.bb_memory_base.specs.Region.{Region, IsRegion}
 use Rattle.bb_memory_base.specs.Chunk.{Chunk}
 use Rattle.bb_memory_base.specs.LiveList.{IsSound}
@@ -98,6 +98,12 @@ Takes pool layout (Err SizeIsZero) new = ⊥
 abbrev pub Frees : Pool → ℕ → Pool → Type 0
 Frees pool place new =
     (i : ℕ) → Has pool.held i → place ≡ bucket_place pool.geometry i → new ≡ with_flag pool i false
+
+-- It is told whether a held bucket begins at the place. That one is then free, and no other; else nothing has changed.
+pub record FreesIfHeld (old : Pool) (place : ℕ) (answer : Bool) (new : Pool) : Type 0 where
+  pub held : IsTrue answer ↔ HoldsPlace old place
+  pub freed : answer ≡ true → Frees old place new
+  pub still : answer ≡ false → new ≡ old
 
 -- What a request is answered by the value alone, what the pool is then, and how many words it read.
 pub record TakesBucket (old : Pool) (layout : Layout) (answer : Result Chunk AllocationError)

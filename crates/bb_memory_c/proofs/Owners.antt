@@ -4,7 +4,7 @@ use denote.RattleType.{RattleType}
 use Rattle.bb_memory_c.specs.Rows.{bump_row}
 use Rattle.bb_memory_c.specs.Rows.{one_chunk_row}
 use Rattle.bb_memory_c.specs.Rows.{pool_row}
-use Rattle.bb_memory_c.specs.Rows.{fixed_pool_row}
+use Rattle.bb_memory_c.specs.Rows.{flags_pool_row}
 use Rattle.bb_memory_c.specs.contracts.bump_seat.BumpSeats.{the_row as shared_bump_row}
 use Rattle.bb_memory_c.specs.contracts.bump_seat.BumpSeat.{the_row as bump_seat_row}
 use Rattle.bb_memory_c.specs.contracts.pool_seat.PoolSeats.{the_row as shared_pool_row}
@@ -13,7 +13,7 @@ use Rattle.bb_memory_c.specs.contracts.envelope.Envelope.{the_row as envelope_ro
 use Rattle.bb_memory_c.specs.contracts.handle.bump.BumpHandle as bump_handle
 use Rattle.bb_memory_c.specs.contracts.handle.one_chunk.OneChunkHandle as one_chunk_handle
 use Rattle.bb_memory_c.specs.contracts.handle.pool.PoolHandle as pool_handle
-use Rattle.bb_memory_c.specs.contracts.handle.fixed_pool.FixedPoolHandle as fixed_pool_handle
+use Rattle.bb_memory_c.specs.contracts.handle.pool.FlagsPoolHandle as flags_pool_handle
 use Rattle.bb_memory_c.specs.contracts.handle.shared_bump.SharedBumpHandle as shared_bump_handle
 use Rattle.bb_memory_c.specs.contracts.handle.bump_seat.BumpSeatHandle as bump_seat_handle
 use Rattle.bb_memory_c.specs.contracts.handle.shared_pool.SharedPoolHandle as shared_pool_handle
@@ -66,8 +66,8 @@ pool = record {
   blanks = λ d f. tt;
 }
 
-abbrev pub fixed_pool : Owner fixed_pool_row fixed_pool_handle.the_row
-fixed_pool = record {
+abbrev pub flags_pool : Owner flags_pool_row flags_pool_handle.the_row
+flags_pool = record {
   held = λ d. record { at = d.at; made = d.made; heap = d.heap; value = d.value };
   back = λ d. record { at = d.at; made = d.made; heap = d.heap; value = d.value };
   again = λ d. refl;

@@ -25,4 +25,4 @@ pub record BecomesOwned (old new : Option BumpSeats) (old_bump new_bump : Option
   pub out : IfSome old (λ seats. (code ≡ seats_out)
       ↔ ((old_bump ≡ None) × (left_at seats < seats.shared.scene.parties)))
   pub else_memory : code ≢ done → code ≢ already_made → code ≢ not_made → code ≢ seats_out → code ≡ malloc_refused
-  pub kept : code ≢ done → (new ≡ old) × (new_bump ≡ old_bump)
+  pub still : code ≢ done → (new ≡ old) × (new_bump ≡ old_bump)

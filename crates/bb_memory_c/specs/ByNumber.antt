@@ -13,7 +13,7 @@ pub record TellsPlaceAt {X : Type 0} (old new : Option X) (told : Figure) (numbe
   pub there : IfSome old (λ made. number < (geometry made).buckets → told ≡ figure_of (bucket_place (geometry made) number))
   pub none : IfSome old (λ made. (geometry made).buckets ≤ number → told ≡ no_figure not_a_bucket)
   pub empty : old ≡ None → told ≡ no_figure not_made
-  pub kept : new ≡ old
+  pub still : new ≡ old
 
 -- C is told the number of the bucket at this place, or that no bucket begins there
 pub record TellsNumberAt {X : Type 0} (old new : Option X) (told : Figure) (place : ℕ) (geometry : X → PoolGeometry)
@@ -22,4 +22,4 @@ pub record TellsNumberAt {X : Type 0} (old new : Option X) (told : Figure) (plac
       → place ≡ bucket_place (geometry made) number → told ≡ figure_of number)
   pub none : IfSome old (λ made. ¬ IsPlaceOfBucket (geometry made) place → told ≡ no_figure not_a_bucket)
   pub empty : old ≡ None → told ≡ no_figure not_made
-  pub kept : new ≡ old
+  pub still : new ≡ old

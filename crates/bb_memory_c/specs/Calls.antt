@@ -20,21 +20,21 @@ use Rattle.bb_memory_c.specs.Layouts.{FailsOf, IsOf, LacksRoomOf}
 pub record TellsFigure {X : Type 0} (old new : Option X) (told : Figure) (figure : X → ℕ) : Type 0 where
   pub number : IfSome old (λ made. told ≡ figure_of (figure made))
   pub empty : old ≡ None → told ≡ no_figure not_made
-  pub kept : new ≡ old
+  pub still : new ≡ old
 
 -- C is told whether this is so, by 1 or 0, and all stays; of an empty handle there is no figure
 pub record TellsWhether {X : Type 0} (old new : Option X) (told : Figure) (is : X → Type 0) : Type 0 where
   pub yes : IfSome old (λ made. is made → told ≡ figure_of 1)
   pub no : IfSome old (λ made. ¬ is made → told ≡ figure_of 0)
   pub empty : old ≡ None → told ≡ no_figure not_made
-  pub kept : new ≡ old
+  pub still : new ≡ old
 
 -- C is told this figure where a place is held, and all stays
 pub record TellsOfHeld {X : Type 0} (old new : Option X) (told : Figure) (holds : X → Type 0) (figure : X → ℕ) : Type 0 where
   pub number : IfSome old (λ made. holds made → told ≡ figure_of (figure made))
   pub nothing : IfSome old (λ made. ¬ holds made → told ≡ no_figure not_held)
   pub empty : old ≡ None → told ≡ no_figure not_made
-  pub kept : new ≡ old
+  pub still : new ≡ old
 
 -- REQUESTS AND RETURNS
 
@@ -83,7 +83,7 @@ pub record AnswersGrow {X : Type 0} (old new : Option X) (place : ℕ) (by : Res
       → TellsGrow (holds made) place from (may made from to) told)
   pub no_layout : IfSome old (λ made. ¬ AreLayouts by → told ≡ refused not_a_layout)
   pub empty : old ≡ None → told ≡ refused not_made
-  pub kept : new ≡ old
+  pub still : new ≡ old
 
 -- It shrinks so, where the old size is at most what is reserved for it.
 pub record AnswersShrink {X : Type 0} (old new : Option X) (place : ℕ) (by : Resize) (told : Answer) (holds : X → Type 0)
@@ -92,7 +92,7 @@ pub record AnswersShrink {X : Type 0} (old new : Option X) (place : ℕ) (by : R
       → TellsShrink (holds made) place (reserved made) from (may made from to) told)
   pub no_layout : IfSome old (λ made. ¬ AreLayouts by → told ≡ refused not_a_layout)
   pub empty : old ≡ None → told ≡ refused not_made
-  pub kept : new ≡ old
+  pub still : new ≡ old
 
 -- MAKING AND FREEING
 
@@ -102,7 +102,7 @@ pub record AnswersMake {X : Type 0} (old new : Option X) (code : ℕ) (may : Typ
   pub held_one : (code ≡ already_made) ↔ (old ≢ None)
   pub cannot : (code ≡ cannot_make) ↔ ((old ≡ None) × (¬ may))
   pub else_memory : code ≢ done → code ≢ already_made → code ≢ cannot_make → code ≡ malloc_refused
-  pub kept : code ≢ done → new ≡ old
+  pub still : code ≢ done → new ≡ old
 
 -- The same of one that is cut into buckets, whose layout is made of two of its numbers, where there is room for one.
 pub record AnswersPoolMake {X : Type 0} (old new : Option X) (size align : ℕ) (code : ℕ) (may room : Layout → Type 0)
@@ -114,7 +114,7 @@ pub record AnswersPoolMake {X : Type 0} (old new : Option X) (size align : ℕ) 
   pub no_room : (code ≡ no_bucket) ↔ ((old ≡ None) × LacksRoomOf size align may room)
   pub else_memory : code ≢ done → code ≢ already_made → code ≢ not_a_layout → code ≢ cannot_make → code ≢ no_bucket
       → code ≡ malloc_refused
-  pub kept : code ≢ done → new ≡ old
+  pub still : code ≢ done → new ≡ old
 
 -- the handle is empty then, and C is told whether it was
 pub record AnswersFree {X : Type 0} (old new : Option X) (code : ℕ) : Type 0 where
@@ -133,7 +133,7 @@ pub record GivesSeat {X Y : Type 0} (old new : Option X) (old_seat new_seat : Op
   pub empty : (code ≡ not_made) ↔ ((old_seat ≡ None) × (old ≡ None))
   pub none_left : IfSome old (λ made. (code ≡ no_seat) ↔ ((old_seat ≡ None) × (left made ≡ 0)))
   pub else_memory : code ≢ done → code ≢ already_made → code ≢ not_made → code ≢ no_seat → code ≡ malloc_refused
-  pub kept : code ≢ done → (new ≡ old) × (new_seat ≡ old_seat)
+  pub still : code ≢ done → (new ≡ old) × (new_seat ≡ old_seat)
 
 -- A seat is made for the last party that has none, if one is left and memory isn't refused.
 pub record TakesSeat {X Y : Type 0} (old new : X) (told : Result Y ℕ) (left : X → ℕ) (joined : X → Y → X) (at : X → Y → Type 0)
@@ -141,7 +141,7 @@ pub record TakesSeat {X Y : Type 0} (old new : X) (told : Result Y ℕ) (left : 
   pub seated : IfOk told (λ party. (old ≡ joined new party) × at new party)
   pub none_left : (told ≡ Err no_seat) ↔ (left old ≡ 0)
   pub else_memory : IfErr told (λ code. code ≢ no_seat → code ≡ malloc_refused)
-  pub kept : OnErr told (new ≡ old)
+  pub still : OnErr told (new ≡ old)
 
 -- where there are both, they are so
 abbrev pub IfBoth : {X Y : Type 0} → Option X → Option Y → (X → Y → Type 0) → Type 0
@@ -162,4 +162,4 @@ pub record GetsSeatBack {X Y : Type 0} (old new : Option X) (old_seat new_seat :
   pub returned : IfBoth old old_seat (λ made party. (after : Y) × leaves party after
       × (code ≡ done) × (new ≡ Some (joined made after)) × (new_seat ≡ None))
   pub empty : (old ≡ None) ⊎ (old_seat ≡ None) → code ≡ not_made
-  pub kept : code ≢ done → (new ≡ old) × (new_seat ≡ old_seat)
+  pub still : code ≢ done → (new ≡ old) × (new_seat ≡ old_seat)

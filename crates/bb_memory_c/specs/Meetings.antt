@@ -15,7 +15,7 @@ pub record AnswersMeet {X : Type 0} (one one_after other other_after : Option X)
   pub met : IfBoth one other (λ a b. (code ≡ done) × (a_after b_after : X)
       × (one_after ≡ Some a_after) × (other_after ≡ Some b_after) × meet a b a_after b_after)
   pub empty : (one ≡ None) ⊎ (other ≡ None) → code ≡ not_made
-  pub kept : code ≢ done → (one_after ≡ one) × (other_after ≡ other)
+  pub still : code ≢ done → (one_after ≡ one) × (other_after ≡ other)
 
 -- the seats are at one bump
 abbrev pub AreAtOneBump : BumpParty → BumpParty → Type 0
@@ -37,7 +37,7 @@ AreAtOnePool one other = one.allocator ≡ other.allocator
 
 -- Two parties of a pool have met, and are what they were: no bucket is held by both.
 pub record PoolsMeet (one other one_after other_after : PoolParty) : Type 0 where
-  pub kept : (one_after ≡ one) × (other_after ≡ other)
+  pub still : (one_after ≡ one) × (other_after ≡ other)
   pub differ : one.number ≢ other.number
   pub apart : (bucket : ℕ) → IsHeldAfter one.log bucket → ¬ IsHeldAfter other.log bucket
   pub interleaved : pool.AreInterleaved one other

@@ -10,7 +10,7 @@ abbrev pub MakesPool : Region → Layout → Option CountedPool → Type 0
 MakesPool region bucket new = (geometry : PoolGeometry)
     × IsCut region bucket geometry × (new ≡ Some (counted (fresh_pool geometry) 0))
 
--- the same of at most 512 buckets
-abbrev pub MakesFixedPool : Region → Layout → Option Pool → Type 0
-MakesFixedPool region bucket new = (whole : PoolGeometry)
+-- the same of at most 512 buckets, in a pool that keeps its flags in itself
+abbrev pub MakesFlagsPool : Region → Layout → Option Pool → Type 0
+MakesFlagsPool region bucket new = (whole : PoolGeometry)
     × IsCut region bucket whole × (new ≡ Some (fresh_pool (at_most 512 whole)))

@@ -29,6 +29,6 @@ pool_row =
     (held_words.ghosts heap.the_row ghosts dict dict)
     (words_set.ghosts heap.the_row ghosts dict dict)
 
-abbrev pub fixed_pool_row : RattleType
-fixed_pool_row = pool.the_row (flags.the_row (number 512)) view.the_row unit (held_flags.ghosts (number 512))
+abbrev pub flags_pool_row : RattleType
+flags_pool_row = pool.the_row (flags.the_row (number 512)) view.the_row unit (held_flags.ghosts (number 512))
     (flags_set.ghosts (number 512))

@@ -35,4 +35,4 @@ pub record BeginsAnew (old new : Option BumpSeats) (code : ℕ) : Type 0 where
   pub empty : (code ≡ not_made) ↔ (old ≡ None)
   pub out : IfSome old (λ seats. (code ≡ seats_out) ↔ (left_at seats < seats.shared.scene.parties))
   pub else_memory : code ≢ done → code ≢ not_made → code ≢ seats_out → code ≡ malloc_refused
-  pub kept : code ≢ done → new ≡ old
+  pub still : code ≢ done → new ≡ old

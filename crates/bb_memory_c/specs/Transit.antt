@@ -75,7 +75,7 @@ pub record TellsHandOver (party : PoolParty) (envelope : Envelope) (place len co
   pub full : MayHandOverChunk party place len → envelope ≢ None → code ≡ envelope_full
   pub handed_over : MayHandOverChunk party place len → envelope ≡ None →
       (code ≡ done) × HasFilled party place len after filled
-  pub kept : code ≢ done → (after ≡ party) × (filled ≡ envelope)
+  pub still : code ≢ done → (after ≡ party) × (filled ≡ envelope)
 
 -- TAKING OVER
 

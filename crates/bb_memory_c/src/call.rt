@@ -23,7 +23,7 @@ use std::alloc::Global;
 /// Whether something is made behind the handle, which stays.
 pub(crate) fn is_made<H: Handle>(handle: &mut H, _alloc: Global) -> bool
     ensures value { IsTrue result ↔ (H.made handle.old ≢ None) }
-    ensures kept { H.made handle.new ≡ H.made handle.old }
+    ensures still { H.made handle.new ≡ H.made handle.old }
 {
     match handle.made_mut() {
         Some(_) => true,
@@ -67,7 +67,7 @@ pub(crate) fn tell<H: Handle, F: Fn(&H::Made) -> Figure>(
     requires { F.IsAlwaysCallable read }
     ensures value { IfSome (H.made handle.old) (λ made. FnReturnsAt F.Fn read made result) }
     ensures not_made { H.made handle.old ≡ None → result ≡ no_figure not_made }
-    ensures kept { H.made handle.new ≡ H.made handle.old }
+    ensures still { H.made handle.new ≡ H.made handle.old }
 {
     match handle.made_mut() {
         Some(made) => read(made),

@@ -19,7 +19,7 @@ impl BumpSeats {
     fn take_bump(&mut self, alloc: Global) -> Option<BumpAllocator>
         requires { ¬ (left_at self.old < self.old.shared.scene.parties) }
         ensures owned { IfSome result (IsOwnedOf self.old) }
-        ensures kept { result ≡ None → self.new ≡ self.old }
+        ensures still { result ≡ None → self.new ≡ self.old }
     {
         let fresh = self.anew(alloc)?;
         let BumpSeats {
@@ -46,7 +46,7 @@ fn own(seats: &mut BumpSeats, alloc: Global) -> Result<Box<BumpAllocator>, u32>
     ensures owned { IfOk result (λ bump. IsOwnedOf seats.old bump.value) }
     ensures out { (result ≡ Err seats_out) ↔ (left_at seats.old < seats.old.shared.scene.parties) }
     ensures else_memory { IfErr result (λ code. code ≢ seats_out → code ≡ malloc_refused) }
-    ensures kept { OnErr result (seats.new ≡ seats.old) }
+    ensures still { OnErr result (seats.new ≡ seats.old) }
 {
     if !seats.are_all_back() {
         return Err(code::SEATS_OUT);

@@ -1,5 +1,5 @@
 //! What is made behind handles: what each kind has to do for a call that is written once over all of them.
-ghost use Rattle.std.specs.Prelude.{◌≡◌, ◌↔◌, ℕ, IsTrue, Result, false, true};
+ghost use Rattle.std.specs.Prelude.{◌≡◌, ◌↔◌, ℕ, IsFalse, IsTrue, Result};
 ghost use Rattle.bb_memory_base.specs.Chunk.{Chunk};
 ghost use Rattle.bb_memory_base.specs.declared.layout.Layout.{Layout as Asked};
 ghost use Rattle.bb_memory_base.specs.declared.allocator.AllocationError.{AllocationError};
@@ -46,8 +46,8 @@ pub(crate) trait Keeps: Gives {
     /// Gives back the chunk at this place where one is held there, and answers whether one was. Else it changes nothing.
     fn give_back(&mut self, place: usize) -> bool
         ensures held { IsTrue result ↔ holds self.old place }
-        ensures freed { result ≡ true → frees self.old place self.new }
-        ensures still { result ≡ false → self.new ≡ self.old };
+        ensures freed { IsTrue result → frees self.old place self.new }
+        ensures still { IsFalse result → self.new ≡ self.old };
 
     /// How many bytes are reserved for the chunk at this place.
     fn reserved_at(&self, place: usize) -> usize

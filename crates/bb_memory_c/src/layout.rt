@@ -8,8 +8,9 @@ ghost use Rattle.bb_memory.specs.Pool.{MayBeCut};
 ghost use Rattle.bb_memory_c.specs.Layouts.{CannotCut, HasRoom, IsCuttable, IsOf};
 
 use crate::code;
+use crate::flags_pool::FlagsPool;
 use bb_memory::layout::Layout;
-use bb_memory::pool_allocator::{FixedSizePoolAllocator, PoolAllocator};
+use bb_memory::pool_allocator::PoolAllocator;
 use std::alloc::Global;
 
 /// The layout of this size and this alignment, if they make one.
@@ -71,5 +72,5 @@ pub(crate) fn has_room(layout: Layout, start: usize, size: usize) -> bool
     requires { MayBeCut (region_at start size) layout }
     ensures { IsTrue result ↔ HasRoom (region_at start size) layout }
 {
-    FixedSizePoolAllocator::<1>::new(layout, start, size).number_of_buckets() > 0
+    FlagsPool::<1>::new(layout, start, size).number_of_buckets() > 0
 }

@@ -8,15 +8,16 @@
 //! - `code`: what the functions answer. `answer`: a chunk or a figure with its code, as C sees it.
 //! - `layout`: layouts of two numbers that C hands in.
 //! - `loose`: a box whose pointer is in sight. `held`: what was made, or nothing.
-//! - `handle`: what the host holds, with a file for each kind: `bump`, `one_chunk`, `pool`, `fixed_pool`, `shared_bump`,
-//!   `bump_seat`, `shared_pool`, `pool_seat` and `envelope`.
-//! - `kind`: what is made behind a handle has to do. `call`: each call, written once over any handle.
-//! - `bump`, `one_chunk`, `pool`, `fixed_pool`: the exported functions of each allocator with one owner.
+//! - `handle`: what the host holds, with a file for each kind: `bump`, `one_chunk`, `pool` (of both pools with one owner),
+//!   `shared_bump`, `bump_seat`, `shared_pool`, `pool_seat` and `envelope`.
+//! - `kind`: what is made behind a handle has to do. `call`: each call, written once over any handle. `by_number`: the two calls
+//!   of what is cut into buckets, from a bucket's number to its place, and back.
+//! - `bump`, `one_chunk`, `pool`, `flags_pool`: the exported functions of each allocator with one owner. For C the last is the
+//!   fixed pool.
 //! - `bump_seat`, `pool_seat`: what a party's seat has, and what it does.
 //! - `shared_bump`, `shared_pool`: the exported functions of what threads share, and of its seats.
 //! - `envelope`: in what buckets go from seat to seat. `transit`: the exported functions for that.
-//! - `by_number`: a bucket's place by its number, and back, of each pool. `meeting`: two seats that meet. `into_owner`: a shared
-//!   bump that has one owner again.
+//! - `meeting`: two seats that meet. `into_owner`: a shared bump that has one owner again.
 //!
 //! Every function of a handle requires this of C: the handle is one variable of the host's, whose address isn't null, both
 //! fields zero before its first use, and nothing else writes it; it is of the kind that the function's type names, all its life;
@@ -34,7 +35,7 @@ mod by_number;
 mod call;
 mod code;
 mod envelope;
-mod fixed_pool;
+mod flags_pool;
 mod handle;
 mod held;
 mod into_owner;

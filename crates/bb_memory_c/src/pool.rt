@@ -5,12 +5,14 @@ ghost use Rattle.bb_memory_base.specs.PoolObject.{MayGrow, MayShrink};
 ghost use Rattle.bb_memory_base.specs.Region.{region_at};
 ghost use Rattle.bb_memory.specs.HeldBuckets.{held_count};
 ghost use Rattle.bb_memory.specs.Pool.{Frees, HoldsPlace, MayBeCut, Takes};
+ghost use Rattle.bb_memory_c.specs.ByNumber.{TellsNumberAt, TellsPlaceAt};
 ghost use Rattle.bb_memory_c.specs.Calls.{AnswersFree, AnswersGrow, AnswersPoolMake, AnswersRequest, AnswersReturn};
 ghost use Rattle.bb_memory_c.specs.Calls.{AnswersShrink, TellsFigure, TellsOfHeld, TellsWhether, resize};
 ghost use Rattle.bb_memory_c.specs.Layouts.{HasRoom};
 ghost use Rattle.bb_memory_c.specs.Pools.{MakesPool};
 
 use crate::answer::{Answer, Figure};
+use crate::by_number::{Cut, number, place};
 use crate::call::{free, give_back, grow, holds, is_made, keep, request, reserved, shrink, tell};
 use crate::code;
 use crate::handle::PoolHandle;
@@ -236,6 +238,28 @@ pub extern "C" fn bb_pool_reserved(alloc: Global, handle: &mut PoolHandle, place
     reserved(handle, alloc, place)
 }
 
+/// Where the bucket of this number begins, held or not, or `BB_NOT_A_BUCKET` where there is no such bucket.
+///
+/// C guarantees of the handle what the crate's page says.
+#[unsafe(no_mangle)]
+pub extern "C" fn bb_pool_place_at(handle: &mut PoolHandle, number: u32) -> Figure
+    ensures { TellsPlaceAt handle.old.value handle.new.value result number
+        (λ pool. pool.pool.geometry) }
+{
+    place(handle, number)
+}
+
+/// The number of the bucket at this place, held or not, or `BB_NOT_A_BUCKET` where no bucket begins there.
+///
+/// C guarantees of the handle what the crate's page says.
+#[unsafe(no_mangle)]
+pub extern "C" fn bb_pool_number_at(handle: &mut PoolHandle, place: usize) -> Figure
+    ensures { TellsNumberAt handle.old.value handle.new.value result place
+        (λ pool. pool.pool.geometry) }
+{
+    number(handle, place)
+}
+
 impl Gives for PoolAllocator<Global> {
     ghost may_give = { λ pool layout answer after. Takes pool.pool layout answer after.pool };
 
@@ -283,5 +307,17 @@ impl Keeps for PoolAllocator<Global> {
         new: Layout,
     ) -> Result<Chunk, AllocationShrinkError> {
         self.shrink(place, old, new)
+    }
+}
+
+impl Cut for PoolAllocator<Global> {
+    ghost geometry = { λ pool. pool.pool.geometry };
+
+    fn place_of(&self, number: u32) -> Option<usize> {
+        self.place_at(number)
+    }
+
+    fn number_of(&self, place: usize) -> Option<u32> {
+        self.number_at(place)
     }
 }

@@ -9,6 +9,7 @@ ghost use Rattle.bb_memory_c.specs.SharedPools.{AreFreshOver, GivesAllBack, Give
 ghost use Rattle.bb_memory_c.specs.SharedPools.{IsCutInto, held_by, return_of};
 ghost use Rattle.bb_memory_c.specs.Seats.{joined, left_at};
 
+use crate::by_number::Cut;
 use crate::code;
 use crate::kind::{Gives, Keeps, Shares};
 use bb_memory::allocator::{AllocationGrowError, AllocationShrinkError};
@@ -163,6 +164,18 @@ impl Keeps for PoolSeat {
         let number = self.held_at(place).unwrap();
         let mut bucket = by_number::bucket(&*self.pool, &self.party, number, 0);
         self.pool.shrink(&mut bucket, old, new)
+    }
+}
+
+impl Cut for PoolSeat {
+    ghost geometry = { λ party. party.allocator.scene.geometry };
+
+    fn place_of(&self, number: u32) -> Option<usize> {
+        self.pool().place_at(number)
+    }
+
+    fn number_of(&self, place: usize) -> Option<u32> {
+        self.pool.number_at(place)
     }
 }
 

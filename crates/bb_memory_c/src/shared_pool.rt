@@ -4,6 +4,7 @@ ghost use Rattle.bb_memory_base.specs.FirstPlace.{first_place};
 ghost use Rattle.bb_memory_base.specs.PoolObject.{MayGrow, MayShrink};
 ghost use Rattle.bb_memory_base.specs.Region.{region_at};
 ghost use Rattle.bb_memory.specs.SharedPool.{IsParty};
+ghost use Rattle.bb_memory_c.specs.ByNumber.{TellsNumberAt, TellsPlaceAt};
 ghost use Rattle.bb_memory_c.specs.Calls.{AnswersFree, AnswersGrow, AnswersPoolMake, AnswersRequest, AnswersReturn};
 ghost use Rattle.bb_memory_c.specs.Calls.{AnswersShrink, GetsSeatBack, GivesSeat, IfBoth, TellsFigure, TellsOfHeld};
 ghost use Rattle.bb_memory_c.specs.Calls.{TellsWhether, resize};
@@ -13,6 +14,7 @@ ghost use Rattle.bb_memory_c.specs.SharedPools.{GivesAllBack, GivesBack, GivesCh
 ghost use Rattle.bb_memory_c.specs.SharedPoolHandles.{MakesSharedPool};
 
 use crate::answer::{Answer, Figure};
+use crate::by_number::{number, place};
 use crate::call::{
     free, give_back, grow, holds, is_made, keep, leave, request, reserved, seat as seat_at, shrink,
     tell,
@@ -390,4 +392,26 @@ pub extern "C" fn bb_pool_seat_reserved(
         (λ party. HoldsPlace party place) (λ party. party.allocator.scene.geometry.bucket.size) }
 {
     reserved(handle, alloc, place)
+}
+
+/// Where the bucket of this number begins, held or not, or `BB_NOT_A_BUCKET` where there is no such bucket.
+///
+/// C guarantees of the handle what the crate's page says.
+#[unsafe(no_mangle)]
+pub extern "C" fn bb_pool_seat_place_at(handle: &mut PoolSeatHandle, number: u32) -> Figure
+    ensures { TellsPlaceAt handle.old.value handle.new.value result number
+        (λ party. party.allocator.scene.geometry) }
+{
+    place(handle, number)
+}
+
+/// The number of the bucket at this place, held or not, or `BB_NOT_A_BUCKET` where no bucket begins there.
+///
+/// C guarantees of the handle what the crate's page says.
+#[unsafe(no_mangle)]
+pub extern "C" fn bb_pool_seat_number_at(handle: &mut PoolSeatHandle, place: usize) -> Figure
+    ensures { TellsNumberAt handle.old.value handle.new.value result place
+        (λ party. party.allocator.scene.geometry) }
+{
+    number(handle, place)
 }

@@ -4,7 +4,6 @@ pub mod Bounds
 pub mod Buckets
 pub mod Bump
 pub mod BumpSteps
-pub mod FixedPool
 pub mod LoanPool
 pub mod OneChunk
 pub mod Parties

@@ -5,7 +5,6 @@ pub mod bounds;
 pub mod buckets;
 pub mod bump;
 pub mod bump_steps;
-pub mod fixed_pool;
 pub mod loan_pool;
 pub mod one_chunk;
 pub mod parties;
@@ -17,10 +16,11 @@ use crate::engine::driven::Driven;
 use crate::engine::driving::drive;
 use crate::kinds::allocators::Live;
 use crate::kinds::loan_pool::LoanPool;
+use crate::kinds::pool::Fixed;
 use crate::status::Status;
 use bb_memory::bump_allocator::BumpAllocator;
 use bb_memory::one_chunk_allocator::OneChunkAllocator;
-use bb_memory::pool_allocator::{FixedSizePoolAllocator, PoolAllocator};
+use bb_memory::pool_allocator::PoolAllocator;
 use bb_memory::steps::{BumpWorld, PoolWorld};
 use std::alloc::Global;
 use std::io::Write;
@@ -30,9 +30,9 @@ pub type AllKinds = (Live<BumpAllocator>, FromOneChunk);
 
 type FromOneChunk = (Live<OneChunkAllocator>, FromPool);
 
-type FromPool = (Live<PoolAllocator<Global>>, FromFixedPool);
+type FromPool = (Live<PoolAllocator<Global>>, FromFixed);
 
-type FromFixedPool = (Live<FixedSizePoolAllocator<512>>, FromBumpSteps);
+type FromFixed = (Live<Fixed>, FromBumpSteps);
 
 type FromBumpSteps = (BumpWorld, FromPoolSteps);
 

@@ -1,9 +1,9 @@
 //! How many buckets a pool holds, and each bucket by its number.
-use super::fixed_pools::fixed_over;
+use super::fixed::{Fixed, fixed_over};
 use super::layouts::layout;
 use super::pools::pool_over;
 use bb_memory::layout::Layout;
-use bb_memory::pool_allocator::{BaseAllocator, FixedSizePoolAllocator, PoolAllocator};
+use bb_memory::pool_allocator::{BaseAllocator, PoolAllocator};
 use std::alloc::Global;
 use std::process::Abort;
 
@@ -50,7 +50,7 @@ impl Buckets for PoolAllocator<Global> {
     }
 }
 
-impl<const N: usize> Buckets for FixedSizePoolAllocator<N> {
+impl<const N: usize> Buckets for Fixed<N> {
     fn take(&mut self, layout: Layout) -> Option<usize> {
         Some(self.allocate(layout).ok()?.place())
     }
@@ -158,7 +158,7 @@ fn pools_count_what_they_hold(rt: HostRuntime) {
 
 /// The same of fixed ones, which have no more buckets than their constant.
 #[test]
-fn fixed_pools_count_what_they_hold(rt: HostRuntime) {
+fn fixed_counts_what_it_holds(rt: HostRuntime) {
     let sixteen = layout(&rt, 16, 8);
     for (region, buckets) in &[(70usize, 66u32), (66, 66), (3, 3), (0, 0)] {
         let pool = fixed_over::<66>(sixteen, 4096, 16 * *region);

@@ -1,12 +1,12 @@
 //! What both pools are: the buckets of a region, and a set of those that are held.
-ghost use Rattle.std.specs.Prelude.{◌≡◌, ℕ, ◌≤◌, ◌↔◌, false, length, true, IsTrue};
+ghost use Rattle.std.specs.Prelude.{◌≡◌, ℕ, ◌≤◌, ◌↔◌, length, IsTrue};
 ghost use Rattle.bb_memory_base.specs.FirstPlace.{first_place};
 ghost use Rattle.bb_memory_base.specs.PoolGeometry.{bucket_place};
 ghost use Rattle.bb_memory_base.specs.PoolObject.{MayGrow, MayShrink};
 ghost use Rattle.bb_memory.specs.Buckets.{TellsNumber, TellsPlace};
 ghost use Rattle.bb_memory.specs.HeldBuckets.{held_count};
 ghost use Rattle.bb_memory.specs.NumberSet.{Lacks};
-ghost use Rattle.bb_memory.specs.Pool.{Frees, HoldsPlace, Takes, pool_of, reads_of};
+ghost use Rattle.bb_memory.specs.Pool.{Frees, FreesIfHeld, HoldsPlace, Takes, pool_of, reads_of};
 
 use super::geometry::Geometry;
 use crate::allocator::{AllocationError, AllocationGrowError, AllocationShrinkError};
@@ -160,9 +160,7 @@ impl<S: IndexSet> Buckets<S> {
     /// Frees the bucket at this place where a held one begins there, and answers whether one did. Else it changes nothing.
     #[inline(always)]
     pub fn free_if_held(&mut self, place: usize) -> bool
-        ensures held { IsTrue result ↔ HoldsPlace self.old place }
-        ensures freed { result ≡ true → Frees self.old place self.new }
-        ensures still { result ≡ false → self.new ≡ self.old }
+        ensures { FreesIfHeld self.old place result self.new }
     {
         let Some(number) = self.geometry.number_at(place) else {
             return false;

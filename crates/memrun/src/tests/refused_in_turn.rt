@@ -61,7 +61,7 @@ fn a_script_of_a_pool(rt: HostRuntime) {
 }
 
 #[test]
-fn a_script_of_a_fixed_pool(rt: HostRuntime) {
+fn a_script_of_kind_fixed(rt: HostRuntime) {
     ends_with_status_4(
         &rt,
         rt.alloc(),

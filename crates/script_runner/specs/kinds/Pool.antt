@@ -1,9 +1,9 @@
--- Scripts that drive a pool.
+-- Scripts that drive a pool, or a fixed one.
 use Rattle.std.specs.Prelude.{ℕ, ◌≡◌, List, ◌++◌, codes}
 use Rattle.std.specs.Fmt.{decimal}
 use Rattle.bb_memory_base.specs.Chunk.{Chunk}
 use Rattle.bb_memory_base.specs.FirstPlace.{first_place}
-use Rattle.bb_memory_base.specs.PoolGeometry.{PoolGeometry, IsCut}
+use Rattle.bb_memory_base.specs.PoolGeometry.{PoolGeometry, IsCut, at_most}
 use Rattle.bb_memory_base.specs.PoolObject.{pool_object}
 use Rattle.bb_memory_base.specs.ResizableObject.{ResizableStep}
 use Rattle.bb_memory_base.specs.Run.{IsRun}
@@ -59,4 +59,25 @@ pool_rules = record {
   opens = BeginsPool;
   runs = CountedPoolRuns;
   state_text = pool_state;
+}
+
+-- the pool's region is cut into the buckets that it has room for, but into at most 512; none is held
+abbrev pub BeginsFixed : PoolPlan → Pool → Type 0
+BeginsFixed plan pool =
+    (whole : PoolGeometry) × IsCut plan.region plan.bucket whole
+    × (pool ≡ fresh_pool (at_most 512 whole))
+
+-- what `show` writes of it
+abbrev pub fixed_state : Pool → ℕ → List ℕ
+fixed_state pool live = codes "fixed" ++ pool_figures pool.geometry live (codes "\n")
+
+-- a fixed pool that a script drives: it begins with no bucket held
+abbrev pub fixed_rules : AllocatorRules Pool PoolPlan
+fixed_rules = record {
+  name = codes "fixed";
+  may_open = IsPoolPlan;
+  opening_text = pool_plan_text;
+  opens = BeginsFixed;
+  runs = PoolRuns;
+  state_text = fixed_state;
 }

@@ -9,6 +9,9 @@ use bb_memory::shared_pool::{
     SharedFixedSizePoolAllocator, SharedPoolAllocator, by_number,
 };
 
+/// The shared pool of at most a constant of buckets.
+pub(super) type SharedFixed<const MOST: usize> = SharedFixedSizePoolAllocator<MOST>;
+
 /// Where a request looks for a bucket.
 #[derive(Clone, Copy)]
 pub(super) enum Request {
@@ -175,7 +178,7 @@ impl SharedBuckets for SharedPoolAllocator {
     }
 }
 
-impl<const MOST: usize> SharedBuckets for SharedFixedSizePoolAllocator<MOST> {
+impl<const MOST: usize> SharedBuckets for SharedFixed<MOST> {
     ghost shown = { λ pool. pool };
 
     fn figures(&self) -> Figures {
@@ -189,7 +192,7 @@ impl<const MOST: usize> SharedBuckets for SharedFixedSizePoolAllocator<MOST> {
     }
 
     fn number_at(&self, place: usize) -> Option<u32> {
-        SharedFixedSizePoolAllocator::<MOST>::number_at(self, place)
+        SharedFixed::<MOST>::number_at(self, place)
     }
 
     fn ask(
@@ -226,7 +229,7 @@ impl<const MOST: usize> SharedBuckets for SharedFixedSizePoolAllocator<MOST> {
         if bucket.chunk().place() % old.align() != 0 {
             return None;
         }
-        Some(SharedFixedSizePoolAllocator::<MOST>::grow(self, bucket, old, new))
+        Some(SharedFixed::<MOST>::grow(self, bucket, old, new))
     }
 
     fn shrink(
@@ -238,14 +241,14 @@ impl<const MOST: usize> SharedBuckets for SharedFixedSizePoolAllocator<MOST> {
         if bucket.chunk().place() % old.align() != 0 || self.bucket_size() < old.size() {
             return None;
         }
-        Some(SharedFixedSizePoolAllocator::<MOST>::shrink(self, bucket, old, new))
+        Some(SharedFixed::<MOST>::shrink(self, bucket, old, new))
     }
 
     fn meet(&self, a: &mut PoolParty, b: &mut PoolParty) {
-        SharedFixedSizePoolAllocator::<MOST>::meet(self, a, b);
+        SharedFixed::<MOST>::meet(self, a, b);
     }
 
     fn meet_all(&self, parties: &mut Vec<PoolParty>) {
-        SharedFixedSizePoolAllocator::<MOST>::meet_all(self, parties);
+        SharedFixed::<MOST>::meet_all(self, parties);
     }
 }

@@ -7,12 +7,10 @@ use crate::tests::pool_rows::{
     ASKED, Answer, Call, NONE_FREE, Row, are_numbered, hold, last_meets, last_ones_meet, users_of,
 };
 use crate::tests::shared_buckets::Request::{self, At, Pass};
-use crate::tests::shared_buckets::{Figures, SharedBuckets};
+use crate::tests::shared_buckets::{Figures, SharedBuckets, SharedFixed};
 use bb_memory::layout::Layout;
-use bb_memory::pool_allocator::{
-    AllocationError, AllocationGrowError, FixedSizePoolAllocator, PoolAllocator,
-};
-use bb_memory::shared_pool::{PoolParty, SharedFixedSizePoolAllocator, SharedPoolAllocator};
+use bb_memory::pool_allocator::{AllocationError, AllocationGrowError, PoolAllocator};
+use bb_memory::shared_pool::{PoolParty, SharedPoolAllocator};
 use std::alloc::Global;
 use std::process::Abort;
 
@@ -44,17 +42,17 @@ pub(super) fn shared_fixed_over<const MOST: usize>(
     start: usize,
     size: usize,
     parties: u32,
-) -> Result<(SharedFixedSizePoolAllocator<MOST>, Vec<PoolParty>), &'static str>
+) -> Result<(SharedFixed<MOST>, Vec<PoolParty>), &'static str>
     requires { MOST < 2 ^ 32 - 1 }
     ensures { IfOk result (λ made. All (λ party. party.allocator ≡ made.0) made.1.items) }
 {
     let Ok(bucket) = Layout::from_size_align(128, 8) else {
         return Err("no such layout");
     };
-    if parties == 0 || !FixedSizePoolAllocator::<MOST>::can_make(bucket, start, size) {
+    if parties == 0 || !PoolAllocator::can_make(bucket, start, size) {
         return Err("no pool can be made of that");
     }
-    match SharedFixedSizePoolAllocator::<MOST>::new(alloc, bucket, start, size, parties) {
+    match SharedFixed::<MOST>::new(alloc, bucket, start, size, parties) {
         Ok(made) => Ok(made),
         Err(AllocationError::OutOfMemory) => Err(REFUSED),
         Err(_) => Err("another cause"),
@@ -389,7 +387,7 @@ fn shared_fixed_some_meet(rt: &impl Abort, alloc: Global, count: usize) {
 }
 
 #[test]
-fn all_parties_of_a_shared_fixed_pool_meet(rt: HostRuntime) {
+fn shared_fixed_all_parties_meet(rt: HostRuntime) {
     for count in [0, 1, 2, 3] {
         shared_fixed_some_meet(&rt, rt.alloc(), count);
     }

@@ -1,12 +1,11 @@
 //! Buckets of shared pools that go from party to party.
 ghost use Rattle.std.specs.Prelude.{◌≡◌, ◌-◌, ◌<◌, ◌^◌, All, IfOk, true};
 
+use crate::tests::shared_buckets::SharedFixed;
 use crate::tests::shared_pools::{REFUSED, shared_over};
 use bb_memory::layout::{Chunk, Layout};
-use bb_memory::pool_allocator::{AllocationError, FixedSizePoolAllocator, PoolAllocator};
-use bb_memory::shared_pool::{
-    BucketInTransit, PoolParty, SharedFixedSizePoolAllocator, SharedPoolAllocator,
-};
+use bb_memory::pool_allocator::{AllocationError, PoolAllocator};
+use bb_memory::shared_pool::{BucketInTransit, PoolParty, SharedPoolAllocator};
 use std::alloc::Global;
 use std::process::Abort;
 use std::test::Fail;
@@ -40,7 +39,7 @@ pub(super) fn posted_fixed_over<const MOST: usize>(
     start: usize,
     size: usize,
     parties: u32,
-) -> Result<(SharedFixedSizePoolAllocator<MOST>, Vec<PoolParty>), &'static str>
+) -> Result<(SharedFixed<MOST>, Vec<PoolParty>), &'static str>
     requires { MOST < 2 ^ 32 - 1 }
     ensures theirs { IfOk result (λ made. All (λ party. party.allocator ≡ made.0) made.1.items) }
     ensures post { IfOk result (λ made. made.0.has_post ≡ true) }
@@ -48,13 +47,10 @@ pub(super) fn posted_fixed_over<const MOST: usize>(
     let Ok(bucket) = Layout::from_size_align(128, 8) else {
         return Err("no such layout");
     };
-    if parties == 0
-        || parties == u32::MAX
-        || !FixedSizePoolAllocator::<MOST>::can_make(bucket, start, size)
-    {
+    if parties == 0 || parties == u32::MAX || !PoolAllocator::can_make(bucket, start, size) {
         return Err("no pool can be made of that");
     }
-    match SharedFixedSizePoolAllocator::<MOST>::with_post(alloc, bucket, start, size, parties) {
+    match SharedFixed::<MOST>::with_post(alloc, bucket, start, size, parties) {
         Ok(made) => Ok(made),
         Err(AllocationError::OutOfMemory) => Err(REFUSED),
         Err(_) => Err("another cause"),
@@ -217,7 +213,7 @@ fn shared_pool_dropped_in_transit(rt: HostRuntime) -> Result<(), Fail> {
 /// The calls of the next test on a pool of at most four buckets.
 fn there_and_back(
     rt: &impl Abort,
-    pool: &SharedFixedSizePoolAllocator<4>,
+    pool: &SharedFixed<4>,
     party: &mut PoolParty,
     asked: Layout,
 ) -> Result<(), AllocationError>

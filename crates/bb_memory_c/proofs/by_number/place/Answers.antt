@@ -7,7 +7,7 @@ returns-in-Some-place_of g c = let is = c.in-Some.ensures.value in record {
   there = at_made _ _ _ is (search rules);
   none = at_made _ _ _ is (search rules);
   empty = search rules;
-  kept = at_lent _ _ c.in-Some.is (c.made_mut.follows.holds _) ∙ sym is;
+  still = at_lent _ _ c.in-Some.is (c.made_mut.follows.holds _) ∙ sym is;
 }
 
 pub returns-in-None : goal.returns-in-None
@@ -15,5 +15,5 @@ returns-in-None g c = let is = c.in-Some.ensures.value in record {
   there = at_made _ _ _ is (search rules);
   none = at_made _ _ _ is (search rules);
   empty = search rules;
-  kept = at_lent _ _ c.in-Some.is (c.made_mut.follows.holds _) ∙ sym is;
+  still = at_lent _ _ c.in-Some.is (c.made_mut.follows.holds _) ∙ sym is;
 }

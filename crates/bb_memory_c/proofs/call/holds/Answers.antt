@@ -7,5 +7,5 @@ returns-in-Some g c = let is = c.in-Some.ensures.value in record {
   yes = at_made _ _ _ is (search rules);
   no = at_made _ _ _ is (search rules);
   empty = search rules;
-  kept = at_lent _ _ c.in-Some.is (c.made_mut.follows.holds _) ∙ sym is;
+  still = at_lent _ _ c.in-Some.is (c.made_mut.follows.holds _) ∙ sym is;
 }

@@ -7,7 +7,7 @@ returns-in_default-take g c = let is = c.in-Some.ensures.value in
     let same = at_lent _ _ c.in-Some.is (c.made_mut.follows.holds _) ∙ sym is in record {
       returned = at_made _ _ _ is (at_none _ _ c.in_default-take.ensures.value);
       empty = λ _. refl;
-      kept = search rules;
+      still = search rules;
     }
 
 pub take_back-requires : goal.take_back-requires
@@ -20,5 +20,5 @@ returns g c = let is = c.in-Some.ensures.value in let seat_is = c.in-Some-take.e
     let new = at_lent _ _ c.in-Some.is (c.made_mut.follows.holds c.take_back.new.self) in record {
       returned = at_made _ _ _ is (at_made _ _ _ seat_is (search rules));
       empty = search rules;
-      kept = λ not. absurd (not refl);
+      still = λ not. absurd (not refl);
     }

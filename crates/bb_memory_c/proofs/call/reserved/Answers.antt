@@ -7,7 +7,7 @@ returns-in-Some g c = let is = c.in-Some.ensures.value in record {
   number = at_made _ _ _ is (search rules);
   nothing = at_made _ _ _ is (search rules);
   empty = search rules;
-  kept = at_lent _ _ c.in-Some.is (c.made_mut.follows.holds _) ∙ sym is;
+  still = at_lent _ _ c.in-Some.is (c.made_mut.follows.holds _) ∙ sym is;
 }
 
 pub returns-in-Some-2 : goal.returns-in-Some-2
@@ -15,5 +15,5 @@ returns-in-Some-2 g c = let is = c.in-Some.ensures.value in record {
   number = at_made _ _ _ is (search rules);
   nothing = at_made _ _ _ is (search rules);
   empty = search rules;
-  kept = at_lent _ _ c.in-Some.is (c.made_mut.follows.holds _) ∙ sym is;
+  still = at_lent _ _ c.in-Some.is (c.made_mut.follows.holds _) ∙ sym is;
 }

@@ -11,7 +11,7 @@ returns-in-Ok g c = let is = c.in-Some.ensures.value in
       empty = search rules;
       none_left = at_made _ _ _ is (search rules);
       else_memory = λ not. absurd (not refl);
-      kept = λ not. absurd (not refl);
+      still = λ not. absurd (not refl);
     }
 
 pub returns-in-Err : goal.returns-in-Err
@@ -23,5 +23,5 @@ returns-in-Err g c = let is = c.in-Some.ensures.value in
       empty = search rules;
       none_left = at_made _ _ _ is (search rules);
       else_memory = search rules;
-      kept = search rules;
+      still = search rules;
     }

@@ -10,5 +10,5 @@ returns-in-Some g c = let is = c.in-Some.ensures.value in
       no_layout =
           at_made _ _ _ is (λ none. is_told_none _ _ _ (c.layouts_of-layouts.ensures.none none) c.shrink_one.ensures.answer);
       empty = search rules;
-      kept = search rules;
+      still = search rules;
     }

@@ -7,7 +7,7 @@ returns-in_default-made_mut g c = let is = c.in-Some.ensures.value in
     let same = at_lent _ _ c.in-Some.is (c.made_mut.follows.holds _) ∙ sym is in record {
       met = at_made _ _ _ is (at_none _ _ c.in_default-made_mut.ensures.value);
       empty = λ _. refl;
-      kept = search rules;
+      still = search rules;
     }
 
 pub returns : goal.returns
@@ -17,5 +17,5 @@ returns g c = let is = c.in-Some.ensures.value in let other_is = c.in-Some-made_
       met = at_made _ _ _ is (at_made _ _ _ other_is
           (refl, c.meet.new.self, c.meet.new.other, new, other_new, c.meet.ensures));
       empty = search rules;
-      kept = λ not. absurd (not refl);
+      still = λ not. absurd (not refl);
     }

@@ -21,7 +21,7 @@ returns-in-Err c = let region : Region = region_at c.args.start c.args.size in r
         (lacks-layout c.args.bucket_size c.args.bucket_align (MayBeCut region) (HasRoom region) lacks.1))))),
   );
   else_memory = search rules;
-  kept = search rules;
+  still = search rules;
 }
 
 pub returns-then-not-has_room : goal.returns-then-not-has_room
@@ -38,7 +38,7 @@ returns-then-not-has_room c = let region : Region = region_at c.args.start c.arg
     λ _. refl,
   );
   else_memory = search rules;
-  kept = search rules;
+  still = search rules;
 }
 
 pub returns-in_default : goal.returns-in_default
@@ -53,7 +53,7 @@ returns-in_default c = let region : Region = region_at c.args.start c.args.size 
         c.in-Ok.ensures.cut.layout (search rules) lacks.1,
   );
   else_memory = search rules;
-  kept = search rules;
+  still = search rules;
 }
 
 pub returns : goal.returns
@@ -74,5 +74,5 @@ returns c = let region : Region = region_at c.args.start c.args.size in record {
         c.in-Ok.ensures.cut.layout (search rules) lacks.1,
   );
   else_memory = search rules;
-  kept = search rules;
+  still = search rules;
 }

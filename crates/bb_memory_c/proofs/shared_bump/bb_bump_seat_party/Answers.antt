@@ -6,7 +6,7 @@ pub returns-in-Some-clause-figure : goal.returns-in-Some-clause-figure
 returns-in-Some-clause-figure c = let is = c.in-Some.ensures.value in record {
   number = at_made _ _ _ is (search rules);
   empty = search rules;
-  kept = at_lent _ _ c.in-Some.is (c.made_mut.follows.holds _) ∙ sym is;
+  still = at_lent _ _ c.in-Some.is (c.made_mut.follows.holds _) ∙ sym is;
 }
 
 pub returns-in-Some-clause-is_party : goal.returns-in-Some-clause-is_party

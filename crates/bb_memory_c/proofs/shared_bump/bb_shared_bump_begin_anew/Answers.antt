@@ -10,5 +10,5 @@ returns-in-Some c = let is = c.in-Some.ensures.value in
       empty = search rules;
       out = at_made _ _ _ is (search rules);
       else_memory = search rules;
-      kept = search rules;
+      still = search rules;
     }

@@ -27,7 +27,7 @@ returns-in-Err c =
             (lacks-layout c.args.bucket_size c.args.bucket_align (MayBeShared region least) (HasRoom region) lacks.1))))),
       );
       else_memory = search rules;
-      kept = search rules;
+      still = search rules;
     }
 
 pub returns-then-least-eq0 : goal.returns-then-least-eq0
@@ -47,7 +47,7 @@ returns-then-least-eq0 c = record {
     λ lacks. absurd (omega (arith, c.if-least-eq0.true, lacks.1.2.0)),
   );
   else_memory = search rules;
-  kept = search rules;
+  still = search rules;
 }
 
 pub returns-then-not-has_room : goal.returns-then-not-has_room
@@ -70,7 +70,7 @@ returns-then-not-has_room c =
         λ _. refl,
       );
       else_memory = search rules;
-      kept = search rules;
+      still = search rules;
     }
 
 pub returns-in_default : goal.returns-in_default
@@ -91,7 +91,7 @@ returns-in_default c =
             c.in-Ok.bucket c.in-Ok.ensures.cut.layout (search rules) lacks.1,
       );
       else_memory = search rules;
-      kept = search rules;
+      still = search rules;
     }
 
 pub returns : goal.returns
@@ -118,5 +118,5 @@ returns c =
             c.in-Ok.bucket c.in-Ok.ensures.cut.layout (search rules) lacks.1,
       );
       else_memory = search rules;
-      kept = search rules;
+      still = search rules;
     }

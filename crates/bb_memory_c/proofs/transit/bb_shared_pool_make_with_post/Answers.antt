@@ -30,7 +30,7 @@ returns-in-Err c =
             lacks.1))))),
       );
       else_memory = search rules;
-      kept = search rules;
+      still = search rules;
     }
 
 pub returns-then-not-may_have_post : goal.returns-then-not-may_have_post
@@ -51,7 +51,7 @@ returns-then-not-may_have_post c =
         λ lacks. absurd (not (lacks.1.2.some, lacks.1.2.one_more)),
       );
       else_memory = search rules;
-      kept = search rules;
+      still = search rules;
     }
 
 pub returns-then-not-has_room : goal.returns-then-not-has_room
@@ -79,7 +79,7 @@ returns-then-not-has_room c =
         λ _. refl,
       );
       else_memory = search rules;
-      kept = search rules;
+      still = search rules;
     }
 
 pub returns-in_default : goal.returns-in_default
@@ -99,7 +99,7 @@ returns-in_default c =
             c.in-Ok.bucket c.in-Ok.ensures.cut.layout (search rules) lacks.1,
       );
       else_memory = search rules;
-      kept = search rules;
+      still = search rules;
     }
 
 pub returns : goal.returns
@@ -125,5 +125,5 @@ returns c =
             c.in-Ok.bucket c.in-Ok.ensures.cut.layout (search rules) lacks.1,
       );
       else_memory = search rules;
-      kept = search rules;
+      still = search rules;
     }

@@ -125,7 +125,7 @@ fn a_shared_pool(rt: HostRuntime) {
 }
 
 #[test]
-fn a_shared_fixed_pool(rt: HostRuntime) {
+fn shared_fixed(rt: HostRuntime) {
     let first = [
         (1, Keep(Pass, (128, 8)), Bucket(0, 4096, 128)),
         (1, GiveBack, Nothing),
@@ -159,7 +159,7 @@ fn a_bucket_by_number(rt: HostRuntime) {
 
 /// The same of a shared fixed pool, and a bucket that shrinks.
 #[test]
-fn a_bucket_of_a_fixed_pool(rt: HostRuntime) {
+fn shared_fixed_bucket(rt: HostRuntime) {
     let rows = [
         (0, Keep(Pass, (128, 8)), Bucket(0, 4096, 128)),
         (0, FindAgain(0), Bucket(0, 4096, 0)),

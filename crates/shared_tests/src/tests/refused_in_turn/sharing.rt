@@ -4,14 +4,14 @@ ghost use Rattle.std.specs.Prelude.{◌≡◌, All, IfOk, true};
 use super::was_refused;
 use crate::tests::bump_rows::figures_of;
 use crate::tests::pool_rows::{Row, hold, users_of};
-use crate::tests::shared_buckets::SharedBuckets;
+use crate::tests::shared_buckets::{SharedBuckets, SharedFixed};
 use crate::tests::shared_bumps::two_parties;
 use crate::tests::shared_pools::{DROPPED_BUCKET, FOUR_BUCKETS, shared_fixed_over, shared_over};
 use crate::tests::transit::{message_layout, two_in_transit, two_of};
 use allocator_tests::marks::some_was_refused;
 use bb_memory::bump_allocator::{AllocationError, BumpAllocator};
 use bb_memory::shared_bump::{BumpParty, SharedBumpAllocator};
-use bb_memory::shared_pool::{PoolParty, SharedFixedSizePoolAllocator, SharedPoolAllocator};
+use bb_memory::shared_pool::{PoolParty, SharedPoolAllocator};
 use std::alloc::Global;
 use std::process::Abort;
 use std::test::Fail;
@@ -88,7 +88,7 @@ fn shared_pool_dropped_bucket(rt: HostRuntime) {
 fn four_buckets(
     rt: &impl Abort,
     alloc: Global,
-) -> Result<(SharedFixedSizePoolAllocator<4>, Vec<PoolParty>), &'static str>
+) -> Result<(SharedFixed<4>, Vec<PoolParty>), &'static str>
     ensures { IfOk result (λ made. All (λ party. party.allocator ≡ made.0) made.1.items) }
 {
     match shared_fixed_over::<4>(alloc, 4096, 1024, 1) {

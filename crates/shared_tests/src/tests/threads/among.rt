@@ -11,9 +11,7 @@ use std::thread;
 use std::thread::Threads;
 
 /// A pool of eight buckets of 128 bytes, with four parties. The part of each party is two buckets.
-fn eight_for_four(
-    alloc: Global,
-) -> Result<(SharedPoolAllocator, Vec<PoolParty>), AllocationError>
+fn eight_for_four(alloc: Global) -> Result<(SharedPoolAllocator, Vec<PoolParty>), AllocationError>
     ensures all { IfOk result (λ made. AreAllOf made.0 made.1.items) }
     ensures four { IfOk result (λ made. made.0.scene.parties ≡ 4) }
 {

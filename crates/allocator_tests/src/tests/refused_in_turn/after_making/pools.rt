@@ -1,7 +1,7 @@
 //! The pools of one owner.
 use super::keep_without_memory;
 use crate::marks::{none_was_asked, refuse_memory};
-use crate::tests::fixed_pools::{fixed_over, fixed_owner};
+use crate::tests::fixed::{fixed_over, fixed_owner};
 use crate::tests::layouts::layout;
 use crate::tests::owner::{Answer, Call, Step};
 use crate::tests::pools::{memory_size, pool_owner};
@@ -52,7 +52,7 @@ fn getters_of_a_pool(rt: HostRuntime) {
 }
 
 #[test]
-fn calls_of_a_fixed_pool(rt: HostRuntime) {
+fn fixed_calls(rt: HostRuntime) {
     let mut steps = [Step::Call(Call::Deallocate(0), Answer::Done); 8];
     steps[..7].copy_from_slice(&TABLE);
     keep_without_memory(
@@ -64,7 +64,7 @@ fn calls_of_a_fixed_pool(rt: HostRuntime) {
 }
 
 #[test]
-fn getters_of_a_fixed_pool(rt: HostRuntime) {
+fn fixed_getters(rt: HostRuntime) {
     let steps = [Step::Figures([2, 64, 32, 8, 0]), Step::Laws];
     keep_without_memory(
         &rt,

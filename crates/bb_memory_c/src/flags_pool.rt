@@ -1,18 +1,20 @@
-//! A pool of at most 512 buckets behind a handle.
+//! A pool that keeps its flags in itself behind a handle: for C the fixed pool, of at most 512 buckets.
 ghost use Rattle.std.specs.Prelude.{◌≡◌};
 ghost use Rattle.bb_memory_base.specs.PoolObject.{MayGrow, MayShrink};
 ghost use Rattle.bb_memory_base.specs.Region.{region_at};
 ghost use Rattle.bb_memory.specs.HeldBuckets.{held_count};
 ghost use Rattle.bb_memory.specs.Pool.{Frees, HoldsPlace, MayBeCut, Takes};
+ghost use Rattle.bb_memory_c.specs.ByNumber.{TellsNumberAt, TellsPlaceAt};
 ghost use Rattle.bb_memory_c.specs.Calls.{AnswersFree, AnswersGrow, AnswersPoolMake, AnswersRequest, AnswersReturn};
 ghost use Rattle.bb_memory_c.specs.Calls.{AnswersShrink, TellsFigure, TellsOfHeld, TellsWhether, resize};
 ghost use Rattle.bb_memory_c.specs.Layouts.{HasRoom};
-ghost use Rattle.bb_memory_c.specs.Pools.{MakesFixedPool};
+ghost use Rattle.bb_memory_c.specs.Pools.{MakesFlagsPool};
 
 use crate::answer::{Answer, Figure};
+use crate::by_number::{Cut, number, place};
 use crate::call::{free, give_back, grow, holds, is_made, keep, request, reserved, shrink, tell};
 use crate::code;
-use crate::handle::FixedPoolHandle;
+use crate::handle::FlagsPoolHandle;
 use crate::kind::{Gives, Keeps};
 use crate::layout::{cut_into, has_room};
 use bb_memory::layout::{Chunk, Layout};
@@ -22,6 +24,9 @@ use bb_memory::pool_allocator::{
 };
 use std::alloc::Global;
 
+/// A pool of at most so many buckets. Which are held it keeps in flags of its own, and so it takes no memory beside itself.
+pub(crate) type FlagsPool<const MOST: usize> = FixedSizePoolAllocator<MOST>;
+
 /// Makes a pool over the region of `size` bytes at `start`, behind a handle that has to be empty. The region is cut into
 /// buckets of `bucket_size` bytes at multiples of `bucket_align`, at most 512 of them, and has to have room for one.
 ///
@@ -29,7 +34,7 @@ use std::alloc::Global;
 #[unsafe(no_mangle)]
 pub extern "C" fn bb_fixed_pool_make(
     alloc: Global,
-    handle: &mut FixedPoolHandle,
+    handle: &mut FlagsPoolHandle,
     bucket_size: usize,
     bucket_align: usize,
     start: usize,
@@ -37,7 +42,7 @@ pub extern "C" fn bb_fixed_pool_make(
 ) -> u32
     ensures { AnswersPoolMake handle.old.value handle.new.value bucket_size bucket_align result
         (MayBeCut (region_at start size)) (HasRoom (region_at start size))
-        (MakesFixedPool (region_at start size)) }
+        (MakesFlagsPool (region_at start size)) }
 {
     if is_made(handle, alloc) {
         return code::ALREADY_MADE;
@@ -49,18 +54,14 @@ pub extern "C" fn bb_fixed_pool_make(
     if !has_room(bucket, start, size) {
         return code::NO_BUCKET;
     }
-    keep(
-        handle,
-        alloc,
-        FixedSizePoolAllocator::<512>::new(bucket, start, size),
-    )
+    keep(handle, alloc, FlagsPool::<512>::new(bucket, start, size))
 }
 
 /// Frees the pool, whose handle is empty then. The answer is 0, or `BB_NOT_MADE` where it was empty already.
 ///
 /// C guarantees of the handle what the crate's page says.
 #[unsafe(no_mangle)]
-pub extern "C" fn bb_fixed_pool_free(alloc: Global, handle: &mut FixedPoolHandle) -> u32
+pub extern "C" fn bb_fixed_pool_free(alloc: Global, handle: &mut FlagsPoolHandle) -> u32
     ensures { AnswersFree handle.old.value handle.new.value result }
 {
     free(handle, alloc)
@@ -72,7 +73,7 @@ pub extern "C" fn bb_fixed_pool_free(alloc: Global, handle: &mut FixedPoolHandle
 #[unsafe(no_mangle)]
 pub extern "C" fn bb_fixed_pool_allocate(
     alloc: Global,
-    handle: &mut FixedPoolHandle,
+    handle: &mut FlagsPoolHandle,
     size: usize,
     align: usize,
 ) -> Answer
@@ -89,7 +90,7 @@ pub extern "C" fn bb_fixed_pool_allocate(
 #[unsafe(no_mangle)]
 pub extern "C" fn bb_fixed_pool_deallocate(
     alloc: Global,
-    handle: &mut FixedPoolHandle,
+    handle: &mut FlagsPoolHandle,
     place: usize,
 ) -> u32
     ensures { AnswersReturn handle.old.value handle.new.value result
@@ -104,7 +105,7 @@ pub extern "C" fn bb_fixed_pool_deallocate(
 #[unsafe(no_mangle)]
 pub extern "C" fn bb_fixed_pool_holds(
     alloc: Global,
-    handle: &mut FixedPoolHandle,
+    handle: &mut FlagsPoolHandle,
     place: usize,
 ) -> Figure
     ensures { TellsWhether handle.old.value handle.new.value result
@@ -119,7 +120,7 @@ pub extern "C" fn bb_fixed_pool_holds(
 #[unsafe(no_mangle)]
 pub extern "C" fn bb_fixed_pool_number_of_buckets(
     alloc: Global,
-    handle: &mut FixedPoolHandle,
+    handle: &mut FlagsPoolHandle,
 ) -> Figure
     ensures { TellsFigure handle.old.value handle.new.value result (λ pool. pool.geometry.buckets) }
 {
@@ -134,7 +135,7 @@ pub extern "C" fn bb_fixed_pool_number_of_buckets(
 ///
 /// C guarantees of the handle what the crate's page says.
 #[unsafe(no_mangle)]
-pub extern "C" fn bb_fixed_pool_held_buckets(alloc: Global, handle: &mut FixedPoolHandle) -> Figure
+pub extern "C" fn bb_fixed_pool_held_buckets(alloc: Global, handle: &mut FlagsPoolHandle) -> Figure
     ensures { TellsFigure handle.old.value handle.new.value result held_count }
 {
     tell(
@@ -148,7 +149,7 @@ pub extern "C" fn bb_fixed_pool_held_buckets(alloc: Global, handle: &mut FixedPo
 ///
 /// C guarantees of the handle what the crate's page says.
 #[unsafe(no_mangle)]
-pub extern "C" fn bb_fixed_pool_bucket_size(alloc: Global, handle: &mut FixedPoolHandle) -> Figure
+pub extern "C" fn bb_fixed_pool_bucket_size(alloc: Global, handle: &mut FlagsPoolHandle) -> Figure
     ensures { TellsFigure handle.old.value handle.new.value result
         (λ pool. pool.geometry.bucket.size) }
 {
@@ -159,7 +160,7 @@ pub extern "C" fn bb_fixed_pool_bucket_size(alloc: Global, handle: &mut FixedPoo
 ///
 /// C guarantees of the handle what the crate's page says.
 #[unsafe(no_mangle)]
-pub extern "C" fn bb_fixed_pool_max_alignment(alloc: Global, handle: &mut FixedPoolHandle) -> Figure
+pub extern "C" fn bb_fixed_pool_max_alignment(alloc: Global, handle: &mut FlagsPoolHandle) -> Figure
     ensures { TellsFigure handle.old.value handle.new.value result
         (λ pool. pool.geometry.bucket.align) }
 {
@@ -170,7 +171,7 @@ pub extern "C" fn bb_fixed_pool_max_alignment(alloc: Global, handle: &mut FixedP
 ///
 /// C guarantees of the handle what the crate's page says.
 #[unsafe(no_mangle)]
-pub extern "C" fn bb_fixed_pool_size(alloc: Global, handle: &mut FixedPoolHandle) -> Figure
+pub extern "C" fn bb_fixed_pool_size(alloc: Global, handle: &mut FlagsPoolHandle) -> Figure
     ensures { TellsFigure handle.old.value handle.new.value result
         (λ pool. pool.geometry.region.size) }
 {
@@ -183,7 +184,7 @@ pub extern "C" fn bb_fixed_pool_size(alloc: Global, handle: &mut FixedPoolHandle
 #[unsafe(no_mangle)]
 pub extern "C" fn bb_fixed_pool_grow(
     alloc: Global,
-    handle: &mut FixedPoolHandle,
+    handle: &mut FlagsPoolHandle,
     place: usize,
     old_size: usize,
     old_align: usize,
@@ -206,7 +207,7 @@ pub extern "C" fn bb_fixed_pool_grow(
 #[unsafe(no_mangle)]
 pub extern "C" fn bb_fixed_pool_shrink(
     alloc: Global,
-    handle: &mut FixedPoolHandle,
+    handle: &mut FlagsPoolHandle,
     place: usize,
     old_size: usize,
     old_align: usize,
@@ -230,7 +231,7 @@ pub extern "C" fn bb_fixed_pool_shrink(
 #[unsafe(no_mangle)]
 pub extern "C" fn bb_fixed_pool_reserved(
     alloc: Global,
-    handle: &mut FixedPoolHandle,
+    handle: &mut FlagsPoolHandle,
     place: usize,
 ) -> Figure
     ensures { TellsOfHeld handle.old.value handle.new.value result
@@ -239,7 +240,29 @@ pub extern "C" fn bb_fixed_pool_reserved(
     reserved(handle, alloc, place)
 }
 
-impl Gives for FixedSizePoolAllocator<512> {
+/// Where the bucket of this number begins, held or not, or `BB_NOT_A_BUCKET` where there is no such bucket.
+///
+/// C guarantees of the handle what the crate's page says.
+#[unsafe(no_mangle)]
+pub extern "C" fn bb_fixed_pool_place_at(handle: &mut FlagsPoolHandle, number: u32) -> Figure
+    ensures { TellsPlaceAt handle.old.value handle.new.value result number
+        (λ pool. pool.geometry) }
+{
+    place(handle, number)
+}
+
+/// The number of the bucket at this place, held or not, or `BB_NOT_A_BUCKET` where no bucket begins there.
+///
+/// C guarantees of the handle what the crate's page says.
+#[unsafe(no_mangle)]
+pub extern "C" fn bb_fixed_pool_number_at(handle: &mut FlagsPoolHandle, place: usize) -> Figure
+    ensures { TellsNumberAt handle.old.value handle.new.value result place
+        (λ pool. pool.geometry) }
+{
+    number(handle, place)
+}
+
+impl Gives for FlagsPool<512> {
     ghost may_give = { Takes };
 
     fn give(&mut self, layout: Layout) -> Result<Chunk, AllocationError> {
@@ -247,7 +270,7 @@ impl Gives for FixedSizePoolAllocator<512> {
     }
 }
 
-impl Keeps for FixedSizePoolAllocator<512> {
+impl Keeps for FlagsPool<512> {
     ghost holds = { λ pool place. HoldsPlace pool place };
 
     ghost frees = { λ pool place after. Frees pool place after };
@@ -286,5 +309,17 @@ impl Keeps for FixedSizePoolAllocator<512> {
         new: Layout,
     ) -> Result<Chunk, AllocationShrinkError> {
         self.shrink(place, old, new)
+    }
+}
+
+impl Cut for FlagsPool<512> {
+    ghost geometry = { λ pool. pool.geometry };
+
+    fn place_of(&self, number: u32) -> Option<usize> {
+        self.place_at(number)
+    }
+
+    fn number_of(&self, place: usize) -> Option<u32> {
+        self.number_at(place)
     }
 }

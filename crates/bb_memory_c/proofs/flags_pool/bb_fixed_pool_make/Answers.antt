@@ -3,7 +3,7 @@ use Rattle.bb_memory_base.specs.Region.{Region, region_at}
 use Rattle.bb_memory.specs.Pool.{MayBeCut}
 use Rattle.bb_memory_c.specs.Layouts.{HasRoom}
 use Rattle.bb_memory_c.proofs.Layouts.{cut-or-not, lacks-cut, lacks-layout, room-or-not, same_Err}
-use Rattle.bb_memory_c.proofs.fixed_pool.bb_fixed_pool_make.Goals as goal
+use Rattle.bb_memory_c.proofs.flags_pool.bb_fixed_pool_make.Goals as goal
 
 pub returns-in-Err : goal.returns-in-Err
 returns-in-Err c = let region : Region = region_at c.args.start c.args.size in record {
@@ -21,7 +21,7 @@ returns-in-Err c = let region : Region = region_at c.args.start c.args.size in r
         (lacks-layout c.args.bucket_size c.args.bucket_align (MayBeCut region) (HasRoom region) lacks.1))))),
   );
   else_memory = search rules;
-  kept = search rules;
+  still = search rules;
 }
 
 pub returns-then-not-has_room : goal.returns-then-not-has_room
@@ -38,7 +38,7 @@ returns-then-not-has_room c = let region : Region = region_at c.args.start c.arg
     λ _. refl,
   );
   else_memory = search rules;
-  kept = search rules;
+  still = search rules;
 }
 
 pub returns : goal.returns
@@ -59,5 +59,5 @@ returns c = let region : Region = region_at c.args.start c.args.size in record {
         c.in-Ok.ensures.cut.layout (search rules) lacks.1,
   );
   else_memory = search rules;
-  kept = search rules;
+  still = search rules;
 }

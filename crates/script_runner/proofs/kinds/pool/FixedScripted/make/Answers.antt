@@ -1,4 +1,4 @@
-use Rattle.script_runner.proofs.kinds.fixed_pool.FixedSizePoolAllocator512Scripted.make.Goals as goal
+use Rattle.script_runner.proofs.kinds.pool.FixedScripted.make.Goals as goal
 
 pub returns-clause-opens : goal.returns-clause-opens
 returns-clause-opens c =

@@ -12,19 +12,22 @@ use bb_memory::pool_allocator::{AllocationError, AllocationGrowError, FixedSizeP
 use std::alloc::Global;
 use std::process::Abort;
 
+/// The fixed pool of these tests.
+pub(super) type Fixed<const N: usize> = FixedSizePoolAllocator<N>;
+
 /// A fixed pool over a region.
 pub(super) fn fixed_over<const N: usize>(
     bucket: Layout,
     start: usize,
     size: usize,
-) -> Result<FixedSizePoolAllocator<N>, &'static str>
+) -> Result<Fixed<N>, &'static str>
     ensures empty { IfOk result (λ pool. StandsFor pool []) }
     ensures region { IfOk result (λ pool. pool.geometry.region ≡ region_at start size) }
 {
-    if !FixedSizePoolAllocator::<N>::can_make(bucket, start, size) {
+    if !Fixed::<N>::can_make(bucket, start, size) {
         return Err("no pool can be made of that");
     }
-    Ok(FixedSizePoolAllocator::new(bucket, start, size))
+    Ok(Fixed::new(bucket, start, size))
 }
 
 /// The owner of a fixed pool over a region. Its buckets have this size and this alignment.
@@ -33,7 +36,7 @@ pub(super) fn fixed_owner<const N: usize>(
     bucket: (usize, usize),
     start: usize,
     size: usize,
-) -> Result<Owner<FixedSizePoolAllocator<N>>, &'static str> {
+) -> Result<Owner<Fixed<N>>, &'static str> {
     let Some(bucket) = layout_of(bucket.0, bucket.1) else {
         return Err("the bucket has no layout");
     };
@@ -55,9 +58,9 @@ fn eight_keep(rt: &impl Abort, alloc: Global, steps: &[Step<'_>]) {
 
 /// Calls that no row makes.
 #[test]
-fn a_fixed_pool_call_by_call(rt: HostRuntime) {
+fn fixed_call_by_call(rt: HostRuntime) {
     let bucket = layout(&rt, 128, 8);
-    assert!(rt; !FixedSizePoolAllocator::<4>::can_make(bucket, 4096, usize::MAX));
+    assert!(rt; !Fixed::<4>::can_make(bucket, 4096, usize::MAX));
     let steps = [
         Step::Call(Call::Allocate(128, 8), Answer::Somewhere(128)),
         Step::Call(Call::Reserved(0), Answer::Reserved(128)),
@@ -106,7 +109,7 @@ fn fixed_grow_zeroed_refused(rt: HostRuntime) {
 }
 
 /// A request that a full pool refuses leaves the text of derived Debug as it was.
-fn shows_no_refusal(rt: &impl Abort, alloc: Global, pool: &mut Owner<FixedSizePoolAllocator<4>>) {
+fn shows_no_refusal(rt: &impl Abort, alloc: Global, pool: &mut Owner<Fixed<4>>) {
     let before = text_of(rt, alloc, pool.allocator());
     let refused = Answer::Refused(AllocationError::OutOfMemory);
     keeps(rt, pool, &[Step::Call(Call::Allocate(8, 8), refused)]);
@@ -127,12 +130,12 @@ fn a_refusal_shows_nothing(rt: HostRuntime) {
 }
 
 /// A pool's text.
-fn text_of(rt: &impl Abort, alloc: Global, pool: &FixedSizePoolAllocator<4>) -> String {
+fn text_of(rt: &impl Abort, alloc: Global, pool: &Fixed<4>) -> String {
     format!(in alloc; "{pool:?}").expect(rt, "there is memory for a text")
 }
 
 /// A resize is carried out by the run with resizes, and passed over by the other.
 #[test]
-fn runs_over_a_fixed_pool(rt: HostRuntime) {
+fn fixed_runs(rt: HostRuntime) {
     resize_runs(&rt, fixed_owner::<1>(rt.alloc(), (16, 8), 4096, 64));
 }
