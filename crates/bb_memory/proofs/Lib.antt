@@ -15,7 +15,6 @@ mod PoolAnswers
 mod PoolCalls
 mod PoolRuns
 mod Pools
-mod Positions
 mod Seatings
 mod SharedBumpAnswers
 mod SharedBumpClosings

@@ -17,7 +17,7 @@ use Rattle.bb_memory_base.specs.declared.allocator.AllocationShrinkError.TheVari
 use Rattle.bb_memory_base.proofs.PoolGeometries.{bucket_place-aligned}
 use Rattle.bb_memory_base.proofs.PoolLists.{count_at, at_from_count, count_from_at, inside_from_bucket}
 use Rattle.bb_memory.proofs.PoolCalls.{bucket_place-multiple}
-use Rattle.bb_memory.proofs.Positions.{All-from_positions}
+use Rattle.bb_memory_base.proofs.Positions.{All-from_positions}
 
 -- REQUESTS
 

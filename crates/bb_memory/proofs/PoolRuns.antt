@@ -24,7 +24,7 @@ use Rattle.bb_memory.specs.NumberSet.{Has, Lacks}
 use Rattle.bb_memory.specs.Pool.{Pool, IsPool, StandsFor, AreAStrideApart, pool_of, with_flag}
 use Rattle.bb_memory.proofs.Pools.{IsPool-with_flag, bucket-below, filled-at, lacked-free}
 use Rattle.bb_memory.proofs.Pools.{stands-given, stands-freed, stands-resized}
-use Rattle.bb_memory.proofs.Positions.{All-from_positions, AllPairs-at, AllPairs-from_positions}
+use Rattle.bb_memory_base.proofs.Positions.{All-from_positions, AllPairs-at, AllPairs-from_positions}
 
 -- PLACES
 

@@ -18,9 +18,9 @@ use Rattle.bb_memory_base.proofs.SliceGets.{slice_get-set, slice_get-set_other, 
 use Rattle.bb_memory_base.proofs.SliceGets.{slice_get-replicated, length-set_at}
 use Rattle.bb_memory.specs.NumberSet.{Has, Lacks}
 use Rattle.bb_memory.specs.Pool.{Pool, IsPool, Fills, StandsFor, HoldsPlace, fresh_pool, with_flag}
-use Rattle.bb_memory.proofs.Positions.{All-at, All-from_positions, AllPairs-at, AllPairs-from_positions}
+use Rattle.bb_memory_base.proofs.Positions.{All-at, All-from_positions, AllPairs-at, AllPairs-from_positions}
 use Rattle.bb_memory_base.proofs.SliceGets.{slice_get-last, slice_get-push}
-use Rattle.bb_memory.proofs.Positions.{slice_get-removed, slice_get-unremoved}
+use Rattle.bb_memory_base.proofs.Positions.{slice_get-removed, slice_get-unremoved}
 
 -- BUCKETS
 

@@ -20,7 +20,7 @@ use Rattle.bb_memory.specs.SharedBump.{meeting_at}
 use Rattle.bb_memory.specs.SharedBumpRule.{IsPartySeat, NumberedLog, SeatView, gathered, meeting_of, met_by, numbered_of}
 use Rattle.bb_memory.specs.SharedBumpRule.{party_in, scene_of, sight}
 use Rattle.bb_memory.specs.SharedBumpSteps.{TellsMeeting}
-use Rattle.bb_memory.proofs.Positions.{contains-behind, contains-first}
+use Rattle.bb_memory_base.proofs.Positions.{contains-behind, contains-first}
 use Rattle.bb_memory.proofs.Seatings.{all_there, one_apart}
 use Rattle.bb_memory.proofs.SharedBumpParties.{party_seat}
 

@@ -113,7 +113,7 @@ module _ (parties : List PoolParty) (index : ℕ) (party now : PoolParty) (bucke
 -- WHAT A PARTY HOLDS AFTER A CALL
 
 -- as before, but for the bucket that it took
-asked_held : (party now : PoolParty) (layout : Layout) (answer : Result TakenBucket AllocationError) (other : ℕ) →
+pub asked_held : (party now : PoolParty) (layout : Layout) (answer : Result TakenBucket AllocationError) (other : ℕ) →
     MayTake party layout answer now → IfOk answer (λ bucket. other ≢ bucket.number) →
     held_through other false now.log ≡ held_through other false party.log
 asked_held party now layout (Ok bucket) other may apart =
@@ -141,12 +141,28 @@ asked_still party now layout (Ok bucket) other may held =
 asked_still party now layout (Err error) other may held = asked_held party now layout (Err error) other may tt ∙ held
 
 -- as before, but for the bucket that it gave back
-given_held : (party : PoolParty) (bucket other : ℕ) → other ≢ bucket →
+pub given_held : (party : PoolParty) (bucket other : ℕ) → other ≢ bucket →
     held_through other false (party.log ++ return_entry party.number bucket) ≡ held_through other false party.log
 given_held party bucket other apart =
     held-append other false party.log (return_entry party.number bucket)
     ∙ ap (λ (b : Bool). if b then false else held_through other false party.log)
     (test_apart bucket other (λ same. apart (sym same)))
+
+-- that one it holds no more
+pub not_held : (party : PoolParty) (bucket other : ℕ) → other ≡ bucket →
+    ¬ IsHeldAfter (party.log ++ return_entry party.number bucket) other
+not_held party bucket other same held =
+    let free = held-append other false party.log (return_entry party.number bucket)
+        ∙ ap (λ (b : Bool). if b then false else held_through other false party.log) (test_same bucket other (sym same)) in
+    absurd (cc (free, held))
+
+-- so what it holds it held
+pub was_held : (party : PoolParty) (bucket other : ℕ) → IsHeldAfter (party.log ++ return_entry party.number bucket) other →
+    IsHeldAfter party.log other
+was_held party bucket other held = elim (cases_eq other bucket) [
+  | inl same ↦ absurd (not_held party bucket other same held)
+  | inr apart ↦ sym (given_held party bucket other apart) ∙ held
+]
 
 took_held : (party now : PoolParty) (layout : Layout) (bucket : TakenBucket) → MayTake party layout (Ok bucket) now →
     IsHeldAfter now.log bucket.number

@@ -20,7 +20,7 @@ use Rattle.bb_memory.specs.SharedPool.{HaveMet, IsHeldByOne, IsSharedScene, Pool
 use Rattle.bb_memory.specs.SharedPoolHistory.{HaveMetBy}
 use Rattle.bb_memory.specs.SharedPoolRule.{IsPartySeat, NumberedLog, SeatView, numbered_of, party_in}
 use Rattle.bb_memory.specs.SharedPoolSteps.{TellsMeeting, TellsMeetingAgain}
-use Rattle.bb_memory.proofs.Positions.{contains-behind, contains-first}
+use Rattle.bb_memory_base.proofs.Positions.{contains-behind, contains-first}
 use Rattle.bb_memory.proofs.Seatings.{all_there, one_apart}
 
 -- GATHERING

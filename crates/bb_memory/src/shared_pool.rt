@@ -1,6 +1,6 @@
 //! Pools that threads share: each call takes its pool by `&`, and steps on one atomic flag for each bucket.
 ghost use Rattle.std.specs.Prelude.{◌≡◌, ◌≢◌, ◌<◌, ◌≤◌, ℕ, List};
-ghost use Rattle.std.specs.Prelude.{IfOk, IfErr, ◌++◌, ◌⊎◌};
+ghost use Rattle.std.specs.Prelude.{IfOk, IfErr, Result, ◌++◌, ◌⊎◌};
 ghost use Rattle.bb_memory_base.specs.Region.{region_at};
 ghost use Rattle.bb_memory_base.specs.Chunk.{AreApart, Chunk};
 ghost use Rattle.bb_memory_base.specs.LiveList.{IsSound};
@@ -11,11 +11,12 @@ ghost use Rattle.bb_memory_base.specs.PoolCalls.{AreAsked, IsPoolRun};
 ghost use Rattle.bb_memory_base.specs.PoolHistory.{PoolLog};
 ghost use Rattle.bb_memory_base.specs.PoolLogs.{IsHeldAfter};
 ghost use Rattle.bb_memory_base.specs.declared.layout.Layout.{Layout};
+ghost use Rattle.bb_memory_base.specs.declared.allocator.AllocationError.{AllocationError};
 ghost use Rattle.bb_memory.specs.HeldBuckets.{IsCutAtMost};
 ghost use Rattle.bb_memory.specs.Pool.{AreAStrideApart, MayBeCut};
 ghost use Rattle.bb_memory.specs.SharedPool.{AreFresh, AreFreshWithPost, AreInterleaved, HasFoundAllHeld, IsHistoryRun};
-ghost use Rattle.bb_memory.specs.SharedPool.{IsParty, PoolParty, TakenBucket, chunk_of};
-ghost use Rattle.bb_memory.specs.SharedPool.{refused_pass};
+ghost use Rattle.bb_memory.specs.SharedPool.{IsParty, MayTake, PoolParty, TakenBucket, chunk_of};
+ghost use Rattle.bb_memory.specs.SharedPool.{refused_pass, return_entry, with_entries};
 ghost use Rattle.bb_memory.specs.SharedPoolRounds.{HasMissedAll, refused_round};
 ghost use Rattle.bb_memory.specs.SharedPoolTransit.{IsCutOrRefused, MayHavePost};
 
@@ -150,6 +151,28 @@ impl SharedPoolAllocator {
         self.flags.geometry().first()
     }
 }
+
+/// What a party holds after a call: what it held before, and the bucket that it was given. A bucket that it gave back it holds no
+/// more, so that a party which held none before holds none after. It does nothing: its contract is the law.
+///
+/// ```
+/// shared_pool_held_law();
+/// if let Ok(bucket) = pool.allocate(party, layout) {
+///     pool.deallocate_bucket(party, bucket);
+/// }
+/// ```
+pub fn shared_pool_held_law()
+    ensures taken { (old new : PoolParty) (layout : Layout)
+        (answer : Result TakenBucket AllocationError) (other : ℕ) → MayTake old layout answer new
+        → IfOk answer (λ bucket. other ≢ bucket.number)
+        → IsHeldAfter new.log other → IsHeldAfter old.log other }
+    ensures returned { (old new : PoolParty) (bucket other : ℕ)
+        → new ≡ with_entries old (return_entry old.number bucket)
+        → IsHeldAfter new.log other → IsHeldAfter old.log other }
+    ensures given_back { (old new : PoolParty) (bucket other : ℕ)
+        → new ≡ with_entries old (return_entry old.number bucket)
+        → IsHeldAfter new.log other → other ≢ bucket }
+{}
 
 /// What a user of a shared pool has of each party, and of two that met, whatever the threads did. It does nothing: its
 /// contract is the law.

@@ -27,6 +27,7 @@ pub mod PoolLogSteps
 pub mod PoolPasses
 pub mod PoolRuns
 pub mod PoolSteps
+pub mod Positions
 pub mod PowersOfTwo
 pub mod Runs
 pub mod SliceGets

@@ -64,3 +64,11 @@ slice_get-push (z ∷ xs) (suc i) x y at = slice_get-push xs i x y at
 pub slice_get-last : {X : Type 0} (xs : List X) (y : X) → slice_get (xs ++ y ∷ []) (length xs) ≡ Some y
 slice_get-last [] y = refl
 slice_get-last (z ∷ xs) y = slice_get-last xs y
+
+-- what stands there stood there, or is the new one
+pub slice_get-pushed : {X : Type 0} (xs : List X) (i : ℕ) (x y : X) → slice_get (xs ++ y ∷ []) i ≡ Some x →
+    (slice_get xs i ≡ Some x) ⊎ (y ≡ x)
+slice_get-pushed [] zero x y at = inr (cc)
+slice_get-pushed [] (suc i) x y at = absurd (cc)
+slice_get-pushed (z ∷ xs) zero x y at = inl at
+slice_get-pushed (z ∷ xs) (suc i) x y at = slice_get-pushed xs i x y at

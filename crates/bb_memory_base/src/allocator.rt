@@ -1,8 +1,10 @@
 //! What allocators over a region promise, and runs of commands over any of them.
+mod places;
 mod run;
 
 use crate::layout::{Chunk, Layout};
 use crate::region::Region;
+pub use places::{deallocate_beside, may_release_law};
 pub use run::{run_base, run_full};
 use thiserror::Error;
 

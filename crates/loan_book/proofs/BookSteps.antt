@@ -8,8 +8,8 @@ use Rattle.bb_memory_base.proofs.SliceGets.{slice_get-set, slice_get-set_other, 
 use Rattle.loan_book.specs.Sample.{Sample}
 use Rattle.loan_book.specs.Book.{Book, IsBook, IsAt, IsOut, HasReturns, IsPublished, IsUnpublished}
 use Rattle.loan_book.specs.Calls.{with_sample, with_returns, without}
-use Rattle.bb_memory_base.proofs.SliceGets.{slice_get-last, slice_get-push}
-use Rattle.loan_book.proofs.Positions.{slice_get-pushed, slice_get-remove, slice_get-removed}
+use Rattle.bb_memory_base.proofs.SliceGets.{slice_get-last, slice_get-push, slice_get-pushed}
+use Rattle.bb_memory_base.proofs.Positions.{slice_get-removed, slice_get-unremoved}
 
 -- a sample of one id is before no other sample of that id
 not_before : (book : Book) (id i j : ℕ) (one other : Sample) → IsBook book → IsAt book id i one → IsAt book id j other → ¬ (i < j)
@@ -125,7 +125,7 @@ pub removed-is-gone : (book : Book) (id position : ℕ) (sample : Sample) → Is
     ¬ IsOut (without book position) id
 removed-is-gone book id position sample is here (k, found, there) =
     let before = slice_get-removed book.out position k found there.at in
-    before.2 (one_position book id before.0 position found sample is (record { at = before.1; has_id = there.has_id }) here)
+    before.1 (one_position book id before.0 position found sample is (record { at = before.2; has_id = there.has_id }) here)
 
 -- so it is gone
 pub own-remove : (book : Book) (id position : ℕ) (sample : Sample) → IsBook book → IsAt book id position sample →
@@ -140,7 +140,7 @@ pub remove-keeps : (book : Book) (id other position : ℕ) (sample : Sample) (le
 remove-keeps book id other position sample None here apart (gone, used) = (
   λ (k, found, there).
       let before = slice_get-removed book.out position k found there.at in
-      gone (before.0, found, record { at = before.1; has_id = there.has_id }),
+      gone (before.0, found, record { at = before.2; has_id = there.has_id }),
   used,
 )
 remove-keeps book id other position sample (Some left) here apart (i, found, there, waits) =
@@ -148,5 +148,5 @@ remove-keeps book id other position sample (Some left) here apart (i, found, the
     let at = subst (λ k. slice_get book.out k ≡ Some found) same there.at in
     let equal : found ≡ sample = cc in
     apart (sym here.has_id ∙ sym (ap (λ (s : Sample). s.id) equal) ∙ there.has_id) in
-    let stays = slice_get-remove book.out position i found there.at elsewhere in
+    let stays = slice_get-unremoved book.out position i found elsewhere there.at in
     (stays.0, found, record { at = stays.1; has_id = there.has_id }, waits)

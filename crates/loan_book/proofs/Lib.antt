@@ -5,7 +5,6 @@ pub mod Books
 pub mod LoanBooks
 pub mod LoanedIds
 pub mod OneAnswers
-pub mod Positions
 pub mod PublishedRuns
 pub mod Searches
 pub mod Sizes

@@ -7,7 +7,7 @@ ghost use Rattle.bb_memory_base.specs.PoolObject.{pool_object};
 ghost use Rattle.bb_memory.specs.Buckets.{TellsNumber, TellsPlace};
 ghost use Rattle.bb_memory.specs.HeldBuckets.{held_count};
 ghost use Rattle.bb_memory.specs.NumberSet.{Lacks};
-ghost use Rattle.bb_memory.specs.Pool.{FreesBucket, HoldsPlace, StandsFor, reads_after};
+ghost use Rattle.bb_memory.specs.Pool.{FreesBucket, HoldsPlace, IsPool, StandsFor, reads_after};
 
 use super::buckets::Buckets;
 use super::held_set::HeldSet;
@@ -42,10 +42,11 @@ impl<S: HeldSet> Model for BucketPool<S> {
 }
 
 impl<S: HeldSet> BucketPool<S> {
-    /// How many buckets there are.
+    /// How many buckets there are. Beside it, what holds of every pool is told.
     #[inline]
     pub fn number_of_buckets(&self) -> u32
-        ensures { result ≡ (S.pool self.now).geometry.buckets }
+        ensures value { result ≡ (S.pool self.now).geometry.buckets }
+        ensures is_pool { IsPool (S.pool self.now) }
     {
         self.buckets.count()
     }

@@ -1,12 +1,15 @@
 //! The bump and the pools that threads share, in one thread.
 #![tactic(auto, unfolding(bb_memory_base::specs::LeastPlace::least_place))]
 
+ghost use Rattle.std.specs.Prelude.{◌≡◌, ℕ};
+ghost use Rattle.bb_memory_base.specs.PoolLogs.{IsHeldAfter};
+
 use super::bump::forty_eight;
 use bb_memory::allocator::AllocationError;
 use bb_memory::bump_allocator::BumpAllocator;
 use bb_memory::layout::Layout;
 use bb_memory::pool_allocator::pool_count_law;
-use bb_memory::shared_pool::SharedPoolAllocator;
+use bb_memory::shared_pool::{PoolParty, SharedPoolAllocator, shared_pool_held_law};
 use std::alloc::Global;
 
 /// A bump that one party alone uses, and then has again.
@@ -82,4 +85,16 @@ pub fn all_of_a_pool(alloc: Global) -> Result<(), AllocationError> {
     let taken = pool.allocate_among(&mut parties, 1, asked)?;
     pool.deallocate_among(&mut parties, 1, taken);
     Ok(())
+}
+
+/// A party that gives back what it takes holds then what it held before: one that was idle is idle again.
+pub fn idle_again(pool: &SharedPoolAllocator, party: &mut PoolParty, layout: Layout)
+    requires { party.old.allocator ≡ pool.now }
+    ensures party { party.new.allocator ≡ pool.now }
+    ensures only { (other : ℕ) → IsHeldAfter party.new.log other → IsHeldAfter party.old.log other }
+{
+    shared_pool_held_law();
+    if let Ok(bucket) = pool.allocate(party, layout) {
+        pool.deallocate_bucket(party, bucket);
+    }
 }

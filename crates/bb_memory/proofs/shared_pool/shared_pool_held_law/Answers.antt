@@ -1,0 +1,15 @@
+use Rattle.std.proofs.Common.{◌≡◌, ◌∙◌, ap, sym}
+use Rattle.bb_memory_base.specs.PoolLogs.{IsHeldAfter}
+use Rattle.bb_memory.specs.SharedPool.{PoolParty}
+use Rattle.bb_memory.proofs.SharedPoolAmong.{asked_held, not_held, was_held}
+use Rattle.bb_memory.proofs.shared_pool.shared_pool_held_law.Goals as goal
+
+pub returns-clause-taken : goal.returns-clause-taken
+returns-clause-taken c = λ old new layout answer other may apart held.
+    sym (asked_held old new layout answer other may apart) ∙ held
+
+pub returns-clause-returned : goal.returns-clause-returned
+returns-clause-returned c = λ old new bucket other is held. was_held old bucket other (rw is at held)
+
+pub returns-clause-given_back : goal.returns-clause-given_back
+returns-clause-given_back c = λ old new bucket other is held same. not_held old bucket other same (rw is at held)
