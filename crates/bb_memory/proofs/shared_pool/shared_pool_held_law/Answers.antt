@@ -1,6 +1,4 @@
-use Rattle.std.proofs.Common.{◌≡◌, ◌∙◌, ap, sym}
-use Rattle.bb_memory_base.specs.PoolLogs.{IsHeldAfter}
-use Rattle.bb_memory.specs.SharedPool.{PoolParty}
+use Rattle.std.proofs.Common.{◌∙◌, sym}
 use Rattle.bb_memory.proofs.SharedPoolAmong.{asked_held, not_held, was_held}
 use Rattle.bb_memory.proofs.shared_pool.shared_pool_held_law.Goals as goal
 

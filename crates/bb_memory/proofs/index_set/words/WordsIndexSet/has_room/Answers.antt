@@ -1,4 +1,4 @@
-use Rattle.std.proofs.Common.{◌≡◌, ◌/◌, ◌<◌, arith, inl, inr, length, false}
+use Rattle.std.proofs.Common.{◌/◌, ◌<◌, arith, inl, inr, length, false}
 use Rattle.std.proofs.lemmas.Bool.{cases_Bool, lt-ltb, ltb-true}
 use Rattle.std.proofs.lemmas.Option.{slice_get_within}
 use Rattle.bb_memory.proofs.NumberSets.{full_lacks_none}
