@@ -47,7 +47,7 @@ extern "C" {
 #endif
 
 // The version of this library, as text and by its numbers. The last of them grows with each version, for `#if`.
-#define BB_VERSION "0.7.0"
+#define BB_VERSION "0.8.0"
 #define BB_VERSION_MAJOR 0
 #define BB_VERSION_MINOR 7
 #define BB_VERSION_PATCH 0
