@@ -153,7 +153,7 @@ pub not_held : (party : PoolParty) (bucket other : ℕ) → other ≡ bucket →
     ¬ IsHeldAfter (party.log ++ return_entry party.number bucket) other
 not_held party bucket other same held =
     let free = held-append other false party.log (return_entry party.number bucket)
-        ∙ ap (λ (b : Bool). if b then false else held_through other false party.log) (test_same bucket other (sym same)) in
+    ∙ ap (λ (b : Bool). if b then false else held_through other false party.log) (test_same bucket other (sym same)) in
     absurd (cc (free, held))
 
 -- so what it holds it held

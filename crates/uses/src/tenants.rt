@@ -251,7 +251,8 @@ impl<A: Allocator + Drop> Tenants<A> {
             return Err(NotHeld {});
         };
         leases_law();
-        give_back(&mut self.allocator, &self.leases, position);
+        let lease = lease_there(&self.leases, position);
+        give_back(&mut self.allocator, &self.leases, position, lease);
         self.leases.remove(position);
         Ok(())
     }
@@ -305,18 +306,15 @@ fn lease_there(leases: &Vec<Lease>, position: usize) -> Lease
     leases[position]
 }
 
-/// Gives the chunk of the lease at a position back to the allocator, and answers the lease.
-fn give_back<A: Allocator>(allocator: &mut A, leases: &Vec<Lease>, position: usize) -> Lease
+/// Gives the chunk of the lease at a position back to the allocator.
+fn give_back<A: Allocator>(allocator: &mut A, leases: &Vec<Lease>, position: usize, lease: Lease)
     requires stands { A.stands_for allocator.old (chunks_of leases.now.items) }
-    requires within { position < length leases.now.items }
-    ensures there { slice_get leases.now.items position ≡ Some result }
+    requires there { slice_get leases.now.items position ≡ Some lease }
     ensures stands { A.stands_for allocator.new (chunks_of (remove leases.now.items position)) }
     ensures geometry { A.geometry allocator.new ≡ A.geometry allocator.old }
 {
     leases_law();
-    let lease = lease_there(leases, position);
     allocator.deallocate(lease.chunk.place(), Layout::empty());
-    lease
 }
 
 /// What one lease more, or one less, makes of each tenant's use, and of the chunks that are out. It does nothing: its contract

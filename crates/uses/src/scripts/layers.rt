@@ -4,9 +4,7 @@ ghost use Rattle.std.specs.Prelude.{◌≡◌, ◌≢◌, [], length};
 use crate::keyed_slab::{KeyedSlab, spent_law};
 use crate::slab::InsertError;
 use crate::tenants::{AdmitError, Tenants};
-use bb_memory_base::allocator::{
-    Allocator, BaseAllocator, deallocate_beside, may_release_law,
-};
+use bb_memory_base::allocator::{Allocator, BaseAllocator, deallocate_beside, may_release_law};
 use bb_memory_base::layout::Layout;
 use std::alloc::Global;
 
