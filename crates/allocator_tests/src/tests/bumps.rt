@@ -72,6 +72,6 @@ fn a_run_over_a_bump(rt: HostRuntime) {
         Reply::Passed,
         Reply::Released,
     ];
-    let made = bump_owner(rt.alloc(), 4096, 8);
-    runs(&rt, made, &commands, &replies, &replies);
+    let steps = runs(&commands, &replies, &replies);
+    bump_keeps(&rt, rt.alloc(), (4096, 8), &steps);
 }

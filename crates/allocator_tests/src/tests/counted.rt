@@ -18,18 +18,19 @@ pub(super) struct Counted<A: Allocator + Drop> {
     requests: Rc<Cell<usize>>,
 }
 
-/// A book over a pool of sixteen buckets of 64 bytes, whose requests are counted.
+/// A book over a pool of sixteen buckets of 64 bytes, and how many requests it makes of the pool. None is where memory was
+/// refused.
 pub(super) fn counted_book(
     alloc: Global,
-    requests: Rc<Cell<usize>>,
-) -> Result<LoanBook<Counted<PoolAllocator<Global>>>, &'static str> {
-    let Some(bucket) = layout_of(64, 8) else {
-        return Err("the bucket has no layout");
+) -> Option<(LoanBook<Counted<PoolAllocator<Global>>>, Rc<Cell<usize>>)> {
+    let requests = Rc::new(alloc, Cell::new(0)).ok()?;
+    let counter = requests.clone().ok()?;
+    let inner = pool_over(alloc, layout_of(64, 8)?, 4096, 1024).ok()?;
+    let counted = Counted {
+        inner,
+        requests: counter,
     };
-    match pool_over(alloc, bucket, 4096, 1024) {
-        Ok(inner) => Ok(LoanBook::new(alloc, Counted { inner, requests })),
-        Err(cause) => Err(cause),
-    }
+    Some((LoanBook::new(alloc, counted), requests))
 }
 
 impl<A: Allocator + Drop> BaseAllocator for Counted<A> {

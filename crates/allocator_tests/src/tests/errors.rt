@@ -8,7 +8,7 @@ use std::process::Abort;
 /// What is displayed is this text.
 pub(super) fn has_text<D: Display>(rt: &impl Abort, alloc: Global, value: &D, text: &str) {
     match format!(in alloc; "{value}") {
-        Ok(told) => assert_eq!(rt; told.as_str(), text),
+        Ok(told) => assert!(rt; told.as_str() == text),
         Err(_) => panic!(rt; "memory was refused"),
     }
 }

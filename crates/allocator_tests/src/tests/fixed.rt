@@ -5,8 +5,9 @@ ghost use Rattle.bb_memory_base.specs.Region.{region_at};
 ghost use Rattle.bb_memory.specs.Pool.{StandsFor};
 
 use super::layouts::{layout, layout_of};
+use super::owner::kinds::runs;
 use super::owner::{Answer, Call, Owner, Step, all_keep, keeps, sevens};
-use super::pools::resize_runs;
+use super::pools::{resize_and_refusal, resized_and_refused};
 use bb_memory::layout::Layout;
 use bb_memory::pool_allocator::{AllocationError, AllocationGrowError, FixedSizePoolAllocator};
 use std::alloc::Global;
@@ -137,5 +138,9 @@ fn text_of(rt: &impl Abort, alloc: Global, pool: &Fixed<4>) -> String {
 /// A resize is carried out by the run with resizes, and passed over by the other.
 #[test]
 fn fixed_runs(rt: HostRuntime) {
-    resize_runs(&rt, fixed_owner::<1>(rt.alloc(), (16, 8), 4096, 64));
+    let commands = resize_and_refusal(&rt);
+    let full = resized_and_refused(&rt, true);
+    let base = resized_and_refused(&rt, false);
+    let steps = runs(&commands, &full, &base);
+    all_keep(&rt, fixed_owner::<1>(rt.alloc(), (16, 8), 4096, 64), &steps);
 }

@@ -80,11 +80,43 @@ impl<const N: usize> Buckets for Fixed<N> {
 fn gives_nothing_back(rt: &impl Abort, pool: &mut impl Buckets, buckets: u32) {
     let held = pool.held();
     let end = 4096 + 16 * buckets as usize;
-    for wild in &[0usize, 1, 4080, 4095, 4097, 4104, 4111, usize::MAX] {
+    for wild in &[0usize, 1, 4080, 4095, 4097, 4104, 4111, usize::MAX, end] {
         assert!(rt; !pool.give(*wild));
     }
-    assert!(rt; !pool.give(end));
-    assert_eq!(rt; pool.held(), held);
+    assert!(rt; pool.held() == held);
+}
+
+/// A bucket is taken from a pool that has room, so many are held then, and its place is told.
+fn takes(rt: &impl Abort, pool: &mut impl Buckets, layout: Layout, held: u32) -> usize {
+    assert!(rt; pool.room());
+    let place = pool.take(layout).expect(rt, "a bucket is free");
+    assert!(rt; pool.held() == held);
+    place
+}
+
+/// A pool that holds all of so many buckets has no room, and a refusal changes nothing.
+fn is_full(rt: &impl Abort, pool: &mut impl Buckets, layout: Layout, buckets: u32) {
+    assert!(rt; pool.take(layout).is_none());
+    assert!(rt; pool.held() == buckets);
+    assert!(rt; !pool.room());
+}
+
+/// The bucket at a place goes back once, and so many are held then. A second return changes nothing.
+fn goes_back(rt: &impl Abort, pool: &mut impl Buckets, place: usize, held: u32) {
+    assert!(rt; pool.give(place));
+    assert!(rt; pool.held() == held && pool.room());
+    assert!(rt; !pool.give(place));
+    assert!(rt; pool.held() == held);
+}
+
+/// All of so many buckets that are held, at these places, go back in turn.
+fn go_back(rt: &impl Abort, pool: &mut impl Buckets, places: &[usize], buckets: u32) {
+    let mut left = buckets;
+    for place in places {
+        left = left.saturating_sub(1);
+        goes_back(rt, pool, *place, left);
+    }
+    assert!(rt; pool.held() == 0);
 }
 
 /// A pool of so many buckets holds none at first, one more after each taking, as many after a refusal, and one less after each
@@ -92,55 +124,54 @@ fn gives_nothing_back(rt: &impl Abort, pool: &mut impl Buckets, buckets: u32) {
 fn counts(rt: &impl Abort, alloc: Global, pool: &mut impl Buckets, buckets: u32) {
     let sixteen = layout(rt, 16, 8);
     let mut places = Vec::new(alloc);
-    assert_eq!(rt; pool.held(), 0);
+    assert!(rt; pool.held() == 0);
     for held in 0..buckets {
-        assert!(rt; pool.room());
-        let Some(place) = pool.take(sixteen) else {
-            panic!(rt; "a bucket is free");
-        };
+        let place = takes(rt, pool, sixteen, held + 1);
         assert!(rt; places.push(place).is_ok());
-        assert_eq!(rt; pool.held(), held + 1);
     }
-    assert_eq!(rt; (pool.take(sixteen), pool.held()), (None, buckets));
-    assert!(rt; !pool.room());
+    is_full(rt, pool, sixteen, buckets);
     gives_nothing_back(rt, pool, buckets);
-    let mut left = buckets;
-    for place in &places {
-        assert!(rt; pool.give(*place));
-        left = left.saturating_sub(1);
-        assert_eq!(rt; pool.held(), left);
-        assert!(rt; pool.room());
-        assert!(rt; !pool.give(*place));
-        assert_eq!(rt; pool.held(), left);
+    go_back(rt, pool, &places, buckets);
+}
+
+/// The bucket of this number is at this place, and no other one.
+fn is_at(pool: &impl Buckets, number: u32, place: usize) -> bool {
+    pool.place(number) == Some(place) && pool.number(place) == Some(number)
+}
+
+/// No bucket begins at any of these places.
+fn none_begins_at(rt: &impl Abort, pool: &impl Buckets, places: &[usize]) {
+    for place in places {
+        assert!(rt; pool.number(*place).is_none());
     }
-    assert_eq!(rt; pool.held(), 0);
+}
+
+/// The place of the bucket at a place, by its number.
+fn place_by_number(pool: &impl Buckets, place: usize) -> Option<usize> {
+    pool.place(pool.number(place)?)
+}
+
+/// A bucket at a place has the same number once it is free.
+fn keeps_its_number(rt: &impl Abort, pool: &mut impl Buckets, place: usize) {
+    let number = pool.number(place);
+    assert!(rt; place_by_number(pool, place) == Some(place));
+    assert!(rt; pool.give(place));
+    assert!(rt; pool.number(place) == number);
 }
 
 /// Buckets of 16 bytes at 4096, so many of them, are known by their numbers, held or not.
 fn tells_numbers(rt: &impl Abort, pool: &mut impl Buckets, buckets: u32) {
     for number in 0..buckets {
         let place = 4096 + 16 * number as usize;
-        assert_eq!(rt;
-            (pool.place(number), pool.number(place)),
-            (Some(place), Some(number))
-        );
-        assert_eq!(rt;
-            (pool.number(place + 1), pool.number(place + 15)),
-            (None, None)
-        );
+        assert!(rt; is_at(pool, number, place));
+        none_begins_at(rt, pool, &[place + 1, place + 15]);
     }
+    assert!(rt; pool.place(buckets).is_none());
+    assert!(rt; pool.place(u32::MAX).is_none());
     let end = 4096 + 16 * buckets as usize;
-    assert_eq!(rt; (pool.place(buckets), pool.place(u32::MAX)), (None, None));
-    assert_eq!(rt;
-        (pool.number(end), pool.number(4095), pool.number(0)),
-        (None, None, None)
-    );
-    assert_eq!(rt; (pool.number(4080), pool.number(usize::MAX)), (None, None));
+    none_begins_at(rt, pool, &[end, 4095, 0, 4080, usize::MAX]);
     if let Some(place) = pool.take(layout(rt, 16, 8)) {
-        let number = pool.number(place);
-        assert_eq!(rt; number.and_then(|number| pool.place(number)), Some(place));
-        assert!(rt; pool.give(place));
-        assert_eq!(rt; pool.number(place), number);
+        keeps_its_number(rt, pool, place);
     }
 }
 

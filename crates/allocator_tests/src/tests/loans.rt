@@ -1,6 +1,6 @@
 //! Loan books over the allocators, each row by its name.
 use super::errors::have_texts;
-use super::layouts::{chunk, layout_of};
+use super::layouts::layout_of;
 use super::pools::pool_over;
 use bb_memory::allocator::{AllocationError, Allocator};
 use bb_memory::one_chunk_allocator::OneChunkAllocator;
@@ -31,8 +31,67 @@ pub(super) fn one_book(alloc: Global) -> LoanBook<OneChunkAllocator> {
     LoanBook::new(alloc, OneChunkAllocator::new(4096, 64))
 }
 
+/// What is told of a book's reply. A chunk is its place and its length.
+#[derive(Clone, Copy, PartialEq, Eq)]
+pub(super) enum Told {
+    /// The sample of this id, with its chunk.
+    Loaned(u64, usize, usize),
+    Published,
+    Returned,
+    Kept,
+    Out(bool),
+    Refused(LoanError),
+}
+
+impl Told {
+    fn of(reply: LoanReply) -> Told {
+        match reply {
+            LoanReply::Loaned(id, chunk) => Told::Loaned(id, chunk.place(), chunk.len()),
+            LoanReply::Published => Told::Published,
+            LoanReply::Returned => Told::Returned,
+            LoanReply::Kept => Told::Kept,
+            LoanReply::Out(is_out) => Told::Out(is_out),
+            LoanReply::Refused(error) => Told::Refused(error),
+        }
+    }
+
+    /// The id of a sample that was loaned.
+    pub(super) fn id(self) -> Option<u64> {
+        match self {
+            Told::Loaned(id, _, _) => Some(id),
+            _ => None,
+        }
+    }
+}
+
+/// A loan book as rows call it: over any allocator, and without a clause.
+pub(super) trait Book: Drop {
+    /// What is told of the reply to a call.
+    fn told(&mut self, call: LoanCall) -> Told;
+
+    /// The replies to a list of calls, by the run.
+    fn replies(&mut self, alloc: Global, calls: &[LoanCall]) -> Result<Vec<LoanReply>, AllocError>;
+
+    /// Does nothing: it is a proof.
+    fn laws(&self);
+}
+
+impl<A: Allocator + Drop> Book for LoanBook<A> {
+    fn told(&mut self, call: LoanCall) -> Told {
+        Told::of(reply_to(self, call))
+    }
+
+    fn replies(&mut self, alloc: Global, calls: &[LoanCall]) -> Result<Vec<LoanReply>, AllocError> {
+        run_loans(alloc, self, calls)
+    }
+
+    fn laws(&self) {
+        self.law();
+    }
+}
+
 /// Makes a call.
-pub(super) fn reply_to<A: Allocator>(book: &mut LoanBook<A>, call: LoanCall) -> LoanReply {
+fn reply_to<A: Allocator>(book: &mut LoanBook<A>, call: LoanCall) -> LoanReply {
     match call {
         LoanCall::Loan(size) => match book.loan(size) {
             Ok((id, chunk)) => LoanReply::Loaned(id, chunk),
@@ -51,76 +110,67 @@ pub(super) fn reply_to<A: Allocator>(book: &mut LoanBook<A>, call: LoanCall) -> 
     }
 }
 
+/// A call, and what has to be told of the reply.
+pub(super) type LoanRow = (LoanCall, Told);
+
 /// Makes the calls of a table in turn. Each has to be answered as the table has it.
-pub(super) fn answers<A: Allocator>(
-    rt: &impl Abort,
-    book: &mut LoanBook<A>,
-    table: &[(LoanCall, LoanReply)],
-) {
-    for (call, wanted) in table {
-        assert_eq!(rt; reply_to(book, *call), *wanted, "to {call:?}");
+pub(super) fn answers(rt: &impl Abort, book: &mut impl Book, table: &[LoanRow]) {
+    for (number, (call, wanted)) in table.iter().enumerate() {
+        assert!(rt; book.told(*call) == *wanted, "row {number}");
     }
 }
 
-/// The calls' replies, by the run.
-pub(super) fn told<A: Allocator>(
-    alloc: Global,
-    book: &mut LoanBook<A>,
-    calls: &[LoanCall],
-) -> Result<Vec<LoanReply>, AllocError> {
-    run_loans(alloc, book, calls)
-}
-
-/// The id of a sample that was loaned.
-pub(super) fn id_of(reply: LoanReply) -> Option<u64> {
-    match reply {
-        LoanReply::Loaned(id, _) => Some(id),
-        _ => None,
+/// Whether this is told of the replies.
+pub(super) fn are_told(replies: &[LoanReply], wanted: &[Told]) -> bool {
+    for (reply, wanted) in replies.iter().zip(wanted) {
+        if Told::of(*reply) != *wanted {
+            return false;
+        }
     }
+    replies.len() == wanted.len()
 }
 
-/// A reply to a loan: the sample of this number, with a chunk.
-fn loaned(rt: &impl Abort, id: u64, place: usize, len: usize) -> LoanReply {
-    LoanReply::Loaned(id, chunk(rt, place, len))
+/// What a loan is refused with where its allocator is full.
+pub(super) const FULL: Told = Told::Refused(LoanError::Allocation(AllocationError::OutOfMemory));
+
+/// The calls of row `loan-pool-two-readers` behind the first one, where one of two chunks is given first and the other one then.
+fn two_readers(one: usize, other: usize) -> [LoanRow; 9] {
+    [
+        (LoanCall::Loan(48), Told::Loaned(1, other, 48)),
+        (LoanCall::Loan(48), FULL),
+        (LoanCall::Publish(0, 2), Told::Published),
+        (LoanCall::GiveBack(0), Told::Kept),
+        (LoanCall::IsOut(0), Told::Out(true)),
+        (LoanCall::GiveBack(0), Told::Returned),
+        (LoanCall::IsOut(0), Told::Out(false)),
+        (
+            LoanCall::GiveBack(0),
+            Told::Refused(LoanError::UnknownSample),
+        ),
+        (LoanCall::Loan(10), Told::Loaned(2, one, 10)),
+    ]
 }
 
 /// The book that was made, without which no test goes on.
-fn book_of<A: Allocator>(rt: &impl Abort, made: Result<LoanBook<A>, &'static str>) -> LoanBook<A> {
+fn book_of<B: Book>(rt: &impl Abort, made: Result<B, &'static str>) -> B {
     match made {
         Ok(book) => book,
         Err(cause) => panic!(rt; "{cause}"),
     }
 }
 
-/// What a loan is refused with where its allocator is full.
-const FULL: LoanReply = LoanReply::Refused(LoanError::Allocation(AllocationError::OutOfMemory));
-
-/// The calls of row `loan-pool-two-readers`, where one of two chunks is given first and the other one then.
-fn has_two_readers<A: Allocator + Drop>(rt: &impl Abort, made: Result<LoanBook<A>, &'static str>) {
+/// The row, of a book.
+fn has_two_readers(rt: &impl Abort, made: Result<impl Book, &'static str>) {
     let mut book = book_of(rt, made);
-    let first = reply_to(&mut book, LoanCall::Loan(48));
-    let (one, other) = if first == loaned(rt, 0, 4096, 48) {
+    let first = book.told(LoanCall::Loan(48));
+    let (one, other) = if first == Told::Loaned(0, 4096, 48) {
         (4096, 4224)
     } else {
         (4224, 4096)
     };
-    assert_eq!(rt; first, loaned(rt, 0, one, 48));
-    let table = [
-        (LoanCall::Loan(48), loaned(rt, 1, other, 48)),
-        (LoanCall::Loan(48), FULL),
-        (LoanCall::Publish(0, 2), LoanReply::Published),
-        (LoanCall::GiveBack(0), LoanReply::Kept),
-        (LoanCall::IsOut(0), LoanReply::Out(true)),
-        (LoanCall::GiveBack(0), LoanReply::Returned),
-        (LoanCall::IsOut(0), LoanReply::Out(false)),
-        (
-            LoanCall::GiveBack(0),
-            LoanReply::Refused(LoanError::UnknownSample),
-        ),
-        (LoanCall::Loan(10), loaned(rt, 2, one, 10)),
-    ];
-    answers(rt, &mut book, &table);
-    book.law();
+    assert!(rt; first == Told::Loaned(0, one, 48));
+    answers(rt, &mut book, &two_readers(one, other));
+    book.laws();
 }
 
 /// Row `loan-pool-two-readers`. The two chunks are at 4096 and 4224, in one of the two orders.
@@ -130,74 +180,78 @@ fn loan_pool_two_readers(rt: HostRuntime) {
 }
 
 /// These calls, as one list, are replied so.
-fn is_told<A: Allocator + Drop>(
+fn is_told(
     rt: &impl Abort,
     alloc: Global,
-    made: Result<LoanBook<A>, &'static str>,
+    made: Result<impl Book, &'static str>,
     calls: &[LoanCall],
-    replies: &[LoanReply],
+    wanted: &[Told],
 ) {
     let mut book = book_of(rt, made);
-    match told(alloc, &mut book, calls) {
-        Ok(told) => assert_eq!(rt; told.as_slice(), replies),
+    match book.replies(alloc, calls) {
+        Ok(replies) => assert!(rt; are_told(&replies, wanted)),
         Err(_) => panic!(rt; "memory was refused"),
     }
 }
 
+/// The calls of row `loan-pool-refusals`.
+const REFUSED_CALLS: [LoanCall; 11] = [
+    LoanCall::Loan(9223372036854775808),
+    LoanCall::Loan(200),
+    LoanCall::Loan(0),
+    LoanCall::Loan(1),
+    LoanCall::Publish(0, 0),
+    LoanCall::Publish(0, 1),
+    LoanCall::Publish(0, 0),
+    LoanCall::Publish(7, 0),
+    LoanCall::GiveBack(0),
+    LoanCall::IsOut(0),
+    LoanCall::Loan(1),
+];
+
+/// What they are answered.
+const REFUSALS: [Told; 11] = [
+    Told::Refused(LoanError::Size),
+    Told::Refused(LoanError::Allocation(AllocationError::SizeTooLarge)),
+    Told::Loaned(0, 4096, 0),
+    FULL,
+    Told::Refused(LoanError::NoReaders),
+    Told::Published,
+    Told::Refused(LoanError::AlreadyPublished),
+    Told::Refused(LoanError::UnknownSample),
+    Told::Returned,
+    Told::Out(false),
+    Told::Loaned(1, 4096, 1),
+];
+
 /// Row `loan-pool-refusals`, as one list of calls.
 #[test]
 fn loan_pool_refusals(rt: HostRuntime) {
-    let calls = [
-        LoanCall::Loan(9223372036854775808),
-        LoanCall::Loan(200),
-        LoanCall::Loan(0),
-        LoanCall::Loan(1),
-        LoanCall::Publish(0, 0),
-        LoanCall::Publish(0, 1),
-        LoanCall::Publish(0, 0),
-        LoanCall::Publish(7, 0),
-        LoanCall::GiveBack(0),
-        LoanCall::IsOut(0),
-        LoanCall::Loan(1),
-    ];
-    let replies = [
-        LoanReply::Refused(LoanError::Size),
-        LoanReply::Refused(LoanError::Allocation(AllocationError::SizeTooLarge)),
-        loaned(&rt, 0, 4096, 0),
-        FULL,
-        LoanReply::Refused(LoanError::NoReaders),
-        LoanReply::Published,
-        LoanReply::Refused(LoanError::AlreadyPublished),
-        LoanReply::Refused(LoanError::UnknownSample),
-        LoanReply::Returned,
-        LoanReply::Out(false),
-        loaned(&rt, 1, 4096, 1),
-    ];
     let made = pool_book(rt.alloc(), (128, 8), 4096, 128);
-    is_told(&rt, rt.alloc(), made, &calls, &replies);
+    is_told(&rt, rt.alloc(), made, &REFUSED_CALLS, &REFUSALS);
 }
 
 /// Row `loan-over-one-chunk`.
 #[test]
 fn loan_over_one_chunk(rt: HostRuntime) {
     let table = [
-        (LoanCall::Loan(64), loaned(&rt, 0, 4096, 64)),
+        (LoanCall::Loan(64), Told::Loaned(0, 4096, 64)),
         (LoanCall::Loan(1), FULL),
-        (LoanCall::GiveBack(0), LoanReply::Returned),
-        (LoanCall::Loan(1), loaned(&rt, 1, 4096, 64)),
+        (LoanCall::GiveBack(0), Told::Returned),
+        (LoanCall::Loan(1), Told::Loaned(1, 4096, 64)),
     ];
     let mut book = one_book(rt.alloc());
     answers(&rt, &mut book, &table);
 }
 
 /// Sixteen samples, of which some go back, some are published, and others take their buckets.
-fn go_back<A: Allocator + Drop>(rt: &impl Abort, made: Result<LoanBook<A>, &'static str>) {
+fn go_back(rt: &impl Abort, made: Result<impl Book, &'static str>) {
     let mut book = book_of(rt, made);
     are_loaned(rt, &mut book, 0..16);
     leave(rt, &mut book, &[7, 0, 15, 8, 1, 14]);
     are_published(rt, &mut book, &[2, 3, 4, 5, 6, 9, 10, 11, 12, 13]);
     are_loaned(rt, &mut book, 16..22);
-    answers(rt, &mut book, &[(LoanCall::GiveBack(9), LoanReply::Kept)]);
+    answers(rt, &mut book, &[(LoanCall::GiveBack(9), Told::Kept)]);
     leave(rt, &mut book, &[9]);
 }
 
@@ -208,29 +262,29 @@ fn samples_go_back_in_any_order(rt: HostRuntime) {
 }
 
 /// The samples that are loaned next have these ids.
-fn are_loaned<A: Allocator>(rt: &impl Abort, book: &mut LoanBook<A>, ids: Range<u64>) {
+fn are_loaned(rt: &impl Abort, book: &mut impl Book, ids: Range<u64>) {
     for id in ids {
-        assert_eq!(rt; id_of(reply_to(book, LoanCall::Loan(64))), Some(id));
+        assert!(rt; book.told(LoanCall::Loan(64)).id() == Some(id));
     }
 }
 
 /// Each of these samples leaves by one return.
-fn leave<A: Allocator>(rt: &impl Abort, book: &mut LoanBook<A>, ids: &[u64]) {
+fn leave(rt: &impl Abort, book: &mut impl Book, ids: &[u64]) {
     for id in ids {
         let leaves = [
-            (LoanCall::GiveBack(*id), LoanReply::Returned),
-            (LoanCall::IsOut(*id), LoanReply::Out(false)),
+            (LoanCall::GiveBack(*id), Told::Returned),
+            (LoanCall::IsOut(*id), Told::Out(false)),
         ];
         answers(rt, book, &leaves);
     }
 }
 
 /// Each of these samples is out, and can be published for two readers.
-fn are_published<A: Allocator>(rt: &impl Abort, book: &mut LoanBook<A>, ids: &[u64]) {
+fn are_published(rt: &impl Abort, book: &mut impl Book, ids: &[u64]) {
     for id in ids {
         let publishes = [
-            (LoanCall::IsOut(*id), LoanReply::Out(true)),
-            (LoanCall::Publish(*id, 2), LoanReply::Published),
+            (LoanCall::IsOut(*id), Told::Out(true)),
+            (LoanCall::Publish(*id, 2), Told::Published),
         ];
         answers(rt, book, &publishes);
     }

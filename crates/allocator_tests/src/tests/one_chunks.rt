@@ -69,11 +69,6 @@ fn runs_over_a_one_chunk(rt: HostRuntime) {
         Reply::Refused(AllocationError::OutOfMemory),
         Reply::Released,
     ];
-    runs(
-        &rt,
-        one_owner(rt.alloc(), 4097, 1024),
-        &commands,
-        &full,
-        &base,
-    );
+    let steps = runs(&commands, &full, &base);
+    one_keeps(&rt, rt.alloc(), (4097, 1024), &steps);
 }

@@ -5,7 +5,7 @@ ghost use Rattle.bb_memory_base.specs.Chunk.{Chunk};
 ghost use Rattle.bb_memory_base.specs.HeldBytes.{held_region};
 ghost use Rattle.bb_memory_base.specs.Region.{region_at};
 
-use self::kinds::{Figures, Kind};
+use self::kinds::{Figures, Kind, Run};
 use super::layouts::layout_of;
 use bb_memory::allocator::{
     AllocationError, AllocationGrowError, AllocationShrinkError, Allocator, BaseAllocator, Command,
@@ -67,9 +67,17 @@ pub(crate) enum Answer {
 
 /// The answer that was given to a call is what a row wants.
 fn is_allowed(given: Answer, wanted: Answer) -> bool {
-    match (given, wanted) {
-        (Answer::Chunk(_, len), Answer::Somewhere(wanted)) => len == wanted,
+    match wanted {
+        Answer::Somewhere(len) => len_of(given) == Some(len),
         _ => given == wanted,
+    }
+}
+
+/// How long the chunk is that was given.
+fn len_of(given: Answer) -> Option<usize> {
+    match given {
+        Answer::Chunk(_, len) => Some(len),
+        _ => None,
     }
 }
 
@@ -82,6 +90,12 @@ pub(crate) enum Step<'a> {
     Figures(Figures),
     /// The last request read so many index words.
     Reads(u32),
+    /// So many requests for a byte are answered with one each, by one read.
+    Bytes(usize),
+    /// The chunk at a place goes back, by its place alone where this is true.
+    Back(usize, bool),
+    /// Commands are replied so by such a run.
+    Run(Run, &'a [Command], &'a [Reply]),
     /// A chunk or a bucket is held at the first place, and none at the second.
     Holds(usize, usize),
     /// The chunks that are out are at these places and of so many bytes, in the order in which they were given.
@@ -136,8 +150,7 @@ impl<A: BaseAllocator + Drop> Owner<A> {
         &self.allocator
     }
 
-    /// The position of the chunk at a place.
-    pub(crate) fn position_of(&self, place: usize) -> Option<usize> {
+    fn position(&self, place: usize) -> Option<usize> {
         for position in 0..self.live.len() {
             if self.live[position].place() == place {
                 return Some(position);
@@ -149,7 +162,7 @@ impl<A: BaseAllocator + Drop> Owner<A> {
     fn is_at(&self, start: usize, stride: usize, count: usize) -> bool {
         let mut place = start;
         for _ in 0..count {
-            if self.position_of(place).is_none() {
+            if self.position(place).is_none() {
                 return false;
             }
             place = place.saturating_add(stride);
@@ -280,18 +293,27 @@ impl<A: Allocator + Drop> Owner<A> {
 
     /// Makes a call.
     fn answer_full(&mut self, call: Call) -> Answer {
-        match call {
-            Call::Grow(position, ..)
-            | Call::GrowZeroed(position, ..)
-            | Call::Shrink(position, ..) => self.resize(position, call),
-            Call::Reserved(position) => self.reserved(position),
-            call => self.answer_base(call),
+        if let Some(position) = position_of_resize(call) {
+            return self.resize(position, call);
         }
+        if let Call::Reserved(position) = call {
+            return self.reserved(position);
+        }
+        self.answer_base(call)
     }
 
     /// The commands' replies, by the run with resizes.
     fn run_full(&mut self, commands: &[Command]) -> Result<Vec<Reply>, AllocError> {
         run_full(&mut self.allocator, &mut self.live, commands)
+    }
+}
+
+/// The position of the chunk that a call resizes.
+fn position_of_resize(call: Call) -> Option<usize> {
+    match call {
+        Call::Grow(position, ..) | Call::GrowZeroed(position, ..) | Call::Shrink(position, ..) =>
+            Some(position),
+        _ => None,
     }
 }
 
@@ -337,18 +359,6 @@ fn resize<A: Allocator>(
     }
 }
 
-/// An owner who has room for so many chunks, so that no call takes memory.
-pub(crate) fn with_room<A: BaseAllocator + Drop>(
-    made: Result<Owner<A>, &'static str>,
-    chunks: usize,
-) -> Result<Owner<A>, &'static str> {
-    let mut owner = made?;
-    match owner.live.reserve(chunks) {
-        Ok(()) => Ok(owner),
-        Err(_) => Err("memory was refused"),
-    }
-}
-
 /// The two layouts of a resize.
 fn layouts(old: (usize, usize), new: (usize, usize)) -> Option<(Layout, Layout)> {
     match (layout_of(old.0, old.1), layout_of(new.0, new.1)) {
@@ -383,12 +393,58 @@ fn answer_to_resize(chunk: Chunk, resized: Chunk) -> Answer {
 }
 
 impl<A: Kind> Owner<A> {
+    fn takes_bytes(&mut self, count: usize) -> bool {
+        for _ in 0..count {
+            let given = A::answer(self, Call::Allocate(1, 1));
+            if len_of(given) != Some(1) || self.allocator.reads() != Some(1) {
+                return false;
+            }
+        }
+        true
+    }
+
+    fn goes_back(&mut self, place: usize, by_place: bool) -> bool {
+        let Some(position) = self.position(place) else {
+            return false;
+        };
+        let back = if by_place {
+            Call::DeallocateBucket(position)
+        } else {
+            Call::Deallocate(position)
+        };
+        A::answer(self, back) == Answer::Done
+    }
+}
+
+/// Whether these are the replies of a run.
+pub(crate) fn replies_are(told: Result<Vec<Reply>, AllocError>, replies: &[Reply]) -> bool {
+    match told {
+        Ok(told) => told.as_slice() == replies,
+        Err(_) => false,
+    }
+}
+
+/// An owner as rows drive it: of any kind of allocator, and without a clause.
+pub(crate) trait Driven: Drop {
     /// Whether a step is as it has to be.
+    fn keeps(&mut self, step: Step<'_>) -> bool;
+
+    /// The commands' replies.
+    fn run(&mut self, run: Run, commands: &[Command]) -> Result<Vec<Reply>, AllocError>;
+
+    /// Whether there is room for so many chunks more, so that no call takes memory.
+    fn has_room(&mut self, chunks: usize) -> bool;
+}
+
+impl<A: Kind> Driven for Owner<A> {
     fn keeps(&mut self, step: Step<'_>) -> bool {
         match step {
             Step::Call(call, wanted) => is_allowed(A::answer(self, call), wanted),
             Step::Figures(wanted) => self.allocator.figures() == wanted,
             Step::Reads(words) => self.allocator.reads() == Some(words),
+            Step::Bytes(count) => self.takes_bytes(count),
+            Step::Back(place, by_place) => self.goes_back(place, by_place),
+            Step::Run(run, commands, replies) => replies_are(A::run(self, run, commands), replies),
             Step::Holds(held, other) => {
                 self.allocator.holds_at(held) && !self.allocator.holds_at(other)
             }
@@ -402,19 +458,27 @@ impl<A: Kind> Owner<A> {
             }
         }
     }
+
+    fn run(&mut self, run: Run, commands: &[Command]) -> Result<Vec<Reply>, AllocError> {
+        A::run(self, run, commands)
+    }
+
+    fn has_room(&mut self, chunks: usize) -> bool {
+        self.live.reserve(chunks).is_ok()
+    }
 }
 
 /// Each of these steps, taken in turn, is as it has to be.
-pub(crate) fn keeps<A: Kind>(rt: &impl Abort, owner: &mut Owner<A>, steps: &[Step<'_>]) {
+pub(crate) fn keeps(rt: &impl Abort, owner: &mut impl Driven, steps: &[Step<'_>]) {
     for (number, step) in steps.iter().enumerate() {
         assert!(rt; owner.keeps(*step), "step {number}");
     }
 }
 
 /// The same of an owner who is made for it.
-pub(crate) fn all_keep<A: Kind>(
+pub(crate) fn all_keep(
     rt: &impl Abort,
-    made: Result<Owner<A>, &'static str>,
+    made: Result<impl Driven, &'static str>,
     steps: &[Step<'_>],
 ) {
     match made {

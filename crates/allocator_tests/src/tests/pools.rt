@@ -4,8 +4,8 @@ ghost use Rattle.bb_memory_base.specs.Region.{region_at};
 ghost use Rattle.bb_memory.specs.Pool.{StandsFor};
 
 use super::layouts::{chunk, layout, layout_of};
-use super::owner::kinds::{Kind, runs};
-use super::owner::{Answer, Call, Owner, Step, all_keep, keeps, sevens};
+use super::owner::kinds::runs;
+use super::owner::{Answer, Call, Owner, Step, all_keep, sevens};
 use bb_memory::allocator::{Command, Reply};
 use bb_memory::layout::Layout;
 use bb_memory::pool_allocator::{AllocationError, PoolAllocator};
@@ -85,7 +85,7 @@ pub(super) fn memory_size(bucket: Layout, size: usize) -> Option<usize> {
 
 #[test]
 fn pool_rounded_stride(rt: HostRuntime) {
-    assert_eq!(rt; memory_size(layout(&rt, 12, 8), 64), Some(40));
+    assert!(rt; memory_size(layout(&rt, 12, 8), 64) == Some(40));
     let twelve = Step::Call(Call::Allocate(12, 8), Answer::Somewhere(12));
     let steps = [
         Step::Figures([4096, 4, 64, 12, 8]),
@@ -102,9 +102,9 @@ fn pool_rounded_stride(rt: HostRuntime) {
 #[test]
 fn memory_sizes(rt: HostRuntime) {
     let wide = layout(&rt, 128, 8);
-    assert_eq!(rt; memory_size(wide, 1024), Some(64));
-    assert_eq!(rt; memory_size(layout(&rt, 12, 8), 64), Some(40));
-    assert_eq!(rt; memory_size(wide, 100), Some(0));
+    assert!(rt; memory_size(wide, 1024) == Some(64));
+    assert!(rt; memory_size(layout(&rt, 12, 8), 64) == Some(40));
+    assert!(rt; memory_size(wide, 100) == Some(0));
 }
 
 #[test]
@@ -117,63 +117,20 @@ const BYTE: Call = Call::Allocate(1, 1);
 
 const FULL: Step<'_> = Step::Call(BYTE, Answer::Refused(AllocationError::OutOfMemory));
 
-/// Each bucket of a pool of so many of one byte at 4096 is taken, by one read, and then the pool is full.
-fn are_all_taken<A: Kind>(rt: &impl Abort, pool: &mut Owner<A>, buckets: usize) {
-    for _ in 0..buckets {
-        keeps(
-            rt,
-            pool,
-            &[Step::Call(BYTE, Answer::Somewhere(1)), Step::Reads(1)],
-        );
-    }
-    keeps(rt, pool, &[Step::At(4096, 1, buckets), FULL]);
-}
-
-/// A bucket of a full pool goes back by such a call, and is the one that is given next.
-fn is_given_again<A: Kind>(rt: &impl Abort, pool: &mut Owner<A>, place: usize, by_place: bool) {
-    let position = pool
-        .position_of(place)
-        .expect(rt, "a chunk is at the place");
-    let back = if by_place {
-        Call::DeallocateBucket(position)
-    } else {
-        Call::Deallocate(position)
-    };
+/// All buckets of a pool of so many of one byte at 4096 are taken; a refusal reads one word, and then one bucket goes back, by its
+/// place alone or not, and is the one that is given next.
+fn pool_fills(rt: &impl Abort, alloc: Global, buckets: usize, place: usize, by_place: bool) {
     let steps = [
-        Step::Call(back, Answer::Done),
+        Step::Bytes(buckets),
+        Step::At(4096, 1, buckets),
+        FULL,
+        Step::Reads(1),
+        Step::Back(place, by_place),
         Step::Call(BYTE, Answer::Chunk(place, 1)),
         Step::Reads(1),
+        FULL,
     ];
-    keeps(rt, pool, &steps);
-}
-
-/// All of a pool's buckets are taken; a refusal reads so many words, and then one bucket goes back and is given again.
-fn fills<A: Kind>(
-    rt: &impl Abort,
-    made: Result<Owner<A>, &'static str>,
-    buckets: usize,
-    place: usize,
-    by_place: bool,
-) {
-    let mut pool = match made {
-        Ok(pool) => pool,
-        Err(cause) => panic!(rt; "{cause}"),
-    };
-    are_all_taken(rt, &mut pool, buckets);
-    keeps(rt, &mut pool, &[Step::Reads(1)]);
-    is_given_again(rt, &mut pool, place, by_place);
-    keeps(rt, &mut pool, &[FULL]);
-}
-
-/// The same of a pool of so many buckets of one byte at 4096.
-fn pool_fills(rt: &impl Abort, alloc: Global, buckets: usize, place: usize, by_place: bool) {
-    fills(
-        rt,
-        pool_owner(alloc, (1, 1), 4096, buckets),
-        buckets,
-        place,
-        by_place,
-    );
+    pool_keeps(rt, alloc, (1, 1), (4096, buckets), &steps);
 }
 
 #[test]
@@ -228,17 +185,12 @@ pub(super) fn resized_and_refused(rt: &impl Abort, resizes: bool) -> [Reply; 4] 
     ]
 }
 
-/// Such runs over a pool.
-pub(super) fn resize_runs<A: Kind>(rt: &impl Abort, made: Result<Owner<A>, &'static str>) {
-    let (full, base) = (
-        resized_and_refused(rt, true),
-        resized_and_refused(rt, false),
-    );
-    runs(rt, made, &resize_and_refusal(rt), &full, &base);
-}
-
 /// A resize is carried out by the run with resizes, and passed over by the other.
 #[test]
 fn runs_over_a_pool(rt: HostRuntime) {
-    resize_runs(&rt, pool_owner(rt.alloc(), (16, 8), 4096, 16));
+    let commands = resize_and_refusal(&rt);
+    let full = resized_and_refused(&rt, true);
+    let base = resized_and_refused(&rt, false);
+    let steps = runs(&commands, &full, &base);
+    pool_keeps(&rt, rt.alloc(), (16, 8), (4096, 16), &steps);
 }

@@ -15,14 +15,14 @@ use std::test::Fail;
 fn has_bytes(rt: &impl Abort, region: &Region, chunk: Chunk, bytes: &[u8], of_chunk: &[u8])
     requires { IsInside (held_region region.now) chunk }
 {
-    assert_eq!(rt; region.bytes(), bytes);
-    assert_eq!(rt; region.chunk(chunk), of_chunk);
+    assert!(rt; region.bytes() == bytes);
+    assert!(rt; region.chunk(chunk) == of_chunk);
 }
 
 #[test]
 fn a_region_call_by_call(rt: HostRuntime) -> Result<(), Fail> {
     let mut region = Region::new(4096, vec![in rt.alloc(); 7; 8]?);
-    assert_eq!(rt; (region.start_address(), region.size()), (4096, 8));
+    assert!(rt; (region.start_address(), region.size()) == (4096, 8));
     let chunk = Chunk::new(4098, 3).unwrap();
     let lent = region.chunk_mut(chunk);
     lent[0] = 1;

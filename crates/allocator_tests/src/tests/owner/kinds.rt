@@ -3,7 +3,7 @@ ghost use Rattle.std.specs.Prelude.{◌≡◌, ℕ, List, Some, slice_get, remov
 ghost use Rattle.bb_memory_base.specs.Chunk.{Chunk};
 ghost use Rattle.bb_memory.specs.Pool.{HoldsPlace, StandsFor};
 
-use super::{Answer, Call, Owner, chunk_at};
+use super::{Answer, Call, Owner, Step, chunk_at};
 use bb_memory::allocator::{BaseAllocator, Command, Reply};
 use bb_memory::bump_allocator::{BumpAllocator, run_bump};
 use bb_memory::layout::Chunk;
@@ -13,7 +13,6 @@ use bb_memory::pool_allocator::{
     run_pool,
 };
 use std::alloc::{AllocError, Global};
-use std::process::Abort;
 
 /// What the getters answer, in the order in which an allocator declares them, and zeros behind them.
 pub(crate) type Figures = [usize; 5];
@@ -225,33 +224,21 @@ fn give_back_bucket(pool: &mut PoolAllocator<Global>, place: usize)
     pool.deallocate_bucket(place);
 }
 
-/// The replies of a run are these.
-pub(crate) fn replies_are(rt: &impl Abort, told: Result<Vec<Reply>, AllocError>, wanted: &[Reply]) {
-    match told {
-        Ok(told) => assert_eq!(rt; told.as_slice(), wanted),
-        Err(_) => panic!(rt; "memory was refused"),
-    }
-}
-
 /// These commands are replied so where resizes are carried out, and so where they are passed over: by the run over any allocator
 /// and by that of the allocator's name, one behind the other. Each leaves no chunk out.
-pub(crate) fn runs<A: Kind>(
-    rt: &impl Abort,
-    made: Result<Owner<A>, &'static str>,
-    commands: &[Command],
-    full: &[Reply],
-    base: &[Reply],
-) {
-    let mut owner = match made {
-        Ok(owner) => owner,
-        Err(cause) => panic!(rt; "{cause}"),
-    };
-    for run in [Run::Full, Run::FullByName] {
-        replies_are(rt, A::run(&mut owner, run, commands), full);
-        assert_eq!(rt; owner.live.len(), 0);
-    }
-    for run in [Run::Base, Run::BaseByName] {
-        replies_are(rt, A::run(&mut owner, run, commands), base);
-        assert_eq!(rt; owner.live.len(), 0);
-    }
+pub(crate) fn runs<'a>(
+    commands: &'a [Command],
+    full: &'a [Reply],
+    base: &'a [Reply],
+) -> [Step<'a>; 8] {
+    [
+        Step::Run(Run::Full, commands, full),
+        Step::Out(&[]),
+        Step::Run(Run::FullByName, commands, full),
+        Step::Out(&[]),
+        Step::Run(Run::Base, commands, base),
+        Step::Out(&[]),
+        Step::Run(Run::BaseByName, commands, base),
+        Step::Out(&[]),
+    ]
 }

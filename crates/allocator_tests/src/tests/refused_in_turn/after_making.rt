@@ -7,24 +7,24 @@ mod pools;
 
 use super::ends_unmade;
 use crate::marks::{none_was_asked, refuse_memory};
-use crate::tests::owner::kinds::Kind;
-use crate::tests::owner::{Owner, Step, keeps, with_room};
+use crate::tests::owner::{Driven, Step, keeps};
 use std::alloc::Global;
 use std::process::Abort;
 
 /// These steps, with at most two chunks out at once, are as they have to be without a request for memory.
-fn keep_without_memory<A: Kind>(
+fn keep_without_memory(
     rt: &impl Abort,
     alloc: Global,
-    made: Result<Owner<A>, &'static str>,
+    made: Result<impl Driven, &'static str>,
     steps: &[Step<'_>],
 ) {
-    match with_room(made, 2) {
-        Ok(mut owner) => {
-            refuse_memory(alloc);
-            keeps(rt, &mut owner, steps);
-            assert!(rt; none_was_asked(alloc));
-        }
-        Err(_) => ends_unmade(rt, alloc),
+    let Ok(mut owner) = made else {
+        return ends_unmade(rt, alloc);
+    };
+    if !owner.has_room(2) {
+        return ends_unmade(rt, alloc);
     }
+    refuse_memory(alloc);
+    keeps(rt, &mut owner, steps);
+    assert!(rt; none_was_asked(alloc));
 }

@@ -23,7 +23,7 @@ fn grown(
     }
     let refused = BlockAnswer::GrowRefused(AllocationGrowError::OutOfMemory);
     assert!(rt; answer == refused && some_was_refused(alloc));
-    assert_eq!(rt; block.as_slice(), bytes);
+    assert!(rt; block.as_slice() == bytes);
     let (block, answer) = answered(&heap, block, call);
     assert!(rt; answer == BlockAnswer::Done);
     block
@@ -46,7 +46,7 @@ fn heap_grow_and_shrink(rt: HostRuntime) {
     let bytes = [1, 2, 3, 4].as_slice();
     let (block, _) = answered(&heap, four_bytes(&rt, rt.alloc()), BlockCall::Count(1));
     let block = grown(&rt, rt.alloc(), block, BlockCall::Grow(6, 1), bytes);
-    assert_eq!(rt; block.as_slice(), [1, 2, 3, 4, 0, 0].as_slice());
+    assert!(rt; block.as_slice() == [1, 2, 3, 4, 0, 0].as_slice());
     let table = [(
         BlockCall::Shrink(2, 1),
         BlockAnswer::Done,
@@ -70,9 +70,9 @@ fn three_zeros(rt: &impl Abort, alloc: Global) -> HeapBlock {
 fn heap_zeroed_and_refused(rt: HostRuntime) {
     let heap = HeapAllocator::new(rt.alloc());
     let block = three_zeros(&rt, rt.alloc());
-    assert_eq!(rt; block.as_slice(), [0, 0, 0].as_slice());
+    assert!(rt; block.as_slice() == [0, 0, 0].as_slice());
     let (block, _) = answered(&heap, block, BlockCall::Count(5));
     let bytes = [5, 6, 7].as_slice();
     let block = grown(&rt, rt.alloc(), block, BlockCall::GrowZeroed(5, 1), bytes);
-    assert_eq!(rt; block.as_slice(), [5, 6, 7, 0, 0].as_slice());
+    assert!(rt; block.as_slice() == [5, 6, 7, 0, 0].as_slice());
 }

@@ -2,14 +2,15 @@
 use super::ends_unmade;
 use crate::marks::some_was_refused;
 use crate::tests::counted::counted_book;
-use crate::tests::loans::{answers, id_of, one_book, pool_book, reply_to, told};
-use bb_memory::allocator::Allocator;
-use bb_memory::layout::Chunk;
-use loan_book::{LoanBook, LoanCall, LoanError, LoanReply};
+use crate::tests::loans::{Book, Told, answers, are_told, one_book, pool_book};
+use loan_book::{LoanCall, LoanError};
 use std::alloc::Global;
 use std::cell::Cell;
 use std::process::Abort;
 use std::rc::Rc;
+
+/// A loan that is refused for its record's memory.
+const NO_MEMORY: Told = Told::Refused(LoanError::Memory);
 
 #[test]
 fn each_loan_keeps_the_book(rt: HostRuntime) {
@@ -17,112 +18,84 @@ fn each_loan_keeps_the_book(rt: HostRuntime) {
 }
 
 /// Sixteen samples are loaned, where the book was made.
-fn are_loaned<A: Allocator + Drop>(
-    rt: &impl Abort,
-    alloc: Global,
-    made: Result<LoanBook<A>, &'static str>,
-) {
+fn are_loaned(rt: &impl Abort, alloc: Global, made: Result<impl Book, &'static str>) {
     let Ok(mut book) = made else {
         return ends_unmade(rt, alloc);
     };
     for id in 0..16 {
-        is_loaned(rt, alloc, &mut book, id);
+        assert!(rt; loaned_at_last(rt, alloc, &mut book, id) == Some(id));
     }
 }
 
-/// The next sample that is loaned has this id, where memory was refused at a second trial. The refusal leaves just the samples
-/// before it out.
-fn is_loaned<A: Allocator>(rt: &impl Abort, alloc: Global, book: &mut LoanBook<A>, id: u64) {
-    let mut reply = reply_to(book, LoanCall::Loan(64));
-    if reply == LoanReply::Refused(LoanError::Memory) {
-        assert!(rt; some_was_refused(alloc));
-        for other in 0..17 {
-            answers(
-                rt,
-                book,
-                &[(LoanCall::IsOut(other), LoanReply::Out(other < id))],
-            );
-        }
-        reply = reply_to(book, LoanCall::Loan(64));
+/// The id of the next sample that is loaned, where memory was refused at a second trial. The refusal leaves just the samples
+/// below this id out.
+fn loaned_at_last(rt: &impl Abort, alloc: Global, book: &mut impl Book, id: u64) -> Option<u64> {
+    let told = book.told(LoanCall::Loan(64));
+    if told != NO_MEMORY {
+        return told.id();
     }
-    assert_eq!(rt; id_of(reply), Some(id));
+    assert!(rt; some_was_refused(alloc));
+    for other in 0..17 {
+        answers(rt, book, &[(LoanCall::IsOut(other), Told::Out(other < id))]);
+    }
+    book.told(LoanCall::Loan(64)).id()
 }
 
 /// A loan that is refused for its record's memory hasn't asked the allocator, and one that is made has asked it once.
 #[test]
 fn a_loan_asks_for_its_record_first(rt: HostRuntime) {
-    let Ok(requests) = Rc::new(rt.alloc(), Cell::new(0)) else {
-        return ends_unmade(&rt, rt.alloc());
-    };
-    let Ok(its_own) = requests.clone() else {
-        return ends_unmade(&rt, rt.alloc());
-    };
-    each_asks_once(
-        &rt,
-        rt.alloc(),
-        &requests,
-        counted_book(rt.alloc(), its_own),
-    );
+    each_asks_once(&rt, rt.alloc(), counted_book(rt.alloc()));
 }
 
 /// Each of sixteen loans asks once, where the book was made.
-fn each_asks_once<A: Allocator + Drop>(
-    rt: &impl Abort,
-    alloc: Global,
-    requests: &Cell<usize>,
-    made: Result<LoanBook<A>, &'static str>,
-) {
-    let Ok(mut book) = made else {
+fn each_asks_once<B: Book>(rt: &impl Abort, alloc: Global, made: Option<(B, Rc<Cell<usize>>)>) {
+    let Some((mut book, requests)) = made else {
         return ends_unmade(rt, alloc);
     };
     for _ in 0..16 {
-        asks_once(rt, alloc, requests, &mut book);
+        let told = book.told(LoanCall::Loan(64));
+        asks_once(rt, alloc, told, requests.replace(0));
     }
 }
 
 /// A loan makes no request of the allocator where it is refused for its record's memory, and else one.
-fn asks_once<A: Allocator>(
-    rt: &impl Abort,
-    alloc: Global,
-    requests: &Cell<usize>,
-    book: &mut LoanBook<A>,
-) {
-    let reply = reply_to(book, LoanCall::Loan(64));
-    if reply == LoanReply::Refused(LoanError::Memory) {
+fn asks_once(rt: &impl Abort, alloc: Global, told: Told, requests: usize) {
+    if told == NO_MEMORY {
+        assert!(rt; requests == 0);
         assert!(rt; some_was_refused(alloc));
-        assert_eq!(rt; requests.replace(0), 0);
     } else {
-        assert!(rt; id_of(reply).is_some());
-        assert_eq!(rt; requests.replace(0), 1);
+        assert!(rt; requests == 1);
+        assert!(rt; told.id().is_some());
     }
 }
 
 #[test]
 fn a_list_of_loans_keeps_the_book(rt: HostRuntime) {
-    let whole = Chunk::new(4096, 64).unwrap();
-    let calls = [LoanCall::Loan(1), LoanCall::GiveBack(0)];
-    let replies = [LoanReply::Loaned(0, whole), LoanReply::Returned];
     let mut book = one_book(rt.alloc());
-    let told = told_at_last(&rt, rt.alloc(), &mut book, &calls);
-    assert_eq!(rt; told.as_slice(), replies.as_slice());
+    is_made_at_last(&rt, rt.alloc(), &mut book);
 }
 
-/// The replies to a loan and its return, where memory was refused at a second trial.
-fn told_at_last<A: Allocator>(
-    rt: &impl Abort,
-    alloc: Global,
-    book: &mut LoanBook<A>,
-    calls: &[LoanCall],
-) -> Vec<LoanReply> {
-    // The list of replies is reserved first. What is refused after it is the record of the loan, which no id is used up for.
-    let refused = [
-        LoanReply::Refused(LoanError::Memory),
-        LoanReply::Refused(LoanError::UnknownSample),
-    ];
-    match told(alloc, book, calls) {
-        Ok(replies) if replies.as_slice() != refused.as_slice() => return replies,
-        _ => assert!(rt; some_was_refused(alloc)),
+/// Whether a loan and its return, as one list, are made. None is where memory was refused: for the list of replies, or behind it
+/// for the record of the loan, which no id is used up for.
+fn is_made(alloc: Global, book: &mut impl Book) -> Option<bool> {
+    let calls = [LoanCall::Loan(1), LoanCall::GiveBack(0)];
+    let replies = book.replies(alloc, &calls).ok()?;
+    if are_told(
+        &replies,
+        &[NO_MEMORY, Told::Refused(LoanError::UnknownSample)],
+    ) {
+        return None;
     }
-    answers(rt, book, &[(LoanCall::IsOut(0), LoanReply::Out(false))]);
-    told(alloc, book, calls).expect(rt, "there is memory again")
+    Some(are_told(&replies, &[Told::Loaned(0, 4096, 64), Told::Returned]))
+}
+
+/// The list is made, where memory was refused at a second trial.
+fn is_made_at_last(rt: &impl Abort, alloc: Global, book: &mut impl Book) {
+    if let Some(is_made) = is_made(alloc, book) {
+        assert!(rt; is_made);
+        return;
+    }
+    assert!(rt; some_was_refused(alloc));
+    answers(rt, book, &[(LoanCall::IsOut(0), Told::Out(false))]);
+    assert!(rt; is_made(alloc, book) == Some(true));
 }

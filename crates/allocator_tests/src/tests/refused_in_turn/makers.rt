@@ -4,7 +4,7 @@ ghost use Rattle.std.specs.Prelude.{◌≡◌, All, IfOk};
 use crate::marks::some_was_refused;
 use crate::tests::errors::has_text;
 use crate::tests::layouts::layout;
-use crate::tests::owner::kinds::{Figures, Kind};
+use crate::tests::owner::kinds::Kind;
 use bb_memory::bump_allocator::{AllocationError, BaseAllocator, BumpAllocator};
 use bb_memory::layout::Layout;
 use bb_memory::pool_allocator::PoolAllocator;
@@ -14,16 +14,15 @@ use std::process::Abort;
 
 #[test]
 fn pool_odd_start_getters(rt: HostRuntime) {
-    let made = initialised(&rt, rt.alloc(), layout(&rt, 128, 8));
-    assert_eq!(rt; told_of(made), Ok(([4104, 7, 1024, 128, 8], Some(0))));
+    match initialised(&rt, rt.alloc(), layout(&rt, 128, 8)) {
+        Ok(pool) => assert!(rt; is_fresh(&pool)),
+        Err(cause) => panic!(&rt; "{cause}"),
+    }
 }
 
-/// What a pool tells: its getters' answers, and how many index words its last request read.
-fn told_of<A: Kind>(made: Result<A, &'static str>) -> Result<(Figures, Option<u32>), &'static str> {
-    match made {
-        Ok(pool) => Ok((pool.figures(), pool.reads())),
-        Err(cause) => Err(cause),
-    }
+/// Whether the getters answer as of a fresh pool.
+fn is_fresh(pool: &PoolAllocator<Global>) -> bool {
+    pool.figures() == [4104, 7, 1024, 128, 8] && pool.last_reads() == 0
 }
 
 /// A pool over 1,024 bytes at 4097. Where memory was refused, the uninitialised one comes back, and is initialised once more.
@@ -39,7 +38,7 @@ fn initialised(
         Ok(pool) => return Ok(pool),
         Err(refused) => refused,
     };
-    assert_eq!(rt; error, AllocationError::OutOfMemory);
+    assert!(rt; error == AllocationError::OutOfMemory);
     assert!(rt; some_was_refused(alloc));
     match handed_back.init(alloc) {
         Ok(pool) => Ok(pool),
@@ -60,9 +59,9 @@ fn shared_by_two(
         Ok(shared) => return Ok(shared),
         Err(refused) => refused,
     };
-    assert_eq!(rt; error, AllocationError::OutOfMemory);
+    assert!(rt; error == AllocationError::OutOfMemory);
     assert!(rt; some_was_refused(alloc));
-    assert_eq!(rt; handed_back.used_space(), 48);
+    assert!(rt; handed_back.used_space() == 48);
     let text = "BumpAllocator { start: 4096, size: 1024, current_position: 48 }";
     has_text(rt, alloc, &handed_back, text);
     match handed_back.share(alloc, 2) {
@@ -84,7 +83,7 @@ fn share_hands_the_bump_back(rt: HostRuntime) {
     let mut bump = BumpAllocator::new(4096, 1024);
     assert!(rt; bump.allocate(layout(&rt, 48, 4)).is_ok());
     match shared_by_two(&rt, rt.alloc(), bump) {
-        Ok((shared, parties)) => assert_eq!(rt; used_by_last(&shared, parties), Some((1, 48))),
+        Ok((shared, parties)) => assert!(rt; used_by_last(&shared, parties) == Some((1, 48))),
         Err(cause) => panic!(&rt; "{cause}"),
     }
 }

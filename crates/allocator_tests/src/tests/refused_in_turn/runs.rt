@@ -4,30 +4,12 @@ use crate::marks::some_was_refused;
 use crate::tests::bumps::bump_owner;
 use crate::tests::layouts::{chunk, layout};
 use crate::tests::one_chunks::one_owner;
-use crate::tests::owner::kinds::{Figures, Kind, Run, replies_are};
-use crate::tests::owner::{Owner, Step, keeps};
+use crate::tests::owner::kinds::{Figures, Run};
+use crate::tests::owner::{Driven, Step, keeps, replies_are};
 use crate::tests::pools::pool_owner;
 use bb_memory::allocator::{AllocationError, AllocationGrowError, Command, Reply};
 use std::alloc::{AllocError, Global};
 use std::process::Abort;
-
-/// The replies of a run. Where memory was refused at first, the owner's getters still answer as of a fresh one, and nothing
-/// is out.
-fn told<A: Kind>(
-    rt: &impl Abort,
-    alloc: Global,
-    owner: &mut Owner<A>,
-    run: Run,
-    commands: &[Command],
-    fresh: Figures,
-) -> Result<Vec<Reply>, AllocError> {
-    if let Ok(told) = A::run(owner, run, commands) {
-        return Ok(told);
-    }
-    assert!(rt; some_was_refused(alloc));
-    keeps(rt, owner, &[Step::Figures(fresh), Step::Out(&[])]);
-    A::run(owner, run, commands)
-}
 
 /// A run, what it is replied, and the getters' answers before it.
 #[derive(Clone, Copy)]
@@ -38,18 +20,36 @@ struct Row<'a> {
     fresh: Figures,
 }
 
-/// A run is replied so, and then these steps are as they have to be. Without memory for the owner the test ends.
-fn is_told<A: Kind>(
+/// The replies of a run. Where memory was refused at first, the owner's getters still answer as of a fresh one, and nothing
+/// is out.
+fn told(
     rt: &impl Abort,
     alloc: Global,
-    made: Result<Owner<A>, &'static str>,
+    owner: &mut impl Driven,
+    run: Run,
+    commands: &[Command],
+    fresh: Figures,
+) -> Result<Vec<Reply>, AllocError> {
+    if let Ok(told) = owner.run(run, commands) {
+        return Ok(told);
+    }
+    assert!(rt; some_was_refused(alloc));
+    keeps(rt, owner, &[Step::Figures(fresh), Step::Out(&[])]);
+    owner.run(run, commands)
+}
+
+/// A run is replied so, and then these steps are as they have to be. Without memory for the owner the test ends.
+fn is_told(
+    rt: &impl Abort,
+    alloc: Global,
+    made: Result<impl Driven, &'static str>,
     row: &Row<'_>,
     steps: &[Step<'_>],
 ) {
     match made {
         Ok(mut owner) => {
             let told = told(rt, alloc, &mut owner, row.run, row.commands, row.fresh);
-            replies_are(rt, told, row.replies);
+            assert!(rt; replies_are(told, row.replies));
             keeps(rt, &mut owner, steps);
         }
         Err(_) => ends_unmade(rt, alloc),
@@ -147,29 +147,22 @@ fn eight_buckets(rt: &impl Abort) -> [Command; 14] {
 }
 
 /// The row is replied as it has to be, and eight chunks are out then.
-fn has_eight_buckets<A: Kind>(
-    rt: &impl Abort,
-    alloc: Global,
-    made: Result<Owner<A>, &'static str>,
-) {
-    match made {
-        Ok(mut pool) => {
-            let (commands, fresh) = (eight_buckets(rt), [4096, 8, 1024, 128, 8]);
-            let told = told(rt, alloc, &mut pool, Run::FullByName, &commands, fresh);
-            are_of_eight_buckets(rt, &told.expect(rt, "there is memory again"));
-            keeps(rt, &mut pool, &[Step::At(4096, 128, 8)]);
-        }
-        Err(_) => ends_unmade(rt, alloc),
+fn has_eight_buckets(rt: &impl Abort, alloc: Global, made: Result<impl Driven, &'static str>) {
+    let Ok(mut pool) = made else {
+        return ends_unmade(rt, alloc);
+    };
+    let (commands, fresh) = (eight_buckets(rt), [4096, 8, 1024, 128, 8]);
+    match told(rt, alloc, &mut pool, Run::FullByName, &commands, fresh) {
+        Ok(told) => are_of_eight_buckets(rt, &told),
+        Err(_) => panic!(rt; "there is memory again"),
     }
+    keeps(rt, &mut pool, &[Step::At(4096, 128, 8)]);
 }
 
 #[test]
 fn pool_eight_buckets(rt: HostRuntime) {
-    has_eight_buckets(
-        &rt,
-        rt.alloc(),
-        pool_owner(rt.alloc(), (128, 8), 4096, 1024),
-    );
+    let made = pool_owner(rt.alloc(), (128, 8), 4096, 1024);
+    has_eight_buckets(&rt, rt.alloc(), made);
 }
 
 /// The replies of the row: three refusals, the eight buckets in any order, one more refusal, and the first of them once more.
@@ -183,31 +176,27 @@ fn are_of_eight_buckets(rt: &impl Abort, told: &[Reply]) {
         Reply::Refused(AllocationError::OutOfMemory),
         Reply::Released,
     ];
-    assert_eq!(rt; told.len(), 14);
-    are_from(rt, told, 0, &refused);
-    are_from(rt, told, 11, &full);
+    assert!(rt; told.len() == 14);
+    assert!(rt; told.get(..3) == Some(refused.as_slice()));
+    assert!(rt; told.get(11..13) == Some(full.as_slice()));
+    assert!(rt; places_of(told) == [4096, 4224, 4352, 4480, 4608, 4736, 4864, 4992]);
+    assert!(rt; place_at(told, 13) == place_at(told, 3));
+}
+
+/// The places of the eight buckets, in order.
+fn places_of(told: &[Reply]) -> [usize; 8] {
     let mut places = [0; 8];
-    for (place, reply) in places.iter_mut().zip(told.iter().skip(3)) {
-        *place = place_of(*reply);
-    }
-    for reply in told.iter().skip(13) {
-        assert_eq!(rt; place_of(*reply), places[0]);
+    for bucket in 0..8 {
+        places[bucket] = place_at(told, 3 + bucket);
     }
     places.sort_unstable();
-    assert_eq!(rt; places, [4096, 4224, 4352, 4480, 4608, 4736, 4864, 4992]);
+    places
 }
 
-/// From this position on the replies are these.
-fn are_from(rt: &impl Abort, told: &[Reply], first: usize, wanted: &[Reply]) {
-    for (reply, wanted) in told.iter().skip(first).zip(wanted) {
-        assert_eq!(rt; *reply, *wanted);
+/// The place of a chunk of 48 bytes that is the reply at a position, or 0, which is no place.
+fn place_at(told: &[Reply], position: usize) -> usize {
+    match told.get(position) {
+        Some(Reply::Chunk(chunk)) if chunk.len() == 48 => chunk.place(),
+        _ => 0,
     }
-}
-
-/// The place of a chunk of 48 bytes, or 0, which is no place.
-fn place_of(reply: Reply) -> usize {
-    let Reply::Chunk(chunk) = reply else {
-        return 0;
-    };
-    if chunk.len() == 48 { chunk.place() } else { 0 }
 }

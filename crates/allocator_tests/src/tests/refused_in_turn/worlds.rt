@@ -1,18 +1,20 @@
 //! A refused world isn't made, and a refused replay leaves its world as it was.
 use crate::marks::some_was_refused;
 use crate::tests::layouts::{chunk, layout};
-use crate::tests::worlds::{bump_outcome, pool_outcome};
+use crate::tests::worlds::{
+    bump_outcome, bump_world, holders, pool_outcome, pool_world, used_space,
+};
 use bb_memory::steps::{BumpOutcome, BumpStep, BumpWorld, PoolOutcome, PoolStep, PoolWorld};
 use std::alloc::Global;
 use std::process::Abort;
 
-/// A world of a bump at 4096 of 64 bytes with 64 parties, where memory was refused at a second trial.
-fn bump_world(rt: &impl Abort, alloc: Global) -> BumpWorld {
-    if let Ok(world) = BumpWorld::new(alloc, 4096, 64, 64) {
+/// A world of a bump with 64 parties, where memory was refused at a second trial.
+fn bump_at_last(rt: &impl Abort, alloc: Global) -> BumpWorld {
+    if let Some(world) = bump_world(alloc, 64) {
         return world;
     }
     assert!(rt; some_was_refused(alloc));
-    BumpWorld::new(alloc, 4096, 64, 64).expect(rt, "there is memory again")
+    bump_world(alloc, 64).expect(rt, "there is memory again")
 }
 
 /// What a replay tells, which leaves the bump fresh where memory was refused at first.
@@ -27,7 +29,7 @@ fn replayed_by_bump(
     }
     assert!(rt; some_was_refused(alloc));
     let load = bump_outcome(world, BumpStep::Load { party: 0 });
-    assert_eq!(rt; load, BumpOutcome::Loaded(0));
+    assert!(rt; load == BumpOutcome::Loaded(0));
     world.replay(steps).expect(rt, "there is memory again")
 }
 
@@ -46,19 +48,19 @@ fn steps_bump_race(rt: HostRuntime) {
         BumpOutcome::Wins(chunk(&rt, 4096, 40)),
         BumpOutcome::RefusedAtLoss(40),
     ];
-    let mut world = bump_world(&rt, rt.alloc());
+    let mut world = bump_at_last(&rt, rt.alloc());
     let told = replayed_by_bump(&rt, rt.alloc(), &mut world, &steps);
-    assert_eq!(rt; told.as_slice(), outcomes.as_slice());
-    assert_eq!(rt; world.used_space(), 40);
+    assert!(rt; told.as_slice() == outcomes.as_slice());
+    assert!(rt; used_space(&world) == 40);
 }
 
-/// A world of a pool of two buckets with 64 parties, where memory was refused at a second trial.
-fn pool_world(rt: &impl Abort, alloc: Global) -> PoolWorld {
-    if let Ok(world) = PoolWorld::new(alloc, 2, 64) {
+/// A world of a pool with 64 parties, where memory was refused at a second trial.
+fn pool_at_last(rt: &impl Abort, alloc: Global) -> PoolWorld {
+    if let Some(world) = pool_world(alloc, 64) {
         return world;
     }
     assert!(rt; some_was_refused(alloc));
-    PoolWorld::new(alloc, 2, 64).expect(rt, "there is memory again")
+    pool_world(alloc, 64).expect(rt, "there is memory again")
 }
 
 /// What a replay tells, which leaves the pool fresh where memory was refused at first.
@@ -79,7 +81,7 @@ fn replayed_by_pool(
             bucket: 0,
         },
     );
-    assert_eq!(rt; untimely, PoolOutcome::Passed);
+    assert!(rt; untimely == PoolOutcome::Passed);
     world.replay(steps).expect(rt, "there is memory again")
 }
 
@@ -104,8 +106,8 @@ fn steps_pool_never_full(rt: HostRuntime) {
         PoolOutcome::Takes(1),
         PoolOutcome::RefusedAtLoss(1),
     ];
-    let mut world = pool_world(&rt, rt.alloc());
+    let mut world = pool_at_last(&rt, rt.alloc());
     let told = replayed_by_pool(&rt, rt.alloc(), &mut world, &steps);
-    assert_eq!(rt; told.as_slice(), outcomes.as_slice());
-    assert_eq!(rt; (world.holder(0), world.holder(1)), (None, Some(1)));
+    assert!(rt; told.as_slice() == outcomes.as_slice());
+    assert!(rt; holders(&world) == (None, Some(1)));
 }

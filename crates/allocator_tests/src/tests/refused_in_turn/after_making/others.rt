@@ -1,11 +1,15 @@
 //! Layouts, regions, heap blocks and worlds.
 ghost use Rattle.std.specs.Prelude.{◌≡◌, length};
+ghost use Rattle.bb_memory_base.specs.Chunk.{IsInside};
+ghost use Rattle.bb_memory_base.specs.HeldBytes.{held_region};
 
 use super::ends_unmade;
 use crate::marks::{none_was_asked, refuse_memory, some_was_freed};
 use crate::tests::heap_blocks::{BlockAnswer, BlockCall, answered, block_of};
 use crate::tests::layouts::{chunk, layout, layout_of, numbers_of, rounded};
-use crate::tests::worlds::{bump_outcome, pool_outcome};
+use crate::tests::worlds::{
+    bump_outcome, bump_world, holders, pool_outcome, pool_world, used_space,
+};
 use bb_memory::heap_allocator::{HeapAllocator, HeapBlock};
 use bb_memory::layout::{Chunk, Layout};
 use bb_memory::region::Region;
@@ -21,10 +25,30 @@ fn layouts_and_chunks(rt: HostRuntime) {
     let layout = layout(&rt, 48, 8);
     assert!(rt; layout.size() == 48 && layout.align() == 8);
     assert!(rt; layout_of(8, 3).is_none());
-    assert_eq!(rt; rounded(&rt, 4097, 8), Some(4104));
-    assert_eq!(rt; numbers_of(4096, 48), Some((4096, 48, 4144)));
-    assert_eq!(rt; numbers_of(0, 48), None);
+    assert!(rt; rounded(&rt, 4097, 8) == Some(4104));
+    assert!(rt; numbers_of(4096, 48) == Some((4096, 48, 4144)));
+    assert!(rt; numbers_of(0, 48).is_none());
     assert!(rt; none_was_asked(rt.alloc()));
+}
+
+/// Whether a region has three bytes in a chunk of three, once they are written there.
+fn is_written(region: &mut Region, chunk: Chunk) -> bool
+    requires inside { IsInside (held_region region.old) chunk }
+    requires len { chunk.len ≡ 3 }
+    ensures { held_region region.new ≡ held_region region.old }
+{
+    region.write(chunk, &[1, 2, 3]);
+    region.chunk(chunk) == [1, 2, 3].as_slice()
+}
+
+/// Whether a region has these bytes, once a chunk of three is zeroed and its second byte is set.
+fn is_zeroed_and_set(region: &mut Region, chunk: Chunk, bytes: &[u8]) -> bool
+    requires inside { IsInside (held_region region.old) chunk }
+    requires len { chunk.len ≡ 3 }
+{
+    region.zero(chunk);
+    region.chunk_mut(chunk)[1] = 5;
+    region.bytes() == bytes
 }
 
 /// A region of these eight bytes at 4096 writes to its chunk of three at 4098, and zeroes it.
@@ -33,11 +57,8 @@ fn writes_and_zeroes(rt: &impl Abort, bytes: Vec<u8>)
 {
     let mut region = Region::new(4096, bytes);
     let chunk = Chunk::new(4098, 3).unwrap();
-    region.write(chunk, &[1, 2, 3]);
-    assert_eq!(rt; region.chunk(chunk), [1, 2, 3].as_slice());
-    region.zero(chunk);
-    region.chunk_mut(chunk)[1] = 5;
-    assert_eq!(rt; region.bytes(), [7, 7, 0, 5, 0, 7, 7, 7].as_slice());
+    assert!(rt; is_written(&mut region, chunk));
+    assert!(rt; is_zeroed_and_set(&mut region, chunk, &[7, 7, 0, 5, 0, 7, 7, 7]));
 }
 
 #[test]
@@ -56,51 +77,69 @@ fn shrinks(rt: &impl Abort, alloc: Global, block: HeapBlock) {
     let heap = HeapAllocator::new(alloc);
     let (block, answer) = answered(&heap, block, BlockCall::Shrink(2, 1));
     assert!(rt; answer == BlockAnswer::Done && block.len() == 2);
-    assert_eq!(rt; block.as_slice(), [1, 2].as_slice());
+    assert!(rt; block.as_slice() == [1, 2].as_slice());
     heap.deallocate(block, layout(rt, 2, 1));
+}
+
+/// A block of four bytes that count shrinks without a request for memory.
+fn shrinks_without_memory(rt: &impl Abort, alloc: Global, block: HeapBlock) {
+    let heap = HeapAllocator::new(alloc);
+    let (block, _) = answered(&heap, block, BlockCall::Count(1));
+    refuse_memory(alloc);
+    shrinks(rt, alloc, block);
+    assert!(rt; some_was_freed(alloc));
+    assert!(rt; none_was_asked(alloc));
 }
 
 #[test]
 fn a_heap_block(rt: HostRuntime) {
-    let heap = HeapAllocator::new(rt.alloc());
-    let Ok(block) = block_of(&heap, 4) else {
-        return ends_unmade(&rt, rt.alloc());
-    };
-    let (block, _) = answered(&heap, block, BlockCall::Count(1));
-    refuse_memory(rt.alloc());
-    shrinks(&rt, rt.alloc(), block);
-    assert!(rt; some_was_freed(rt.alloc()));
-    assert!(rt; none_was_asked(rt.alloc()));
+    match block_of(&HeapAllocator::new(rt.alloc()), 4) {
+        Ok(block) => shrinks_without_memory(&rt, rt.alloc(), block),
+        Err(_) => ends_unmade(&rt, rt.alloc()),
+    }
 }
 
 /// A party of a bump's world takes a chunk.
 fn takes_of_bump(rt: &impl Abort, bump: &mut BumpWorld, layout: Layout) {
     let seen = bump_outcome(bump, BumpStep::Read { party: 1, layout });
-    assert_eq!(rt; seen, BumpOutcome::Sees(0));
+    assert!(rt; seen == BumpOutcome::Sees(0));
     let won = bump_outcome(bump, BumpStep::Exchange { party: 1 });
-    assert_eq!(rt; won, BumpOutcome::Wins(chunk(rt, 4096, 40)));
-    assert_eq!(rt; bump.used_space(), 40);
+    assert!(rt; won == BumpOutcome::Wins(chunk(rt, 4096, 40)));
+    assert!(rt; used_space(bump) == 40);
 }
 
 /// A party of a pool's world takes a bucket.
 fn takes_of_pool(rt: &impl Abort, pool: &mut PoolWorld) {
     let taken = pool_outcome(pool, PoolStep::Try { party: 1 });
-    assert_eq!(rt; taken, PoolOutcome::Takes(0));
-    assert_eq!(rt; pool.holder(0), Some(1));
+    assert!(rt; taken == PoolOutcome::Takes(0));
+    assert!(rt; holders(pool) == (Some(1), None));
+}
+
+/// A party of each takes without a request for memory.
+fn take(rt: &impl Abort, alloc: Global, bump: &mut BumpWorld, pool: &mut PoolWorld) {
+    refuse_memory(alloc);
+    takes_of_bump(rt, bump, layout(rt, 40, 1));
+    takes_of_pool(rt, pool);
+    theorems();
+    assert!(rt; none_was_asked(alloc));
+}
+
+/// Does nothing: these calls are proofs.
+fn theorems() {
+    bump_theorem();
+    pool_theorem();
+}
+
+/// A world of each kind with two parties, or none where memory was refused.
+fn both_worlds(alloc: Global) -> Option<(BumpWorld, PoolWorld)> {
+    let bump = bump_world(alloc, 2)?;
+    Some((bump, pool_world(alloc, 2)?))
 }
 
 #[test]
 fn worlds(rt: HostRuntime) {
-    let Ok(mut bump) = BumpWorld::new(rt.alloc(), 4096, 64, 2) else {
-        return ends_unmade(&rt, rt.alloc());
-    };
-    let Ok(mut pool) = PoolWorld::new(rt.alloc(), 2, 2) else {
-        return ends_unmade(&rt, rt.alloc());
-    };
-    refuse_memory(rt.alloc());
-    takes_of_bump(&rt, &mut bump, layout(&rt, 40, 1));
-    takes_of_pool(&rt, &mut pool);
-    bump_theorem();
-    pool_theorem();
-    assert!(rt; none_was_asked(rt.alloc()));
+    match both_worlds(rt.alloc()) {
+        Some((mut bump, mut pool)) => take(&rt, rt.alloc(), &mut bump, &mut pool),
+        None => ends_unmade(&rt, rt.alloc()),
+    }
 }

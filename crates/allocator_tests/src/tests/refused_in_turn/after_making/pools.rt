@@ -7,6 +7,7 @@ use crate::tests::owner::{Answer, Call, Step};
 use crate::tests::pools::{memory_size, pool_owner};
 use bb_memory::layout::Layout;
 use bb_memory::pool_allocator::PoolAllocator;
+use std::alloc::Global;
 use std::process::Abort;
 
 /// The requests and resizes of a pool, by its first bucket.
@@ -20,18 +21,23 @@ const TABLE: [Step<'_>; 7] = [
     Step::Holds(4096, 1),
 ];
 
+/// These steps of a pool of two buckets of 32 bytes are as they have to be without a request for memory.
+fn pool_keeps(rt: &impl Abort, alloc: Global, steps: &[Step<'_>]) {
+    keep_without_memory(rt, alloc, pool_owner(alloc, (32, 8), 4096, 64), steps);
+}
+
+/// The same of a fixed pool.
+fn fixed_keeps(rt: &impl Abort, alloc: Global, steps: &[Step<'_>]) {
+    keep_without_memory(rt, alloc, fixed_owner::<4>(alloc, (32, 8), 4096, 64), steps);
+}
+
 /// The requests, resizes and releases of a pool.
 #[test]
 fn calls_of_a_pool(rt: HostRuntime) {
     let mut steps = [Step::Call(Call::Deallocate(0), Answer::Done); 9];
     steps[..7].copy_from_slice(&TABLE);
     steps[7] = Step::Call(Call::DeallocateBucket(1), Answer::Done);
-    keep_without_memory(
-        &rt,
-        rt.alloc(),
-        pool_owner(rt.alloc(), (32, 8), 4096, 64),
-        &steps,
-    );
+    pool_keeps(&rt, rt.alloc(), &steps);
 }
 
 /// The getters of a pool.
@@ -43,35 +49,20 @@ fn getters_of_a_pool(rt: HostRuntime) {
         Step::Reads(1),
         Step::Laws,
     ];
-    keep_without_memory(
-        &rt,
-        rt.alloc(),
-        pool_owner(rt.alloc(), (32, 8), 4096, 64),
-        &steps,
-    );
+    pool_keeps(&rt, rt.alloc(), &steps);
 }
 
 #[test]
 fn fixed_calls(rt: HostRuntime) {
     let mut steps = [Step::Call(Call::Deallocate(0), Answer::Done); 8];
     steps[..7].copy_from_slice(&TABLE);
-    keep_without_memory(
-        &rt,
-        rt.alloc(),
-        fixed_owner::<4>(rt.alloc(), (32, 8), 4096, 64),
-        &steps,
-    );
+    fixed_keeps(&rt, rt.alloc(), &steps);
 }
 
 #[test]
 fn fixed_getters(rt: HostRuntime) {
     let steps = [Step::Figures([2, 64, 32, 8, 0]), Step::Laws];
-    keep_without_memory(
-        &rt,
-        rt.alloc(),
-        fixed_owner::<4>(rt.alloc(), (32, 8), 4096, 64),
-        &steps,
-    );
+    fixed_keeps(&rt, rt.alloc(), &steps);
 }
 
 /// What a pool is made of takes no memory.
@@ -79,7 +70,7 @@ fn are_made(rt: &impl Abort, bucket: Layout) {
     if PoolAllocator::can_make(bucket, 4096, 64) {
         let _ = PoolAllocator::new_uninit(bucket, 4096, 64);
     }
-    assert_eq!(rt; memory_size(bucket, 64), Some(16));
+    assert!(rt; memory_size(bucket, 64) == Some(16));
     assert!(rt; fixed_over::<4>(bucket, 4096, 64).is_ok());
 }
 
