@@ -10,6 +10,7 @@ pub mod BumpRuns
 pub mod BumpSteps
 pub mod BumpStretches
 pub mod BumpWholes
+pub mod Filters
 pub mod FirstPositions
 pub mod GroupSums
 pub mod Layouts
@@ -30,8 +31,10 @@ pub mod PoolSteps
 pub mod Positions
 pub mod PowersOfTwo
 pub mod Runs
+pub mod SideBySides
 pub mod SliceGets
 pub mod SliceSets
 pub mod SplitBytes
+pub mod TwoSides
 pub mod UsualLayouts
 mod Written

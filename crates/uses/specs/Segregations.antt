@@ -1,0 +1,40 @@
+-- Two allocators side by side, of which small requests are made of the first one, and what it refuses of the second.
+use Rattle.std.specs.Prelude.{◌≡◌, ◌<◌, ◌≤◌, ◌⊎◌, ℕ, List, Result, Ok, Err, IsOk, OnOk}
+use Rattle.bb_memory_base.specs.Chunk.{Chunk}
+use Rattle.bb_memory_base.specs.declared.layout.Layout.{Layout}
+use Rattle.bb_memory_base.specs.declared.allocator.AllocationError.{AllocationError}
+use Rattle.uses.specs.Requests.{Answers}
+
+-- the two, the border before which the first one's chunks begin, and up to which size a request is small
+pub record Pair (A B : Type 0) : Type 0 where
+  pub first : A
+  pub second : B
+  pub border : ℕ
+  pub small : ℕ
+
+-- the figures of both, and the border
+pub record PairFigures (F G : Type 0) : Type 0 where
+  pub first : F
+  pub second : G
+  pub border : ℕ
+
+-- the geometries of both, their figures, and up to which size a request is small
+pub record PairGeometry (F G E H : Type 0) : Type 0 where
+  pub first : F
+  pub second : G
+  pub figures : PairFigures E H
+  pub small : ℕ
+
+-- each chunk that it may give begins before the border
+abbrev pub GivesBefore : (List Chunk → Answers) → ℕ → Type 0
+GivesBefore may_allocate border = (live : List Chunk) (layout : Layout) (chunk : Chunk) →
+    may_allocate live layout (Ok chunk) → chunk.place < border
+
+-- a small request is answered by the first one where that gives a chunk, and by the second one where it refuses; a larger
+-- request is answered by the second one, and the first isn't asked
+abbrev pub AnswersInTurn : ℕ → Layout → (First Second : Result Chunk AllocationError → Type 0) → Type 0 →
+    Result Chunk AllocationError → Type 0
+AnswersInTurn small layout First Second Unasked answer =
+    ((layout.size ≤ small) × IsOk answer × First answer)
+    ⊎ (((layout.size ≤ small) × ((error : AllocationError) × First (Err error)) × Second answer)
+    ⊎ ((small < layout.size) × Unasked × Second answer))
