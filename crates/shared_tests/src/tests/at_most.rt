@@ -48,18 +48,29 @@ fn first_two(pool: &SharedPoolAllocator, mut party: PoolParty) -> (Option<u32>, 
     (first, second)
 }
 
+/// Where the bucket of this number begins.
+fn place_of(number: u32) -> usize {
+    4096 + 16 * number as usize
+}
+
+/// Whether the bucket of this number is told by it, and where it begins.
+fn is_told(pool: &SharedPoolAllocator, number: u32) -> bool {
+    let place = place_of(number);
+    (pool.place_at(number), pool.number_at(place)) == (Some(place), Some(number))
+}
+
+/// Whether no bucket has this number, and none begins where it would.
+fn is_none(pool: &SharedPoolAllocator, number: u32) -> bool {
+    (pool.place_at(number), pool.number_at(place_of(number))) == (None, None)
+}
+
 /// The pool has so many buckets, the first ones of its region.
 fn has(rt: &impl Abort, pool: &SharedPoolAllocator, buckets: u32) {
     check(rt, pool.number_of_buckets() == buckets);
     for number in 0..buckets {
-        let place = 4096 + 16 * number as usize;
-        check(
-            rt,
-            (pool.place_at(number), pool.number_at(place)) == (Some(place), Some(number)),
-        );
+        check(rt, is_told(pool, number));
     }
-    check(rt, pool.place_at(buckets) == None);
-    check(rt, pool.number_at(4096 + 16 * buckets as usize) == None);
+    check(rt, is_none(pool, buckets));
 }
 
 /// Less than the region has room for, as many, more, and as many as a number can say; none; and of a region without room. A pass

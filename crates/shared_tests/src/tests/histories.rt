@@ -63,6 +63,28 @@ fn ask_and_meet(
     place
 }
 
+/// Of two parties whose bucket is held, the last one leaves, and the other one is refused.
+fn one_goes_on(
+    rt: &impl Abort,
+    pool: &SharedPoolAllocator,
+    history: &mut PoolHistory,
+    mut parties: Vec<PoolParty>,
+    asked: Layout,
+)
+    requires history { history.old.allocator ≡ pool.now }
+    requires parties { All (λ party. party.allocator ≡ pool.now) parties.items }
+{
+    let Some(last) = parties.pop() else {
+        panic!(rt; "a party is gone");
+    };
+    check(rt, last.number() == 1);
+    check(
+        rt,
+        ask_and_meet(pool, history, &mut parties, asked, true) == 0,
+    );
+    check(rt, parties.len() == 1);
+}
+
 /// In a pool of one bucket, of two parties: the bucket goes to the one that asks, is free once it was given back and they have
 /// met, and is refused while it is held.
 #[test]
@@ -91,15 +113,7 @@ fn a_history_goes_on(rt: HostRuntime) {
         &rt,
         ask_and_meet(&pool, &mut history, &mut parties, asked, true) == 0,
     );
-    let Some(last) = parties.pop() else {
-        panic!(rt; "a party is gone");
-    };
-    check(&rt, last.number() == 1);
-    check(
-        &rt,
-        ask_and_meet(&pool, &mut history, &mut parties, asked, true) == 0,
-    );
-    check(&rt, parties.len() == 1);
+    one_goes_on(&rt, &pool, &mut history, parties, asked);
 }
 
 /// A meeting of none goes on with a history, too.

@@ -195,16 +195,26 @@ fn meet_without_memory<P: SharedBuckets>(
     check(rt, none_was_asked(alloc));
 }
 
+/// Those of a shared pool do.
+fn shared_meet(rt: &impl Abort, alloc: Global) {
+    match shared_over(alloc, 4096, 256, 3) {
+        Ok((pool, parties)) => meet_without_memory(rt, alloc, &pool, parties),
+        Err(cause) => was_refused(rt, alloc, cause),
+    }
+}
+
+/// And those of a pool of at most four buckets.
+fn shared_fixed_meet(rt: &impl Abort, alloc: Global) {
+    match shared_fixed_over::<4>(alloc, 4096, 1024, 3) {
+        Ok((pool, parties)) => meet_without_memory(rt, alloc, &pool, parties),
+        Err(cause) => was_refused(rt, alloc, cause),
+    }
+}
+
 #[test]
 fn all_parties_of_shared_pools(rt: HostRuntime) {
-    match shared_over(rt.alloc(), 4096, 256, 3) {
-        Ok((pool, parties)) => meet_without_memory(&rt, rt.alloc(), &pool, parties),
-        Err(cause) => was_refused(&rt, rt.alloc(), cause),
-    }
-    match shared_fixed_over::<4>(rt.alloc(), 4096, 1024, 3) {
-        Ok((pool, parties)) => meet_without_memory(&rt, rt.alloc(), &pool, parties),
-        Err(cause) => was_refused(&rt, rt.alloc(), cause),
-    }
+    shared_meet(&rt, rt.alloc());
+    shared_fixed_meet(&rt, rt.alloc());
 }
 
 /// Parties meet in a history, and one of all asks and gives back, without a request for memory.
