@@ -1,5 +1,6 @@
 //! Scripts with what they write, faults of readers and writers, and the program with memory refused.
 mod buckets;
+mod checks;
 mod faults;
 mod large_figures;
 mod loan_scripts;

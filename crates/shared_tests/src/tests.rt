@@ -1,6 +1,7 @@
 //! Rows of the forms that threads share.
 mod at_most;
 mod bump_rows;
+mod checks;
 mod histories;
 mod pool_rows;
 mod pool_worlds;

@@ -1,4 +1,5 @@
 //! Readers and writers that fail at each of their calls in turn, and scripts that are cut at every byte.
+use super::checks::{check, check_at};
 use super::table::answer;
 use super::{FIRST_PATH, FIRST_PATH_LINES};
 use script_runner::{Status, run};
@@ -94,23 +95,23 @@ fn reader_fails_in_turn(rt: HostRuntime) {
         for fails_at in 1..100 {
             let (ended, told) = answer_to_failed_read(rt.alloc(), fails_at, kind);
             if ended == Status::Done {
-                assert_eq!(rt; told.as_slice(), FIRST_PATH_LINES);
+                check(&rt, told.as_slice() == FIRST_PATH_LINES);
                 break;
             }
-            assert_eq!(rt; ended, status);
-            assert_eq!(rt; told.len(), 0);
+            check(&rt, ended == status);
+            check(&rt, told.len() == 0);
             failed = fails_at;
         }
         // The script has 70 bytes: ten reads, and one that finds its end.
-        assert_eq!(rt; failed, 11);
+        check(&rt, failed == 11);
     }
 }
 
 #[test]
 fn an_interrupted_read_is_tried_again(rt: HostRuntime) {
     let (ended, told) = answer_to_failed_read(rt.alloc(), 3, ErrorKind::Interrupted);
-    assert_eq!(rt; ended, Status::Done);
-    assert_eq!(rt; told.as_slice(), FIRST_PATH_LINES);
+    check(&rt, ended == Status::Done);
+    check(&rt, told.as_slice() == FIRST_PATH_LINES);
 }
 
 #[test]
@@ -127,15 +128,28 @@ fn writer_fails_in_turn(rt: HostRuntime) {
         for fails_at in 1..200 {
             let (ended, told) = answer_by_failed_write(rt.alloc(), script, fails_at);
             if ended == status {
-                assert_eq!(rt; told.as_slice(), lines);
+                check(&rt, told.as_slice() == lines);
                 break;
             }
-            assert_eq!(rt; ended, Status::OutputFailed);
-            assert!(rt; lines.starts_with(told.as_slice()));
+            check(&rt, ended == Status::OutputFailed);
+            check(&rt, lines.starts_with(told.as_slice()));
             failed = fails_at;
         }
         // At most five bytes go in a write, and the flush is the last call that can fail.
-        assert!(rt; lines.len() / 5 < failed && failed < 199, "{failed}");
+        check_at(&rt, lines.len() / 5 < failed && failed < 199, failed);
+    }
+}
+
+/// Whether the script of row `bump-first-path`, cut behind so many bytes, is answered so: done with so many bytes of the whole
+/// script's lines, or unreadable with this line.
+fn is_answered(alloc: Global, cut: usize, end: Result<usize, &[u8]>) -> bool {
+    let Some(script) = FIRST_PATH.get(..cut) else {
+        return false;
+    };
+    let (ended, told) = answer(alloc, script);
+    match end {
+        Ok(len) => ended == Status::Done && Some(told.as_slice()) == FIRST_PATH_LINES.get(..len),
+        Err(refused) => ended == Status::Unreadable && told.as_slice() == refused,
     }
 }
 
@@ -160,17 +174,7 @@ fn script_cut_at_every_byte(rt: HostRuntime) {
         (69, 70, Ok(FIRST_PATH_LINES.len())),
     ] {
         for cut in from..to + 1 {
-            let (ended, told) = answer(rt.alloc(), &FIRST_PATH[..cut]);
-            match end {
-                Ok(len) => {
-                    assert_eq!(rt; ended, Status::Done, "{cut}");
-                    assert_eq!(rt; Some(told.as_slice()), FIRST_PATH_LINES.get(..len), "{cut}");
-                }
-                Err(refused) => {
-                    assert_eq!(rt; ended, Status::Unreadable, "{cut}");
-                    assert_eq!(rt; told.as_slice(), refused, "{cut}");
-                }
-            }
+            check_at(&rt, is_answered(rt.alloc(), cut, end), cut);
         }
     }
 }

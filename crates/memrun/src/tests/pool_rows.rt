@@ -1,5 +1,6 @@
 //! Scripts of pools, each row by its name.
 use super::buckets::{Named, behind_chunks};
+use super::checks::check;
 use super::table::{answer, check_rows, lines};
 use script_runner::Status;
 use std::alloc::Global;
@@ -50,7 +51,7 @@ fn pool_scripts(rt: HostRuntime) {
 fn told_of(rt: &impl Abort, alloc: Global, script: &str) -> Vec<u8> {
     let script = lines(alloc, script).expect(rt, "there is memory for a script");
     let (status, told) = answer(alloc, &script);
-    assert_eq!(rt; status, Status::Done);
+    check(rt, status == Status::Done);
     told
 }
 
@@ -75,7 +76,7 @@ fn pool_eight_buckets(rt: HostRuntime) {
     let first = given.get(..14).unwrap_or("no first chunk");
     let behind = behind_eight_buckets(rt.alloc(), given, 8).unwrap_or("");
     let again = behind.strip_prefix("OutOfMemory\nreleased\n");
-    assert_eq!(rt; again, Some(first));
+    check(&rt, again == Some(first));
 }
 
 #[test]
@@ -87,5 +88,5 @@ fn pool_passed_commands(rt: HostRuntime) {
     );
     let told = str::from_utf8(&told).unwrap_or("");
     let behind = behind_eight_buckets(rt.alloc(), told, 2);
-    assert_eq!(rt; behind, Some("passed\npassed\n"));
+    check(&rt, behind == Some("passed\npassed\n"));
 }

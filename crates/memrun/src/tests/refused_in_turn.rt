@@ -1,6 +1,7 @@
 //! Scripts that hold with any one request for memory refused: the program ends with status 4, and what it wrote begins what
 //! it writes where none is refused. `.ci/refuse-in-turn` runs each test with its first request refused, then its second, and
 //! so on, until none is left to refuse. What a test makes for itself may be refused, too: then it ends.
+use super::checks::check;
 use super::table::run_script;
 use super::{FIRST_PATH, FIRST_PATH_LINES};
 use script_runner::Status;
@@ -24,13 +25,13 @@ fn ends_with_status_4(rt: &impl Abort, alloc: Global, script: &[u8], ends: Statu
     let status = run_script(alloc, script, &mut told);
     if status != ends {
         assert!(rt; some_was_refused(alloc), "{status:?} with ample memory");
-        assert_eq!(rt; status, Status::OutOfMemory);
-        assert_eq!(rt; status.code(), 4);
-        assert!(rt; lines.starts_with(told.as_slice()));
+        check(rt, status == Status::OutOfMemory);
+        check(rt, status.code() == 4);
+        check(rt, lines.starts_with(told.as_slice()));
         told.clear();
-        assert_eq!(rt; run_script(alloc, script, &mut told), ends);
+        check(rt, run_script(alloc, script, &mut told) == ends);
     }
-    assert_eq!(rt; told.as_slice(), lines);
+    check(rt, told.as_slice() == lines);
 }
 
 #[test]

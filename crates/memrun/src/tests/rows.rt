@@ -1,4 +1,5 @@
 //! Scripts with what they write, each row by its name.
+use super::checks::check;
 use super::table::{answer, check_rows};
 use script_runner::{Status, equality_law, lines_law};
 use std::alloc::Global;
@@ -136,8 +137,8 @@ fn pool_step_scripts(rt: HostRuntime) {
 fn a_last_line_needs_no_line_feed(rt: HostRuntime) {
     // script-no-last-line-feed
     let (status, told) = answer(rt.alloc(), b"bump 4096 8\nalloc 1 1");
-    assert_eq!(rt; status, Status::Done);
-    assert_eq!(rt; told.as_slice(), b"chunk 4096 1\n".as_slice());
+    check(&rt, status == Status::Done);
+    check(&rt, told.as_slice() == b"chunk 4096 1\n".as_slice());
 }
 
 const UNREADABLE: &str = "\
@@ -279,8 +280,8 @@ fn statuses(rt: HostRuntime) {
         (Status::OutputFailed, 3, Some("output failed")),
         (Status::OutOfMemory, 4, Some("out of memory")),
     ] {
-        assert_eq!(rt; status.code(), code);
-        assert_eq!(rt; status.message(), message);
+        check(&rt, status.code() == code);
+        check(&rt, status.message() == message);
     }
 }
 

@@ -1,6 +1,7 @@
 //! Tables of scripts. A row has a line each for its name, its script and what that writes, where `; ` stands for a line feed; an
 //! empty line parts it from the next one. Where it is open which bucket a pool gives, a fourth line has the places that may be
 //! told; `P` stands for the first one that is, and `Q` for the other one of two.
+use super::checks::check;
 use script_runner::{Status, run};
 use std::alloc::{AllocError, Global};
 use std::process::Abort;
@@ -75,5 +76,5 @@ pub(super) fn check_rows(rt: &impl Abort, alloc: Global, ends: Status, table: &s
         assert!(rt; keeps_row(alloc, ends, row) == Ok(true), "{name}");
         rows = rows.saturating_add(1);
     }
-    assert_eq!(rt; rows, count);
+    check(rt, rows == count);
 }

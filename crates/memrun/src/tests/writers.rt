@@ -1,4 +1,5 @@
 //! Writers whose every call counts: one that only its flush fails, one that is interrupted once, and how many calls there are.
+use super::checks::{check, check_at};
 use super::{FIRST_PATH, FIRST_PATH_LINES};
 use script_runner::{Status, run};
 use std::alloc::Global;
@@ -93,9 +94,9 @@ const SCRIPTS: [(&[u8], &[u8], usize, Status); 2] = [
 fn each_byte_is_written_once_and_flushed(rt: HostRuntime) {
     for (script, lines, writes, status) in SCRIPTS {
         let written = run_counting(rt.alloc(), script, NO_WRITE, false);
-        assert_eq!(rt; written.status, status);
-        assert_eq!(rt; (written.writes, written.flushes), (writes, 1));
-        assert_eq!(rt; written.told.as_slice(), lines);
+        check(&rt, written.status == status);
+        check(&rt, (written.writes, written.flushes) == (writes, 1));
+        check(&rt, written.told.as_slice() == lines);
     }
 }
 
@@ -103,8 +104,8 @@ fn each_byte_is_written_once_and_flushed(rt: HostRuntime) {
 fn a_failed_flush_fails_the_output(rt: HostRuntime) {
     for (script, lines, _, _) in SCRIPTS {
         let written = run_counting(rt.alloc(), script, NO_WRITE, true);
-        assert_eq!(rt; written.status, Status::OutputFailed);
-        assert_eq!(rt; written.told.as_slice(), lines);
+        check(&rt, written.status == Status::OutputFailed);
+        check(&rt, written.told.as_slice() == lines);
     }
 }
 
@@ -113,9 +114,9 @@ fn a_failed_write_is_the_last(rt: HostRuntime) {
     for (script, lines, writes, _) in SCRIPTS {
         for fails_at in 1..writes + 1 {
             let written = run_counting(rt.alloc(), script, (fails_at, ErrorKind::Other), false);
-            assert_eq!(rt; written.status, Status::OutputFailed, "{fails_at}");
-            assert_eq!(rt; written.writes, fails_at);
-            assert!(rt; lines.starts_with(written.told.as_slice()), "{fails_at}");
+            check_at(&rt, written.status == Status::OutputFailed, fails_at);
+            check(&rt, written.writes == fails_at);
+            check_at(&rt, lines.starts_with(written.told.as_slice()), fails_at);
         }
     }
 }
@@ -130,9 +131,9 @@ fn an_interrupted_write_is_tried_again(rt: HostRuntime) {
                 (fails_at, ErrorKind::Interrupted),
                 false,
             );
-            assert_eq!(rt; written.status, status, "{fails_at}");
-            assert_eq!(rt; Some(written.writes), writes.checked_add(1));
-            assert_eq!(rt; written.told.as_slice(), lines, "{fails_at}");
+            check_at(&rt, written.status == status, fails_at);
+            check(&rt, Some(written.writes) == writes.checked_add(1));
+            check_at(&rt, written.told.as_slice() == lines, fails_at);
         }
     }
 }

@@ -2,6 +2,7 @@
 ghost use Rattle.std.specs.Prelude.{◌≡◌, All, IfOk};
 
 use super::shared_pools::REFUSED;
+use crate::tests::checks::{check, fail};
 use bb_memory::layout::Layout;
 use bb_memory::pool_allocator::PoolAllocator;
 use bb_memory::shared_pool::{PoolParty, SharedPoolAllocator};
@@ -47,18 +48,29 @@ fn first_two(pool: &SharedPoolAllocator, mut party: PoolParty) -> (Option<u32>, 
     (first, second)
 }
 
+/// Where the bucket of this number begins.
+fn place_of(number: u32) -> usize {
+    4096 + 16 * number as usize
+}
+
+/// Whether the bucket of this number is told by it, and where it begins.
+fn is_told(pool: &SharedPoolAllocator, number: u32) -> bool {
+    let place = place_of(number);
+    (pool.place_at(number), pool.number_at(place)) == (Some(place), Some(number))
+}
+
+/// Whether no bucket has this number, and none begins where it would.
+fn is_none(pool: &SharedPoolAllocator, number: u32) -> bool {
+    (pool.place_at(number), pool.number_at(place_of(number))) == (None, None)
+}
+
 /// The pool has so many buckets, the first ones of its region.
 fn has(rt: &impl Abort, pool: &SharedPoolAllocator, buckets: u32) {
-    assert_eq!(rt; pool.number_of_buckets(), buckets);
+    check(rt, pool.number_of_buckets() == buckets);
     for number in 0..buckets {
-        let place = 4096 + 16 * number as usize;
-        assert_eq!(rt;
-            (pool.place_at(number), pool.number_at(place)),
-            (Some(place), Some(number))
-        );
+        check(rt, is_told(pool, number));
     }
-    assert_eq!(rt; pool.place_at(buckets), None);
-    assert_eq!(rt; pool.number_at(4096 + 16 * buckets as usize), None);
+    check(rt, is_none(pool, buckets));
 }
 
 /// Less than the region has room for, as many, more, and as many as a number can say; none; and of a region without room. A pass
@@ -80,11 +92,11 @@ fn a_shared_pool_has_at_most_so_many_buckets(rt: HostRuntime) {
             Ok((pool, mut parties)) => {
                 has(&rt, &pool, *buckets);
                 match parties.pop() {
-                    Some(party) => assert_eq!(rt; first_two(&pool, party), *taken),
-                    None => panic!(&rt; "there is a party"),
+                    Some(party) => check(&rt, first_two(&pool, party) == *taken),
+                    None => fail(&rt, "there is a party"),
                 }
             }
-            Err(cause) => panic!(&rt; "{cause}"),
+            Err(cause) => fail(&rt, cause),
         }
     }
 }
@@ -94,11 +106,11 @@ fn a_shared_pool_has_at_most_so_many_buckets(rt: HostRuntime) {
 fn it_has_its_parties(rt: HostRuntime) {
     match made(rt.alloc(), 8, 3, 2) {
         Ok((pool, parties)) => {
-            assert_eq!(rt; (pool.number_of_buckets(), parties.len()), (2, 3));
+            check(&rt, (pool.number_of_buckets(), parties.len()) == (2, 3));
             for (at, party) in parties.iter().enumerate() {
-                assert_eq!(rt; party.number() as usize, at);
+                check(&rt, party.number() as usize == at);
             }
         }
-        Err(cause) => panic!(&rt; "{cause}"),
+        Err(cause) => fail(&rt, cause),
     }
 }

@@ -3,9 +3,10 @@ ghost use Rattle.std.specs.Prelude.{◌≡◌, ◌<◌, All, IfOk, length};
 ghost use Rattle.bb_memory.specs.SharedPoolAmong.{AreAllOf};
 ghost use Rattle.bb_memory.specs.SharedPoolHistory.{MayGoOn};
 
-use crate::tests::shared_pools::shared_over;
+use crate::tests::checks::check;
+use crate::tests::shared_pools::{bucket_over, shared_over};
 use bb_memory::layout::Layout;
-use bb_memory::pool_allocator::{AllocationError, PoolAllocator};
+use bb_memory::pool_allocator::AllocationError;
 use bb_memory::shared_pool::{PoolHistory, PoolParty, SharedPoolAllocator};
 use std::alloc::Global;
 use std::process::Abort;
@@ -62,6 +63,28 @@ fn ask_and_meet(
     place
 }
 
+/// Of two parties whose bucket is held, the last one leaves, and the other one is refused.
+fn one_goes_on(
+    rt: &impl Abort,
+    pool: &SharedPoolAllocator,
+    history: &mut PoolHistory,
+    mut parties: Vec<PoolParty>,
+    asked: Layout,
+)
+    requires history { history.old.allocator ≡ pool.now }
+    requires parties { All (λ party. party.allocator ≡ pool.now) parties.items }
+{
+    let Some(last) = parties.pop() else {
+        panic!(rt; "a party is gone");
+    };
+    check(rt, last.number() == 1);
+    check(
+        rt,
+        ask_and_meet(pool, history, &mut parties, asked, true) == 0,
+    );
+    check(rt, parties.len() == 1);
+}
+
 /// In a pool of one bucket, of two parties: the bucket goes to the one that asks, is free once it was given back and they have
 /// met, and is refused while it is held.
 #[test]
@@ -78,15 +101,19 @@ fn a_history_goes_on(rt: HostRuntime) {
     };
     let mut history = pool.begin_history(&mut first);
     parties.push_reserved(first);
-    assert!(rt; ask_and_meet(&pool, &mut history, &mut parties, asked, false) == 4096);
-    assert!(rt; ask_and_meet(&pool, &mut history, &mut parties, asked, true) == 4096);
-    assert!(rt; ask_and_meet(&pool, &mut history, &mut parties, asked, true) == 0);
-    let Some(last) = parties.pop() else {
-        panic!(rt; "a party is gone");
-    };
-    assert!(rt; last.number() == 1);
-    assert!(rt; ask_and_meet(&pool, &mut history, &mut parties, asked, true) == 0);
-    assert!(rt; parties.len() == 1);
+    check(
+        &rt,
+        ask_and_meet(&pool, &mut history, &mut parties, asked, false) == 4096,
+    );
+    check(
+        &rt,
+        ask_and_meet(&pool, &mut history, &mut parties, asked, true) == 4096,
+    );
+    check(
+        &rt,
+        ask_and_meet(&pool, &mut history, &mut parties, asked, true) == 0,
+    );
+    one_goes_on(&rt, &pool, &mut history, parties, asked);
 }
 
 /// A meeting of none goes on with a history, too.
@@ -101,8 +128,8 @@ fn none_meet_again(rt: HostRuntime) {
     };
     let mut history = pool.begin_history(&mut party);
     pool.meet_again(&mut history, &mut parties);
-    assert!(rt; parties.is_empty());
-    assert!(rt; party.number() == 0);
+    check(&rt, parties.is_empty());
+    check(&rt, party.number() == 0);
 }
 
 /// A pool of one bucket at 4096, with two parties.
@@ -112,12 +139,9 @@ pub(super) fn one_for_two(
     ensures all { IfOk result (λ made. AreAllOf made.0 made.1.items) }
     ensures two { IfOk result (λ made. 1 < length made.1.items) }
 {
-    let Ok(bucket) = Layout::from_size_align(128, 8) else {
+    let Ok(bucket) = bucket_over(4096, 128) else {
         return Err(AllocationError::SizeIsZero);
     };
-    if !PoolAllocator::can_make(bucket, 4096, 128) {
-        return Err(AllocationError::SizeIsZero);
-    }
     SharedPoolAllocator::new(alloc, bucket, 4096, 128, 2)
 }
 
@@ -133,12 +157,12 @@ fn all_parties_ask(rt: HostRuntime) {
     let Ok(first) = pool.allocate_among(&mut parties, 0, asked) else {
         panic!(rt; "a free bucket was refused");
     };
-    assert!(rt; first.chunk().place() == 4096);
+    check(&rt, first.chunk().place() == 4096);
     pool.deallocate_among(&mut parties, 0, first);
     let Ok(again) = pool.allocate_among(&mut parties, 1, asked) else {
         panic!(rt; "a bucket that was given back was refused");
     };
-    assert!(rt; again.chunk().place() == 4096);
+    check(&rt, again.chunk().place() == 4096);
     let refused = pool.allocate_among(&mut parties, 0, asked).err();
-    assert_eq!(rt; refused, Some(AllocationError::OutOfMemory));
+    check(&rt, refused == Some(AllocationError::OutOfMemory));
 }

@@ -92,11 +92,14 @@ fn take<'a, P: SharedBuckets>(
     pool: &'a P,
     user: &mut User<'a>,
     request: Request,
-    asked: Layout,
+    asked: Asked,
 ) -> Answer
     requires { IsUser (P.shown pool.now) user.old.party user.old.kept }
     ensures { IsUser (P.shown pool.now) user.new.party user.new.kept }
 {
+    let Some(asked) = layout_of(asked) else {
+        return Answer::WrongRow;
+    };
     match pool.ask(&mut user.party, request, asked) {
         Ok(bucket) => bucket_of(&bucket),
         Err(error) => Answer::Refused(error),
@@ -108,11 +111,14 @@ fn keep<'a, P: SharedBuckets>(
     pool: &'a P,
     user: &mut User<'a>,
     request: Request,
-    asked: Layout,
+    asked: Asked,
 ) -> Answer
     requires { IsUser (P.shown pool.now) user.old.party user.old.kept }
     ensures { IsUser (P.shown pool.now) user.new.party user.new.kept }
 {
+    let Some(asked) = layout_of(asked) else {
+        return Answer::WrongRow;
+    };
     match pool.ask(&mut user.party, request, asked) {
         Ok(bucket) => {
             let answer = bucket_of(&bucket);
@@ -156,10 +162,13 @@ fn find_again<'a, P: SharedBuckets>(pool: &'a P, user: &mut User<'a>, len: usize
 }
 
 /// Resizes by the token that is kept.
-fn grow<'a, P: SharedBuckets>(pool: &'a P, user: &mut User<'a>, old: Layout, new: Layout) -> Answer
+fn grow<'a, P: SharedBuckets>(pool: &'a P, user: &mut User<'a>, old: Asked, new: Asked) -> Answer
     requires { IsUser (P.shown pool.now) user.old.party user.old.kept }
     ensures { IsUser (P.shown pool.now) user.new.party user.new.kept }
 {
+    let (Some(old), Some(new)) = (layout_of(old), layout_of(new)) else {
+        return Answer::WrongRow;
+    };
     let Some(bucket) = &mut user.kept else {
         return Answer::WrongRow;
     };
@@ -171,15 +180,13 @@ fn grow<'a, P: SharedBuckets>(pool: &'a P, user: &mut User<'a>, old: Layout, new
 }
 
 /// The same to a smaller size.
-fn shrink<'a, P: SharedBuckets>(
-    pool: &'a P,
-    user: &mut User<'a>,
-    old: Layout,
-    new: Layout,
-) -> Answer
+fn shrink<'a, P: SharedBuckets>(pool: &'a P, user: &mut User<'a>, old: Asked, new: Asked) -> Answer
     requires { IsUser (P.shown pool.now) user.old.party user.old.kept }
     ensures { IsUser (P.shown pool.now) user.new.party user.new.kept }
 {
+    let (Some(old), Some(new)) = (layout_of(old), layout_of(new)) else {
+        return Answer::WrongRow;
+    };
     let Some(bucket) = &mut user.kept else {
         return Answer::WrongRow;
     };
@@ -212,24 +219,12 @@ fn answered<'a, P: SharedBuckets>(pool: &'a P, user: &mut User<'a>, call: Call) 
     ensures { IsUser (P.shown pool.now) user.new.party user.new.kept }
 {
     match call {
-        Call::Take(request, asked) => match layout_of(asked) {
-            Some(asked) => take(pool, user, request, asked),
-            None => Answer::WrongRow,
-        },
-        Call::Keep(request, asked) => match layout_of(asked) {
-            Some(asked) => keep(pool, user, request, asked),
-            None => Answer::WrongRow,
-        },
+        Call::Take(request, asked) => take(pool, user, request, asked),
+        Call::Keep(request, asked) => keep(pool, user, request, asked),
         Call::GiveBack => give_back(pool, user),
         Call::FindAgain(len) => find_again(pool, user, len),
-        Call::Grow(old, new) => match (layout_of(old), layout_of(new)) {
-            (Some(old), Some(new)) => grow(pool, user, old, new),
-            _ => Answer::WrongRow,
-        },
-        Call::Shrink(old, new) => match (layout_of(old), layout_of(new)) {
-            (Some(old), Some(new)) => shrink(pool, user, old, new),
-            _ => Answer::WrongRow,
-        },
+        Call::Grow(old, new) => grow(pool, user, old, new),
+        Call::Shrink(old, new) => shrink(pool, user, old, new),
         Call::Token => token(user),
         Call::Number => Answer::Number(user.party.number()),
         Call::NumberAt(place) => number_at(pool, place),
@@ -327,7 +322,10 @@ pub(super) fn last_meets<'a, P: SharedBuckets>(
         return false;
     };
     let mut party = last.party;
-    meets(pool, users, index, &mut party) && users.push(User { party, kept: None }).is_ok()
+    if !meets(pool, users, index, &mut party) {
+        return false;
+    }
+    users.push(User { party, kept: None }).is_ok()
 }
 
 /// The last of these users lets its token go and leaves as a party.

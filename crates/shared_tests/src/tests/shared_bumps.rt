@@ -5,6 +5,7 @@ use crate::tests::bump_rows::{
     Answer, Call, NO_ROOM, Row, are_numbered, figures_of, hold, last_meets, last_ones_meet,
     owner_by_last, share_of,
 };
+use crate::tests::checks::{check, fail};
 use bb_memory::bump_allocator::{AllocationError, BaseAllocator, BumpAllocator};
 use bb_memory::layout::Layout;
 use bb_memory::shared_bump::{BumpParty, SharedBumpAllocator};
@@ -37,14 +38,17 @@ fn answers(
 {
     hold(rt, &shared, &mut parties, rows);
     let owner = owner_by_last(shared, parties);
-    assert_eq!(rt; owner.map(|bump| figures_of(&bump)), Some((4096, 64, used)));
+    check(
+        rt,
+        owner.map(|bump| figures_of(&bump)) == Some((4096, 64, used)),
+    );
 }
 
 /// The calls of row `share-two-parties`, and what the second party hands back.
 pub(super) fn two_parties(rt: &impl Abort, shared: SharedBumpAllocator, parties: Vec<BumpParty>)
     requires { All (λ party. party.allocator ≡ shared) parties.items }
 {
-    assert_eq!(rt; parties.len(), 2);
+    check(rt, parties.len() == 2);
     answers(rt, shared, parties, &TWO_PARTIES, 40);
 }
 
@@ -59,7 +63,7 @@ fn shared_answers(
 ) {
     match share_of(alloc, 64, used, parties) {
         Some((shared, parties)) => answers(rt, shared, parties, rows, used_then),
-        None => panic!(rt; "share"),
+        None => fail(rt, "share"),
     }
 }
 
@@ -67,7 +71,7 @@ fn shared_answers(
 fn share_two_parties(rt: HostRuntime) {
     match share_of(rt.alloc(), 64, 0, 2) {
         Some((shared, parties)) => two_parties(&rt, shared, parties),
-        None => panic!(rt; "share"),
+        None => fail(&rt, "share"),
     }
 }
 
@@ -79,7 +83,7 @@ fn parties_of_a_bump_meet(rt: HostRuntime) {
     };
     let before = [(0, Call::Take(40, 1), Answer::Chunk(4096, 40))];
     hold(&rt, &shared, &mut parties, &before);
-    assert!(rt; last_meets(&shared, &mut parties, 0));
+    check(&rt, last_meets(&shared, &mut parties, 0));
     let after = [
         (0, Call::Number, Answer::Number(0)),
         (1, Call::Number, Answer::Number(1)),
@@ -118,10 +122,10 @@ fn share_of_one_party(rt: HostRuntime) {
     let Some((shared, mut parties)) = share_of(rt.alloc(), 64, 0, 1) else {
         panic!(&rt; "share");
     };
-    assert_eq!(rt; parties.len(), 1);
+    check(&rt, parties.len() == 1);
     let rows = [(0, Call::Take(64, 1), Answer::Chunk(4096, 64))];
     hold(&rt, &shared, &mut parties, &rows);
-    assert!(rt; owner_by_last(shared, parties).is_some_and(is_full));
+    check(&rt, owner_by_last(shared, parties).is_some_and(is_full));
 }
 
 /// As many parties as asked, numbered from 0, of which the last one takes the first byte.
@@ -129,8 +133,8 @@ fn many_parties(rt: &impl Abort, alloc: Global, count: u32) {
     let Some((shared, mut parties)) = share_of(alloc, 64, 0, count) else {
         panic!(rt; "share");
     };
-    assert_eq!(rt; parties.len(), count as usize);
-    assert!(rt; are_numbered(&parties));
+    check(rt, parties.len() == count as usize);
+    check(rt, are_numbered(&parties));
     let last = parties.len().saturating_sub(1);
     let rows = [(last, Call::Take(1, 1), Answer::Chunk(4096, 1))];
     hold(rt, &shared, &mut parties, &rows);

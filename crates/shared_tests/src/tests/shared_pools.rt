@@ -1,6 +1,9 @@
 //! The pools that threads share, each row by its name.
 ghost use Rattle.std.specs.Prelude.{◌≡◌, ◌-◌, ◌<◌, ◌^◌, All, IfOk};
+ghost use Rattle.bb_memory_base.specs.Region.{region_at};
+ghost use Rattle.bb_memory.specs.Pool.{MayBeCut};
 
+use crate::tests::checks::{check, fail};
 use crate::tests::pool_rows::Answer::{Bucket, Chunk, GrowRefused, Nothing};
 use crate::tests::pool_rows::Call::{FindAgain, GiveBack, Grow, Keep, NumberAt, Take, Token};
 use crate::tests::pool_rows::{
@@ -14,6 +17,30 @@ use bb_memory::shared_pool::{PoolParty, SharedPoolAllocator};
 use std::alloc::Global;
 use std::process::Abort;
 
+/// A test asks for a pool that can't be made.
+pub(super) const NO_POOL: &str = "no pool can be made of that";
+
+/// The layout of buckets of 128 bytes, where a pool of them can be made over a region.
+pub(super) fn bucket_over(start: usize, size: usize) -> Result<Layout, &'static str>
+    ensures { IfOk result (MayBeCut (region_at start size)) }
+{
+    let Ok(bucket) = Layout::from_size_align(128, 8) else {
+        return Err("no such layout");
+    };
+    if !PoolAllocator::can_make(bucket, start, size) {
+        return Err(NO_POOL);
+    }
+    Ok(bucket)
+}
+
+/// Why no pool was made.
+pub(super) fn cause_of(error: AllocationError) -> &'static str {
+    match error {
+        AllocationError::OutOfMemory => REFUSED,
+        _ => "another cause",
+    }
+}
+
 /// A shared pool of buckets of 128 bytes over a region, with so many parties.
 pub(super) fn shared_over(
     alloc: Global,
@@ -23,16 +50,13 @@ pub(super) fn shared_over(
 ) -> Result<(SharedPoolAllocator, Vec<PoolParty>), &'static str>
     ensures { IfOk result (λ made. All (λ party. party.allocator ≡ made.0) made.1.items) }
 {
-    let Ok(bucket) = Layout::from_size_align(128, 8) else {
-        return Err("no such layout");
-    };
-    if parties == 0 || !PoolAllocator::can_make(bucket, start, size) {
-        return Err("no pool can be made of that");
+    let bucket = bucket_over(start, size)?;
+    if parties == 0 {
+        return Err(NO_POOL);
     }
     match SharedPoolAllocator::new(alloc, bucket, start, size, parties) {
         Ok(made) => Ok(made),
-        Err(AllocationError::OutOfMemory) => Err(REFUSED),
-        Err(_) => Err("another cause"),
+        Err(error) => Err(cause_of(error)),
     }
 }
 
@@ -46,16 +70,13 @@ pub(super) fn shared_fixed_over<const MOST: usize>(
     requires { MOST < 2 ^ 32 - 1 }
     ensures { IfOk result (λ made. All (λ party. party.allocator ≡ made.0) made.1.items) }
 {
-    let Ok(bucket) = Layout::from_size_align(128, 8) else {
-        return Err("no such layout");
-    };
-    if parties == 0 || !PoolAllocator::can_make(bucket, start, size) {
-        return Err("no pool can be made of that");
+    let bucket = bucket_over(start, size)?;
+    if parties == 0 {
+        return Err(NO_POOL);
     }
     match SharedFixed::<MOST>::new(alloc, bucket, start, size, parties) {
         Ok(made) => Ok(made),
-        Err(AllocationError::OutOfMemory) => Err(REFUSED),
-        Err(_) => Err("another cause"),
+        Err(error) => Err(cause_of(error)),
     }
 }
 
@@ -74,7 +95,7 @@ fn answers<P: SharedBuckets>(
 {
     match users_of(alloc, pool, parties) {
         Ok(mut users) => hold(rt, pool, &mut users, rows),
-        Err(_) => panic!(rt; "memory was refused"),
+        Err(_) => fail(rt, "memory was refused"),
     }
 }
 
@@ -88,7 +109,7 @@ pub(super) fn shared_answers(
 ) {
     match shared_over(alloc, start, size, parties) {
         Ok((pool, parties)) => answers(rt, alloc, &pool, parties, rows),
-        Err(cause) => panic!(rt; "{cause}"),
+        Err(cause) => fail(rt, cause),
     }
 }
 
@@ -102,7 +123,7 @@ pub(super) fn shared_fixed_answers(
 ) {
     match shared_fixed_over::<4>(alloc, start, size, parties) {
         Ok((pool, parties)) => answers(rt, alloc, &pool, parties, rows),
-        Err(cause) => panic!(rt; "{cause}"),
+        Err(cause) => fail(rt, cause),
     }
 }
 
@@ -166,7 +187,7 @@ fn no_bucket<P: SharedBuckets>(
     let Ok(mut users) = users_of(alloc, pool, parties) else {
         panic!(rt; "{REFUSED}");
     };
-    assert!(rt; last_meets(pool, &mut users, 0));
+    check(rt, last_meets(pool, &mut users, 0));
     let none = Figures {
         start,
         buckets: 0,
@@ -186,7 +207,7 @@ fn no_bucket<P: SharedBuckets>(
 fn shared_fixed_of_no_bucket(rt: HostRuntime) {
     match shared_fixed_over::<4>(rt.alloc(), 4096, 127, 2) {
         Ok((pool, parties)) => no_bucket(&rt, rt.alloc(), &pool, parties, None),
-        Err(cause) => panic!(&rt; "{cause}"),
+        Err(cause) => fail(&rt, cause),
     }
 }
 
@@ -203,8 +224,8 @@ fn many_parties<P: SharedBuckets>(
     let Ok(mut users) = users_of(alloc, pool, parties) else {
         panic!(rt; "{REFUSED}");
     };
-    assert_eq!(rt; users.len(), count);
-    assert!(rt; are_numbered(&users));
+    check(rt, users.len() == count);
+    check(rt, are_numbered(&users));
     let rows = [(
         count.saturating_sub(1),
         Take(Pass, (128, 8)),
@@ -217,7 +238,7 @@ fn many_parties<P: SharedBuckets>(
 fn shared_fixed_of_parties(rt: &impl Abort, alloc: Global, count: u32) {
     match shared_fixed_over::<4>(alloc, 4096, 1024, count) {
         Ok((pool, parties)) => many_parties(rt, alloc, &pool, parties, count as usize),
-        Err(cause) => panic!(rt; "{cause}"),
+        Err(cause) => fail(rt, cause),
     }
 }
 
@@ -225,10 +246,10 @@ fn shared_fixed_of_parties(rt: &impl Abort, alloc: Global, count: u32) {
 fn shared_of_parties(rt: &impl Abort, alloc: Global, count: u32) {
     match shared_over(alloc, 4096, 1024, count) {
         Ok((pool, parties)) => {
-            assert_eq!(rt; pool.start_address(), 4096);
+            check(rt, pool.start_address() == 4096);
             many_parties(rt, alloc, &pool, parties, count as usize);
         }
-        Err(cause) => panic!(rt; "{cause}"),
+        Err(cause) => fail(rt, cause),
     }
 }
 
@@ -259,7 +280,7 @@ fn shared_fixed_of_512_buckets(rt: HostRuntime) {
     ];
     match shared_fixed_over::<512>(rt.alloc(), 4096, 128 * 600, 1) {
         Ok((pool, parties)) => answers(&rt, rt.alloc(), &pool, parties, &rows),
-        Err(cause) => panic!(&rt; "{cause}"),
+        Err(cause) => fail(&rt, cause),
     }
 }
 
@@ -311,7 +332,7 @@ fn shared_fixed_bucket_by_number(rt: HostRuntime) {
 fn shared_pool_of_no_bucket(rt: HostRuntime) {
     match shared_over(rt.alloc(), 4096, 127, 2) {
         Ok((pool, parties)) => no_bucket(&rt, rt.alloc(), &pool, parties, Some(4096)),
-        Err(cause) => panic!(&rt; "{cause}"),
+        Err(cause) => fail(&rt, cause),
     }
 }
 
@@ -358,7 +379,7 @@ fn some_meet<P: SharedBuckets>(
         panic!(rt; "{REFUSED}");
     };
     hold(rt, pool, &mut users, &BEFORE_THE_MEETING);
-    assert!(rt; last_ones_meet(alloc, pool, &mut users, count));
+    check(rt, last_ones_meet(alloc, pool, &mut users, count));
     hold(rt, pool, &mut users, &AFTER_THE_MEETING);
 }
 
@@ -366,7 +387,7 @@ fn some_meet<P: SharedBuckets>(
 fn shared_some_meet(rt: &impl Abort, alloc: Global, count: usize) {
     match shared_over(alloc, 4096, 512, 3) {
         Ok((pool, parties)) => some_meet(rt, alloc, &pool, parties, count),
-        Err(cause) => panic!(rt; "{cause}"),
+        Err(cause) => fail(rt, cause),
     }
 }
 
@@ -382,7 +403,7 @@ fn all_parties_of_a_shared_pool_meet(rt: HostRuntime) {
 fn shared_fixed_some_meet(rt: &impl Abort, alloc: Global, count: usize) {
     match shared_fixed_over::<4>(alloc, 4096, 1024, 3) {
         Ok((pool, parties)) => some_meet(rt, alloc, &pool, parties, count),
-        Err(cause) => panic!(rt; "{cause}"),
+        Err(cause) => fail(rt, cause),
     }
 }
 

@@ -1,14 +1,14 @@
 //! Buckets of shared pools that go from party to party.
 ghost use Rattle.std.specs.Prelude.{◌≡◌, ◌-◌, ◌<◌, ◌^◌, All, IfOk, true};
 
+use crate::tests::checks::{check, fail};
 use crate::tests::shared_buckets::SharedFixed;
-use crate::tests::shared_pools::{REFUSED, shared_over};
+use crate::tests::shared_pools::{NO_POOL, bucket_over, cause_of, shared_over};
 use bb_memory::layout::{Chunk, Layout};
-use bb_memory::pool_allocator::{AllocationError, PoolAllocator};
+use bb_memory::pool_allocator::AllocationError;
 use bb_memory::shared_pool::{BucketInTransit, PoolParty, SharedPoolAllocator};
 use std::alloc::Global;
 use std::process::Abort;
-use std::test::Fail;
 
 /// A shared pool with a post, of buckets of 128 bytes over a region, with so many parties beside it.
 pub(super) fn posted_over(
@@ -20,16 +20,13 @@ pub(super) fn posted_over(
     ensures theirs { IfOk result (λ made. All (λ party. party.allocator ≡ made.0) made.1.items) }
     ensures post { IfOk result (λ made. made.0.has_post ≡ true) }
 {
-    let Ok(bucket) = Layout::from_size_align(128, 8) else {
-        return Err("no such layout");
-    };
-    if parties == 0 || parties == u32::MAX || !PoolAllocator::can_make(bucket, start, size) {
-        return Err("no pool can be made of that");
+    let bucket = bucket_over(start, size)?;
+    if parties == 0 || parties == u32::MAX {
+        return Err(NO_POOL);
     }
     match SharedPoolAllocator::with_post(alloc, bucket, start, size, parties) {
         Ok(made) => Ok(made),
-        Err(AllocationError::OutOfMemory) => Err(REFUSED),
-        Err(_) => Err("another cause"),
+        Err(error) => Err(cause_of(error)),
     }
 }
 
@@ -44,16 +41,13 @@ pub(super) fn posted_fixed_over<const MOST: usize>(
     ensures theirs { IfOk result (λ made. All (λ party. party.allocator ≡ made.0) made.1.items) }
     ensures post { IfOk result (λ made. made.0.has_post ≡ true) }
 {
-    let Ok(bucket) = Layout::from_size_align(128, 8) else {
-        return Err("no such layout");
-    };
-    if parties == 0 || parties == u32::MAX || !PoolAllocator::can_make(bucket, start, size) {
-        return Err("no pool can be made of that");
+    let bucket = bucket_over(start, size)?;
+    if parties == 0 || parties == u32::MAX {
+        return Err(NO_POOL);
     }
     match SharedFixed::<MOST>::with_post(alloc, bucket, start, size, parties) {
         Ok(made) => Ok(made),
-        Err(AllocationError::OutOfMemory) => Err(REFUSED),
-        Err(_) => Err("another cause"),
+        Err(error) => Err(cause_of(error)),
     }
 }
 
@@ -99,6 +93,27 @@ fn is_refused(pool: &SharedPoolAllocator, party: &mut PoolParty, asked: Layout) 
     )
 }
 
+/// Whether a request is answered with a bucket, which stays held.
+fn is_given(pool: &SharedPoolAllocator, party: &mut PoolParty, asked: Layout) -> bool
+    requires { party.old.allocator ≡ pool.now }
+    ensures { party.new.allocator ≡ pool.now }
+{
+    pool.allocate(party, asked).is_ok()
+}
+
+/// Whether each of three requests of the party is answered with a bucket.
+pub(super) fn three_given(
+    pool: &SharedPoolAllocator,
+    mut party: PoolParty,
+    asked: Layout,
+) -> [bool; 3]
+    requires { party.allocator ≡ pool.now }
+{
+    let first = is_given(pool, &mut party, asked);
+    let second = is_given(pool, &mut party, asked);
+    [first, second, is_given(pool, &mut party, asked)]
+}
+
 /// What a token tells.
 fn told(message: &BucketInTransit) -> (u32, usize) {
     (message.number(), message.len())
@@ -122,26 +137,30 @@ fn one_sends(
     requires second { second.allocator ≡ pool.now }
 {
     let mut message = send(pool, &mut first, asked)?;
-    assert_eq!(rt; told(&message), (0, 48));
+    check(rt, told(&message) == (0, 48));
     pool.meet_in_transit(&mut second, &mut message);
     pool.meet_in_transit(&mut first, &mut message);
-    assert_eq!(rt; told(&message), (0, 48));
-    assert!(rt; is_refused(pool, &mut first, asked));
-    assert!(rt; is_refused(pool, &mut second, asked));
-    assert_eq!(rt; figures(receive(pool, &mut second, message)), (0, 4096, 48));
-    assert!(rt; !is_refused(pool, &mut first, asked));
+    check(rt, told(&message) == (0, 48));
+    check(rt, is_refused(pool, &mut first, asked));
+    check(rt, is_refused(pool, &mut second, asked));
+    check(
+        rt,
+        figures(receive(pool, &mut second, message)) == (0, 4096, 48),
+    );
+    check(rt, !is_refused(pool, &mut first, asked));
     Ok(())
 }
 
-/// Two parties of a pool with a post, of so many bytes at 4096.
+/// Two parties of a pool with a post, of so many bytes at 4096, and the layout of a message.
 pub(super) fn two_of(
     alloc: Global,
     size: usize,
-) -> Result<(SharedPoolAllocator, PoolParty, PoolParty), &'static str>
+) -> Result<(SharedPoolAllocator, PoolParty, PoolParty, Layout), &'static str>
     ensures post { IfOk result (λ made. made.0.has_post ≡ true) }
     ensures first { IfOk result (λ made. made.1.allocator ≡ made.0) }
     ensures second { IfOk result (λ made. made.2.allocator ≡ made.0) }
 {
+    let asked = message_layout()?;
     let (pool, mut parties) = posted_over(alloc, 4096, size, 2)?;
     let Some(second) = parties.pop() else {
         return Err("no party");
@@ -149,11 +168,11 @@ pub(super) fn two_of(
     let Some(first) = parties.pop() else {
         return Err("one party alone");
     };
-    Ok((pool, first, second))
+    Ok((pool, first, second, asked))
 }
 
 /// The layout of a message.
-pub(super) fn message_layout() -> Result<Layout, &'static str> {
+fn message_layout() -> Result<Layout, &'static str> {
     match Layout::from_size_align(48, 4) {
         Ok(layout) => Ok(layout),
         Err(_) => Err("no such layout"),
@@ -162,11 +181,13 @@ pub(super) fn message_layout() -> Result<Layout, &'static str> {
 
 /// One party takes a bucket, and another gives it back. Meanwhile nobody is given it.
 #[test]
-fn shared_pool_handed_over(rt: HostRuntime) -> Result<(), Fail> {
-    let asked = message_layout()?;
-    let (pool, first, second) = two_of(rt.alloc(), 128)?;
-    one_sends(&rt, &pool, first, second, asked)?;
-    Ok(())
+fn shared_pool_handed_over(rt: HostRuntime) {
+    match two_of(rt.alloc(), 128) {
+        Ok((pool, first, second, asked)) => {
+            check(&rt, one_sends(&rt, &pool, first, second, asked).is_ok());
+        }
+        Err(cause) => fail(&rt, cause),
+    }
 }
 
 /// Two buckets are in transit at once, and are taken over in the other order.
@@ -184,30 +205,56 @@ pub(super) fn two_in_transit(
     let mut one = send(pool, &mut first, asked)?;
     let mut other = send(pool, &mut second, asked)?;
     pool.tell_apart(&mut one, &mut other);
-    assert_eq!(rt; (told(&one), told(&other)), ((0, 48), (1, 48)));
-    assert_eq!(rt; figures(receive(pool, &mut first, other)), (1, 4224, 48));
-    assert_eq!(rt; figures(receive(pool, &mut second, one)), (0, 4096, 48));
+    check(rt, (told(&one), told(&other)) == ((0, 48), (1, 48)));
+    check(
+        rt,
+        figures(receive(pool, &mut first, other)) == (1, 4224, 48),
+    );
+    check(
+        rt,
+        figures(receive(pool, &mut second, one)) == (0, 4096, 48),
+    );
     Ok(())
 }
 
 #[test]
-fn shared_pool_two_in_transit(rt: HostRuntime) -> Result<(), Fail> {
-    let asked = message_layout()?;
-    let (pool, first, second) = two_of(rt.alloc(), 256)?;
-    two_in_transit(&rt, &pool, first, second, asked)?;
-    Ok(())
+fn shared_pool_two_in_transit(rt: HostRuntime) {
+    match two_of(rt.alloc(), 256) {
+        Ok((pool, first, second, asked)) => {
+            check(
+                &rt,
+                two_in_transit(&rt, &pool, first, second, asked).is_ok(),
+            );
+        }
+        Err(cause) => fail(&rt, cause),
+    }
+}
+
+/// One party sends a bucket of two and drops the token. The other party is given the other bucket, and then none is free.
+fn one_is_dropped(
+    rt: &impl Abort,
+    pool: &SharedPoolAllocator,
+    mut first: PoolParty,
+    mut second: PoolParty,
+    asked: Layout,
+)
+    requires post { pool.now.has_post ≡ true }
+    requires first { first.allocator ≡ pool.now }
+    requires second { second.allocator ≡ pool.now }
+{
+    check(rt, send(pool, &mut first, asked).is_ok());
+    check(rt, !is_refused(pool, &mut second, asked));
+    check(rt, is_refused(pool, &mut first, asked));
+    check(rt, is_refused(pool, &mut second, asked));
 }
 
 /// The bucket of a dropped token stays in transit.
 #[test]
-fn shared_pool_dropped_in_transit(rt: HostRuntime) -> Result<(), Fail> {
-    let asked = message_layout()?;
-    let (pool, mut first, mut second) = two_of(rt.alloc(), 256)?;
-    assert!(rt; send(&pool, &mut first, asked).is_ok());
-    assert!(rt; !is_refused(&pool, &mut second, asked));
-    assert!(rt; is_refused(&pool, &mut first, asked));
-    assert!(rt; is_refused(&pool, &mut second, asked));
-    Ok(())
+fn shared_pool_dropped_in_transit(rt: HostRuntime) {
+    match two_of(rt.alloc(), 256) {
+        Ok((pool, first, second, asked)) => one_is_dropped(&rt, &pool, first, second, asked),
+        Err(cause) => fail(&rt, cause),
+    }
 }
 
 /// The calls of the next test on a pool of at most four buckets.
@@ -223,38 +270,69 @@ fn there_and_back(
 {
     let taken = pool.allocate(party, asked)?;
     let message = pool.hand_over(party, taken);
-    assert_eq!(rt; told(&message), (0, 48));
+    check(rt, told(&message) == (0, 48));
     let received = pool.take_over(party, message);
     let message = pool.hand_over(party, received);
     let received = pool.take_over(party, message);
-    assert_eq!(rt; (received.number(), received.chunk().len()), (0, 48));
+    check(rt, (received.number(), received.chunk().len()) == (0, 48));
     pool.deallocate_bucket(party, received);
     Ok(())
 }
 
+/// The same twice, by the last of these parties.
+fn twice_there_and_back(
+    rt: &impl Abort,
+    pool: &SharedFixed<4>,
+    mut parties: Vec<PoolParty>,
+    asked: Layout,
+) -> Result<(), AllocationError>
+    requires post { pool.now.has_post ≡ true }
+    requires parties { All (λ party. party.allocator ≡ pool.now) parties.items }
+{
+    let Some(mut party) = parties.pop() else {
+        panic!(rt; "no party");
+    };
+    there_and_back(rt, pool, &mut party, asked)?;
+    there_and_back(rt, pool, &mut party, asked)
+}
+
 /// The only party beside the post takes over what it handed over itself, hands it over again, and gives it back.
 #[test]
-fn shared_fixed_handed_over(rt: HostRuntime) -> Result<(), Fail> {
-    let asked = message_layout()?;
-    let (pool, mut parties) = posted_fixed_over::<4>(rt.alloc(), 4096, 128, 1)?;
-    let Some(mut party) = parties.pop() else {
-        return Err(Fail::from("no party"));
+fn shared_fixed_handed_over(rt: HostRuntime) {
+    let Ok(asked) = message_layout() else {
+        panic!(rt; "no such layout");
     };
-    there_and_back(&rt, &pool, &mut party, asked)?;
-    there_and_back(&rt, &pool, &mut party, asked)?;
-    Ok(())
+    match posted_fixed_over::<4>(rt.alloc(), 4096, 128, 1) {
+        Ok((pool, parties)) => check(
+            &rt,
+            twice_there_and_back(&rt, &pool, parties, asked).is_ok(),
+        ),
+        Err(cause) => fail(&rt, cause),
+    }
+}
+
+/// Whether a pool that was made without a post has one.
+fn without_post(alloc: Global) -> Result<bool, &'static str> {
+    let (pool, _) = shared_over(alloc, 4096, 256, 2)?;
+    Ok(pool.has_post())
+}
+
+/// Whether a pool that was made with a post has one, with how many parties beside it, and how many buckets.
+fn with_post(alloc: Global) -> Result<(bool, usize, u32), &'static str> {
+    let (pool, parties) = posted_over(alloc, 4096, 256, 2)?;
+    Ok((pool.has_post(), parties.len(), pool.number_of_buckets()))
+}
+
+/// The same of a pool of at most one bucket.
+fn fixed_with_post(alloc: Global) -> Result<(bool, usize, u32), &'static str> {
+    let (pool, parties) = posted_fixed_over::<1>(alloc, 4096, 256, 3)?;
+    Ok((pool.has_post(), parties.len(), pool.number_of_buckets()))
 }
 
 /// A pool tells whether it has a post.
 #[test]
-fn shared_pools_with_and_without_post(rt: HostRuntime) -> Result<(), Fail> {
-    let (without, _) = shared_over(rt.alloc(), 4096, 256, 2)?;
-    assert!(rt; !without.has_post());
-    let (with, parties) = posted_over(rt.alloc(), 4096, 256, 2)?;
-    assert!(rt; with.has_post());
-    assert_eq!(rt; (parties.len(), with.number_of_buckets()), (2, 2));
-    let (with, parties) = posted_fixed_over::<1>(rt.alloc(), 4096, 256, 3)?;
-    assert!(rt; with.has_post());
-    assert_eq!(rt; (parties.len(), with.number_of_buckets()), (3, 1));
-    Ok(())
+fn shared_pools_with_and_without_post(rt: HostRuntime) {
+    check(&rt, without_post(rt.alloc()) == Ok(false));
+    check(&rt, with_post(rt.alloc()) == Ok((true, 2, 2)));
+    check(&rt, fixed_with_post(rt.alloc()) == Ok((true, 3, 1)));
 }

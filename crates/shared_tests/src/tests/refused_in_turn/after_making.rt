@@ -5,6 +5,7 @@ ghost use Rattle.bb_memory.specs.SharedPoolAmong.{AreAllOf};
 
 use super::was_refused;
 use crate::tests::bump_rows::{self, all_meet, owner_by_all};
+use crate::tests::checks::check;
 use crate::tests::histories::one_for_two;
 use crate::tests::pool_rows::Answer::{Bucket, Chunk, Nothing};
 use crate::tests::pool_rows::Call::{
@@ -16,7 +17,7 @@ use crate::tests::shared_buckets::Request::{Near, Pass};
 use crate::tests::shared_buckets::{Figures, SharedBuckets};
 use crate::tests::shared_bumps::two_parties;
 use crate::tests::shared_pools::{DROPPED_BUCKET, FOUR_BUCKETS, shared_fixed_over, shared_over};
-use crate::tests::transit::{message_layout, two_in_transit, two_of};
+use crate::tests::transit::{two_in_transit, two_of};
 use allocator_tests::marks::{none_was_asked, refuse_memory};
 use bb_memory::layout::Layout;
 use bb_memory::shared_pool::{PoolParty, SharedPoolAllocator};
@@ -42,10 +43,10 @@ fn a_shared_bump(rt: HostRuntime) {
         ),
     ];
     bump_rows::hold(&rt, &shared, &mut parties, &rows);
-    assert!(rt; bump_rows::last_meets(&shared, &mut parties, 0));
+    check(&rt, bump_rows::last_meets(&shared, &mut parties, 0));
     all_meet(&shared, &mut parties);
     two_parties(&rt, shared, parties);
-    assert!(rt; none_was_asked(rt.alloc()));
+    check(&rt, none_was_asked(rt.alloc()));
 }
 
 /// A bump that is handed back by all its parties.
@@ -56,8 +57,11 @@ fn an_owner_of_all(rt: HostRuntime) {
         return;
     };
     refuse_memory(rt.alloc());
-    assert_eq!(rt; owner_by_all(shared, parties, 4), Some((4096, 64, 40)));
-    assert!(rt; none_was_asked(rt.alloc()));
+    check(
+        &rt,
+        owner_by_all(shared, parties, 4) == Some((4096, 64, 40)),
+    );
+    check(&rt, none_was_asked(rt.alloc()));
 }
 
 /// These rows hold of a pool without a request for memory. Where it has several parties, the last one meets the first before.
@@ -77,11 +81,11 @@ fn answers<P: SharedBuckets>(
     };
     refuse_memory(alloc);
     if users.len() > 1 {
-        assert!(rt; last_meets(pool, &mut users, 0));
+        check(rt, last_meets(pool, &mut users, 0));
     }
     hold(rt, pool, &mut users, first);
     hold(rt, pool, &mut users, then);
-    assert!(rt; none_was_asked(alloc));
+    check(rt, none_was_asked(alloc));
 }
 
 /// They hold of a shared pool over so many bytes at 4096.
@@ -188,19 +192,29 @@ fn meet_without_memory<P: SharedBuckets>(
 {
     refuse_memory(alloc);
     pool.meet_all(&mut parties);
-    assert!(rt; none_was_asked(alloc));
+    check(rt, none_was_asked(alloc));
+}
+
+/// Those of a shared pool do.
+fn shared_meet(rt: &impl Abort, alloc: Global) {
+    match shared_over(alloc, 4096, 256, 3) {
+        Ok((pool, parties)) => meet_without_memory(rt, alloc, &pool, parties),
+        Err(cause) => was_refused(rt, alloc, cause),
+    }
+}
+
+/// And those of a pool of at most four buckets.
+fn shared_fixed_meet(rt: &impl Abort, alloc: Global) {
+    match shared_fixed_over::<4>(alloc, 4096, 1024, 3) {
+        Ok((pool, parties)) => meet_without_memory(rt, alloc, &pool, parties),
+        Err(cause) => was_refused(rt, alloc, cause),
+    }
 }
 
 #[test]
 fn all_parties_of_shared_pools(rt: HostRuntime) {
-    match shared_over(rt.alloc(), 4096, 256, 3) {
-        Ok((pool, parties)) => meet_without_memory(&rt, rt.alloc(), &pool, parties),
-        Err(cause) => was_refused(&rt, rt.alloc(), cause),
-    }
-    match shared_fixed_over::<4>(rt.alloc(), 4096, 1024, 3) {
-        Ok((pool, parties)) => meet_without_memory(&rt, rt.alloc(), &pool, parties),
-        Err(cause) => was_refused(&rt, rt.alloc(), cause),
-    }
+    shared_meet(&rt, rt.alloc());
+    shared_fixed_meet(&rt, rt.alloc());
 }
 
 /// Parties meet in a history, and one of all asks and gives back, without a request for memory.
@@ -221,7 +235,7 @@ fn history_without_memory(
         panic!(rt; "a free bucket was refused");
     };
     pool.deallocate_among(&mut parties, 1, taken);
-    assert!(rt; none_was_asked(alloc));
+    check(rt, none_was_asked(alloc));
 }
 
 #[test]
@@ -249,17 +263,14 @@ fn transit_without_memory(
     requires second { second.allocator ≡ pool.now }
 {
     refuse_memory(alloc);
-    assert!(rt; two_in_transit(rt, pool, first, second, asked).is_ok());
-    assert!(rt; none_was_asked(alloc));
+    check(rt, two_in_transit(rt, pool, first, second, asked).is_ok());
+    check(rt, none_was_asked(alloc));
 }
 
 #[test]
 fn buckets_in_transit(rt: HostRuntime) {
-    let Ok(asked) = message_layout() else {
-        panic!(&rt; "no such layout");
-    };
     match two_of(rt.alloc(), 256) {
-        Ok((pool, first, second)) => {
+        Ok((pool, first, second, asked)) => {
             transit_without_memory(&rt, rt.alloc(), &pool, first, second, asked);
         }
         Err(cause) => was_refused(&rt, rt.alloc(), cause),

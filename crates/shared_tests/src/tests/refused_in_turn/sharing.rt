@@ -3,18 +3,19 @@ ghost use Rattle.std.specs.Prelude.{◌≡◌, All, IfOk, true};
 
 use super::was_refused;
 use crate::tests::bump_rows::figures_of;
+use crate::tests::checks::{check, fail};
 use crate::tests::pool_rows::{Row, hold, users_of};
 use crate::tests::shared_buckets::{SharedBuckets, SharedFixed};
 use crate::tests::shared_bumps::two_parties;
 use crate::tests::shared_pools::{DROPPED_BUCKET, FOUR_BUCKETS, shared_fixed_over, shared_over};
-use crate::tests::transit::{message_layout, two_in_transit, two_of};
+use crate::tests::transit::{two_in_transit, two_of};
 use allocator_tests::marks::some_was_refused;
 use bb_memory::bump_allocator::{AllocationError, BumpAllocator};
+use bb_memory::layout::Layout;
 use bb_memory::shared_bump::{BumpParty, SharedBumpAllocator};
 use bb_memory::shared_pool::{PoolParty, SharedPoolAllocator};
 use std::alloc::Global;
 use std::process::Abort;
-use std::test::Fail;
 
 /// A bump of 64 bytes at 4096, shared by two. Where memory was refused it comes back as it was, and is shared once more.
 fn shared_by_two(
@@ -27,9 +28,9 @@ fn shared_by_two(
         Ok(shared) => return Ok(shared),
         Err(refused) => refused,
     };
-    assert!(rt; some_was_refused(alloc));
-    assert_eq!(rt; cause, AllocationError::OutOfMemory);
-    assert_eq!(rt; figures_of(&handed_back), (4096, 64, 0));
+    check(rt, some_was_refused(alloc));
+    check(rt, cause == AllocationError::OutOfMemory);
+    check(rt, figures_of(&handed_back) == (4096, 64, 0));
     match handed_back.share(alloc, 2) {
         Ok(shared) => Ok(shared),
         Err(_) => Err("share was refused with memory"),
@@ -40,7 +41,7 @@ fn shared_by_two(
 fn share_two_parties(rt: HostRuntime) {
     match shared_by_two(&rt, rt.alloc()) {
         Ok((shared, parties)) => two_parties(&rt, shared, parties),
-        Err(cause) => panic!(&rt; "{cause}"),
+        Err(cause) => fail(&rt, cause),
     }
 }
 
@@ -56,7 +57,7 @@ fn answers<P: SharedBuckets>(
 {
     match users_of(alloc, pool, parties) {
         Ok(mut users) => hold(rt, pool, &mut users, rows),
-        Err(_) => assert!(rt; some_was_refused(alloc)),
+        Err(_) => check(rt, some_was_refused(alloc)),
     }
 }
 
@@ -80,7 +81,7 @@ fn two_buckets(
 fn shared_pool_dropped_bucket(rt: HostRuntime) {
     match two_buckets(&rt, rt.alloc()) {
         Ok((pool, parties)) => answers(&rt, rt.alloc(), &pool, parties, &DROPPED_BUCKET),
-        Err(cause) => panic!(&rt; "{cause}"),
+        Err(cause) => fail(&rt, cause),
     }
 }
 
@@ -104,7 +105,7 @@ fn four_buckets(
 fn shared_fixed_four_buckets(rt: HostRuntime) {
     match four_buckets(&rt, rt.alloc()) {
         Ok((pool, parties)) => answers(&rt, rt.alloc(), &pool, parties, &FOUR_BUCKETS),
-        Err(cause) => panic!(&rt; "{cause}"),
+        Err(cause) => fail(&rt, cause),
     }
 }
 
@@ -112,7 +113,7 @@ fn shared_fixed_four_buckets(rt: HostRuntime) {
 fn two_posted_buckets(
     rt: &impl Abort,
     alloc: Global,
-) -> Result<(SharedPoolAllocator, PoolParty, PoolParty), &'static str>
+) -> Result<(SharedPoolAllocator, PoolParty, PoolParty, Layout), &'static str>
     ensures post { IfOk result (λ made. made.0.has_post ≡ true) }
     ensures first { IfOk result (λ made. made.1.allocator ≡ made.0) }
     ensures second { IfOk result (λ made. made.2.allocator ≡ made.0) }
@@ -127,9 +128,14 @@ fn two_posted_buckets(
 }
 
 #[test]
-fn shared_pool_two_in_transit(rt: HostRuntime) -> Result<(), Fail> {
-    let asked = message_layout()?;
-    let (pool, first, second) = two_posted_buckets(&rt, rt.alloc())?;
-    two_in_transit(&rt, &pool, first, second, asked)?;
-    Ok(())
+fn shared_pool_two_in_transit(rt: HostRuntime) {
+    match two_posted_buckets(&rt, rt.alloc()) {
+        Ok((pool, first, second, asked)) => {
+            check(
+                &rt,
+                two_in_transit(&rt, &pool, first, second, asked).is_ok(),
+            );
+        }
+        Err(cause) => fail(&rt, cause),
+    }
 }

@@ -2,8 +2,10 @@
 ghost use Rattle.std.specs.Prelude.{◌≡◌, IfOk, IfSome};
 ghost use Rattle.bb_memory.specs.SharedPoolAmong.{AreAllOf, IsAmongAll};
 
+use crate::tests::checks::check;
+use crate::tests::shared_pools::bucket_over;
 use bb_memory::layout::Layout;
-use bb_memory::pool_allocator::{AllocationError, PoolAllocator};
+use bb_memory::pool_allocator::AllocationError;
 use bb_memory::shared_pool::{PoolParty, SharedPoolAllocator};
 use std::alloc::Global;
 use std::process::Abort;
@@ -15,12 +17,9 @@ fn eight_for_four(alloc: Global) -> Result<(SharedPoolAllocator, Vec<PoolParty>)
     ensures all { IfOk result (λ made. AreAllOf made.0 made.1.items) }
     ensures four { IfOk result (λ made. made.0.scene.parties ≡ 4) }
 {
-    let Ok(bucket) = Layout::from_size_align(128, 8) else {
+    let Ok(bucket) = bucket_over(4096, 1024) else {
         return Err(AllocationError::SizeIsZero);
     };
-    if !PoolAllocator::can_make(bucket, 4096, 1024) {
-        return Err(AllocationError::SizeIsZero);
-    }
     SharedPoolAllocator::new(alloc, bucket, 4096, 1024, 4)
 }
 
@@ -60,7 +59,7 @@ fn given(
     match pool.allocate_among(parties, index, asked) {
         Ok(bucket) => Some(bucket.number()),
         Err(error) => {
-            assert_eq!(rt; error, AllocationError::OutOfMemory);
+            check(rt, error == AllocationError::OutOfMemory);
             None
         }
     }
@@ -94,11 +93,11 @@ fn threads_pool_among(rt: HostRuntime) {
     let Some(mut back) = each_keeps_one(&rt, &pool, parties, asked) else {
         panic!(rt; "memory was refused");
     };
-    assert_eq!(rt; given(&rt, &pool, &mut back, 3, asked), Some(1));
-    assert_eq!(rt; given(&rt, &pool, &mut back, 0, asked), Some(3));
-    assert_eq!(rt; given(&rt, &pool, &mut back, 0, asked), Some(5));
-    assert_eq!(rt; out_and_back(&pool, &mut back, asked), Some(7));
-    assert_eq!(rt; given(&rt, &pool, &mut back, 2, asked), Some(7));
-    assert_eq!(rt; given(&rt, &pool, &mut back, 1, asked), None);
-    assert_eq!(rt; out_and_back(&pool, &mut back, asked), None);
+    check(&rt, given(&rt, &pool, &mut back, 3, asked) == Some(1));
+    check(&rt, given(&rt, &pool, &mut back, 0, asked) == Some(3));
+    check(&rt, given(&rt, &pool, &mut back, 0, asked) == Some(5));
+    check(&rt, out_and_back(&pool, &mut back, asked) == Some(7));
+    check(&rt, given(&rt, &pool, &mut back, 2, asked) == Some(7));
+    check(&rt, given(&rt, &pool, &mut back, 1, asked) == None);
+    check(&rt, out_and_back(&pool, &mut back, asked) == None);
 }

@@ -5,6 +5,7 @@ ghost use Rattle.std.specs.Arc.{arc_value};
 use crate::tests::bump_rows::{
     Answer, Call, NO_ROOM, Row, all_meet, hold, last_meets, owner_by_all, share_at, share_of,
 };
+use crate::tests::checks::{check, fail};
 use bb_memory::layout::{Chunk, Layout};
 use bb_memory::shared_bump::{BumpParty, SharedBumpAllocator};
 use std::alloc::{AllocError, Global};
@@ -216,19 +217,19 @@ fn parties_of(
 
 /// Each of so many threads was given so many chunks, and found its own to be used.
 fn were_given(rt: &impl Abort, all: &[Taken], threads: usize, chunks: usize) {
-    assert_eq!(rt; all.len(), threads);
+    check(rt, all.len() == threads);
     for taken in all {
-        assert!(rt; taken.saw_its_own);
-        assert_eq!(rt; taken.chunks.len(), chunks);
+        check(rt, taken.saw_its_own);
+        check(rt, taken.chunks.len() == chunks);
     }
 }
 
 /// These are so many chunks of ten bytes, one behind the other from 4096 on.
 fn are_in_a_row(rt: &impl Abort, ends: &[(usize, usize)], count: usize) {
-    assert_eq!(rt; ends.len(), count);
+    check(rt, ends.len() == count);
     let mut behind: usize = 4096;
     for (place, end) in ends {
-        assert_eq!(rt; (*place, *end), (behind, behind.saturating_add(10)));
+        check(rt, (*place, *end) == (behind, behind.saturating_add(10)));
         behind = *end;
     }
 }
@@ -250,11 +251,11 @@ fn are_exact(rt: &impl Abort, alloc: Global, shared: &SharedBumpAllocator, all: 
     were_given(rt, &all, 4, 100);
     match ends_of(alloc, &all) {
         Ok(ends) => are_in_a_row(rt, &ends, 400),
-        Err(_) => panic!(rt; "{REFUSED}"),
+        Err(_) => fail(rt, REFUSED),
     }
     match parties_of(alloc, shared, all) {
         Ok(mut parties) => hold(rt, shared, &mut parties, &BEHIND_4000_BYTES),
-        Err(_) => panic!(rt; "{REFUSED}"),
+        Err(_) => fail(rt, REFUSED),
     }
 }
 
@@ -262,7 +263,7 @@ fn are_exact(rt: &impl Abort, alloc: Global, shared: &SharedBumpAllocator, all: 
 fn threads_bump_exact_places(rt: HostRuntime) {
     match four_take_ten(&rt, rt.alloc()) {
         Ok((shared, all)) => are_exact(&rt, rt.alloc(), &shared, all),
-        Err(cause) => panic!(&rt; "{cause}"),
+        Err(cause) => fail(&rt, cause),
     }
 }
 
@@ -270,15 +271,18 @@ fn threads_bump_exact_places(rt: HostRuntime) {
 fn threads_used_space_seen(rt: HostRuntime) {
     match four_take_ten(&rt, rt.alloc()) {
         Ok((_, all)) => were_given(&rt, &all, 4, 100),
-        Err(cause) => panic!(&rt; "{cause}"),
+        Err(cause) => fail(&rt, cause),
     }
 }
 
 /// A thread was given chunks of this layout, until it was refused.
 fn has_layout(rt: &impl Abort, taken: &Taken, layout: Layout) {
-    assert!(rt; taken.refused && taken.layout == layout);
+    check(rt, taken.refused && taken.layout == layout);
     for chunk in &taken.chunks {
-        assert!(rt; chunk.place() % layout.align() == 0 && chunk.len() == layout.size());
+        check(
+            rt,
+            chunk.place() % layout.align() == 0 && chunk.len() == layout.size(),
+        );
     }
 }
 
@@ -292,15 +296,15 @@ fn meet(
     requires { All (λ taken. taken.party.allocator ≡ shared.now) all.items }
 {
     let mut parties = parties_of(alloc, shared, all)?;
-    assert!(rt; last_meets(shared, &mut parties, 0));
-    assert!(rt; last_meets(shared, &mut parties, 1));
+    check(rt, last_meets(shared, &mut parties, 0));
+    check(rt, last_meets(shared, &mut parties, 1));
     all_meet(shared, &mut parties);
     Ok(())
 }
 
 /// Each of these threads was given chunks of its own layout.
 fn have_layouts(rt: &impl Abort, all: &[Taken], layouts: &[Layout]) {
-    assert_eq!(rt; all.len(), layouts.len());
+    check(rt, all.len() == layouts.len());
     for (taken, layout) in all.iter().zip(layouts) {
         has_layout(rt, taken, *layout);
     }
@@ -326,17 +330,20 @@ fn take_layouts(
 #[test]
 fn threads_bump_mixed_layouts(rt: HostRuntime) {
     let layouts = [layout(&rt, 24, 16), layout(&rt, 5, 1), layout(&rt, 8, 8)];
-    assert!(rt; take_layouts(&rt, rt.alloc(), &layouts).unwrap_or(false));
+    check(
+        &rt,
+        take_layouts(&rt, rt.alloc(), &layouts).unwrap_or(false),
+    );
 }
 
 /// Each of these, from a place to an end, lies behind the one before, and all from `start` to `end`.
 fn are_apart(rt: &impl Abort, chunks: &[(usize, usize)], start: usize, end: usize) {
     let mut behind = start;
     for (place, its_end) in chunks {
-        assert!(rt; behind <= *place && *place < *its_end);
+        check(rt, behind <= *place && *place < *its_end);
         behind = *its_end;
     }
-    assert!(rt; start < behind && behind <= end);
+    check(rt, start < behind && behind <= end);
 }
 
 /// Takes a chunk, and looks until so many bytes are used. Whether it came to that.
@@ -441,9 +448,9 @@ fn threads_really_at_once(rt: HostRuntime) {
     match share_of(rt.alloc(), 64, 0, 2) {
         Some((shared, parties)) => {
             let found = watch_at_once(&rt, rt.alloc(), shared, parties, layout(&rt, 8, 1));
-            assert_eq!(rt; found, Some(true));
+            check(&rt, found == Some(true));
         }
-        None => panic!(&rt; "share"),
+        None => fail(&rt, "share"),
     }
 }
 
@@ -501,7 +508,7 @@ fn tens_are_used(
     used: usize,
 ) {
     let found = owner_of_all(rt, alloc, parties, &[layout(rt, 10, 1)], times).unwrap_or(None);
-    assert_eq!(rt; found, Some((used, used)));
+    check(rt, found == Some((used, used)));
 }
 
 /// What all parties hand back is used up to the end of the greatest chunk, whichever threads took it: four, one, and none.
@@ -513,5 +520,8 @@ fn threads_bump_owner_of_all(rt: HostRuntime) {
     tens_are_used(&rt, rt.alloc(), 1, 0, 0);
     let mixed = [layout(&rt, 24, 16), layout(&rt, 5, 1)];
     let found = owner_of_all(&rt, rt.alloc(), 4, &mixed, 1000).unwrap_or(None);
-    assert!(rt; found.is_some_and(|(used, greatest)| used == greatest && used > 4000));
+    check(
+        &rt,
+        found.is_some_and(|(used, greatest)| used == greatest && used > 4000),
+    );
 }

@@ -3,9 +3,10 @@ ghost use Rattle.std.specs.Prelude.{◌≡◌, All, IfOk};
 ghost use Rattle.std.specs.Arc.{arc_value};
 ghost use Rattle.bb_memory.specs.SharedPoolHistory.{MayGoOn};
 
+use crate::tests::checks::fail;
 use crate::tests::shared_buckets::Request;
 use crate::tests::shared_pools::shared_over;
-use crate::tests::threads::pools::{Job, Work, are_left, join_all, start_all};
+use crate::tests::threads::pools::{Job, Work, are_left, counted, join_all, start_all};
 use bb_memory::layout::Layout;
 use bb_memory::shared_pool::{PoolHistory, PoolParty, SharedPoolAllocator};
 use std::alloc::{AllocError, Global};
@@ -34,14 +35,6 @@ fn out_and_back(
     Ok((back, counts))
 }
 
-/// Each of four threads counted this.
-fn four_counted(rt: &impl Abort, counts: &[u64], count: u64) {
-    assert_eq!(rt; counts.len(), 4);
-    for found in counts {
-        assert_eq!(rt; *found, count);
-    }
-}
-
 /// The parties' threads go out twice, and meet each time they are back: first they take a bucket and give it back, so that none
 /// is held, and then each keeps one.
 fn twice(
@@ -62,14 +55,14 @@ fn twice(
         asked,
     };
     let (back, clashes) = out_and_back(rt, alloc, pool, history, parties, job)?;
-    four_counted(rt, &clashes, 0);
+    counted(rt, &clashes, 4, 0);
     let job = Job {
         work: Work::TakeAndDrop,
         request,
         asked,
     };
     let (back, taken) = out_and_back(rt, alloc, pool, history, back, job)?;
-    four_counted(rt, &taken, 1);
+    counted(rt, &taken, 4, 1);
     Ok(back)
 }
 
@@ -92,6 +85,6 @@ fn threads_pool_history(rt: HostRuntime) {
     };
     match twice(&rt, rt.alloc(), &pool, &mut history, parties, asked) {
         Ok(back) => are_left(&rt, &pool, back, asked, 4),
-        Err(_) => panic!(rt; "memory was refused"),
+        Err(_) => fail(&rt, "memory was refused"),
     }
 }

@@ -2,12 +2,12 @@
 //! over the one before, and gives it back.
 ghost use Rattle.std.specs.Prelude.{◌≡◌, IfOk, true};
 
-use crate::tests::transit::{posted_over, receive, send};
+use crate::tests::checks::{check, fail};
+use crate::tests::transit::{receive, send, three_given, two_of};
 use bb_memory::layout::Layout;
 use bb_memory::pool_allocator::AllocationError;
 use bb_memory::shared_pool::{BucketInTransit, PoolParty, SharedPoolAllocator};
 use std::process::Abort;
-use std::test::Fail;
 use std::thread;
 use std::thread::Threads;
 
@@ -95,19 +95,30 @@ fn pass_on<R: Threads + Sync>(
 }
 
 /// A thousand messages in two buckets: none is lost, so that both buckets are free in the end, and there is no third.
+fn a_thousand<R: Threads + Abort + Sync>(
+    rt: &R,
+    pool: &SharedPoolAllocator,
+    sender: PoolParty,
+    receiver: PoolParty,
+    asked: Layout,
+)
+    requires post { pool.now.has_post ≡ true }
+    requires sender { sender.allocator ≡ pool.now }
+    requires receiver { receiver.allocator ≡ pool.now }
+{
+    match pass_on(rt, pool, sender, receiver, asked, 999) {
+        Ok(receiver) => check(
+            rt,
+            three_given(pool, receiver, asked) == [true, true, false],
+        ),
+        Err(_) => fail(rt, "a message's bucket was refused"),
+    }
+}
+
 #[test]
-fn threads_pool_messages(rt: HostRuntime) -> Result<(), Fail> {
-    let asked = Layout::from_size_align(48, 4)?;
-    let (pool, mut parties) = posted_over(rt.alloc(), 4096, 256, 2)?;
-    let Some(receiver) = parties.pop() else {
-        return Err(Fail::from("no party"));
-    };
-    let Some(sender) = parties.pop() else {
-        return Err(Fail::from("one party alone"));
-    };
-    let mut receiver = pass_on(&rt, &pool, sender, receiver, asked, 999)?;
-    assert!(rt; pool.allocate(&mut receiver, asked).is_ok());
-    assert!(rt; pool.allocate(&mut receiver, asked).is_ok());
-    assert!(rt; pool.allocate(&mut receiver, asked).is_err());
-    Ok(())
+fn threads_pool_messages(rt: HostRuntime) {
+    match two_of(rt.alloc(), 256) {
+        Ok((pool, sender, receiver, asked)) => a_thousand(&rt, &pool, sender, receiver, asked),
+        Err(cause) => fail(&rt, cause),
+    }
 }

@@ -2,6 +2,7 @@
 ghost use Rattle.std.specs.Prelude.{◌≡◌, All, IfOk};
 ghost use Rattle.std.specs.Arc.{arc_value};
 
+use crate::tests::checks::{check, fail};
 use crate::tests::shared_buckets::{Request, SharedBuckets};
 use crate::tests::shared_pools::shared_over;
 use bb_memory::layout::Layout;
@@ -29,7 +30,7 @@ fn take_all(rt: &impl Abort, pool: &SharedPoolAllocator, mut party: PoolParty, a
 {
     for number in 0..u32::MAX {
         if let Err(error) = pool.ask(&mut party, Request::Pass, asked) {
-            assert_eq!(rt; error, AllocationError::OutOfMemory);
+            check(rt, error == AllocationError::OutOfMemory);
             return number;
         }
     }
@@ -213,7 +214,7 @@ pub(super) fn are_left(
 {
     SharedBuckets::meet_all(pool, &mut parties);
     let taken = parties.pop().map(|party| take_all(rt, pool, party, asked));
-    assert_eq!(rt; taken, Some(left));
+    check(rt, taken == Some(left));
 }
 
 /// What became of a pool in threads.
@@ -260,11 +261,11 @@ struct Trial {
     left: u32,
 }
 
-/// Each thread counted as the trial says.
-fn counted(rt: &impl Abort, counts: &[u64], trial: &Trial) {
-    assert_eq!(rt; counts.len(), trial.threads as usize);
-    for count in counts {
-        assert_eq!(rt; *count, trial.count);
+/// Each of so many threads counted this.
+pub(super) fn counted(rt: &impl Abort, counts: &[u64], threads: usize, count: u64) {
+    check(rt, counts.len() == threads);
+    for found in counts {
+        check(rt, *found == count);
     }
 }
 
@@ -277,7 +278,7 @@ fn came_back(rt: &impl Abort, worked: Worked, trial: &Trial, asked: Layout)
         parties,
         counts,
     } = worked;
-    counted(rt, &counts, trial);
+    counted(rt, &counts, trial.threads as usize, trial.count);
     are_left(rt, &pool, parties, asked, trial.left);
 }
 
@@ -297,7 +298,7 @@ fn holds(rt: &(impl Threads + Abort), alloc: Global, trial: Trial) {
     };
     match work_all(rt, alloc, pool, parties, job) {
         Ok(worked) => came_back(rt, worked, &trial, asked),
-        Err(_) => panic!(rt; "memory was refused"),
+        Err(_) => fail(rt, "memory was refused"),
     }
 }
 

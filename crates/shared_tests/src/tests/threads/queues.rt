@@ -1,13 +1,14 @@
 //! A queue from one thread to another, each of whose messages is a bucket of one shared pool: the receiver gives it back.
 ghost use Rattle.std.specs.Prelude.{◌≡◌, IfOk, Some, true};
 
-use crate::tests::transit::{posted_over, receive, send};
+use crate::tests::checks::{check, fail};
+use crate::tests::transit::{receive, send, three_given, two_of};
 use bb_memory::layout::Layout;
 use bb_memory::shared_pool::{BucketInTransit, PoolParty, SharedPoolAllocator};
 use rtrb::{Consumer, Producer, Protocol, PushError, RingBuffer};
 use std::alloc::{AllocError, Global};
 use std::marker::{Brand, PhantomData};
-use std::test::Fail;
+use std::process::Abort;
 use std::thread;
 use std::thread::Threads;
 
@@ -166,21 +167,36 @@ fn through_a_queue<R: Threads + Sync>(
 }
 
 /// A thousand messages in two buckets, by a queue: each arrives, both buckets are free in the end, and there is no third.
+fn a_thousand<R: Threads + Abort + Sync>(
+    rt: &R,
+    alloc: Global,
+    pool: &SharedPoolAllocator,
+    sender: PoolParty,
+    receiver: PoolParty,
+    asked: Layout,
+)
+    requires post { pool.now.has_post ≡ true }
+    requires sender { sender.allocator ≡ pool.now }
+    requires receiver { receiver.allocator ≡ pool.now }
+{
+    match through_a_queue(rt, alloc, pool, sender, receiver, asked) {
+        Ok((receiver, sent, received)) => {
+            check(rt, (sent, received) == (MESSAGES, MESSAGES));
+            check(
+                rt,
+                three_given(pool, receiver, asked) == [true, true, false],
+            );
+        }
+        Err(_) => fail(rt, "memory was refused"),
+    }
+}
+
 #[test]
-fn threads_pool_queue(rt: HostRuntime) -> Result<(), Fail> {
-    let asked = Layout::from_size_align(48, 4)?;
-    let (pool, mut parties) = posted_over(rt.alloc(), 4096, 256, 2)?;
-    let Some(receiver) = parties.pop() else {
-        return Err(Fail::from("no party"));
-    };
-    let Some(sender) = parties.pop() else {
-        return Err(Fail::from("one party alone"));
-    };
-    let told = through_a_queue(&rt, rt.alloc(), &pool, sender, receiver, asked)?;
-    let (mut receiver, sent, received) = told;
-    assert_eq!(rt; (sent, received), (MESSAGES, MESSAGES));
-    assert!(rt; pool.allocate(&mut receiver, asked).is_ok());
-    assert!(rt; pool.allocate(&mut receiver, asked).is_ok());
-    assert!(rt; pool.allocate(&mut receiver, asked).is_err());
-    Ok(())
+fn threads_pool_queue(rt: HostRuntime) {
+    match two_of(rt.alloc(), 256) {
+        Ok((pool, sender, receiver, asked)) => {
+            a_thousand(&rt, rt.alloc(), &pool, sender, receiver, asked);
+        }
+        Err(cause) => fail(&rt, cause),
+    }
 }

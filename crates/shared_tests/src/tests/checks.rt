@@ -1,0 +1,12 @@
+//! What a test compares and how it ends, proved once: a test carries no more of it than that it was called.
+use std::process::Abort;
+
+/// This has to be true.
+pub(super) fn check(rt: &impl Abort, found: bool) {
+    assert!(rt; found);
+}
+
+/// The test ends, for this cause.
+pub(super) fn fail(rt: &impl Abort, cause: &str) {
+    panic!(rt; "{cause}");
+}
