@@ -117,8 +117,8 @@ const BYTE: Call = Call::Allocate(1, 1);
 
 const FULL: Step<'_> = Step::Call(BYTE, Answer::Refused(AllocationError::OutOfMemory));
 
-/// All buckets of a pool of so many of one byte at 4096 are taken; a refusal reads one word, and then one bucket goes back, by its
-/// place alone or not, and is the one that is given next.
+/// All buckets of a pool of so many of one byte at 4096 are taken; a refusal reads one word, and then one bucket goes back, by
+/// its place alone or not, and is the one that is given next.
 fn pool_fills(rt: &impl Abort, alloc: Global, buckets: usize, place: usize, by_place: bool) {
     let steps = [
         Step::Bytes(buckets),
