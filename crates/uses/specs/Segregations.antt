@@ -1,8 +1,11 @@
 -- Two allocators side by side, of which small requests are made of the first one, and what it refuses of the second.
 use Rattle.std.specs.Prelude.{◌≡◌, ◌<◌, ◌≤◌, ◌⊎◌, ℕ, List, Result, Ok, Err, IsOk, OnOk}
+use Rattle.bb_memory_base.specs.Region.{Region}
 use Rattle.bb_memory_base.specs.Chunk.{Chunk}
+use Rattle.bb_memory_base.specs.PoolGeometry.{PoolGeometry, IsCut, at_most}
 use Rattle.bb_memory_base.specs.declared.layout.Layout.{Layout}
 use Rattle.bb_memory_base.specs.declared.allocator.AllocationError.{AllocationError}
+use Rattle.bb_memory.specs.Pool.{Pool, fresh_pool}
 use Rattle.uses.specs.Requests.{Answers}
 
 -- the two, the border before which the first one's chunks begin, and up to which size a request is small
@@ -38,3 +41,8 @@ AnswersInTurn small layout First Second Unasked answer =
     ((layout.size ≤ small) × IsOk answer × First answer)
     ⊎ (((layout.size ≤ small) × ((error : AllocationError) × First (Err error)) × Second answer)
     ⊎ ((small < layout.size) × Unasked × Second answer))
+
+-- a pool with nothing out, over a region that is cut into buckets of the layout, at most so many
+abbrev pub IsFreshPool : Region → Layout → ℕ → Pool → Type 0
+IsFreshPool region bucket most pool =
+    (whole : PoolGeometry) × IsCut region bucket whole × (pool ≡ fresh_pool (at_most most whole))

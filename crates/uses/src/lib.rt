@@ -7,7 +7,7 @@
 //! - `slab`: records of bytes, each in a chunk of its own. `mailbox`: messages in the order of their sending, over the slab.
 //!   `keyed_slab`: records under keys that are refused once their record is taken out, over the slab.
 //! - `budget`: what a budget tells. `chunk_budget`, `byte_budget`: budgets, which are allocators themselves.
-//! - `segregated`: two allocators side by side, which are one.
+//! - `segregated`: two allocators side by side, which are one. `three_pools`: three pools in one region, likewise.
 //! - `tenants`: tenants of one allocator, each with a limit, which together never exceed a whole.
 //! - `byte_vector`: a vector of bytes at an offset of a region, which can move to another region.
 //! - `ring`: messages for several readers, over a loan book. In `ring/laws` what the book's calls do to its newest and its oldest
@@ -35,4 +35,5 @@ pub mod scripts;
 pub mod segregated;
 pub mod slab;
 pub mod tenants;
+pub mod three_pools;
 pub mod workers;

@@ -1,0 +1,117 @@
+//! Three pools in one region, each in a third of it: of small buckets, of larger ones, and of the largest.
+ghost use Rattle.std.specs.Prelude.{◌≡◌, ◌+◌, ◌-◌, ◌*◌, ◌<◌, ◌≤◌, ◌^◌, ℕ, []};
+ghost use Rattle.bb_memory_base.specs.Region.{region_at};
+ghost use Rattle.bb_memory_base.specs.PoolGeometry.{bucket_place, stride};
+ghost use Rattle.bb_memory_base.specs.PoolObject.{MayAllocate};
+ghost use Rattle.bb_memory.specs.Pool.{MayBeCut, StandsFor};
+ghost use Rattle.uses.specs.Segregations.{GivesBefore, IsFreshPool};
+
+use crate::segregated::Segregated;
+use bb_memory::pool_allocator::{FixedSizePoolAllocator, pool_geometry_law};
+use bb_memory_base::allocator::{Allocator, BaseAllocator};
+use bb_memory_base::layout::Layout;
+
+/// Three pools that are one allocator.
+pub type ThreePools<const N: usize> = Segregated<
+    FixedSizePoolAllocator<N>,
+    Segregated<FixedSizePoolAllocator<N>, FixedSizePoolAllocator<N>>,
+>;
+
+/// Three pools over the region of three times `part` bytes at `start`, each of at most `N` buckets of its layout, with nothing
+/// out. A request of at most a small bucket's size is made of the small pool first, one of at most a middle bucket's size that
+/// isn't answered there of the middle one, and the rest of the large one.
+pub fn three_pools<const N: usize>(
+    small: Layout,
+    middle: Layout,
+    large: Layout,
+    start: usize,
+    part: usize,
+) -> ThreePools<N>
+    requires small { MayBeCut (region_at start part) small }
+    requires middle { MayBeCut (region_at (start + part) part) middle }
+    requires large { MayBeCut (region_at (start + part + part) part) large }
+    requires most { N < 2 ^ 32 - 1 }
+    ensures empty { ⟦<ThreePools<N> as BaseAllocator>⟧.stands_for result [] }
+    ensures small { IsFreshPool (region_at start part) small N result.first }
+    ensures middle { IsFreshPool (region_at (start + part) part) middle N result.second.first }
+    ensures large { IsFreshPool (region_at (start + part + part) part) large N
+        result.second.second }
+    ensures small_size { result.small ≡ small.size }
+    ensures middle_size { result.second.small ≡ middle.size }
+    ensures region { ⟦<ThreePools<N> as BaseAllocator>⟧.region_of
+        (⟦<ThreePools<N> as BaseAllocator>⟧.geometry result) ≡ region_at start (3 * part) }
+{
+    let border = start + part;
+    let upper = border + part;
+    let behind = Segregated::new(
+        pool_in::<N>(middle, border, part),
+        pool_in::<N>(large, upper, part),
+        upper,
+        middle.size(),
+    );
+    Segregated::new(
+        pool_in::<N>(small, start, part),
+        behind,
+        border,
+        small.size(),
+    )
+}
+
+/// A pool over a part of a region, with nothing out. Whatever it gives begins before the part's end.
+fn pool_in<const N: usize>(bucket: Layout, start: usize, size: usize) -> FixedSizePoolAllocator<N>
+    requires cut { MayBeCut (region_at start size) bucket }
+    requires most { N < 2 ^ 32 - 1 }
+    ensures value { IsFreshPool (region_at start size) bucket N result }
+    ensures empty { StandsFor result [] }
+    ensures region { result.geometry.region ≡ region_at start size }
+    ensures gives_before { GivesBefore (MayAllocate result.geometry) (start + size) }
+{
+    let pool = FixedSizePoolAllocator::new(bucket, start, size);
+    begins_law(&pool, bucket, start, size);
+    pool
+}
+
+/// What such a pool gives begins before the region's end. It does nothing: its contract is the law.
+fn begins_law<const N: usize>(
+    pool: &FixedSizePoolAllocator<N>,
+    bucket: Layout,
+    start: usize,
+    size: usize,
+)
+    requires filled { 0 < bucket.size }
+    requires value { IsFreshPool (region_at start size) bucket N pool.now }
+    ensures { GivesBefore (MayAllocate pool.now.geometry) (start + size) }
+{
+    buckets_law(pool, bucket, start, size);
+}
+
+/// Each of its buckets begins before the region's end. It does nothing: its contract is the law.
+fn buckets_law<const N: usize>(
+    pool: &FixedSizePoolAllocator<N>,
+    bucket: Layout,
+    start: usize,
+    size: usize,
+)
+    requires filled { 0 < bucket.size }
+    requires value { IsFreshPool (region_at start size) bucket N pool.now }
+    ensures { (i : ℕ) → i < pool.now.geometry.buckets
+        → bucket_place pool.now.geometry i < start + size }
+{
+    geometry_law(pool, bucket, start, size);
+}
+
+/// It has room for its buckets. It does nothing: its contract is the law.
+fn geometry_law<const N: usize>(
+    pool: &FixedSizePoolAllocator<N>,
+    bucket: Layout,
+    start: usize,
+    size: usize,
+)
+    requires filled { 0 < bucket.size }
+    requires value { IsFreshPool (region_at start size) bucket N pool.now }
+    ensures room { (i : ℕ) → i < pool.now.geometry.buckets
+        → bucket_place pool.now.geometry i + stride pool.now.geometry.bucket ≤ start + size }
+    ensures stride { 0 < stride pool.now.geometry.bucket }
+{
+    pool_geometry_law();
+}
