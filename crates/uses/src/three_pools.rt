@@ -1,13 +1,13 @@
 //! Three pools in one region, each in a third of it: of small buckets, of larger ones, and of the largest.
 ghost use Rattle.std.specs.Prelude.{◌≡◌, ◌+◌, ◌-◌, ◌*◌, ◌<◌, ◌≤◌, ◌^◌, ℕ, []};
-ghost use Rattle.bb_memory_base.specs.Region.{region_at};
-ghost use Rattle.bb_memory_base.specs.PoolGeometry.{bucket_place, stride};
+ghost use Rattle.bb_memory_base.specs.Region.{region_at, region_end};
+ghost use Rattle.bb_memory_base.specs.PoolGeometry.{bucket_place};
 ghost use Rattle.bb_memory_base.specs.PoolObject.{MayAllocate};
 ghost use Rattle.bb_memory.specs.Pool.{MayBeCut, StandsFor};
 ghost use Rattle.uses.specs.Segregations.{GivesBefore, IsFreshPool};
 
 use crate::segregated::Segregated;
-use bb_memory::pool_allocator::{FixedSizePoolAllocator, pool_geometry_law};
+use bb_memory::pool_allocator::{FixedSizePoolAllocator, pool_inside_law};
 use bb_memory_base::allocator::{Allocator, BaseAllocator};
 use bb_memory_base::layout::Layout;
 
@@ -67,51 +67,22 @@ fn pool_in<const N: usize>(bucket: Layout, start: usize, size: usize) -> FixedSi
     ensures gives_before { GivesBefore (MayAllocate result.geometry) (start + size) }
 {
     let pool = FixedSizePoolAllocator::new(bucket, start, size);
-    begins_law(&pool, bucket, start, size);
+    gives_before_end_law(&pool);
     pool
 }
 
-/// What such a pool gives begins before the region's end. It does nothing: its contract is the law.
-fn begins_law<const N: usize>(
-    pool: &FixedSizePoolAllocator<N>,
-    bucket: Layout,
-    start: usize,
-    size: usize,
-)
-    requires filled { 0 < bucket.size }
-    requires value { IsFreshPool (region_at start size) bucket N pool.now }
-    ensures { GivesBefore (MayAllocate pool.now.geometry) (start + size) }
+/// What a pool gives begins before its region's end. It does nothing: its contract is the law.
+fn gives_before_end_law<const N: usize>(pool: &FixedSizePoolAllocator<N>)
+    ensures { GivesBefore (MayAllocate pool.now.geometry) (region_end pool.now.geometry.region) }
 {
-    buckets_law(pool, bucket, start, size);
+    buckets_law(pool);
 }
 
-/// Each of its buckets begins before the region's end. It does nothing: its contract is the law.
-fn buckets_law<const N: usize>(
-    pool: &FixedSizePoolAllocator<N>,
-    bucket: Layout,
-    start: usize,
-    size: usize,
-)
-    requires filled { 0 < bucket.size }
-    requires value { IsFreshPool (region_at start size) bucket N pool.now }
+/// Each of its buckets begins there. It does nothing: its contract is the law.
+fn buckets_law<const N: usize>(pool: &FixedSizePoolAllocator<N>)
     ensures { (i : ℕ) → i < pool.now.geometry.buckets
-        → bucket_place pool.now.geometry i < start + size }
+        → bucket_place pool.now.geometry i < region_end pool.now.geometry.region }
 {
-    geometry_law(pool, bucket, start, size);
-}
-
-/// It has room for its buckets. It does nothing: its contract is the law.
-fn geometry_law<const N: usize>(
-    pool: &FixedSizePoolAllocator<N>,
-    bucket: Layout,
-    start: usize,
-    size: usize,
-)
-    requires filled { 0 < bucket.size }
-    requires value { IsFreshPool (region_at start size) bucket N pool.now }
-    ensures room { (i : ℕ) → i < pool.now.geometry.buckets
-        → bucket_place pool.now.geometry i + stride pool.now.geometry.bucket ≤ start + size }
-    ensures stride { 0 < stride pool.now.geometry.bucket }
-{
-    pool_geometry_law();
+    pool_inside_law();
+    pool.number_of_buckets();
 }

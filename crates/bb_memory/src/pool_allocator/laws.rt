@@ -118,8 +118,11 @@ pub fn pool_held_law()
         → slice_get live position ≡ Some chunk → HoldsPlace pool chunk.place }
 {}
 
-/// Where a bucket that is given, or held, lies: inside the pool's region. It does nothing: its contract is the law.
+/// Where a bucket lies, one that is given, and one that is held: inside the pool's region. It does nothing: its contract is the
+/// law.
 pub fn pool_inside_law()
+    ensures bucket_inside { (geometry : PoolGeometry) (i : ℕ) → IsPoolGeometry geometry
+        → i < geometry.buckets → bucket_place geometry i < region_end geometry.region }
     ensures begins_inside { (geometry : PoolGeometry) (live : List Chunk) (layout : Layout)
         (chunk : Chunk) → IsPoolGeometry geometry → MayAllocate geometry live layout (Ok chunk)
         → chunk.place < region_end geometry.region }

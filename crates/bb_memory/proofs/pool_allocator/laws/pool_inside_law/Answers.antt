@@ -4,6 +4,11 @@ use Rattle.bb_memory_base.specs.Chunk.{Chunk}
 use Rattle.bb_memory_base.proofs.PoolGeometries.{first_place-above, stride-above}
 use Rattle.bb_memory.proofs.pool_allocator.laws.pool_inside_law.Goals as goal
 
+pub returns-clause-bucket_inside : goal.returns-clause-bucket_inside
+returns-clause-bucket_inside c = λ geometry i is below.
+    let room = is.room i below in
+    omega (arith, stride-above geometry.bucket, is.filled, room)
+
 pub returns-clause-begins_inside : goal.returns-clause-begins_inside
 returns-clause-begins_inside c = λ geometry live layout chunk is given.
     let room = is.room given.0 given.1.bucket in
