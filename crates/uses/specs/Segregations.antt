@@ -43,6 +43,7 @@ AnswersInTurn small layout First Second Unasked answer =
     ⊎ ((small < layout.size) × Unasked × Second answer))
 
 -- a pool with nothing out, over a region that is cut into buckets of the layout, at most so many
-abbrev pub IsFreshPool : Region → Layout → ℕ → Pool → Type 0
-IsFreshPool region bucket most pool =
-    (whole : PoolGeometry) × IsCut region bucket whole × (pool ≡ fresh_pool (at_most most whole))
+pub record IsFreshPool (region : Region) (bucket : Layout) (most : ℕ) (pool : Pool) : Type 0 where
+  pub whole : PoolGeometry
+  pub cut : IsCut region bucket whole
+  pub value : pool ≡ fresh_pool (at_most most whole)
