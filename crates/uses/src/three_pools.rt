@@ -19,7 +19,8 @@ pub type ThreePools<const N: usize> = Segregated<
 
 /// Three pools over the region of three times `part` bytes at `start`, each of at most `N` buckets of its layout, with nothing
 /// out. A request of at most a small bucket's size is made of the small pool first, one of at most a middle bucket's size that
-/// isn't answered there of the middle one, and the rest of the large one.
+/// isn't answered there of the middle one, and the rest of the large one. [`FixedSizePoolAllocator::can_make`] tests what each
+/// third has to be.
 pub fn three_pools<const N: usize>(
     small: Layout,
     middle: Layout,
