@@ -3,8 +3,7 @@ ghost use Rattle.std.specs.Prelude.{◌≡◌, ◌+◌, ◌-◌, ◌*◌, ◌<�
 ghost use Rattle.bb_memory_base.specs.Region.{region_at, region_end};
 ghost use Rattle.bb_memory_base.specs.PoolGeometry.{bucket_place};
 ghost use Rattle.bb_memory_base.specs.PoolObject.{MayAllocate};
-ghost use Rattle.bb_memory.specs.Pool.{MayBeCut, StandsFor};
-ghost use Rattle.uses.specs.Segregations.{GivesBefore, IsFreshPool};
+ghost use Rattle.uses.specs.Segregations.{GivesBefore, IsFreshPool, MayBePool};
 
 use crate::segregated::Segregated;
 use bb_memory::pool_allocator::{FixedSizePoolAllocator, pool_inside_law};
@@ -28,10 +27,9 @@ pub fn three_pools<const N: usize>(
     start: usize,
     part: usize,
 ) -> ThreePools<N>
-    requires small { MayBeCut (region_at start part) small }
-    requires middle { MayBeCut (region_at (start + part) part) middle }
-    requires large { MayBeCut (region_at (start + part + part) part) large }
-    requires most { N < 2 ^ 32 - 1 }
+    requires small { MayBePool (region_at start part) small N }
+    requires middle { MayBePool (region_at (start + part) part) middle N }
+    requires large { MayBePool (region_at (start + part + part) part) large N }
     ensures empty { ⟦<ThreePools<N> as BaseAllocator>⟧.stands_for result [] }
     ensures small { IsFreshPool (region_at start part) small N result.first }
     ensures middle { IsFreshPool (region_at (start + part) part) middle N result.second.first }
@@ -60,10 +58,8 @@ pub fn three_pools<const N: usize>(
 
 /// A pool over a part of a region, with nothing out. Whatever it gives begins before the part's end.
 fn pool_in<const N: usize>(bucket: Layout, start: usize, size: usize) -> FixedSizePoolAllocator<N>
-    requires cut { MayBeCut (region_at start size) bucket }
-    requires most { N < 2 ^ 32 - 1 }
+    requires { MayBePool (region_at start size) bucket N }
     ensures value { IsFreshPool (region_at start size) bucket N result }
-    ensures empty { StandsFor result [] }
     ensures region { result.geometry.region ≡ region_at start size }
     ensures gives_before { GivesBefore (MayAllocate result.geometry) (start + size) }
 {
