@@ -5,7 +5,7 @@ ghost use Rattle.std.specs.Arc.{arc_value};
 use crate::tests::bump_rows::{
     Answer, Call, NO_ROOM, Row, all_meet, hold, last_meets, owner_by_all, share_at, share_of,
 };
-use crate::tests::checks::{check, fail};
+use crate::tests::checks::{check, fail, layout};
 use bb_memory::layout::{Chunk, Layout};
 use bb_memory::shared_bump::{BumpParty, SharedBumpAllocator};
 use std::alloc::{AllocError, Global};
@@ -40,13 +40,6 @@ impl Promise<Taken> for ComesBack {
 
 impl Promise<(BumpParty, bool)> for ComesBack {
     ghost kept_by = { λ promise answer. answer.0.allocator ≡ promise.0.value };
-}
-
-/// The layout of this size and alignment, which has to be one.
-fn layout(rt: &impl Abort, size: usize, align: usize) -> Layout {
-    Layout::from_size_align(size, align)
-        .ok()
-        .expect(rt, "there is such a layout")
 }
 
 /// Asks so many times, or until it is refused, and looks at the used space after each request.
