@@ -2,7 +2,8 @@
 ghost use Rattle.std.specs.Prelude.{◌≡◌, ◌-◌, ◌<◌, ◌^◌, All, IfOk, true};
 
 use crate::tests::checks::{check, fail};
-use crate::tests::shared_buckets::SharedFixed;
+use crate::tests::pool_rows::last_party;
+use crate::tests::shared_buckets::{Request, SharedBuckets, SharedFixed};
 use crate::tests::shared_pools::{NO_POOL, bucket_over, cause_of, shared_over};
 use bb_memory::layout::{Chunk, Layout};
 use bb_memory::pool_allocator::AllocationError;
@@ -62,7 +63,7 @@ pub(super) fn send(
     ensures party { party.new.allocator ≡ pool.now }
     ensures sent { IfOk result (λ sent. sent.allocator ≡ pool.now) }
 {
-    let taken = pool.allocate(party, asked)?;
+    let taken = pool.ask(party, Request::Pass, asked)?;
     Ok(pool.hand_over(party, taken))
 }
 
@@ -151,6 +152,21 @@ fn one_sends(
     Ok(())
 }
 
+/// Takes out the last of these parties.
+fn last_of(
+    pool: &SharedPoolAllocator,
+    parties: &mut Vec<PoolParty>,
+) -> Result<PoolParty, &'static str>
+    requires { All (λ party. party.allocator ≡ pool.now) parties.old.items }
+    ensures others { All (λ party. party.allocator ≡ pool.now) parties.new.items }
+    ensures own { IfOk result (λ party. party.allocator ≡ pool.now) }
+{
+    match last_party(pool, parties) {
+        Some(party) => Ok(party),
+        None => Err("a party is missing"),
+    }
+}
+
 /// Two parties of a pool with a post, of so many bytes at 4096, and the layout of a message.
 pub(super) fn two_of(
     alloc: Global,
@@ -162,12 +178,8 @@ pub(super) fn two_of(
 {
     let asked = message_layout()?;
     let (pool, mut parties) = posted_over(alloc, 4096, size, 2)?;
-    let Some(second) = parties.pop() else {
-        return Err("no party");
-    };
-    let Some(first) = parties.pop() else {
-        return Err("one party alone");
-    };
+    let second = last_of(&pool, &mut parties)?;
+    let first = last_of(&pool, &mut parties)?;
     Ok((pool, first, second, asked))
 }
 

@@ -1,9 +1,10 @@
 //! Threads over one shared bump.
-ghost use Rattle.std.specs.Prelude.{◌≡◌, ◌<◌, All, IfOk, IfSome, length};
+ghost use Rattle.std.specs.Prelude.{◌≡◌, ◌<◌, All, IfOk, length};
 ghost use Rattle.std.specs.Arc.{arc_value};
 
 use crate::tests::bump_rows::{
-    Answer, Call, NO_ROOM, Row, all_meet, hold, last_meets, owner_by_all, share_at, share_of,
+    Answer, Call, NO_ROOM, Row, all_meet, hold, last_meets, last_of, owner_by_all, share_at,
+    share_of,
 };
 use crate::tests::checks::{check, fail, layout};
 use bb_memory::layout::{Chunk, Layout};
@@ -407,15 +408,6 @@ fn both_watch(
     let (other, other_saw_both) = other.join(rt);
     meet_again(shared, one, other);
     Ok(one_saw_both && other_saw_both)
-}
-
-/// Takes out the last of the parties.
-fn last_of(shared: &SharedBumpAllocator, parties: &mut Vec<BumpParty>) -> Option<BumpParty>
-    requires { All (λ party. party.allocator ≡ shared.now) parties.old.items }
-    ensures others { All (λ party. party.allocator ≡ shared.now) parties.new.items }
-    ensures own { IfSome result (λ party. party.allocator ≡ shared.now) }
-{
-    parties.pop()
 }
 
 /// Whether each of the two parties' threads finds eight bytes of its own and of the other one used. None is where a party is
