@@ -66,7 +66,7 @@ fn given(
 }
 
 /// The party at place 1 takes a bucket, and gives it back. It answers the bucket's number, or `None` where it was refused.
-fn out_and_back(
+pub fn out_and_back(
     pool: &SharedPoolAllocator,
     parties: &mut Vec<PoolParty>,
     asked: Layout,

@@ -1,5 +1,5 @@
 //! Threads over one shared bump.
-ghost use Rattle.std.specs.Prelude.{◌≡◌, ◌<◌, All, IfOk, length};
+ghost use Rattle.std.specs.Prelude.{◌≡◌, ◌<◌, All, IfOk, IfSome, length};
 ghost use Rattle.std.specs.Arc.{arc_value};
 
 use crate::tests::bump_rows::{
@@ -304,7 +304,24 @@ fn have_layouts(rt: &impl Abort, all: &[Taken], layouts: &[Layout]) {
     }
 }
 
-/// A thread for each of these layouts takes from a bump of 1000 bytes at 4097 until it is refused, and then their parties meet.
+/// A thread for each of these layouts takes from a bump of 1000 bytes at 4097 until it is refused. What they hand back.
+fn take_apart(
+    rt: &(impl Threads + Abort),
+    alloc: Global,
+    shared: &Arc<SharedBumpAllocator, Global>,
+    parties: Vec<BumpParty>,
+    layouts: &[Layout; 3],
+) -> Result<Vec<Taken>, AllocError>
+    requires { All (λ party. party.allocator ≡ arc_value shared.now) parties.items }
+    ensures { IfOk result (λ all. All (λ taken. taken.party.allocator ≡ arc_value shared.now) all.items) }
+{
+    let all = take_in_threads(rt, alloc, shared, parties, layouts, 1000)?;
+    have_layouts(rt, &all, layouts);
+    are_apart(rt, &ends_of(alloc, &all)?, 4097, 5097);
+    Ok(all)
+}
+
+/// They do, and then their parties meet.
 fn take_layouts(
     rt: &(impl Threads + Abort),
     alloc: Global,
@@ -314,9 +331,7 @@ fn take_layouts(
         return Ok(false);
     };
     let shared = Arc::new(alloc, shared)?;
-    let all = take_in_threads(rt, alloc, &shared, parties, layouts, 1000)?;
-    have_layouts(rt, &all, layouts);
-    are_apart(rt, &ends_of(alloc, &all)?, 4097, 5097);
+    let all = take_apart(rt, alloc, &shared, parties, layouts)?;
     meet(rt, alloc, &shared, all)?;
     Ok(true)
 }
@@ -410,19 +425,31 @@ fn both_watch(
     Ok(one_saw_both && other_saw_both)
 }
 
+/// The last two of these parties.
+fn last_two(
+    shared: &SharedBumpAllocator,
+    mut parties: Vec<BumpParty>,
+) -> Option<(BumpParty, BumpParty)>
+    requires { All (λ party. party.allocator ≡ shared.now) parties.items }
+    ensures first { IfSome result (λ two. two.0.allocator ≡ shared.now) }
+    ensures second { IfSome result (λ two. two.1.allocator ≡ shared.now) }
+{
+    let second = last_of(shared, &mut parties)?;
+    Some((last_of(shared, &mut parties)?, second))
+}
+
 /// Whether each of the two parties' threads finds eight bytes of its own and of the other one used. None is where a party is
 /// missing or memory was refused.
 fn watch_at_once(
     rt: &impl Threads,
     alloc: Global,
     shared: SharedBumpAllocator,
-    mut parties: Vec<BumpParty>,
+    parties: Vec<BumpParty>,
     eight: Layout,
 ) -> Option<bool>
     requires { All (λ party. party.allocator ≡ shared) parties.items }
 {
-    let second = last_of(&shared, &mut parties)?;
-    let first = last_of(&shared, &mut parties)?;
+    let (first, second) = last_two(&shared, parties)?;
     let shared = Arc::new(alloc, shared).ok()?;
     both_watch(rt, &shared, first, second, eight, 16).ok()
 }
