@@ -346,7 +346,10 @@ pub(super) fn last_meets<'a, P: SharedBuckets>(
 }
 
 /// The last of these parties leaves.
-pub(super) fn last_party<P: SharedBuckets>(pool: &P, parties: &mut Vec<PoolParty>) -> Option<PoolParty>
+pub(super) fn last_party<P: SharedBuckets>(
+    pool: &P,
+    parties: &mut Vec<PoolParty>,
+) -> Option<PoolParty>
     requires { All (λ party. party.allocator ≡ P.shown pool.now) parties.old.items }
     ensures others { All (λ party. party.allocator ≡ P.shown pool.now) parties.new.items }
     ensures own { IfSome result (λ party. party.allocator ≡ P.shown pool.now) }
