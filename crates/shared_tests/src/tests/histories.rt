@@ -1,6 +1,6 @@
 //! Meetings of a shared pool's parties that a history remembers.
 ghost use Rattle.std.specs.Prelude.{◌≡◌, ◌<◌, All, IfOk, IfSome, length};
-ghost use Rattle.bb_memory.specs.SharedPoolAmong.{AreAllOf};
+ghost use Rattle.bb_memory.specs.SharedPoolAmong.{AreAllOf, IsAmongAll};
 
 use crate::tests::checks::{check, fail, layout};
 use crate::tests::shared_pools::{bucket_over, shared_over};
@@ -200,6 +200,21 @@ pub(super) fn one_for_two(
         return Err(AllocationError::SizeIsZero);
     };
     SharedPoolAllocator::new(alloc, bucket, 4096, 128, 2)
+}
+
+/// The party at place 1 takes a bucket, and gives it back. It answers the bucket's number, or `None` where it was refused.
+pub(super) fn out_and_back(
+    pool: &SharedPoolAllocator,
+    parties: &mut Vec<PoolParty>,
+    asked: Layout,
+) -> Option<u32>
+    requires { IsAmongAll pool.now parties.old.items 1 }
+    ensures { AreAllOf pool.now parties.new.items }
+{
+    let bucket = pool.allocate_among(parties, 1, asked).ok()?;
+    let number = bucket.number();
+    pool.deallocate_among(parties, 1, bucket);
+    Some(number)
 }
 
 /// Where all parties of a pool are here, one of them is refused exactly while another has the one bucket.

@@ -6,7 +6,7 @@ ghost use Rattle.bb_memory.specs.SharedPoolAmong.{AreAllOf, IsAmongAll};
 use super::was_refused;
 use crate::tests::bump_rows::{self, all_meet, owner_by_all};
 use crate::tests::checks::{check, layout};
-use crate::tests::histories::one_for_two;
+use crate::tests::histories::{one_for_two, out_and_back};
 use crate::tests::pool_rows::Answer::{Bucket, Chunk, Nothing};
 use crate::tests::pool_rows::Call::{
     FindAgain, GiveBack, Grow, Keep, NumberAt, Shrink, Take, Token,
@@ -17,7 +17,6 @@ use crate::tests::shared_buckets::Request::{Near, Pass};
 use crate::tests::shared_buckets::{Figures, SharedBuckets};
 use crate::tests::shared_bumps::two_parties;
 use crate::tests::shared_pools::{DROPPED_BUCKET, FOUR_BUCKETS, shared_fixed_over, shared_over};
-use crate::tests::threads::among::out_and_back;
 use crate::tests::transit::{two_in_transit, two_of};
 use allocator_tests::marks::{none_was_asked, refuse_memory};
 use bb_memory::layout::Layout;
