@@ -5,7 +5,7 @@ ghost use Rattle.std.specs.Prelude.{All, IfSome, ◌≡◌};
 use bb_memory::bump_allocator::{AllocationError, BaseAllocator, BumpAllocator};
 use bb_memory::layout::Layout;
 use bb_memory::shared_bump::{BumpParty, SharedBumpAllocator};
-use std::alloc::{AllocError, Global};
+use std::alloc::Global;
 use std::process::Abort;
 
 /// What a party calls.
@@ -169,6 +169,50 @@ pub(super) fn share_of(
     shared_by(alloc, has_used(bump_at(4096, size)?, used)?, parties)
 }
 
+/// Takes out the last of these parties.
+pub(super) fn last_of(
+    shared: &SharedBumpAllocator,
+    parties: &mut Vec<BumpParty>,
+) -> Option<BumpParty>
+    requires { All (λ party. party.allocator ≡ shared.now) parties.old.items }
+    ensures others { All (λ party. party.allocator ≡ shared.now) parties.new.items }
+    ensures own { IfSome result (λ party. party.allocator ≡ shared.now) }
+{
+    let _ = shared;
+    parties.pop()
+}
+
+/// The party joins these, if there is memory for it.
+fn joins(shared: &SharedBumpAllocator, parties: &mut Vec<BumpParty>, party: BumpParty) -> bool
+    requires parties { All (λ party. party.allocator ≡ shared.now) parties.old.items }
+    requires party { party.allocator ≡ shared.now }
+    ensures { All (λ party. party.allocator ≡ shared.now) parties.new.items }
+{
+    let _ = shared;
+    parties.push(party).is_ok()
+}
+
+/// One of these parties meets another one.
+fn meets(
+    shared: &SharedBumpAllocator,
+    parties: &mut Vec<BumpParty>,
+    index: usize,
+    other: &mut BumpParty,
+) -> bool
+    requires parties { All (λ party. party.allocator ≡ shared.now) parties.old.items }
+    requires other { other.old.allocator ≡ shared.now }
+    ensures parties { All (λ party. party.allocator ≡ shared.now) parties.new.items }
+    ensures other { other.new.allocator ≡ shared.now }
+{
+    match parties.get_mut(index) {
+        Some(party) => {
+            shared.meet(party, other);
+            true
+        }
+        None => false,
+    }
+}
+
 /// The last of these parties meets another one.
 pub(super) fn last_meets(
     shared: &SharedBumpAllocator,
@@ -178,14 +222,27 @@ pub(super) fn last_meets(
     requires { All (λ party. party.allocator ≡ shared.now) parties.old.items }
     ensures { All (λ party. party.allocator ≡ shared.now) parties.new.items }
 {
-    let Some(mut last) = parties.pop() else {
+    let Some(mut last) = last_of(shared, parties) else {
         return false;
     };
-    let Some(other) = parties.get_mut(index) else {
-        return false;
-    };
-    shared.meet(other, &mut last);
-    parties.push(last).is_ok()
+    meets(shared, parties, index, &mut last) && joins(shared, parties, last)
+}
+
+/// The last of these parties goes to others.
+fn one_goes(
+    shared: &SharedBumpAllocator,
+    from: &mut Vec<BumpParty>,
+    to: &mut Vec<BumpParty>,
+) -> bool
+    requires from { All (λ party. party.allocator ≡ shared.now) from.old.items }
+    requires to { All (λ party. party.allocator ≡ shared.now) to.old.items }
+    ensures from { All (λ party. party.allocator ≡ shared.now) from.new.items }
+    ensures to { All (λ party. party.allocator ≡ shared.now) to.new.items }
+{
+    match last_of(shared, from) {
+        Some(party) => joins(shared, to, party),
+        None => false,
+    }
 }
 
 /// So many of these parties, from the last one on, go to others.
@@ -194,19 +251,18 @@ fn go(
     from: &mut Vec<BumpParty>,
     to: &mut Vec<BumpParty>,
     count: usize,
-) -> Result<(), AllocError>
+) -> bool
     requires from { All (λ party. party.allocator ≡ shared.now) from.old.items }
     requires to { All (λ party. party.allocator ≡ shared.now) to.old.items }
     ensures from { All (λ party. party.allocator ≡ shared.now) from.new.items }
     ensures to { All (λ party. party.allocator ≡ shared.now) to.new.items }
 {
-    let _ = shared.start_address();
     for _ in 0..count {
-        if let Some(party) = from.pop() {
-            to.push(party)?;
+        if !one_goes(shared, from, to) {
+            return false;
         }
     }
-    Ok(())
+    true
 }
 
 /// So many of these parties meet, from the last one on.
@@ -215,12 +271,14 @@ pub(super) fn last_ones_meet(
     shared: &SharedBumpAllocator,
     parties: &mut Vec<BumpParty>,
     count: usize,
-) -> Result<(), AllocError>
+) -> bool
     requires { All (λ party. party.allocator ≡ shared.now) parties.old.items }
     ensures { All (λ party. party.allocator ≡ shared.now) parties.new.items }
 {
     let mut met = Vec::new(alloc);
-    go(shared, parties, &mut met, count)?;
+    if !go(shared, parties, &mut met, count) {
+        return false;
+    }
     all_meet(shared, &mut met);
     go(shared, &mut met, parties, count)
 }

@@ -1,9 +1,8 @@
 //! Meetings of a shared pool's parties that a history remembers.
-ghost use Rattle.std.specs.Prelude.{◌≡◌, ◌<◌, All, IfOk, length};
-ghost use Rattle.bb_memory.specs.SharedPoolAmong.{AreAllOf};
-ghost use Rattle.bb_memory.specs.SharedPoolHistory.{MayGoOn};
+ghost use Rattle.std.specs.Prelude.{◌≡◌, ◌<◌, All, IfOk, IfSome, length};
+ghost use Rattle.bb_memory.specs.SharedPoolAmong.{AreAllOf, IsAmongAll};
 
-use crate::tests::checks::check;
+use crate::tests::checks::{check, fail, layout};
 use crate::tests::shared_pools::{bucket_over, shared_over};
 use bb_memory::layout::Layout;
 use bb_memory::pool_allocator::AllocationError;
@@ -28,108 +27,166 @@ fn ask_one(pool: &SharedPoolAllocator, party: &mut PoolParty, asked: Layout, kee
     place
 }
 
-/// The last of these parties asks so.
-fn ask_last(
+/// The party of this index asks so.
+fn ask_at(
     pool: &SharedPoolAllocator,
     parties: &mut Vec<PoolParty>,
+    index: usize,
     asked: Layout,
     keeps: bool,
 ) -> usize
     requires { All (λ party. party.allocator ≡ pool.now) parties.old.items }
     ensures { All (λ party. party.allocator ≡ pool.now) parties.new.items }
 {
-    let Some(mut party) = parties.pop() else {
-        return 0;
-    };
-    let place = ask_one(pool, &mut party, asked, keeps);
-    parties.push_reserved(party);
-    place
+    match parties.get_mut(index) {
+        Some(party) => ask_one(pool, party, asked, keeps),
+        None => 0,
+    }
 }
 
-/// The last of these parties asks so, and then all meet in the history.
+/// The party begins a history.
+fn begin(pool: &SharedPoolAllocator, party: &mut PoolParty) -> PoolHistory
+    requires { party.old.allocator ≡ pool.now }
+    ensures history { result.allocator ≡ pool.now }
+    ensures party { party.new.allocator ≡ pool.now }
+{
+    pool.begin_history(party)
+}
+
+/// The party of this index begins a history, or none where there is no such party.
+fn begin_at(
+    pool: &SharedPoolAllocator,
+    parties: &mut Vec<PoolParty>,
+    index: usize,
+) -> Option<PoolHistory>
+    requires { All (λ party. party.allocator ≡ pool.now) parties.old.items }
+    ensures history { IfSome result (λ history. history.allocator ≡ pool.now) }
+    ensures parties { All (λ party. party.allocator ≡ pool.now) parties.new.items }
+{
+    match parties.get_mut(index) {
+        Some(party) => Some(begin(pool, party)),
+        None => None,
+    }
+}
+
+/// A pool of buckets of 128 bytes over so many bytes at 4096, with parties, the last of which has begun a history.
+pub(super) fn history_over(
+    alloc: Global,
+    size: usize,
+    parties: u32,
+) -> Result<(SharedPoolAllocator, PoolHistory, Vec<PoolParty>), &'static str>
+    ensures history { IfOk result (λ made. made.1.allocator ≡ made.0) }
+    ensures parties { IfOk result (λ made. All (λ party. party.allocator ≡ made.0) made.2.items) }
+{
+    let (pool, mut parties) = shared_over(alloc, 4096, size, parties)?;
+    let last = parties.len().saturating_sub(1);
+    match begin_at(&pool, &mut parties, last) {
+        Some(history) => Ok((pool, history, parties)),
+        None => Err("there is no party"),
+    }
+}
+
+/// These parties meet in the history.
+pub(super) fn go_on(
+    pool: &SharedPoolAllocator,
+    history: &mut PoolHistory,
+    parties: &mut Vec<PoolParty>,
+)
+    requires history { history.old.allocator ≡ pool.now }
+    requires parties { All (λ party. party.allocator ≡ pool.now) parties.old.items }
+    ensures history { history.new.allocator ≡ pool.now }
+    ensures parties { All (λ party. party.allocator ≡ pool.now) parties.new.items }
+{
+    pool.meet_again(history, parties);
+}
+
+/// The party of this index asks so, and then all meet in the history.
 fn ask_and_meet(
     pool: &SharedPoolAllocator,
     history: &mut PoolHistory,
     parties: &mut Vec<PoolParty>,
+    index: usize,
     asked: Layout,
     keeps: bool,
 ) -> usize
-    requires { MayGoOn pool.now history.old parties.old.items }
+    requires history { history.old.allocator ≡ pool.now }
+    requires parties { All (λ party. party.allocator ≡ pool.now) parties.old.items }
     ensures history { history.new.allocator ≡ pool.now }
     ensures parties { All (λ party. party.allocator ≡ pool.now) parties.new.items }
 {
-    let place = ask_last(pool, parties, asked, keeps);
-    pool.meet_again(history, parties);
+    let place = ask_at(pool, parties, index, asked, keeps);
+    go_on(pool, history, parties);
     place
 }
 
-/// Of two parties whose bucket is held, the last one leaves, and the other one is refused.
-fn one_goes_on(
-    rt: &impl Abort,
-    pool: &SharedPoolAllocator,
-    history: &mut PoolHistory,
-    mut parties: Vec<PoolParty>,
-    asked: Layout,
-)
-    requires history { history.old.allocator ≡ pool.now }
-    requires parties { All (λ party. party.allocator ≡ pool.now) parties.items }
+/// The last of these parties leaves. Its number.
+fn last_leaves(pool: &SharedPoolAllocator, parties: &mut Vec<PoolParty>) -> Option<u32>
+    requires { All (λ party. party.allocator ≡ pool.now) parties.old.items }
+    ensures { All (λ party. party.allocator ≡ pool.now) parties.new.items }
 {
-    let Some(last) = parties.pop() else {
-        panic!(rt; "a party is gone");
-    };
-    check(rt, last.number() == 1);
-    check(
-        rt,
-        ask_and_meet(pool, history, &mut parties, asked, true) == 0,
-    );
-    check(rt, parties.len() == 1);
+    match parties.pop() {
+        Some(last) => Some(last.number()),
+        None => None,
+    }
+}
+
+/// Of two parties the last one asks, and gives back; asks, and keeps; and asks once more. Then it leaves, and the other one asks.
+/// They meet behind each request. What the four are answered, and the number of the one that leaves.
+fn four_asked(
+    pool: &SharedPoolAllocator,
+    mut history: PoolHistory,
+    parties: &mut Vec<PoolParty>,
+    asked: Layout,
+) -> ([usize; 4], Option<u32>)
+    requires history { history.allocator ≡ pool.now }
+    requires parties { All (λ party. party.allocator ≡ pool.now) parties.old.items }
+{
+    let first = ask_and_meet(pool, &mut history, parties, 1, asked, false);
+    let second = ask_and_meet(pool, &mut history, parties, 1, asked, true);
+    let third = ask_and_meet(pool, &mut history, parties, 1, asked, true);
+    let gone = last_leaves(pool, parties);
+    let fourth = ask_and_meet(pool, &mut history, parties, 0, asked, true);
+    ([first, second, third, fourth], gone)
 }
 
 /// In a pool of one bucket, of two parties: the bucket goes to the one that asks, is free once it was given back and they have
-/// met, and is refused while it is held.
+/// met, and is refused while it is held, also when the one that holds it has left.
 #[test]
 fn a_history_goes_on(rt: HostRuntime) {
-    let Ok(asked) = Layout::from_size_align(48, 4) else {
-        panic!(rt; "no such layout");
-    };
-    let (pool, mut parties) = match shared_over(rt.alloc(), 4096, 128, 2) {
-        Ok(made) => made,
-        Err(cause) => panic!(rt; "{cause}"),
-    };
-    let Some(mut first) = parties.pop() else {
-        panic!(rt; "there is no party");
-    };
-    let mut history = pool.begin_history(&mut first);
-    parties.push_reserved(first);
-    check(
-        &rt,
-        ask_and_meet(&pool, &mut history, &mut parties, asked, false) == 4096,
-    );
-    check(
-        &rt,
-        ask_and_meet(&pool, &mut history, &mut parties, asked, true) == 4096,
-    );
-    check(
-        &rt,
-        ask_and_meet(&pool, &mut history, &mut parties, asked, true) == 0,
-    );
-    one_goes_on(&rt, &pool, &mut history, parties, asked);
+    match history_over(rt.alloc(), 128, 2) {
+        Ok((pool, history, mut parties)) => {
+            let found = four_asked(&pool, history, &mut parties, layout(&rt, 48, 4));
+            check(&rt, found == ([4096, 4096, 0, 0], Some(1)));
+            check(&rt, parties.len() == 1);
+        }
+        Err(cause) => fail(&rt, cause),
+    }
+}
+
+/// The only party of a pool leaves, and the rest, which is none, meets in the history. The party's number, and whether there is
+/// none.
+fn none_meets(
+    pool: &SharedPoolAllocator,
+    mut history: PoolHistory,
+    mut parties: Vec<PoolParty>,
+) -> (Option<u32>, bool)
+    requires history { history.allocator ≡ pool.now }
+    requires parties { All (λ party. party.allocator ≡ pool.now) parties.items }
+{
+    let gone = last_leaves(pool, &mut parties);
+    go_on(pool, &mut history, &mut parties);
+    (gone, parties.is_empty())
 }
 
 /// A meeting of none goes on with a history, too.
 #[test]
 fn none_meet_again(rt: HostRuntime) {
-    let (pool, mut parties) = match shared_over(rt.alloc(), 4096, 128, 1) {
-        Ok(made) => made,
-        Err(cause) => panic!(rt; "{cause}"),
-    };
-    let Some(mut party) = parties.pop() else {
-        panic!(rt; "there is no party");
-    };
-    let mut history = pool.begin_history(&mut party);
-    pool.meet_again(&mut history, &mut parties);
-    check(&rt, parties.is_empty());
-    check(&rt, party.number() == 0);
+    match history_over(rt.alloc(), 128, 1) {
+        Ok((pool, history, parties)) => {
+            check(&rt, none_meets(&pool, history, parties) == (Some(0), true));
+        }
+        Err(cause) => fail(&rt, cause),
+    }
 }
 
 /// A pool of one bucket at 4096, with two parties.
@@ -143,6 +200,21 @@ pub(super) fn one_for_two(
         return Err(AllocationError::SizeIsZero);
     };
     SharedPoolAllocator::new(alloc, bucket, 4096, 128, 2)
+}
+
+/// The party at place 1 takes a bucket, and gives it back. It answers the bucket's number, or `None` where it was refused.
+pub(super) fn out_and_back(
+    pool: &SharedPoolAllocator,
+    parties: &mut Vec<PoolParty>,
+    asked: Layout,
+) -> Option<u32>
+    requires { IsAmongAll pool.now parties.old.items 1 }
+    ensures { AreAllOf pool.now parties.new.items }
+{
+    let bucket = pool.allocate_among(parties, 1, asked).ok()?;
+    let number = bucket.number();
+    pool.deallocate_among(parties, 1, bucket);
+    Some(number)
 }
 
 /// Where all parties of a pool are here, one of them is refused exactly while another has the one bucket.

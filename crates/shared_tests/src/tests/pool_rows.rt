@@ -1,6 +1,6 @@
 //! Rows of a shared pool: which party calls what, and what it has to be answered. The calls go to the library through
 //! [`SharedBuckets`], so that a test is its rows alone.
-ghost use Rattle.std.specs.Prelude.{All, IfOk, ◌≡◌};
+ghost use Rattle.std.specs.Prelude.{All, IfOk, IfSome, ◌≡◌};
 ghost use Rattle.shared_tests.specs.Users.{IsUser};
 
 use crate::tests::shared_buckets::{Figures, Request, SharedBuckets};
@@ -288,6 +288,26 @@ pub(super) fn hold<'a, P: SharedBuckets>(
     }
 }
 
+/// The last of these users leaves.
+fn last_user<'a, P: SharedBuckets>(pool: &P, users: &mut Vec<User<'a>>) -> Option<User<'a>>
+    requires { All (λ user. IsUser (P.shown pool.now) user.party user.kept) users.old.items }
+    ensures others { All (λ user. IsUser (P.shown pool.now) user.party user.kept) users.new.items }
+    ensures own { IfSome result (λ user. IsUser (P.shown pool.now) user.party user.kept) }
+{
+    let _ = pool;
+    users.pop()
+}
+
+/// The party comes as the last of these users, if there is memory for it.
+fn comes<'a, P: SharedBuckets>(pool: &P, users: &mut Vec<User<'a>>, party: PoolParty) -> bool
+    requires users { All (λ user. IsUser (P.shown pool.now) user.party user.kept) users.old.items }
+    requires party { party.allocator ≡ P.shown pool.now }
+    ensures { All (λ user. IsUser (P.shown pool.now) user.party user.kept) users.new.items }
+{
+    let _ = pool;
+    users.push(User { party, kept: None }).is_ok()
+}
+
 /// One of these users meets another one.
 fn meets<'a, P: SharedBuckets>(
     pool: &'a P,
@@ -298,7 +318,7 @@ fn meets<'a, P: SharedBuckets>(
     requires users { All (λ user. IsUser (P.shown pool.now) user.party user.kept) users.old.items }
     requires party { party.old.allocator ≡ P.shown pool.now }
     ensures users { All (λ user. IsUser (P.shown pool.now) user.party user.kept) users.new.items }
-    ensures party { party.new ≡ party.old }
+    ensures party { party.new.allocator ≡ P.shown pool.now }
 {
     match users.get_mut(index) {
         Some(user) => {
@@ -318,14 +338,34 @@ pub(super) fn last_meets<'a, P: SharedBuckets>(
     requires { All (λ user. IsUser (P.shown pool.now) user.party user.kept) users.old.items }
     ensures { All (λ user. IsUser (P.shown pool.now) user.party user.kept) users.new.items }
 {
-    let Some(last) = users.pop() else {
+    let Some(last) = last_user(pool, users) else {
         return false;
     };
     let mut party = last.party;
-    if !meets(pool, users, index, &mut party) {
-        return false;
-    }
-    users.push(User { party, kept: None }).is_ok()
+    meets(pool, users, index, &mut party) && comes(pool, users, party)
+}
+
+/// The last of these parties leaves.
+pub(super) fn last_party<P: SharedBuckets>(
+    pool: &P,
+    parties: &mut Vec<PoolParty>,
+) -> Option<PoolParty>
+    requires { All (λ party. party.allocator ≡ P.shown pool.now) parties.old.items }
+    ensures others { All (λ party. party.allocator ≡ P.shown pool.now) parties.new.items }
+    ensures own { IfSome result (λ party. party.allocator ≡ P.shown pool.now) }
+{
+    let _ = pool;
+    parties.pop()
+}
+
+/// The party joins these, if there is memory for it.
+fn joins<P: SharedBuckets>(pool: &P, parties: &mut Vec<PoolParty>, party: PoolParty) -> bool
+    requires parties { All (λ party. party.allocator ≡ P.shown pool.now) parties.old.items }
+    requires party { party.allocator ≡ P.shown pool.now }
+    ensures { All (λ party. party.allocator ≡ P.shown pool.now) parties.new.items }
+{
+    let _ = pool;
+    parties.push(party).is_ok()
 }
 
 /// The last of these users lets its token go and leaves as a party.
@@ -339,8 +379,8 @@ fn one_leaves<'a, P: SharedBuckets>(
     ensures users { All (λ user. IsUser (P.shown pool.now) user.party user.kept) users.new.items }
     ensures parties { All (λ party. party.allocator ≡ P.shown pool.now) parties.new.items }
 {
-    match users.pop() {
-        Some(user) => parties.push(user.party).is_ok(),
+    match last_user(pool, users) {
+        Some(user) => joins(pool, parties, user.party),
         None => false,
     }
 }
@@ -356,8 +396,8 @@ fn one_comes_back<'a, P: SharedBuckets>(
     ensures users { All (λ user. IsUser (P.shown pool.now) user.party user.kept) users.new.items }
     ensures parties { All (λ party. party.allocator ≡ P.shown pool.now) parties.new.items }
 {
-    match parties.pop() {
-        Some(party) => users.push(User { party, kept: None }).is_ok(),
+    match last_party(pool, parties) {
+        Some(party) => comes(pool, users, party),
         None => false,
     }
 }

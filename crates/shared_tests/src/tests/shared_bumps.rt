@@ -177,9 +177,7 @@ fn some_meet(rt: &impl Abort, alloc: Global, count: usize) {
         panic!(rt; "share");
     };
     hold(rt, &shared, &mut parties, &BEFORE_THE_MEETING);
-    if last_ones_meet(alloc, &shared, &mut parties, count).is_err() {
-        panic!(rt; "memory was refused");
-    }
+    check(rt, last_ones_meet(alloc, &shared, &mut parties, count));
     answers(rt, shared, parties, &AFTER_THE_MEETING, 64);
 }
 

@@ -1,12 +1,14 @@
 //! Buckets of shared pools that go from party to party.
 ghost use Rattle.std.specs.Prelude.{◌≡◌, ◌-◌, ◌<◌, ◌^◌, All, IfOk, true};
+ghost use Rattle.shared_tests.specs.Users.{IsKeptBy};
 
 use crate::tests::checks::{check, fail};
-use crate::tests::shared_buckets::SharedFixed;
+use crate::tests::pool_rows::last_party;
+use crate::tests::shared_buckets::{Request, SharedBuckets, SharedFixed};
 use crate::tests::shared_pools::{NO_POOL, bucket_over, cause_of, shared_over};
 use bb_memory::layout::{Chunk, Layout};
 use bb_memory::pool_allocator::AllocationError;
-use bb_memory::shared_pool::{BucketInTransit, PoolParty, SharedPoolAllocator};
+use bb_memory::shared_pool::{Bucket, BucketInTransit, PoolParty, SharedPoolAllocator};
 use std::alloc::Global;
 use std::process::Abort;
 
@@ -62,7 +64,7 @@ pub(super) fn send(
     ensures party { party.new.allocator ≡ pool.now }
     ensures sent { IfOk result (λ sent. sent.allocator ≡ pool.now) }
 {
-    let taken = pool.allocate(party, asked)?;
+    let taken = pool.ask(party, Request::Pass, asked)?;
     Ok(pool.hand_over(party, taken))
 }
 
@@ -151,6 +153,21 @@ fn one_sends(
     Ok(())
 }
 
+/// Takes out the last of these parties.
+fn last_of(
+    pool: &SharedPoolAllocator,
+    parties: &mut Vec<PoolParty>,
+) -> Result<PoolParty, &'static str>
+    requires { All (λ party. party.allocator ≡ pool.now) parties.old.items }
+    ensures others { All (λ party. party.allocator ≡ pool.now) parties.new.items }
+    ensures own { IfOk result (λ party. party.allocator ≡ pool.now) }
+{
+    match last_party(pool, parties) {
+        Some(party) => Ok(party),
+        None => Err("a party is missing"),
+    }
+}
+
 /// Two parties of a pool with a post, of so many bytes at 4096, and the layout of a message.
 pub(super) fn two_of(
     alloc: Global,
@@ -162,12 +179,8 @@ pub(super) fn two_of(
 {
     let asked = message_layout()?;
     let (pool, mut parties) = posted_over(alloc, 4096, size, 2)?;
-    let Some(second) = parties.pop() else {
-        return Err("no party");
-    };
-    let Some(first) = parties.pop() else {
-        return Err("one party alone");
-    };
+    let second = last_of(&pool, &mut parties)?;
+    let first = last_of(&pool, &mut parties)?;
     Ok((pool, first, second, asked))
 }
 
@@ -257,6 +270,23 @@ fn shared_pool_dropped_in_transit(rt: HostRuntime) {
     }
 }
 
+/// The party hands the bucket over, and takes it over itself. What the token in transit tells, and the bucket.
+fn over_and_back<'a>(
+    pool: &'a SharedFixed<4>,
+    party: &mut PoolParty,
+    bucket: Bucket<'a>,
+) -> ((u32, usize), Bucket<'a>)
+    requires post { pool.now.has_post ≡ true }
+    requires party { party.old.allocator ≡ pool.now }
+    requires kept { IsKeptBy pool.now party.old bucket }
+    ensures party { party.new.allocator ≡ pool.now }
+    ensures kept { IsKeptBy pool.now party.new result.1 }
+{
+    let message = pool.hand_over(party, bucket);
+    let it_told = told(&message);
+    (it_told, pool.take_over(party, message))
+}
+
 /// The calls of the next test on a pool of at most four buckets.
 fn there_and_back(
     rt: &impl Abort,
@@ -268,14 +298,12 @@ fn there_and_back(
     requires party { party.old.allocator ≡ pool.now }
     ensures { party.new.allocator ≡ pool.now }
 {
-    let taken = pool.allocate(party, asked)?;
-    let message = pool.hand_over(party, taken);
-    check(rt, told(&message) == (0, 48));
-    let received = pool.take_over(party, message);
-    let message = pool.hand_over(party, received);
-    let received = pool.take_over(party, message);
+    let taken = pool.ask(party, Request::Pass, asked)?;
+    let (it_told, received) = over_and_back(pool, party, taken);
+    check(rt, it_told == (0, 48));
+    let (_, received) = over_and_back(pool, party, received);
     check(rt, (received.number(), received.chunk().len()) == (0, 48));
-    pool.deallocate_bucket(party, received);
+    pool.give_back(party, received);
     Ok(())
 }
 

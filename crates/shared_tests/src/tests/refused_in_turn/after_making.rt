@@ -1,12 +1,12 @@
 //! Calls of what threads share that take no memory, each on values that were made before. The sweep runs these tests with each
 //! request refused, too, that comes after the making, and every call has to answer as it does with memory, without a request.
 ghost use Rattle.std.specs.Prelude.{◌≡◌, ◌<◌, All, length, true};
-ghost use Rattle.bb_memory.specs.SharedPoolAmong.{AreAllOf};
+ghost use Rattle.bb_memory.specs.SharedPoolAmong.{AreAllOf, IsAmongAll};
 
 use super::was_refused;
 use crate::tests::bump_rows::{self, all_meet, owner_by_all};
-use crate::tests::checks::check;
-use crate::tests::histories::one_for_two;
+use crate::tests::checks::{check, layout};
+use crate::tests::histories::{one_for_two, out_and_back};
 use crate::tests::pool_rows::Answer::{Bucket, Chunk, Nothing};
 use crate::tests::pool_rows::Call::{
     FindAgain, GiveBack, Grow, Keep, NumberAt, Shrink, Take, Token,
@@ -217,7 +217,17 @@ fn all_parties_of_shared_pools(rt: HostRuntime) {
     shared_fixed_meet(&rt, rt.alloc());
 }
 
-/// Parties meet in a history, and one of all asks and gives back, without a request for memory.
+/// Parties meet in a history that the first of them begins.
+fn meet_in_a_history(pool: &SharedPoolAllocator, parties: &mut Vec<PoolParty>)
+    requires all { AreAllOf pool.now parties.old.items }
+    requires two { 1 < length parties.old.items }
+    ensures { IsAmongAll pool.now parties.new.items 1 }
+{
+    let mut history = pool.begin_history(&mut parties[0]);
+    pool.meet_again(&mut history, parties);
+}
+
+/// They do, and one of all asks and gives back, without a request for memory.
 fn history_without_memory(
     rt: &impl Abort,
     alloc: Global,
@@ -229,22 +239,17 @@ fn history_without_memory(
     requires two { 1 < length parties.items }
 {
     refuse_memory(alloc);
-    let mut history = pool.begin_history(&mut parties[0]);
-    pool.meet_again(&mut history, &mut parties);
-    let Ok(taken) = pool.allocate_among(&mut parties, 1, asked) else {
-        panic!(rt; "a free bucket was refused");
-    };
-    pool.deallocate_among(&mut parties, 1, taken);
+    meet_in_a_history(pool, &mut parties);
+    check(rt, out_and_back(pool, &mut parties, asked).is_some());
     check(rt, none_was_asked(alloc));
 }
 
 #[test]
 fn a_history_of_a_shared_pool(rt: HostRuntime) {
-    let Ok(asked) = Layout::from_size_align(48, 4) else {
-        panic!(rt; "no such layout");
-    };
     match one_for_two(rt.alloc()) {
-        Ok((pool, parties)) => history_without_memory(&rt, rt.alloc(), &pool, parties, asked),
+        Ok((pool, parties)) => {
+            history_without_memory(&rt, rt.alloc(), &pool, parties, layout(&rt, 48, 4));
+        }
         Err(_) => was_refused(&rt, rt.alloc(), REFUSED),
     }
 }

@@ -3,6 +3,7 @@ ghost use Rattle.std.specs.Prelude.{◌≡◌, IfOk, IfSome};
 ghost use Rattle.bb_memory.specs.SharedPoolAmong.{AreAllOf, IsAmongAll};
 
 use crate::tests::checks::check;
+use crate::tests::histories::out_and_back;
 use crate::tests::shared_pools::bucket_over;
 use bb_memory::layout::Layout;
 use bb_memory::pool_allocator::AllocationError;
@@ -63,21 +64,6 @@ fn given(
             None
         }
     }
-}
-
-/// The party at place 1 takes a bucket, and gives it back. It answers the bucket's number, or `None` where it was refused.
-fn out_and_back(
-    pool: &SharedPoolAllocator,
-    parties: &mut Vec<PoolParty>,
-    asked: Layout,
-) -> Option<u32>
-    requires { IsAmongAll pool.now parties.old.items 1 }
-    ensures { AreAllOf pool.now parties.new.items }
-{
-    let bucket = pool.allocate_among(parties, 1, asked).ok()?;
-    let number = bucket.number();
-    pool.deallocate_among(parties, 1, bucket);
-    Some(number)
 }
 
 /// Each thread keeps the first bucket of its party's part. Of the other four, the least that none holds is given first, whichever

@@ -3,9 +3,10 @@ ghost use Rattle.std.specs.Prelude.{◌≡◌, ◌<◌, All, IfOk, IfSome, lengt
 ghost use Rattle.std.specs.Arc.{arc_value};
 
 use crate::tests::bump_rows::{
-    Answer, Call, NO_ROOM, Row, all_meet, hold, last_meets, owner_by_all, share_at, share_of,
+    Answer, Call, NO_ROOM, Row, all_meet, hold, last_meets, last_of, owner_by_all, share_at,
+    share_of,
 };
-use crate::tests::checks::{check, fail};
+use crate::tests::checks::{check, fail, layout};
 use bb_memory::layout::{Chunk, Layout};
 use bb_memory::shared_bump::{BumpParty, SharedBumpAllocator};
 use std::alloc::{AllocError, Global};
@@ -40,13 +41,6 @@ impl Promise<Taken> for ComesBack {
 
 impl Promise<(BumpParty, bool)> for ComesBack {
     ghost kept_by = { λ promise answer. answer.0.allocator ≡ promise.0.value };
-}
-
-/// The layout of this size and alignment, which has to be one.
-fn layout(rt: &impl Abort, size: usize, align: usize) -> Layout {
-    Layout::from_size_align(size, align)
-        .ok()
-        .expect(rt, "there is such a layout")
 }
 
 /// Asks so many times, or until it is refused, and looks at the used space after each request.
@@ -310,7 +304,24 @@ fn have_layouts(rt: &impl Abort, all: &[Taken], layouts: &[Layout]) {
     }
 }
 
-/// A thread for each of these layouts takes from a bump of 1000 bytes at 4097 until it is refused, and then their parties meet.
+/// A thread for each of these layouts takes from a bump of 1000 bytes at 4097 until it is refused. What they hand back.
+fn take_apart(
+    rt: &(impl Threads + Abort),
+    alloc: Global,
+    shared: &Arc<SharedBumpAllocator, Global>,
+    parties: Vec<BumpParty>,
+    layouts: &[Layout; 3],
+) -> Result<Vec<Taken>, AllocError>
+    requires { All (λ party. party.allocator ≡ arc_value shared.now) parties.items }
+    ensures { IfOk result (λ all. All (λ taken. taken.party.allocator ≡ arc_value shared.now) all.items) }
+{
+    let all = take_in_threads(rt, alloc, shared, parties, layouts, 1000)?;
+    have_layouts(rt, &all, layouts);
+    are_apart(rt, &ends_of(alloc, &all)?, 4097, 5097);
+    Ok(all)
+}
+
+/// They do, and then their parties meet.
 fn take_layouts(
     rt: &(impl Threads + Abort),
     alloc: Global,
@@ -320,9 +331,7 @@ fn take_layouts(
         return Ok(false);
     };
     let shared = Arc::new(alloc, shared)?;
-    let all = take_in_threads(rt, alloc, &shared, parties, layouts, 1000)?;
-    have_layouts(rt, &all, layouts);
-    are_apart(rt, &ends_of(alloc, &all)?, 4097, 5097);
+    let all = take_apart(rt, alloc, &shared, parties, layouts)?;
     meet(rt, alloc, &shared, all)?;
     Ok(true)
 }
@@ -416,13 +425,17 @@ fn both_watch(
     Ok(one_saw_both && other_saw_both)
 }
 
-/// Takes out the last of the parties.
-fn last_of(shared: &SharedBumpAllocator, parties: &mut Vec<BumpParty>) -> Option<BumpParty>
-    requires { All (λ party. party.allocator ≡ shared.now) parties.old.items }
-    ensures others { All (λ party. party.allocator ≡ shared.now) parties.new.items }
-    ensures own { IfSome result (λ party. party.allocator ≡ shared.now) }
+/// The last two of these parties.
+fn last_two(
+    shared: &SharedBumpAllocator,
+    mut parties: Vec<BumpParty>,
+) -> Option<(BumpParty, BumpParty)>
+    requires { All (λ party. party.allocator ≡ shared.now) parties.items }
+    ensures first { IfSome result (λ two. two.0.allocator ≡ shared.now) }
+    ensures second { IfSome result (λ two. two.1.allocator ≡ shared.now) }
 {
-    parties.pop()
+    let second = last_of(shared, &mut parties)?;
+    Some((last_of(shared, &mut parties)?, second))
 }
 
 /// Whether each of the two parties' threads finds eight bytes of its own and of the other one used. None is where a party is
@@ -431,13 +444,12 @@ fn watch_at_once(
     rt: &impl Threads,
     alloc: Global,
     shared: SharedBumpAllocator,
-    mut parties: Vec<BumpParty>,
+    parties: Vec<BumpParty>,
     eight: Layout,
 ) -> Option<bool>
     requires { All (λ party. party.allocator ≡ shared) parties.items }
 {
-    let second = last_of(&shared, &mut parties)?;
-    let first = last_of(&shared, &mut parties)?;
+    let (first, second) = last_two(&shared, parties)?;
     let shared = Arc::new(alloc, shared).ok()?;
     both_watch(rt, &shared, first, second, eight, 16).ok()
 }

@@ -1,12 +1,11 @@
 //! Threads whose parties come back, meet in a history, and go out again.
 ghost use Rattle.std.specs.Prelude.{◌≡◌, All, IfOk};
 ghost use Rattle.std.specs.Arc.{arc_value};
-ghost use Rattle.bb_memory.specs.SharedPoolHistory.{MayGoOn};
 
-use crate::tests::checks::fail;
+use crate::tests::checks::{check, fail, layout};
+use crate::tests::histories::{go_on, history_over};
 use crate::tests::shared_buckets::Request;
-use crate::tests::shared_pools::shared_over;
-use crate::tests::threads::pools::{Job, Work, are_left, counted, join_all, start_all};
+use crate::tests::threads::pools::{Job, Work, are_left, counted, work_in_threads};
 use bb_memory::layout::Layout;
 use bb_memory::shared_pool::{PoolHistory, PoolParty, SharedPoolAllocator};
 use std::alloc::{AllocError, Global};
@@ -14,25 +13,34 @@ use std::process::Abort;
 use std::sync::Arc;
 use std::thread::Threads;
 
-/// The parties that came back from their threads, and what each counted, in order.
-type Back = (Vec<PoolParty>, Vec<u64>);
-
-/// Each of these parties' threads does the job, and when all are back, they meet in the history.
+/// Each of four parties' threads does the job, and counts this, and when all are back, they meet in the history.
 fn out_and_back(
-    rt: &impl Threads,
+    rt: &(impl Threads + Abort),
     alloc: Global,
     pool: &Arc<SharedPoolAllocator, Global>,
     history: &mut PoolHistory,
     parties: Vec<PoolParty>,
-    job: Job,
-) -> Result<Back, AllocError>
-    requires { MayGoOn (arc_value pool.now) history.old parties.items }
-    ensures { IfOk result (λ back. MayGoOn (arc_value pool.now) history.new back.0.items) }
+    does: (Job, u64),
+) -> Result<Vec<PoolParty>, AllocError>
+    requires history { history.old.allocator ≡ arc_value pool.now }
+    requires parties { All (λ party. party.allocator ≡ arc_value pool.now) parties.items }
+    ensures history { history.new.allocator ≡ arc_value pool.now }
+    ensures parties { IfOk result (λ back. All (λ party. party.allocator ≡ arc_value pool.now) back.items) }
 {
-    let threads = start_all(rt, alloc, pool, parties, job)?;
-    let (mut back, counts) = join_all(rt, alloc, pool, threads)?;
-    pool.meet_again(history, &mut back);
-    Ok((back, counts))
+    let (job, count) = does;
+    let (mut back, counts) = work_in_threads(rt, alloc, pool, parties, job)?;
+    counted(rt, &counts, 4, count);
+    go_on(pool, history, &mut back);
+    Ok(back)
+}
+
+/// What each thread is to do.
+fn job(work: Work, asked: Layout) -> Job {
+    Job {
+        work,
+        request: Request::Near,
+        asked,
+    }
 }
 
 /// The parties' threads go out twice, and meet each time they are back: first they take a bucket and give it back, so that none
@@ -41,50 +49,45 @@ fn twice(
     rt: &(impl Threads + Abort),
     alloc: Global,
     pool: &Arc<SharedPoolAllocator, Global>,
-    history: &mut PoolHistory,
+    mut history: PoolHistory,
     parties: Vec<PoolParty>,
     asked: Layout,
 ) -> Result<Vec<PoolParty>, AllocError>
-    requires { MayGoOn (arc_value pool.now) history.old parties.items }
+    requires history { history.allocator ≡ arc_value pool.now }
+    requires parties { All (λ party. party.allocator ≡ arc_value pool.now) parties.items }
     ensures { IfOk result (λ back. All (λ party. party.allocator ≡ arc_value pool.now) back.items) }
 {
-    let request = Request::Near;
-    let job = Job {
-        work: Work::TakeAndReturn,
-        request,
-        asked,
-    };
-    let (back, clashes) = out_and_back(rt, alloc, pool, history, parties, job)?;
-    counted(rt, &clashes, 4, 0);
-    let job = Job {
-        work: Work::TakeAndDrop,
-        request,
-        asked,
-    };
-    let (back, taken) = out_and_back(rt, alloc, pool, history, back, job)?;
-    counted(rt, &taken, 4, 1);
-    Ok(back)
+    let returns = (job(Work::TakeAndReturn, asked), 0);
+    let back = out_and_back(rt, alloc, pool, &mut history, parties, returns)?;
+    let keeps = (job(Work::TakeAndDrop, asked), 1);
+    out_and_back(rt, alloc, pool, &mut history, back, keeps)
+}
+
+/// They do so over this pool, and half of its buckets are left.
+fn four_are_left(
+    rt: &(impl Threads + Abort),
+    alloc: Global,
+    pool: SharedPoolAllocator,
+    history: PoolHistory,
+    parties: Vec<PoolParty>,
+) -> Result<(), AllocError>
+    requires history { history.allocator ≡ pool }
+    requires parties { All (λ party. party.allocator ≡ pool) parties.items }
+{
+    let pool = Arc::new(alloc, pool)?;
+    let asked = layout(rt, 48, 4);
+    let back = twice(rt, alloc, &pool, history, parties, asked)?;
+    are_left(rt, &pool, back, asked, 4);
+    Ok(())
 }
 
 #[test]
 fn threads_pool_history(rt: HostRuntime) {
-    let Ok(asked) = Layout::from_size_align(48, 4) else {
-        panic!(rt; "no such layout");
-    };
-    let (pool, mut parties) = match shared_over(rt.alloc(), 4096, 1024, 4) {
-        Ok(made) => made,
-        Err(cause) => panic!(rt; "{cause}"),
-    };
-    let Some(mut first) = parties.pop() else {
-        panic!(rt; "there is no party");
-    };
-    let mut history = pool.begin_history(&mut first);
-    parties.push_reserved(first);
-    let Ok(pool) = Arc::new(rt.alloc(), pool) else {
-        panic!(rt; "memory was refused");
-    };
-    match twice(&rt, rt.alloc(), &pool, &mut history, parties, asked) {
-        Ok(back) => are_left(&rt, &pool, back, asked, 4),
-        Err(_) => fail(&rt, "memory was refused"),
+    match history_over(rt.alloc(), 1024, 4) {
+        Ok((pool, history, parties)) => {
+            let left = four_are_left(&rt, rt.alloc(), pool, history, parties);
+            check(&rt, left.is_ok());
+        }
+        Err(cause) => fail(&rt, cause),
     }
 }

@@ -2,7 +2,7 @@
 ghost use Rattle.std.specs.Prelude.{◌≡◌, All, IfOk};
 ghost use Rattle.std.specs.Arc.{arc_value};
 
-use crate::tests::checks::{check, fail};
+use crate::tests::checks::{check, fail, layout};
 use crate::tests::shared_buckets::{Request, SharedBuckets};
 use crate::tests::shared_pools::shared_over;
 use bb_memory::layout::Layout;
@@ -161,10 +161,10 @@ fn start(
 }
 
 /// A promised handle of a thread that works.
-pub(super) type Working = PromisedHandle<(PoolParty, u64), ComesBack>;
+type Working = PromisedHandle<(PoolParty, u64), ComesBack>;
 
 /// A thread for each of these parties, all at once.
-pub(super) fn start_all(
+fn start_all(
     rt: &impl Threads,
     alloc: Global,
     pool: &Arc<SharedPoolAllocator, Global>,
@@ -184,7 +184,7 @@ pub(super) fn start_all(
 }
 
 /// The parties that these threads hand back, and what each counted, in order.
-pub(super) fn join_all(
+fn join_all(
     rt: &impl Threads,
     alloc: Global,
     pool: &Arc<SharedPoolAllocator, Global>,
@@ -217,34 +217,19 @@ pub(super) fn are_left(
     check(rt, taken == Some(left));
 }
 
-/// What became of a pool in threads.
-#[derive(Drop)]
-struct Worked {
-    pool: Arc<SharedPoolAllocator, Global>,
-    parties: Vec<PoolParty>,
-    counts: Vec<u64>,
-}
-
-/// Each of these parties' threads does the job.
-fn work_all(
+/// Each of these parties' threads does the job. The parties that come back, and what each counted, in order.
+pub(super) fn work_in_threads(
     rt: &impl Threads,
     alloc: Global,
-    pool: SharedPoolAllocator,
+    pool: &Arc<SharedPoolAllocator, Global>,
     parties: Vec<PoolParty>,
     job: Job,
-) -> Result<Worked, AllocError>
-    requires { All (λ party. party.allocator ≡ pool) parties.items }
-    ensures { IfOk result (λ worked.
-        All (λ party. party.allocator ≡ arc_value worked.pool) worked.parties.items) }
+) -> Result<(Vec<PoolParty>, Vec<u64>), AllocError>
+    requires { All (λ party. party.allocator ≡ arc_value pool.now) parties.items }
+    ensures { IfOk result (λ done. All (λ party. party.allocator ≡ arc_value pool.now) done.0.items) }
 {
-    let pool = Arc::new(alloc, pool)?;
-    let threads = start_all(rt, alloc, &pool, parties, job)?;
-    let (parties, counts) = join_all(rt, alloc, &pool, threads)?;
-    Ok(Worked {
-        pool,
-        parties,
-        counts,
-    })
+    let threads = start_all(rt, alloc, pool, parties, job)?;
+    join_all(rt, alloc, pool, threads)
 }
 
 /// What threads do with a pool, and what has to come of it.
@@ -269,36 +254,38 @@ pub(super) fn counted(rt: &impl Abort, counts: &[u64], threads: usize, count: u6
     }
 }
 
-/// What a trial left is as it says.
-fn came_back(rt: &impl Abort, worked: Worked, trial: &Trial, asked: Layout)
-    requires { All (λ party. party.allocator ≡ arc_value worked.pool) worked.parties.items }
+/// The job of the trial's threads.
+fn job_of(rt: &impl Abort, trial: &Trial) -> Job {
+    Job {
+        work: trial.work,
+        request: trial.request,
+        asked: layout(rt, 48, 4),
+    }
+}
+
+/// The trial ends as it says, over this pool.
+fn ends(
+    rt: &(impl Threads + Abort),
+    alloc: Global,
+    pool: SharedPoolAllocator,
+    parties: Vec<PoolParty>,
+    trial: &Trial,
+) -> Result<(), AllocError>
+    requires { All (λ party. party.allocator ≡ pool) parties.items }
 {
-    let Worked {
-        pool,
-        parties,
-        counts,
-    } = worked;
+    let pool = Arc::new(alloc, pool)?;
+    let job = job_of(rt, trial);
+    let (back, counts) = work_in_threads(rt, alloc, &pool, parties, job)?;
     counted(rt, &counts, trial.threads as usize, trial.count);
-    are_left(rt, &pool, parties, asked, trial.left);
+    are_left(rt, &pool, back, job.asked, trial.left);
+    Ok(())
 }
 
 /// The trial ends as it says.
-fn holds(rt: &(impl Threads + Abort), alloc: Global, trial: Trial) {
-    let Ok(asked) = Layout::from_size_align(48, 4) else {
-        panic!(rt; "no such layout");
-    };
-    let job = Job {
-        work: trial.work,
-        request: trial.request,
-        asked,
-    };
-    let (pool, parties) = match shared_over(alloc, 4096, trial.size, trial.threads) {
-        Ok(made) => made,
-        Err(cause) => panic!(rt; "{cause}"),
-    };
-    match work_all(rt, alloc, pool, parties, job) {
-        Ok(worked) => came_back(rt, worked, &trial, asked),
-        Err(_) => fail(rt, "memory was refused"),
+fn holds(rt: &(impl Threads + Abort), alloc: Global, trial: &Trial) {
+    match shared_over(alloc, 4096, trial.size, trial.threads) {
+        Ok((pool, parties)) => check(rt, ends(rt, alloc, pool, parties, trial).is_ok()),
+        Err(cause) => fail(rt, cause),
     }
 }
 
@@ -312,7 +299,7 @@ fn threads_pool_take_and_return(rt: HostRuntime) {
         count: 0,
         left: 8,
     };
-    holds(&rt, rt.alloc(), trial);
+    holds(&rt, rt.alloc(), &trial);
 }
 
 #[test]
@@ -325,7 +312,7 @@ fn threads_pool_dropped_tokens(rt: HostRuntime) {
         count: 1,
         left: 6,
     };
-    holds(&rt, rt.alloc(), trial);
+    holds(&rt, rt.alloc(), &trial);
 }
 
 /// Each thread begins in its own part of the pool, and goes on where it has been last.
@@ -339,7 +326,7 @@ fn threads_pool_near(rt: HostRuntime) {
         count: 0,
         left: 8,
     };
-    holds(&rt, rt.alloc(), trial);
+    holds(&rt, rt.alloc(), &trial);
 }
 
 /// The same where there are fewer buckets than threads, so that they meet at each.
@@ -353,7 +340,7 @@ fn threads_pool_near_few_buckets(rt: HostRuntime) {
         count: 0,
         left: 3,
     };
-    holds(&rt, rt.alloc(), trial);
+    holds(&rt, rt.alloc(), &trial);
 }
 
 #[test]
@@ -366,5 +353,5 @@ fn threads_pool_near_dropped_tokens(rt: HostRuntime) {
         count: 1,
         left: 5,
     };
-    holds(&rt, rt.alloc(), trial);
+    holds(&rt, rt.alloc(), &trial);
 }
