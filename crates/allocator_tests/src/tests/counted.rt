@@ -1,14 +1,19 @@
 //! An allocator that counts the requests that are made of it, where a test can read it.
+ghost use Rattle.std.specs.Prelude.{[]};
+ghost use Rattle.bb_memory.specs.Pool.{StandsFor};
+
 use super::layouts::layout_of;
+use super::loans::{Book, Told};
 use super::pools::pool_over;
 use bb_memory::allocator::{
     AllocationError, AllocationGrowError, AllocationShrinkError, Allocator, BaseAllocator,
 };
 use bb_memory::layout::{Chunk, Layout};
 use bb_memory::pool_allocator::PoolAllocator;
-use loan_book::LoanBook;
+use loan_book::{LoanBook, LoanCall};
 use std::alloc::Global;
 use std::cell::Cell;
+use std::marker::Model;
 use std::rc::Rc;
 
 /// Answers as the allocator that it has, and counts the requests for chunks in a cell.
@@ -18,19 +23,41 @@ pub(super) struct Counted<A: Allocator + Drop> {
     requests: Rc<Cell<usize>>,
 }
 
-/// A book over a pool of sixteen buckets of 64 bytes, and how many requests it makes of the pool. None is where memory was
+/// A book over a pool that counts, by a type of its own, as `PoolBook`.
+#[derive(Drop)]
+pub(super) struct CountedBook {
+    book: LoanBook<Counted<PoolAllocator<Global>>>,
+}
+
+impl Model for CountedBook {
+    // Nothing is told of it.
+    ghost Value = { Unit {0} };
+
+    ghost view = { λ _. tt };
+}
+
+impl CountedBook {
+    /// What is told of the reply to a call.
+    pub(super) fn told(&mut self, call: LoanCall) -> Told {
+        self.book.told(call)
+    }
+}
+
+/// A book over this pool, which has nothing out. The cell counts the requests that are made of the pool.
+fn book_over(alloc: Global, inner: PoolAllocator<Global>, requests: Rc<Cell<usize>>) -> CountedBook
+    requires { StandsFor inner.pool [] }
+{
+    CountedBook {
+        book: LoanBook::new(alloc, Counted { inner, requests }),
+    }
+}
+
+/// A book over a pool of sixteen buckets of 64 bytes, whose requests of the pool this cell counts. None is where memory was
 /// refused.
-pub(super) fn counted_book(
-    alloc: Global,
-) -> Option<(LoanBook<Counted<PoolAllocator<Global>>>, Rc<Cell<usize>>)> {
-    let requests = Rc::new(alloc, Cell::new(0)).ok()?;
+pub(super) fn counted_book(alloc: Global, requests: &Rc<Cell<usize>>) -> Option<CountedBook> {
     let counter = requests.clone().ok()?;
-    let inner = pool_over(alloc, layout_of(64, 8)?, 4096, 1024).ok()?;
-    let counted = Counted {
-        inner,
-        requests: counter,
-    };
-    Some((LoanBook::new(alloc, counted), requests))
+    let pool = pool_over(alloc, layout_of(64, 8)?, 4096, 1024).ok()?;
+    Some(book_over(alloc, pool, counter))
 }
 
 impl<A: Allocator + Drop> BaseAllocator for Counted<A> {

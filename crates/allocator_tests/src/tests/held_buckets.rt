@@ -89,24 +89,22 @@ fn gives_nothing_back(rt: &impl Abort, pool: &mut impl Buckets, buckets: u32) {
 /// A bucket is taken from a pool that has room, so many are held then, and its place is told.
 fn takes(rt: &impl Abort, pool: &mut impl Buckets, layout: Layout, held: u32) -> usize {
     assert!(rt; pool.room());
-    let place = pool.take(layout).expect(rt, "a bucket is free");
-    assert!(rt; pool.held() == held);
-    place
+    match pool.take(layout) {
+        Some(place) if pool.held() == held => place,
+        _ => panic!(rt; "no bucket is free, or the count is another"),
+    }
 }
 
 /// A pool that holds all of so many buckets has no room, and a refusal changes nothing.
 fn is_full(rt: &impl Abort, pool: &mut impl Buckets, layout: Layout, buckets: u32) {
     assert!(rt; pool.take(layout).is_none());
-    assert!(rt; pool.held() == buckets);
-    assert!(rt; !pool.room());
+    assert!(rt; pool.held() == buckets && !pool.room());
 }
 
 /// The bucket at a place goes back once, and so many are held then. A second return changes nothing.
 fn goes_back(rt: &impl Abort, pool: &mut impl Buckets, place: usize, held: u32) {
-    assert!(rt; pool.give(place));
-    assert!(rt; pool.held() == held && pool.room());
-    assert!(rt; !pool.give(place));
-    assert!(rt; pool.held() == held);
+    assert!(rt; pool.give(place) && pool.held() == held && pool.room());
+    assert!(rt; !pool.give(place) && pool.held() == held);
 }
 
 /// All of so many buckets that are held, at these places, go back in turn.
@@ -134,9 +132,25 @@ fn counts(rt: &impl Abort, alloc: Global, pool: &mut impl Buckets, buckets: u32)
     go_back(rt, pool, &places, buckets);
 }
 
+/// A number has a place, which is this one.
+fn is_place(told: Option<usize>, wanted: usize) -> bool {
+    match told {
+        Some(place) => place == wanted,
+        None => false,
+    }
+}
+
+/// A place has a number, which is this one.
+fn is_number(told: Option<u32>, wanted: u32) -> bool {
+    match told {
+        Some(number) => number == wanted,
+        None => false,
+    }
+}
+
 /// The bucket of this number is at this place, and no other one.
 fn is_at(pool: &impl Buckets, number: u32, place: usize) -> bool {
-    pool.place(number) == Some(place) && pool.number(place) == Some(number)
+    is_place(pool.place(number), place) && is_number(pool.number(place), number)
 }
 
 /// No bucket begins at any of these places.
@@ -175,15 +189,29 @@ fn tells_numbers(rt: &impl Abort, pool: &mut impl Buckets, buckets: u32) {
     }
 }
 
+/// A pool that was made counts so many buckets, and tells their numbers.
+fn counts_and_tells(
+    rt: &impl Abort,
+    alloc: Global,
+    made: Result<impl Buckets, &'static str>,
+    buckets: u32,
+) {
+    match made {
+        Ok(mut pool) => {
+            counts(rt, alloc, &mut pool, buckets);
+            tells_numbers(rt, &mut pool, buckets);
+        }
+        Err(cause) => panic!(rt; "{cause}"),
+    }
+}
+
 /// More buckets than a word has bits; one; and none.
 #[test]
 fn pools_count_what_they_hold(rt: HostRuntime) {
     let sixteen = layout(&rt, 16, 8);
     for buckets in &[70u32, 64, 1, 0] {
         let pool = pool_over(rt.alloc(), sixteen, 4096, 16 * *buckets as usize);
-        let mut pool = pool.expect(&rt, "a pool is made");
-        counts(&rt, rt.alloc(), &mut pool, *buckets);
-        tells_numbers(&rt, &mut pool, *buckets);
+        counts_and_tells(&rt, rt.alloc(), pool, *buckets);
     }
 }
 
@@ -193,8 +221,6 @@ fn fixed_counts_what_it_holds(rt: HostRuntime) {
     let sixteen = layout(&rt, 16, 8);
     for (region, buckets) in &[(70usize, 66u32), (66, 66), (3, 3), (0, 0)] {
         let pool = fixed_over::<66>(sixteen, 4096, 16 * *region);
-        let mut pool = pool.expect(&rt, "a pool is made");
-        counts(&rt, rt.alloc(), &mut pool, *buckets);
-        tells_numbers(&rt, &mut pool, *buckets);
+        counts_and_tells(&rt, rt.alloc(), pool, *buckets);
     }
 }

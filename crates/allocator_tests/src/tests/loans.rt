@@ -7,8 +7,22 @@ use bb_memory::one_chunk_allocator::OneChunkAllocator;
 use bb_memory::pool_allocator::PoolAllocator;
 use loan_book::{LoanBook, LoanCall, LoanError, LoanReply, run_loans};
 use std::alloc::{AllocError, Global};
+use std::marker::Model;
 use std::ops::Range;
 use std::process::Abort;
+
+/// A book over a pool, by a type of its own: who calls it by the pool's type carries what a pool is.
+#[derive(Drop)]
+pub(super) struct PoolBook {
+    book: LoanBook<PoolAllocator<Global>>,
+}
+
+impl Model for PoolBook {
+    // Nothing is told of it.
+    ghost Value = { Unit {0} };
+
+    ghost view = { λ _. tt };
+}
 
 /// A book over a pool, whose buckets have this size and this alignment.
 pub(super) fn pool_book(
@@ -16,14 +30,14 @@ pub(super) fn pool_book(
     bucket: (usize, usize),
     start: usize,
     size: usize,
-) -> Result<LoanBook<PoolAllocator<Global>>, &'static str> {
+) -> Result<PoolBook, &'static str> {
     let Some(bucket) = layout_of(bucket.0, bucket.1) else {
         return Err("the bucket has no layout");
     };
-    match pool_over(alloc, bucket, start, size) {
-        Ok(pool) => Ok(LoanBook::new(alloc, pool)),
-        Err(cause) => Err(cause),
-    }
+    let pool = pool_over(alloc, bucket, start, size)?;
+    Ok(PoolBook {
+        book: LoanBook::new(alloc, pool),
+    })
 }
 
 /// A book over a one chunk of 64 bytes at 4096.
@@ -87,6 +101,20 @@ impl<A: Allocator + Drop> Book for LoanBook<A> {
 
     fn laws(&self) {
         self.law();
+    }
+}
+
+impl Book for PoolBook {
+    fn told(&mut self, call: LoanCall) -> Told {
+        self.book.told(call)
+    }
+
+    fn replies(&mut self, alloc: Global, calls: &[LoanCall]) -> Result<Vec<LoanReply>, AllocError> {
+        self.book.replies(alloc, calls)
+    }
+
+    fn laws(&self) {
+        self.book.laws();
     }
 }
 

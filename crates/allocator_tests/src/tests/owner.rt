@@ -361,10 +361,8 @@ fn resize<A: Allocator>(
 
 /// The two layouts of a resize.
 fn layouts(old: (usize, usize), new: (usize, usize)) -> Option<(Layout, Layout)> {
-    match (layout_of(old.0, old.1), layout_of(new.0, new.1)) {
-        (Some(old), Some(new)) => Some((old, new)),
-        _ => None,
-    }
+    let old = layout_of(old.0, old.1)?;
+    Some((old, layout_of(new.0, new.1)?))
 }
 
 /// The chunk at a position.
