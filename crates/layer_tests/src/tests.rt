@@ -7,6 +7,7 @@ mod byte_vectors;
 mod pools;
 mod results;
 mod rows;
+mod segregated;
 mod tenants;
 
 use bb_memory::bump_allocator::BumpAllocator;
