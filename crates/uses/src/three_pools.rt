@@ -1,5 +1,5 @@
 //! Three pools in one region, each in a third of it: of small buckets, of larger ones, and of the largest.
-ghost use Rattle.std.specs.Prelude.{◌≡◌, ◌+◌, ◌-◌, ◌*◌, ◌<◌, ◌≤◌, ◌^◌, ℕ, []};
+ghost use Rattle.std.specs.Prelude.{◌≡◌, ◌+◌, ◌*◌, ◌<◌, ◌≤◌, ℕ, []};
 ghost use Rattle.bb_memory_base.specs.Region.{region_at, region_end};
 ghost use Rattle.bb_memory_base.specs.PoolGeometry.{bucket_place};
 ghost use Rattle.bb_memory_base.specs.PoolObject.{MayAllocate};
@@ -7,7 +7,7 @@ ghost use Rattle.uses.specs.Segregations.{GivesBefore, IsFreshPool, MayBePool};
 
 use crate::segregated::Segregated;
 use bb_memory::pool_allocator::{FixedSizePoolAllocator, pool_inside_law};
-use bb_memory_base::allocator::{Allocator, BaseAllocator};
+use bb_memory_base::allocator::BaseAllocator;
 use bb_memory_base::layout::Layout;
 
 /// Three pools that are one allocator.
