@@ -47,10 +47,10 @@ extern "C" {
 #endif
 
 // The version of this library, as text and by its numbers. The last of them grows with each version, for `#if`.
-#define BB_VERSION "0.8.1"
+#define BB_VERSION "0.9.0"
 #define BB_VERSION_MAJOR 0
-#define BB_VERSION_MINOR 8
-#define BB_VERSION_PATCH 1
+#define BB_VERSION_MINOR 9
+#define BB_VERSION_PATCH 0
 #define BB_VERSION_NUMBER (BB_VERSION_MAJOR * 10000 + BB_VERSION_MINOR * 100 + BB_VERSION_PATCH)
 
 // Where a region begins, or a chunk that is handed in; and where a chunk begins that was given. Both are the address of a

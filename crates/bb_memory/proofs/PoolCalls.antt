@@ -21,7 +21,8 @@ use Rattle.bb_memory_base.proofs.PoolGeometries.{bucket_place-aligned, bucket_pl
 use Rattle.bb_memory_base.proofs.SliceGets.{slice_get-set_other, slice_get-set_same}
 use Rattle.bb_memory.specs.NumberSet.{Has, Lacks}
 use Rattle.bb_memory.specs.Pool.{Pool, IsPool, StandsFor, HoldsPlace, AreAStrideApart, Takes, Frees, with_flag}
-use Rattle.bb_memory.specs.Pool.{TakesBucket, FreesBucket}
+use Rattle.bb_memory.specs.Pool.{TakesBucket, FreesBucket, FreesIfHeld}
+use Rattle.bb_memory.specs.PoolLaws.{bucket_held_at, held_at_bucket}
 use Rattle.bb_memory.proofs.Pools.{Has-set_true, IsPool-with_flag, bucket-below, filled-at, held-inside}
 use Rattle.bb_memory.proofs.Pools.{lacked-free, one_bucket, stands-given, stands-freed, stands-resized}
 
@@ -84,7 +85,8 @@ Takes-inside pool layout (Ok chunk) new is (i, within, lacks, given, after) =
     let after : Pool = with_flag pool i true in
     let here : Has after.held i = slice_get-set_same pool.held i true false lacks in
     subst (IsInside pool.geometry.region) (sym given)
-    (held-inside after (IsPool-with_flag pool is i true) (chunk_in pool.geometry i layout) (i, here, refl) within.size)
+    (held-inside after (IsPool-with_flag pool is i true) (chunk_in pool.geometry i layout)
+    (held_at_bucket after (bucket_place pool.geometry i) i here refl) within.size)
 Takes-inside pool layout (Err error) new is takes = tt
 
 pub Takes-aligned : (pool : Pool) (layout : Layout) (answer : Result Chunk AllocationError) (new : Pool) →
@@ -123,13 +125,15 @@ pub Takes-given : (pool : Pool) (layout : Layout) (answer : Result Chunk Allocat
     Takes pool layout answer new → IfOk answer (λ chunk. HoldsPlace new chunk.place)
 Takes-given pool layout (Ok chunk) new (i, within, lacks, given, after) =
     subst (λ (p : Pool). HoldsPlace p chunk.place) (sym after)
-    (i, slice_get-set_same pool.held i true false lacks, ap (λ (c : Chunk). c.place) given)
+    (held_at_bucket (with_flag pool i true) chunk.place i (slice_get-set_same pool.held i true false lacks)
+    (ap (λ (c : Chunk). c.place) given))
 Takes-given pool layout (Err error) new takes = tt
 
 -- it wasn't before
 Takes-was_free : (pool : Pool) (layout : Layout) (answer : Result Chunk AllocationError) (new : Pool) → IsPool pool →
     Takes pool layout answer new → IfOk answer (λ chunk. ¬ HoldsPlace pool chunk.place)
-Takes-was_free pool layout (Ok chunk) new is (i, within, lacks, given, after) = λ holds.
+Takes-was_free pool layout (Ok chunk) new is (i, within, lacks, given, after) = λ there.
+    let holds = bucket_held_at pool chunk.place there in
     let at : chunk.place ≡ bucket_place pool.geometry i = ap (λ (c : Chunk). c.place) given in
     let same : holds.0 ≡ i = one_bucket pool.geometry is.geometry holds.0 i (sym holds.2 ∙ at) in
     absurd (let e : Some true ≡ Some false = sym holds.1 ∙ (ap (slice_get pool.held) same ∙ lacks) in cc)
@@ -139,7 +143,8 @@ Takes-was_free pool layout (Err error) new is takes = tt
 Takes-apart : (pool : Pool) (layout : Layout) (answer : Result Chunk AllocationError) (new : Pool) →
     Takes pool layout answer new →
     IfOk answer (λ chunk. (place : ℕ) → HoldsPlace pool place → AreAStrideApart pool.geometry.bucket place chunk.place)
-Takes-apart pool layout (Ok chunk) new (i, within, lacks, given, after) = λ place holds.
+Takes-apart pool layout (Ok chunk) new (i, within, lacks, given, after) = λ place there.
+    let holds = bucket_held_at pool place there in
     let differ : holds.0 ≢ i =
     λ same. absurd (let e : Some true ≡ Some false = sym holds.1 ∙ (ap (slice_get pool.held) same ∙ lacks) in cc) in
     let at : chunk.place ≡ bucket_place pool.geometry i = ap (λ (c : Chunk). c.place) given in
@@ -154,8 +159,10 @@ Takes-apart pool layout (Err error) new takes = tt
 -- and each that was held still is
 pub Takes-still_held : (pool : Pool) (layout : Layout) (answer : Result Chunk AllocationError) (new : Pool) →
     Takes pool layout answer new → (place : ℕ) → HoldsPlace pool place → HoldsPlace new place
-Takes-still_held pool layout (Ok chunk) new (i, within, lacks, given, after) place (j, has, placed) =
-    subst (λ (p : Pool). HoldsPlace p place) (sym after) (j, Has-set_true pool.held i j lacks has, placed)
+Takes-still_held pool layout (Ok chunk) new (i, within, lacks, given, after) place there =
+    let holds = bucket_held_at pool place there in
+    subst (λ (p : Pool). HoldsPlace p place) (sym after)
+    (held_at_bucket (with_flag pool i true) place holds.0 (Has-set_true pool.held i holds.0 lacks holds.1) holds.2)
 Takes-still_held pool layout (Err SizeTooLarge) new takes place holds =
     subst (λ (p : Pool). HoldsPlace p place) (sym takes.1) holds
 Takes-still_held pool layout (Err AlignmentFailure) new takes place holds =
@@ -203,26 +210,35 @@ Frees-released pool place new is frees live position chunk stands at there =
 -- each other bucket that was held still is
 pub Frees-still_held : (pool : Pool) (place : ℕ) (new : Pool) → HoldsPlace pool place → Frees pool place new →
     (other : ℕ) → HoldsPlace pool other → other ≢ place → HoldsPlace new other
-Frees-still_held pool place new (i, held, placed) frees other (j, has, there) differ =
-    let apart : j ≢ i = λ same. differ (there ∙ (ap (bucket_place pool.geometry) same ∙ sym placed)) in
-    subst (λ (p : Pool). HoldsPlace p other) (sym (frees i held placed))
-    (j, slice_get-set_other pool.held i j false apart ∙ has, there)
+Frees-still_held pool place new holds frees other other_holds differ =
+    let freed = bucket_held_at pool place holds in
+    let at = bucket_held_at pool other other_holds in
+    let apart : at.0 ≢ freed.0 = λ same. differ (at.2 ∙ (ap (bucket_place pool.geometry) same ∙ sym freed.2)) in
+    subst (λ (p : Pool). HoldsPlace p other) (sym (frees freed.0 freed.1 freed.2))
+    (held_at_bucket (with_flag pool freed.0 false) other at.0 (slice_get-set_other pool.held freed.0 at.0 false apart ∙ at.1)
+    at.2)
 
 -- the bucket at the place isn't held any more
 pub Frees-given_back : (pool : Pool) (place : ℕ) (new : Pool) → IsPool pool → HoldsPlace pool place →
     Frees pool place new → ¬ HoldsPlace new place
-Frees-given_back pool place new is (i, held, placed) frees holds =
-    let still : HoldsPlace (with_flag pool i false) place =
-    subst (λ (p : Pool). HoldsPlace p place) (frees i held placed) holds in
-    let same : still.0 ≡ i = one_bucket pool.geometry is.geometry still.0 i (sym still.2 ∙ placed) in
-    let gone = slice_get-set_same pool.held i false true held in
-    absurd (let e : Some true ≡ Some false = sym still.1 ∙ (ap (slice_get (slice_set pool.held i false)) same ∙ gone) in cc)
+Frees-given_back pool place new is was frees holds =
+    let freed = bucket_held_at pool place was in
+    let left : Pool = with_flag pool freed.0 false in
+    let still = bucket_held_at left place
+    (subst (λ (p : Pool). HoldsPlace p place) (frees freed.0 freed.1 freed.2) holds) in
+    let same : still.0 ≡ freed.0 = one_bucket pool.geometry is.geometry still.0 freed.0 (sym still.2 ∙ freed.2) in
+    let gone = slice_get-set_same pool.held freed.0 false true freed.1 in
+    absurd (let e : Some true ≡ Some false = sym still.1 ∙ (ap (slice_get left.held) same ∙ gone) in cc)
 
 -- and so there is a bucket that isn't held
 pub Frees-room : (pool : Pool) (place : ℕ) (new : Pool) → HoldsPlace pool place → Frees pool place new →
     (i : ℕ) × Lacks new.held i
-Frees-room pool place new (i, held, placed) frees =
-    (i, subst (λ (p : Pool). Lacks p.held i) (sym (frees i held placed)) (slice_get-set_same pool.held i false true held))
+Frees-room pool place new holds frees =
+    let freed = bucket_held_at pool place holds in (
+      freed.0,
+      subst (λ (p : Pool). Lacks p.held freed.0) (sym (frees freed.0 freed.1 freed.2))
+      (slice_get-set_same pool.held freed.0 false true freed.1),
+    )
 
 -- all that a release says by the value
 pub FreesBucket-is : (pool : Pool) (place : ℕ) (new : Pool) → IsPool pool → HoldsPlace pool place → Frees pool place new →
@@ -233,6 +249,20 @@ FreesBucket-is pool place new is holds frees = record {
   given_back = Frees-given_back pool place new is holds frees;
   room = Frees-room pool place new holds frees;
 }
+
+-- the pool is a pool then
+pub Frees-is_pool : (pool : Pool) (place : ℕ) (new : Pool) → IsPool pool → HoldsPlace pool place → Frees pool place new →
+    IsPool new
+Frees-is_pool pool place new is holds frees =
+    let (i, has, there) = bucket_held_at pool place holds in
+    subst IsPool (sym (frees i has there)) (IsPool-with_flag pool is i false)
+
+-- and after a return that looks first whether a bucket is held there, whatever it finds
+pub FreesIfHeld-is_pool : (pool : Pool) (place : ℕ) (found : Bool) (new : Pool) → IsPool pool →
+    FreesIfHeld pool place found new → IsPool new
+FreesIfHeld-is_pool pool place true new is frees =
+    Frees-is_pool pool place new is (frees.held.0 refl) (frees.freed refl)
+FreesIfHeld-is_pool pool place false new is frees = subst IsPool (sym (frees.still refl)) is
 
 -- So no bucket is held at the place after a return that looks first whether one is, whatever it finds.
 pub none-held-there : (found : Bool) (pool : Pool) (place : ℕ) (new : Pool) → (found ≡ true ↔ HoldsPlace pool place) →

@@ -18,6 +18,7 @@ use Rattle.bb_memory_base.proofs.SliceGets.{slice_get-set, slice_get-set_other, 
 use Rattle.bb_memory_base.proofs.SliceGets.{slice_get-replicated, length-set_at}
 use Rattle.bb_memory.specs.NumberSet.{Has, Lacks}
 use Rattle.bb_memory.specs.Pool.{Pool, IsPool, Fills, StandsFor, HoldsPlace, fresh_pool, with_flag}
+use Rattle.bb_memory.specs.PoolLaws.{bucket_held_at}
 use Rattle.bb_memory_base.proofs.Positions.{All-at, All-from_positions, AllPairs-at, AllPairs-from_positions}
 use Rattle.bb_memory_base.proofs.SliceGets.{slice_get-last, slice_get-push}
 use Rattle.bb_memory_base.proofs.Positions.{slice_get-removed, slice_get-unremoved}
@@ -45,9 +46,10 @@ in_bucket pool is chunk (i, fills) =
 -- a chunk at the place of a held bucket, and no longer than that, is inside the region
 pub held-inside : (pool : Pool) → IsPool pool → (chunk : Chunk) → HoldsPlace pool chunk.place →
     chunk.len ≤ pool.geometry.bucket.size → IsInside pool.geometry.region chunk
-held-inside pool is chunk (i, held, placed) short =
+held-inside pool is chunk holds short =
+    let at = bucket_held_at pool chunk.place holds in
     inside_from_bucket pool.geometry is.geometry chunk
-    (in_bucket pool is chunk (i, record { held = held; placed = placed; short = short }))
+    (in_bucket pool is chunk (at.0, record { held = at.1; placed = at.2; short = short }))
 
 -- the pool with a flag set is a pool
 pub IsPool-with_flag : (pool : Pool) → IsPool pool → (i : ℕ) (flag : Bool) → IsPool (with_flag pool i flag)

@@ -1,6 +1,7 @@
 -- A pool, as its contracts see it.
 use Rattle.std.specs.Prelude.{◌≡◌, ◌≢◌, ℕ, ◌-◌, ◌+◌, ◌%◌, ◌≤◌, ◌<◌, ◌^◌, ◌⊎◌, ◌↔◌, Bool, true, false}
-use Rattle.std.specs.Prelude.{◌&&◌, if◌then◌else◌, nat_le}
+use Rattle.std.specs.Prelude.{◌&&◌, if◌then◌else◌, get_or, nat_eq, nat_le}
+use Rattle.std.specs.List.{list_any, range_with_len}
 use Rattle.std.specs.Prelude.{List, All, length, min, replicate, slice_set, Result, Ok, Err, IsOk, IfOk, OnErr, IsTrue}
 use Rattle.bb_memory_base.specs.Region.{Region, IsRegion}
 use Rattle.bb_memory_base.specs.Chunk.{Chunk}
@@ -70,9 +71,17 @@ pub record StandsFor (pool : Pool) (live : List Chunk) : Type 0 where
 abbrev pub AreAStrideApart : Layout → ℕ → ℕ → Type 0
 AreAStrideApart bucket one other = (one + stride bucket ≤ other) ⊎ (other + stride bucket ≤ one)
 
+-- bucket i is held, and begins at the place
+abbrev pub begins_held : Pool → ℕ → ℕ → Bool
+begins_held pool place i = get_or pool.held i false && nat_eq place (bucket_place pool.geometry i)
+
+-- whether any held bucket begins at the place
+unfoldable pub holds_place : Pool → ℕ → Bool
+holds_place pool place = list_any (begins_held pool place) (range_with_len 0 (length pool.held))
+
 -- the place is that of a held bucket
 abbrev pub HoldsPlace : Pool → ℕ → Type 0
-HoldsPlace pool place = (i : ℕ) × Has pool.held i × (place ≡ bucket_place pool.geometry i)
+HoldsPlace pool place = holds_place pool place ≡ true
 
 -- WHAT CALLS DO
 
@@ -104,6 +113,7 @@ pub record FreesIfHeld (old : Pool) (place : ℕ) (answer : Bool) (new : Pool) :
   pub held : IsTrue answer ↔ HoldsPlace old place
   pub freed : answer ≡ true → Frees old place new
   pub still : answer ≡ false → new ≡ old
+  pub geometry : new.geometry ≡ old.geometry
 
 -- What a request is answered by the value alone, what the pool is then, and how many words it read.
 pub record TakesBucket (old : Pool) (layout : Layout) (answer : Result Chunk AllocationError)

@@ -151,7 +151,8 @@ impl<S: IndexSet> Buckets<S> {
     #[inline(always)]
     pub fn free(&mut self, place: usize)
         requires { HoldsPlace self.old place }
-        ensures { Frees self.old place self.new }
+        ensures freed { Frees self.old place self.new }
+        ensures geometry { self.new.geometry ≡ self.old.geometry }
     {
         let number = self.number(place);
         self.held.release(number);

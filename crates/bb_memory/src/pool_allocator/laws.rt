@@ -15,6 +15,7 @@ ghost use Rattle.bb_memory_base.specs.declared.allocator.AllocationGrowError.{Al
 ghost use Rattle.bb_memory_base.specs.declared.allocator.AllocationShrinkError.{AllocationShrinkError};
 ghost use Rattle.bb_memory_base.specs.declared.allocator.Command.{Command};
 ghost use Rattle.bb_memory_base.specs.declared.allocator.Reply.{Reply};
+ghost use Rattle.bb_memory.specs.NumberSet.{Has};
 ghost use Rattle.bb_memory.specs.Pool.{AreAStrideApart, HoldsPlace, IsPool, MayBeCut, Pool, StandsFor, fresh_pool};
 
 /// What the definition of a pool's geometry says of every region and every layout of a bucket. A region is cut in one way
@@ -112,10 +113,16 @@ pub fn pool_object_law()
         → (left : Pool) × IsPool left × (left.geometry ≡ pool.geometry) × StandsFor left new }
 {}
 
-/// What stands in a list that a pool stands for may be given back. It does nothing: its contract is the law.
+/// What stands in a list that a pool stands for may be given back. A place is held exactly where a held bucket begins there. It
+/// does nothing: its contract is the law.
 pub fn pool_held_law()
-    ensures { (pool : Pool) (live : List Chunk) (position : ℕ) (chunk : Chunk) → StandsFor pool live
-        → slice_get live position ≡ Some chunk → HoldsPlace pool chunk.place }
+    ensures listed { (pool : Pool) (live : List Chunk) (position : ℕ) (chunk : Chunk)
+        → StandsFor pool live → slice_get live position ≡ Some chunk
+        → HoldsPlace pool chunk.place }
+    ensures bucket { (pool : Pool) (place : ℕ) → HoldsPlace pool place
+        → (i : ℕ) × Has pool.held i × (place ≡ bucket_place pool.geometry i) }
+    ensures held { (pool : Pool) (place i : ℕ) → Has pool.held i
+        → place ≡ bucket_place pool.geometry i → HoldsPlace pool place }
 {}
 
 /// Where a bucket lies, one that is given, and one that is held: inside the pool's region. It does nothing: its contract is the

@@ -1,7 +1,7 @@
 //! The pools with one owner.
 #![tactic(auto, unfolding(bb_memory_base::specs::LeastPlace::least_place))]
 
-ghost use Rattle.std.specs.Prelude.{◌≢◌, IfOk};
+ghost use Rattle.std.specs.Prelude.{◌≢◌, IfOk, ℕ};
 ghost use Rattle.bb_memory.specs.Pool.{HoldsPlace};
 
 use bb_memory::layout::{Chunk, Layout};
@@ -83,6 +83,13 @@ pub fn back_if_held(pool: &mut FixedSizePoolAllocator<16>) -> Result<(), Allocat
     let again = pool.deallocate_if_held(chunk.place());
     prove!(!again);
     Ok(())
+}
+
+/// Takes two more buckets, of which each may be refused. Whatever was held still is.
+fn two_more(pool: &mut FixedSizePoolAllocator<16>, layout: Layout) -> (bool, bool)
+    ensures { (place : ℕ) → HoldsPlace pool.old place → HoldsPlace pool.new place }
+{
+    (pool.allocate(layout).is_ok(), pool.allocate(layout).is_ok())
 }
 
 /// Takes one more bucket. The place `out` is still held then, and the new chunk has another one.

@@ -1,8 +1,17 @@
-use Rattle.std.proofs.Common.{◌≡◌, ◌↔◌, false, true, subst, sym, ap, ◌∙◌}
+use Rattle.std.proofs.Common.{◌≡◌, ◌≤◌, ◌↔◌, false, true, subst, sym, ap, ◌∙◌}
+use Rattle.bb_memory_base.specs.PoolGeometry.{PoolGeometry}
 use Rattle.bb_memory.specs.Pool.{Pool, IsPool, Frees, HoldsPlace}
 use Rattle.bb_memory.specs.PoolLaws.{held_place}
-use Rattle.bb_memory.proofs.PoolCalls.{Frees-released, FreesBucket-is, none-held-there, others-held-then}
+use Rattle.bb_memory.proofs.PoolCalls.{FreesIfHeld-is_pool, Frees-released, FreesBucket-is, none-held-there, others-held-then}
 use Rattle.bb_memory.proofs.pool_allocator.bucket_pool.BucketPool.deallocate_if_held.Goals as goal
+
+pub invariant_of-self : goal.invariant_of-self
+invariant_of-self g c = (
+  FreesIfHeld-is_pool c.self.inside.buckets c.args.place c.free_if_held.result c.free_if_held.new.self c.self.invariant.0
+  c.free_if_held.ensures,
+  subst (λ (geometry : PoolGeometry). g.S.HeldSet.last_reads c.self.inside.last_search ≤ g.S.IndexSet.words geometry.buckets)
+  (sym c.free_if_held.ensures.geometry) c.self.invariant.1,
+)
 
 pub returns-clause-freed : goal.returns-clause-freed
 returns-clause-freed g c = λ yes.
