@@ -24,7 +24,7 @@
 //!   - `transit`: buckets that go from party to party.
 //!   - `fixed_size`: the pool of at most a constant of buckets.
 //!
-//! The examples in the comments of this crate stand in `crates/uses/src/scripts/examples.rt`, where they are proved; its first
+//! The examples in the comments of this crate stand in `crates/examples/src/comments.rt`, where they are proved; its first
 //! lines have the imports, and the attribute that computes least places.
 #![tactic(auto)]
 

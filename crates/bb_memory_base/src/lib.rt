@@ -14,7 +14,7 @@
 //! - `equality`: what `==` says of the types above.
 //! - `lists`: laws of lists, for users.
 //!
-//! The examples in the comments of this crate stand in `crates/uses/src/scripts/examples.rt`, where they are proved; its first
+//! The examples in the comments of this crate stand in `crates/examples/src/comments.rt`, where they are proved; its first
 //! lines have the imports, and the attribute that computes least places.
 #![tactic(auto)]
 

@@ -2,8 +2,6 @@
 //!
 //! The modules, in the order in which to read them:
 //!
-//! - `scripts`: straight-line calls with literals, a file an allocator, and the examples of the libraries' comments.
-//! - `errors`: how the errors go through `?`.
 //! - `slab`: records of bytes, each in a chunk of its own. `mailbox`: messages in the order of their sending, over the slab.
 //!   `keyed_slab`: records under keys that are refused once their record is taken out, over the slab.
 //! - `budget`: what a budget tells. `chunk_budget`, `byte_budget`: budgets, which are allocators themselves.
@@ -16,6 +14,7 @@
 //!   threads over one pool. `pool_histories`: threads whose meetings are remembered, and a pool whose parties are all here.
 //! - `job_board`: slots of a shared pool, each with one holder.
 //! - `pool_messages`: messages whose buckets are taken by one party and given back by another.
+//! - `examples`: the examples of the layers' comments.
 #![tactic(auto)]
 
 pub mod budget;
@@ -23,7 +22,7 @@ pub mod bump_workers;
 pub mod byte_budget;
 pub mod byte_vector;
 pub mod chunk_budget;
-pub mod errors;
+pub mod examples;
 pub mod job_board;
 pub mod keyed_slab;
 pub mod mailbox;
@@ -31,7 +30,6 @@ pub mod pool_histories;
 pub mod pool_messages;
 pub mod pool_workers;
 pub mod ring;
-pub mod scripts;
 pub mod segregated;
 pub mod slab;
 pub mod tenants;

@@ -1,9 +1,9 @@
 //! Errors through `?`, and blocks of the heap.
 use bb_memory::layout::Layout;
 use bb_memory::pool_allocator::AllocationError;
+use examples::errors::{GiveError, by_enum, open};
+use examples::heap::grown;
 use std::test::Fail;
-use uses::errors::{GiveError, by_enum, open};
-use uses::scripts::heap::grown;
 
 #[test]
 fn errors_go_through(rt: HostRuntime) -> Result<(), Fail> {

@@ -1,0 +1,17 @@
+//! What the documents show, proved: straight-line calls with literals. What each `prove!` says is decided by contracts alone, and
+//! this crate has no proof files.
+//!
+//! The modules: `first`, a file for each allocator, `shared` for what threads share, `errors`, how the errors go through `?`, and
+//! `comments`, the examples of the libraries' comments.
+#![tactic(auto)]
+
+pub mod bump;
+pub mod comments;
+pub mod errors;
+pub mod first;
+pub mod heap;
+pub mod layouts;
+pub mod one_chunk;
+pub mod pools;
+pub mod regions;
+pub mod shared;
