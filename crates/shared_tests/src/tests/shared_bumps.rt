@@ -75,21 +75,30 @@ fn share_two_parties(rt: HostRuntime) {
     }
 }
 
+/// What two parties find when the first has taken 40 bytes and they have met.
+const FORTY_ARE_USED: [Row; 3] = [
+    (0, Call::Number, Answer::Number(0)),
+    (1, Call::Number, Answer::Number(1)),
+    (1, Call::UsedSpace, Answer::Bytes(40)),
+];
+
+/// The first of these two parties takes, they meet, and find what it took.
+fn two_meet(rt: &impl Abort, shared: SharedBumpAllocator, mut parties: Vec<BumpParty>)
+    requires { All (λ party. party.allocator ≡ shared) parties.items }
+{
+    let before = [(0, Call::Take(40, 1), Answer::Chunk(4096, 40))];
+    hold(rt, &shared, &mut parties, &before);
+    check(rt, last_meets(&shared, &mut parties, 0));
+    answers(rt, shared, parties, &FORTY_ARE_USED, 40);
+}
+
 /// Two parties can meet, which changes nothing.
 #[test]
 fn parties_of_a_bump_meet(rt: HostRuntime) {
-    let Some((shared, mut parties)) = share_of(rt.alloc(), 64, 0, 2) else {
-        panic!(&rt; "share");
-    };
-    let before = [(0, Call::Take(40, 1), Answer::Chunk(4096, 40))];
-    hold(&rt, &shared, &mut parties, &before);
-    check(&rt, last_meets(&shared, &mut parties, 0));
-    let after = [
-        (0, Call::Number, Answer::Number(0)),
-        (1, Call::Number, Answer::Number(1)),
-        (1, Call::UsedSpace, Answer::Bytes(40)),
-    ];
-    answers(&rt, shared, parties, &after, 40);
+    match share_of(rt.alloc(), 64, 0, 2) {
+        Some((shared, parties)) => two_meet(&rt, shared, parties),
+        None => fail(&rt, "share"),
+    }
 }
 
 #[test]
@@ -117,27 +126,46 @@ fn is_full(mut bump: BumpAllocator) -> bool {
     }
 }
 
-#[test]
-fn share_of_one_party(rt: HostRuntime) {
-    let Some((shared, mut parties)) = share_of(rt.alloc(), 64, 0, 1) else {
-        panic!(&rt; "share");
-    };
-    check(&rt, parties.len() == 1);
+/// The only party takes all there is, and the bump that it hands back is full.
+fn one_party(rt: &impl Abort, shared: SharedBumpAllocator, mut parties: Vec<BumpParty>)
+    requires { All (λ party. party.allocator ≡ shared) parties.items }
+{
+    check(rt, parties.len() == 1);
     let rows = [(0, Call::Take(64, 1), Answer::Chunk(4096, 64))];
-    hold(&rt, &shared, &mut parties, &rows);
-    check(&rt, owner_by_last(shared, parties).is_some_and(is_full));
+    hold(rt, &shared, &mut parties, &rows);
+    check(rt, owner_by_last(shared, parties).is_some_and(is_full));
 }
 
-/// As many parties as asked, numbered from 0, of which the last one takes the first byte.
-fn many_parties(rt: &impl Abort, alloc: Global, count: u32) {
-    let Some((shared, mut parties)) = share_of(alloc, 64, 0, count) else {
-        panic!(rt; "share");
-    };
-    check(rt, parties.len() == count as usize);
+#[test]
+fn share_of_one_party(rt: HostRuntime) {
+    match share_of(rt.alloc(), 64, 0, 1) {
+        Some((shared, parties)) => one_party(&rt, shared, parties),
+        None => fail(&rt, "share"),
+    }
+}
+
+/// So many parties, numbered from 0, of which the last one takes the first byte.
+fn are_parties(
+    rt: &impl Abort,
+    shared: &SharedBumpAllocator,
+    mut parties: Vec<BumpParty>,
+    count: usize,
+)
+    requires { All (λ party. party.allocator ≡ shared.now) parties.items }
+{
+    check(rt, parties.len() == count);
     check(rt, are_numbered(&parties));
-    let last = parties.len().saturating_sub(1);
+    let last = count.saturating_sub(1);
     let rows = [(last, Call::Take(1, 1), Answer::Chunk(4096, 1))];
-    hold(rt, &shared, &mut parties, &rows);
+    hold(rt, shared, &mut parties, &rows);
+}
+
+/// A bump has as many parties as asked.
+fn many_parties(rt: &impl Abort, alloc: Global, count: u32) {
+    match share_of(alloc, 64, 0, count) {
+        Some((shared, parties)) => are_parties(rt, &shared, parties, count as usize),
+        None => fail(rt, "share"),
+    }
 }
 
 #[test]
@@ -172,13 +200,26 @@ const AFTER_THE_MEETING: [Row; 10] = [
 ];
 
 /// Three parties take, so many of them meet, and all take again.
-fn some_meet(rt: &impl Abort, alloc: Global, count: usize) {
-    let Some((shared, mut parties)) = share_of(alloc, 64, 0, 3) else {
-        panic!(rt; "share");
-    };
+fn three_parties(
+    rt: &impl Abort,
+    alloc: Global,
+    shared: SharedBumpAllocator,
+    mut parties: Vec<BumpParty>,
+    count: usize,
+)
+    requires { All (λ party. party.allocator ≡ shared) parties.items }
+{
     hold(rt, &shared, &mut parties, &BEFORE_THE_MEETING);
     check(rt, last_ones_meet(alloc, &shared, &mut parties, count));
     answers(rt, shared, parties, &AFTER_THE_MEETING, 64);
+}
+
+/// Three parties of a bump do so.
+fn some_meet(rt: &impl Abort, alloc: Global, count: usize) {
+    match share_of(alloc, 64, 0, 3) {
+        Some((shared, parties)) => three_parties(rt, alloc, shared, parties, count),
+        None => fail(rt, "share"),
+    }
 }
 
 /// None, one, some and all parties of a bump meet.

@@ -2,12 +2,14 @@
 ghost use Rattle.std.specs.Prelude.{◌≡◌, ◌-◌, ◌<◌, ◌^◌, All, IfOk};
 ghost use Rattle.bb_memory_base.specs.Region.{region_at};
 ghost use Rattle.bb_memory.specs.Pool.{MayBeCut};
+ghost use Rattle.shared_tests.specs.Users.{IsUser};
 
 use crate::tests::checks::{check, fail};
 use crate::tests::pool_rows::Answer::{Bucket, Chunk, GrowRefused, Nothing};
 use crate::tests::pool_rows::Call::{FindAgain, GiveBack, Grow, Keep, NumberAt, Take, Token};
 use crate::tests::pool_rows::{
-    ASKED, Answer, Call, NONE_FREE, Row, are_numbered, hold, last_meets, last_ones_meet, users_of,
+    ASKED, Answer, Call, NONE_FREE, Row, User, are_numbered, hold, last_meets, last_ones_meet,
+    users_of,
 };
 use crate::tests::shared_buckets::Request::{self, At, Pass};
 use crate::tests::shared_buckets::{Figures, SharedBuckets, SharedFixed};
@@ -174,7 +176,35 @@ fn shared_fixed_four_buckets(rt: HostRuntime) {
     shared_fixed_answers(&rt, rt.alloc(), (4096, 1024), 1, &FOUR_BUCKETS);
 }
 
-/// The two parties of a pool without buckets meet, and the first one is refused.
+/// The figures of a pool of 127 bytes, which has no bucket.
+fn figures_of_none(start: Option<usize>) -> Figures {
+    Figures {
+        start,
+        buckets: 0,
+        bucket_size: 128,
+        max_alignment: 8,
+        size: 127,
+    }
+}
+
+/// The last of these users of a pool without buckets meets the first one, which is refused.
+fn users_of_none<'a, P: SharedBuckets>(
+    rt: &impl Abort,
+    pool: &'a P,
+    mut users: Vec<User<'a>>,
+    start: Option<usize>,
+)
+    requires { All (λ user. IsUser (P.shown pool.now) user.party user.kept) users.items }
+{
+    check(rt, last_meets(pool, &mut users, 0));
+    let rows = [
+        (0, Call::Figures, Answer::Figures(figures_of_none(start))),
+        (0, Take(Pass, (128, 8)), NONE_FREE),
+    ];
+    hold(rt, pool, &mut users, &rows);
+}
+
+/// The two parties of a pool without buckets do so.
 fn no_bucket<P: SharedBuckets>(
     rt: &impl Abort,
     alloc: Global,
@@ -184,22 +214,10 @@ fn no_bucket<P: SharedBuckets>(
 )
     requires { All (λ party. party.allocator ≡ P.shown pool.now) parties.items }
 {
-    let Ok(mut users) = users_of(alloc, pool, parties) else {
-        panic!(rt; "{REFUSED}");
-    };
-    check(rt, last_meets(pool, &mut users, 0));
-    let none = Figures {
-        start,
-        buckets: 0,
-        bucket_size: 128,
-        max_alignment: 8,
-        size: 127,
-    };
-    let rows = [
-        (0, Call::Figures, Answer::Figures(none)),
-        (0, Take(Pass, (128, 8)), NONE_FREE),
-    ];
-    hold(rt, pool, &mut users, &rows);
+    match users_of(alloc, pool, parties) {
+        Ok(users) => users_of_none(rt, pool, users, start),
+        Err(_) => fail(rt, REFUSED),
+    }
 }
 
 /// A pool without buckets refuses at once, and its parties can meet.
@@ -211,7 +229,26 @@ fn shared_fixed_of_no_bucket(rt: HostRuntime) {
     }
 }
 
-/// As many parties as asked, numbered from 0, of which the last one takes bucket 0.
+/// As many users as asked, numbered from 0, of which the last one takes bucket 0.
+fn many_users<'a, P: SharedBuckets>(
+    rt: &impl Abort,
+    pool: &'a P,
+    mut users: Vec<User<'a>>,
+    count: usize,
+)
+    requires { All (λ user. IsUser (P.shown pool.now) user.party user.kept) users.items }
+{
+    check(rt, users.len() == count);
+    check(rt, are_numbered(&users));
+    let rows = [(
+        count.saturating_sub(1),
+        Take(Pass, (128, 8)),
+        Bucket(0, 4096, 128),
+    )];
+    hold(rt, pool, &mut users, &rows);
+}
+
+/// The same of parties.
 fn many_parties<P: SharedBuckets>(
     rt: &impl Abort,
     alloc: Global,
@@ -221,17 +258,10 @@ fn many_parties<P: SharedBuckets>(
 )
     requires { All (λ party. party.allocator ≡ P.shown pool.now) parties.items }
 {
-    let Ok(mut users) = users_of(alloc, pool, parties) else {
-        panic!(rt; "{REFUSED}");
-    };
-    check(rt, users.len() == count);
-    check(rt, are_numbered(&users));
-    let rows = [(
-        count.saturating_sub(1),
-        Take(Pass, (128, 8)),
-        Bucket(0, 4096, 128),
-    )];
-    hold(rt, pool, &mut users, &rows);
+    match users_of(alloc, pool, parties) {
+        Ok(users) => many_users(rt, pool, users, count),
+        Err(_) => fail(rt, REFUSED),
+    }
 }
 
 /// So many parties of a pool of at most four buckets.
@@ -365,7 +395,22 @@ const AFTER_THE_MEETING: [Row; 8] = [
     (1, Take(Request::From(3), ASKED), Bucket(2, 4352, 48)),
 ];
 
-/// Three parties of a pool of at least four buckets take, so many of them meet, and all take again.
+/// Three users of a pool of at least four buckets take, so many of them meet, and all take again.
+fn some_users_meet<'a, P: SharedBuckets>(
+    rt: &impl Abort,
+    alloc: Global,
+    pool: &'a P,
+    mut users: Vec<User<'a>>,
+    count: usize,
+)
+    requires { All (λ user. IsUser (P.shown pool.now) user.party user.kept) users.items }
+{
+    hold(rt, pool, &mut users, &BEFORE_THE_MEETING);
+    check(rt, last_ones_meet(alloc, pool, &mut users, count));
+    hold(rt, pool, &mut users, &AFTER_THE_MEETING);
+}
+
+/// The same of three parties.
 fn some_meet<P: SharedBuckets>(
     rt: &impl Abort,
     alloc: Global,
@@ -375,12 +420,10 @@ fn some_meet<P: SharedBuckets>(
 )
     requires { All (λ party. party.allocator ≡ P.shown pool.now) parties.items }
 {
-    let Ok(mut users) = users_of(alloc, pool, parties) else {
-        panic!(rt; "{REFUSED}");
-    };
-    hold(rt, pool, &mut users, &BEFORE_THE_MEETING);
-    check(rt, last_ones_meet(alloc, pool, &mut users, count));
-    hold(rt, pool, &mut users, &AFTER_THE_MEETING);
+    match users_of(alloc, pool, parties) {
+        Ok(users) => some_users_meet(rt, alloc, pool, users, count),
+        Err(_) => fail(rt, REFUSED),
+    }
 }
 
 /// So many parties of a pool of four buckets meet.

@@ -126,6 +126,26 @@ fn figures((number, chunk): (u32, Chunk)) -> (u32, usize, usize) {
     (number, chunk.place(), chunk.len())
 }
 
+/// A token in transit tells this.
+fn tells(rt: &impl Abort, message: &BucketInTransit, what: (u32, usize)) {
+    check(rt, told(message) == what);
+}
+
+/// The party takes a bucket over, which is this one, and gives it back.
+fn arrives(
+    rt: &impl Abort,
+    pool: &SharedPoolAllocator,
+    mut party: PoolParty,
+    message: BucketInTransit,
+    bucket: (u32, usize, usize),
+)
+    requires party { party.allocator ≡ pool.now }
+    requires message { message.allocator ≡ pool.now }
+{
+    let received = receive(pool, &mut party, message);
+    check(rt, figures(received) == bucket);
+}
+
 /// One party sends the only bucket to another, which gives it back.
 fn one_sends(
     rt: &impl Abort,
@@ -139,16 +159,13 @@ fn one_sends(
     requires second { second.allocator ≡ pool.now }
 {
     let mut message = send(pool, &mut first, asked)?;
-    check(rt, told(&message) == (0, 48));
+    tells(rt, &message, (0, 48));
     pool.meet_in_transit(&mut second, &mut message);
     pool.meet_in_transit(&mut first, &mut message);
-    check(rt, told(&message) == (0, 48));
+    tells(rt, &message, (0, 48));
     check(rt, is_refused(pool, &mut first, asked));
     check(rt, is_refused(pool, &mut second, asked));
-    check(
-        rt,
-        figures(receive(pool, &mut second, message)) == (0, 4096, 48),
-    );
+    arrives(rt, pool, second, message, (0, 4096, 48));
     check(rt, !is_refused(pool, &mut first, asked));
     Ok(())
 }
@@ -218,15 +235,10 @@ pub(super) fn two_in_transit(
     let mut one = send(pool, &mut first, asked)?;
     let mut other = send(pool, &mut second, asked)?;
     pool.tell_apart(&mut one, &mut other);
-    check(rt, (told(&one), told(&other)) == ((0, 48), (1, 48)));
-    check(
-        rt,
-        figures(receive(pool, &mut first, other)) == (1, 4224, 48),
-    );
-    check(
-        rt,
-        figures(receive(pool, &mut second, one)) == (0, 4096, 48),
-    );
+    tells(rt, &one, (0, 48));
+    tells(rt, &other, (1, 48));
+    arrives(rt, pool, first, other, (1, 4224, 48));
+    arrives(rt, pool, second, one, (0, 4096, 48));
     Ok(())
 }
 
@@ -307,21 +319,34 @@ fn there_and_back(
     Ok(())
 }
 
-/// The same twice, by the last of these parties.
+/// The same twice.
 fn twice_there_and_back(
+    rt: &impl Abort,
+    pool: &SharedFixed<4>,
+    mut party: PoolParty,
+    asked: Layout,
+) -> Result<(), AllocationError>
+    requires post { pool.now.has_post ≡ true }
+    requires party { party.allocator ≡ pool.now }
+{
+    there_and_back(rt, pool, &mut party, asked)?;
+    there_and_back(rt, pool, &mut party, asked)
+}
+
+/// The last of these parties does so.
+fn last_twice(
     rt: &impl Abort,
     pool: &SharedFixed<4>,
     mut parties: Vec<PoolParty>,
     asked: Layout,
-) -> Result<(), AllocationError>
+) -> bool
     requires post { pool.now.has_post ≡ true }
     requires parties { All (λ party. party.allocator ≡ pool.now) parties.items }
 {
-    let Some(mut party) = parties.pop() else {
-        panic!(rt; "no party");
-    };
-    there_and_back(rt, pool, &mut party, asked)?;
-    there_and_back(rt, pool, &mut party, asked)
+    match last_party(pool, &mut parties) {
+        Some(party) => twice_there_and_back(rt, pool, party, asked).is_ok(),
+        None => false,
+    }
 }
 
 /// The only party beside the post takes over what it handed over itself, hands it over again, and gives it back.
@@ -331,10 +356,7 @@ fn shared_fixed_handed_over(rt: HostRuntime) {
         panic!(rt; "no such layout");
     };
     match posted_fixed_over::<4>(rt.alloc(), 4096, 128, 1) {
-        Ok((pool, parties)) => check(
-            &rt,
-            twice_there_and_back(&rt, &pool, parties, asked).is_ok(),
-        ),
+        Ok((pool, parties)) => check(&rt, last_twice(&rt, &pool, parties, asked)),
         Err(cause) => fail(&rt, cause),
     }
 }

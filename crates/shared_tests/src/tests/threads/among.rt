@@ -2,7 +2,7 @@
 ghost use Rattle.std.specs.Prelude.{◌≡◌, IfOk, IfSome};
 ghost use Rattle.bb_memory.specs.SharedPoolAmong.{AreAllOf, IsAmongAll};
 
-use crate::tests::checks::check;
+use crate::tests::checks::{check, fail, layout};
 use crate::tests::histories::out_and_back;
 use crate::tests::shared_pools::bucket_over;
 use bb_memory::layout::Layout;
@@ -66,24 +66,78 @@ fn given(
     }
 }
 
+/// The party at this place of the list is given the bucket of this number, or none.
+fn gives(
+    rt: &impl Abort,
+    pool: &SharedPoolAllocator,
+    parties: &mut Vec<PoolParty>,
+    index: usize,
+    asked: Layout,
+    number: Option<u32>,
+)
+    requires { IsAmongAll pool.now parties.old.items index }
+    ensures { AreAllOf pool.now parties.new.items }
+{
+    let found = given(rt, pool, parties, index, asked);
+    check(rt, found == number);
+}
+
+/// The party at place 1 takes the bucket of this number and gives it back, or none.
+fn lends(
+    rt: &impl Abort,
+    pool: &SharedPoolAllocator,
+    parties: &mut Vec<PoolParty>,
+    asked: Layout,
+    number: Option<u32>,
+)
+    requires { IsAmongAll pool.now parties.old.items 1 }
+    ensures { AreAllOf pool.now parties.new.items }
+{
+    let found = out_and_back(pool, parties, asked);
+    check(rt, found == number);
+}
+
+/// Of four parties that have kept the first bucket of their part each, these are given the other buckets.
+fn the_others_are_given(
+    rt: &impl Abort,
+    pool: &SharedPoolAllocator,
+    mut back: Vec<PoolParty>,
+    asked: Layout,
+)
+    requires all { AreAllOf pool.now back.items }
+    requires four { pool.now.scene.parties ≡ 4 }
+{
+    gives(rt, pool, &mut back, 3, asked, Some(1));
+    gives(rt, pool, &mut back, 0, asked, Some(3));
+    gives(rt, pool, &mut back, 0, asked, Some(5));
+    lends(rt, pool, &mut back, asked, Some(7));
+    gives(rt, pool, &mut back, 2, asked, Some(7));
+    gives(rt, pool, &mut back, 1, asked, None);
+    lends(rt, pool, &mut back, asked, None);
+}
+
+/// The threads of these four parties keep a bucket each, and then the others are given.
+fn among_threads<R: Threads + Abort + Sync>(
+    rt: &R,
+    pool: &SharedPoolAllocator,
+    parties: Vec<PoolParty>,
+    asked: Layout,
+)
+    requires all { AreAllOf pool.now parties.items }
+    requires four { pool.now.scene.parties ≡ 4 }
+{
+    match each_keeps_one(rt, pool, parties, asked) {
+        Some(back) => the_others_are_given(rt, pool, back, asked),
+        None => fail(rt, "memory was refused"),
+    }
+}
+
 /// Each thread keeps the first bucket of its party's part. Of the other four, the least that none holds is given first, whichever
 /// party asks; what was given back is the next that another is given; and when all are held, each is refused.
 #[test]
 fn threads_pool_among(rt: HostRuntime) {
-    let Ok(asked) = Layout::from_size_align(48, 4) else {
-        panic!(rt; "no such layout");
-    };
-    let Ok((pool, parties)) = eight_for_four(rt.alloc()) else {
-        panic!(rt; "no pool was made");
-    };
-    let Some(mut back) = each_keeps_one(&rt, &pool, parties, asked) else {
-        panic!(rt; "memory was refused");
-    };
-    check(&rt, given(&rt, &pool, &mut back, 3, asked) == Some(1));
-    check(&rt, given(&rt, &pool, &mut back, 0, asked) == Some(3));
-    check(&rt, given(&rt, &pool, &mut back, 0, asked) == Some(5));
-    check(&rt, out_and_back(&pool, &mut back, asked) == Some(7));
-    check(&rt, given(&rt, &pool, &mut back, 2, asked) == Some(7));
-    check(&rt, given(&rt, &pool, &mut back, 1, asked) == None);
-    check(&rt, out_and_back(&pool, &mut back, asked) == None);
+    match eight_for_four(rt.alloc()) {
+        Ok((pool, parties)) => among_threads(&rt, &pool, parties, layout(&rt, 48, 4)),
+        Err(_) => fail(&rt, "no pool was made"),
+    }
 }

@@ -1,16 +1,15 @@
-use Rattle.std.proofs.Common.{rules, arith, ◌+◌}
+use Rattle.std.proofs.Common.{◌≡◌}
+use Rattle.std.specs.Arc.{arc_value}
+use Rattle.std.proofs.lemmas.List.Elements.{All-push, All-rest, All-same}
+use Rattle.bb_memory.specs.SharedPool.{PoolParty}
 use Rattle.shared_tests.proofs.tests.threads.pools.start_all.Goals as goal
 
 -- what is taken stood first among the rest
 pub loop-party-preserved : goal.loop-party-preserved
-loop-party-preserved g c = (
-  (λ k d below.
-      let step = c.in-Some.ensures.steps in
-      let h = c.loop-party.invariant.0 (k + 1) d in
-      grind rules),
-  (λ k d below.
-      let items = c.in_ok-push.ensures.items in
-      let was = c.loop-party.invariant.1 k d in
-      let put = c.in_ok-start.ensures in
-      grind (rules, arith)),
-)
+loop-party-preserved g c =
+    let pool = arc_value c.args.pool.now in
+    let step = c.in-Some.ensures.steps.0 in (
+      All-rest (λ (p : PoolParty). p.allocator ≡ pool) _ _ _ step c.loop-party.invariant.0,
+      All-same (λ h. h.promise.0.value ≡ pool) _ _ c.in_ok-push.ensures.items
+          (All-push (λ h. h.promise.0.value ≡ pool) _ _ c.loop-party.invariant.1 c.in_ok-start.ensures),
+    )
