@@ -1,4 +1,5 @@
 //! Loan books over the allocators, each row by its name.
+use super::checks::{check, check_at};
 use super::errors::have_texts;
 use super::layouts::layout_of;
 use super::pools::pool_over;
@@ -144,7 +145,7 @@ pub(super) type LoanRow = (LoanCall, Told);
 /// Makes the calls of a table in turn. Each has to be answered as the table has it.
 pub(super) fn answers(rt: &impl Abort, book: &mut impl Book, table: &[LoanRow]) {
     for (number, (call, wanted)) in table.iter().enumerate() {
-        assert!(rt; book.told(*call) == *wanted, "row {number}");
+        check_at(rt, book.told(*call) == *wanted, number);
     }
 }
 
@@ -196,7 +197,7 @@ fn has_two_readers(rt: &impl Abort, made: Result<impl Book, &'static str>) {
     } else {
         (4224, 4096)
     };
-    assert!(rt; first == Told::Loaned(0, one, 48));
+    check(rt, first == Told::Loaned(0, one, 48));
     answers(rt, &mut book, &two_readers(one, other));
     book.laws();
 }
@@ -217,7 +218,7 @@ fn is_told(
 ) {
     let mut book = book_of(rt, made);
     match book.replies(alloc, calls) {
-        Ok(replies) => assert!(rt; are_told(&replies, wanted)),
+        Ok(replies) => check(rt, are_told(&replies, wanted)),
         Err(_) => panic!(rt; "memory was refused"),
     }
 }
@@ -292,7 +293,7 @@ fn samples_go_back_in_any_order(rt: HostRuntime) {
 /// The samples that are loaned next have these ids.
 fn are_loaned(rt: &impl Abort, book: &mut impl Book, ids: Range<u64>) {
     for id in ids {
-        assert!(rt; book.told(LoanCall::Loan(64)).id() == Some(id));
+        check(rt, book.told(LoanCall::Loan(64)).id() == Some(id));
     }
 }
 
