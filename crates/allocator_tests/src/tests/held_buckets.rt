@@ -1,5 +1,5 @@
 //! How many buckets a pool holds, and each bucket by its number.
-use super::checks::check;
+use super::checks::{self, check};
 use super::fixed::{Fixed, fixed_over};
 use super::layouts::layout;
 use super::pools::pool_over;
@@ -197,13 +197,9 @@ fn counts_and_tells(
     made: Result<impl Buckets, &'static str>,
     buckets: u32,
 ) {
-    match made {
-        Ok(mut pool) => {
-            counts(rt, alloc, &mut pool, buckets);
-            tells_numbers(rt, &mut pool, buckets);
-        }
-        Err(cause) => panic!(rt; "{cause}"),
-    }
+    let mut pool = checks::made(rt, made);
+    counts(rt, alloc, &mut pool, buckets);
+    tells_numbers(rt, &mut pool, buckets);
 }
 
 /// More buckets than a word has bits; one; and none.

@@ -6,7 +6,7 @@ ghost use Rattle.bb_memory_base.specs.HeldBytes.{held_region};
 ghost use Rattle.bb_memory_base.specs.Region.{region_at};
 
 use self::kinds::{Figures, Kind, Run};
-use super::checks::check_at;
+use super::checks::{self, check_at};
 use super::layouts::layout_of;
 use bb_memory::allocator::{
     AllocationError, AllocationGrowError, AllocationShrinkError, Allocator, BaseAllocator, Command,
@@ -488,8 +488,5 @@ pub(crate) fn all_keep(
     made: Result<impl Driven, &'static str>,
     steps: &[Step<'_>],
 ) {
-    match made {
-        Ok(mut owner) => keeps(rt, &mut owner, steps),
-        Err(cause) => panic!(rt; "{cause}"),
-    }
+    keeps(rt, &mut checks::made(rt, made), steps);
 }

@@ -2,7 +2,7 @@
 ghost use Rattle.std.specs.Prelude.{◌≡◌, All, IfOk};
 
 use crate::marks::some_was_refused;
-use crate::tests::checks::check;
+use crate::tests::checks::{self, check};
 use crate::tests::errors::has_text;
 use crate::tests::layouts::layout;
 use crate::tests::owner::kinds::Kind;
@@ -15,10 +15,8 @@ use std::process::Abort;
 
 #[test]
 fn pool_odd_start_getters(rt: HostRuntime) {
-    match initialised(&rt, rt.alloc(), layout(&rt, 128, 8)) {
-        Ok(pool) => check(&rt, is_fresh(&pool)),
-        Err(cause) => panic!(&rt; "{cause}"),
-    }
+    let made = initialised(&rt, rt.alloc(), layout(&rt, 128, 8));
+    check(&rt, is_fresh(&checks::made(&rt, made)));
 }
 
 /// Whether the getters answer as of a fresh pool.
