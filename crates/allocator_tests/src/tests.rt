@@ -1,5 +1,6 @@
 //! Rows of library calls, a module for each thing that they call.
 mod bumps;
+mod checks;
 mod counted;
 mod errors;
 mod fixed;

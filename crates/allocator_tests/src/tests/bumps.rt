@@ -1,4 +1,5 @@
 //! The bump of one owner, each row by its name.
+use super::checks::check;
 use super::errors::has_text;
 use super::layouts::{chunk, layout};
 use super::owner::kinds::runs;
@@ -46,16 +47,16 @@ fn a_bump_call_by_call(rt: HostRuntime) {
 #[test]
 fn bump_display(rt: HostRuntime) {
     let mut bump = BumpAllocator::new(4096, 1024);
-    assert!(rt; bump.allocate(layout(&rt, 48, 4)).is_ok());
+    check(&rt, bump.allocate(layout(&rt, 48, 4)).is_ok());
     let text = "BumpAllocator { start: 4096, size: 1024, current_position: 48 }";
     has_text(&rt, rt.alloc(), &bump, text);
 }
 
 #[test]
 fn where_a_bump_can_be_made(rt: HostRuntime) {
-    assert!(rt; BumpAllocator::can_make(1, usize::MAX - 1));
-    assert!(rt; !BumpAllocator::can_make(1, usize::MAX));
-    assert!(rt; !BumpAllocator::can_make(0, 8));
+    check(&rt, BumpAllocator::can_make(1, usize::MAX - 1));
+    check(&rt, !BumpAllocator::can_make(1, usize::MAX));
+    check(&rt, !BumpAllocator::can_make(0, 8));
 }
 
 #[test]

@@ -1,4 +1,5 @@
 //! Texts of what is displayed.
+use super::checks::check;
 use bb_memory::allocator::{AllocationError, AllocationGrowError, AllocationShrinkError};
 use bb_memory::layout::Layout;
 use std::alloc::Global;
@@ -8,7 +9,7 @@ use std::process::Abort;
 /// What is displayed is this text.
 pub(super) fn has_text<D: Display>(rt: &impl Abort, alloc: Global, value: &D, text: &str) {
     match format!(in alloc; "{value}") {
-        Ok(told) => assert!(rt; told.as_str() == text),
+        Ok(told) => check(rt, told.as_str() == text),
         Err(_) => panic!(rt; "memory was refused"),
     }
 }

@@ -4,6 +4,7 @@ ghost use Rattle.std.specs.Prelude.{◌≡◌, [], IfOk};
 ghost use Rattle.bb_memory_base.specs.Region.{region_at};
 ghost use Rattle.bb_memory.specs.Pool.{StandsFor};
 
+use super::checks::check;
 use super::layouts::{layout, layout_of};
 use super::owner::kinds::runs;
 use super::owner::{Answer, Call, Owner, Step, all_keep, keeps, sevens};
@@ -61,7 +62,7 @@ fn eight_keep(rt: &impl Abort, alloc: Global, steps: &[Step<'_>]) {
 #[test]
 fn fixed_call_by_call(rt: HostRuntime) {
     let bucket = layout(&rt, 128, 8);
-    assert!(rt; !Fixed::<4>::can_make(bucket, 4096, usize::MAX));
+    check(&rt, !Fixed::<4>::can_make(bucket, 4096, usize::MAX));
     let steps = [
         Step::Call(Call::Allocate(128, 8), Answer::Somewhere(128)),
         Step::Call(Call::Reserved(0), Answer::Reserved(128)),
@@ -115,7 +116,7 @@ fn shows_no_refusal(rt: &impl Abort, alloc: Global, pool: &mut Owner<Fixed<4>>) 
     let refused = Answer::Refused(AllocationError::OutOfMemory);
     keeps(rt, pool, &[Step::Call(Call::Allocate(8, 8), refused)]);
     let after = text_of(rt, alloc, pool.allocator());
-    assert!(rt; before == after);
+    check(rt, before == after);
 }
 
 #[test]

@@ -1,4 +1,5 @@
 //! Heap blocks, each row by its name.
+use super::checks::check;
 use super::layouts::{layout, layout_of};
 use bb_memory::allocator::{AllocationGrowError, AllocationShrinkError};
 use bb_memory::heap_allocator::{AllocationError, HeapAllocator, HeapBlock};
@@ -93,8 +94,8 @@ pub(super) fn answers(
     for (call, wanted, bytes) in table {
         let (next, given) = answered(heap, block, *call);
         block = next;
-        assert!(rt; given == *wanted);
-        assert!(rt; block.as_slice() == *bytes);
+        check(rt, given == *wanted);
+        check(rt, block.as_slice() == *bytes);
     }
 }
 
@@ -138,7 +139,7 @@ fn heap_grow_and_shrink(rt: HostRuntime) {
     let heap = HeapAllocator::new(rt.alloc());
     let none = layout(&rt, 0, 1);
     let refusal = heap.allocate(none).err();
-    assert!(rt; refusal == Some(AllocationError::SizeIsZero));
+    check(&rt, refusal == Some(AllocationError::SizeIsZero));
     let no_size = BlockAnswer::ShrinkRefused(AllocationShrinkError::SizeIsZero);
     let table = [
         (
@@ -167,7 +168,7 @@ fn heap_grow_and_shrink(rt: HostRuntime) {
 fn heap_zeroed_and_refused(rt: HostRuntime) {
     let heap = HeapAllocator::new(rt.alloc());
     let block = made(&rt, zeros_of(&heap, 3));
-    assert!(rt; has_zeros(&block, 3));
+    check(&rt, has_zeros(&block, 3));
     let shrinks = BlockAnswer::GrowRefused(AllocationGrowError::GrowWouldShrink);
     let grows = BlockAnswer::ShrinkRefused(AllocationShrinkError::ShrinkWouldGrow);
     let table = [
@@ -193,7 +194,7 @@ fn resized(
     size: usize,
 ) -> HeapBlock {
     let (block, answer) = answered(heap, block, call);
-    assert!(rt; answer == BlockAnswer::Done && block.len() == size);
+    check(rt, answer == BlockAnswer::Done && block.len() == size);
     block
 }
 
@@ -202,7 +203,7 @@ fn resized(
 fn heap_of_any_alignment_and_size(rt: HostRuntime) {
     let heap = HeapAllocator::new(rt.alloc());
     let block = made(&rt, heap.allocate(layout(&rt, 4, 4096)));
-    assert!(rt; has_zeros(&block, 4));
+    check(&rt, has_zeros(&block, 4));
     let block = resized(
         &rt,
         &heap,
@@ -223,10 +224,10 @@ fn is_zeroed(made: Result<HeapBlock, AllocationError>, size: usize) -> bool {
 
 /// With ample memory a block of this size is made, plainly and of zeros, and one of a byte grows to it by both calls.
 fn is_made(rt: &impl Abort, heap: &HeapAllocator, size: usize) {
-    assert!(rt; is_zeroed(block_of(heap, size), size));
-    assert!(rt; is_zeroed(zeros_of(heap, size), size));
-    assert!(rt; grows(heap, BlockCall::Grow(size, 1), size));
-    assert!(rt; grows(heap, BlockCall::GrowZeroed(size, 1), size));
+    check(rt, is_zeroed(block_of(heap, size), size));
+    check(rt, is_zeroed(zeros_of(heap, size), size));
+    check(rt, grows(heap, BlockCall::Grow(size, 1), size));
+    check(rt, grows(heap, BlockCall::GrowZeroed(size, 1), size));
 }
 
 #[test]

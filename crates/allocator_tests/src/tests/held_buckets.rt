@@ -1,4 +1,5 @@
 //! How many buckets a pool holds, and each bucket by its number.
+use super::checks::{self, check};
 use super::fixed::{Fixed, fixed_over};
 use super::layouts::layout;
 use super::pools::pool_over;
@@ -81,14 +82,14 @@ fn gives_nothing_back(rt: &impl Abort, pool: &mut impl Buckets, buckets: u32) {
     let held = pool.held();
     let end = 4096 + 16 * buckets as usize;
     for wild in &[0usize, 1, 4080, 4095, 4097, 4104, 4111, usize::MAX, end] {
-        assert!(rt; !pool.give(*wild));
+        check(rt, !pool.give(*wild));
     }
-    assert!(rt; pool.held() == held);
+    check(rt, pool.held() == held);
 }
 
 /// A bucket is taken from a pool that has room, so many are held then, and its place is told.
 fn takes(rt: &impl Abort, pool: &mut impl Buckets, layout: Layout, held: u32) -> usize {
-    assert!(rt; pool.room());
+    check(rt, pool.room());
     match pool.take(layout) {
         Some(place) if pool.held() == held => place,
         _ => panic!(rt; "no bucket is free, or the count is another"),
@@ -97,14 +98,14 @@ fn takes(rt: &impl Abort, pool: &mut impl Buckets, layout: Layout, held: u32) ->
 
 /// A pool that holds all of so many buckets has no room, and a refusal changes nothing.
 fn is_full(rt: &impl Abort, pool: &mut impl Buckets, layout: Layout, buckets: u32) {
-    assert!(rt; pool.take(layout).is_none());
-    assert!(rt; pool.held() == buckets && !pool.room());
+    check(rt, pool.take(layout).is_none());
+    check(rt, pool.held() == buckets && !pool.room());
 }
 
 /// The bucket at a place goes back once, and so many are held then. A second return changes nothing.
 fn goes_back(rt: &impl Abort, pool: &mut impl Buckets, place: usize, held: u32) {
-    assert!(rt; pool.give(place) && pool.held() == held && pool.room());
-    assert!(rt; !pool.give(place) && pool.held() == held);
+    check(rt, pool.give(place) && pool.held() == held && pool.room());
+    check(rt, !pool.give(place) && pool.held() == held);
 }
 
 /// All of so many buckets that are held, at these places, go back in turn.
@@ -114,7 +115,7 @@ fn go_back(rt: &impl Abort, pool: &mut impl Buckets, places: &[usize], buckets: 
         left = left.saturating_sub(1);
         goes_back(rt, pool, *place, left);
     }
-    assert!(rt; pool.held() == 0);
+    check(rt, pool.held() == 0);
 }
 
 /// A pool of so many buckets holds none at first, one more after each taking, as many after a refusal, and one less after each
@@ -122,10 +123,10 @@ fn go_back(rt: &impl Abort, pool: &mut impl Buckets, places: &[usize], buckets: 
 fn counts(rt: &impl Abort, alloc: Global, pool: &mut impl Buckets, buckets: u32) {
     let sixteen = layout(rt, 16, 8);
     let mut places = Vec::new(alloc);
-    assert!(rt; pool.held() == 0);
+    check(rt, pool.held() == 0);
     for held in 0..buckets {
         let place = takes(rt, pool, sixteen, held + 1);
-        assert!(rt; places.push(place).is_ok());
+        check(rt, places.push(place).is_ok());
     }
     is_full(rt, pool, sixteen, buckets);
     gives_nothing_back(rt, pool, buckets);
@@ -156,7 +157,7 @@ fn is_at(pool: &impl Buckets, number: u32, place: usize) -> bool {
 /// No bucket begins at any of these places.
 fn none_begins_at(rt: &impl Abort, pool: &impl Buckets, places: &[usize]) {
     for place in places {
-        assert!(rt; pool.number(*place).is_none());
+        check(rt, pool.number(*place).is_none());
     }
 }
 
@@ -168,20 +169,20 @@ fn place_by_number(pool: &impl Buckets, place: usize) -> Option<usize> {
 /// A bucket at a place has the same number once it is free.
 fn keeps_its_number(rt: &impl Abort, pool: &mut impl Buckets, place: usize) {
     let number = pool.number(place);
-    assert!(rt; place_by_number(pool, place) == Some(place));
-    assert!(rt; pool.give(place));
-    assert!(rt; pool.number(place) == number);
+    check(rt, is_place(place_by_number(pool, place), place));
+    check(rt, pool.give(place));
+    check(rt, pool.number(place) == number);
 }
 
 /// Buckets of 16 bytes at 4096, so many of them, are known by their numbers, held or not.
 fn tells_numbers(rt: &impl Abort, pool: &mut impl Buckets, buckets: u32) {
     for number in 0..buckets {
         let place = 4096 + 16 * number as usize;
-        assert!(rt; is_at(pool, number, place));
+        check(rt, is_at(pool, number, place));
         none_begins_at(rt, pool, &[place + 1, place + 15]);
     }
-    assert!(rt; pool.place(buckets).is_none());
-    assert!(rt; pool.place(u32::MAX).is_none());
+    check(rt, pool.place(buckets).is_none());
+    check(rt, pool.place(u32::MAX).is_none());
     let end = 4096 + 16 * buckets as usize;
     none_begins_at(rt, pool, &[end, 4095, 0, 4080, usize::MAX]);
     if let Some(place) = pool.take(layout(rt, 16, 8)) {
@@ -196,13 +197,9 @@ fn counts_and_tells(
     made: Result<impl Buckets, &'static str>,
     buckets: u32,
 ) {
-    match made {
-        Ok(mut pool) => {
-            counts(rt, alloc, &mut pool, buckets);
-            tells_numbers(rt, &mut pool, buckets);
-        }
-        Err(cause) => panic!(rt; "{cause}"),
-    }
+    let mut pool = checks::made(rt, made);
+    counts(rt, alloc, &mut pool, buckets);
+    tells_numbers(rt, &mut pool, buckets);
 }
 
 /// More buckets than a word has bits; one; and none.

@@ -1,4 +1,5 @@
 //! Layouts, roundings and chunks, each row by its name. What other tests need of them comes from here, without a clause.
+use super::checks::check;
 use bb_memory::layout::{Chunk, Layout, round_up};
 use std::process::Abort;
 
@@ -38,7 +39,7 @@ fn layouts_accepted_and_refused(rt: HostRuntime) {
         } else {
             None
         };
-        assert!(rt; figures == wanted);
+        check(&rt, figures == wanted);
     }
 }
 
@@ -49,9 +50,9 @@ pub(super) fn rounded(rt: &impl Abort, number: usize, align: usize) -> Option<us
 
 #[test]
 fn round_up_three_answers(rt: HostRuntime) {
-    assert!(rt; rounded(&rt, 4097, 8) == Some(4104));
-    assert!(rt; rounded(&rt, 0, 8) == Some(0));
-    assert!(rt; rounded(&rt, usize::MAX, 2).is_none());
+    check(&rt, rounded(&rt, 4097, 8) == Some(4104));
+    check(&rt, rounded(&rt, 0, 8) == Some(0));
+    check(&rt, rounded(&rt, usize::MAX, 2).is_none());
 }
 
 /// What a chunk tells: its place, its length and its end.
@@ -62,8 +63,11 @@ pub(super) fn numbers_of(place: usize, len: usize) -> Option<(usize, usize, usiz
 
 #[test]
 fn chunks(rt: HostRuntime) {
-    assert!(rt; numbers_of(4096, 10) == Some((4096, 10, 4106)));
-    assert!(rt; numbers_of(0, 10).is_none());
-    assert!(rt; numbers_of(usize::MAX, 0) == Some((usize::MAX, 0, usize::MAX)));
-    assert!(rt; numbers_of(usize::MAX, 1).is_none());
+    check(&rt, numbers_of(4096, 10) == Some((4096, 10, 4106)));
+    check(&rt, numbers_of(0, 10).is_none());
+    check(
+        &rt,
+        numbers_of(usize::MAX, 0) == Some((usize::MAX, 0, usize::MAX)),
+    );
+    check(&rt, numbers_of(usize::MAX, 1).is_none());
 }

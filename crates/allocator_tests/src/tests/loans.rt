@@ -1,4 +1,5 @@
 //! Loan books over the allocators, each row by its name.
+use super::checks::{self, check, check_at};
 use super::errors::have_texts;
 use super::layouts::layout_of;
 use super::pools::pool_over;
@@ -144,7 +145,7 @@ pub(super) type LoanRow = (LoanCall, Told);
 /// Makes the calls of a table in turn. Each has to be answered as the table has it.
 pub(super) fn answers(rt: &impl Abort, book: &mut impl Book, table: &[LoanRow]) {
     for (number, (call, wanted)) in table.iter().enumerate() {
-        assert!(rt; book.told(*call) == *wanted, "row {number}");
+        check_at(rt, book.told(*call) == *wanted, number);
     }
 }
 
@@ -179,24 +180,16 @@ fn two_readers(one: usize, other: usize) -> [LoanRow; 9] {
     ]
 }
 
-/// The book that was made, without which no test goes on.
-fn book_of<B: Book>(rt: &impl Abort, made: Result<B, &'static str>) -> B {
-    match made {
-        Ok(book) => book,
-        Err(cause) => panic!(rt; "{cause}"),
-    }
-}
-
 /// The row, of a book.
 fn has_two_readers(rt: &impl Abort, made: Result<impl Book, &'static str>) {
-    let mut book = book_of(rt, made);
+    let mut book = checks::made(rt, made);
     let first = book.told(LoanCall::Loan(48));
     let (one, other) = if first == Told::Loaned(0, 4096, 48) {
         (4096, 4224)
     } else {
         (4224, 4096)
     };
-    assert!(rt; first == Told::Loaned(0, one, 48));
+    check(rt, first == Told::Loaned(0, one, 48));
     answers(rt, &mut book, &two_readers(one, other));
     book.laws();
 }
@@ -215,9 +208,9 @@ fn is_told(
     calls: &[LoanCall],
     wanted: &[Told],
 ) {
-    let mut book = book_of(rt, made);
+    let mut book = checks::made(rt, made);
     match book.replies(alloc, calls) {
-        Ok(replies) => assert!(rt; are_told(&replies, wanted)),
+        Ok(replies) => check(rt, are_told(&replies, wanted)),
         Err(_) => panic!(rt; "memory was refused"),
     }
 }
@@ -274,7 +267,7 @@ fn loan_over_one_chunk(rt: HostRuntime) {
 
 /// Sixteen samples, of which some go back, some are published, and others take their buckets.
 fn go_back(rt: &impl Abort, made: Result<impl Book, &'static str>) {
-    let mut book = book_of(rt, made);
+    let mut book = checks::made(rt, made);
     are_loaned(rt, &mut book, 0..16);
     leave(rt, &mut book, &[7, 0, 15, 8, 1, 14]);
     are_published(rt, &mut book, &[2, 3, 4, 5, 6, 9, 10, 11, 12, 13]);
@@ -292,7 +285,7 @@ fn samples_go_back_in_any_order(rt: HostRuntime) {
 /// The samples that are loaned next have these ids.
 fn are_loaned(rt: &impl Abort, book: &mut impl Book, ids: Range<u64>) {
     for id in ids {
-        assert!(rt; book.told(LoanCall::Loan(64)).id() == Some(id));
+        check(rt, book.told(LoanCall::Loan(64)).id() == Some(id));
     }
 }
 

@@ -1,4 +1,5 @@
 //! The one chunk, each row by its name.
+use super::checks::check;
 use super::layouts::{chunk, layout};
 use super::owner::kinds::runs;
 use super::owner::{Answer, Call, Owner, Step, all_keep, sevens};
@@ -42,8 +43,8 @@ fn a_one_chunk_call_by_call(rt: HostRuntime) {
         Step::Figures([4097, 1024, 1, 0, 0]),
     ];
     one_keeps(&rt, rt.alloc(), (4097, 1024), &steps);
-    assert!(rt; OneChunkAllocator::can_make(1, usize::MAX - 1));
-    assert!(rt; !OneChunkAllocator::can_make(1, usize::MAX));
+    check(&rt, OneChunkAllocator::can_make(1, usize::MAX - 1));
+    check(&rt, !OneChunkAllocator::can_make(1, usize::MAX));
 }
 
 /// A resize is carried out by the run with resizes, and passed over by the other.

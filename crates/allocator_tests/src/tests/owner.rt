@@ -6,6 +6,7 @@ ghost use Rattle.bb_memory_base.specs.HeldBytes.{held_region};
 ghost use Rattle.bb_memory_base.specs.Region.{region_at};
 
 use self::kinds::{Figures, Kind, Run};
+use super::checks::{self, check_at};
 use super::layouts::layout_of;
 use bb_memory::allocator::{
     AllocationError, AllocationGrowError, AllocationShrinkError, Allocator, BaseAllocator, Command,
@@ -401,6 +402,26 @@ impl<A: Kind> Owner<A> {
         true
     }
 
+    /// Whether a step that leaves all as it is, is as it has to be. No other one is.
+    fn shows(&self, step: Step<'_>) -> bool {
+        match step {
+            Step::Figures(wanted) => self.allocator.figures() == wanted,
+            Step::Reads(words) => self.allocator.reads() == Some(words),
+            Step::Holds(held, other) => {
+                self.allocator.holds_at(held) && !self.allocator.holds_at(other)
+            }
+            Step::Out(chunks) => self.is_out(chunks),
+            Step::At(start, stride, count) => self.is_at(start, stride, count),
+            Step::Zeros(start, count) => self.has_zeros(start, count),
+            Step::ZerosIn(position, first, count) => self.has_zeros_in(position, first, count),
+            Step::Laws => {
+                self.laws();
+                true
+            }
+            _ => false,
+        }
+    }
+
     fn goes_back(&mut self, place: usize, by_place: bool) -> bool {
         let Some(position) = self.position(place) else {
             return false;
@@ -438,22 +459,10 @@ impl<A: Kind> Driven for Owner<A> {
     fn keeps(&mut self, step: Step<'_>) -> bool {
         match step {
             Step::Call(call, wanted) => is_allowed(A::answer(self, call), wanted),
-            Step::Figures(wanted) => self.allocator.figures() == wanted,
-            Step::Reads(words) => self.allocator.reads() == Some(words),
             Step::Bytes(count) => self.takes_bytes(count),
             Step::Back(place, by_place) => self.goes_back(place, by_place),
             Step::Run(run, commands, replies) => replies_are(A::run(self, run, commands), replies),
-            Step::Holds(held, other) => {
-                self.allocator.holds_at(held) && !self.allocator.holds_at(other)
-            }
-            Step::Out(chunks) => self.is_out(chunks),
-            Step::At(start, stride, count) => self.is_at(start, stride, count),
-            Step::Zeros(start, count) => self.has_zeros(start, count),
-            Step::ZerosIn(position, first, count) => self.has_zeros_in(position, first, count),
-            Step::Laws => {
-                self.laws();
-                true
-            }
+            _ => self.shows(step),
         }
     }
 
@@ -469,7 +478,7 @@ impl<A: Kind> Driven for Owner<A> {
 /// Each of these steps, taken in turn, is as it has to be.
 pub(crate) fn keeps(rt: &impl Abort, owner: &mut impl Driven, steps: &[Step<'_>]) {
     for (number, step) in steps.iter().enumerate() {
-        assert!(rt; owner.keeps(*step), "step {number}");
+        check_at(rt, owner.keeps(*step), number);
     }
 }
 
@@ -479,8 +488,5 @@ pub(crate) fn all_keep(
     made: Result<impl Driven, &'static str>,
     steps: &[Step<'_>],
 ) {
-    match made {
-        Ok(mut owner) => keeps(rt, &mut owner, steps),
-        Err(cause) => panic!(rt; "{cause}"),
-    }
+    keeps(rt, &mut checks::made(rt, made), steps);
 }

@@ -3,6 +3,7 @@ ghost use Rattle.std.specs.Prelude.{◌≡◌, [], IfOk};
 ghost use Rattle.bb_memory_base.specs.Region.{region_at};
 ghost use Rattle.bb_memory.specs.Pool.{StandsFor};
 
+use super::checks::check;
 use super::layouts::{chunk, layout, layout_of};
 use super::owner::kinds::runs;
 use super::owner::{Answer, Call, Owner, Step, all_keep, sevens};
@@ -66,7 +67,7 @@ fn can_make(bucket: Layout, start: usize, size: usize) -> bool {
 /// Calls that no row makes.
 #[test]
 fn a_pool_call_by_call(rt: HostRuntime) {
-    assert!(rt; !can_make(layout(&rt, 128, 8), 0, 8));
+    check(&rt, !can_make(layout(&rt, 128, 8), 0, 8));
     let steps = [
         Step::Call(Call::Allocate(128, 8), Answer::Somewhere(128)),
         Step::Call(Call::Reserved(0), Answer::Reserved(128)),
@@ -85,7 +86,7 @@ pub(super) fn memory_size(bucket: Layout, size: usize) -> Option<usize> {
 
 #[test]
 fn pool_rounded_stride(rt: HostRuntime) {
-    assert!(rt; memory_size(layout(&rt, 12, 8), 64) == Some(40));
+    check(&rt, memory_size(layout(&rt, 12, 8), 64) == Some(40));
     let twelve = Step::Call(Call::Allocate(12, 8), Answer::Somewhere(12));
     let steps = [
         Step::Figures([4096, 4, 64, 12, 8]),
@@ -102,9 +103,9 @@ fn pool_rounded_stride(rt: HostRuntime) {
 #[test]
 fn memory_sizes(rt: HostRuntime) {
     let wide = layout(&rt, 128, 8);
-    assert!(rt; memory_size(wide, 1024) == Some(64));
-    assert!(rt; memory_size(layout(&rt, 12, 8), 64) == Some(40));
-    assert!(rt; memory_size(wide, 100) == Some(0));
+    check(&rt, memory_size(wide, 1024) == Some(64));
+    check(&rt, memory_size(layout(&rt, 12, 8), 64) == Some(40));
+    check(&rt, memory_size(wide, 100) == Some(0));
 }
 
 #[test]

@@ -9,10 +9,11 @@ mod runs;
 mod worlds;
 
 use crate::marks::some_was_refused;
+use crate::tests::checks::check;
 use std::alloc::Global;
 use std::process::Abort;
 
 /// Ends a test that couldn't make what it needs: for that a request has to have been refused.
 fn ends_unmade(rt: &impl Abort, alloc: Global) {
-    assert!(rt; some_was_refused(alloc));
+    check(rt, some_was_refused(alloc));
 }

@@ -3,6 +3,7 @@ ghost use Rattle.bb_memory_base.specs.Chunk.{IsInside};
 ghost use Rattle.bb_memory_base.specs.HeldBytes.{held_region};
 
 use super::bumps::bump_keeps;
+use super::checks::check;
 use super::one_chunks::one_keeps;
 use super::owner::{Answer, Call, Step};
 use bb_memory::allocator::AllocationError;
@@ -15,14 +16,14 @@ use std::test::Fail;
 fn has_bytes(rt: &impl Abort, region: &Region, chunk: Chunk, bytes: &[u8], of_chunk: &[u8])
     requires { IsInside (held_region region.now) chunk }
 {
-    assert!(rt; region.bytes() == bytes);
-    assert!(rt; region.chunk(chunk) == of_chunk);
+    check(rt, region.bytes() == bytes);
+    check(rt, region.chunk(chunk) == of_chunk);
 }
 
 #[test]
 fn a_region_call_by_call(rt: HostRuntime) -> Result<(), Fail> {
     let mut region = Region::new(4096, vec![in rt.alloc(); 7; 8]?);
-    assert!(rt; (region.start_address(), region.size()) == (4096, 8));
+    check(&rt, (region.start_address(), region.size()) == (4096, 8));
     let chunk = Chunk::new(4098, 3).unwrap();
     let lent = region.chunk_mut(chunk);
     lent[0] = 1;

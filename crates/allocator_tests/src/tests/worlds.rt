@@ -1,4 +1,5 @@
 //! Worlds of more parties than a script has: the last party of each is there, and none behind it.
+use super::checks::check;
 use super::layouts::layout;
 use bb_memory::layout::Layout;
 use bb_memory::steps::{BumpOutcome, BumpStep, BumpWorld, PoolOutcome, PoolStep, PoolWorld};
@@ -59,7 +60,10 @@ fn bump_worlds_of_many_parties(rt: HostRuntime) {
     let layout = layout(&rt, 40, 1);
     for (last, parties) in [(64, 65), (99, 100), (999, 1000)] {
         let found = reads(rt.alloc(), layout, parties, (last, parties));
-        assert!(rt; found == Some((BumpOutcome::Sees(0), BumpOutcome::Passed)));
+        check(
+            &rt,
+            found == Some((BumpOutcome::Sees(0), BumpOutcome::Passed)),
+        );
     }
 }
 
@@ -77,6 +81,9 @@ fn tries(alloc: Global, parties: u32, by: (u32, u32)) -> Option<(PoolOutcome, Po
 fn pool_worlds_of_many_parties(rt: HostRuntime) {
     for (last, parties) in [(64, 65), (99, 100), (999, 1000)] {
         let found = tries(rt.alloc(), parties, (last, parties));
-        assert!(rt; found == Some((PoolOutcome::Takes(0), PoolOutcome::Passed)));
+        check(
+            &rt,
+            found == Some((PoolOutcome::Takes(0), PoolOutcome::Passed)),
+        );
     }
 }

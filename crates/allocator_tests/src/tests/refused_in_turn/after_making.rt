@@ -7,6 +7,7 @@ mod pools;
 
 use super::ends_unmade;
 use crate::marks::{none_was_asked, refuse_memory};
+use crate::tests::checks::check;
 use crate::tests::owner::{Driven, Step, keeps};
 use std::alloc::Global;
 use std::process::Abort;
@@ -26,5 +27,5 @@ fn keep_without_memory(
     }
     refuse_memory(alloc);
     keeps(rt, &mut owner, steps);
-    assert!(rt; none_was_asked(alloc));
+    check(rt, none_was_asked(alloc));
 }

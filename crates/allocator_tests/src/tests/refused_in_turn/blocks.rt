@@ -1,5 +1,6 @@
 //! A refused block isn't made, and a refused growth hands its block back as it was.
 use crate::marks::some_was_refused;
+use crate::tests::checks::check;
 use crate::tests::heap_blocks::{
     BlockAnswer, BlockCall, answered, answers, block_of, made, zeros_of,
 };
@@ -22,10 +23,10 @@ fn grown(
         return block;
     }
     let refused = BlockAnswer::GrowRefused(AllocationGrowError::OutOfMemory);
-    assert!(rt; answer == refused && some_was_refused(alloc));
-    assert!(rt; block.as_slice() == bytes);
+    check(rt, answer == refused && some_was_refused(alloc));
+    check(rt, block.as_slice() == bytes);
     let (block, answer) = answered(&heap, block, call);
-    assert!(rt; answer == BlockAnswer::Done);
+    check(rt, answer == BlockAnswer::Done);
     block
 }
 
@@ -46,7 +47,7 @@ fn heap_grow_and_shrink(rt: HostRuntime) {
     let bytes = [1, 2, 3, 4].as_slice();
     let (block, _) = answered(&heap, four_bytes(&rt, rt.alloc()), BlockCall::Count(1));
     let block = grown(&rt, rt.alloc(), block, BlockCall::Grow(6, 1), bytes);
-    assert!(rt; block.as_slice() == [1, 2, 3, 4, 0, 0].as_slice());
+    check(&rt, block.as_slice() == [1, 2, 3, 4, 0, 0].as_slice());
     let table = [(
         BlockCall::Shrink(2, 1),
         BlockAnswer::Done,
@@ -70,9 +71,9 @@ fn three_zeros(rt: &impl Abort, alloc: Global) -> HeapBlock {
 fn heap_zeroed_and_refused(rt: HostRuntime) {
     let heap = HeapAllocator::new(rt.alloc());
     let block = three_zeros(&rt, rt.alloc());
-    assert!(rt; block.as_slice() == [0, 0, 0].as_slice());
+    check(&rt, block.as_slice() == [0, 0, 0].as_slice());
     let (block, _) = answered(&heap, block, BlockCall::Count(5));
     let bytes = [5, 6, 7].as_slice();
     let block = grown(&rt, rt.alloc(), block, BlockCall::GrowZeroed(5, 1), bytes);
-    assert!(rt; block.as_slice() == [5, 6, 7, 0, 0].as_slice());
+    check(&rt, block.as_slice() == [5, 6, 7, 0, 0].as_slice());
 }

@@ -1,6 +1,7 @@
 //! A refused loan leaves the book as it was: each sample is out that was out before, and no other.
 use super::ends_unmade;
 use crate::marks::some_was_refused;
+use crate::tests::checks::check;
 use crate::tests::counted::counted_book;
 use crate::tests::loans::{Book, Told, answers, are_told, one_book, pool_book};
 use loan_book::{LoanCall, LoanError};
@@ -23,7 +24,7 @@ fn are_loaned(rt: &impl Abort, alloc: Global, made: Result<impl Book, &'static s
         return ends_unmade(rt, alloc);
     };
     for id in 0..16 {
-        assert!(rt; loaned_at_last(rt, alloc, &mut book, id) == Some(id));
+        check(rt, loaned_at_last(rt, alloc, &mut book, id) == Some(id));
     }
 }
 
@@ -34,7 +35,7 @@ fn loaned_at_last(rt: &impl Abort, alloc: Global, book: &mut impl Book, id: u64)
     if told != NO_MEMORY {
         return told.id();
     }
-    assert!(rt; some_was_refused(alloc));
+    check(rt, some_was_refused(alloc));
     for other in 0..17 {
         answers(rt, book, &[(LoanCall::IsOut(other), Told::Out(other < id))]);
     }
@@ -64,9 +65,9 @@ fn each_asks_once(rt: &impl Abort, alloc: Global, requests: &Rc<Cell<usize>>) {
 /// A loan makes no request of the allocator where it is refused for its record's memory, and else one.
 fn asks_once(rt: &impl Abort, alloc: Global, told: Told, requests: usize) {
     if told == NO_MEMORY {
-        assert!(rt; requests == 0 && some_was_refused(alloc));
+        check(rt, requests == 0 && some_was_refused(alloc));
     } else {
-        assert!(rt; requests == 1 && told.id().is_some());
+        check(rt, requests == 1 && told.id().is_some());
     }
 }
 
@@ -93,10 +94,10 @@ fn is_made(alloc: Global, book: &mut impl Book) -> Option<bool> {
 /// The list is made, where memory was refused at a second trial.
 fn is_made_at_last(rt: &impl Abort, alloc: Global, book: &mut impl Book) {
     if let Some(is_made) = is_made(alloc, book) {
-        assert!(rt; is_made);
+        check(rt, is_made);
         return;
     }
-    assert!(rt; some_was_refused(alloc));
+    check(rt, some_was_refused(alloc));
     answers(rt, book, &[(LoanCall::IsOut(0), Told::Out(false))]);
-    assert!(rt; is_made(alloc, book) == Some(true));
+    check(rt, is_made(alloc, book) == Some(true));
 }

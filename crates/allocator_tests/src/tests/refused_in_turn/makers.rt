@@ -2,6 +2,7 @@
 ghost use Rattle.std.specs.Prelude.{◌≡◌, All, IfOk};
 
 use crate::marks::some_was_refused;
+use crate::tests::checks::{self, check};
 use crate::tests::errors::has_text;
 use crate::tests::layouts::layout;
 use crate::tests::owner::kinds::Kind;
@@ -14,10 +15,8 @@ use std::process::Abort;
 
 #[test]
 fn pool_odd_start_getters(rt: HostRuntime) {
-    match initialised(&rt, rt.alloc(), layout(&rt, 128, 8)) {
-        Ok(pool) => assert!(rt; is_fresh(&pool)),
-        Err(cause) => panic!(&rt; "{cause}"),
-    }
+    let made = initialised(&rt, rt.alloc(), layout(&rt, 128, 8));
+    check(&rt, is_fresh(&checks::made(&rt, made)));
 }
 
 /// Whether the getters answer as of a fresh pool.
@@ -38,8 +37,8 @@ fn initialised(
         Ok(pool) => return Ok(pool),
         Err(refused) => refused,
     };
-    assert!(rt; error == AllocationError::OutOfMemory);
-    assert!(rt; some_was_refused(alloc));
+    check(rt, error == AllocationError::OutOfMemory);
+    check(rt, some_was_refused(alloc));
     match handed_back.init(alloc) {
         Ok(pool) => Ok(pool),
         Err(_) => Err("init was refused with memory"),
@@ -59,9 +58,9 @@ fn shared_by_two(
         Ok(shared) => return Ok(shared),
         Err(refused) => refused,
     };
-    assert!(rt; error == AllocationError::OutOfMemory);
-    assert!(rt; some_was_refused(alloc));
-    assert!(rt; handed_back.used_space() == 48);
+    check(rt, error == AllocationError::OutOfMemory);
+    check(rt, some_was_refused(alloc));
+    check(rt, handed_back.used_space() == 48);
     let text = "BumpAllocator { start: 4096, size: 1024, current_position: 48 }";
     has_text(rt, alloc, &handed_back, text);
     match handed_back.share(alloc, 2) {
@@ -81,9 +80,9 @@ fn used_by_last(shared: &SharedBumpAllocator, mut parties: Vec<BumpParty>) -> Op
 #[test]
 fn share_hands_the_bump_back(rt: HostRuntime) {
     let mut bump = BumpAllocator::new(4096, 1024);
-    assert!(rt; bump.allocate(layout(&rt, 48, 4)).is_ok());
+    check(&rt, bump.allocate(layout(&rt, 48, 4)).is_ok());
     match shared_by_two(&rt, rt.alloc(), bump) {
-        Ok((shared, parties)) => assert!(rt; used_by_last(&shared, parties) == Some((1, 48))),
+        Ok((shared, parties)) => check(&rt, used_by_last(&shared, parties) == Some((1, 48))),
         Err(cause) => panic!(&rt; "{cause}"),
     }
 }

@@ -2,6 +2,7 @@
 use super::ends_unmade;
 use crate::marks::some_was_refused;
 use crate::tests::bumps::bump_owner;
+use crate::tests::checks::check;
 use crate::tests::layouts::{chunk, layout};
 use crate::tests::one_chunks::one_owner;
 use crate::tests::owner::kinds::{Figures, Run};
@@ -33,7 +34,7 @@ fn told(
     if let Ok(told) = owner.run(run, commands) {
         return Ok(told);
     }
-    assert!(rt; some_was_refused(alloc));
+    check(rt, some_was_refused(alloc));
     keeps(rt, owner, &[Step::Figures(fresh), Step::Out(&[])]);
     owner.run(run, commands)
 }
@@ -49,7 +50,7 @@ fn is_told(
     match made {
         Ok(mut owner) => {
             let told = told(rt, alloc, &mut owner, row.run, row.commands, row.fresh);
-            assert!(rt; replies_are(told, row.replies));
+            check(rt, replies_are(told, row.replies));
             keeps(rt, &mut owner, steps);
         }
         Err(_) => ends_unmade(rt, alloc),
@@ -176,11 +177,14 @@ fn are_of_eight_buckets(rt: &impl Abort, told: &[Reply]) {
         Reply::Refused(AllocationError::OutOfMemory),
         Reply::Released,
     ];
-    assert!(rt; told.len() == 14);
-    assert!(rt; told.get(..3) == Some(refused.as_slice()));
-    assert!(rt; told.get(11..13) == Some(full.as_slice()));
-    assert!(rt; places_of(told) == [4096, 4224, 4352, 4480, 4608, 4736, 4864, 4992]);
-    assert!(rt; place_at(told, 13) == place_at(told, 3));
+    check(rt, told.len() == 14);
+    check(rt, told.get(..3) == Some(refused.as_slice()));
+    check(rt, told.get(11..13) == Some(full.as_slice()));
+    check(
+        rt,
+        places_of(told) == [4096, 4224, 4352, 4480, 4608, 4736, 4864, 4992],
+    );
+    check(rt, place_at(told, 13) == place_at(told, 3));
 }
 
 /// The places of the eight buckets, in order.

@@ -1,5 +1,6 @@
 //! A refused world isn't made, and a refused replay leaves its world as it was.
 use crate::marks::some_was_refused;
+use crate::tests::checks::check;
 use crate::tests::layouts::{chunk, layout};
 use crate::tests::worlds::{
     bump_outcome, bump_world, holders, pool_outcome, pool_world, used_space,
@@ -13,7 +14,7 @@ fn bump_at_last(rt: &impl Abort, alloc: Global) -> BumpWorld {
     if let Some(world) = bump_world(alloc, 64) {
         return world;
     }
-    assert!(rt; some_was_refused(alloc));
+    check(rt, some_was_refused(alloc));
     bump_world(alloc, 64).expect(rt, "there is memory again")
 }
 
@@ -27,9 +28,9 @@ fn replayed_by_bump(
     if let Ok(told) = world.replay(steps) {
         return told;
     }
-    assert!(rt; some_was_refused(alloc));
+    check(rt, some_was_refused(alloc));
     let load = bump_outcome(world, BumpStep::Load { party: 0 });
-    assert!(rt; load == BumpOutcome::Loaded(0));
+    check(rt, load == BumpOutcome::Loaded(0));
     world.replay(steps).expect(rt, "there is memory again")
 }
 
@@ -50,8 +51,8 @@ fn steps_bump_race(rt: HostRuntime) {
     ];
     let mut world = bump_at_last(&rt, rt.alloc());
     let told = replayed_by_bump(&rt, rt.alloc(), &mut world, &steps);
-    assert!(rt; told.as_slice() == outcomes.as_slice());
-    assert!(rt; used_space(&world) == 40);
+    check(&rt, told.as_slice() == outcomes.as_slice());
+    check(&rt, used_space(&world) == 40);
 }
 
 /// A world of a pool with 64 parties, where memory was refused at a second trial.
@@ -59,7 +60,7 @@ fn pool_at_last(rt: &impl Abort, alloc: Global) -> PoolWorld {
     if let Some(world) = pool_world(alloc, 64) {
         return world;
     }
-    assert!(rt; some_was_refused(alloc));
+    check(rt, some_was_refused(alloc));
     pool_world(alloc, 64).expect(rt, "there is memory again")
 }
 
@@ -73,7 +74,7 @@ fn replayed_by_pool(
     if let Ok(told) = world.replay(steps) {
         return told;
     }
-    assert!(rt; some_was_refused(alloc));
+    check(rt, some_was_refused(alloc));
     let untimely = pool_outcome(
         world,
         PoolStep::GiveBack {
@@ -81,7 +82,7 @@ fn replayed_by_pool(
             bucket: 0,
         },
     );
-    assert!(rt; untimely == PoolOutcome::Passed);
+    check(rt, untimely == PoolOutcome::Passed);
     world.replay(steps).expect(rt, "there is memory again")
 }
 
@@ -108,6 +109,6 @@ fn steps_pool_never_full(rt: HostRuntime) {
     ];
     let mut world = pool_at_last(&rt, rt.alloc());
     let told = replayed_by_pool(&rt, rt.alloc(), &mut world, &steps);
-    assert!(rt; told.as_slice() == outcomes.as_slice());
-    assert!(rt; holders(&world) == (None, Some(1)));
+    check(&rt, told.as_slice() == outcomes.as_slice());
+    check(&rt, holders(&world) == (None, Some(1)));
 }

@@ -1,6 +1,7 @@
 //! Loan books: `loan` alone takes memory, and it asks for its record's before it asks its allocator.
 use super::ends_unmade;
 use crate::marks::{none_was_asked, refuse_memory, some_was_refused};
+use crate::tests::checks::check;
 use crate::tests::loans::{Book, FULL, LoanRow, Told, answers, one_book, pool_book};
 use loan_book::{LoanCall, LoanError};
 use std::alloc::Global;
@@ -32,7 +33,7 @@ fn keeps_the_table(rt: &impl Abort, alloc: Global, mut book: impl Book) {
     refuse_memory(alloc);
     answers(rt, &mut book, &TABLE);
     has_none_out(rt, one_book(alloc));
-    assert!(rt; none_was_asked(alloc));
+    check(rt, none_was_asked(alloc));
 }
 
 /// A fresh book has no sample out.
@@ -64,9 +65,9 @@ fn fills(rt: &impl Abort, alloc: Global, made: Result<impl Book, &'static str>) 
 fn is_refused(rt: &impl Abort, alloc: Global, book: &mut impl Book) {
     let refused = refuse_memory(alloc);
     let told = book.told(LoanCall::Loan(64));
-    assert!(rt; none_was_asked(alloc) != refused);
-    assert!(rt; told == refusal(alloc));
-    assert!(rt; book.told(LoanCall::Loan(64)) == FULL);
+    check(rt, none_was_asked(alloc) != refused);
+    check(rt, told == refusal(alloc));
+    check(rt, book.told(LoanCall::Loan(64)) == FULL);
 }
 
 /// What a loan has to be refused with.

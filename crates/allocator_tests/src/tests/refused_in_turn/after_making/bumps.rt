@@ -2,6 +2,7 @@
 use super::keep_without_memory;
 use crate::marks::{none_was_asked, refuse_memory};
 use crate::tests::bumps::bump_owner;
+use crate::tests::checks::check;
 use crate::tests::one_chunks::one_owner;
 use crate::tests::owner::{Answer, Call, Step};
 use bb_memory::bump_allocator::BumpAllocator;
@@ -11,13 +12,16 @@ use bb_memory::one_chunk_allocator::OneChunkAllocator;
 #[test]
 fn makers(rt: HostRuntime) {
     refuse_memory(rt.alloc());
-    assert!(rt; BumpAllocator::can_make(4096, 64));
+    check(&rt, BumpAllocator::can_make(4096, 64));
     let bump = BumpAllocator::new(4096, 64);
-    assert!(rt; (bump.start_address(), bump.total_space()) == (4096, 64));
-    assert!(rt; (bump.used_space(), bump.free_space()) == (0, 64));
-    assert!(rt; OneChunkAllocator::can_make(4096, 64));
-    assert!(rt; OneChunkAllocator::new(4096, 64).has_chunk_available());
-    assert!(rt; none_was_asked(rt.alloc()));
+    check(
+        &rt,
+        (bump.start_address(), bump.total_space()) == (4096, 64),
+    );
+    check(&rt, (bump.used_space(), bump.free_space()) == (0, 64));
+    check(&rt, OneChunkAllocator::can_make(4096, 64));
+    check(&rt, OneChunkAllocator::new(4096, 64).has_chunk_available());
+    check(&rt, none_was_asked(rt.alloc()));
 }
 
 #[test]

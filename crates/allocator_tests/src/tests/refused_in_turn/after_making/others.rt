@@ -5,6 +5,7 @@ ghost use Rattle.bb_memory_base.specs.HeldBytes.{held_region};
 
 use super::ends_unmade;
 use crate::marks::{none_was_asked, refuse_memory, some_was_freed};
+use crate::tests::checks::check;
 use crate::tests::heap_blocks::{BlockAnswer, BlockCall, answered, block_of};
 use crate::tests::layouts::{chunk, layout, layout_of, numbers_of, rounded};
 use crate::tests::worlds::{
@@ -23,12 +24,12 @@ use std::process::Abort;
 fn layouts_and_chunks(rt: HostRuntime) {
     refuse_memory(rt.alloc());
     let layout = layout(&rt, 48, 8);
-    assert!(rt; layout.size() == 48 && layout.align() == 8);
-    assert!(rt; layout_of(8, 3).is_none());
-    assert!(rt; rounded(&rt, 4097, 8) == Some(4104));
-    assert!(rt; numbers_of(4096, 48) == Some((4096, 48, 4144)));
-    assert!(rt; numbers_of(0, 48).is_none());
-    assert!(rt; none_was_asked(rt.alloc()));
+    check(&rt, layout.size() == 48 && layout.align() == 8);
+    check(&rt, layout_of(8, 3).is_none());
+    check(&rt, rounded(&rt, 4097, 8) == Some(4104));
+    check(&rt, numbers_of(4096, 48) == Some((4096, 48, 4144)));
+    check(&rt, numbers_of(0, 48).is_none());
+    check(&rt, none_was_asked(rt.alloc()));
 }
 
 /// Whether a region has three bytes in a chunk of three, once they are written there.
@@ -57,8 +58,11 @@ fn writes_and_zeroes(rt: &impl Abort, bytes: Vec<u8>)
 {
     let mut region = Region::new(4096, bytes);
     let chunk = Chunk::new(4098, 3).unwrap();
-    assert!(rt; is_written(&mut region, chunk));
-    assert!(rt; is_zeroed_and_set(&mut region, chunk, &[7, 7, 0, 5, 0, 7, 7, 7]));
+    check(rt, is_written(&mut region, chunk));
+    check(
+        rt,
+        is_zeroed_and_set(&mut region, chunk, &[7, 7, 0, 5, 0, 7, 7, 7]),
+    );
 }
 
 #[test]
@@ -67,17 +71,17 @@ fn a_region(rt: HostRuntime) {
         return ends_unmade(&rt, rt.alloc());
     };
     refuse_memory(rt.alloc());
-    assert!(rt; Region::can_make(4096, 8));
+    check(&rt, Region::can_make(4096, 8));
     writes_and_zeroes(&rt, bytes);
-    assert!(rt; none_was_asked(rt.alloc()));
+    check(&rt, none_was_asked(rt.alloc()));
 }
 
 /// A block of four bytes shrinks to its first two, and goes back.
 fn shrinks(rt: &impl Abort, alloc: Global, block: HeapBlock) {
     let heap = HeapAllocator::new(alloc);
     let (block, answer) = answered(&heap, block, BlockCall::Shrink(2, 1));
-    assert!(rt; answer == BlockAnswer::Done && block.len() == 2);
-    assert!(rt; block.as_slice() == [1, 2].as_slice());
+    check(rt, answer == BlockAnswer::Done && block.len() == 2);
+    check(rt, block.as_slice() == [1, 2].as_slice());
     heap.deallocate(block, layout(rt, 2, 1));
 }
 
@@ -87,8 +91,8 @@ fn shrinks_without_memory(rt: &impl Abort, alloc: Global, block: HeapBlock) {
     let (block, _) = answered(&heap, block, BlockCall::Count(1));
     refuse_memory(alloc);
     shrinks(rt, alloc, block);
-    assert!(rt; some_was_freed(alloc));
-    assert!(rt; none_was_asked(alloc));
+    check(rt, some_was_freed(alloc));
+    check(rt, none_was_asked(alloc));
 }
 
 #[test]
@@ -102,17 +106,17 @@ fn a_heap_block(rt: HostRuntime) {
 /// A party of a bump's world takes a chunk.
 fn takes_of_bump(rt: &impl Abort, bump: &mut BumpWorld, layout: Layout) {
     let seen = bump_outcome(bump, BumpStep::Read { party: 1, layout });
-    assert!(rt; seen == BumpOutcome::Sees(0));
+    check(rt, seen == BumpOutcome::Sees(0));
     let won = bump_outcome(bump, BumpStep::Exchange { party: 1 });
-    assert!(rt; won == BumpOutcome::Wins(chunk(rt, 4096, 40)));
-    assert!(rt; used_space(bump) == 40);
+    check(rt, won == BumpOutcome::Wins(chunk(rt, 4096, 40)));
+    check(rt, used_space(bump) == 40);
 }
 
 /// A party of a pool's world takes a bucket.
 fn takes_of_pool(rt: &impl Abort, pool: &mut PoolWorld) {
     let taken = pool_outcome(pool, PoolStep::Try { party: 1 });
-    assert!(rt; taken == PoolOutcome::Takes(0));
-    assert!(rt; holders(pool) == (Some(1), None));
+    check(rt, taken == PoolOutcome::Takes(0));
+    check(rt, holders(pool) == (Some(1), None));
 }
 
 /// A party of each takes without a request for memory.
@@ -121,7 +125,7 @@ fn take(rt: &impl Abort, alloc: Global, bump: &mut BumpWorld, pool: &mut PoolWor
     takes_of_bump(rt, bump, layout(rt, 40, 1));
     takes_of_pool(rt, pool);
     theorems();
-    assert!(rt; none_was_asked(alloc));
+    check(rt, none_was_asked(alloc));
 }
 
 /// Does nothing: these calls are proofs.

@@ -1,6 +1,7 @@
 //! The pools of one owner.
 use super::keep_without_memory;
 use crate::marks::{none_was_asked, refuse_memory};
+use crate::tests::checks::check;
 use crate::tests::fixed::{fixed_over, fixed_owner};
 use crate::tests::layouts::layout;
 use crate::tests::owner::{Answer, Call, Step};
@@ -10,8 +11,8 @@ use bb_memory::pool_allocator::PoolAllocator;
 use std::alloc::Global;
 use std::process::Abort;
 
-/// The requests and resizes of a pool, by its first bucket.
-const TABLE: [Step<'_>; 7] = [
+/// The requests, resizes and releases of a pool: a bucket is given back by its place alone, and the other one as any chunk.
+const OF_A_POOL: [Step<'_>; 9] = [
     Step::Call(Call::Allocate(32, 4), Answer::Somewhere(32)),
     Step::Call(Call::Shrink(0, (32, 4), (16, 4)), Answer::InPlace(16)),
     Step::Call(Call::Grow(0, (16, 4), (32, 4)), Answer::InPlace(32)),
@@ -19,6 +20,20 @@ const TABLE: [Step<'_>; 7] = [
     Step::Call(Call::Reserved(0), Answer::Reserved(32)),
     Step::Call(Call::AllocateZeroed(32, 4), Answer::Somewhere(32)),
     Step::Holds(4096, 1),
+    Step::Call(Call::DeallocateBucket(1), Answer::Done),
+    Step::Call(Call::Deallocate(0), Answer::Done),
+];
+
+/// Those of a fixed pool, of which one bucket stays out.
+const OF_A_FIXED_POOL: [Step<'_>; 8] = [
+    Step::Call(Call::Allocate(32, 4), Answer::Somewhere(32)),
+    Step::Call(Call::Shrink(0, (32, 4), (16, 4)), Answer::InPlace(16)),
+    Step::Call(Call::Grow(0, (16, 4), (32, 4)), Answer::InPlace(32)),
+    Step::Call(Call::GrowZeroed(0, (16, 4), (32, 4)), Answer::InPlace(32)),
+    Step::Call(Call::Reserved(0), Answer::Reserved(32)),
+    Step::Call(Call::AllocateZeroed(32, 4), Answer::Somewhere(32)),
+    Step::Holds(4096, 1),
+    Step::Call(Call::Deallocate(0), Answer::Done),
 ];
 
 /// These steps of a pool of two buckets of 32 bytes are as they have to be without a request for memory.
@@ -34,10 +49,7 @@ fn fixed_keeps(rt: &impl Abort, alloc: Global, steps: &[Step<'_>]) {
 /// The requests, resizes and releases of a pool.
 #[test]
 fn calls_of_a_pool(rt: HostRuntime) {
-    let mut steps = [Step::Call(Call::Deallocate(0), Answer::Done); 9];
-    steps[..7].copy_from_slice(&TABLE);
-    steps[7] = Step::Call(Call::DeallocateBucket(1), Answer::Done);
-    pool_keeps(&rt, rt.alloc(), &steps);
+    pool_keeps(&rt, rt.alloc(), &OF_A_POOL);
 }
 
 /// The getters of a pool.
@@ -54,9 +66,7 @@ fn getters_of_a_pool(rt: HostRuntime) {
 
 #[test]
 fn fixed_calls(rt: HostRuntime) {
-    let mut steps = [Step::Call(Call::Deallocate(0), Answer::Done); 8];
-    steps[..7].copy_from_slice(&TABLE);
-    fixed_keeps(&rt, rt.alloc(), &steps);
+    fixed_keeps(&rt, rt.alloc(), &OF_A_FIXED_POOL);
 }
 
 #[test]
@@ -70,8 +80,8 @@ fn are_made(rt: &impl Abort, bucket: Layout) {
     if PoolAllocator::can_make(bucket, 4096, 64) {
         let _ = PoolAllocator::new_uninit(bucket, 4096, 64);
     }
-    assert!(rt; memory_size(bucket, 64) == Some(16));
-    assert!(rt; fixed_over::<4>(bucket, 4096, 64).is_ok());
+    check(rt, memory_size(bucket, 64) == Some(16));
+    check(rt, fixed_over::<4>(bucket, 4096, 64).is_ok());
 }
 
 /// The makers of the pools.
@@ -80,5 +90,5 @@ fn makers(rt: HostRuntime) {
     let bucket = layout(&rt, 32, 8);
     refuse_memory(rt.alloc());
     are_made(&rt, bucket);
-    assert!(rt; none_was_asked(rt.alloc()));
+    check(&rt, none_was_asked(rt.alloc()));
 }
