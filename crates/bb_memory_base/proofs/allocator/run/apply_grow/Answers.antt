@@ -1,4 +1,4 @@
-use Rattle.std.proofs.Common.{◌≡◌, ◌<◌, ℕ, Some, None, ap, subst, sym, refl, ◌∙◌, arith}
+use Rattle.std.proofs.Common.{◌≡◌, ◌<◌, Some, ap, subst, sym, refl, ◌∙◌, arith}
 use Rattle.std.specs.Prelude.{slice_get}
 use Rattle.std.proofs.lemmas.Option.{same_Some, slice_get_within}
 use Rattle.bb_memory_base.specs.Chunk.{Chunk}
@@ -26,8 +26,11 @@ returns-then-place-align-ne0 g c =
     → c.place.result ≡ chunk.place = λ chunk at.
     c.place.ensures.value ∙ ap (λ (x : Chunk). x.place) (same_Some _ _ (sym (copied ∙ c.in-Some.is) ∙ at)) in
     record {
-      step = ((λ chunk may.
-          c.if-place-align-ne0.true (rw (place chunk may.at, c.align.ensures.value) may.aligned)), refl);
+      step = (
+        (λ chunk may.
+            c.if-place-align-ne0.true (rw (place chunk may.at, c.align.ensures.value) may.aligned)),
+        refl,
+      );
       fits = λ layout chunk asked given. absurd (cc asked);
       stands = c.requires.stands;
       geometry = refl;
@@ -58,10 +61,12 @@ returns-in-Ok g c =
     ∙ c.in-Some.is in
     let place = c.place-2.ensures.value in
     record {
-      step = (c.in-Some.chunk,
-          record { at = at; aligned = rw (← c.place.ensures.value, ← c.align.ensures.value) c.if-place-align-ne0.false },
-          rw (← place) (c.in-Ok.ensures.answer _ _ _ c.requires.stands at (sym place)),
-          record { place = c.in-Ok.ensures.same_place ∙ place; leaves = refl });
+      step = (
+        c.in-Some.chunk,
+        record { at = at; aligned = rw (← c.place.ensures.value, ← c.align.ensures.value) c.if-place-align-ne0.false },
+        rw (← place) (c.in-Ok.ensures.answer _ _ _ c.requires.stands at (sym place)),
+        record { place = c.in-Ok.ensures.same_place ∙ place; leaves = refl },
+      );
       fits = λ layout chunk asked given. absurd (cc asked);
       stands = c.in-Ok.ensures.resized _ _ _ c.requires.stands at (sym place);
       geometry = ap A.geometry c.in-Ok.ensures.still;
@@ -77,9 +82,12 @@ returns-in-Err g c =
     ∙ c.in-Some.is in
     let place = c.place-2.ensures.value in
     record {
-      step = (c.in-Some.chunk,
-          record { at = at; aligned = rw (← c.place.ensures.value, ← c.align.ensures.value) c.if-place-align-ne0.false },
-          rw (← place) (c.in-Err.ensures.answer _ _ _ c.requires.stands at (sym place)), refl);
+      step = (
+        c.in-Some.chunk,
+        record { at = at; aligned = rw (← c.place.ensures.value, ← c.align.ensures.value) c.if-place-align-ne0.false },
+        rw (← place) (c.in-Err.ensures.answer _ _ _ c.requires.stands at (sym place)),
+        refl,
+      );
       fits = λ layout chunk asked given. absurd (cc asked);
       stands = subst (λ allocator. A.stands_for allocator c.args.live.now.items) (sym c.in-Err.ensures.still) c.requires.stands;
       geometry = ap A.geometry c.in-Err.ensures.still;

@@ -1,4 +1,4 @@
-use Rattle.std.proofs.Common.{◌≡◌, ◌<◌, ℕ, Some, None, ap, subst, sym, refl, ◌∙◌, arith}
+use Rattle.std.proofs.Common.{◌≡◌, ◌<◌, Some, ap, subst, sym, refl, ◌∙◌, arith}
 use Rattle.std.specs.Prelude.{slice_get}
 use Rattle.std.proofs.lemmas.Option.{same_Some, slice_get_within}
 use Rattle.bb_memory_base.specs.Chunk.{Chunk}
@@ -35,13 +35,21 @@ returns-then-place-align-ne0 g c =
     → c.place-place.result ≡ chunk.place = λ chunk at.
     c.place-place.ensures.value ∙ ap (λ (x : Chunk). x.place) (same_Some _ _ (sym (copied ∙ c.in-Some.is) ∙ at)) in
     record {
-      step = ((λ chunk may. elim c.then-place-align-ne0.branch [
-            | then-place-align-ne0-via-then-place-align-ne0 w ↦
-            w.if-place-align-ne0.true (rw (place chunk may.grown.at, c.align.ensures.value) may.grown.aligned)
-            | then-place-align-ne0-via-else-place-align-ne0+then-size-reserved w ↦
-            absurd (omega (arith, w.if-size-reserved.true, w.size.ensures, may.within,
-            rw (place chunk may.grown.at) at w.reserved.ensures))
-          ]), refl);
+      step = (
+        (λ chunk may. elim c.then-place-align-ne0.branch [
+          | then-place-align-ne0-via-then-place-align-ne0 w ↦
+              w.if-place-align-ne0.true (rw (place chunk may.grown.at, c.align.ensures.value) may.grown.aligned)
+          | then-place-align-ne0-via-else-place-align-ne0+then-size-reserved w ↦
+              absurd (omega (
+                arith,
+                w.if-size-reserved.true,
+                w.size.ensures,
+                may.within,
+                rw (place chunk may.grown.at) at w.reserved.ensures,
+              ))
+        ]),
+        refl,
+      );
       fits = λ layout chunk asked given. absurd (cc asked);
       stands = c.requires.stands;
       geometry = refl;
@@ -73,13 +81,15 @@ returns-in-Ok g c =
     ∙ c.in-Some.is in
     let place = c.place-place.ensures.value in
     record {
-      step = (c.in-Some.chunk,
-          record {
-            grown = record { at = at; aligned = rw (← place, ← c.align.ensures.value) c.if-place-align-ne0.false };
-            within = rw (← place, ← c.reserved.ensures, ← c.size.ensures) c.if-size-reserved.false;
-          },
-          rw (← place) (c.in-Ok.ensures.answer _ _ _ c.requires.stands at (sym place)),
-          record { place = c.in-Ok.ensures.same_place ∙ place; leaves = refl });
+      step = (
+        c.in-Some.chunk,
+        record {
+          grown = record { at = at; aligned = rw (← place, ← c.align.ensures.value) c.if-place-align-ne0.false };
+          within = rw (← place, ← c.reserved.ensures, ← c.size.ensures) c.if-size-reserved.false;
+        },
+        rw (← place) (c.in-Ok.ensures.answer _ _ _ c.requires.stands at (sym place)),
+        record { place = c.in-Ok.ensures.same_place ∙ place; leaves = refl },
+      );
       fits = λ layout chunk asked given. absurd (cc asked);
       stands = c.in-Ok.ensures.resized _ _ _ c.requires.stands at (sym place);
       geometry = ap A.geometry c.in-Ok.ensures.still;
@@ -95,12 +105,15 @@ returns-in-Err g c =
     ∙ c.in-Some.is in
     let place = c.place-place.ensures.value in
     record {
-      step = (c.in-Some.chunk,
-          record {
-            grown = record { at = at; aligned = rw (← place, ← c.align.ensures.value) c.if-place-align-ne0.false };
-            within = rw (← place, ← c.reserved.ensures, ← c.size.ensures) c.if-size-reserved.false;
-          },
-          rw (← place) (c.in-Err.ensures.answer _ _ _ c.requires.stands at (sym place)), refl);
+      step = (
+        c.in-Some.chunk,
+        record {
+          grown = record { at = at; aligned = rw (← place, ← c.align.ensures.value) c.if-place-align-ne0.false };
+          within = rw (← place, ← c.reserved.ensures, ← c.size.ensures) c.if-size-reserved.false;
+        },
+        rw (← place) (c.in-Err.ensures.answer _ _ _ c.requires.stands at (sym place)),
+        refl,
+      );
       fits = λ layout chunk asked given. absurd (cc asked);
       stands = subst (λ allocator. A.stands_for allocator c.args.live.now.items) (sym c.in-Err.ensures.still) c.requires.stands;
       geometry = ap A.geometry c.in-Err.ensures.still;
