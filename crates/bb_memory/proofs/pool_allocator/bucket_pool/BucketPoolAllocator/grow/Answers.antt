@@ -50,7 +50,8 @@ same_place bucket place old new (Ok grown) (longer, within, given) = ap (λ (c :
 same_place bucket place old new (Err error) may = tt
 
 pub returns-clause-same_place : goal.returns-clause-same_place
-returns-clause-same_place g c = same_place c.self.inside.buckets.geometry.bucket c.args.place c.args.old c.args.new c.grow.result c.grow.ensures
+returns-clause-same_place g c =
+    same_place c.self.inside.buckets.geometry.bucket c.args.place c.args.old c.args.new c.grow.result c.grow.ensures
 
 long_enough : (bucket : Layout) (place : ℕ) (old new : Layout) (answer : Result Chunk AllocationGrowError) →
     MayGrow bucket place old new answer → IfOk answer (λ grown. new.size ≤ grown.len)
@@ -58,7 +59,8 @@ long_enough bucket place old new (Ok grown) (longer, within, given) = omega (ari
 long_enough bucket place old new (Err error) may = tt
 
 pub returns-clause-long_enough : goal.returns-clause-long_enough
-returns-clause-long_enough g c = long_enough c.self.inside.buckets.geometry.bucket c.args.place c.args.old c.args.new c.grow.result c.grow.ensures
+returns-clause-long_enough g c =
+    long_enough c.self.inside.buckets.geometry.bucket c.args.place c.args.old c.args.new c.grow.result c.grow.ensures
 
 within_bucket : (bucket : Layout) (place : ℕ) (old new : Layout) (answer : Result Chunk AllocationGrowError) →
     MayGrow bucket place old new answer → IfOk answer (λ grown. grown.len ≤ bucket.size)

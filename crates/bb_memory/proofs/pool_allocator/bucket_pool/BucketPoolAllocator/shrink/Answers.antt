@@ -55,7 +55,8 @@ same_place bucket place old new (Ok shrunk) (shorter, aligned, given) = ap (λ (
 same_place bucket place old new (Err error) may = tt
 
 pub returns-clause-same_place : goal.returns-clause-same_place
-returns-clause-same_place g c = same_place c.self.inside.buckets.geometry.bucket c.args.place c.args.old c.args.new c.shrink.result c.shrink.ensures
+returns-clause-same_place g c =
+    same_place c.self.inside.buckets.geometry.bucket c.args.place c.args.old c.args.new c.shrink.result c.shrink.ensures
 
 long_enough : (bucket : Layout) (place : ℕ) (old new : Layout) (answer : Result Chunk AllocationShrinkError) →
     MayShrink bucket place old new answer → IfOk answer (λ shrunk. new.size ≤ shrunk.len)
@@ -63,7 +64,8 @@ long_enough bucket place old new (Ok shrunk) (shorter, aligned, given) = omega (
 long_enough bucket place old new (Err error) may = tt
 
 pub returns-clause-long_enough : goal.returns-clause-long_enough
-returns-clause-long_enough g c = long_enough c.self.inside.buckets.geometry.bucket c.args.place c.args.old c.args.new c.shrink.result c.shrink.ensures
+returns-clause-long_enough g c =
+    long_enough c.self.inside.buckets.geometry.bucket c.args.place c.args.old c.args.new c.shrink.result c.shrink.ensures
 
 within_bucket : (bucket : Layout) (place : ℕ) (old new : Layout) (answer : Result Chunk AllocationShrinkError) →
     old.size ≤ bucket.size → MayShrink bucket place old new answer → IfOk answer (λ shrunk. shrunk.len ≤ bucket.size)

@@ -2,6 +2,7 @@ use Rattle.std.proofs.Common.{◌≡◌, ℕ, ◌≤◌, Bool, true, false, List
 use Rattle.std.specs.Prelude.{IfOk, OnErr}
 use Rattle.std.proofs.lemmas.Grind.{common_steps}
 use Rattle.bb_memory_base.specs.Chunk.{Chunk}
+use Rattle.bb_memory_base.specs.PoolGeometry.{PoolGeometry}
 use Rattle.bb_memory_base.specs.declared.layout.Layout.{Layout}
 use Rattle.bb_memory_base.specs.declared.allocator.AllocationError.{AllocationError}
 use Rattle.bb_memory_base.specs.declared.allocator.AllocationError.TheVariants.{SizeIsZero, SizeTooLarge}
@@ -88,20 +89,22 @@ returns-clause-geometry g c =
     same_geometry (g.S.HeldSet.pool c.args.self.now) c.args.layout c.take-answer.result
     (g.S.HeldSet.pool (g.S.HeldSet.seen c.take-answer.new.self c.kept.result)) (returns-clause-value g c).taken
 
-few : (b : Bool) (words : ℕ) → cond b (min words 1) 0 ≤ words
-few true words = omega arith
-few false words = omega arith
+few_if : (b : Bool) (words : ℕ) → cond b (min words 1) 0 ≤ words
+few_if true words = omega arith
+few_if false words = omega arith
 
 reads_few : (bucket : Layout) (words : ℕ) (layout : Layout) → reads_of bucket words layout ≤ words
-reads_few bucket words layout = few _ words
+reads_few bucket words layout = few_if _ words
 
 pub returns-clause-note : goal.returns-clause-note
 returns-clause-note g c =
     let same = sym (g.met.S.HeldSet.pool_seen c.self.inside.buckets c.self.inside.last_search)
     ∙ ap g.S.HeldSet.pool c.self.view_is in
+    let geometry : PoolGeometry = c.self.inside.buckets.geometry in
     let read = c.take-answer.ensures.reads in
-    let words = g.S.IndexSet.words c.self.inside.buckets.geometry.buckets in
+    let words = g.S.IndexSet.words geometry.buckets in
+    let few = subst (λ n. n ≤ words) (sym read) (reads_few geometry.bucket words c.args.layout) in
     g.met.S.HeldSet.reads_seen c.take-answer.new.self c.kept.result
-    ∙ c.kept.ensures c.self.inside.buckets.geometry.buckets (subst (λ n. n ≤ words) (sym read) (reads_few c.self.inside.buckets.geometry.bucket words c.args.layout))
+    ∙ c.kept.ensures geometry.buckets few
     ∙ read
     ∙ ap (λ (p : Pool). reads_of p.geometry.bucket (g.S.IndexSet.words p.geometry.buckets) c.args.layout) same
