@@ -2,7 +2,7 @@ use Rattle.std.proofs.Common.{◌+◌, ◌<◌, ◌≤◌, Some, None, IsSome, l
 use Rattle.std.specs.Prelude.{slice_get}
 use Rattle.std.proofs.lemmas.Bool.{lt-ltb, le-ltb}
 use Rattle.std.proofs.lemmas.List.{length-set}
-use Rattle.bb_memory_base.specs.PoolMachine.{PoolMove, PoolState, try_flag, move_of, with_pass}
+use Rattle.bb_memory_base.specs.PoolMachine.{PoolState, try_flag, move_of, with_pass}
 use Rattle.bb_memory_base.specs.PoolWorld.{world_of}
 use Rattle.bb_memory_base.specs.declared.steps.pool.PoolOutcome.TheVariants.{Loses, RefusedAtLoss}
 use Rattle.bb_memory_base.proofs.steps.pool_world.PoolWorld.try_flag.Goals as goal
