@@ -237,7 +237,7 @@ Frees-room pool place new holds frees =
     let freed = bucket_held_at pool place holds in (
       freed.0,
       subst (λ (p : Pool). Lacks p.held freed.0) (sym (frees freed.0 freed.1 freed.2))
-      (slice_get-set_same pool.held freed.0 false true freed.1),
+          (slice_get-set_same pool.held freed.0 false true freed.1),
     )
 
 -- all that a release says by the value

@@ -8,9 +8,9 @@ use Rattle.bb_memory.proofs.pool_allocator.bucket_pool.BucketPool.deallocate_if_
 pub invariant_of-self : goal.invariant_of-self
 invariant_of-self g c = (
   FreesIfHeld-is_pool c.self.inside.buckets c.args.place c.free_if_held.result c.free_if_held.new.self c.self.invariant.0
-  c.free_if_held.ensures,
+      c.free_if_held.ensures,
   subst (λ (geometry : PoolGeometry). g.S.HeldSet.last_reads c.self.inside.last_search ≤ g.S.IndexSet.words geometry.buckets)
-  (sym c.free_if_held.ensures.geometry) c.self.invariant.1,
+      (sym c.free_if_held.ensures.geometry) c.self.invariant.1,
 )
 
 pub returns-clause-freed : goal.returns-clause-freed

@@ -1,6 +1,10 @@
-use Rattle.std.proofs.Common.{subst, sym, ap, ◌∙◌}
+use Rattle.std.proofs.Common.{◌≡◌, ℕ, ◌≤◌, Result, Ok, Err, refl, subst, sym, ap, ◌∙◌, arith}
+use Rattle.std.specs.Prelude.{IfOk}
+use Rattle.bb_memory_base.specs.Chunk.{Chunk}
 use Rattle.bb_memory_base.specs.PoolObject.{MayGrow}
-use Rattle.bb_memory.specs.Pool.{Pool, IsPool}
+use Rattle.bb_memory_base.specs.declared.layout.Layout.{Layout}
+use Rattle.bb_memory_base.specs.declared.allocator.AllocationGrowError.{AllocationGrowError}
+use Rattle.bb_memory.specs.Pool.{Pool, IsPool, HoldsPlace}
 use Rattle.bb_memory.proofs.PoolCalls.{MayGrow-inside, MayGrow-resized}
 use Rattle.bb_memory.proofs.pool_allocator.bucket_pool.BucketPoolAllocator.grow.Goals as goal
 
@@ -21,3 +25,50 @@ returns-clause-inside g c =
     let may = subst (λ (p : Pool). MayGrow p.geometry.bucket c.args.place c.args.old c.args.new c.grow.result) same
     c.grow.ensures in
     MayGrow-inside (g.S.HeldSet.pool c.args.self.now) c.args.place c.args.old c.args.new c.grow.result is c.requires.live may
+
+pub grow-requires : goal.grow-requires
+grow-requires g c =
+    let same = sym (g.met.S.HeldSet.pool_seen c.self.inside.buckets c.self.inside.last_search)
+    ∙ ap g.S.HeldSet.pool c.self.view_is in
+    subst (λ (p : Pool). HoldsPlace p c.args.place) (sym same) c.requires.live
+
+pub returns-clause-value : goal.returns-clause-value
+returns-clause-value g c =
+    let same = sym (g.met.S.HeldSet.pool_seen c.self.inside.buckets c.self.inside.last_search)
+    ∙ ap g.S.HeldSet.pool c.self.view_is in
+    subst (λ (p : Pool). MayGrow p.geometry.bucket c.args.place c.args.old c.args.new c.grow.result) same c.grow.ensures
+
+pub returns-clause-answer : goal.returns-clause-answer
+returns-clause-answer g c = λ live position chunk stands at there. returns-clause-value g c
+
+pub returns-clause-still : goal.returns-clause-still
+returns-clause-still g c = refl
+
+same_place : (bucket : Layout) (place : ℕ) (old new : Layout) (answer : Result Chunk AllocationGrowError) →
+    MayGrow bucket place old new answer → IfOk answer (λ grown. grown.place ≡ place)
+same_place bucket place old new (Ok grown) (longer, within, given) = ap (λ (c : Chunk). c.place) given
+same_place bucket place old new (Err error) may = tt
+
+pub returns-clause-same_place : goal.returns-clause-same_place
+returns-clause-same_place g c =
+    same_place c.self.inside.buckets.geometry.bucket c.args.place c.args.old c.args.new c.grow.result c.grow.ensures
+
+long_enough : (bucket : Layout) (place : ℕ) (old new : Layout) (answer : Result Chunk AllocationGrowError) →
+    MayGrow bucket place old new answer → IfOk answer (λ grown. new.size ≤ grown.len)
+long_enough bucket place old new (Ok grown) (longer, within, given) = omega (arith, ap (λ (c : Chunk). c.len) given)
+long_enough bucket place old new (Err error) may = tt
+
+pub returns-clause-long_enough : goal.returns-clause-long_enough
+returns-clause-long_enough g c =
+    long_enough c.self.inside.buckets.geometry.bucket c.args.place c.args.old c.args.new c.grow.result c.grow.ensures
+
+within_bucket : (bucket : Layout) (place : ℕ) (old new : Layout) (answer : Result Chunk AllocationGrowError) →
+    MayGrow bucket place old new answer → IfOk answer (λ grown. grown.len ≤ bucket.size)
+within_bucket bucket place old new (Ok grown) (longer, within, given) =
+    let small = within.size in omega (arith, ap (λ (c : Chunk). c.len) given)
+within_bucket bucket place old new (Err error) may = tt
+
+pub returns-clause-within : goal.returns-clause-within
+returns-clause-within g c =
+    within_bucket (g.S.HeldSet.pool c.args.self.now).geometry.bucket c.args.place c.args.old c.args.new c.grow.result
+    (returns-clause-value g c)

@@ -7,11 +7,11 @@ use Rattle.bb_memory.proofs.pool_allocator.bucket_pool.BucketPoolBaseAllocator.d
 pub invariant_of-self : goal.invariant_of-self
 invariant_of-self g c = (
   let same = sym (g.met.S.HeldSet.pool_seen c.self.inside.buckets c.self.inside.last_search)
-  ∙ ap g.S.HeldSet.pool c.self.view_is in
-  let holds = subst (λ (p : Pool). HoldsPlace p c.args.place) (sym same) c.requires in
-  Frees-is_pool c.self.inside.buckets c.args.place c.free.new.self c.self.invariant.0 holds c.free.ensures.freed,
+      ∙ ap g.S.HeldSet.pool c.self.view_is in
+      let holds = subst (λ (p : Pool). HoldsPlace p c.args.place) (sym same) c.requires in
+      Frees-is_pool c.self.inside.buckets c.args.place c.free.new.self c.self.invariant.0 holds c.free.ensures.freed,
   subst (λ (geometry : PoolGeometry). g.S.HeldSet.last_reads c.self.inside.last_search ≤ g.S.IndexSet.words geometry.buckets)
-  (sym c.free.ensures.geometry) c.self.invariant.1,
+      (sym c.free.ensures.geometry) c.self.invariant.1,
 )
 
 pub returns-clause-value : goal.returns-clause-value

@@ -18,13 +18,13 @@ returns-clause-serves g c =
     let size = ap (λ (l : Layout). l.size) bucket in
     let align = ap (λ (l : Layout). l.align) bucket in
     record {
-      bucket = first_of (search rules, grind (arith, common_steps));
-      number = first_of (search rules, grind (arith, common_steps));
-      is_party = first_of (search rules, grind (arith, common_steps));
-      held = first_of (search rules, grind (arith, common_steps));
-      still_held = first_of (search rules, grind (arith, common_steps));
+      bucket = c.self.view_is;
+      number = ap (λ (p : PoolParty). p.number) c.party.view_is;
+      is_party = search rules;
+      held = grind (arith, common_steps);
+      still_held = grind (arith, common_steps);
       inside = rw c.self.view_is
           (bucket-inside scene.geometry c.args.number c.size-3.result geometry (omega arith) (omega arith));
       aligned = rw c.self.view_is (bucket_place-multiple scene.geometry c.args.number c.args.layout (omega arith));
-      exact_size = first_of (search rules, grind (arith, common_steps));
+      exact_size = c.size-3.ensures;
     }
