@@ -8,4 +8,4 @@ pub mod HeldFlags
 pub mod Leaving
 pub mod Layouts
 pub mod Made
-pub mod Posts
+pub mod Makers
