@@ -3,7 +3,6 @@ use Rattle.std.proofs.Common.{◌≡◌, ◌<◌, ◌∙◌, ◌+◌, ◌∷◌,
 use Rattle.std.specs.Prelude.{All, slice_get}
 use Rattle.std.proofs.lemmas.Bool.{false≢true}
 use Rattle.std.proofs.lemmas.List.{length-append, length-replicate}
-use Rattle.std.proofs.lemmas.List.Elements.{All-push}
 use Rattle.std.proofs.lemmas.Option.{same_Some, slice_get-get_or}
 use Rattle.std.proofs.Math.ListN.{replicate}
 use Rattle.bb_memory_base.proofs.SliceGets.{slice_get-last, slice_get-replicated}
@@ -64,13 +63,3 @@ module _ (its : SharedPool) (front all : List PoolParty) (last seat : PoolParty)
   -- so there were some
   pub some-left : {X : Type 0} → length all ≡ 0 → X
   some-left none = absurd (omega (arith, none, ap length is, length-append front (last ∷ [])))
-
--- one that comes back and holds nothing is behind them
-pub came-back : (its : SharedPool) (capacity : ℕ) (front all : List PoolParty) (last : PoolParty) →
-    AreUnseated its capacity front → all ≡ front ++ last ∷ [] → length front < its.scene.parties → IsIdleAt its last →
-    AreUnseated its capacity all
-came-back its capacity front all last are is below idle = record {
-  at_most = omega (arith, below, ap length is, length-append front (last ∷ []));
-  room = are.room;
-  idle = subst (All (IsIdleAt its)) (sym is) (All-push (IsIdleAt its) front last are.idle idle);
-}
