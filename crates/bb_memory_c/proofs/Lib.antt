@@ -6,6 +6,7 @@ pub mod Owners
 pub mod Crossing
 pub mod HeldFlags
 pub mod Leaving
+pub mod Unseated
 pub mod Layouts
 pub mod Made
-pub mod Posts
+pub mod Makers

@@ -219,7 +219,6 @@ impl<A: Allocator + Drop, B: Allocator + Drop> Allocator for Segregated<A, B> {
         old: Layout,
         new: Layout,
     ) -> Result<Chunk, AllocationGrowError> {
-        side_by_side_law();
         if place < self.border {
             let grown = self.first.grow(place, old, new)?;
             resized_before_law::<A, B>(&self.first, place, grown);
@@ -236,7 +235,6 @@ impl<A: Allocator + Drop, B: Allocator + Drop> Allocator for Segregated<A, B> {
         old: Layout,
         new: Layout,
     ) -> Result<Chunk, AllocationShrinkError> {
-        side_by_side_law();
         if place < self.border {
             let shrunk = self.first.shrink(place, old, new)?;
             resized_before_law::<A, B>(&self.first, place, shrunk);

@@ -1,129 +1,46 @@
-use Rattle.std.proofs.Common.{rules, refl, ap, Err}
+use Rattle.std.proofs.Common.{◌∙◌, ℕ, refl, sym}
+use Rattle.std.proofs.lemmas.Bool.{false≢true}
 use Rattle.bb_memory_base.specs.Region.{Region, region_at}
+use Rattle.bb_memory_base.specs.declared.layout.Layout.{Layout}
 use Rattle.bb_memory.specs.SharedPoolTransit.{MayHavePost}
-use Rattle.bb_memory_c.specs.Layouts.{HasRoom}
+use Rattle.bb_memory_c.specs.Layouts.{IsCuttable}
 use Rattle.bb_memory_c.specs.Transit.{AreBesidePost}
-use Rattle.bb_memory_c.proofs.Layouts.{lacks-cut, lacks-layout, room-or-not}
-use Rattle.bb_memory_c.proofs.Posts.{cut-post, lacks-post, may-post, post-layout, post-or-not}
+use Rattle.bb_memory_c.proofs.Makers.{is_empty, not-cut, not-may, not-room, tried}
 use Rattle.bb_memory_c.proofs.transit.bb_shared_pool_make_with_post.Goals as goal
+
+-- what can be cut may have a post beside so many parties
+may-post : (size align : ℕ) (region : Region) (parties : ℕ) (bucket : Layout) → IsCuttable size align region bucket →
+    AreBesidePost parties → MayHavePost region bucket parties
+may-post size align region parties bucket is beside = record { cut = is.may; some = beside.0; one_more = beside.1 }
 
 pub returns-in-Err : goal.returns-in-Err
 returns-in-Err c =
-    let region : Region = region_at c.args.start c.args.size in record {
-      made = search rules;
-      held_one = search rules;
-      no_layout = search rules;
-      cannot = (
-        λ is. (
-          search rules,
-          cut-post c.args.bucket_size c.args.bucket_align region c.args.parties (c.in-Err.ensures.cannot_make.0 (ap Err is)),
-        ),
-        λ not. c.in-Err.ensures.others (λ is. c.in-Err.ensures.not_a_layout.0 (ap Err is)
-            (post-layout c.args.bucket_size c.args.bucket_align region c.args.parties not.1)),
-      );
-      no_room = (
-        λ wrong. search rules,
-        λ lacks. lacks-cut c.args.bucket_size c.args.bucket_align region
-            (lacks-post c.args.bucket_size c.args.bucket_align region c.args.parties lacks.1)
-            (c.in-Err.ensures.cannot_make.0 (ap Err (c.in-Err.ensures.others (λ is. c.in-Err.ensures.not_a_layout.0 (ap Err is)
-            (lacks-layout c.args.bucket_size c.args.bucket_align (λ b. MayHavePost region b c.args.parties) (HasRoom region)
-            lacks.1))))),
-      );
-      else_memory = search rules;
-      still = search rules;
-    }
+    not-cut (is_empty _ _ c.is_made.ensures.value c.if-is_made.false) (region_at c.args.start c.args.size)
+    c.cut_into.result c.in-Err.code c.is_made.ensures.still c.in-Err.is c.cut_into.ensures.not_a_layout
+    c.cut_into.ensures.cannot_make c.in-Err.ensures.others (λ _ may. may.cut)
 
 pub returns-then-not-may_have_post : goal.returns-then-not-may_have_post
 returns-then-not-may_have_post c =
-    let not : ¬ AreBesidePost c.args.parties = search rules in record {
-      made = search rules;
-      held_one = search rules;
-      no_layout = search rules;
-      cannot = (
-        λ _. (
-          search rules,
-          (c.in-Ok.bucket, c.in-Ok.ensures.cut.layout, λ may. not (may.some, may.one_more)),
-        ),
-        λ _. refl,
-      );
-      no_room = (
-        λ wrong. absurd (cc),
-        λ lacks. absurd (not (lacks.1.2.some, lacks.1.2.one_more)),
-      );
-      else_memory = search rules;
-      still = search rules;
-    }
+    not-may (is_empty _ _ c.is_made.ensures.value c.if-is_made.false) c.in-Ok.bucket c.in-Ok.ensures.cut.layout
+    c.is_made.ensures.still (λ may. false≢true (c.if-not-may_have_post.ensures.1 (may.some, may.one_more)))
 
 pub returns-then-not-has_room : goal.returns-then-not-has_room
 returns-then-not-has_room c =
-    let region : Region = region_at c.args.start c.args.size in record {
-      made = search rules;
-      held_one = search rules;
-      no_layout = search rules;
-      cannot = (
-        λ wrong. absurd (cc),
-        λ not. post-or-not c.args.bucket_size c.args.bucket_align region c.args.parties c.in-Ok.bucket c.in-Ok.ensures.cut
-            (search rules) not.1,
-      );
-      no_room = (
-        λ _. (
-          search rules,
-          (
-            c.in-Ok.bucket,
-            c.in-Ok.ensures.cut.layout,
-            may-post c.args.bucket_size c.args.bucket_align region c.args.parties
-                c.in-Ok.bucket c.in-Ok.ensures.cut (search rules),
-            search rules,
-          ),
-        ),
-        λ _. refl,
-      );
-      else_memory = search rules;
-      still = search rules;
-    }
+    not-room (is_empty _ _ c.is_made.ensures.value c.if-is_made.false) c.in-Ok.bucket c.in-Ok.ensures.cut.layout
+    (may-post _ _ _ _ _ c.in-Ok.ensures.cut (c.may_have_post.ensures.0 c.if-not-may_have_post.false)) c.is_made.ensures.still
+    (λ has. false≢true (c.if-not-has_room.ensures.1 has))
 
 pub returns-in_default : goal.returns-in_default
 returns-in_default c =
-    let region : Region = region_at c.args.start c.args.size in record {
-      made = search rules;
-      held_one = search rules;
-      no_layout = search rules;
-      cannot = (
-        λ wrong. absurd (cc),
-        λ not. post-or-not c.args.bucket_size c.args.bucket_align region c.args.parties c.in-Ok.bucket c.in-Ok.ensures.cut
-            (search rules) not.1,
-      );
-      no_room = (
-        λ wrong. absurd (cc),
-        λ lacks. room-or-not c.args.bucket_size c.args.bucket_align (λ b. MayHavePost region b c.args.parties) (HasRoom region)
-            c.in-Ok.bucket c.in-Ok.ensures.cut.layout (search rules) lacks.1,
-      );
-      else_memory = search rules;
-      still = search rules;
-    }
+    tried (is_empty _ _ c.is_made.ensures.value c.if-is_made.false) c.in-Ok.bucket c.in-Ok.ensures.cut.layout
+    (may-post _ _ _ _ _ c.in-Ok.ensures.cut (c.may_have_post.ensures.0 c.if-not-may_have_post.false)) _
+    (c.has_room.ensures.0 c.if-not-has_room.false) (λ wrong. absurd (cc)) (λ _. refl) (λ _. c.is_made.ensures.still)
 
 pub returns : goal.returns
 returns c =
-    let region : Region = region_at c.args.start c.args.size in record {
-      made = λ is. (
-        c.in-Ok.bucket,
-        c.in-Ok.ensures.cut.layout,
-        may-post c.args.bucket_size c.args.bucket_align region c.args.parties c.in-Ok.bucket c.in-Ok.ensures.cut (search rules),
-        search rules,
-        (c.in-Some.seats, c.keep.ensures.done is, c.in-Some.ensures),
-      );
-      held_one = search rules;
-      no_layout = search rules;
-      cannot = (
-        λ wrong. search rules,
-        λ not. post-or-not c.args.bucket_size c.args.bucket_align region c.args.parties c.in-Ok.bucket c.in-Ok.ensures.cut
-            (search rules) not.1,
-      );
-      no_room = (
-        λ wrong. search rules,
-        λ lacks. room-or-not c.args.bucket_size c.args.bucket_align (λ b. MayHavePost region b c.args.parties) (HasRoom region)
-            c.in-Ok.bucket c.in-Ok.ensures.cut.layout (search rules) lacks.1,
-      );
-      else_memory = search rules;
-      still = search rules;
-    }
+    let none = is_empty _ _ c.is_made.ensures.value c.if-is_made.false in
+    tried none c.in-Ok.bucket c.in-Ok.ensures.cut.layout
+    (may-post _ _ _ _ _ c.in-Ok.ensures.cut (c.may_have_post.ensures.0 c.if-not-may_have_post.false)) c.keep.result
+    (c.has_room.ensures.0 c.if-not-has_room.false)
+    (λ is. (c.in-Some.seats, c.keep.ensures.done is, c.in-Some.ensures))
+    (λ not. (c.keep.ensures.refused not).0) (λ not. (c.keep.ensures.refused not).1 ∙ sym none)
