@@ -24,18 +24,21 @@ returns-then-least-eq0 c =
 pub returns-then-not-has_room : goal.returns-then-not-has_room
 returns-then-not-has_room c =
     not-room (is_empty _ _ c.is_made.ensures.value c.if-is_made.false) c.in-Ok.bucket c.in-Ok.ensures.cut.layout
-    (some_party _ _ c.least_of-least.ensures c.if-least-eq0.false, c.in-Ok.ensures.cut.may) c.is_made.ensures.still (λ has. false≢true (c.if-not-has_room.ensures.1 has))
+    (some_party _ _ c.least_of-least.ensures c.if-least-eq0.false, c.in-Ok.ensures.cut.may) c.is_made.ensures.still
+    (λ has. false≢true (c.if-not-has_room.ensures.1 has))
 
 pub returns-in_default : goal.returns-in_default
 returns-in_default c =
     tried (is_empty _ _ c.is_made.ensures.value c.if-is_made.false) c.in-Ok.bucket c.in-Ok.ensures.cut.layout
-    (some_party _ _ c.least_of-least.ensures c.if-least-eq0.false, c.in-Ok.ensures.cut.may) _ (c.has_room.ensures.0 c.if-not-has_room.false)
+    (some_party _ _ c.least_of-least.ensures c.if-least-eq0.false, c.in-Ok.ensures.cut.may) _
+    (c.has_room.ensures.0 c.if-not-has_room.false)
     (λ wrong. absurd (cc)) (λ _. refl) (λ _. c.is_made.ensures.still)
 
 pub returns : goal.returns
 returns c =
     let none = is_empty _ _ c.is_made.ensures.value c.if-is_made.false in
-    tried none c.in-Ok.bucket c.in-Ok.ensures.cut.layout (some_party _ _ c.least_of-least.ensures c.if-least-eq0.false, c.in-Ok.ensures.cut.may) c.keep.result
+    tried none c.in-Ok.bucket c.in-Ok.ensures.cut.layout
+    (some_party _ _ c.least_of-least.ensures c.if-least-eq0.false, c.in-Ok.ensures.cut.may) c.keep.result
     (c.has_room.ensures.0 c.if-not-has_room.false)
     (λ is. (c.in-Some.seats, c.keep.ensures.done is, c.in-Some.ensures))
     (λ not. (c.keep.ensures.refused not).0) (λ not. (c.keep.ensures.refused not).1 ∙ sym none)
