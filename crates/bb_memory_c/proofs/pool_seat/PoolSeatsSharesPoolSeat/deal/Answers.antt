@@ -1,4 +1,5 @@
-use Rattle.std.proofs.Common.{◌∙◌, ap, length, sym, subst}
+use Rattle.std.proofs.Common.{◌∙◌, ap, arith, length, sym, subst}
+use Rattle.std.proofs.lemmas.Grind.{elements}
 use Rattle.std.specs.Arc.{arc_value}
 use Rattle.bb_memory.specs.SharedPool.{SharedPool}
 use Rattle.bb_memory_c.specs.SharedPools.{IsIdleAt, IsSeatAt, PoolSeats}
@@ -15,6 +16,9 @@ invariant_of-new c =
     (c.in-Ok-from_elem.ensures.items_if_clones_equal (λ _ same. same))
     (c.number_of_buckets.ensures.value
     ∙ ap (λ (p : SharedPool). p.scene.geometry.buckets) (c.deref.ensures ∙ c.in-Ok.ensures)))
+
+pub invariant_of-self-in-Ok-new : goal.invariant_of-self-in-Ok-new
+invariant_of-self-in-Ok-new c = grind (arith, elements)
 
 pub returns-in-Ok-new : goal.returns-in-Ok-new
 returns-in-Ok-new c =
