@@ -67,6 +67,11 @@ pub cleared : (words : List ℕ) (number : ℕ) → number / 64 < length words �
 cleared words number within =
     change words number _ false within (clear_bit (get_or words (number / 64) 0) (number % 64) (omega arith))
 
+-- so the word isn't full
+pub cleared_is_open : (word bit : ℕ) → bit < 64 → bit_and word (bit_not w64 (1 * 2 ^ bit % 2 ^ 64)) ≢ 2 ^ 64 - 1
+cleared_is_open word bit low full =
+    false≢true (sym (clear_bit word bit low).0 ∙ ap (λ x. eqb (bit_at x bit) 1) full ∙ eq-eqb _ 1 (bit_at_ones 64 bit low))
+
 -- What a change of one number's bit does to a set that has the number below its bound.
 module _ (bound : ℕ) (words new : List ℕ) (number : ℕ) (flag : Bool) (below : number < bound)
     (sets : SetsBit words number flag new) where

@@ -15,10 +15,11 @@ use Rattle.bb_memory_base.specs.PoolLogs.{HasLog, IsHeldAfter}
 use Rattle.bb_memory_base.specs.declared.steps.pool.PoolStep.{PoolStep}
 use Rattle.bb_memory_base.proofs.PoolLogFacts.{held_is_taken, taken_is_held_whole}
 use Rattle.bb_memory_base.proofs.PoolLogSteps.{opening_agrees}
-use Rattle.bb_memory.specs.Seats.{HaveLogs, times_in}
-use Rattle.bb_memory.specs.SharedPool.{HaveMet, IsHeldByOne, IsSharedScene, PoolParty}
+use Rattle.bb_memory.specs.Seats as seats
+use Rattle.bb_memory.specs.Seats.{HaveLogs, both_of, times_in}
+use Rattle.bb_memory.specs.SharedPool.{HaveMet, IsHeldByOne, IsSharedScene, PoolParty, SharedPool}
 use Rattle.bb_memory.specs.SharedPoolHistory.{HaveMetBy}
-use Rattle.bb_memory.specs.SharedPoolRule.{IsPartySeat, NumberedLog, SeatView, numbered_of, party_in}
+use Rattle.bb_memory.specs.SharedPoolRule.{IsPartySeat, NumberedLog, SeatView, numbered_of, party_in, scene_of, standing_for}
 use Rattle.bb_memory.specs.SharedPoolSteps.{TellsMeeting, TellsMeetingAgain}
 use Rattle.bb_memory_base.proofs.Positions.{contains-behind, contains-first}
 use Rattle.bb_memory.proofs.Seatings.{all_there, one_apart}
@@ -166,3 +167,31 @@ pub met_party : (table was : TableId) (post : Bool) (number : ℕ) (me new : Me 
     party_in was post number me.0 ≡ party → table ≡ was → new ≡ me → party_in table post number new.0 ≡ party
 met_party table was post number me new party view_is same is =
     (λ i. party_in (same i) post number (is i).0) ∙ view_is
+
+-- It is as it was where its seat stands for it alone again.
+module _ (pool : SharedPool) (table : TableId) (post : Bool) (number : ℕ) (me new : Me ℕ SeatView) (party : PoolParty)
+    (is : IsPartySeat number me) (view_is : party_in table post number me.0 ≡ party) (its : party.allocator ≡ pool)
+    (back : new ≡ (standing_for pool.scene (numbered_of party ∷ []), [])) where
+  same_seat : new ≡ me
+  same_seat =
+      let scene : scene_of me.0 ≡ pool.scene =
+      ap (λ (p : PoolParty). p.allocator.scene) view_is ∙ ap (λ (p : SharedPool). p.scene) its in
+      back ∙ (λ i. (standing_for (sym scene i) (numbered_of (sym view_is i) ∷ []), [])) ∙ sym is.seat.seat.is
+
+  pub goes_back : IsPartySeat number new
+  goes_back = subst (IsPartySeat number) (sym same_seat) is
+
+  pub as_it_was : (new_table : TableId) → new_table ≡ pool.table → party_in new_table post number new.0 ≡ party
+  as_it_was new_table same =
+      let own : table ≡ pool.table =
+      ap (λ (p : PoolParty). p.allocator.table) view_is ∙ ap (λ (p : SharedPool). p.table) its in
+      met_party new_table table post number me new party view_is (same ∙ sym own) same_seat
+
+-- the seat of parties to which one more comes
+pub comes : (scene : PoolScene) (seat guest there : Me ℕ SeatView) (table : TableId) (post : Bool) (number : ℕ)
+    (party : PoolParty) →
+    IsPartySeat number guest → party_in table post number guest.0 ≡ party → seat ≡ (standing_for scene seat.0.parties, []) →
+    there ≡ (both_of seat.0 guest.0, seat.1) → there ≡ (standing_for scene (numbered_of party ∷ seat.0.parties), [])
+comes scene seat guest there table post number party is view_is here gathered =
+    let its = parties_of table post number guest party is view_is in
+    gathered ∙ λ i. (seats.standing_for (here i).0.scene (its i ++ seat.0.parties), (here i).1)

@@ -1,5 +1,5 @@
 -- From what a pass or a return tells to what its party is then.
-use Rattle.std.proofs.Common.{◌≡◌, ℕ, ◌<◌, Bool, [], ◌++◌, refl, sym, ap, ◌∙◌, subst}
+use Rattle.std.proofs.Common.{◌≡◌, ℕ, ◌<◌, Bool, true, [], ◌++◌, refl, sym, ap, ◌∙◌, subst}
 use Rattle.std.proofs.lemmas.List.Elements.{All-nil}
 use Rattle.atomic_table.specs.Seated.{TableId}
 use Rattle.atomic_table.specs.Table.{Me}
@@ -7,8 +7,8 @@ use Rattle.bb_memory_base.specs.PoolMachine.{PoolScene}
 use Rattle.bb_memory_base.specs.PoolHistory.{PoolEntry, PoolLog}
 use Rattle.bb_memory_base.specs.PoolLogs.{IsAllowed}
 use Rattle.bb_memory.specs.Seats.{number_of, view_log}
-use Rattle.bb_memory.specs.SharedPool.{IsSharedScene, SharedPool, return_entry, with_entries}
-use Rattle.bb_memory.specs.SharedPoolRule.{IsPartySeat, IsSeatOfIdle, SeatView, alone, party_in, scene_of}
+use Rattle.bb_memory.specs.SharedPool.{IsParty, IsSharedScene, PoolParty, SharedPool, return_entry, with_entries}
+use Rattle.bb_memory.specs.SharedPoolRule.{IsInTransitAt, IsPartySeat, IsSeatOfIdle, SeatView, alone, party_in, pool_in, scene_of}
 use Rattle.bb_memory.specs.SharedPoolSteps.{HasEnded, TellsReturn}
 use Rattle.bb_memory.proofs.SharedPoolTries.{idle_after_return}
 
@@ -69,9 +69,42 @@ module _ (pool : SharedPool) (table : TableId) (post : Bool) (me : Me ℕ SeatVi
       (subst IsSharedScene own_scene is.shared)
 
   -- a return has ended with its store
-  pub returned : (bucket : ℕ) (new : Me ℕ SeatView) →
-      TellsReturn (scene_of me.0) (number_of me.0) (view_log me.0) bucket new →
+  pub returned : (bucket : ℕ) (new : Me ℕ SeatView) → TellsReturn pool.scene (number_of me.0) (view_log me.0) bucket new →
       HasEnded pool.scene (number_of me.0) (view_log me.0) (return_entry (number_of me.0) bucket) new
   returned bucket new tells =
-      subst (λ (s : PoolScene). HasEnded s (number_of me.0) (view_log me.0) (return_entry (number_of me.0) bucket) new) own_scene
       record { seat = tells; idle = idle_after_return (number_of me.0) bucket (view_log me.0) is.seat.idle }
+
+  -- its party, once a call has added entries that have its number
+  pub party_with : (entries : ℕ → PoolLog) (new_table : TableId) (new : Me ℕ SeatView) (party : PoolParty) →
+      party_in table post number me.0 ≡ party → new_table ≡ table →
+      HasEnded pool.scene (number_of me.0) (view_log me.0) (entries (number_of me.0)) new →
+      party_in new_table post number new.0 ≡ with_entries party (entries party.number)
+  party_with entries new_table new party view_is kept ended =
+      let named : number_of me.0 ≡ party.number = same_number ∙ ap (λ (p : PoolParty). p.number) view_is in
+      party_then new_table new (entries (number_of me.0)) kept ended ∙ λ i. with_entries (view_is i) (entries (named i))
+
+  pub party_returned : (bucket : ℕ) (new_table : TableId) (new : Me ℕ SeatView) (party : PoolParty) →
+      party_in table post number me.0 ≡ party → new_table ≡ table →
+      TellsReturn pool.scene (number_of me.0) (view_log me.0) bucket new →
+      party_in new_table post number new.0 ≡ with_entries party (return_entry party.number bucket)
+  party_returned bucket new_table new party view_is kept tells =
+      party_with (λ n. return_entry n bucket) new_table new party view_is kept (returned bucket new tells)
+
+-- what holds of every party
+pub is_party : (table : TableId) (post : Bool) (number : ℕ) (me : Me ℕ SeatView) → IsPartySeat number me →
+    IsParty (party_in table post number me.0)
+is_party table post number me is = record {
+  scene = is.shared;
+  number = is.below;
+  idle = is.seat.idle;
+  interleaved = is.seat.seat.interleaved;
+}
+
+-- the pool of what is in transit
+pub pool_of_transit : (pool : SharedPool) (table : TableId) (me : Me ℕ SeatView) (bucket : ℕ) →
+    IsInTransitAt pool table me bucket → pool_in table true me.0 ≡ pool
+pool_of_transit pool table me bucket is = λ i. record {
+  table = is.at.table i;
+  scene = ap (λ (m : Me ℕ SeatView). scene_of m.0) is.at.seat i;
+  has_post = sym is.post i;
+}

@@ -3,6 +3,7 @@ use Rattle.std.proofs.Common.{◌≡◌, ℕ, zero, suc, ◌+◌, ◌-◌, ◌<�
 use Rattle.std.proofs.Common.{append-nil, add-one, refl, sym, ap, ◌∙◌, subst, arith, Option, Some, None, inl, inr}
 use Rattle.std.specs.Prelude.{MatchOption, ◌==◌, if◌then◌else◌}
 use Rattle.std.proofs.lemmas.Bool.{cases_lt}
+use Rattle.std.proofs.lemmas.Bool.Decides.{nat_tests}
 use Rattle.std.proofs.Math.Nat.{add-mod_left, mod-eq_of_lt}
 use borrow.Author.Count.{below_more}
 use Rattle.atomic_table.specs.Table.{Me}
@@ -114,6 +115,18 @@ held_after_taking_at party taken bucket log held =
     ∙ ap (λ (b : Bool). if taken == bucket then true else b) held
     ∙ either_true (taken == bucket)
 
+-- the bucket, too
+pub taken_at_is_held : (party bucket : ℕ) (log : PoolLog) → IsHeldAfter (log ++ taking_at party bucket) bucket
+taken_at_is_held party bucket log =
+    let same : (bucket == bucket) ≡ true = grind (arith, nat_tests) in
+    held-taking_at party bucket bucket log
+    ∙ ap (λ (b : Bool). if b then true else held_through bucket false log) same
+
+-- a miss leaves the log holding what it held
+pub held_after_miss_at : (party missed bucket : ℕ) (log : PoolLog) → IsHeldAfter log bucket →
+    IsHeldAfter (log ++ miss_at party missed) bucket
+held_after_miss_at party missed bucket log held = held-append bucket false log (miss_at party missed) ∙ held
+
 -- so do a round's misses, and its taking
 pub held_after_misses : (buckets party first turn bucket : ℕ) (log : PoolLog) → IsHeldAfter log bucket →
     IsHeldAfter (log ++ misses buckets party first turn) bucket
@@ -130,6 +143,13 @@ held-round buckets party first turn taken bucket log there =
     ∙ held-taking_at party tried bucket (log ++ before)
     ∙ ap (λ (held : Bool). if tried == bucket then true else held) (missed_same buckets party first turn bucket log)
     ∙ ap (λ (n : ℕ). if n == bucket then true else held_through bucket false log) there
+
+pub round_is_held : (buckets party first turn taken : ℕ) (log : PoolLog) → at_turn buckets first turn ≡ taken →
+    IsHeldAfter (log ++ taking_round buckets party first turn) taken
+round_is_held buckets party first turn taken log there =
+    let same : (taken == taken) ≡ true = grind (arith, nat_tests) in
+    held-round buckets party first turn taken taken log there
+    ∙ ap (λ (b : Bool). if b then true else held_through taken false log) same
 
 pub held_after_round : (buckets party first turn bucket : ℕ) (log : PoolLog) → IsHeldAfter log bucket →
     IsHeldAfter (log ++ taking_round buckets party first turn) bucket

@@ -1,6 +1,6 @@
 -- What a pass, a step of an idle party and a return make of a log.
-use Rattle.std.proofs.Common.{◌≡◌, ℕ, zero, suc, ◌+◌, ◌<◌, ◌≤◌, Bool, true, false}
-use Rattle.std.proofs.Common.{[], ◌∷◌, ◌++◌, refl, ap, ◌∙◌, arith, Option, None}
+use Rattle.std.proofs.Common.{◌≡◌, ◌≢◌, ℕ, zero, suc, ◌+◌, ◌<◌, ◌≤◌, Bool, true, false}
+use Rattle.std.proofs.Common.{[], ◌∷◌, ◌++◌, refl, sym, ap, ◌∙◌, arith, Option, None}
 use Rattle.std.specs.Prelude.{fold, unwrap_or, nat_lt, ◌==◌, if◌then◌else◌}
 use Rattle.std.proofs.lemmas.Bool.Decides.{nat_tests}
 use Rattle.bb_memory_base.specs.PoolHistory.{PoolEntry, PoolLog, entry_of}
@@ -121,6 +121,13 @@ held_after_taking buckets party taken bucket log held =
     ∙ ap (λ (b : Bool). if taken == bucket then true else b) held
     ∙ either_true (taken == bucket)
 
+pub taken_is_held : (buckets party taken : ℕ) (log : PoolLog) →
+    IsHeldAfter (log ++ taking_pass buckets party taken) taken
+taken_is_held buckets party taken log =
+    let same : (taken == taken) ≡ true = grind (arith, nat_tests) in
+    held-taking buckets party taken taken log
+    ∙ ap (λ (b : Bool). if b then true else held_through taken false log) same
+
 -- STEPS OF AN IDLE PARTY
 
 -- such a step leaves the party idle
@@ -134,3 +141,19 @@ idle_after_one log entry idle is =
 pub idle_after_return : (party bucket : ℕ) (log : PoolLog) → pass_in log ≡ None →
     pass_in (log ++ return_entry party bucket) ≡ None
 idle_after_return party bucket log idle = pass-append None log (return_entry party bucket) ∙ idle
+
+pub not_held_after_return : (party bucket : ℕ) (log : PoolLog) → ¬ IsHeldAfter (log ++ return_entry party bucket) bucket
+not_held_after_return party bucket log held =
+    let same : (bucket == bucket) ≡ true = grind (arith, nat_tests) in
+    let gone : held_through bucket false (log ++ return_entry party bucket) ≡ false =
+    held-append bucket false log (return_entry party bucket)
+    ∙ ap (λ (b : Bool). if b then false else held_through bucket false log) same in
+    let no : false ≡ true = sym gone ∙ held in cc
+
+pub held_after_return : (party bucket other : ℕ) (log : PoolLog) → other ≢ bucket → IsHeldAfter log other →
+    IsHeldAfter (log ++ return_entry party bucket) other
+held_after_return party bucket other log apart held =
+    let differ : (bucket == other) ≡ false = grind (arith, nat_tests) in
+    held-append other false log (return_entry party bucket)
+    ∙ ap (λ (b : Bool). if b then false else held_through other false log) differ
+    ∙ held

@@ -1,9 +1,10 @@
--- Parties without a seat, which hold nothing: so one begins its seat with no flag set.
+-- Parties without a seat. A pool's hold nothing: so one begins its seat with no flag set.
 use Rattle.std.proofs.Common.{◌≡◌, ◌<◌, ◌∙◌, ◌+◌, ◌∷◌, ◌++◌, [], ℕ, Bool, true, false, List, length, Some}
 use Rattle.std.proofs.Common.{ap, arith, refl, subst, sym}
 use Rattle.std.specs.Prelude.{All, slice_get}
 use Rattle.std.proofs.lemmas.Bool.{false≢true}
 use Rattle.std.proofs.lemmas.List.{length-append, length-replicate}
+use Rattle.std.proofs.lemmas.List.Elements.{All-push, All-same}
 use Rattle.std.proofs.lemmas.Option.{same_Some, slice_get-get_or}
 use Rattle.std.proofs.Math.ListN.{replicate}
 use Rattle.bb_memory_base.proofs.SliceGets.{slice_get-last, slice_get-replicated}
@@ -46,20 +47,29 @@ pub handed-fewer : (pool : SharedPool) (count : ℕ) (parties : List PoolParty) 
     length parties + 1 ≡ pool.scene.parties
 handed-fewer pool count parties are = omega (arith, are.so_many, are.as_many)
 
-module _ (its : SharedPool) (front all : List PoolParty) (last seat : PoolParty) (is : all ≡ front ++ last ∷ [])
-    (same : seat ≡ last) where
+-- one that comes back holding nothing is one more of them
+pub one-more : (pool : SharedPool) (capacity room : ℕ) (parties all : List PoolParty) (back : PoolParty) →
+    AreUnseated pool capacity parties → length parties < pool.scene.parties → IsIdleAt pool back →
+    all ≡ parties ++ back ∷ [] → room ≡ capacity → AreUnseated pool room all
+one-more pool capacity room parties all back are out idle is same = record {
+  at_most = omega (arith, ap length is, length-append parties (back ∷ []));
+  room = omega (arith, are.room, same);
+  idle = All-same (IsIdleAt pool) all (parties ++ back ∷ []) is (All-push (IsIdleAt pool) parties back are.idle idle);
+}
+
+-- the last of those without a seat is one of the pool's when it has one
+pub last-at : (its : SharedPool) (front all : List PoolParty) (last seat : PoolParty) → all ≡ front ++ last ∷ [] →
+    seat ≡ last → (capacity : ℕ) → AreUnseated its capacity all → IsAt record { shared = its; parties = front } seat
+last-at its front all last seat is same capacity are = record {
+  theirs = ap (λ (p : PoolParty). p.allocator) same ∙ (of_last (IsIdleAt its) front all last is are.idle).theirs;
+  out = omega (arith, are.at_most, ap length is, length-append front (last ∷ []));
+}
+
+module _ {S P : Type 0} (its : S) (front all : List P) (last seat : P) (is : all ≡ front ++ last ∷ []) (same : seat ≡ last) where
   -- they are those in front of the last one, and that one
   pub joined-last : record { shared = its; parties = all } ≡ joined record { shared = its; parties = front } seat
-  joined-last = ap (λ (ps : List PoolParty). record { shared = its; parties = ps })
-      (is ∙ ap (λ (p : PoolParty). front ++ p ∷ []) (sym same))
-
-  -- the last of those without a seat is one of the pool's when it has one
-  pub last-at : (capacity : ℕ) → AreUnseated its capacity all →
-      IsAt record { shared = its; parties = front } seat
-  last-at capacity are = record {
-    theirs = ap (λ (p : PoolParty). p.allocator) same ∙ (of_last (IsIdleAt its) front all last is are.idle).theirs;
-    out = omega (arith, are.at_most, ap length is, length-append front (last ∷ []));
-  }
+  joined-last = ap (λ (ps : List P). record { shared = its; parties = ps })
+      (is ∙ ap (λ (p : P). front ++ p ∷ []) (sym same))
 
   -- so there were some
   pub some-left : {X : Type 0} → length all ≡ 0 → X

@@ -4,6 +4,7 @@ pub mod Bumps
 pub mod ByNumber
 pub mod Calls
 pub mod Codes
+pub mod Figures
 pub mod Handles
 pub mod Layouts
 pub mod Meetings

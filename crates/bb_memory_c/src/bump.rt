@@ -5,10 +5,12 @@ ghost use Rattle.bb_memory.specs.Bump.{bump_of};
 ghost use Rattle.bb_memory_c.specs.Bumps.{Allocates};
 ghost use Rattle.bb_memory_c.specs.Calls.{AnswersFree, AnswersMake, AnswersRequest, TellsFigure};
 ghost use Rattle.bb_memory_c.specs.Codes.{done, not_made};
+ghost use Rattle.bb_memory_c.specs.Figures.{bump_figure};
 
 use crate::answer::{Answer, Figure};
 use crate::call::{free, is_made, keep, request, tell};
 use crate::code;
+use crate::figures::{BumpFigure, Tells};
 use crate::handle::{BumpHandle, Handle};
 use crate::kind::Gives;
 use bb_memory::bump_allocator::{AllocationError, BaseAllocator, BumpAllocator};
@@ -90,7 +92,7 @@ pub extern "C" fn bb_bump_deallocate(_alloc: Global, handle: &mut BumpHandle) ->
 pub extern "C" fn bb_bump_used_space(alloc: Global, handle: &mut BumpHandle) -> Figure
     ensures { TellsFigure handle.old.value handle.new.value result (λ bump. bump.used) }
 {
-    tell(handle, alloc, |bump| Figure::of(bump.used_space()))
+    tell(handle, alloc, BumpFigure::UsedSpace)
 }
 
 /// How many bytes are behind the last chunk.
@@ -101,7 +103,7 @@ pub extern "C" fn bb_bump_free_space(alloc: Global, handle: &mut BumpHandle) -> 
     ensures { TellsFigure handle.old.value handle.new.value result
         (λ bump. bump.region.size - bump.used) }
 {
-    tell(handle, alloc, |bump| Figure::of(bump.free_space()))
+    tell(handle, alloc, BumpFigure::FreeSpace)
 }
 
 /// How many bytes the region has.
@@ -111,7 +113,7 @@ pub extern "C" fn bb_bump_free_space(alloc: Global, handle: &mut BumpHandle) -> 
 pub extern "C" fn bb_bump_total_space(alloc: Global, handle: &mut BumpHandle) -> Figure
     ensures { TellsFigure handle.old.value handle.new.value result (λ bump. bump.region.size) }
 {
-    tell(handle, alloc, |bump| Figure::of(bump.total_space()))
+    tell(handle, alloc, BumpFigure::TotalSpace)
 }
 
 /// Where the region starts.
@@ -121,7 +123,20 @@ pub extern "C" fn bb_bump_total_space(alloc: Global, handle: &mut BumpHandle) ->
 pub extern "C" fn bb_bump_start_address(alloc: Global, handle: &mut BumpHandle) -> Figure
     ensures { TellsFigure handle.old.value handle.new.value result (λ bump. bump.region.start) }
 {
-    tell(handle, alloc, |bump| Figure::of(bump.start_address()))
+    tell(handle, alloc, BumpFigure::StartAddress)
+}
+
+impl Tells<BumpFigure> for BumpAllocator {
+    ghost figure = { bump_figure };
+
+    fn tell(&self, name: BumpFigure) -> usize {
+        match name {
+            BumpFigure::UsedSpace => self.used_space(),
+            BumpFigure::FreeSpace => self.free_space(),
+            BumpFigure::TotalSpace => self.total_space(),
+            BumpFigure::StartAddress => self.start_address(),
+        }
+    }
 }
 
 impl Gives for BumpAllocator {

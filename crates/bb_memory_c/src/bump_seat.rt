@@ -5,8 +5,10 @@ ghost use Rattle.bb_memory.specs.SharedBump.{MayTake};
 ghost use Rattle.bb_memory_c.specs.Seats.{joined, left_at};
 ghost use Rattle.bb_memory_c.specs.SharedBumpHandles.{IsShareable};
 ghost use Rattle.bb_memory_c.specs.SharedBumps.{AreFreshOver, IsAt};
+ghost use Rattle.bb_memory_c.specs.Figures.{region_figure};
 
 use crate::code;
+use crate::figures::{RegionFigure, Tells};
 use crate::kind::{Gives, Shares};
 use bb_memory::bump_allocator::{AllocationError, BumpAllocator};
 use bb_memory::layout::{Chunk, Layout};
@@ -34,12 +36,14 @@ impl Model for BumpSeat {
     ghost invariant = { λ s. s.party.allocator ≡ arc_value s.bump };
 }
 
-impl BumpSeat {
-    /// The bump at which this seat is.
-    pub(crate) fn bump(&self) -> &SharedBumpAllocator
-        ensures { result.now ≡ self.now.allocator }
-    {
-        &self.bump
+impl Tells<RegionFigure> for BumpSeat {
+    ghost figure = { λ party. region_figure party.allocator.scene.region };
+
+    fn tell(&self, name: RegionFigure) -> usize {
+        match name {
+            RegionFigure::StartAddress => self.bump.start_address(),
+            RegionFigure::Size => self.bump.total_space(),
+        }
     }
 }
 

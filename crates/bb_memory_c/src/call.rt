@@ -1,19 +1,19 @@
 //! The calls of C, each written once over any handle.
 ghost use Rattle.std.specs.Prelude.{◌≡◌, ◌≢◌, ◌↔◌, ℕ, None, Some, Result, IfSome, IsTrue};
 ghost use Rattle.std.specs.Align.{IsLayout};
-ghost use Rattle.std.specs.Fn.{FnReturnsAt};
 ghost use Rattle.bb_memory_base.specs.Chunk.{Chunk};
 ghost use Rattle.bb_memory_base.specs.declared.layout.Layout.{Layout as Asked};
 ghost use Rattle.bb_memory_base.specs.declared.allocator.AllocationError.{AllocationError};
 ghost use Rattle.bb_memory_c.specs.Answers.{AnswersStill, TellsGrow, TellsOfLayouts, TellsShrink};
-ghost use Rattle.bb_memory_c.specs.Answers.{answer_of, figure_of, no_figure, refused};
+ghost use Rattle.bb_memory_c.specs.Answers.{answer_of, refused};
 ghost use Rattle.bb_memory_c.specs.Calls.{AnswersFree, AnswersGrow, AnswersRequest, AnswersReturn, AnswersShrink};
-ghost use Rattle.bb_memory_c.specs.Calls.{GetsSeatBack, GivesSeat, IfBoth, TellsOfHeld, TellsWhether, resize};
+ghost use Rattle.bb_memory_c.specs.Calls.{GetsSeatBack, GivesSeat, IfBoth, TellsFigure, TellsOfHeld, TellsWhether, resize};
 ghost use Rattle.bb_memory_c.specs.Codes.{done, malloc_refused, not_a_layout, not_held, not_made};
 ghost use Rattle.bb_memory_c.specs.Layouts.{IsOf};
 
 use crate::answer::{Answer, Figure};
 use crate::code;
+use crate::figures::Tells;
 use crate::handle::Handle;
 use crate::kind::{Gives, Keeps, Shares};
 use crate::layout::{layout_of, layouts_of};
@@ -58,19 +58,15 @@ pub(crate) fn free<H: Handle>(handle: &mut H, alloc: Global) -> u32
     }
 }
 
-/// What is told of what was made, which stays.
-pub(crate) fn tell<H: Handle, F: Fn(&H::Made) -> Figure>(
-    handle: &mut H,
-    _alloc: Global,
-    read: F,
-) -> Figure
-    requires { F.IsAlwaysCallable read }
-    ensures value { IfSome (H.made handle.old) (λ made. FnReturnsAt F.Fn read made result) }
-    ensures not_made { H.made handle.old ≡ None → result ≡ no_figure not_made }
-    ensures still { H.made handle.new ≡ H.made handle.old }
+/// The figure of this name of what was made, which stays.
+pub(crate) fn tell<H: Handle, N: Copy>(handle: &mut H, _alloc: Global, name: N) -> Figure
+where
+    H::Made: Tells<N>,
+    ensures { TellsFigure (H.made handle.old) (H.made handle.new) result
+        (λ made. H.Made.figure made name) }
 {
     match handle.made_mut() {
-        Some(made) => read(made),
+        Some(made) => Figure::of(made.tell(name)),
         None => Figure::refusal(code::NOT_MADE),
     }
 }

@@ -1,8 +1,10 @@
 //! Envelopes, in which buckets of a shared pool with a post go from seat to seat, and what a seat does with one.
-ghost use Rattle.std.specs.Prelude.{◌≡◌, ◌↔◌, ◌≢◌, IfSome, IsTrue, None};
+ghost use Rattle.std.specs.Prelude.{◌≡◌, ◌↔◌, ◌≢◌, IfErr, IfOk, IfSome, IsTrue, None};
 ghost use Rattle.bb_memory_base.specs.Region.{region_at};
 ghost use Rattle.bb_memory.specs.SharedPool.{chunk_of};
 ghost use Rattle.bb_memory.specs.SharedPoolTransit.{MayHavePost};
+ghost use Rattle.bb_memory_c.specs.Codes.{done};
+ghost use Rattle.bb_memory_c.specs.SharedPools.{HoldsAt};
 ghost use Rattle.bb_memory_c.specs.Transit.{AreFreshBesidePost, HasHandedOver, HasTakenOver, IsForPool, MayHandOverBucket};
 ghost use Rattle.bb_memory_c.specs.Transit.{TellsHandOver, TellsTakeOver};
 
@@ -69,24 +71,41 @@ impl PoolSeat {
         chunk
     }
 
+    /// The number of the bucket at this place, if it may go into this envelope with a chunk of `len` bytes, or the code for why
+    /// it may not.
+    fn may_hand_over(&self, place: usize, len: usize, envelope: &Envelope) -> Result<u32, u32>
+        ensures placed { IfOk result (HoldsAt self.now place) }
+        ensures may { IfOk result (λ number. MayHandOverBucket self.now number len) }
+        ensures empty { IfOk result (λ number. envelope.now ≡ None) }
+        ensures refused { IfErr result (λ code. (code ≢ done)
+            × TellsHandOver self.now envelope.now place len code self.now envelope.now) }
+    {
+        if !self.pool.has_post() {
+            return Err(code::NO_POST);
+        }
+        let Some(number) = self.held_at(place) else {
+            return Err(code::NOT_HELD);
+        };
+        if len > self.pool.bucket_size() {
+            return Err(code::SIZE_TOO_LARGE);
+        }
+        if envelope.is_full() {
+            return Err(code::ENVELOPE_FULL);
+        }
+        Ok(number)
+    }
+
     /// Puts the bucket at this place into an empty envelope, with a chunk of `len` bytes.
     pub(crate) fn hand_over(&mut self, place: usize, len: usize, envelope: &mut Envelope) -> u32
         ensures { TellsHandOver self.old envelope.old place len result self.new envelope.new }
     {
-        if !self.pool.has_post() {
-            return code::NO_POST;
+        match self.may_hand_over(place, len, envelope) {
+            Ok(number) => {
+                envelope.inside = Some(self.hand_over_bucket(number, len));
+                code::DONE
+            }
+            Err(code) => code,
         }
-        let Some(number) = self.held_at(place) else {
-            return code::NOT_HELD;
-        };
-        if len > self.pool.bucket_size() {
-            return code::SIZE_TOO_LARGE;
-        }
-        if envelope.is_full() {
-            return code::ENVELOPE_FULL;
-        }
-        envelope.inside = Some(self.hand_over_bucket(number, len));
-        code::DONE
     }
 
     /// Takes the bucket that is in the envelope.

@@ -9,11 +9,13 @@ ghost use Rattle.bb_memory_c.specs.Calls.{AnswersFree, AnswersGrow, AnswersPoolM
 ghost use Rattle.bb_memory_c.specs.Calls.{AnswersShrink, TellsFigure, TellsOfHeld, TellsWhether, resize};
 ghost use Rattle.bb_memory_c.specs.Layouts.{HasRoom};
 ghost use Rattle.bb_memory_c.specs.Pools.{MakesFlagsPool};
+ghost use Rattle.bb_memory_c.specs.Figures.{pool_figure};
 
 use crate::answer::{Answer, Figure};
 use crate::by_number::{Cut, number, place};
 use crate::call::{free, give_back, grow, holds, is_made, keep, request, reserved, shrink, tell};
 use crate::code;
+use crate::figures::{PoolFigure, Tells};
 use crate::handle::FlagsPoolHandle;
 use crate::kind::{Gives, Keeps};
 use crate::layout::{cut_into, has_room};
@@ -124,11 +126,7 @@ pub extern "C" fn bb_fixed_pool_number_of_buckets(
 ) -> Figure
     ensures { TellsFigure handle.old.value handle.new.value result (λ pool. pool.geometry.buckets) }
 {
-    tell(
-        handle,
-        alloc,
-        |pool| Figure::of(pool.number_of_buckets() as usize),
-    )
+    tell(handle, alloc, PoolFigure::NumberOfBuckets)
 }
 
 /// How many buckets are held.
@@ -138,11 +136,7 @@ pub extern "C" fn bb_fixed_pool_number_of_buckets(
 pub extern "C" fn bb_fixed_pool_held_buckets(alloc: Global, handle: &mut FlagsPoolHandle) -> Figure
     ensures { TellsFigure handle.old.value handle.new.value result held_count }
 {
-    tell(
-        handle,
-        alloc,
-        |pool| Figure::of(pool.held_buckets() as usize),
-    )
+    tell(handle, alloc, PoolFigure::HeldBuckets)
 }
 
 /// The size of a bucket in bytes, as it was asked for.
@@ -153,7 +147,7 @@ pub extern "C" fn bb_fixed_pool_bucket_size(alloc: Global, handle: &mut FlagsPoo
     ensures { TellsFigure handle.old.value handle.new.value result
         (λ pool. pool.geometry.bucket.size) }
 {
-    tell(handle, alloc, |pool| Figure::of(pool.bucket_size()))
+    tell(handle, alloc, PoolFigure::BucketSize)
 }
 
 /// The greatest alignment that a request may have.
@@ -164,7 +158,7 @@ pub extern "C" fn bb_fixed_pool_max_alignment(alloc: Global, handle: &mut FlagsP
     ensures { TellsFigure handle.old.value handle.new.value result
         (λ pool. pool.geometry.bucket.align) }
 {
-    tell(handle, alloc, |pool| Figure::of(pool.max_alignment()))
+    tell(handle, alloc, PoolFigure::MaxAlignment)
 }
 
 /// How many bytes the region has, as it was handed in.
@@ -175,7 +169,7 @@ pub extern "C" fn bb_fixed_pool_size(alloc: Global, handle: &mut FlagsPoolHandle
     ensures { TellsFigure handle.old.value handle.new.value result
         (λ pool. pool.geometry.region.size) }
 {
-    tell(handle, alloc, |pool| Figure::of(pool.size()))
+    tell(handle, alloc, PoolFigure::Size)
 }
 
 /// Gives the chunk at this place the new size, in its bucket.
@@ -260,6 +254,20 @@ pub extern "C" fn bb_fixed_pool_number_at(handle: &mut FlagsPoolHandle, place: u
         (λ pool. pool.geometry) }
 {
     number(handle, place)
+}
+
+impl Tells<PoolFigure> for FlagsPool<512> {
+    ghost figure = { λ pool. pool_figure pool.geometry (held_count pool) };
+
+    fn tell(&self, name: PoolFigure) -> usize {
+        match name {
+            PoolFigure::NumberOfBuckets => self.number_of_buckets() as usize,
+            PoolFigure::HeldBuckets => self.held_buckets() as usize,
+            PoolFigure::BucketSize => self.bucket_size(),
+            PoolFigure::MaxAlignment => self.max_alignment(),
+            PoolFigure::Size => self.size(),
+        }
+    }
 }
 
 impl Gives for FlagsPool<512> {

@@ -10,6 +10,7 @@
 //! - `loose`: a box whose pointer is in sight. `held`: what was made, or nothing.
 //! - `handle`: what the host holds, with a file for each kind: `bump`, `one_chunk`, `pool` (of both pools with one owner),
 //!   `shared_bump`, `bump_seat`, `shared_pool`, `pool_seat` and `envelope`.
+//! - `figures`: the figures of what is made, each by its name.
 //! - `kind`: what is made behind a handle has to do. `call`: each call, written once over any handle. `by_number`: the two calls
 //!   of what is cut into buckets, from a bucket's number to its place, and back.
 //! - `bump`, `one_chunk`, `pool`, `flags_pool`: the exported functions of each allocator with one owner. For C the last is the
@@ -35,6 +36,7 @@ mod by_number;
 mod call;
 mod code;
 mod envelope;
+mod figures;
 mod flags_pool;
 mod handle;
 mod held;

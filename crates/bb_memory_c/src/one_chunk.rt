@@ -6,11 +6,13 @@ ghost use Rattle.bb_memory_base.specs.OneChunkObject.{MayGrow, MayShrink, reserv
 ghost use Rattle.bb_memory_c.specs.Calls.{AnswersFree, AnswersGrow, AnswersMake, AnswersRequest, AnswersReturn, AnswersShrink};
 ghost use Rattle.bb_memory_c.specs.Calls.{TellsFigure, TellsOfHeld, TellsWhether, resize};
 ghost use Rattle.bb_memory_c.specs.OneChunks.{Allocates};
+ghost use Rattle.bb_memory_c.specs.Figures.{region_figure};
 
 use crate::answer::{Answer, Figure};
 use crate::call::{free, give_back, grow, holds, is_made, keep, request, reserved, shrink, tell};
 use crate::code;
-use crate::handle::OneChunkHandle;
+use crate::figures::{RegionFigure, Tells};
+use crate::handle::{Handle, OneChunkHandle};
 use crate::kind::{Gives, Keeps};
 use bb_memory::allocator::{AllocationGrowError, AllocationShrinkError};
 use bb_memory::layout::{Chunk, Layout};
@@ -105,16 +107,15 @@ pub extern "C" fn bb_one_chunk_holds(
 /// C guarantees of the handle what the crate's page says.
 #[unsafe(no_mangle)]
 pub extern "C" fn bb_one_chunk_has_chunk_available(
-    alloc: Global,
+    _alloc: Global,
     handle: &mut OneChunkHandle,
 ) -> Figure
     ensures { TellsWhether handle.old.value handle.new.value result (λ one. one.kept ≡ None) }
 {
-    tell(
-        handle,
-        alloc,
-        |one| Figure::whether(one.has_chunk_available()),
-    )
+    match handle.made_mut() {
+        Some(one) => Figure::whether(one.has_chunk_available()),
+        None => Figure::refusal(code::NOT_MADE),
+    }
 }
 
 /// Where the region starts.
@@ -124,7 +125,7 @@ pub extern "C" fn bb_one_chunk_has_chunk_available(
 pub extern "C" fn bb_one_chunk_start_address(alloc: Global, handle: &mut OneChunkHandle) -> Figure
     ensures { TellsFigure handle.old.value handle.new.value result (λ one. one.region.start) }
 {
-    tell(handle, alloc, |one| Figure::of(one.start_address()))
+    tell(handle, alloc, RegionFigure::StartAddress)
 }
 
 /// How many bytes the region has.
@@ -134,7 +135,7 @@ pub extern "C" fn bb_one_chunk_start_address(alloc: Global, handle: &mut OneChun
 pub extern "C" fn bb_one_chunk_size(alloc: Global, handle: &mut OneChunkHandle) -> Figure
     ensures { TellsFigure handle.old.value handle.new.value result (λ one. one.region.size) }
 {
-    tell(handle, alloc, |one| Figure::of(one.size()))
+    tell(handle, alloc, RegionFigure::Size)
 }
 
 /// Gives the chunk at this place the new size or more: all that is reserved for it.
@@ -197,6 +198,17 @@ pub extern "C" fn bb_one_chunk_reserved(
         (λ one. one.kept ≡ Some place) (λ one. reserved_at one.region place) }
 {
     reserved(handle, alloc, place)
+}
+
+impl Tells<RegionFigure> for OneChunkAllocator {
+    ghost figure = { λ one. region_figure one.region };
+
+    fn tell(&self, name: RegionFigure) -> usize {
+        match name {
+            RegionFigure::StartAddress => self.start_address(),
+            RegionFigure::Size => self.size(),
+        }
+    }
 }
 
 impl Gives for OneChunkAllocator {

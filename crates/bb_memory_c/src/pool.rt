@@ -10,11 +10,13 @@ ghost use Rattle.bb_memory_c.specs.Calls.{AnswersFree, AnswersGrow, AnswersPoolM
 ghost use Rattle.bb_memory_c.specs.Calls.{AnswersShrink, TellsFigure, TellsOfHeld, TellsWhether, resize};
 ghost use Rattle.bb_memory_c.specs.Layouts.{HasRoom};
 ghost use Rattle.bb_memory_c.specs.Pools.{MakesPool};
+ghost use Rattle.bb_memory_c.specs.Figures.{pool_figure};
 
 use crate::answer::{Answer, Figure};
 use crate::by_number::{Cut, number, place};
 use crate::call::{free, give_back, grow, holds, is_made, keep, request, reserved, shrink, tell};
 use crate::code;
+use crate::figures::{FirstPlace, PoolFigure, Tells};
 use crate::handle::PoolHandle;
 use crate::kind::{Gives, Keeps};
 use crate::layout::{cut_into, has_room};
@@ -115,11 +117,7 @@ pub extern "C" fn bb_pool_number_of_buckets(alloc: Global, handle: &mut PoolHand
     ensures { TellsFigure handle.old.value handle.new.value result
         (λ pool. pool.pool.geometry.buckets) }
 {
-    tell(
-        handle,
-        alloc,
-        |pool| Figure::of(pool.number_of_buckets() as usize),
-    )
+    tell(handle, alloc, PoolFigure::NumberOfBuckets)
 }
 
 /// How many buckets are held.
@@ -129,11 +127,7 @@ pub extern "C" fn bb_pool_number_of_buckets(alloc: Global, handle: &mut PoolHand
 pub extern "C" fn bb_pool_held_buckets(alloc: Global, handle: &mut PoolHandle) -> Figure
     ensures { TellsFigure handle.old.value handle.new.value result (λ pool. held_count pool.pool) }
 {
-    tell(
-        handle,
-        alloc,
-        |pool| Figure::of(pool.held_buckets() as usize),
-    )
+    tell(handle, alloc, PoolFigure::HeldBuckets)
 }
 
 /// The size of a bucket in bytes, as it was asked for.
@@ -144,7 +138,7 @@ pub extern "C" fn bb_pool_bucket_size(alloc: Global, handle: &mut PoolHandle) ->
     ensures { TellsFigure handle.old.value handle.new.value result
         (λ pool. pool.pool.geometry.bucket.size) }
 {
-    tell(handle, alloc, |pool| Figure::of(pool.bucket_size()))
+    tell(handle, alloc, PoolFigure::BucketSize)
 }
 
 /// The greatest alignment that a request may have.
@@ -155,7 +149,7 @@ pub extern "C" fn bb_pool_max_alignment(alloc: Global, handle: &mut PoolHandle) 
     ensures { TellsFigure handle.old.value handle.new.value result
         (λ pool. pool.pool.geometry.bucket.align) }
 {
-    tell(handle, alloc, |pool| Figure::of(pool.max_alignment()))
+    tell(handle, alloc, PoolFigure::MaxAlignment)
 }
 
 /// How many bytes the region has, as it was handed in.
@@ -166,7 +160,7 @@ pub extern "C" fn bb_pool_size(alloc: Global, handle: &mut PoolHandle) -> Figure
     ensures { TellsFigure handle.old.value handle.new.value result
         (λ pool. pool.pool.geometry.region.size) }
 {
-    tell(handle, alloc, |pool| Figure::of(pool.size()))
+    tell(handle, alloc, PoolFigure::Size)
 }
 
 /// Where the first bucket is: the region's start, rounded up to the bucket's alignment.
@@ -177,7 +171,7 @@ pub extern "C" fn bb_pool_start_address(alloc: Global, handle: &mut PoolHandle) 
     ensures { TellsFigure handle.old.value handle.new.value result
         (λ pool. first_place pool.pool.geometry.region pool.pool.geometry.bucket) }
 {
-    tell(handle, alloc, |pool| Figure::of(pool.start_address()))
+    tell(handle, alloc, FirstPlace)
 }
 
 /// Gives the chunk at this place the new size, in its bucket.
@@ -258,6 +252,28 @@ pub extern "C" fn bb_pool_number_at(handle: &mut PoolHandle, place: usize) -> Fi
         (λ pool. pool.pool.geometry) }
 {
     number(handle, place)
+}
+
+impl Tells<PoolFigure> for PoolAllocator<Global> {
+    ghost figure = { λ pool. pool_figure pool.pool.geometry (held_count pool.pool) };
+
+    fn tell(&self, name: PoolFigure) -> usize {
+        match name {
+            PoolFigure::NumberOfBuckets => self.number_of_buckets() as usize,
+            PoolFigure::HeldBuckets => self.held_buckets() as usize,
+            PoolFigure::BucketSize => self.bucket_size(),
+            PoolFigure::MaxAlignment => self.max_alignment(),
+            PoolFigure::Size => self.size(),
+        }
+    }
+}
+
+impl Tells<FirstPlace> for PoolAllocator<Global> {
+    ghost figure = { λ pool name. first_place pool.pool.geometry.region pool.pool.geometry.bucket };
+
+    fn tell(&self, _name: FirstPlace) -> usize {
+        self.start_address()
+    }
 }
 
 impl Gives for PoolAllocator<Global> {

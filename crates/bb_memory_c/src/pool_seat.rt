@@ -1,6 +1,7 @@
 //! The seats at a shared pool: a party each, and which buckets it holds.
 ghost use Rattle.std.specs.Prelude.{◌≡◌, ◌<◌, IfSome, IfNone, IfOk, count_by};
 ghost use Rattle.bb_memory_base.specs.Region.{region_at};
+ghost use Rattle.bb_memory_base.specs.FirstPlace.{first_place};
 ghost use Rattle.bb_memory_base.specs.PoolLogs.{IsHeldAfter};
 ghost use Rattle.bb_memory_base.specs.PoolObject.{MayGrow, MayShrink};
 ghost use Rattle.bb_memory.specs.SharedPool.{AreFresh, return_entry, with_entries};
@@ -8,9 +9,11 @@ ghost use Rattle.bb_memory_c.specs.Layouts.{MayBeShared};
 ghost use Rattle.bb_memory_c.specs.SharedPools.{AreFreshOver, GivesAllBack, GivesBack, GivesChunk, HoldsAt, HoldsPlace, IsAt};
 ghost use Rattle.bb_memory_c.specs.SharedPools.{IsCutInto, held_by, return_of};
 ghost use Rattle.bb_memory_c.specs.Seats.{joined, left_at};
+ghost use Rattle.bb_memory_c.specs.Figures.{pool_figure};
 
 use crate::by_number::Cut;
 use crate::code;
+use crate::figures::{FirstPlace, PoolFigure, Tells};
 use crate::kind::{Gives, Keeps, Shares};
 use bb_memory::allocator::{AllocationGrowError, AllocationShrinkError};
 use bb_memory::layout::{Chunk, Layout};
@@ -103,6 +106,28 @@ impl PoolSeat {
         ensures { result.now ≡ self.now.allocator }
     {
         &self.pool
+    }
+}
+
+impl Tells<PoolFigure> for PoolSeat {
+    ghost figure = { λ party. pool_figure party.allocator.scene.geometry (held_by party) };
+
+    fn tell(&self, name: PoolFigure) -> usize {
+        match name {
+            PoolFigure::NumberOfBuckets => self.pool.number_of_buckets() as usize,
+            PoolFigure::HeldBuckets => self.held_buckets(),
+            PoolFigure::BucketSize => self.pool.bucket_size(),
+            PoolFigure::MaxAlignment => self.pool.max_alignment(),
+            PoolFigure::Size => self.pool.size(),
+        }
+    }
+}
+
+impl Tells<FirstPlace> for PoolSeat {
+    ghost figure = { λ party name. first_place party.allocator.scene.geometry.region party.allocator.scene.geometry.bucket };
+
+    fn tell(&self, _name: FirstPlace) -> usize {
+        self.pool.start_address()
     }
 }
 

@@ -11,6 +11,7 @@ use crate::answer::{Answer, Figure};
 use crate::bump_seat::BumpSeats;
 use crate::call::{free, is_made, keep, leave, request, seat as seat_at, tell};
 use crate::code;
+use crate::figures::RegionFigure;
 use crate::handle::{BumpSeatHandle, Handle, SharedBumpHandle};
 use bb_memory::bump_allocator::BumpAllocator;
 use std::alloc::Global;
@@ -194,7 +195,7 @@ pub extern "C" fn bb_bump_seat_total_space(alloc: Global, handle: &mut BumpSeatH
     ensures { TellsFigure handle.old.value handle.new.value result
         (λ party. party.allocator.scene.region.size) }
 {
-    tell(handle, alloc, |seat| Figure::of(seat.bump().total_space()))
+    tell(handle, alloc, RegionFigure::Size)
 }
 
 /// Where the region starts.
@@ -205,9 +206,5 @@ pub extern "C" fn bb_bump_seat_start_address(alloc: Global, handle: &mut BumpSea
     ensures { TellsFigure handle.old.value handle.new.value result
         (λ party. party.allocator.scene.region.start) }
 {
-    tell(
-        handle,
-        alloc,
-        |seat| Figure::of(seat.bump().start_address()),
-    )
+    tell(handle, alloc, RegionFigure::StartAddress)
 }

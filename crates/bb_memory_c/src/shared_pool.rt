@@ -20,6 +20,7 @@ use crate::call::{
     tell,
 };
 use crate::code;
+use crate::figures::{FirstPlace, PoolFigure};
 use crate::handle::{Handle, PoolSeatHandle, SharedPoolHandle};
 use crate::layout::{cut_into, has_room};
 use crate::pool_seat::PoolSeats;
@@ -242,7 +243,7 @@ pub extern "C" fn bb_pool_seat_holds(
 pub extern "C" fn bb_pool_seat_held_buckets(alloc: Global, handle: &mut PoolSeatHandle) -> Figure
     ensures { TellsFigure handle.old.value handle.new.value result held_by }
 {
-    tell(handle, alloc, |seat| Figure::of(seat.held_buckets()))
+    tell(handle, alloc, PoolFigure::HeldBuckets)
 }
 
 /// The number of this seat's party, from 0.
@@ -272,11 +273,7 @@ pub extern "C" fn bb_pool_seat_number_of_buckets(
     ensures { TellsFigure handle.old.value handle.new.value result
         (λ party. party.allocator.scene.geometry.buckets) }
 {
-    tell(
-        handle,
-        alloc,
-        |seat| Figure::of(seat.pool().number_of_buckets() as usize),
-    )
+    tell(handle, alloc, PoolFigure::NumberOfBuckets)
 }
 
 /// The size of a bucket in bytes, as it was asked for.
@@ -287,7 +284,7 @@ pub extern "C" fn bb_pool_seat_bucket_size(alloc: Global, handle: &mut PoolSeatH
     ensures { TellsFigure handle.old.value handle.new.value result
         (λ party. party.allocator.scene.geometry.bucket.size) }
 {
-    tell(handle, alloc, |seat| Figure::of(seat.pool().bucket_size()))
+    tell(handle, alloc, PoolFigure::BucketSize)
 }
 
 /// The greatest alignment that a request may have.
@@ -298,11 +295,7 @@ pub extern "C" fn bb_pool_seat_max_alignment(alloc: Global, handle: &mut PoolSea
     ensures { TellsFigure handle.old.value handle.new.value result
         (λ party. party.allocator.scene.geometry.bucket.align) }
 {
-    tell(
-        handle,
-        alloc,
-        |seat| Figure::of(seat.pool().max_alignment()),
-    )
+    tell(handle, alloc, PoolFigure::MaxAlignment)
 }
 
 /// How many bytes the region has, as it was handed in.
@@ -313,7 +306,7 @@ pub extern "C" fn bb_pool_seat_size(alloc: Global, handle: &mut PoolSeatHandle) 
     ensures { TellsFigure handle.old.value handle.new.value result
         (λ party. party.allocator.scene.geometry.region.size) }
 {
-    tell(handle, alloc, |seat| Figure::of(seat.pool().size()))
+    tell(handle, alloc, PoolFigure::Size)
 }
 
 /// Where the first bucket is: the region's start, rounded up to the bucket's alignment.
@@ -325,11 +318,7 @@ pub extern "C" fn bb_pool_seat_start_address(alloc: Global, handle: &mut PoolSea
         (λ party. first_place party.allocator.scene.geometry.region
         party.allocator.scene.geometry.bucket) }
 {
-    tell(
-        handle,
-        alloc,
-        |seat| Figure::of(seat.pool().start_address()),
-    )
+    tell(handle, alloc, FirstPlace)
 }
 
 /// Gives the chunk at this place the new size, in its bucket, which this seat has to hold.

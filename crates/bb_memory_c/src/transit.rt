@@ -92,11 +92,14 @@ pub extern "C" fn bb_envelope_free(alloc: Global, envelope: &mut EnvelopeHandle)
 ///
 /// C guarantees of the handle what the crate's page says.
 #[unsafe(no_mangle)]
-pub extern "C" fn bb_envelope_is_full(alloc: Global, envelope: &mut EnvelopeHandle) -> Figure
+pub extern "C" fn bb_envelope_is_full(_alloc: Global, envelope: &mut EnvelopeHandle) -> Figure
     ensures { TellsWhether envelope.old.value envelope.new.value result
         (λ inside. inside ≢ None) }
 {
-    tell(envelope, alloc, |inside| Figure::whether(inside.is_full()))
+    match envelope.made_mut() {
+        Some(inside) => Figure::whether(inside.is_full()),
+        None => Figure::refusal(code::NOT_MADE),
+    }
 }
 
 /// Puts the bucket at this place, which this seat holds, into an envelope that is empty, with a chunk of `len` bytes. The seat

@@ -1,8 +1,10 @@
 //! A vector of bytes that lives at an offset of a region, and can move to another region with its bytes.
-ghost use Rattle.std.specs.Prelude.{◌≡◌, ◌+◌, ◌<◌, ◌≤◌, ◌^◌, ℕ, List, Some};
+ghost use Rattle.std.specs.Prelude.{◌≡◌, ◌+◌, ◌<◌, ◌≤◌, ◌^◌, ◌⊎◌, ℕ, List, Some};
+ghost use Rattle.std.specs.Align.{IsLayout};
 ghost use Rattle.std.specs.Prelude.{IfOk, IfErr, OnOk, OnErr, length, slice_get, slice_index};
 ghost use Rattle.bb_memory_base.specs.Chunk.{Chunk, AreApart, IsInside};
 ghost use Rattle.bb_memory_base.specs.HeldBytes.{HeldBytes, held_region, bytes_in};
+ghost use Rattle.uses.specs.Requests.{IsOfBytes};
 ghost use Rattle.uses.specs.ByteVectors.{ByteVector, IsGrown, IsPushed, IsWhyFull, LivesIn, MakesRoom, contents};
 
 use bb_memory_base::allocator::{AllocationGrowError, Allocator, BaseAllocator};
@@ -201,12 +203,21 @@ fn grow_by_one<A: Allocator>(
         → IsWhyFull (A.may_grow (A.figures allocator.old) live chunk.place) size error) }
     ensures still { allocator.new ≡ allocator.old }
 {
-    let old = Layout::from_size_align(size, 1).map_err(PushError::TooLong)?;
-    let new = Layout::from_size_align(size + 1, 1).map_err(PushError::TooLong)?;
+    let (old, new) = layouts_of(size, size + 1).map_err(PushError::TooLong)?;
     match allocator.grow(place, old, new) {
         Ok(grown) => Ok(grown.len()),
         Err(error) => Err(PushError::Full(error)),
     }
+}
+
+/// The layouts of so many bytes and of more, at any place.
+fn layouts_of(size: usize, longer: usize) -> Result<(Layout, Layout), LayoutError>
+    ensures layouts { IfOk result (λ (old, new). IsOfBytes old size × IsOfBytes new longer) }
+    ensures refused { OnErr result ((¬ IsLayout size 1) ⊎ (¬ IsLayout longer 1)) }
+{
+    let old = Layout::from_size_align(size, 1)?;
+    let new = Layout::from_size_align(longer, 1)?;
+    Ok((old, new))
 }
 
 /// Where the bytes of a region lie at another start, a vector has the same bytes there: it is addressed by its offset. It does

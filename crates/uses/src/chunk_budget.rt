@@ -1,10 +1,14 @@
 //! A budget of chunks for one tenant of an allocator.
+ghost use Rattle.std.specs.Prelude.{◌≡◌, ◌∷◌, ◌++◌, ◌+◌, ◌<◌, ◌≤◌, [], ℕ, List, Some, length, slice_get};
+ghost use Rattle.bb_memory_base.specs.Chunk.{Chunk};
+ghost use Rattle.bb_memory_base.specs.Object.{released};
+
 use crate::budget::Budget;
 use bb_memory_base::allocator::{
     AllocationError, AllocationGrowError, AllocationShrinkError, Allocator, BaseAllocator,
 };
 use bb_memory_base::layout::{Chunk, Layout};
-use bb_memory_base::lists::remove_law;
+use bb_memory_base::lists::{append_law, remove_law};
 use std::marker::Model;
 
 /// An allocator that has at most so many chunks out. It is an allocator itself, so budgets nest.
@@ -63,19 +67,15 @@ impl<A: BaseAllocator + Drop> BaseAllocator for ChunkBudget<A> {
         if self.out == self.budget {
             return Err(AllocationError::OutOfMemory);
         }
+        last_chunk_law::<A>();
         let chunk = self.inner.allocate(layout)?;
         self.out += 1;
         Ok(chunk)
     }
 
     fn deallocate(&mut self, place: usize, layout: Layout) {
-        remove_law::<Chunk>();
         self.inner.deallocate(place, layout);
-        if A::RELEASE_EMPTIES {
-            self.out = 0;
-        } else {
-            self.out -= 1;
-        }
+        self.out = left_of::<A>(self.out);
     }
 
     fn stands_for_some_list(&self) {
@@ -167,4 +167,29 @@ impl<A: BaseAllocator + Drop> Budget for ChunkBudget<A> {
     fn budget(&self) -> usize {
         self.budget
     }
+}
+
+/// How many of so many chunks are out once one of them is given back.
+fn left_of<A: BaseAllocator>(out: usize) -> usize
+    requires { 0 < out }
+    ensures within { result ≤ out }
+    ensures left { (live : List Chunk) (position : ℕ) (chunk : Chunk) → length live ≡ out
+        → slice_get live position ≡ Some chunk
+        → length (released A.RELEASE_EMPTIES live position) ≡ result }
+{
+    remove_law::<Chunk>();
+    if A::RELEASE_EMPTIES {
+        return 0;
+    }
+    out - 1
+}
+
+/// The chunk that was given last is one of those that are out. It does nothing: its contract is the law.
+fn last_chunk_law<A: BaseAllocator>()
+    ensures { (inner : A) (live : List Chunk) (last : Chunk) → A.stands_for inner (live ++ last ∷ [])
+        → (all : List Chunk) × (position : ℕ) × (chunk : Chunk)
+        × A.stands_for inner all × (length all ≡ length live + 1)
+        × (slice_get all position ≡ Some chunk) × (chunk.place ≡ last.place) }
+{
+    append_law::<Chunk>();
 }

@@ -1,6 +1,8 @@
 //! Records under keys, which are refused once their record is taken out: a layer over the slab.
-ghost use Rattle.std.specs.Prelude.{◌≡◌, ◌<◌, ◌-◌, ◌^◌, ◌∷◌, ◌++◌, ◌↔◌, [], ℕ, List, Some, None, Ok};
-ghost use Rattle.std.specs.Prelude.{IfOk, IfSome, IfNone, IsOk, IsTrue, length, slice_get, slice_set};
+ghost use Rattle.std.specs.Prelude.{◌≡◌, ◌<◌, ◌-◌, ◌^◌, ◌∷◌, ◌++◌, ◌↔◌, [], ℕ, List, Some, None, Ok, Err};
+ghost use Rattle.std.specs.Prelude.{IfErr, IfOk, IfSome, IfNone, IsOk, IsTrue, OnOk, length, slice_get, slice_set};
+ghost use Rattle.std.specs.Prelude.{vec_capacity, vec_len};
+ghost use Rattle.uses.specs.Records.{Stores};
 ghost use Rattle.uses.specs.declared.keyed_slab.Slot.{Slot};
 ghost use Rattle.uses.specs.declared.keyed_slab.Key.{Key};
 ghost use Rattle.uses.specs.Keys.{ChangesWhereHeld, IsHeld, IsSpent, PutsAgain, PutsBehind};
@@ -179,22 +181,42 @@ impl<A: Allocator + Drop> KeyedSlab<A> {
         requires { (first_free self.old.slots ≡ None) × (length bytes.now ≡ self.old.record_size) }
         ensures { PutsBehind A.geometry A.may_allocate self.old bytes.now result self.new }
     {
-        Layout::from_size_align(bytes.len(), 1).map_err(InsertError::Layout)?;
-        self.slots.reserve(1).map_err(InsertError::List)?;
-        let index = self.slots.len();
-        match self.slab.insert(bytes) {
-            Ok(()) => {
-                self.slots.push_reserved(Slot {
-                    generation: 0,
-                    taken: true,
-                });
-                Ok(Key {
-                    index,
-                    generation: 0,
-                })
-            }
-            Err(error) => Err(error),
-        }
+        reserve_slot(&mut self.slots, &self.slab, bytes)?;
+        self.slab.insert(bytes)?;
+        Ok(push_slot(&mut self.slots))
+    }
+}
+
+/// Makes room for one slot more, where a layout has as many bytes as the record.
+fn reserve_slot<A: Allocator + Drop>(
+    slots: &mut Vec<Slot>,
+    slab: &Slab<A>,
+    bytes: &[u8],
+) -> Result<(), InsertError>
+    ensures refused { IfErr result (λ error.
+        Stores {Stored = Key} A.geometry A.may_allocate slab.now bytes.now (Err error) slab.now) }
+    ensures still { slots.new.items ≡ slots.old.items }
+    ensures room { OnOk result (vec_len slots.new < vec_capacity slots.new) }
+{
+    let _ = slab;
+    Layout::from_size_align(bytes.len(), 1).map_err(InsertError::Layout)?;
+    slots.reserve(1).map_err(InsertError::List)
+}
+
+/// Takes a slot behind the others, for which there is room.
+fn push_slot(slots: &mut Vec<Slot>) -> Key
+    requires { vec_len slots.old < vec_capacity slots.old }
+    ensures key { result ≡ next_key slots.old.items (length slots.old.items) }
+    ensures slots { slots.new.items ≡ slots.old.items ++ slot_of result ∷ [] }
+{
+    let index = slots.len();
+    slots.push_reserved(Slot {
+        generation: 0,
+        taken: true,
+    });
+    Key {
+        index,
+        generation: 0,
     }
 }
 

@@ -1,6 +1,6 @@
 //! Messages for several readers, each in a sample of a loan book.
 ghost use Rattle.std.specs.Prelude.{◌≡◌, ◌∷◌, ◌++◌, ◌<◌, ◌+◌, [], Some, Ok, IfSome, IfNone, IfOk, IfErr};
-ghost use Rattle.std.specs.Prelude.{OnErr, OnOk, get_or, length, slice_get};
+ghost use Rattle.std.specs.Prelude.{OnErr, OnOk, get_or, length, slice_get, vec_capacity, vec_len};
 ghost use Rattle.bb_memory_base.specs.Chunk.{Chunk};
 ghost use Rattle.bb_memory_base.specs.LiveList.{IsSound};
 ghost use Rattle.bb_memory_base.specs.HeldBytes.{held_region};
@@ -112,8 +112,7 @@ impl<A: Allocator + Drop> MessageRing<A> {
             (self.new ≡ record self.old { allocator = self.new.allocator }) }
         ensures geometry { A.geometry self.new.allocator ≡ A.geometry self.old.allocator }
     {
-        self.ids.reserve(1).map_err(SendError::List)?;
-        self.chunks.reserve(1).map_err(SendError::List)?;
+        reserve_both(&mut self.ids, &mut self.chunks).map_err(SendError::List)?;
         let (id, chunk) = match loan_exactly(&mut self.book, bytes.len()) {
             Ok(loaned) => loaned,
             Err(error) => return Err(SendError::Refused(error)),
@@ -149,6 +148,17 @@ impl<A: Allocator + Drop> MessageRing<A> {
         let chunk = self.chunks.first()?;
         Some(self.region.chunk(*chunk))
     }
+}
+
+/// Makes room for one more in both lists.
+fn reserve_both(ids: &mut Vec<u64>, chunks: &mut Vec<Chunk>) -> Result<(), AllocError>
+    ensures ids { ids.new.items ≡ ids.old.items }
+    ensures chunks { chunks.new.items ≡ chunks.old.items }
+    ensures room { OnOk result ((vec_len ids.new < vec_capacity ids.new)
+        × (vec_len chunks.new < vec_capacity chunks.new)) }
+{
+    ids.reserve(1)?;
+    chunks.reserve(1)
 }
 
 /// Loans a sample of exactly this size.

@@ -165,7 +165,10 @@ impl<A: Allocator + Drop> Tenants<A> {
     pub fn limit(&self, tenant: usize) -> usize
         ensures { result ≡ limit_of self.now.limits tenant }
     {
-        self.limits.get(tenant).copied().unwrap_or(0)
+        match self.limits.get(tenant) {
+            Some(limit) => *limit,
+            None => 0,
+        }
     }
 
     /// How many bytes a tenant uses: those of the chunks that it holds, which are within its limit.
@@ -217,13 +220,7 @@ impl<A: Allocator + Drop> Tenants<A> {
             (self.new ≡ record self.old { allocator = self.new.allocator }) }
         ensures geometry { A.geometry self.new.allocator ≡ A.geometry self.old.allocator }
     {
-        if tenant >= self.limits.len() {
-            return Err(LeaseError::NoTenant);
-        }
-        let left = self.limit(tenant) - self.used(tenant);
-        if layout.size() > left {
-            return Err(LeaseError::OverLimit);
-        }
+        let left = self.left_for(tenant, layout)?;
         self.leases.reserve(1).map_err(LeaseError::List)?;
         let chunk = match self.allocator.allocate(layout) {
             Ok(chunk) => chunk,
@@ -237,6 +234,25 @@ impl<A: Allocator + Drop> Tenants<A> {
         leases_law();
         self.leases.push_reserved(Lease { tenant, chunk });
         Ok(chunk)
+    }
+
+    /// How many bytes are left of a tenant's limit, where these are enough for a layout.
+    fn left_for(&self, tenant: usize, layout: Layout) -> Result<usize, LeaseError>
+        ensures left { IfOk result
+            (λ left. used_by tenant self.now.leases + left ≡ limit_of self.now.limits tenant) }
+        ensures enough { OnOk result (HasLeft self.now tenant layout.size) }
+        ensures refused { IfErr result (IsWhyNotLeased
+            (A.may_allocate (A.geometry self.now.allocator) (chunks_of self.now.leases))
+            self.now tenant layout) }
+    {
+        if tenant >= self.limits.len() {
+            return Err(LeaseError::NoTenant);
+        }
+        let left = self.limit(tenant) - self.used(tenant);
+        if layout.size() > left {
+            return Err(LeaseError::OverLimit);
+        }
+        Ok(left)
     }
 
     /// Gives back the chunk at a place, which the tenant holds. Else it is refused, and changes nothing.

@@ -55,5 +55,12 @@ pub fn two_workers(
     let child = thread::spawn_with(rt, promise, move || take_two(&its_shared, there, layout))?;
     let (here, taken_here) = take_two(&**shared, here, layout);
     let (there, taken_there) = child.join(rt);
-    Ok((here, there, taken_here as u64 + taken_there as u64))
+    Ok((here, there, together(taken_here, taken_there)))
+}
+
+/// How many chunks two workers got together.
+fn together(here: u32, there: u32) -> u64
+    ensures { result ≡ here + there }
+{
+    here as u64 + there as u64
 }

@@ -1,15 +1,11 @@
 //! An allocator that counts the requests that are made of it, where a test can read it.
 ghost use Rattle.std.specs.Prelude.{[]};
-ghost use Rattle.bb_memory.specs.Pool.{StandsFor};
 
-use super::layouts::layout_of;
-use super::loans::{Book, Told};
-use super::pools::pool_over;
+use super::loans::{Told, reply_to};
 use bb_memory::allocator::{
     AllocationError, AllocationGrowError, AllocationShrinkError, Allocator, BaseAllocator,
 };
 use bb_memory::layout::{Chunk, Layout};
-use bb_memory::pool_allocator::PoolAllocator;
 use loan_book::{LoanBook, LoanCall};
 use std::alloc::Global;
 use std::cell::Cell;
@@ -23,41 +19,33 @@ pub(super) struct Counted<A: Allocator + Drop> {
     requests: Rc<Cell<usize>>,
 }
 
-/// A book over a pool that counts, by a type of its own, as `PoolBook`.
+/// A book over an allocator that counts, by a type of its own: who calls it carries no more than what its allocator is.
 #[derive(Drop)]
-pub(super) struct CountedBook {
-    book: LoanBook<Counted<PoolAllocator<Global>>>,
+pub(super) struct CountedBook<A: Allocator + Drop> {
+    book: LoanBook<Counted<A>>,
 }
 
-impl Model for CountedBook {
+impl<A: Allocator + Drop> Model for CountedBook<A> {
     // Nothing is told of it.
     ghost Value = { Unit {0} };
 
     ghost view = { λ _. tt };
 }
 
-impl CountedBook {
-    /// What is told of the reply to a call.
-    pub(super) fn told(&mut self, call: LoanCall) -> Told {
-        self.book.told(call)
+impl<A: Allocator + Drop> CountedBook<A> {
+    /// A book over this allocator, which has nothing out. The cell counts the requests that are made of it.
+    pub(super) fn new(alloc: Global, inner: A, requests: Rc<Cell<usize>>) -> CountedBook<A>
+        requires { A.stands_for inner [] }
+    {
+        CountedBook {
+            book: LoanBook::new(alloc, Counted { inner, requests }),
+        }
     }
-}
 
-/// A book over this pool, which has nothing out. The cell counts the requests that are made of the pool.
-fn book_over(alloc: Global, inner: PoolAllocator<Global>, requests: Rc<Cell<usize>>) -> CountedBook
-    requires { StandsFor inner.pool [] }
-{
-    CountedBook {
-        book: LoanBook::new(alloc, Counted { inner, requests }),
+    /// What is told of a loan of so many bytes.
+    pub(super) fn loan(&mut self, size: usize) -> Told {
+        Told::of(reply_to(&mut self.book, LoanCall::Loan(size)))
     }
-}
-
-/// A book over a pool of sixteen buckets of 64 bytes, whose requests of the pool this cell counts. None is where memory was
-/// refused.
-pub(super) fn counted_book(alloc: Global, requests: &Rc<Cell<usize>>) -> Option<CountedBook> {
-    let counter = requests.clone().ok()?;
-    let pool = pool_over(alloc, layout_of(64, 8)?, 4096, 1024).ok()?;
-    Some(book_over(alloc, pool, counter))
 }
 
 impl<A: Allocator + Drop> BaseAllocator for Counted<A> {

@@ -4,14 +4,15 @@ ghost use Rattle.std.specs.Prelude.{◌≡◌, [], IfOk};
 ghost use Rattle.bb_memory_base.specs.Region.{region_at};
 ghost use Rattle.bb_memory.specs.Pool.{StandsFor};
 
-use super::checks::check;
+use super::checks::{self, check};
 use super::layouts::{layout, layout_of};
-use super::owner::kinds::runs;
+use super::owner::kinds::{Kind, runs};
 use super::owner::{Answer, Call, Owner, Step, all_keep, keeps, sevens};
 use super::pools::{resize_and_refusal, resized_and_refused};
 use bb_memory::layout::Layout;
 use bb_memory::pool_allocator::{AllocationError, AllocationGrowError, FixedSizePoolAllocator};
 use std::alloc::Global;
+use std::fmt::Debug;
 use std::process::Abort;
 
 /// The fixed pool of these tests.
@@ -71,32 +72,40 @@ fn fixed_call_by_call(rt: HostRuntime) {
     four_keep(&rt, rt.alloc(), &steps);
 }
 
+/// A request that any bucket serves.
+const EMPTY: Step<'_> = Step::Call(Call::Allocate(0, 1), Answer::Somewhere(0));
+
+/// Four buckets are taken, and no other.
+const CONSTANT_FOUR: [Step<'_>; 7] = [
+    Step::Figures([4, 1024, 128, 8, 0]),
+    EMPTY,
+    EMPTY,
+    EMPTY,
+    EMPTY,
+    Step::Call(
+        Call::Allocate(0, 1),
+        Answer::Refused(AllocationError::OutOfMemory),
+    ),
+    Step::At(4096, 128, 4),
+];
+
 #[test]
 fn fixed_constant_four(rt: HostRuntime) {
-    let empty = Step::Call(Call::Allocate(0, 1), Answer::Somewhere(0));
-    let refused = Answer::Refused(AllocationError::OutOfMemory);
-    let steps = [
-        Step::Figures([4, 1024, 128, 8, 0]),
-        empty,
-        empty,
-        empty,
-        empty,
-        Step::Call(Call::Allocate(0, 1), refused),
-        Step::At(4096, 128, 4),
-    ];
-    four_keep(&rt, rt.alloc(), &steps);
+    four_keep(&rt, rt.alloc(), &CONSTANT_FOUR);
 }
+
+/// The calls of the documentation's example.
+const DOC_EXAMPLE: [Step<'_>; 5] = [
+    Step::Call(Call::Allocate(48, 4), Answer::Somewhere(48)),
+    Step::Call(Call::GrowZeroed(0, (48, 4), (64, 4)), Answer::InPlace(64)),
+    Step::Call(Call::Shrink(0, (64, 4), (32, 4)), Answer::InPlace(32)),
+    Step::ZerosIn(0, 48, 16),
+    Step::Call(Call::Deallocate(0), Answer::Done),
+];
 
 #[test]
 fn fixed_doc_example(rt: HostRuntime) {
-    let steps = [
-        Step::Call(Call::Allocate(48, 4), Answer::Somewhere(48)),
-        Step::Call(Call::GrowZeroed(0, (48, 4), (64, 4)), Answer::InPlace(64)),
-        Step::Call(Call::Shrink(0, (64, 4), (32, 4)), Answer::InPlace(32)),
-        Step::ZerosIn(0, 48, 16),
-        Step::Call(Call::Deallocate(0), Answer::Done),
-    ];
-    eight_keep(&rt, rt.alloc(), &steps);
+    eight_keep(&rt, rt.alloc(), &DOC_EXAMPLE);
 }
 
 #[test]
@@ -111,7 +120,7 @@ fn fixed_grow_zeroed_refused(rt: HostRuntime) {
 }
 
 /// A request that a full pool refuses leaves the text of derived Debug as it was.
-fn shows_no_refusal(rt: &impl Abort, alloc: Global, pool: &mut Owner<Fixed<4>>) {
+fn shows_no_refusal<A: Kind + Debug>(rt: &impl Abort, alloc: Global, pool: &mut Owner<A>) {
     let before = text_of(rt, alloc, pool.allocator());
     let refused = Answer::Refused(AllocationError::OutOfMemory);
     keeps(rt, pool, &[Step::Call(Call::Allocate(8, 8), refused)]);
@@ -119,21 +128,27 @@ fn shows_no_refusal(rt: &impl Abort, alloc: Global, pool: &mut Owner<Fixed<4>>) 
     check(rt, before == after);
 }
 
+/// A pool that was made gives four buckets, and shows no refusal then.
+fn shows_no_fifth<A: Kind + Debug>(
+    rt: &impl Abort,
+    alloc: Global,
+    made: Result<Owner<A>, &'static str>,
+) {
+    let mut pool = checks::made(rt, made);
+    let given = Step::Call(Call::Allocate(8, 8), Answer::Somewhere(8));
+    keeps(rt, &mut pool, &[given; 4]);
+    shows_no_refusal(rt, alloc, &mut pool);
+}
+
 #[test]
 fn a_refusal_shows_nothing(rt: HostRuntime) {
     let made = fixed_owner::<4>(rt.alloc(), (8, 8), 4096, 64);
-    let mut pool = made.expect(&rt, "a pool can be made");
-    keeps(
-        &rt,
-        &mut pool,
-        &[Step::Call(Call::Allocate(8, 8), Answer::Somewhere(8)); 4],
-    );
-    shows_no_refusal(&rt, rt.alloc(), &mut pool);
+    shows_no_fifth(&rt, rt.alloc(), made);
 }
 
-/// A pool's text.
-fn text_of(rt: &impl Abort, alloc: Global, pool: &Fixed<4>) -> String {
-    format!(in alloc; "{pool:?}").expect(rt, "there is memory for a text")
+/// The text of derived Debug.
+fn text_of(rt: &impl Abort, alloc: Global, value: &impl Debug) -> String {
+    format!(in alloc; "{value:?}").expect(rt, "there is memory for a text")
 }
 
 /// A resize is carried out by the run with resizes, and passed over by the other.

@@ -59,7 +59,7 @@ pub(super) enum Told {
 }
 
 impl Told {
-    fn of(reply: LoanReply) -> Told {
+    pub(super) fn of(reply: LoanReply) -> Told {
         match reply {
             LoanReply::Loaned(id, chunk) => Told::Loaned(id, chunk.place(), chunk.len()),
             LoanReply::Published => Told::Published,
@@ -120,7 +120,7 @@ impl Book for PoolBook {
 }
 
 /// Makes a call.
-fn reply_to<A: Allocator>(book: &mut LoanBook<A>, call: LoanCall) -> LoanReply {
+pub(super) fn reply_to<A: Allocator>(book: &mut LoanBook<A>, call: LoanCall) -> LoanReply {
     match call {
         LoanCall::Loan(size) => match book.loan(size) {
             Ok((id, chunk)) => LoanReply::Loaned(id, chunk),
@@ -151,9 +151,10 @@ pub(super) fn answers(rt: &impl Abort, book: &mut impl Book, table: &[LoanRow]) 
 
 /// Whether this is told of the replies.
 pub(super) fn are_told(replies: &[LoanReply], wanted: &[Told]) -> bool {
-    for (reply, wanted) in replies.iter().zip(wanted) {
-        if Told::of(*reply) != *wanted {
-            return false;
+    for (number, reply) in replies.iter().enumerate() {
+        match wanted.get(number) {
+            Some(wanted) if Told::of(*reply) == *wanted => {}
+            _ => return false,
         }
     }
     replies.len() == wanted.len()

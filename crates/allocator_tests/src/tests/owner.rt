@@ -174,7 +174,10 @@ impl<A: BaseAllocator + Drop> Owner<A> {
     fn is_out(&self, chunks: &[(usize, usize)]) -> bool {
         for position in 0..self.live.len() {
             let chunk = self.live[position];
-            if chunks.get(position) != Some(&(chunk.place(), chunk.len())) {
+            let Some((place, len)) = chunks.get(position) else {
+                return false;
+            };
+            if chunk.place() != *place || chunk.len() != *len {
                 return false;
             }
         }

@@ -1,9 +1,14 @@
 //! A refused loan leaves the book as it was: each sample is out that was out before, and no other.
+ghost use Rattle.std.specs.Prelude.{[]};
+
 use super::ends_unmade;
 use crate::marks::some_was_refused;
 use crate::tests::checks::check;
-use crate::tests::counted::counted_book;
+use crate::tests::counted::CountedBook;
+use crate::tests::layouts::layout;
 use crate::tests::loans::{Book, Told, answers, are_told, one_book, pool_book};
+use crate::tests::pools::pool_over;
+use bb_memory::allocator::Allocator;
 use loan_book::{LoanCall, LoanError};
 use std::alloc::Global;
 use std::cell::Cell;
@@ -46,18 +51,46 @@ fn loaned_at_last(rt: &impl Abort, alloc: Global, book: &mut impl Book, id: u64)
 #[test]
 fn a_loan_asks_for_its_record_first(rt: HostRuntime) {
     match Rc::new(rt.alloc(), Cell::new(0)) {
-        Ok(requests) => each_asks_once(&rt, rt.alloc(), &requests),
+        Ok(requests) => a_pool_is_asked_once(&rt, rt.alloc(), &requests),
         Err(_) => ends_unmade(&rt, rt.alloc()),
     }
 }
 
-/// Each of sixteen loans asks once, where the book was made.
-fn each_asks_once(rt: &impl Abort, alloc: Global, requests: &Rc<Cell<usize>>) {
-    let Some(mut book) = counted_book(alloc, requests) else {
-        return ends_unmade(rt, alloc);
-    };
+/// Each of sixteen loans asks a pool of sixteen buckets of 64 bytes once, where it was made.
+fn a_pool_is_asked_once(rt: &impl Abort, alloc: Global, requests: &Rc<Cell<usize>>) {
+    match pool_over(alloc, layout(rt, 64, 8), 4096, 1024) {
+        Ok(pool) => is_asked_once(rt, alloc, pool, requests),
+        Err(_) => ends_unmade(rt, alloc),
+    }
+}
+
+/// Each of sixteen loans asks this allocator once, which has nothing out.
+fn is_asked_once<A: Allocator + Drop>(
+    rt: &impl Abort,
+    alloc: Global,
+    allocator: A,
+    requests: &Rc<Cell<usize>>,
+)
+    requires { A.stands_for allocator [] }
+{
+    match requests.clone() {
+        Ok(counter) => {
+            let book = CountedBook::new(alloc, allocator, counter);
+            each_asks_once(rt, alloc, book, requests);
+        }
+        Err(_) => ends_unmade(rt, alloc),
+    }
+}
+
+/// Each of sixteen loans asks once.
+fn each_asks_once<A: Allocator + Drop>(
+    rt: &impl Abort,
+    alloc: Global,
+    mut book: CountedBook<A>,
+    requests: &Rc<Cell<usize>>,
+) {
     for _ in 0..16 {
-        let told = book.told(LoanCall::Loan(64));
+        let told = book.loan(64);
         asks_once(rt, alloc, told, requests.replace(0));
     }
 }

@@ -1,4 +1,4 @@
-use Rattle.std.proofs.Common.{rules, refl, ◌∙◌, sym, subst}
+use Rattle.std.proofs.Common.{rules, refl, ◌∙◌, Some, ap, sym, subst}
 use Rattle.bb_memory_c.proofs.Made.{at_made, at_lent, at_none, of_made}
 use Rattle.bb_memory_c.proofs.call.leave.Goals as goal
 
@@ -17,8 +17,15 @@ take_back-requires g c =
 
 pub returns : goal.returns
 returns g c = let is = c.in-Some.ensures.value in let seat_is = c.in-Some-take.ensures.value in
+    let back = c.take_back.ensures in
     let new = at_lent _ _ c.in-Some.is (c.made_mut.follows.holds c.take_back.new.self) in record {
-      returned = at_made _ _ _ is (at_made _ _ _ seat_is (search rules));
+      returned = at_made _ _ _ is (at_made _ _ _ seat_is (
+        back.0,
+        subst (λ party. g.H.Made.Shares.leaves party back.0) c.into_inner.ensures back.1,
+        refl,
+        new ∙ ap Some back.2,
+        c.take.ensures.empty,
+      ));
       empty = search rules;
       still = λ not. absurd (not refl);
     }

@@ -1,8 +1,11 @@
 use Rattle.std.proofs.Common.{Some, ◌∙◌, ap, sym}
 use Rattle.std.proofs.lemmas.Bool.{false≢true}
 use Rattle.bb_memory_base.specs.Region.{region_at}
-use Rattle.bb_memory_c.proofs.Makers.{is_empty, not-cut, not-room, tried}
+use Rattle.bb_memory_c.proofs.Makers.{is_empty, made-already, not-cut, not-room, tried}
 use Rattle.bb_memory_c.proofs.flags_pool.bb_fixed_pool_make.Goals as goal
+
+pub returns-then-is_made : goal.returns-then-is_made
+returns-then-is_made c = made-already (c.is_made.ensures.value.0 c.if-is_made.true) c.is_made.ensures.still
 
 pub returns-in-Err : goal.returns-in-Err
 returns-in-Err c =

@@ -1,7 +1,7 @@
 use Rattle.std.proofs.Common.{◌≡◌, ◌≢◌, ◌≤◌, ◌∙◌, ℕ, arith, refl, sym}
 use Rattle.std.proofs.lemmas.Bool.{false≢true}
 use Rattle.bb_memory_base.specs.Region.{region_at}
-use Rattle.bb_memory_c.proofs.Makers.{is_empty, not-cut, not-may, not-room, tried}
+use Rattle.bb_memory_c.proofs.Makers.{is_empty, made-already, not-cut, not-may, not-room, tried}
 use Rattle.bb_memory_c.proofs.shared_pool.make.Goals as goal
 
 some_party : (least parties : ℕ) → least ≡ parties → least ≢ 0 → 1 ≤ parties
@@ -9,6 +9,9 @@ some_party least parties is some = omega arith
 
 no_party : (least parties : ℕ) → least ≡ parties → least ≡ 0 → ¬ (1 ≤ parties)
 no_party least parties is none one = omega arith
+
+pub returns-then-is_made : goal.returns-then-is_made
+returns-then-is_made c = made-already (c.is_made.ensures.value.0 c.if-is_made.true) c.is_made.ensures.still
 
 pub returns-in-Err : goal.returns-in-Err
 returns-in-Err c =

@@ -5,13 +5,16 @@ use Rattle.bb_memory_base.specs.declared.layout.Layout.{Layout}
 use Rattle.bb_memory.specs.SharedPoolTransit.{MayHavePost}
 use Rattle.bb_memory_c.specs.Layouts.{IsCuttable}
 use Rattle.bb_memory_c.specs.Transit.{AreBesidePost}
-use Rattle.bb_memory_c.proofs.Makers.{is_empty, not-cut, not-may, not-room, tried}
+use Rattle.bb_memory_c.proofs.Makers.{is_empty, made-already, not-cut, not-may, not-room, tried}
 use Rattle.bb_memory_c.proofs.transit.bb_shared_pool_make_with_post.Goals as goal
 
 -- what can be cut may have a post beside so many parties
 may-post : (size align : ℕ) (region : Region) (parties : ℕ) (bucket : Layout) → IsCuttable size align region bucket →
     AreBesidePost parties → MayHavePost region bucket parties
 may-post size align region parties bucket is beside = record { cut = is.may; some = beside.0; one_more = beside.1 }
+
+pub returns-then-is_made : goal.returns-then-is_made
+returns-then-is_made c = made-already (c.is_made.ensures.value.0 c.if-is_made.true) c.is_made.ensures.still
 
 pub returns-in-Err : goal.returns-in-Err
 returns-in-Err c =

@@ -16,3 +16,9 @@ returns-clause-each c front back clear e =
     let parts : text ≡ take index text ++ c.args.byte ∷ take (length text - (index + 1)) (drop (index + 1) text) =
     grind (arith, common_steps) in
     cut_same c.args.byte _ _ _ _ first clear (sym parts ∙ e)
+
+pub returns-clause-parts : goal.returns-clause-parts
+returns-clause-parts c = grind (arith, common_steps)
+
+pub returns-clause-first : goal.returns-clause-first
+returns-clause-first c = grind (arith, common_steps)

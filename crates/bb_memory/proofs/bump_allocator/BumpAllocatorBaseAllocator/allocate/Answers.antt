@@ -1,4 +1,4 @@
-use Rattle.std.proofs.Common.{◌≡◌, ◌<◌, ◌≤◌, arith, ap, sym, ◌∙◌, subst}
+use Rattle.std.proofs.Common.{◌≡◌, ◌+◌, ◌<◌, ◌≤◌, refl, arith, ap, sym, ◌∙◌, subst}
 use Rattle.bb_memory_base.specs.Region.{region_end}
 use Rattle.bb_memory_base.specs.Chunk.{Chunk, chunk_end}
 use Rattle.bb_memory_base.specs.BumpObject.{StandsFor, chunk_at_or_after, next_chunk}
@@ -40,3 +40,21 @@ returns-clause-appended c = λ live stands.
     let told = c.in-Some.ensures in
     rw c.end.ensures (StandsFor-push bump.region bump.used live chunk here (omega (arith, told.above, end))
     (omega (arith, told.value.0, ap (λ (k : Chunk). chunk_end k) told.value.1)))
+
+pub returns-in_default-clause-kept : goal.returns-in_default-clause-kept
+returns-in_default-clause-kept c = λ live stands. stands
+
+pub returns-in_default-clause-value : goal.returns-in_default-clause-value
+returns-in_default-clause-value c =
+    let bump = bump_of c.self.inside.start c.self.inside.size c.self.inside.current_position in
+    let full : region_end bump.region < chunk_end (chunk_at_or_after (bump.region.start + bump.used) c.args.layout) =
+    omega (arith, c.in_default.ensures.value) in
+    rw (← c.self.view_is) record {
+      accepted = (λ given. absurd (cc given), λ room. absurd (omega (arith, full, room.1)));
+      size_is_zero = (λ is. absurd (cc is), λ zero. absurd (omega (arith, zero)));
+      begins = tt;
+      exact_size = tt;
+      behind = tt;
+      used = tt;
+      still = refl;
+    }

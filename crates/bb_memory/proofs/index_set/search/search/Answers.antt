@@ -16,3 +16,9 @@ returns-clause-set g c =
     let small : c.word-word.result + 1 < 2 ^ 64 = omega (arith, c.if-word.false, c.word-word.type_inv) in
     rw (c.trailing_ones.ensures, c.put.ensures.words)
     (lowest_set words c.args.hand c.word-word.result within c.word-word.ensures.value small).2
+
+pub returns-then-word-clause-counted : goal.returns-then-word-clause-counted
+returns-then-word-clause-counted g c = omega (arith, c.word-word.ensures.counted, c.requires.count)
+
+pub returns-clause-counted : goal.returns-clause-counted
+returns-clause-counted g c = omega (arith, c.word-word.ensures.counted, c.requires.count)

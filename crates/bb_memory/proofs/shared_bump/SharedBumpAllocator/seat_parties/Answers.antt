@@ -73,3 +73,14 @@ loop-number-preserved c =
       fresh = λ j below. subst (λ (xs : List BumpParty). slice_get xs j ≡ Some (fresh_party bump j))
           (sym items) (more j (omega arith));
     }
+
+pub returns : goal.returns
+returns c =
+    let all : c.loop-number.number ≡ c.args.parties = omega arith in
+    let seated = c.loop-number.invariant in
+    record {
+      so_many = sym c.requires.parties;
+      as_many = seated.long ∙ all;
+      fresh = λ number below. seated.fresh number (omega (arith, all, below));
+      theirs = seated.theirs;
+    }

@@ -1,4 +1,4 @@
-use Rattle.std.proofs.Common.{◌∙◌, ap, arith, length, sym, subst}
+use Rattle.std.proofs.Common.{◌∙◌, ap, arith, length, refl, rules, sym, subst}
 use Rattle.std.proofs.lemmas.Grind.{elements}
 use Rattle.std.specs.Arc.{arc_value}
 use Rattle.bb_memory.specs.SharedPool.{SharedPool}
@@ -40,3 +40,15 @@ returns-in-Ok-new c =
       else_memory = tt;
       still = tt;
     }
+
+pub returns-in-Err : goal.returns-in-Err
+returns-in-Err c = record {
+  seated = tt;
+  none_left = (
+    λ wrong. absurd (cc),
+    λ none. some-left (arc_value c.self.inside.pool) c.pop.new.self.items c.self.inside.parties.items c.in-Some.party
+        c.in-Some.party c.in-Some.ensures.items refl (ap (λ (s : PoolSeats). length s.parties) c.self.view_is ∙ none),
+  );
+  else_memory = λ _. refl;
+  still = search rules;
+}

@@ -1,4 +1,6 @@
-use Rattle.std.proofs.Common.{◌∙◌, subst, sym}
+use Rattle.std.proofs.Common.{◌≡◌, ◌∙◌, arith, subst, sym}
+use Rattle.std.proofs.lemmas.List.Elements.{All-set}
+use Rattle.bb_memory.specs.SharedPool.{PoolParty}
 use Rattle.bb_memory.specs.SharedPoolHistory.{HaveMetBy}
 use Rattle.bb_memory.proofs.SharedPoolAmong.{among_held, among_least, among_others, among_refused, among_still}
 use Rattle.bb_memory.proofs.SharedPoolAmong.{among_taken, asked_at}
@@ -50,3 +52,13 @@ pub returns-clause-still_held : goal.returns-clause-still_held
 returns-clause-still_held g c place other held =
     among_still c.args.self.now c.args.parties.now.items c.meet_again-2.new.parties.items c.args.index c.args.layout
     c.allocate-answer.result (returns-clause-asked g c) place other held
+
+pub meet_again-requires-2 : goal.meet_again-requires-2
+meet_again-requires-2 g c = (
+  omega arith,
+  record {
+    its_history = c.meet_again.ensures.its_history;
+    its_parties = All-set (λ (p : PoolParty). p.allocator ≡ c.args.self.now) c.meet_again.new.parties.items c.args.index
+        c.allocate-answer.new.party c.allocate-answer.ensures.party c.meet_again.ensures.its_parties;
+  },
+)

@@ -1,58 +1,118 @@
-use Rattle.std.proofs.Common.{◌∙◌, ap, arith, rules, subst}
-use Rattle.std.proofs.lemmas.Grind.{common_steps}
+use Rattle.std.proofs.Common.{ℕ, refl, sym, ap, ◌∙◌, arith, subst}
 use Rattle.bb_memory_base.specs.PoolGeometry.{PoolGeometry, IsPoolGeometry}
 use Rattle.bb_memory_base.specs.PoolMachine.{PoolScene}
+use Rattle.bb_memory_base.specs.PoolLogs.{IsHeldAfter}
 use Rattle.bb_memory_base.specs.declared.layout.Layout.{Layout}
 use Rattle.bb_memory.specs.Seats.{number_of, view_log}
-use Rattle.bb_memory.specs.SharedPool.{PoolParty, SharedPool}
+use Rattle.bb_memory.specs.SharedPool.{AreAllHeldAfter, PoolParty, SharedPool}
+use Rattle.bb_memory.specs.SharedPoolRounds.{refused_round, taking_round}
 use Rattle.bb_memory.proofs.Measures.{bucket-inside}
 use Rattle.bb_memory.proofs.PoolCalls.{bucket_place-multiple}
-use Rattle.bb_memory.proofs.SharedPoolRounds.{still_held_from}
+use Rattle.bb_memory.proofs.SharedPoolParties.{is_party, party_with, seated_then}
+use Rattle.bb_memory.proofs.SharedPoolRounds.{round_is_held, still_held_from}
 use Rattle.bb_memory.proofs.shared_pool.buckets.SharedBucketPool.allocate_from.Goals as goal
+
+pub invariant_of-party : goal.invariant_of-party
+invariant_of-party g c =
+    let party = c.party.inside in
+    let own = ap (λ (p : PoolParty). p.allocator) c.party.view_is ∙ c.requires.party in
+    seated_then c.args.self.now party.seat.table_id party.has_post party.seat.me party.number c.party.invariant own
+    c.round.new.seat.me _ c.in-Some.ensures.step.ended
+
+pub invariant_of-party-in-None : goal.invariant_of-party-in-None
+invariant_of-party-in-None g c =
+    let party = c.party.inside in
+    let own = ap (λ (p : PoolParty). p.allocator) c.party.view_is ∙ c.requires.party in
+    seated_then c.args.self.now party.seat.table_id party.has_post party.seat.me party.number c.party.invariant own
+    c.round.new.seat.me _ c.in-None.ensures.step.ended
+
+pub returns-in-Some-clause-party : goal.returns-in-Some-clause-party
+returns-in-Some-clause-party g c =
+    let pool = c.args.self.now in
+    let party = c.party.inside in
+    let own = ap (λ (p : PoolParty). p.allocator) c.party.view_is ∙ c.requires.party in
+    let took = c.in-Some.ensures.step in
+    let logged = party_with pool party.seat.table_id party.has_post party.seat.me party.number c.party.invariant own
+    (λ (n : ℕ). taking_round pool.scene.geometry.buckets n c.args.first took.turn) c.round.new.seat.table_id c.round.new.seat.me
+    c.args.party.now c.party.view_is c.round.ensures.table took.ended in
+    ap (λ (p : PoolParty). p.allocator) logged ∙ c.requires.party
+
+pub returns-in-None-clause-party : goal.returns-in-None-clause-party
+returns-in-None-clause-party g c =
+    let pool = c.args.self.now in
+    let party = c.party.inside in
+    let own = ap (λ (p : PoolParty). p.allocator) c.party.view_is ∙ c.requires.party in
+    let logged = party_with pool party.seat.table_id party.has_post party.seat.me party.number c.party.invariant own
+    (λ (n : ℕ). refused_round pool.scene.geometry.buckets n c.args.first) c.round.new.seat.table_id c.round.new.seat.me
+    c.args.party.now c.party.view_is c.round.ensures.table c.in-None.ensures.step.ended in
+    ap (λ (p : PoolParty). p.allocator) logged ∙ c.requires.party
 
 pub returns-in-Some-clause-serves : goal.returns-in-Some-clause-serves
 returns-in-Some-clause-serves g c =
     let scene : PoolScene = c.args.self.now.scene in
-    let me = c.party.inside.seat.me in
-    let own = ap (λ (p : PoolParty). p.allocator.scene) c.party.view_is ∙ ap (λ p. p.scene) c.requires.party in
-    let geometry = subst (λ (s : PoolScene). IsPoolGeometry s.geometry) own c.party.invariant.shared.geometry in
+    let old = c.args.party.now in
+    let new = c.round.new.seat in
+    let party = c.party.inside in
+    let me = party.seat.me in
+    let took = c.in-Some.ensures.step in
+    let pool = c.args.self.now in
+    let own = ap (λ (p : PoolParty). p.allocator) c.party.view_is ∙ c.requires.party in
+    let buckets = pool.scene.geometry.buckets in
+    let logged = party_with pool party.seat.table_id party.has_post me party.number c.party.invariant own
+    (λ (n : ℕ). taking_round buckets n c.args.first took.turn) new.table_id new.me old c.party.view_is c.round.ensures.table
+    took.ended in
+    let geometry = subst (λ (p : SharedPool). IsPoolGeometry p.scene.geometry) own c.party.invariant.shared.geometry in
     let bucket = c.bucket-bucket.ensures ∙ ap (λ (x : PoolGeometry). x.bucket) c.geometry.ensures.value
     ∙ ap (λ (p : SharedPool). p.scene.geometry.bucket) c.self.view_is in
     let size = ap (λ (l : Layout). l.size) bucket in
     let align = ap (λ (l : Layout). l.align) bucket in
     record {
       serves = record {
-        bucket = first_of (search rules, grind (arith, common_steps));
-        number = first_of (search rules, grind (arith, common_steps));
-        is_party = first_of (search rules, grind (arith, common_steps));
-        held = first_of (search rules, grind (arith, common_steps));
+        bucket = c.self.view_is;
+        number = ap (λ (p : PoolParty). p.number) c.party.view_is;
+        is_party = is_party new.table_id party.has_post party.number new.me (seated_then pool party.seat.table_id party.has_post
+            me party.number c.party.invariant own new.me _ took.ended);
+        held = subst (λ (p : PoolParty). IsHeldAfter p.log c.in-Some.number) (sym logged)
+            (round_is_held buckets old.number c.args.first took.turn c.in-Some.number old.log took.there);
         still_held = λ other held.
-            still_held_from scene (number_of me.0) (view_log me.0) c.args.first c.round.new.seat.me c.round.result other
+            still_held_from scene (number_of me.0) (view_log me.0) c.args.first new.me c.round.result other
             c.round.ensures.step (rw (← c.party.view_is) at held);
         inside = rw c.self.view_is
-            (bucket-inside scene.geometry c.in-Some.number c.size-in-Some.result geometry c.in-Some.ensures.step.below
-            (omega arith));
+            (bucket-inside scene.geometry c.in-Some.number c.size-in-Some.result geometry took.below (omega arith));
         aligned = rw c.self.view_is (bucket_place-multiple scene.geometry c.in-Some.number c.args.layout (omega arith));
-        exact_size = first_of (search rules, grind (arith, common_steps));
+        exact_size = c.size-in-Some.ensures;
       };
-      alone = first_of (search rules, grind (arith, common_steps));
+      alone = λ one within. (
+        λ refused. absurd (cc refused),
+        λ all. absurd (took.free (subst (λ (p : PoolParty). IsHeldAfter p.log c.in-Some.number) (sym c.party.view_is)
+            (all c.in-Some.number took.below))),
+      );
     }
 
 pub returns-in-None-clause-serves : goal.returns-in-None-clause-serves
 returns-in-None-clause-serves g c =
-    let me = c.party.inside.seat.me in
+    let new = c.round.new.seat in
+    let party = c.party.inside in
+    let me = party.seat.me in
+    let lost = c.in-None.ensures.step in
+    let own = ap (λ (p : PoolParty). p.allocator) c.party.view_is ∙ c.requires.party in
     record {
       serves = record {
         bucket = tt;
-        number = first_of (search rules, grind (arith, common_steps));
-        is_party = first_of (search rules, grind (arith, common_steps));
+        number = ap (λ (p : PoolParty). p.number) c.party.view_is;
+        is_party = is_party new.table_id party.has_post party.number new.me (seated_then c.args.self.now
+            party.seat.table_id party.has_post me party.number c.party.invariant own new.me _ lost.ended);
         held = tt;
         still_held = λ other held.
-            still_held_from c.args.self.now.scene (number_of me.0) (view_log me.0) c.args.first c.round.new.seat.me c.round.result
+            still_held_from c.args.self.now.scene (number_of me.0) (view_log me.0) c.args.first new.me c.round.result
             other c.round.ensures.step (rw (← c.party.view_is) at held);
         inside = tt;
         aligned = tt;
         exact_size = tt;
       };
-      alone = first_of (search rules, grind (arith, common_steps));
+      alone = λ one within. (
+        λ refused. subst (λ (p : PoolParty). AreAllHeldAfter p.log c.args.self.now.scene.geometry.buckets) c.party.view_is
+            (lost.held one),
+        λ all. refl,
+      );
     }

@@ -1,4 +1,6 @@
-use Rattle.std.proofs.Common.{◌∙◌, subst, sym}
+use Rattle.std.proofs.Common.{◌≡◌, ◌∙◌, arith, subst, sym}
+use Rattle.std.proofs.lemmas.List.Elements.{All-set}
+use Rattle.bb_memory.specs.SharedPool.{PoolParty}
 use Rattle.bb_memory.specs.SharedPoolHistory.{HaveMetBy}
 use Rattle.bb_memory.proofs.SharedPoolAmong.{among_given, among_given_others, among_given_still, given_at}
 use Rattle.bb_memory.proofs.shared_pool.buckets.SharedBucketPool.deallocate_among.Goals as goal
@@ -30,3 +32,13 @@ pub returns-clause-still_held : goal.returns-clause-still_held
 returns-clause-still_held g c place other apart held =
     among_given_still c.args.self.now c.args.parties.now.items c.meet_again-2.new.parties.items c.args.index
     c.args.bucket.number (returns-clause-given g c) place other apart held
+
+pub meet_again-requires-2 : goal.meet_again-requires-2
+meet_again-requires-2 g c = (
+  omega arith,
+  record {
+    its_history = c.meet_again.ensures.its_history;
+    its_parties = All-set (λ (p : PoolParty). p.allocator ≡ c.args.self.now) c.meet_again.new.parties.items c.args.index
+        c.deallocate_bucket.new.party c.deallocate_bucket.ensures.party c.meet_again.ensures.its_parties;
+  },
+)

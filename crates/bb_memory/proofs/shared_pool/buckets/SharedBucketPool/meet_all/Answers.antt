@@ -2,7 +2,7 @@ use Rattle.std.proofs.Common.{[], length, refl, ◌∷◌, ◌++◌, ◌≡◌, 
 use Rattle.std.specs.Prelude.{All, map}
 use Rattle.bb_memory_base.specs.PoolMachine.{PoolScene}
 use Rattle.bb_memory.specs.SharedPool.{IsSharedScene, PoolParty, SharedPool}
-use Rattle.bb_memory.specs.SharedPoolRule.{NumberedLog, numbered_of}
+use Rattle.bb_memory.specs.SharedPoolRule.{IsPartySeat, NumberedLog, numbered_of}
 use Rattle.bb_memory.specs.SharedPoolSteps.{TellsMeeting}
 use Rattle.bb_memory.proofs.SharedPoolGatherings.{agrees, all_gathered, met_party, none_met}
 use Rattle.bb_memory.proofs.shared_pool.buckets.SharedBucketPool.meet_all.Goals as goal
@@ -41,3 +41,7 @@ returns-in_default-clause-met g c =
     none_met c.args.self.now.scene items
     (subst IsSharedScene (ap (λ (b : SharedPool). b.scene) c.self.view_is) c.self.invariant.shared)
     (empty items (omega (arith, c.args.parties.now.ok.0, c.in_default.ensures.cases.0)))
+
+pub invariant_of-push_reserved : goal.invariant_of-push_reserved
+invariant_of-push_reserved g c =
+    subst (IsPartySeat c.party.inside.number) (sym c.meet_rest.ensures.found.seat) c.party.invariant

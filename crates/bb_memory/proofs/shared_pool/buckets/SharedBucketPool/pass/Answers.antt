@@ -1,7 +1,7 @@
-use Rattle.std.proofs.Common.{◌∙◌, arith, refl, sym, ap}
+use Rattle.std.proofs.Common.{◌≡◌, ℕ, ◌∙◌, arith, refl, sym, ap, subst}
 use Rattle.bb_memory.specs.Seats.{number_of, view_log}
 use Rattle.bb_memory.specs.SharedPool.{SharedPool}
-use Rattle.bb_memory.proofs.SharedPoolPasses.{begins, goes_on, passing_next, passing_seat, takes}
+use Rattle.bb_memory.proofs.SharedPoolPasses.{IsPassing, begins, goes_on, passing_next, passing_seat, refuses, takes}
 use Rattle.bb_memory.proofs.shared_pool.buckets.SharedBucketPool.pass.Goals as goal
 
 pub loop-bucket-init : goal.loop-bucket-init
@@ -46,4 +46,15 @@ loop-bucket-preserved g c =
       passing = goes_on c.args.self.now.scene (number_of me.0) (view_log me.0) c.loop-bucket.seat.me
           c.try_flag.new.seat.me c.loop-bucket.bucket c.loop-bucket.invariant.passing
           (rw c.if-try_flag.false at (rw c.self.view_is at c.try_flag.ensures.step));
+    }
+
+pub returns : goal.returns
+returns g c =
+    let scene = c.args.self.now.scene in
+    let me = c.args.seat.now.me in
+    let all : c.loop-bucket.bucket ≡ scene.geometry.buckets = omega arith in record {
+      table = c.loop-bucket.invariant.table;
+      step = refuses scene (number_of me.0) (view_log me.0) c.loop-bucket.seat.me c.requires.seat.idle
+          (subst (λ (n : ℕ). IsPassing scene (number_of me.0) (view_log me.0) n c.loop-bucket.seat.me) all
+          c.loop-bucket.invariant.passing);
     }

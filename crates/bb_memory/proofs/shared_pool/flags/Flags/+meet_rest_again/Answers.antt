@@ -1,15 +1,14 @@
-use Rattle.std.proofs.Common.{◌≡◌, ◌++◌, map, ℕ, List, Some, [], ◌∷◌, append_assoc, sym, ap, ◌∙◌, subst, arith, rules}
+use Rattle.std.proofs.Common.{◌≡◌, ◌++◌, map, ℕ, List, Some, [], ◌∷◌, append_assoc, sym, ap, ◌∙◌, subst, arith}
 use Rattle.std.proofs.lemmas.Grind.{common_steps}
 use Rattle.std.proofs.lemmas.List.{map-append}
 use Rattle.std.proofs.lemmas.List.Elements.{All-pop}
 use Rattle.atomic_table.specs.Table.{Me}
 use Rattle.bb_memory_base.specs.declared.steps.pool.PoolStep.{PoolStep}
-use Rattle.bb_memory.specs.Seats.{others_of, view_log}
-use Rattle.bb_memory.specs.SharedPool.{PoolParty, SharedPool}
-use Rattle.bb_memory.specs.SharedPoolRule.{NumberedLog, SeatView, first_back, met_by, numbered_of, party_in, remembering}
-use Rattle.bb_memory.specs.SharedPoolRule.{scene_of}
+use Rattle.bb_memory.specs.Seats.{head_of, others_of}
+use Rattle.bb_memory.specs.SharedPool.{PoolParty}
+use Rattle.bb_memory.specs.SharedPoolRule.{NumberedLog, SeatView, first_back, met_by, numbered_of, remembering}
 use Rattle.bb_memory.specs.SharedPoolSteps.{TellsMeetingAgain}
-use Rattle.bb_memory.proofs.SharedPoolGatherings.{parties_of}
+use Rattle.bb_memory.proofs.SharedPoolGatherings.{as_it_was, goes_back, parties_of}
 use Rattle.bb_memory.proofs.shared_pool.flags.Flags.+meet_rest_again.Goals as goal
 use Rattle.bb_memory.proofs.shared_pool.flags.Flags.+meet_rest_again.Goals.{After-push_reserved}
 
@@ -37,29 +36,22 @@ after : (t : ℕ) (c : After-push_reserved t) → c.give_first_back-back.new.his
     (remembering c.args.self.now.scene (met_by c.meet_rest_again.new.seat.me.0) c.args.seat.now.me.0.parties, [])
 after t c = c.give_first_back-back.ensures.stays ∙ ap (λ (m : Me ℕ SeatView). (others_of m.0, m.1)) (then t c)
 
--- the party that goes back is as it was
-back : (t : ℕ) (c : After-push_reserved t) →
-    let new = c.give_first_back-back.result in
-    party_in new.table_id c.party.inside.has_post c.party.inside.number new.me.0 ≡ c.in-Some.party
-back t c =
+pub invariant_of-push_reserved : goal.invariant_of-push_reserved
+invariant_of-push_reserved t c =
     let pool = c.args.self.now in
-    let fields = c.party.inside in
+    let guest = c.party.inside in
     let party = c.in-Some.party in
-    let result = c.give_first_back-back.result in
-    let its = (All-pop (λ (p : PoolParty). p.allocator ≡ pool) c.args.rest.now.items c.pop.new.self.items (Some party)
-    c.in-Some.ensures.items c.requires.rest).1 in
-    let first = c.give_first_back-back.ensures.goes ∙ ap (λ (m : Me ℕ SeatView). (first_back m.0, [])) (then t c) in
-    let table = c.give_first_back-back.ensures.its_table ∙ c.meet_rest_again.ensures.0.table ∙ c.gather.ensures.table
-    ∙ c.requires.seat.table ∙ sym (ap (λ (p : SharedPool). p.table) its) in
-    let was = c.party.view_is in λ i. record {
-      allocator = record {
-        table = table i;
-        scene = (ap (λ (m : Me ℕ SeatView). scene_of m.0) first ∙ sym (ap (λ (p : SharedPool). p.scene) its)) i;
-        has_post = (was i).allocator.has_post;
-      };
-      number = (was i).number;
-      log = ap (λ (m : Me ℕ SeatView). view_log m.0) first i;
-    }
+    let its = All-pop (λ (p : PoolParty). p.allocator ≡ pool) c.args.rest.now.items c.pop.new.self.items (Some party)
+    c.in-Some.ensures.items c.requires.rest in
+    let here = parties_of guest.seat.table_id guest.has_post guest.number guest.seat.me party c.party.invariant
+    c.party.view_is in
+    goes_back pool guest.seat.table_id guest.has_post guest.number guest.seat.me c.give_first_back-back.result.me party
+    c.party.invariant c.party.view_is its.1
+    (c.give_first_back-back.ensures.goes
+    ∙ ap (λ (m : Me ℕ SeatView). (first_back m.0, [])) (c.meet_rest_again.ensures.0.seat
+    ∙ ap (λ (m : Me ℕ SeatView). (remembering pool.scene (met_by c.meet_rest_again.new.seat.me.0) m.0.parties, []))
+    c.gather.ensures.step)
+    ∙ ap (λ (own : List NumberedLog). (remembering pool.scene [] (head_of (own ++ c.args.seat.now.me.0.parties)), [])) here)
 
 pub returns : goal.returns
 returns t c =
@@ -76,6 +68,15 @@ returns t c =
     ∙ sym (append_assoc (map numbered_of rest) (numbered_of party ∷ []) parties)
     ∙ ap (λ (there : List NumberedLog). there ++ parties)
     (sym (map-append numbered_of rest (party ∷ [])) ∙ ap (map numbered_of) (sym c.in-Some.ensures.items)) in
+    let its = All-pop (λ (p : PoolParty). p.allocator ≡ c.args.self.now) c.args.rest.now.items rest (Some party)
+    c.in-Some.ensures.items c.requires.rest in
+    let guest = c.party.inside in
+    let back = as_it_was c.args.self.now guest.seat.table_id guest.has_post guest.number guest.seat.me
+    c.give_first_back-back.result.me party c.party.invariant c.party.view_is its.1
+    (c.give_first_back-back.ensures.goes ∙ ap (λ (m : Me ℕ SeatView). (first_back m.0, [])) (then t c))
+    c.give_first_back-back.result.table_id
+    (c.give_first_back-back.ensures.its_table ∙ c.meet_rest_again.ensures.0.table ∙ c.gather.ensures.table
+    ∙ c.requires.seat.table) in
     let met : met_by c.gather.new.seat.me.0 ≡ before = ap (λ (m : Me ℕ SeatView). met_by m.0) c.gather.ensures.step in (
       record {
         table = c.give_first_back-back.ensures.table ∙ c.meet_rest_again.ensures.0.table ∙ c.gather.ensures.table;
@@ -84,9 +85,9 @@ returns t c =
             (λ i. (all i, met i, same i)) c.meet_rest_again.ensures.0.told;
       },
       record {
-        items = c.push_reserved.ensures.items ∙ (λ i. c.meet_rest_again.ensures.1.items i ++ back t c i ∷ [])
+        items = c.push_reserved.ensures.items ∙ (λ i. c.meet_rest_again.ensures.1.items i ++ back i ∷ [])
             ∙ sym c.in-Some.ensures.items;
-        len = first_of (search rules, grind (arith, common_steps));
-        capacity = first_of (search rules, grind (arith, common_steps));
+        len = grind (arith, common_steps);
+        capacity = grind (arith, common_steps);
       },
     )
