@@ -48,6 +48,6 @@ pub(crate) enum PoolFigure {
     Size,
 }
 
-/// Where the first bucket is of what is cut into buckets.
+/// Where the first bucket is of what is cut into buckets: no figure of a pool with flags, which doesn't tell it.
 #[derive(Clone, Copy)]
 pub(crate) struct FirstPlace;

@@ -151,10 +151,9 @@ pub(super) fn answers(rt: &impl Abort, book: &mut impl Book, table: &[LoanRow]) 
 
 /// Whether this is told of the replies.
 pub(super) fn are_told(replies: &[LoanReply], wanted: &[Told]) -> bool {
-    for (number, reply) in replies.iter().enumerate() {
-        match wanted.get(number) {
-            Some(wanted) if Told::of(*reply) == *wanted => {}
-            _ => return false,
+    for (reply, wanted) in replies.iter().zip(wanted) {
+        if Told::of(*reply) != *wanted {
+            return false;
         }
     }
     replies.len() == wanted.len()

@@ -299,11 +299,8 @@ fn meet(
 /// Each of these threads was given chunks of its own layout.
 fn have_layouts(rt: &impl Abort, all: &[Taken], layouts: &[Layout]) {
     check(rt, all.len() == layouts.len());
-    for (number, taken) in all.iter().enumerate() {
-        match layouts.get(number) {
-            Some(layout) => has_layout(rt, taken, *layout),
-            None => fail(rt, "there are more threads than layouts"),
-        }
+    for (taken, layout) in all.iter().zip(layouts) {
+        has_layout(rt, taken, *layout);
     }
 }
 
