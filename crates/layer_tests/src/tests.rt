@@ -15,7 +15,7 @@ use bb_memory::layout::Layout;
 use bb_memory::pool_allocator::pool_object_law;
 use bb_memory::shared_bump::{BumpParty, SharedBumpAllocator};
 use loan_book::LoanBook;
-use pools::{eight_buckets, its_region};
+use pools::{eight_buckets, empty_slab, its_region};
 use rows::{
     KeyedAnswer, KeyedCall, KeyedRow, LineAnswer, LineCall, LineRow, SlabAnswer, SlabCall, SlabRow,
     all_kept,
@@ -27,7 +27,6 @@ use std::thread::Threads;
 use uses::keyed_slab::KeyedSlab;
 use uses::mailbox::Mailbox;
 use uses::ring::MessageRing;
-use uses::slab::Slab;
 use uses::workers::two_workers;
 
 /// Memory for what a test makes was refused.
@@ -35,8 +34,8 @@ const REFUSED: &str = "memory was refused";
 
 /// A slab keeps each row.
 fn slab_keeps(rt: &impl Abort, alloc: Global, rows: &[SlabRow<'_>]) {
-    match its_region(alloc) {
-        Some(region) => all_kept(rt, Slab::new(alloc, eight_buckets(), region), rows),
+    match empty_slab(alloc) {
+        Some(slab) => all_kept(rt, slab, rows),
         None => panic!(rt; "{REFUSED}"),
     }
 }
@@ -59,11 +58,8 @@ fn slab_of_three_records(rt: HostRuntime) {
 
 /// A slab with keys, for records of two bytes, keeps each row.
 fn keyed_slab_keeps(rt: &impl Abort, alloc: Global, rows: &[KeyedRow<'_>]) {
-    match its_region(alloc) {
-        Some(region) => {
-            let slab = Slab::new(alloc, eight_buckets(), region);
-            all_kept(rt, KeyedSlab::new(alloc, slab, 2), rows);
-        }
+    match empty_slab(alloc) {
+        Some(slab) => all_kept(rt, KeyedSlab::new(alloc, slab, 2), rows),
         None => panic!(rt; "{REFUSED}"),
     }
 }
@@ -116,11 +112,8 @@ fn full_slab_takes_a_free_slot_again(rt: HostRuntime) {
 
 /// A mailbox keeps each row.
 fn mailbox_keeps(rt: &impl Abort, alloc: Global, rows: &[LineRow<'_>]) {
-    match its_region(alloc) {
-        Some(region) => {
-            let messages = Slab::new(alloc, eight_buckets(), region);
-            all_kept(rt, Mailbox::new(messages), rows);
-        }
+    match empty_slab(alloc) {
+        Some(messages) => all_kept(rt, Mailbox::new(messages), rows),
         None => panic!(rt; "{REFUSED}"),
     }
 }

@@ -153,22 +153,26 @@ impl<A: Allocator + Budget + Drop> Driven<BudgetRow> for Tried<A> {
     }
 }
 
+/// A budget with nothing out keeps each row.
+fn budget_keeps<A: Allocator + Budget + Drop>(
+    rt: &impl Abort,
+    alloc: Global,
+    budget: A,
+    rows: &[BudgetRow],
+)
+    requires { A.stands_for budget [] }
+{
+    all_kept(rt, Tried::new(alloc, budget), rows);
+}
+
 /// A budget of so many chunks keeps each row.
 fn chunks_keep(rt: &impl Abort, alloc: Global, budget: usize, rows: &[BudgetRow]) {
-    all_kept(
-        rt,
-        Tried::new(alloc, ChunkBudget::new(eight_buckets(), budget)),
-        rows,
-    );
+    budget_keeps(rt, alloc, ChunkBudget::new(eight_buckets(), budget), rows);
 }
 
 /// A budget of so many bytes keeps each row.
 fn bytes_keep(rt: &impl Abort, alloc: Global, budget: usize, rows: &[BudgetRow]) {
-    all_kept(
-        rt,
-        Tried::new(alloc, ByteBudget::new(eight_buckets(), budget)),
-        rows,
-    );
+    budget_keeps(rt, alloc, ByteBudget::new(eight_buckets(), budget), rows);
 }
 
 #[test]

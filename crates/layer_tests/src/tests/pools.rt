@@ -7,6 +7,7 @@ use bb_memory::layout::Layout;
 use bb_memory::pool_allocator::{FixedSizePoolAllocator, pool_count_law};
 use bb_memory::region::Region;
 use std::alloc::Global;
+use uses::slab::Slab;
 
 /// What a layer is driven over.
 pub(super) type TestPool = FixedSizePoolAllocator<16>;
@@ -40,4 +41,12 @@ pub(super) fn its_region(alloc: Global) -> Option<Region>
         Ok(bytes) => Some(Region::new(4096, bytes)),
         Err(_) => None,
     }
+}
+
+/// A slab over that pool, with no record, or none where memory was refused.
+pub(super) fn empty_slab(alloc: Global) -> Option<Slab<TestPool>>
+    ensures { IfSome result (λ slab. slab.records ≡ []) }
+{
+    let region = its_region(alloc)?;
+    Some(Slab::new(alloc, eight_buckets(), region))
 }

@@ -147,13 +147,23 @@ fn one_bucket_each() -> Option<ThreePools<1>>
     Some(three_pools::<1>(small, middle, large, 4096, 512))
 }
 
+/// An allocator with nothing out keeps each row.
+fn allocator_keeps<A: Allocator + Drop>(
+    rt: &impl Abort,
+    alloc: Global,
+    allocator: A,
+    rows: &[PoolsRow],
+)
+    requires { A.stands_for allocator [] }
+{
+    let live = Vec::new(alloc);
+    all_kept(rt, Tried { allocator, live }, rows);
+}
+
 /// The three pools keep each row.
 fn pools_keep(rt: &impl Abort, alloc: Global, rows: &[PoolsRow]) {
     match one_bucket_each() {
-        Some(allocator) => {
-            let live = Vec::new(alloc);
-            all_kept(rt, Tried { allocator, live }, rows);
-        }
+        Some(pools) => allocator_keeps(rt, alloc, pools, rows),
         None => panic!(rt; "no such pools may be made"),
     }
 }
