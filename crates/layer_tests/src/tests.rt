@@ -1,19 +1,25 @@
 //! Each layer, driven.
-ghost use Rattle.std.specs.Prelude.{◌≡◌};
+ghost use Rattle.std.specs.Prelude.{◌≡◌, ◌<◌, []};
+ghost use Rattle.bb_memory_base.specs.HeldBytes.{held_region};
+ghost use Rattle.uses.specs.Rings.{GivesExactly};
 
 mod boards;
 mod budgets;
 mod byte_vectors;
+mod checks;
 mod pools;
 mod results;
 mod rows;
 mod segregated;
 mod tenants;
 
+use bb_memory::allocator::Allocator;
 use bb_memory::bump_allocator::BumpAllocator;
 use bb_memory::layout::Layout;
 use bb_memory::pool_allocator::pool_object_law;
+use bb_memory::region::Region;
 use bb_memory::shared_bump::{BumpParty, SharedBumpAllocator};
+use checks::{REFUSED, check, fail};
 use loan_book::LoanBook;
 use pools::{eight_buckets, empty_slab, its_region};
 use rows::{
@@ -27,16 +33,19 @@ use std::thread::Threads;
 use uses::keyed_slab::KeyedSlab;
 use uses::mailbox::Mailbox;
 use uses::ring::MessageRing;
+use uses::slab::Slab;
 use uses::workers::two_workers;
 
-/// Memory for what a test makes was refused.
-const REFUSED: &str = "memory was refused";
+/// This slab keeps each row.
+fn slab_of<A: Allocator + Drop>(rt: &impl Abort, slab: Slab<A>, rows: &[SlabRow<'_>]) {
+    all_kept(rt, slab, rows);
+}
 
 /// A slab keeps each row.
 fn slab_keeps(rt: &impl Abort, alloc: Global, rows: &[SlabRow<'_>]) {
     match empty_slab(alloc) {
-        Some(slab) => all_kept(rt, slab, rows),
-        None => panic!(rt; "{REFUSED}"),
+        Some(slab) => slab_of(rt, slab, rows),
+        None => fail(rt, REFUSED),
     }
 }
 
@@ -56,11 +65,23 @@ fn slab_of_three_records(rt: HostRuntime) {
     slab_keeps(&rt, rt.alloc(), &rows);
 }
 
-/// A slab with keys, for records of two bytes, keeps each row.
+/// This slab with keys, for records of two bytes, keeps each row.
+fn keyed_slab_of<A: Allocator + Drop>(
+    rt: &impl Abort,
+    alloc: Global,
+    slab: Slab<A>,
+    rows: &[KeyedRow<'_>],
+)
+    requires { slab.records ≡ [] }
+{
+    all_kept(rt, KeyedSlab::new(alloc, slab, 2), rows);
+}
+
+/// A slab with keys keeps each row.
 fn keyed_slab_keeps(rt: &impl Abort, alloc: Global, rows: &[KeyedRow<'_>]) {
     match empty_slab(alloc) {
-        Some(slab) => all_kept(rt, KeyedSlab::new(alloc, slab, 2), rows),
-        None => panic!(rt; "{REFUSED}"),
+        Some(slab) => keyed_slab_of(rt, alloc, slab, rows),
+        None => fail(rt, REFUSED),
     }
 }
 
@@ -110,11 +131,16 @@ fn full_slab_takes_a_free_slot_again(rt: HostRuntime) {
     keyed_slab_keeps(&rt, rt.alloc(), &rows);
 }
 
+/// A mailbox of these messages keeps each row.
+fn mailbox_of<A: Allocator + Drop>(rt: &impl Abort, messages: Slab<A>, rows: &[LineRow<'_>]) {
+    all_kept(rt, Mailbox::new(messages), rows);
+}
+
 /// A mailbox keeps each row.
 fn mailbox_keeps(rt: &impl Abort, alloc: Global, rows: &[LineRow<'_>]) {
     match empty_slab(alloc) {
-        Some(messages) => all_kept(rt, Mailbox::new(messages), rows),
-        None => panic!(rt; "{REFUSED}"),
+        Some(messages) => mailbox_of(rt, messages, rows),
+        None => fail(rt, REFUSED),
     }
 }
 
@@ -132,15 +158,28 @@ fn mailbox_in_order(rt: HostRuntime) {
     mailbox_keeps(&rt, rt.alloc(), &rows);
 }
 
-/// A ring for two readers keeps each row.
+/// A ring for two readers, over an allocator and its region, keeps each row.
+fn ring_of<A: Allocator + Drop>(
+    rt: &impl Abort,
+    alloc: Global,
+    allocator: A,
+    region: Region,
+    rows: &[LineRow<'_>],
+)
+    requires fresh { A.stands_for allocator [] }
+    requires exact { GivesExactly A.may_allocate }
+    requires same_region { held_region region ≡ A.region_of (A.geometry allocator) }
+{
+    let book = LoanBook::new(alloc, allocator);
+    all_kept(rt, MessageRing::new(alloc, book, region, 2), rows);
+}
+
+/// A ring keeps each row.
 fn ring_keeps(rt: &impl Abort, alloc: Global, rows: &[LineRow<'_>]) {
     pool_object_law();
     match its_region(alloc) {
-        Some(region) => {
-            let book = LoanBook::new(alloc, eight_buckets());
-            all_kept(rt, MessageRing::new(alloc, book, region, 2), rows);
-        }
-        None => panic!(rt; "{REFUSED}"),
+        Some(region) => ring_of(rt, alloc, eight_buckets(), region, rows),
+        None => fail(rt, REFUSED),
     }
 }
 
@@ -192,8 +231,8 @@ fn workers_share_a_region(rt: HostRuntime) {
             let there = parties.pop().unwrap();
             let here = parties.pop().unwrap();
             let found = taken_at_once(&rt, rt.alloc(), shared, here, there);
-            assert_eq!(rt; found, Some((4, 400)));
+            check(&rt, found == Some((4, 400)));
         }
-        Err(_) => panic!(&rt; "{REFUSED}"),
+        Err(_) => fail(&rt, REFUSED),
     }
 }

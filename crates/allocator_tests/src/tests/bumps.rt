@@ -3,7 +3,7 @@ use super::checks::check;
 use super::errors::has_text;
 use super::layouts::{chunk, layout};
 use super::owner::kinds::runs;
-use super::owner::{Answer, Call, Owner, Step, all_keep, sevens};
+use super::owner::{Answer, Call, Owner, Step, all_keep, owner_of};
 use bb_memory::allocator::{AllocationError, Command, Reply};
 use bb_memory::bump_allocator::{BaseAllocator, BumpAllocator};
 use std::alloc::Global;
@@ -18,8 +18,7 @@ pub(super) fn bump_owner(
     if !BumpAllocator::can_make(start, size) {
         return Err("no bump can be made of that");
     }
-    let region = sevens(alloc, start, size)?;
-    Ok(Owner::new(alloc, BumpAllocator::new(start, size), region))
+    owner_of(alloc, BumpAllocator::new(start, size), start, size)
 }
 
 /// Each of these steps of a bump over a region is as it has to be.

@@ -7,7 +7,7 @@ ghost use Rattle.bb_memory.specs.Pool.{StandsFor};
 use super::checks::{self, check};
 use super::layouts::{layout, layout_of};
 use super::owner::kinds::{Kind, runs};
-use super::owner::{Answer, Call, Owner, Step, all_keep, keeps, sevens};
+use super::owner::{Answer, Call, Owner, Step, all_keep, keeps, owner_of};
 use super::pools::{resize_and_refusal, resized_and_refused};
 use bb_memory::layout::Layout;
 use bb_memory::pool_allocator::{AllocationError, AllocationGrowError, FixedSizePoolAllocator};
@@ -43,9 +43,8 @@ pub(super) fn fixed_owner<const N: usize>(
     let Some(bucket) = layout_of(bucket.0, bucket.1) else {
         return Err("the bucket has no layout");
     };
-    let region = sevens(alloc, start, size)?;
     let pool = fixed_over::<N>(bucket, start, size)?;
-    Ok(Owner::new(alloc, pool, region))
+    owner_of(alloc, pool, start, size)
 }
 
 /// Each of these steps of a fixed pool of at most four buckets, over 1,024 bytes at 4096, is as it has to be. The figures are the

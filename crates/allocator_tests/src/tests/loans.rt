@@ -107,15 +107,15 @@ impl<A: Allocator + Drop> Book for LoanBook<A> {
 
 impl Book for PoolBook {
     fn told(&mut self, call: LoanCall) -> Told {
-        self.book.told(call)
+        Told::of(reply_to(&mut self.book, call))
     }
 
     fn replies(&mut self, alloc: Global, calls: &[LoanCall]) -> Result<Vec<LoanReply>, AllocError> {
-        self.book.replies(alloc, calls)
+        run_loans(alloc, &mut self.book, calls)
     }
 
     fn laws(&self) {
-        self.book.laws();
+        self.book.law();
     }
 }
 

@@ -2,7 +2,7 @@
 use super::checks::check;
 use super::layouts::{chunk, layout};
 use super::owner::kinds::runs;
-use super::owner::{Answer, Call, Owner, Step, all_keep, sevens};
+use super::owner::{Answer, Call, Owner, Step, all_keep, owner_of};
 use bb_memory::allocator::{AllocationError, Command, Reply};
 use bb_memory::one_chunk_allocator::OneChunkAllocator;
 use std::alloc::Global;
@@ -17,8 +17,7 @@ pub(super) fn one_owner(
     if !OneChunkAllocator::can_make(start, size) {
         return Err("no one chunk can be made of that");
     }
-    let region = sevens(alloc, start, size)?;
-    Ok(Owner::new(alloc, OneChunkAllocator::new(start, size), region))
+    owner_of(alloc, OneChunkAllocator::new(start, size), start, size)
 }
 
 /// Each of these steps of a one chunk over a region is as it has to be. The figures are the start, the size, and 1 where a chunk

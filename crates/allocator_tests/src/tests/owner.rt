@@ -33,6 +33,20 @@ pub(crate) fn sevens(alloc: Global, start: usize, size: usize) -> Result<Region,
     }
 }
 
+/// The owner of an allocator that has nothing out, over the region of so many bytes at a place.
+pub(crate) fn owner_of<A: BaseAllocator + Drop>(
+    alloc: Global,
+    allocator: A,
+    start: usize,
+    size: usize,
+) -> Result<Owner<A>, &'static str>
+    requires fresh { A.stands_for allocator [] }
+    requires region { A.region_of (A.geometry allocator) ≡ region_at start size }
+{
+    let region = sevens(alloc, start, size)?;
+    Ok(Owner::new(alloc, allocator, region))
+}
+
 /// What is asked of an allocator. A layout is a size and an alignment, and a chunk is named by its position among those that are
 /// out.
 #[derive(Clone, Copy)]
@@ -306,9 +320,14 @@ impl<A: Allocator + Drop> Owner<A> {
         self.answer_base(call)
     }
 
-    /// The commands' replies, by the run with resizes.
-    fn run_full(&mut self, commands: &[Command]) -> Result<Vec<Reply>, AllocError> {
-        run_full(&mut self.allocator, &mut self.live, commands)
+    /// The commands' replies, by a run over any allocator: without resizes, or with them.
+    fn run_any(&mut self, run: Run, commands: &[Command]) -> Result<Vec<Reply>, AllocError> {
+        match run {
+            Run::Base | Run::BaseByName => self.run_base(commands),
+            Run::Full | Run::FullByName => {
+                run_full(&mut self.allocator, &mut self.live, commands)
+            }
+        }
     }
 }
 
@@ -486,9 +505,9 @@ pub(crate) fn keeps(rt: &impl Abort, owner: &mut impl Driven, steps: &[Step<'_>]
 }
 
 /// The same of an owner who is made for it.
-pub(crate) fn all_keep(
+pub(crate) fn all_keep<A: Kind>(
     rt: &impl Abort,
-    made: Result<impl Driven, &'static str>,
+    made: Result<Owner<A>, &'static str>,
     steps: &[Step<'_>],
 ) {
     keeps(rt, &mut checks::made(rt, made), steps);

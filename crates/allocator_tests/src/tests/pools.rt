@@ -6,7 +6,7 @@ ghost use Rattle.bb_memory.specs.Pool.{StandsFor};
 use super::checks::check;
 use super::layouts::{chunk, layout, layout_of};
 use super::owner::kinds::runs;
-use super::owner::{Answer, Call, Owner, Step, all_keep, sevens};
+use super::owner::{Answer, Call, Owner, Step, all_keep, owner_of};
 use bb_memory::allocator::{Command, Reply};
 use bb_memory::layout::Layout;
 use bb_memory::pool_allocator::{AllocationError, PoolAllocator};
@@ -42,9 +42,8 @@ pub(super) fn pool_owner(
     let Some(bucket) = layout_of(bucket.0, bucket.1) else {
         return Err("the bucket has no layout");
     };
-    let region = sevens(alloc, start, size)?;
     let pool = pool_over(alloc, bucket, start, size)?;
-    Ok(Owner::new(alloc, pool, region))
+    owner_of(alloc, pool, start, size)
 }
 
 /// Each of these steps of a pool over a region is as it has to be. The figures are the first place, the number of buckets, the

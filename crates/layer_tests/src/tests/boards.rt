@@ -1,6 +1,7 @@
 //! A job board, whose slots threads take.
 ghost use Rattle.std.specs.Prelude.{◌≡◌, IfSome};
 
+use super::checks::{REFUSED, check, fail};
 use bb_memory::layout::Layout;
 use bb_memory::pool_allocator::{AllocationError, pool_count_law};
 use bb_memory::shared_pool::PoolParty;
@@ -66,11 +67,14 @@ fn four_and_refusal(
 
 #[test]
 fn slots_have_one_holder(rt: HostRuntime) {
-    let Some((board, here, there)) = four_slots(rt.alloc()) else {
-        panic!(&rt; "memory was refused");
-    };
-    let found = four_and_refusal(&rt, &board, here, there);
-    assert!(rt; found == Ok(([0, 1, 2, 3], Some(AllocationError::OutOfMemory))));
+    match four_slots(rt.alloc()) {
+        Some((board, here, there)) => {
+            let found = four_and_refusal(&rt, &board, here, there);
+            let refused = Some(AllocationError::OutOfMemory);
+            check(&rt, found == Ok(([0, 1, 2, 3], refused)));
+        }
+        None => fail(&rt, REFUSED),
+    }
 }
 
 /// The number of the slot that a worker gets and gives back.
@@ -86,9 +90,11 @@ fn taken_and_done(board: &JobBoard, worker: &mut PoolParty) -> Result<u32, Alloc
 
 #[test]
 fn slot_given_back(rt: HostRuntime) {
-    let Some((board, _, mut worker)) = four_slots(rt.alloc()) else {
-        panic!(&rt; "memory was refused");
-    };
-    assert_eq!(rt; taken_and_done(&board, &mut worker), Ok(0));
-    assert_eq!(rt; taken_and_done(&board, &mut worker), Ok(0));
+    match four_slots(rt.alloc()) {
+        Some((board, _, mut worker)) => {
+            check(&rt, taken_and_done(&board, &mut worker) == Ok(0));
+            check(&rt, taken_and_done(&board, &mut worker) == Ok(0));
+        }
+        None => fail(&rt, REFUSED),
+    }
 }

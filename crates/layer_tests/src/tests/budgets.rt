@@ -165,14 +165,40 @@ fn budget_keeps<A: Allocator + Budget + Drop>(
     all_kept(rt, Tried::new(alloc, budget), rows);
 }
 
+/// A budget of so many chunks of this allocator keeps each row.
+fn chunks_of<A: Allocator + Drop>(
+    rt: &impl Abort,
+    alloc: Global,
+    allocator: A,
+    budget: usize,
+    rows: &[BudgetRow],
+)
+    requires { A.stands_for allocator [] }
+{
+    budget_keeps(rt, alloc, ChunkBudget::new(allocator, budget), rows);
+}
+
 /// A budget of so many chunks keeps each row.
 fn chunks_keep(rt: &impl Abort, alloc: Global, budget: usize, rows: &[BudgetRow]) {
-    budget_keeps(rt, alloc, ChunkBudget::new(eight_buckets(), budget), rows);
+    chunks_of(rt, alloc, eight_buckets(), budget, rows);
+}
+
+/// A budget of so many bytes of this allocator keeps each row.
+fn bytes_of<A: Allocator + Drop>(
+    rt: &impl Abort,
+    alloc: Global,
+    allocator: A,
+    budget: usize,
+    rows: &[BudgetRow],
+)
+    requires { A.stands_for allocator [] }
+{
+    budget_keeps(rt, alloc, ByteBudget::new(allocator, budget), rows);
 }
 
 /// A budget of so many bytes keeps each row.
 fn bytes_keep(rt: &impl Abort, alloc: Global, budget: usize, rows: &[BudgetRow]) {
-    budget_keeps(rt, alloc, ByteBudget::new(eight_buckets(), budget), rows);
+    bytes_of(rt, alloc, eight_buckets(), budget, rows);
 }
 
 #[test]

@@ -2,6 +2,7 @@
 ghost use Rattle.std.specs.Prelude.{◌≡◌, ◌+◌, ◌≤◌, IfSome, length};
 ghost use Rattle.bb_memory_base.specs.HeldBytes.{held_region};
 
+use super::checks::{REFUSED, check, fail};
 use super::pools::{TestPool, buckets_of_four, eight_buckets, its_region};
 use bb_memory::layout::{Chunk, Layout};
 use bb_memory::pool_allocator::{AllocationGrowError, Allocator, BaseAllocator};
@@ -101,14 +102,11 @@ const PUSHED: Result<(), PushError> = Ok(());
 const FULL: Result<(), PushError> = Err(PushError::Full(AllocationGrowError::OutOfMemory));
 
 /// Four bytes fit a vector, a fifth one doesn't, and the chunk that it began with has the first two.
-fn holds_four<A: Allocator + Drop>(rt: &impl Abort, made: Option<Growing<A>>) {
-    let Some(mut growing) = made else {
-        panic!(rt; "memory was refused");
-    };
+fn holds_four<A: Allocator + Drop>(rt: &impl Abort, mut growing: Growing<A>) {
     let answers = [PUSHED, PUSHED, PUSHED, PUSHED, FULL];
-    assert!(rt; growing.pushes(&[1, 2, 3, 4, 5], &answers));
-    assert_eq!(rt; growing.bytes.len(), 4);
-    assert_eq!(rt; growing.held(), [1, 2].as_slice());
+    check(rt, growing.pushes(&[1, 2, 3, 4, 5], &answers));
+    check(rt, growing.bytes.len() == 4);
+    check(rt, growing.held() == [1, 2].as_slice());
 }
 
 /// A vector in a bucket of four bytes.
@@ -118,7 +116,10 @@ fn growing_in_four(alloc: Global) -> Option<Growing<TestPool>> {
 
 #[test]
 fn byte_vector_grows_in_its_bucket(rt: HostRuntime) {
-    holds_four(&rt, growing_in_four(rt.alloc()));
+    match growing_in_four(rt.alloc()) {
+        Some(growing) => holds_four(&rt, growing),
+        None => fail(&rt, REFUSED),
+    }
 }
 
 /// A vector in a bucket of 128 bytes.
@@ -127,18 +128,21 @@ fn growing_in_many(alloc: Global) -> Option<Growing<TestPool>> {
 }
 
 /// Three bytes are copied to a chunk of another region.
-fn copies<A: Allocator + Drop>(rt: &impl Abort, made: Option<Growing<A>>, there: Option<Region>)
-    requires { IfSome there (λ region. held_region region ≡ record { start = 9000; size = 64 }) }
+fn copies<A: Allocator + Drop>(rt: &impl Abort, mut growing: Growing<A>, mut other: Region)
+    requires { held_region other ≡ record { start = 9000; size = 64 } }
 {
-    let (Some(mut growing), Some(mut other)) = (made, there) else {
-        panic!(rt; "memory was refused");
-    };
-    assert!(rt; growing.pushes(&[7, 8, 9], &[PUSHED; 3]));
-    assert_eq!(rt; growing.copied(&mut other), Some(3));
-    assert!(rt; other.bytes().starts_with(&[0, 0, 0, 0, 0, 7, 8, 9, 0, 0]));
+    check(rt, growing.pushes(&[7, 8, 9], &[PUSHED; 3]));
+    check(rt, growing.copied(&mut other) == Some(3));
+    check(
+        rt,
+        other.bytes().starts_with(&[0, 0, 0, 0, 0, 7, 8, 9, 0, 0]),
+    );
 }
 
 #[test]
 fn byte_vector_copied(rt: HostRuntime) {
-    copies(&rt, growing_in_many(rt.alloc()), another_region(rt.alloc()));
+    match (growing_in_many(rt.alloc()), another_region(rt.alloc())) {
+        (Some(growing), Some(other)) => copies(&rt, growing, other),
+        _ => fail(&rt, REFUSED),
+    }
 }

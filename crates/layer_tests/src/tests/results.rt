@@ -1,26 +1,27 @@
 //! Errors through `?`, and blocks of the heap.
+use super::checks::check;
 use bb_memory::layout::Layout;
-use bb_memory::pool_allocator::AllocationError;
+use bb_memory::pool_allocator::{AllocationError, PoolAllocator};
 use examples::errors::{GiveError, by_enum, open};
 use examples::heap::grown;
+use std::alloc::Global;
 use std::test::Fail;
+
+/// Whether no pool was opened, for want of memory.
+fn is_refused(made: Result<PoolAllocator<Global>, GiveError>) -> bool {
+    matches!(made, Err(GiveError::Refused(AllocationError::OutOfMemory)))
+}
 
 #[test]
 fn errors_go_through(rt: HostRuntime) -> Result<(), Fail> {
-    assert_eq!(rt; by_enum()?, 4096);
+    check(&rt, by_enum()? == 4096);
     let pool = open(rt.alloc(), Layout::from_size_align(128, 8)?)?;
-    assert_eq!(rt; pool.number_of_buckets(), 8);
-    let refused = open(rt.alloc(), Layout::empty());
-    assert!(rt;
-        matches!(
-            refused,
-            Err(GiveError::Refused(AllocationError::OutOfMemory))
-        )
-    );
+    check(&rt, pool.number_of_buckets() == 8);
+    check(&rt, is_refused(open(rt.alloc(), Layout::empty())));
     Ok(())
 }
 
 #[test]
 fn heap_block_grows(rt: HostRuntime) {
-    assert!(rt; grown(rt.alloc()).is_ok());
+    check(&rt, grown(rt.alloc()).is_ok());
 }

@@ -4,6 +4,7 @@ ghost use Rattle.std.specs.Prelude.{◌↔◌, [], IfSome, IsTrue};
 ghost use Rattle.bb_memory_base.specs.Region.{region_at};
 ghost use Rattle.uses.specs.Segregations.{MayBePool};
 
+use super::checks::fail;
 use super::rows::{Driven, all_kept};
 use bb_memory::allocator::{
     AllocationError, AllocationGrowError, AllocationShrinkError, Allocator, BaseAllocator, Command,
@@ -14,6 +15,7 @@ use bb_memory::pool_allocator::FixedSizePoolAllocator;
 use std::alloc::Global;
 use std::marker::Model;
 use std::process::Abort;
+use uses::segregated::Segregated;
 use uses::three_pools::{ThreePools, three_pools};
 
 /// What is asked, of the chunk at a position of the live list where it isn't for a new one.
@@ -160,11 +162,23 @@ fn allocator_keeps<A: Allocator + Drop>(
     all_kept(rt, Tried { allocator, live }, rows);
 }
 
+/// A pair of allocators that is one, with nothing out, keeps each row.
+fn pair_keeps<A: Allocator + Drop, B: Allocator + Drop>(
+    rt: &impl Abort,
+    alloc: Global,
+    pair: Segregated<A, B>,
+    rows: &[PoolsRow],
+)
+    requires { ⟦<Segregated<A, B> as BaseAllocator>⟧.stands_for pair [] }
+{
+    allocator_keeps(rt, alloc, pair, rows);
+}
+
 /// The three pools keep each row.
 fn pools_keep(rt: &impl Abort, alloc: Global, rows: &[PoolsRow]) {
     match one_bucket_each() {
-        Some(pools) => allocator_keeps(rt, alloc, pools, rows),
-        None => panic!(rt; "no such pools may be made"),
+        Some(pools) => pair_keeps(rt, alloc, pools, rows),
+        None => fail(rt, "no such pools may be made"),
     }
 }
 

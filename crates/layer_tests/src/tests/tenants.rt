@@ -122,6 +122,11 @@ fn tenants_keep<A: Allocator + Drop>(
     all_kept(rt, Tried { tenants, last: 0 }, rows);
 }
 
+/// Tenants of a pool of eight buckets keep each row.
+fn pool_keeps(rt: &impl Abort, alloc: Global, whole: usize, rows: &[(Call, Answer)]) {
+    tenants_keep(rt, alloc, eight_buckets(), whole, rows);
+}
+
 #[test]
 fn limits_stay_within_the_whole(rt: HostRuntime) {
     let rows = [
@@ -140,7 +145,7 @@ fn limits_stay_within_the_whole(rt: HostRuntime) {
         (Call::Allocate(3, 0), Answer::NoTenant),
         (Call::Allocate(2, 1), Answer::OverLimit),
     ];
-    tenants_keep(&rt, rt.alloc(), eight_buckets(), 300, &rows);
+    pool_keeps(&rt, rt.alloc(), 300, &rows);
 }
 
 #[test]
@@ -161,7 +166,7 @@ fn tenants_use_their_own_limits(rt: HostRuntime) {
         (Call::Used(1), Answer::Number(100)),
         (Call::Out, Answer::Number(250)),
     ];
-    tenants_keep(&rt, rt.alloc(), eight_buckets(), 250, &rows);
+    pool_keeps(&rt, rt.alloc(), 250, &rows);
 }
 
 #[test]
@@ -184,7 +189,7 @@ fn chunk_goes_back_from_its_tenant_alone(rt: HostRuntime) {
         (Call::Allocate(0, 100), Answer::Chunk(100)),
         (Call::Out, Answer::Number(170)),
     ];
-    tenants_keep(&rt, rt.alloc(), eight_buckets(), 200, &rows);
+    pool_keeps(&rt, rt.alloc(), 200, &rows);
 }
 
 #[test]
@@ -197,7 +202,7 @@ fn allocator_refuses_within_the_limit(rt: HostRuntime) {
         (Call::Used(0), Answer::Number(0)),
         (Call::Allocate(0, 128), Answer::Chunk(128)),
     ];
-    tenants_keep(&rt, rt.alloc(), eight_buckets(), 1000, &rows);
+    pool_keeps(&rt, rt.alloc(), 1000, &rows);
 }
 
 #[test]

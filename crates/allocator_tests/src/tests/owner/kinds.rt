@@ -109,8 +109,7 @@ impl Kind for OneChunkAllocator {
         commands: &[Command],
     ) -> Result<Vec<Reply>, AllocError> {
         match run {
-            Run::Base => owner.run_base(commands),
-            Run::Full => owner.run_full(commands),
+            Run::Base | Run::Full => owner.run_any(run, commands),
             Run::BaseByName => {
                 run_base_one_chunk(&mut owner.allocator, &mut owner.live, commands)
             }
@@ -151,8 +150,7 @@ impl Kind for PoolAllocator<Global> {
         commands: &[Command],
     ) -> Result<Vec<Reply>, AllocError> {
         match run {
-            Run::Base => owner.run_base(commands),
-            Run::Full => owner.run_full(commands),
+            Run::Base | Run::Full => owner.run_any(run, commands),
             Run::BaseByName => run_base_pool(&mut owner.allocator, &mut owner.live, commands),
             Run::FullByName => run_pool(&mut owner.allocator, &mut owner.live, commands),
         }
@@ -188,8 +186,7 @@ impl<const N: usize> Kind for FixedSizePoolAllocator<N> {
         commands: &[Command],
     ) -> Result<Vec<Reply>, AllocError> {
         match run {
-            Run::Base => owner.run_base(commands),
-            Run::Full => owner.run_full(commands),
+            Run::Base | Run::Full => owner.run_any(run, commands),
             Run::BaseByName => {
                 run_base_fixed_pool(&mut owner.allocator, &mut owner.live, commands)
             }

@@ -8,15 +8,16 @@ mod pools;
 use super::ends_unmade;
 use crate::marks::{none_was_asked, refuse_memory};
 use crate::tests::checks::check;
-use crate::tests::owner::{Driven, Step, keeps};
+use crate::tests::owner::kinds::Kind;
+use crate::tests::owner::{Driven, Owner, Step, keeps};
 use std::alloc::Global;
 use std::process::Abort;
 
 /// These steps, with at most two chunks out at once, are as they have to be without a request for memory.
-fn keep_without_memory(
+fn keep_without_memory<A: Kind>(
     rt: &impl Abort,
     alloc: Global,
-    made: Result<impl Driven, &'static str>,
+    made: Result<Owner<A>, &'static str>,
     steps: &[Step<'_>],
 ) {
     let Ok(mut owner) = made else {

@@ -5,8 +5,8 @@ use crate::tests::bumps::bump_owner;
 use crate::tests::checks::check;
 use crate::tests::layouts::{chunk, layout};
 use crate::tests::one_chunks::one_owner;
-use crate::tests::owner::kinds::{Figures, Run};
-use crate::tests::owner::{Driven, Step, keeps, replies_are};
+use crate::tests::owner::kinds::{Figures, Kind, Run};
+use crate::tests::owner::{Driven, Owner, Step, keeps, replies_are};
 use crate::tests::pools::pool_owner;
 use bb_memory::allocator::{AllocationError, AllocationGrowError, Command, Reply};
 use std::alloc::{AllocError, Global};
@@ -40,10 +40,10 @@ fn told(
 }
 
 /// A run is replied so, and then these steps are as they have to be. Without memory for the owner the test ends.
-fn is_told(
+fn is_told<A: Kind>(
     rt: &impl Abort,
     alloc: Global,
-    made: Result<impl Driven, &'static str>,
+    made: Result<Owner<A>, &'static str>,
     row: &Row<'_>,
     steps: &[Step<'_>],
 ) {
@@ -148,7 +148,11 @@ fn eight_buckets(rt: &impl Abort) -> [Command; 14] {
 }
 
 /// The row is replied as it has to be, and eight chunks are out then.
-fn has_eight_buckets(rt: &impl Abort, alloc: Global, made: Result<impl Driven, &'static str>) {
+fn has_eight_buckets<A: Kind>(
+    rt: &impl Abort,
+    alloc: Global,
+    made: Result<Owner<A>, &'static str>,
+) {
     let Ok(mut pool) = made else {
         return ends_unmade(rt, alloc);
     };
