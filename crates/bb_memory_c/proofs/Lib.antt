@@ -10,3 +10,4 @@ pub mod Unseated
 pub mod Layouts
 pub mod Made
 pub mod Makers
+pub mod Seating

@@ -28,6 +28,17 @@ fresh-idle has_post pool count parties are = λ k d below.
       idle = λ some. false≢true some.1;
     }
 
+-- so such parties are those of a fresh pool that have no seat
+pub fresh-unseated : (its pool : SharedPool) (count len capacity : ℕ) (parties items : List PoolParty) → its ≡ pool →
+    items ≡ parties → len ≡ length items → len ≤ capacity → AreHandedOut false pool count parties →
+    AreUnseated its capacity items
+fresh-unseated its pool count len capacity parties items same is as_long fits are =
+    subst (λ (p : SharedPool). AreUnseated p capacity items) (sym same) record {
+      at_most = omega (arith, ap length is, are.as_many, are.so_many);
+      room = omega (arith, ap length is, as_long, fits, are.as_many, are.so_many);
+      idle = subst (All (IsIdleAt pool)) (sym is) (fresh-idle false pool count parties are);
+    }
+
 -- what holds of all of a list holds of its last one
 pub of_last : {X : Type 0} (P : X → Type 0) (front all : List X) (last : X) → all ≡ front ++ last ∷ [] → All P all → P last
 of_last P front all last is holds =
