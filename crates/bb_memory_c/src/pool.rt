@@ -28,7 +28,7 @@ use bb_memory::pool_allocator::{
 use std::alloc::Global;
 use std::marker::Model;
 
-/// A pool behind a handle. It is a type without parameters: those of `PoolAllocator` would be proved anew at each call of a handle.
+/// A pool behind a handle, by a type without parameters: those of `PoolAllocator` would be proved anew at each call of a handle.
 #[derive(Drop)]
 pub struct Pool {
     pub(crate) pool: PoolAllocator<Global>,
