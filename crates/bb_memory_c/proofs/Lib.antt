@@ -12,3 +12,4 @@ pub mod Made
 pub mod Makers
 pub mod Seating
 pub mod Resizes
+pub mod Nothing
