@@ -17,7 +17,8 @@ is_empty None told made is = refl
 is_empty (Some x) told made is = absurd (false≢true (sym is ∙ made.1 (λ wrong. none-some x (sym wrong))))
 
 -- a number that is one of two is no third one
-pub neither : {X : Type 0} {one two : ℕ} (code third : ℕ) → (code ≢ one → code ≡ two) → third ≢ one → third ≢ two → code ≡ third → X
+pub neither : {X : Type 0} {one two : ℕ} (code third : ℕ) → (code ≢ one → code ≡ two) → third ≢ one → third ≢ two →
+    code ≡ third → X
 neither code third either not_one not_two is = absurd (not_two (sym is ∙ either (λ one. not_one (sym is ∙ one))))
 
 -- WHAT HAS NO BUCKETS

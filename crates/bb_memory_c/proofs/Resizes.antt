@@ -65,18 +65,18 @@ module _ (held : Type 0) (place : ℕ) (old : Layout) (may : Result Chunk Alloca
   }
 
 module _ (held : Type 0) (place reserved : ℕ) (old : Layout) (may : Result Chunk AllocationShrinkError → Type 0) (told : Answer)
-    where
-  pub none-shrinks : ¬ held → told ≡ refused not_held → TellsShrink held place reserved old may told
-  none-shrinks none so = record {
-    answered = λ fits. absurd (none fits.is_held);
-    misfit = λ is _. absurd (none is);
-    nothing = λ _. so;
-  }
+  where
+    pub none-shrinks : ¬ held → told ≡ refused not_held → TellsShrink held place reserved old may told
+    none-shrinks none so = record {
+      answered = λ fits. absurd (none fits.is_held);
+      misfit = λ is _. absurd (none is);
+      nothing = λ _. so;
+    }
 
-  pub misfit-shrinks : held → ¬ MayShrinkAt held place reserved old → told ≡ refused not_the_old →
-      TellsShrink held place reserved old may told
-  misfit-shrinks is not so = record {
-    answered = λ fits. absurd (not fits);
-    misfit = λ _ _. so;
-    nothing = λ none. absurd (none is);
-  }
+    pub misfit-shrinks : held → ¬ MayShrinkAt held place reserved old → told ≡ refused not_the_old →
+        TellsShrink held place reserved old may told
+    misfit-shrinks is not so = record {
+      answered = λ fits. absurd (not fits);
+      misfit = λ _ _. so;
+      nothing = λ none. absurd (none is);
+    }

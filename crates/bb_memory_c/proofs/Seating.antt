@@ -1,7 +1,7 @@
 -- What is told of the giving of a seat, from what is behind both handles to the answer of what is shared.
 use Rattle.std.proofs.Common.{◌≡◌, ◌≢◌, ◌∙◌, ℕ, Option, Some, None, Ok, Err, IfSome, ap, refl, sym}
 use Rattle.bb_memory_c.specs.Calls.{GivesSeat, TakesSeat}
-use Rattle.bb_memory_c.specs.Codes.{already_made, done, malloc_refused, no_seat, not_made}
+use Rattle.bb_memory_c.specs.Codes.{already_made, done, not_made}
 use Rattle.bb_memory_c.proofs.Made.{at_made, at_none, not_both}
 use Rattle.bb_memory_c.proofs.Makers.{neither}
 

@@ -8,7 +8,8 @@ returns-in-Some g c = let is = c.in-Some.ensures.value in
     let new = at_lent _ _ c.in-Some.is (c.made_mut.follows.holds c.ask.new.made) in record {
       answered = at_made _ _ _ is (λ layout of. let told = c.ask.ensures.answer layout of in
           (told.0, c.ask.new.made, told.1, new, told.2));
-      no_layout = at_made _ _ _ is (λ none. let told = c.ask.ensures.not_a_layout none in (told.0, new ∙ ap Some told.1 ∙ sym is));
+      no_layout = at_made _ _ _ is (λ none.
+          let told = c.ask.ensures.not_a_layout none in (told.0, new ∙ ap Some told.1 ∙ sym is));
       empty = λ none. absurd (not_both _ _ is none);
     }
 

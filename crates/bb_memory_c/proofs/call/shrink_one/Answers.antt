@@ -1,6 +1,5 @@
-use Rattle.bb_memory_c.proofs.Resizes.{isn't-aligned, isn't-held, isn't-short, may-shrink, misfit-shrinks, none-shrinks, told-of, told-of-none}
-use Rattle.bb_memory_c.proofs.call.shrink_one.Goals.{then-place-align-ne0-via-then-place-align-ne0 as unaligned}
-use Rattle.bb_memory_c.proofs.call.shrink_one.Goals.{then-place-align-ne0-via-else-place-align-ne0+then-size-reserved_at as too-large}
+use Rattle.bb_memory_c.proofs.Resizes.{isn't-aligned, isn't-held, isn't-short, may-shrink, misfit-shrinks, none-shrinks}
+use Rattle.bb_memory_c.proofs.Resizes.{told-of, told-of-none}
 use Rattle.bb_memory_c.proofs.call.shrink_one.Goals as goal
 
 pub returns-in_default : goal.returns-in_default
@@ -20,6 +19,8 @@ pub returns-then-place-align-ne0 : goal.returns-then-place-align-ne0
 returns-then-place-align-ne0 g c =
     let is = c.is_held.ensures.0 c.if-not-is_held.false in
     told-of _ _ _ _ c.in-Some.is (misfit-shrinks _ _ _ _ _ _ is (elim c.then-place-align-ne0.branch [
-      | unaligned w ↦ λ fits. isn't-aligned _ _ _ c.align.ensures.value w.if-place-align-ne0.true fits.aligned
-      | too-large w ↦ λ fits. isn't-short _ _ _ _ w.size.ensures w.reserved_at.ensures w.if-size-reserved_at.true fits.short
+      | goal.then-place-align-ne0-via-then-place-align-ne0 w ↦
+          λ fits. isn't-aligned _ _ _ c.align.ensures.value w.if-place-align-ne0.true fits.aligned
+      | goal.then-place-align-ne0-via-else-place-align-ne0+then-size-reserved_at w ↦
+          λ fits. isn't-short _ _ _ _ w.size.ensures w.reserved_at.ensures w.if-size-reserved_at.true fits.short
     ]) c.refusal-then-place-align-ne0.ensures)

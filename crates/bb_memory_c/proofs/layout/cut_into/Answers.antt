@@ -1,4 +1,4 @@
-use Rattle.std.proofs.Common.{rules, refl}
+use Rattle.std.proofs.Common.{refl}
 use Rattle.std.proofs.lemmas.Bool.{false≢true}
 use Rattle.bb_memory_base.specs.Region.{region_at}
 use Rattle.bb_memory_c.proofs.Layouts.{cut-or-not}

@@ -1,10 +1,6 @@
 use Rattle.std.proofs.Common.{◌≡◌, ◌≢◌, ◌≤◌, ◌∙◌, ℕ, arith, refl, sym}
 use Rattle.std.proofs.lemmas.Bool.{false≢true}
-use Rattle.bb_memory_base.specs.Region.{Region, region_at}
-use Rattle.bb_memory_c.specs.SharedBumpHandles.{IsShareable}
 use Rattle.bb_memory_c.proofs.Makers.{is_empty, one-already, one-may-not, one-tried}
-use Rattle.bb_memory_c.proofs.shared_bump.bb_shared_bump_make.Goals.{then-parties-eq0-via-then-parties-eq0 as no-party}
-use Rattle.bb_memory_c.proofs.shared_bump.bb_shared_bump_make.Goals.{then-parties-eq0-via-else-parties-eq0+then-not-can_make as no-region}
 use Rattle.bb_memory_c.proofs.shared_bump.bb_shared_bump_make.Goals as goal
 
 no-parties : (parties : ℕ) → parties ≡ 0 → ¬ (1 ≤ parties)
@@ -20,8 +16,9 @@ returns-then-is_made c =
 pub returns-then-parties-eq0 : goal.returns-then-parties-eq0
 returns-then-parties-eq0 c =
     one-may-not _ _ _ _ (is_empty _ _ c.is_made.ensures.value c.if-is_made.false) (elim c.then-parties-eq0.branch [
-      | no-party w ↦ λ may. no-parties _ w.if-parties-eq0.true may.some
-      | no-region w ↦ λ may. false≢true (sym w.if-not-can_make.true ∙ w.can_make.ensures.1 may.is_region)
+      | goal.then-parties-eq0-via-then-parties-eq0 w ↦ λ may. no-parties _ w.if-parties-eq0.true may.some
+      | goal.then-parties-eq0-via-else-parties-eq0+then-not-can_make w ↦
+          λ may. false≢true (sym w.if-not-can_make.true ∙ w.can_make.ensures.1 may.is_region)
     ]) c.is_made.ensures.still
 
 pub new-requires : goal.new-requires
