@@ -1,4 +1,4 @@
-use Rattle.std.proofs.Common.{◌∙◌, refl}
+use Rattle.std.proofs.Common.{◌∙◌, refl, rules}
 use Rattle.bb_memory_c.proofs.Made.{at_lent}
 use Rattle.bb_memory_c.proofs.Makers.{is_empty}
 use Rattle.bb_memory_c.proofs.Seating.{dealt, none-dealt, none-shared, seated-already}
@@ -19,7 +19,8 @@ put-requires g c = c.is_made.ensures.still ∙ is_empty _ _ c.is_made.ensures.va
 pub returns-in-Ok : goal.returns-in-Ok
 returns-in-Ok g c =
     dealt _ _ _ _ _ _ _ _ (is_empty _ _ c.is_made.ensures.value c.if-is_made.false) _ _ c.in-Some.ensures.value
-    (at_lent _ _ c.in-Some.is (c.made_mut.follows.holds c.deal.new.self)) c.in-Ok.dealt c.in-Ok.ensures c.put.ensures
+    (at_lent _ _ c.in-Some.is (c.made_mut.follows.holds c.deal.new.self)) c.in-Ok.dealt c.in-Ok.ensures
+    (search rules)
 
 pub returns-in-Err : goal.returns-in-Err
 returns-in-Err g c =
