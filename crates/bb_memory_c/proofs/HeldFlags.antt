@@ -52,6 +52,12 @@ flags-set flags number flag log after below exact left = λ bucket. elim (cases_
       (λ has. held ∙ (exact bucket).0 (sym there ∙ has), λ is. there ∙ (exact bucket).1 (sym held ∙ is))
 ]
 
+-- so each held one has a flag
+pub flag-of-held : (flags : List Bool) (log : PoolLog) (number len : ℕ) → AreHeldFlags flags log → IsHeldAfter log number →
+    len ≡ length flags → number < len
+flag-of-held flags log number len exact held as_long =
+    subst (λ n. number < n) (sym as_long) (slice_get_within flags number true ((exact number).1 held))
+
 -- SEATS
 
 -- a request that took no bucket leaves the flags

@@ -10,3 +10,6 @@ pub mod Unseated
 pub mod Layouts
 pub mod Made
 pub mod Makers
+pub mod Seating
+pub mod Resizes
+pub mod Nothing

@@ -1,15 +1,21 @@
 -- Parties without a seat. A pool's hold nothing: so one begins its seat with no flag set.
-use Rattle.std.proofs.Common.{◌≡◌, ◌<◌, ◌∙◌, ◌+◌, ◌∷◌, ◌++◌, [], ℕ, Bool, true, false, List, length, Some}
+use Rattle.std.proofs.Common.{◌≡◌, ◌≢◌, ◌<◌, ◌∙◌, ◌+◌, ◌∷◌, ◌++◌, [], ℕ, Bool, true, false, List, length}
+use Rattle.std.proofs.Common.{Option, Ok, Err, Some, ◌≤◌}
 use Rattle.std.proofs.Common.{ap, arith, refl, subst, sym}
-use Rattle.std.specs.Prelude.{All, slice_get}
-use Rattle.std.proofs.lemmas.Bool.{false≢true}
-use Rattle.std.proofs.lemmas.List.{length-append, length-replicate}
-use Rattle.std.proofs.lemmas.List.Elements.{All-push, All-same}
+use Rattle.std.specs.Prelude.{◌==◌, All, slice_get}
+use Rattle.std.specs.Option.{option_to_list}
+use Rattle.std.proofs.lemmas.Bool.{eqb-true, false≢true}
+use Rattle.std.proofs.lemmas.List.{append-nil, length-append, length-replicate}
+use Rattle.std.proofs.lemmas.List.Elements.{All-pop, All-push, All-same}
 use Rattle.std.proofs.lemmas.Option.{same_Some, slice_get-get_or}
 use Rattle.std.proofs.Math.ListN.{replicate}
 use Rattle.bb_memory_base.proofs.SliceGets.{slice_get-last, slice_get-replicated}
+use Rattle.bb_memory.specs.SharedBump.{BumpParty, SharedBump}
 use Rattle.bb_memory.specs.SharedPool.{AreHandedOut, PoolParty, SharedPool}
-use Rattle.bb_memory_c.specs.Seats.{joined}
+use Rattle.bb_memory_c.specs.Calls.{TakesSeat}
+use Rattle.bb_memory_c.specs.Codes.{malloc_refused, no_seat}
+use Rattle.bb_memory_c.specs.Seats.{Seats, joined, left_at}
+use Rattle.bb_memory_c.specs.SharedBumps.{AreUnseated as AreUnseatedAtBump, IsAt as IsAtBump}
 use Rattle.bb_memory_c.specs.SharedPools.{AreUnseated, IsAt, IsIdleAt, IsSeatAt}
 
 -- a party that has made no step holds nothing
@@ -20,6 +26,17 @@ fresh-idle has_post pool count parties are = λ k d below.
     subst (IsIdleAt pool) (same_Some _ _ (sym (are.fresh k first) ∙ slice_get-get_or parties k d below)) record {
       theirs = refl;
       idle = λ some. false≢true some.1;
+    }
+
+-- so such parties are those of a fresh pool that have no seat
+pub fresh-unseated : (its pool : SharedPool) (count len capacity : ℕ) (parties items : List PoolParty) → its ≡ pool →
+    items ≡ parties → len ≡ length items → len ≤ capacity → AreHandedOut false pool count parties →
+    AreUnseated its capacity items
+fresh-unseated its pool count len capacity parties items same is as_long fits are =
+    subst (λ (p : SharedPool). AreUnseated p capacity items) (sym same) record {
+      at_most = omega (arith, ap length is, are.as_many, are.so_many);
+      room = omega (arith, ap length is, as_long, fits, are.as_many, are.so_many);
+      idle = subst (All (IsIdleAt pool)) (sym is) (fresh-idle false pool count parties are);
     }
 
 -- what holds of all of a list holds of its last one
@@ -65,6 +82,15 @@ last-at its front all last seat is same capacity are = record {
   out = omega (arith, are.at_most, ap length is, length-append front (last ∷ []));
 }
 
+-- the same of a bump's
+pub last-at-bump : (its : SharedBump) (front all : List BumpParty) (last seat : BumpParty) → all ≡ front ++ last ∷ [] →
+    seat ≡ last → (count capacity : ℕ) → AreUnseatedAtBump its count capacity all →
+    IsAtBump record { shared = its; parties = front } seat
+last-at-bump its front all last seat is same count capacity are = record {
+  theirs = ap (λ (p : BumpParty). p.allocator) same ∙ of_last (λ p. p.allocator ≡ its) front all last is are.theirs;
+  out = omega (arith, are.so_many, are.at_most, ap length is, length-append front (last ∷ []));
+}
+
 module _ {S P : Type 0} (its : S) (front all : List P) (last seat : P) (is : all ≡ front ++ last ∷ []) (same : seat ≡ last) where
   -- they are those in front of the last one, and that one
   pub joined-last : record { shared = its; parties = all } ≡ joined record { shared = its; parties = front } seat
@@ -74,3 +100,107 @@ module _ {S P : Type 0} (its : S) (front all : List P) (last seat : P) (is : all
   -- so there were some
   pub some-left : {X : Type 0} → length all ≡ 0 → X
   some-left none = absurd (omega (arith, none, ap length is, length-append front (last ∷ [])))
+
+-- no number is what is compared with none
+is-zero : (told : Bool) (n : ℕ) → told ≡ (n == 0) → told ≡ true → n ≡ 0
+is-zero told n is true_is = eqb-true n 0 (sym is ∙ true_is)
+
+isn't-zero : (told : Bool) (n : ℕ) → told ≡ (n == 0) → told ≡ false → n ≢ 0
+isn't-zero told n is false_is none = absurd (false≢true (sym false_is ∙ is ∙ ap (λ (k : ℕ). k == 0) none))
+
+-- what holds of a list and its room holds of the same
+pub kept : {X : Type 0} (P : ℕ → List X → Type 0) (capacity room : ℕ) (all items : List X) → room ≡ capacity → items ≡ all →
+    P capacity all → P room items
+kept P capacity room all items same is holds =
+    subst (λ (n : ℕ). P n items) (sym same) (subst (P capacity) (sym is) holds)
+
+-- in front of the last one are fewer
+pub fewer : (its : SharedPool) (capacity room : ℕ) (front all : List PoolParty) (last : Option PoolParty) →
+    all ≡ front ++ option_to_list last → room ≡ capacity → AreUnseated its capacity all → AreUnseated its room front
+fewer its capacity room front all last is same are = record {
+  at_most = omega (arith, are.at_most, ap length is, length-append front (option_to_list last));
+  room = omega (arith, are.room, same);
+  idle = (All-pop (IsIdleAt its) all front last is are.idle).0;
+}
+
+pub fewer-at-bump : (its : SharedBump) (count capacity room : ℕ) (front all : List BumpParty) (last : Option BumpParty) →
+    all ≡ front ++ option_to_list last → room ≡ capacity → AreUnseatedAtBump its count capacity all →
+    AreUnseatedAtBump its count room front
+fewer-at-bump its count capacity room front all last is same are = record {
+  so_many = are.so_many;
+  at_most = omega (arith, are.at_most, ap length is, length-append front (option_to_list last));
+  room = omega (arith, are.room, same);
+  theirs = (All-pop (λ p. p.allocator ≡ its) all front last is are.theirs).0;
+}
+
+-- so there is room for the last one
+pub room-for : {X : Type 0} (most capacity room left : ℕ) (all : List X) → length all ≡ left + 1 → room ≡ capacity →
+    length all ≤ most → most ≤ capacity → left < room
+room-for most capacity room left all is same at_most has = omega arith
+
+-- one that goes back behind those that it was taken from restores them
+pub restored : {X : Type 0} (front all after : List X) (last back : X) → all ≡ front ++ last ∷ [] → back ≡ last →
+    after ≡ front ++ back ∷ [] → after ≡ all
+restored front all after last back is same pushed = pushed ∙ ap (λ x. front ++ x ∷ []) same ∙ sym is
+
+-- WHAT A CALL FOR A SEAT IS ANSWERED
+
+module _ {S P Y : Type 0} (joins : Seats S P → Y → Seats S P) (at : Seats S P → Y → Type 0) (old new : Seats S P)
+    (still : new ≡ old) where
+  -- all have a seat
+  pub gets-none : (told : Bool) (left : ℕ) → left ≡ left_at old → told ≡ (left == 0) → told ≡ true →
+      TakesSeat old new (Err no_seat) left_at joins at
+  gets-none told left same is empty = record {
+    seated = tt;
+    none_left = (λ _. sym same ∙ is-zero told left is empty, λ _. refl);
+    else_memory = λ not. absurd (not refl);
+    still = still;
+  }
+
+  -- memory is refused
+  gets-no-memory : left_at old ≢ 0 → TakesSeat old new (Err malloc_refused) left_at joins at
+  gets-no-memory some = record {
+    seated = tt;
+    none_left = (λ wrong. absurd (cc), λ none. absurd (some none));
+    else_memory = λ _. refl;
+    still = still;
+  }
+
+  -- memory is refused where some have none
+  pub gets-refusal : (told : Bool) (left : ℕ) → left ≡ left_at old → told ≡ (left == 0) → told ≡ false →
+      TakesSeat old new (Err malloc_refused) left_at joins at
+  gets-refusal told left same is some = gets-no-memory (λ none. isn't-zero told left is some (same ∙ none))
+
+-- none was taken, as there was none
+pub none-taken : {S P Y : Type 0} (joins : Seats S P → Y → Seats S P) (at : Seats S P → Y → Type 0) (its : S)
+    (front all : List P) (old : Seats S P) (left : ℕ) → record { shared = its; parties = all } ≡ old → all ≡ front ++ [] →
+    left ≡ length all → left ≡ 0 → TakesSeat old record { shared = its; parties = front } (Err no_seat) left_at joins at
+none-taken {S} {P} joins at its front all old left view is same none =
+    gets-none joins at old record { shared = its; parties = front }
+    (ap (λ (ps : List P). record { shared = its; parties = ps }) (sym (append-nil front) ∙ sym is) ∙ view) true left
+    (same ∙ ap (λ (s : Seats S P). left_at s) view) (sym (ap (λ (n : ℕ). n == 0) none)) refl
+
+module _ {S P Y : Type 0} (party_of : Y → P) (at : Seats S P → Y → Type 0) (its : S) (front all : List P) (last : P)
+    (old : Seats S P) (view : record { shared = its; parties = all } ≡ old) (is : all ≡ front ++ last ∷ []) where
+  -- so there were some
+  there-were : left_at old ≢ 0
+  there-were none = some-left its front all last last is refl (ap (λ (s : Seats S P). left_at s) view ∙ none)
+
+  -- the last one has a seat
+  pub gets-seat : (seat : Y) → party_of seat ≡ last → at record { shared = its; parties = front } seat →
+      TakesSeat old record { shared = its; parties = front } (Ok seat) left_at (λ seats y. joined seats (party_of y)) at
+  gets-seat seat same there = record {
+    seated = (sym view ∙ joined-last its front all last (party_of seat) is same, there);
+    none_left = (λ wrong. absurd (cc), λ none. absurd (there-were none));
+    else_memory = tt;
+    still = tt;
+  }
+
+  -- memory for its seat is refused, and it is back behind the others
+  pub gets-back : (back : P) (after : List P) → back ≡ last → after ≡ front ++ back ∷ [] →
+      TakesSeat old record { shared = its; parties = after } (Err malloc_refused) left_at
+      (λ seats y. joined seats (party_of y)) at
+  gets-back back after same pushed = gets-no-memory (λ seats y. joined seats (party_of y)) at old
+      record { shared = its; parties = after }
+      (ap (λ (ps : List P). record { shared = its; parties = ps }) (restored front all after last back is same pushed) ∙ view)
+      there-were

@@ -26,6 +26,21 @@ use bb_memory::pool_allocator::{
     PoolAllocator,
 };
 use std::alloc::Global;
+use std::marker::Model;
+
+/// A pool behind a handle, by a type without parameters: those of `PoolAllocator` would be proved anew at each call of a handle.
+#[derive(Drop)]
+pub struct Pool {
+    pub(crate) pool: PoolAllocator<Global>,
+}
+
+impl Model for Pool {
+    ghost use Rattle.bb_memory.specs.Pool.{CountedPool};
+
+    ghost Value = { CountedPool };
+
+    ghost view = { λ s. s.pool };
+}
 
 /// Makes a pool over the region of `size` bytes at `start`, behind a handle that has to be empty. The region is cut into
 /// buckets of `bucket_size` bytes at multiples of `bucket_align`, and has to have room for one.
@@ -57,7 +72,7 @@ pub extern "C" fn bb_pool_make(
     let Ok(pool) = PoolAllocator::new_uninit(bucket, start, size).init(alloc) else {
         return code::MALLOC_REFUSED;
     };
-    keep(handle, alloc, pool)
+    keep(handle, alloc, Pool { pool })
 }
 
 /// Frees the pool, whose handle is empty then. The answer is 0, or `BB_NOT_MADE` where it was empty already.
@@ -254,37 +269,37 @@ pub extern "C" fn bb_pool_number_at(handle: &mut PoolHandle, place: usize) -> Fi
     number(handle, place)
 }
 
-impl Tells<PoolFigure> for PoolAllocator<Global> {
+impl Tells<PoolFigure> for Pool {
     ghost figure = { λ pool. pool_figure pool.pool.geometry (held_count pool.pool) };
 
     fn tell(&self, name: PoolFigure) -> usize {
         match name {
-            PoolFigure::NumberOfBuckets => self.number_of_buckets() as usize,
-            PoolFigure::HeldBuckets => self.held_buckets() as usize,
-            PoolFigure::BucketSize => self.bucket_size(),
-            PoolFigure::MaxAlignment => self.max_alignment(),
-            PoolFigure::Size => self.size(),
+            PoolFigure::NumberOfBuckets => self.pool.number_of_buckets() as usize,
+            PoolFigure::HeldBuckets => self.pool.held_buckets() as usize,
+            PoolFigure::BucketSize => self.pool.bucket_size(),
+            PoolFigure::MaxAlignment => self.pool.max_alignment(),
+            PoolFigure::Size => self.pool.size(),
         }
     }
 }
 
-impl Tells<FirstPlace> for PoolAllocator<Global> {
+impl Tells<FirstPlace> for Pool {
     ghost figure = { λ pool name. first_place pool.pool.geometry.region pool.pool.geometry.bucket };
 
     fn tell(&self, _name: FirstPlace) -> usize {
-        self.start_address()
+        self.pool.start_address()
     }
 }
 
-impl Gives for PoolAllocator<Global> {
+impl Gives for Pool {
     ghost may_give = { λ pool layout answer after. Takes pool.pool layout answer after.pool };
 
     fn give(&mut self, layout: Layout) -> Result<Chunk, AllocationError> {
-        self.allocate(layout)
+        self.pool.allocate(layout)
     }
 }
 
-impl Keeps for PoolAllocator<Global> {
+impl Keeps for Pool {
     ghost holds = { λ pool place. HoldsPlace pool.pool place };
 
     ghost frees = { λ pool place after. Frees pool.pool place after.pool };
@@ -296,15 +311,15 @@ impl Keeps for PoolAllocator<Global> {
     ghost may_shrink = { λ pool. MayShrink pool.pool.geometry.bucket };
 
     fn is_held(&self, place: usize) -> bool {
-        self.holds(place)
+        self.pool.holds(place)
     }
 
     fn give_back(&mut self, place: usize) -> bool {
-        self.deallocate_if_held(place)
+        self.pool.deallocate_if_held(place)
     }
 
     fn reserved_at(&self, place: usize) -> usize {
-        self.reserved(place)
+        self.pool.reserved(place)
     }
 
     fn grow_at(
@@ -313,7 +328,7 @@ impl Keeps for PoolAllocator<Global> {
         old: Layout,
         new: Layout,
     ) -> Result<Chunk, AllocationGrowError> {
-        self.grow(place, old, new)
+        self.pool.grow(place, old, new)
     }
 
     fn shrink_at(
@@ -322,18 +337,18 @@ impl Keeps for PoolAllocator<Global> {
         old: Layout,
         new: Layout,
     ) -> Result<Chunk, AllocationShrinkError> {
-        self.shrink(place, old, new)
+        self.pool.shrink(place, old, new)
     }
 }
 
-impl Cut for PoolAllocator<Global> {
+impl Cut for Pool {
     ghost geometry = { λ pool. pool.pool.geometry };
 
     fn place_of(&self, number: u32) -> Option<usize> {
-        self.place_at(number)
+        self.pool.place_at(number)
     }
 
     fn number_of(&self, place: usize) -> Option<u32> {
-        self.number_at(place)
+        self.pool.number_at(place)
     }
 }

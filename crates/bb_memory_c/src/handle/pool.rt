@@ -1,13 +1,12 @@
 //! The handles of the pools with one owner: which buckets are held is kept in words of their own, or in the pool itself.
 ghost use Rattle.std.specs.Prelude.{◌≡◌, Option};
 ghost use Rattle.std.specs.declared.alloc.Global.{Global as Heap};
-ghost use Rattle.bb_memory.specs.Pool.{CountedPool, Pool};
+ghost use Rattle.bb_memory.specs.Pool.{CountedPool, Pool as PoolValue};
 
 use crate::flags_pool::FlagsPool;
 use crate::handle::Handle;
 use crate::held::Held;
-use bb_memory::pool_allocator::PoolAllocator;
-use std::alloc::Global;
+use crate::pool::Pool;
 use std::marker::Model;
 
 /// Empty, or the owner of a pool.
@@ -28,11 +27,11 @@ impl Model for PoolHandle {
 }
 
 impl Handle for PoolHandle {
-    type Made = PoolAllocator<Global>;
+    type Made = Pool;
 
     ghost made = { λ h. h.value };
 
-    fn of(held: Held<PoolAllocator<Global>>) -> PoolHandle
+    fn of(held: Held<Pool>) -> PoolHandle
         ensures { result.value ≡ held.value }
     {
         let Held { at, made } = held;
@@ -42,19 +41,19 @@ impl Handle for PoolHandle {
         }
     }
 
-    fn into_held(self) -> Held<PoolAllocator<Global>> {
+    fn into_held(self) -> Held<Pool> {
         let PoolHandle { at, made } = self;
         Held {
-            at: at as *mut PoolAllocator<Global>,
+            at: at as *mut Pool,
             made,
         }
     }
 
-    fn made_mut(&mut self) -> Option<&mut PoolAllocator<Global>> {
+    fn made_mut(&mut self) -> Option<&mut Pool> {
         if !self.made {
             return None;
         }
-        Some(unsafe { &mut *(self.at as *mut PoolAllocator<Global>) })
+        Some(unsafe { &mut *(self.at as *mut Pool) })
     }
 }
 
@@ -67,7 +66,7 @@ pub struct FlagsPoolHandle {
     at: *mut u8,
     made: bool,
     pub ghost heap: { Heap },
-    pub ghost value: { Option Pool },
+    pub ghost value: { Option PoolValue },
 }
 
 impl Model for FlagsPoolHandle {

@@ -13,10 +13,16 @@ returns-in-Err c =
     c.cut_into.result c.in-Err.code c.is_made.ensures.still c.in-Err.is c.cut_into.ensures.not_a_layout
     c.cut_into.ensures.cannot_make c.in-Err.ensures.others (λ _ may. may)
 
+pub has_room-requires : goal.has_room-requires
+has_room-requires c = c.in-Ok.ensures.cut.may
+
 pub returns-then-not-has_room : goal.returns-then-not-has_room
 returns-then-not-has_room c =
     not-room (is_empty _ _ c.is_made.ensures.value c.if-is_made.false) c.in-Ok.bucket c.in-Ok.ensures.cut.layout
     c.in-Ok.ensures.cut.may c.is_made.ensures.still (λ has. false≢true (c.if-not-has_room.ensures.1 has))
+
+pub keep-requires : goal.keep-requires
+keep-requires c = c.is_made.ensures.still ∙ is_empty _ _ c.is_made.ensures.value c.if-is_made.false
 
 pub returns : goal.returns
 returns c =

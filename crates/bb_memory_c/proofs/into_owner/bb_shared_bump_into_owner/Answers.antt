@@ -1,6 +1,10 @@
-use Rattle.std.proofs.Common.{rules, ◌≡◌, Some}
+use Rattle.std.proofs.Common.{rules, ◌≡◌, ◌∙◌, Some}
+use Rattle.bb_memory_c.proofs.Makers.{is_empty}
 use Rattle.bb_memory_c.proofs.Made.{at_made, at_lent}
 use Rattle.bb_memory_c.proofs.into_owner.bb_shared_bump_into_owner.Goals as goal
+
+pub put-requires : goal.put-requires
+put-requires c = c.is_made.ensures.still ∙ is_empty _ _ c.is_made.ensures.value c.if-is_made.false
 
 pub returns-in-Err : goal.returns-in-Err
 returns-in-Err c = let is = c.in-Some.ensures.value in

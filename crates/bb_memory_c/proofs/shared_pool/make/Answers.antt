@@ -24,6 +24,9 @@ returns-then-least-eq0 c =
     not-may (is_empty _ _ c.is_made.ensures.value c.if-is_made.false) c.in-Ok.bucket c.in-Ok.ensures.cut.layout
     c.is_made.ensures.still (λ may. no_party _ _ c.least_of-least.ensures c.if-least-eq0.true may.0)
 
+pub has_room-requires : goal.has_room-requires
+has_room-requires c = c.in-Ok.ensures.cut.may
+
 pub returns-then-not-has_room : goal.returns-then-not-has_room
 returns-then-not-has_room c =
     not-room (is_empty _ _ c.is_made.ensures.value c.if-is_made.false) c.in-Ok.bucket c.in-Ok.ensures.cut.layout
@@ -36,6 +39,9 @@ returns-in_default c =
     (some_party _ _ c.least_of-least.ensures c.if-least-eq0.false, c.in-Ok.ensures.cut.may) _
     (c.has_room.ensures.0 c.if-not-has_room.false)
     (λ wrong. absurd (cc)) (λ _. refl) (λ _. c.is_made.ensures.still)
+
+pub keep-requires : goal.keep-requires
+keep-requires c = c.is_made.ensures.still ∙ is_empty _ _ c.is_made.ensures.value c.if-is_made.false
 
 pub returns : goal.returns
 returns c =

@@ -27,6 +27,9 @@ returns-then-not-may_have_post c =
     not-may (is_empty _ _ c.is_made.ensures.value c.if-is_made.false) c.in-Ok.bucket c.in-Ok.ensures.cut.layout
     c.is_made.ensures.still (λ may. false≢true (c.if-not-may_have_post.ensures.1 (may.some, may.one_more)))
 
+pub has_room-requires : goal.has_room-requires
+has_room-requires c = c.in-Ok.ensures.cut.may
+
 pub returns-then-not-has_room : goal.returns-then-not-has_room
 returns-then-not-has_room c =
     not-room (is_empty _ _ c.is_made.ensures.value c.if-is_made.false) c.in-Ok.bucket c.in-Ok.ensures.cut.layout
@@ -38,6 +41,9 @@ returns-in_default c =
     tried (is_empty _ _ c.is_made.ensures.value c.if-is_made.false) c.in-Ok.bucket c.in-Ok.ensures.cut.layout
     (may-post _ _ _ _ _ c.in-Ok.ensures.cut (c.may_have_post.ensures.0 c.if-not-may_have_post.false)) _
     (c.has_room.ensures.0 c.if-not-has_room.false) (λ wrong. absurd (cc)) (λ _. refl) (λ _. c.is_made.ensures.still)
+
+pub keep-requires : goal.keep-requires
+keep-requires c = c.is_made.ensures.still ∙ is_empty _ _ c.is_made.ensures.value c.if-is_made.false
 
 pub returns : goal.returns
 returns c =
