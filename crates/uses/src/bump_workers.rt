@@ -1,6 +1,6 @@
 //! Threads that carve one bump up, and the bump that one owner then has again.
-ghost use Rattle.std.specs.Prelude.{◌≡◌, All, IfOk, length};
-ghost use Rattle.uses.specs.Carvings.{HasAsked, IsCarved};
+ghost use Rattle.std.specs.Prelude.{◌≡◌, All, IfOk};
+ghost use Rattle.uses.specs.Carvings.{HasAsked, HaveAsked, IsCarved};
 
 use bb_memory::allocator::AllocationError;
 use bb_memory::bump_allocator::BumpAllocator;
@@ -50,9 +50,7 @@ fn carve_all<R: Threads + Sync>(
     layout: Layout,
 ) -> Result<Vec<BumpParty>, AllocError>
     requires { All (λ party. party.allocator ≡ shared.now) parties.items }
-    ensures theirs { IfOk result (λ back. All (λ party. party.allocator ≡ shared.now) back.items) }
-    ensures all { IfOk result (λ back. length back.items ≡ length parties.items) }
-    ensures asked { IfOk result (λ back. All (HasAsked layout) back.items) }
+    ensures { IfOk result (λ back. HaveAsked shared.now layout parties.items back.items) }
 {
     thread::map_vec(rt, parties, &|party| carve(shared, party, layout))
 }

@@ -6,12 +6,11 @@ ghost use Rattle.bb_memory.specs.SharedPool.{IsHeldByOne};
 ghost use Rattle.bb_memory.specs.SharedPoolAmong.{AreAllOf, HoldsAmongAll, IsAmongAll};
 ghost use Rattle.bb_memory.specs.SharedPoolHistory.{HaveMetBy, MayGoOn};
 
-use crate::pool_workers::{pool_of_four, take_one};
+use crate::pool_workers::{pool_of_four, take_one_each};
 use bb_memory::allocator::AllocationError;
 use bb_memory::layout::Layout;
 use bb_memory::shared_pool::{Bucket, PoolHistory, PoolParty, SharedPoolAllocator};
 use std::alloc::{AllocError, Global};
-use std::thread;
 use std::thread::Threads;
 
 /// Each of these parties' workers takes a bucket, all at once, and when all are back, they meet in the history. It is refused
@@ -29,10 +28,7 @@ pub fn out_and_back<R: Threads + Sync>(
     ensures may { IfOk result (λ back. MayGoOn pool.now history.new back.items) }
     ensures all { IfOk result (λ back. length back.items ≡ length parties.items) }
 {
-    let back = thread::map_vec(rt, parties, &|party| take_one(pool, party, layout));
-    let Ok(mut back) = back else {
-        return Err(AllocError);
-    };
+    let mut back = take_one_each(rt, pool, parties, layout)?;
     pool.meet_again(history, &mut back);
     Ok(back)
 }

@@ -2,7 +2,7 @@
 ghost use Rattle.std.specs.Prelude.{◌≡◌, ◌≢◌, ◌↔◌, [], ℕ, All, IfOk, List, Some, false, true, length, slice_get};
 ghost use Rattle.bb_memory_base.specs.PoolMachine.{PoolScene};
 ghost use Rattle.bb_memory.specs.SharedPool.{AreFresh, HasTaker, HaveAllNumbers, HaveMet, IsHeldByOne, PoolParty};
-ghost use Rattle.uses.specs.Workers.{ComesBack, MayBeServed};
+ghost use Rattle.uses.specs.Workers.{AllComeBack, ComesBack, MayBeServed};
 
 use bb_memory::allocator::AllocationError;
 use bb_memory::layout::Layout;
@@ -37,12 +37,24 @@ pub fn four_workers<R: Threads + Sync>(
     ensures met { IfOk result (λ made. HaveMet made.0.scene made.1.items) }
 {
     let (pool, parties) = pool_of_four(alloc)?;
-    let back = thread::map_vec(rt, parties, &|party| take_one(&pool, party, layout));
-    let Ok(mut back) = back else {
+    let Ok(mut back) = take_one_each(rt, &pool, parties, layout) else {
         return Err(AllocationError::OutOfMemory);
     };
     pool.meet_all(&mut back);
     Ok((pool, back))
+}
+
+/// These parties take a bucket each, all at once, and come back.
+pub(crate) fn take_one_each<R: Threads + Sync>(
+    rt: &R,
+    pool: &SharedPoolAllocator,
+    parties: Vec<PoolParty>,
+    layout: Layout,
+) -> Result<Vec<PoolParty>, AllocError>
+    requires { All (λ party. party.allocator ≡ pool.now) parties.items }
+    ensures { IfOk result (λ back. AllComeBack pool.now parties.items back.items) }
+{
+    thread::map_vec(rt, parties, &|party| take_one(pool, party, layout))
 }
 
 /// A pool of four parties. It is refused as `SharedPoolAllocator::new` is.
