@@ -1,5 +1,5 @@
 -- Threads that share a bump or a pool, each with a party of its own, which it hands back.
-use Rattle.std.specs.Prelude.{◌≡◌, ◌≢◌, ◌+◌, ◌<◌, [], ℕ, length}
+use Rattle.std.specs.Prelude.{◌≡◌, ◌≢◌, ◌+◌, ◌<◌, [], ℕ, All, List, length}
 use Rattle.bb_memory_base.specs.BumpHistory.{chunks_won}
 use Rattle.bb_memory_base.specs.PoolLogs.{IsHeldAfter}
 use Rattle.bb_memory_base.specs.PoolObject.{IsWithin}
@@ -19,6 +19,11 @@ pub record ComesBack (pool : SharedPool) (old new : PoolParty) : Type 0 where
   pub theirs : new.allocator ≡ pool
   pub number : new.number ≡ old.number
   pub keeps : (bucket : ℕ) → IsHeldAfter old.log bucket → IsHeldAfter new.log bucket
+
+-- as many of the pool's parties come back as went out
+pub record AllComeBack (pool : SharedPool) (old new : List PoolParty) : Type 0 where
+  pub theirs : All (λ party. party.allocator ≡ pool) new
+  pub all : length new ≡ length old
 
 -- a party of the pool that hasn't asked yet may be given a bucket for this layout
 pub record MayBeServed (pool : SharedPool) (layout : Layout) (party : PoolParty) : Type 0 where

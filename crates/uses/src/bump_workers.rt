@@ -1,12 +1,12 @@
 //! Threads that carve one bump up, and the bump that one owner then has again.
-ghost use Rattle.std.specs.Prelude.{◌≡◌, IfOk};
-ghost use Rattle.uses.specs.Carvings.{HasAsked, IsCarved};
+ghost use Rattle.std.specs.Prelude.{◌≡◌, All, IfOk};
+ghost use Rattle.uses.specs.Carvings.{HasAsked, HaveAsked, IsCarved};
 
 use bb_memory::allocator::AllocationError;
 use bb_memory::bump_allocator::BumpAllocator;
 use bb_memory::layout::Layout;
 use bb_memory::shared_bump::{BumpParty, SharedBumpAllocator};
-use std::alloc::Global;
+use std::alloc::{AllocError, Global};
 use std::thread;
 use std::thread::Threads;
 
@@ -36,8 +36,21 @@ pub fn carved_by_four<R: Threads + Sync>(
     let Ok((shared, parties)) = bump.share(alloc, 4) else {
         return Err(AllocationError::OutOfMemory);
     };
-    let Ok(back) = thread::map_vec(rt, parties, &|party| carve(&shared, party, layout)) else {
+    let Ok(back) = carve_all(rt, &shared, parties, layout) else {
         return Err(AllocationError::OutOfMemory);
     };
     Ok(shared.into_owner_all(back))
+}
+
+/// These parties ask for a chunk each, all at once, and come back.
+fn carve_all<R: Threads + Sync>(
+    rt: &R,
+    shared: &SharedBumpAllocator,
+    parties: Vec<BumpParty>,
+    layout: Layout,
+) -> Result<Vec<BumpParty>, AllocError>
+    requires { All (λ party. party.allocator ≡ shared.now) parties.items }
+    ensures { IfOk result (λ back. HaveAsked shared.now layout parties.items back.items) }
+{
+    thread::map_vec(rt, parties, &|party| carve(shared, party, layout))
 }

@@ -176,7 +176,7 @@ impl<A: Allocator + Drop> Budget for ByteBudget<A> {
 }
 
 /// Gives back the chunk that was given last.
-fn return_last<A: Allocator>(inner: &mut A, chunk: Chunk, layout: Layout)
+pub(crate) fn return_last<A: Allocator>(inner: &mut A, chunk: Chunk, layout: Layout)
     requires { A.may_release inner.old chunk.place }
     ensures stands { (live : List Chunk) → A.stands_for inner.old (live ++ chunk ∷ [])
         → A.stands_for inner.new live }

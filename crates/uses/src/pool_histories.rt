@@ -1,18 +1,16 @@
 //! Workers of one pool whose meetings are remembered, and a pool whose parties are all in one place.
-ghost use Rattle.std.specs.Prelude.{◌≡◌, ◌<◌, IfOk, length};
+ghost use Rattle.std.specs.Prelude.{◌≡◌, ◌<◌, All, IfOk, length};
 ghost use Rattle.bb_memory_base.specs.PoolLogs.{IsBeginning};
 ghost use Rattle.bb_memory_base.specs.PoolObject.{IsWithin};
 ghost use Rattle.bb_memory.specs.SharedPool.{IsHeldByOne};
 ghost use Rattle.bb_memory.specs.SharedPoolAmong.{AreAllOf, HoldsAmongAll, IsAmongAll};
 ghost use Rattle.bb_memory.specs.SharedPoolHistory.{HaveMetBy, MayGoOn};
 
-use crate::pool_workers::take_one;
+use crate::pool_workers::{pool_of_four, take_one_each};
 use bb_memory::allocator::AllocationError;
 use bb_memory::layout::Layout;
-use bb_memory::pool_allocator::pool_count_law;
 use bb_memory::shared_pool::{Bucket, PoolHistory, PoolParty, SharedPoolAllocator};
 use std::alloc::{AllocError, Global};
-use std::thread;
 use std::thread::Threads;
 
 /// Each of these parties' workers takes a bucket, all at once, and when all are back, they meet in the history. It is refused
@@ -30,10 +28,7 @@ pub fn out_and_back<R: Threads + Sync>(
     ensures may { IfOk result (λ back. MayGoOn pool.now history.new back.items) }
     ensures all { IfOk result (λ back. length back.items ≡ length parties.items) }
 {
-    let back = thread::map_vec(rt, parties, &|party| take_one(pool, party, layout));
-    let Ok(mut back) = back else {
-        return Err(AllocError);
-    };
+    let mut back = take_one_each(rt, pool, parties, layout)?;
     pool.meet_again(history, &mut back);
     Ok(back)
 }
@@ -41,7 +36,6 @@ pub fn out_and_back<R: Threads + Sync>(
 /// Four workers of one pool: when all are back, they meet, go out once more, and meet again. One history remembers both
 /// meetings, so that what was done after the first comes after what was done before it. It is refused, with `OutOfMemory`,
 /// where memory was, and for nothing else.
-#[tactic(auto, unfolding(bb_memory_base::specs::LeastPlace::least_place))]
 pub fn four_workers_twice<R: Threads + Sync>(
     rt: &R,
     alloc: Global,
@@ -50,10 +44,8 @@ pub fn four_workers_twice<R: Threads + Sync>(
     ensures all { IfOk result (λ made. length made.2.items ≡ made.0.scene.parties) }
     ensures met { IfOk result (λ made. HaveMetBy made.0.scene made.1.steps made.2.items) }
 {
-    pool_count_law();
-    let bucket = Layout::from_size_align(128, 8).unwrap();
-    let (pool, mut parties) = SharedPoolAllocator::new(alloc, bucket, 4096, 1024, 4)?;
-    let mut history = pool.begin_history(&mut parties[0]);
+    let (pool, mut parties) = pool_of_four(alloc)?;
+    let mut history = history_of(&pool, &mut parties);
     let Ok(back) = out_and_back(rt, &pool, &mut history, parties, layout) else {
         return Err(AllocationError::OutOfMemory);
     };
@@ -61,6 +53,16 @@ pub fn four_workers_twice<R: Threads + Sync>(
         return Err(AllocationError::OutOfMemory);
     };
     Ok((pool, history, back))
+}
+
+/// A history of the pool that the first of its parties begins.
+fn history_of(pool: &SharedPoolAllocator, parties: &mut Vec<PoolParty>) -> PoolHistory
+    requires some { 0 < length parties.old.items }
+    requires theirs { All (λ party. party.allocator ≡ pool.now) parties.old.items }
+    ensures may { MayGoOn pool.now result parties.new.items }
+    ensures all { length parties.new.items ≡ length parties.old.items }
+{
+    pool.begin_history(&mut parties[0])
 }
 
 /// Who has all parties of a pool, and knows a bucket that none of them holds, is given one, and not refused.

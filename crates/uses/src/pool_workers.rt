@@ -1,8 +1,8 @@
 //! Threads that take buckets of one pool, and what is known once all of them are back.
 ghost use Rattle.std.specs.Prelude.{◌≡◌, ◌≢◌, ◌↔◌, [], ℕ, All, IfOk, List, Some, false, true, length, slice_get};
 ghost use Rattle.bb_memory_base.specs.PoolMachine.{PoolScene};
-ghost use Rattle.bb_memory.specs.SharedPool.{HasTaker, HaveAllNumbers, HaveMet, IsHeldByOne, PoolParty};
-ghost use Rattle.uses.specs.Workers.{ComesBack, MayBeServed};
+ghost use Rattle.bb_memory.specs.SharedPool.{AreFresh, HasTaker, HaveAllNumbers, HaveMet, IsHeldByOne, PoolParty};
+ghost use Rattle.uses.specs.Workers.{AllComeBack, ComesBack, MayBeServed};
 
 use bb_memory::allocator::AllocationError;
 use bb_memory::layout::Layout;
@@ -26,7 +26,6 @@ pub fn take_one(pool: &SharedPoolAllocator, party: PoolParty, layout: Layout) ->
 /// Four workers take a bucket each, all at once, and meet when they are back: one list of steps has all their logs and nothing
 /// else, and a flag is taken exactly where one of them holds the bucket. It is refused, with `OutOfMemory`, where memory was, and
 /// for nothing else.
-#[tactic(auto, unfolding(bb_memory_base::specs::LeastPlace::least_place))]
 pub fn four_workers<R: Threads + Sync>(
     rt: &R,
     alloc: Global,
@@ -37,15 +36,37 @@ pub fn four_workers<R: Threads + Sync>(
     ensures theirs { IfOk result (λ made. All (λ party. party.allocator ≡ made.0) made.1.items) }
     ensures met { IfOk result (λ made. HaveMet made.0.scene made.1.items) }
 {
-    pool_count_law();
-    let bucket = Layout::from_size_align(128, 8).unwrap();
-    let (pool, parties) = SharedPoolAllocator::new(alloc, bucket, 4096, 1024, 4)?;
-    let back = thread::map_vec(rt, parties, &|party| take_one(&pool, party, layout));
-    let Ok(mut back) = back else {
+    let (pool, parties) = pool_of_four(alloc)?;
+    let Ok(mut back) = take_one_each(rt, &pool, parties, layout) else {
         return Err(AllocationError::OutOfMemory);
     };
     pool.meet_all(&mut back);
     Ok((pool, back))
+}
+
+/// These parties take a bucket each, all at once, and come back.
+pub(crate) fn take_one_each<R: Threads + Sync>(
+    rt: &R,
+    pool: &SharedPoolAllocator,
+    parties: Vec<PoolParty>,
+    layout: Layout,
+) -> Result<Vec<PoolParty>, AllocError>
+    requires { All (λ party. party.allocator ≡ pool.now) parties.items }
+    ensures { IfOk result (λ back. AllComeBack pool.now parties.items back.items) }
+{
+    thread::map_vec(rt, parties, &|party| take_one(pool, party, layout))
+}
+
+/// A pool of four parties. It is refused as `SharedPoolAllocator::new` is.
+#[tactic(auto, unfolding(bb_memory_base::specs::LeastPlace::least_place))]
+pub(crate) fn pool_of_four(
+    alloc: Global,
+) -> Result<(SharedPoolAllocator, Vec<PoolParty>), AllocationError>
+    ensures { IfOk result (λ made. AreFresh made.0 4 made.1.items) }
+{
+    pool_count_law();
+    let bucket = Layout::from_size_align(128, 8).unwrap();
+    SharedPoolAllocator::new(alloc, bucket, 4096, 1024, 4)
 }
 
 /// A party asks for a bucket once, and comes back. Its log is then not empty.

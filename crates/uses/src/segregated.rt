@@ -126,15 +126,12 @@ impl<A: Allocator + Drop, B: Allocator + Drop> BaseAllocator for Segregated<A, B
     fn allocate(&mut self, layout: Layout) -> Result<Chunk, AllocationError> {
         side_by_side_law();
         if layout.size() > self.small {
-            let chunk = self.second.allocate(layout)?;
-            return Ok(chunk);
+            return self.second.allocate(layout);
         }
-        let given = self.first.allocate(layout);
-        if given.is_ok() {
-            return given;
+        match self.first.allocate(layout) {
+            Ok(chunk) => Ok(chunk),
+            Err(_) => self.second.allocate(layout),
         }
-        let chunk = self.second.allocate(layout)?;
-        Ok(chunk)
     }
 
     /// Gives back the chunk at this place to the one that gave it: the first where the place is before the border.

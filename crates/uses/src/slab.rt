@@ -8,6 +8,7 @@ ghost use Rattle.bb_memory_base.specs.HeldBytes.{HeldBytes, held_region};
 ghost use Rattle.uses.specs.Records.{HoldsThen, Leaves, Stores, records_in};
 ghost use Rattle.uses.specs.Requests.{IsOfBytes, MayGiveLonger};
 
+use crate::byte_budget::return_last;
 use bb_memory_base::allocator::{AllocationError, Allocator, BaseAllocator};
 use bb_memory_base::layout::{Chunk, Layout, LayoutError};
 use bb_memory_base::lists::append_law;
@@ -91,9 +92,8 @@ impl<A: Allocator + Drop> Slab<A> {
             Err(error) => return Err(InsertError::Refused(error)),
         };
         if chunk.len() != bytes.len() {
-            append_law::<Chunk>();
             longer_law::<A>();
-            self.allocator.deallocate(chunk.place(), layout);
+            return_last(&mut self.allocator, chunk, layout);
             return Err(InsertError::NoExactChunk);
         }
         put(&mut self.region, &self.chunks, chunk, bytes);
