@@ -123,19 +123,21 @@ pub fn read_command(line: &[u8]) -> Option<Command>
         → line.now ≡ command_line command → result ≡ Some command }
 {
     let (name, rest) = cut(line, b' ')?;
-    match name {
-        b"alloc" => Some(Command::Allocate(layout(rest)?)),
-        b"free" => Some(Command::Release(number(rest)?)),
-        b"grow" => {
-            let (position, old, new) = resize(rest)?;
-            Some(Command::Grow(position, old, new))
-        }
-        b"shrink" => {
-            let (position, old, new) = resize(rest)?;
-            Some(Command::Shrink(position, old, new))
-        }
-        _ => None,
+    if name == b"alloc".as_slice() {
+        return Some(Command::Allocate(layout(rest)?));
     }
+    if name == b"free".as_slice() {
+        return Some(Command::Release(number(rest)?));
+    }
+    if name == b"grow".as_slice() {
+        let (position, old, new) = resize(rest)?;
+        return Some(Command::Grow(position, old, new));
+    }
+    if name == b"shrink".as_slice() {
+        let (position, old, new) = resize(rest)?;
+        return Some(Command::Shrink(position, old, new));
+    }
+    None
 }
 
 /// The position of a chunk, its layout, and the layout that it shall have.
