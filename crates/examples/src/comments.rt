@@ -2,7 +2,6 @@
 #![tactic(auto, unfolding(bb_memory_base::specs::LeastPlace::least_place))]
 
 ghost use Rattle.std.specs.Prelude.{◌≡◌, [], IfOk, true};
-ghost use Rattle.bb_memory.specs.Pool.{StandsFor};
 
 use crate::errors::GiveError;
 use bb_memory::allocator::{
@@ -268,8 +267,8 @@ pub fn pool_world(alloc: Global) -> Result<(), AllocError> {
     Ok(())
 }
 
-pub fn loans(alloc: Global, allocator: FixedSizePoolAllocator<16>) -> Result<(), LoanError>
-    requires { StandsFor allocator [] }
+pub fn loans<A: Allocator + Drop>(alloc: Global, allocator: A) -> Result<(), LoanError>
+    requires { A.stands_for allocator [] }
 {
     let mut book = LoanBook::new(alloc, allocator);
     let (id, _) = book.loan(48)?;
