@@ -8,7 +8,9 @@ ghost use Rattle.script_runner.specs.kinds.Allocators.{command_line, resize_text
 ghost use Rattle.script_runner.specs.kinds.Allocators.{refusal_line, grow_refusal_line, shrink_refusal_line};
 
 use crate::engine::driven::Driven;
-use crate::fields::{cut, layout, layout_and_rest, number, number_and_rest, write_number};
+use crate::fields::{
+    cut, layout, layout_and_rest, number, number_and_rest, write_between, write_number,
+};
 use bb_memory::allocator::{
     AllocationError, AllocationGrowError, AllocationShrinkError, BaseAllocator, Command, Reply,
 };
@@ -173,9 +175,7 @@ fn write_chunk<W: Write>(chunk: &Chunk, writer: &mut W) -> io::Result<()>
 {
     writer.write_all(b"chunk ")?;
     write_number(chunk.place(), writer)?;
-    writer.write_all(b" ")?;
-    write_number(chunk.len(), writer)?;
-    writer.write_all(b"\n")
+    write_between(b" ", chunk.len(), b"\n", writer)
 }
 
 /// Writes the line of a refused request.
