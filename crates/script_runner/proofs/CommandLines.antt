@@ -1,5 +1,5 @@
 -- The lines of commands, each as a name and what is behind it.
-use Rattle.std.proofs.Common.{arith, ◌≡◌, ◌≢◌, ◌∙◌, sym, ap, refl, ℕ, ◌+◌, List, [], ◌∷◌, ◌++◌, length, get_or, drop}
+use Rattle.std.proofs.Common.{arith, ◌≡◌, ◌≢◌, ◌∙◌, sym, ap, refl, ℕ, List, ◌∷◌, ◌++◌, get_or}
 use Rattle.std.proofs.Common.{codes, Option, Some}
 use Rattle.std.specs.Fmt.{decimal}
 use Rattle.std.specs.Option.{option_map}

@@ -55,11 +55,21 @@ impl Driven for PoolWorld {
             PoolOutcome::Takes(bucket) => write_between(b"takes ", *bucket as usize, b"\n", writer),
             PoolOutcome::Loses(bucket) => write_between(b"loses ", *bucket as usize, b"\n", writer),
             PoolOutcome::RefusedAtLoss(bucket) => {
-                write_between(b"loses ", *bucket as usize, b" refused OutOfMemory\n", writer)
+                write_between(
+                    b"loses ",
+                    *bucket as usize,
+                    b" refused OutOfMemory\n",
+                    writer,
+                )
             }
             PoolOutcome::Gives(bucket) => write_between(b"gives ", *bucket as usize, b"\n", writer),
             PoolOutcome::Passed => writer.write_all(b"passed\n"),
-            PoolOutcome::Misses(bucket) => write_between(b"misses ", *bucket as usize, b"\n", writer),
+            PoolOutcome::Misses(bucket) => write_between(
+                b"misses ",
+                *bucket as usize,
+                b"\n",
+                writer,
+            ),
         }
     }
 

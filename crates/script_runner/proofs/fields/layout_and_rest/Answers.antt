@@ -30,6 +30,6 @@ returns-clause-each c layout rest numbers e =
     let (same_size, align) = c.in_ok-size.ensures.each layout.size behind numbers.0 parts in
     let (same_align, same_rest) = c.in_ok-align.ensures.each layout.align rest numbers.1 align in
     let made = result_ok-layout c.from_size_align.result c.in_ok-size.size c.in_ok-align.align layout
-        c.from_size_align.ensures.accepted c.from_size_align.ensures.value same_size same_align in
+    c.from_size_align.ensures.accepted c.from_size_align.ensures.value same_size same_align in
     let found : Some c.in_ok-ok.field-0 ≡ Some layout = c.in_ok-ok.ensures.value ∙ made in
     (cc, same_rest)

@@ -1,4 +1,4 @@
-use Rattle.std.proofs.Common.{◌≡◌, Option, Some, None, ℕ}
+use Rattle.std.proofs.Common.{◌≡◌, Some, None}
 use Rattle.std.specs.Fmt.{decimal}
 use Rattle.script_runner.proofs.Cuts.{Without-cut, spaceless_decimal}
 use Rattle.script_runner.proofs.fields.number_and_rest.Goals as goal

@@ -63,7 +63,8 @@ pub returns-then-eq-3-clause-each : goal.returns-then-eq-3-clause-each
 returns-then-eq-3-clause-each c command numbers e =
     let parts = Writes-cut c.args.line.now c.in_ok-name.name.now c.in_ok-name.rest.now command c.in_ok-name.ensures.each e in
     let is_grow = same_text _ _ c.if-eq-3.ensures ∙ c.as_slice-3.ensures in
-    reads_grow c.in_ok-name.name.now c.in_ok-name.rest.now (Some (c.in_ok-position.position, c.in_ok-position.old, c.in_ok-position.new)) command
+    reads_grow c.in_ok-name.name.now c.in_ok-name.rest.now
+    (Some (c.in_ok-position.position, c.in_ok-position.old, c.in_ok-position.new)) command
     is_grow parts numbers c.in_ok-position.ensures.each
 
 pub returns-then-eq-3-clause-written : goal.returns-then-eq-3-clause-written
@@ -80,13 +81,15 @@ returns-in_err-position-2-clause-each c command numbers e =
     let parts = Writes-cut c.args.line.now c.in_ok-name.name.now c.in_ok-name.rest.now command c.in_ok-name.ensures.each e in
     let is_shrink = same_text _ _ c.if-eq-4.ensures ∙ c.as_slice-4.ensures in
     c.from_residual-in_err-position-2.ensures
-    ∙ reads_shrink c.in_ok-name.name.now c.in_ok-name.rest.now None command is_shrink parts numbers c.in_err-position-2.ensures.each
+    ∙ reads_shrink c.in_ok-name.name.now c.in_ok-name.rest.now None command is_shrink parts numbers
+    c.in_err-position-2.ensures.each
 
 pub returns-then-eq-4-clause-each : goal.returns-then-eq-4-clause-each
 returns-then-eq-4-clause-each c command numbers e =
     let parts = Writes-cut c.args.line.now c.in_ok-name.name.now c.in_ok-name.rest.now command c.in_ok-name.ensures.each e in
     let is_shrink = same_text _ _ c.if-eq-4.ensures ∙ c.as_slice-4.ensures in
-    reads_shrink c.in_ok-name.name.now c.in_ok-name.rest.now (Some (c.in_ok-position-2.position, c.in_ok-position-2.old, c.in_ok-position-2.new)) command
+    reads_shrink c.in_ok-name.name.now c.in_ok-name.rest.now
+    (Some (c.in_ok-position-2.position, c.in_ok-position-2.old, c.in_ok-position-2.new)) command
     is_shrink parts numbers c.in_ok-position-2.ensures.each
 
 pub returns-then-eq-4-clause-written : goal.returns-then-eq-4-clause-written
