@@ -1,5 +1,6 @@
-use Rattle.std.proofs.Common.{arith, ◌≡◌, ◌∙◌, ◌∷◌, ◌++◌, Some, List, ℕ, append_assoc}
+use Rattle.std.proofs.Common.{arith, ◌∙◌, ◌∷◌, ◌++◌, List, ℕ, append_assoc}
 use Rattle.std.proofs.lemmas.Grind.{common_steps}
+use Rattle.std.proofs.lemmas.Option.{same_Some}
 use Rattle.std.specs.Fmt.{decimal}
 use Rattle.script_runner.proofs.Layouts.{result_ok-layout}
 use Rattle.script_runner.proofs.fields.layout_and_rest.Goals as goal
@@ -31,5 +32,4 @@ returns-clause-each c layout rest numbers e =
     let (same_align, same_rest) = c.in_ok-align.ensures.each layout.align rest numbers.1 align in
     let made = result_ok-layout c.from_size_align.result c.in_ok-size.size c.in_ok-align.align layout
     c.from_size_align.ensures.accepted c.from_size_align.ensures.value same_size same_align in
-    let found : Some c.in_ok-ok.field-0 ≡ Some layout = c.in_ok-ok.ensures.value ∙ made in
-    (cc, same_rest)
+    (same_Some c.in_ok-ok.field-0 layout (c.in_ok-ok.ensures.value ∙ made), same_rest)
