@@ -2,6 +2,7 @@
 #![tactic(auto, unfolding(bb_memory_base::specs::LeastPlace::least_place))]
 
 ghost use Rattle.std.specs.Prelude.{◌≡◌, [], IfOk, true};
+ghost use Rattle.bb_memory.specs.OneChunk.{StandsFor};
 
 use crate::errors::GiveError;
 use bb_memory::allocator::{
@@ -267,8 +268,8 @@ pub fn pool_world(alloc: Global) -> Result<(), AllocError> {
     Ok(())
 }
 
-pub fn loans<A: Allocator + Drop>(alloc: Global, allocator: A) -> Result<(), LoanError>
-    requires { A.stands_for allocator [] }
+pub fn loans(alloc: Global, allocator: OneChunkAllocator) -> Result<(), LoanError>
+    requires { StandsFor allocator [] }
 {
     let mut book = LoanBook::new(alloc, allocator);
     let (id, _) = book.loan(48)?;

@@ -126,6 +126,7 @@ pub fn cut(text: &[u8], byte: u8) -> Option<(&[u8], &[u8])>
 }
 
 /// The number at the front, and what is behind the space that follows it.
+#[tactic(auto, using(crate::proofs::Cuts::spaceless_decimal))]
 pub fn number_and_rest(text: &[u8]) -> Option<(usize, &[u8])>
     ensures written { IfSome result (λ (n, rest). text.now ≡ decimal n ++ (codes " " ++ rest.now)) }
     ensures each { (n : ℕ) (rest : List ℕ) → IsNumber n
