@@ -2,7 +2,7 @@
 #![tactic(auto, unfolding(bb_memory_base::specs::LeastPlace::least_place))]
 
 ghost use Rattle.std.specs.Prelude.{◌≡◌, [], IfOk, true};
-ghost use Rattle.bb_memory.specs.Pool.{StandsFor};
+ghost use Rattle.bb_memory.specs.OneChunk.{StandsFor};
 
 use crate::errors::GiveError;
 use bb_memory::allocator::{
@@ -268,7 +268,7 @@ pub fn pool_world(alloc: Global) -> Result<(), AllocError> {
     Ok(())
 }
 
-pub fn loans(alloc: Global, allocator: FixedSizePoolAllocator<16>) -> Result<(), LoanError>
+pub fn loans(alloc: Global, allocator: OneChunkAllocator) -> Result<(), LoanError>
     requires { StandsFor allocator [] }
 {
     let mut book = LoanBook::new(alloc, allocator);

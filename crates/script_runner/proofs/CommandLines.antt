@@ -1,7 +1,6 @@
 -- The lines of commands, each as a name and what is behind it.
-use Rattle.std.proofs.Common.{arith, ◌≡◌, ◌≢◌, ◌∙◌, sym, ap, refl, ℕ, ◌+◌, List, [], ◌∷◌, ◌++◌, length, get_or, drop}
+use Rattle.std.proofs.Common.{arith, ◌≡◌, ◌≢◌, ◌∙◌, sym, ap, refl, ℕ, List, ◌∷◌, ◌++◌, get_or}
 use Rattle.std.proofs.Common.{codes, Option, Some}
-use Rattle.std.proofs.lemmas.List.{drop_all, drop_more}
 use Rattle.std.specs.Fmt.{decimal}
 use Rattle.std.specs.Option.{option_map}
 use Rattle.bb_memory_base.specs.declared.allocator.Command.{Command}
@@ -54,21 +53,6 @@ Writes-cut line name rest command each e =
 pub has_space : (line : List ℕ) (command : Command) → Without 32 line → line ≡ command_line command → ⊥
 has_space line command clear e =
     Without-cut 32 (command_name command) (command_rest command) (rw (e, command_line-parts command) at clear)
-
--- the bytes of the text from index i on are these
-abbrev pub Reads : List ℕ → ℕ → List ℕ → Type 0
-Reads text i [] = Unit {0}
-Reads text i (byte ∷ bytes) = (get_or text i 0 ≡ byte) × Reads text (i + 1) bytes
-
--- a text that is read byte by byte
-same_from : (text : List ℕ) (i : ℕ) (bytes : List ℕ) → length text ≡ i + length bytes → Reads text i bytes → drop i text ≡ bytes
-same_from text i [] len reads = drop_all i text (omega arith)
-same_from text i (byte ∷ bytes) len reads =
-    rw (drop_more text i 0 (omega arith), reads.0, same_from text (i + 1) bytes (omega arith) reads.1) refl
-
--- the same from the start
-pub same_text : (text bytes : List ℕ) → length text ≡ length bytes → Reads text 0 bytes → text ≡ bytes
-same_text text bytes len reads = same_from text 0 bytes (omega arith) reads
 
 -- a text is no two that begin with different bytes
 apart : (name one other : List ℕ) → name ≡ one → name ≡ other → get_or one 0 0 ≢ get_or other 0 0 → ⊥

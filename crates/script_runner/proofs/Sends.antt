@@ -1,9 +1,9 @@
 -- Bytes that are sent, all or a beginning.
-use Rattle.std.proofs.Common.{◌≡◌, ℕ, ◌+◌, ◌-◌, ◌<◌, List, [], ◌++◌, length, take, drop, get_or, Option}
+use Rattle.std.proofs.Common.{◌≡◌, ℕ, ◌+◌, ◌-◌, ◌<◌, List, [], ◌∷◌, ◌++◌, length, take, drop, get_or, Option}
 use Rattle.std.proofs.Common.{sym, ap, ◌∙◌}
 use Rattle.std.specs.List.{flat_map}
 use Rattle.std.specs.Io.KnownBytes.{Appends}
-use Rattle.std.proofs.lemmas.List.{append_assoc, append-nil, take-append-drop, take_rest, drop_more}
+use Rattle.std.proofs.lemmas.List.{append_assoc, append-nil, take-append-drop, take_rest, take_more, drop_more}
 use Rattle.std.proofs.lemmas.Grind.{flat_map-append}
 use Rattle.script_runner.specs.engine.Sending.{Begins, AppendsPart}
 use Rattle.script_runner.proofs.Appending.{appends_again}
@@ -40,3 +40,13 @@ flat_map-at text_of items index item below is =
     ∙ ap (λ l. flat_map text_of (take index items) ++ l)
     (ap (flat_map text_of) (drop_more items index item below)
     ∙ ap (λ x. text_of x ++ flat_map text_of (drop (index + 1) items)) (sym is)))
+
+-- the texts up to an item, and then its own
+pub flat_map-more : {X : Type 0} (text_of : X → List ℕ) (items : List X) (index : ℕ) (item : X) → index < length items
+    → item ≡ get_or items index item →
+    flat_map text_of (take (index + 1) items) ≡ flat_map text_of (take index items) ++ text_of item
+flat_map-more text_of items index item below is =
+    ap (flat_map text_of) (take_more items index item below)
+    ∙ (flat_map-append text_of (take index items) (get_or items index item ∷ [])
+    ∙ ap (λ l. flat_map text_of (take index items) ++ l)
+    (append-nil (text_of (get_or items index item)) ∙ ap text_of (sym is)))

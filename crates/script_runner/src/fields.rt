@@ -79,6 +79,21 @@ pub fn write_number<W: Write>(number: usize, writer: &mut W) -> io::Result<()>
     writer.write_all(&digits[start..])
 }
 
+/// Writes a number between two texts.
+pub fn write_between<W: Write>(
+    before: &[u8],
+    number: usize,
+    after: &[u8],
+    writer: &mut W,
+) -> io::Result<()>
+    ensures { OnOk result (Appends (W.contents writer.old) (W.contents writer.new)
+        (before.now ++ (decimal number ++ after.now))) }
+{
+    writer.write_all(before)?;
+    write_number(number, writer)?;
+    writer.write_all(after)
+}
+
 /// Puts the digits of a number at the end of these, and answers where they start.
 fn put_digits(number: usize, digits: &mut [u8]) -> usize
     requires { length digits.old ≡ MOST_DIGITS }

@@ -8,7 +8,9 @@ ghost use Rattle.script_runner.specs.kinds.Allocators.{command_line, resize_text
 ghost use Rattle.script_runner.specs.kinds.Allocators.{refusal_line, grow_refusal_line, shrink_refusal_line};
 
 use crate::engine::driven::Driven;
-use crate::fields::{cut, layout, layout_and_rest, number, number_and_rest, write_number};
+use crate::fields::{
+    cut, layout, layout_and_rest, number, number_and_rest, write_between, write_number,
+};
 use bb_memory::allocator::{
     AllocationError, AllocationGrowError, AllocationShrinkError, BaseAllocator, Command, Reply,
 };
@@ -123,19 +125,21 @@ pub fn read_command(line: &[u8]) -> Option<Command>
         → line.now ≡ command_line command → result ≡ Some command }
 {
     let (name, rest) = cut(line, b' ')?;
-    match name {
-        b"alloc" => Some(Command::Allocate(layout(rest)?)),
-        b"free" => Some(Command::Release(number(rest)?)),
-        b"grow" => {
-            let (position, old, new) = resize(rest)?;
-            Some(Command::Grow(position, old, new))
-        }
-        b"shrink" => {
-            let (position, old, new) = resize(rest)?;
-            Some(Command::Shrink(position, old, new))
-        }
-        _ => None,
+    if name == b"alloc".as_slice() {
+        return Some(Command::Allocate(layout(rest)?));
     }
+    if name == b"free".as_slice() {
+        return Some(Command::Release(number(rest)?));
+    }
+    if name == b"grow".as_slice() {
+        let (position, old, new) = resize(rest)?;
+        return Some(Command::Grow(position, old, new));
+    }
+    if name == b"shrink".as_slice() {
+        let (position, old, new) = resize(rest)?;
+        return Some(Command::Shrink(position, old, new));
+    }
+    None
 }
 
 /// The position of a chunk, its layout, and the layout that it shall have.
@@ -171,9 +175,7 @@ fn write_chunk<W: Write>(chunk: &Chunk, writer: &mut W) -> io::Result<()>
 {
     writer.write_all(b"chunk ")?;
     write_number(chunk.place(), writer)?;
-    writer.write_all(b" ")?;
-    write_number(chunk.len(), writer)?;
-    writer.write_all(b"\n")
+    write_between(b" ", chunk.len(), b"\n", writer)
 }
 
 /// Writes the line of a refused request.

@@ -7,7 +7,7 @@ ghost use Rattle.script_runner.specs.kinds.BumpSteps.{reading_text, wins_line};
 ghost use Rattle.script_runner.specs.kinds.Parties.{IsParty};
 
 use crate::engine::driven::Driven;
-use crate::fields::{layout, number_and_rest};
+use crate::fields::{layout, number_and_rest, write_between, write_number};
 use crate::kinds::bounds::Bounds;
 use crate::kinds::parties::{PARTIES, party_of, read_party};
 use bb_memory::layout::{Chunk, Layout};
@@ -60,23 +60,23 @@ impl Driven for BumpWorld {
 
     fn write_reply<W: Write>(outcome: &BumpOutcome, writer: &mut W) -> io::Result<()> {
         match outcome {
-            BumpOutcome::Sees(used) => writeln!(writer, "sees {used}"),
-            BumpOutcome::RefusedAtRead(used) => writeln!(writer, "sees {used} refused OutOfMemory"),
+            BumpOutcome::Sees(used) => write_between(b"sees ", *used, b"\n", writer),
+            BumpOutcome::RefusedAtRead(used) => {
+                write_between(b"sees ", *used, b" refused OutOfMemory\n", writer)
+            }
             BumpOutcome::Wins(chunk) => write_win(chunk, writer),
-            BumpOutcome::Loses(used) => writeln!(writer, "loses {used}"),
-            BumpOutcome::RefusedAtLoss(used) => writeln!(
-                writer,
-                "loses {used} refused OutOfMemory"
-            ),
-            BumpOutcome::Loaded(used) => writeln!(writer, "used {used}"),
-            BumpOutcome::Cleared => writeln!(writer, "cleared"),
-            BumpOutcome::Passed => writeln!(writer, "passed"),
+            BumpOutcome::Loses(used) => write_between(b"loses ", *used, b"\n", writer),
+            BumpOutcome::RefusedAtLoss(used) => {
+                write_between(b"loses ", *used, b" refused OutOfMemory\n", writer)
+            }
+            BumpOutcome::Loaded(used) => write_between(b"used ", *used, b"\n", writer),
+            BumpOutcome::Cleared => writer.write_all(b"cleared\n"),
+            BumpOutcome::Passed => writer.write_all(b"passed\n"),
         }
     }
 
     fn write_state<W: Write>(&self, writer: &mut W) -> io::Result<()> {
-        let used = self.used_space();
-        writeln!(writer, "used {used}")
+        write_between(b"used ", self.used_space(), b"\n", writer)
     }
 }
 
@@ -84,9 +84,9 @@ fn write_win<W: Write>(chunk: &Chunk, writer: &mut W) -> io::Result<()>
     ensures { OnOk result
         (Appends (W.contents writer.old) (W.contents writer.new) (wins_line chunk.now)) }
 {
-    let place = chunk.place();
-    let len = chunk.len();
-    writeln!(writer, "wins {place} {len}")
+    writer.write_all(b"wins ")?;
+    write_number(chunk.place(), writer)?;
+    write_between(b" ", chunk.len(), b"\n", writer)
 }
 
 /// The party that this line has exchange.

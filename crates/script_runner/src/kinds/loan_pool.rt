@@ -10,7 +10,7 @@ ghost use Rattle.script_runner.specs.kinds.LoanPool.{back_line, loan_line, out_l
 ghost use Rattle.script_runner.specs.kinds.LoanPool.{answer_line, loan_refusal_line, loan_reply_line, loaned_line};
 
 use crate::engine::driven::Driven;
-use crate::fields::{number, number_and_rest, write_number};
+use crate::fields::{number, number_and_rest, write_between, write_number};
 use crate::kinds::allocators::write_refusal;
 use crate::kinds::pool::pool_of;
 use crate::kinds::pool_plan::PoolPlan;
@@ -186,13 +186,9 @@ fn write_loaned<W: Write>(id: u64, chunk: &Chunk, writer: &mut W) -> io::Result<
     ensures { OnOk result
         (Appends (W.contents writer.old) (W.contents writer.new) (loaned_line id chunk.now)) }
 {
-    writer.write_all(b"loan ")?;
-    write_number(id as usize, writer)?;
-    writer.write_all(b" ")?;
+    write_between(b"loan ", id as usize, b" ", writer)?;
     write_number(chunk.place(), writer)?;
-    writer.write_all(b" ")?;
-    write_number(chunk.len(), writer)?;
-    writer.write_all(b"\n")
+    write_between(b" ", chunk.len(), b"\n", writer)
 }
 
 fn write_answer<W: Write>(answer: bool, writer: &mut W) -> io::Result<()>

@@ -7,7 +7,7 @@ ghost use Rattle.script_runner.specs.kinds.PoolSteps.{IsGiving, give_line, givin
 ghost use Rattle.script_runner.specs.kinds.PoolSteps.{try_line};
 
 use crate::engine::driven::Driven;
-use crate::fields::{number, number_and_rest};
+use crate::fields::{number, number_and_rest, write_between};
 use crate::kinds::buckets::{Buckets, bucket_of};
 use crate::kinds::parties::{PARTIES, party_of, read_party};
 use bb_memory::steps::{PoolOutcome, PoolStep, PoolWorld};
@@ -52,21 +52,31 @@ impl Driven for PoolWorld {
 
     fn write_reply<W: Write>(outcome: &PoolOutcome, writer: &mut W) -> io::Result<()> {
         match outcome {
-            PoolOutcome::Takes(bucket) => writeln!(writer, "takes {bucket}"),
-            PoolOutcome::Loses(bucket) => writeln!(writer, "loses {bucket}"),
+            PoolOutcome::Takes(bucket) => write_between(b"takes ", *bucket as usize, b"\n", writer),
+            PoolOutcome::Loses(bucket) => write_between(b"loses ", *bucket as usize, b"\n", writer),
             PoolOutcome::RefusedAtLoss(bucket) => {
-                writeln!(writer, "loses {bucket} refused OutOfMemory")
+                write_between(
+                    b"loses ",
+                    *bucket as usize,
+                    b" refused OutOfMemory\n",
+                    writer,
+                )
             }
-            PoolOutcome::Gives(bucket) => writeln!(writer, "gives {bucket}"),
-            PoolOutcome::Passed => writeln!(writer, "passed"),
-            PoolOutcome::Misses(bucket) => writeln!(writer, "misses {bucket}"),
+            PoolOutcome::Gives(bucket) => write_between(b"gives ", *bucket as usize, b"\n", writer),
+            PoolOutcome::Passed => writer.write_all(b"passed\n"),
+            PoolOutcome::Misses(bucket) => write_between(
+                b"misses ",
+                *bucket as usize,
+                b"\n",
+                writer,
+            ),
         }
     }
 
     fn write_state<W: Write>(&self, writer: &mut W) -> io::Result<()> {
-        write!(writer, "held")?;
+        writer.write_all(b"held")?;
         write_holders(self, writer)?;
-        writeln!(writer, "")
+        writer.write_all(b"\n")
     }
 }
 
@@ -86,8 +96,8 @@ fn write_holder<W: Write>(holder: Option<u32>, writer: &mut W) -> io::Result<()>
         (Appends (W.contents writer.old) (W.contents writer.new) (holder_text holder)) }
 {
     match holder {
-        Some(party) => write!(writer, " {party}"),
-        None => write!(writer, " -"),
+        Some(party) => write_between(b" ", party as usize, b"", writer),
+        None => writer.write_all(b" -"),
     }
 }
 

@@ -1,9 +1,10 @@
 use Rattle.std.proofs.Common.{◌≡◌, ◌++◌, ◌+◌, ◌<◌, List, ℕ, length, take, drop, sym, ap, ◌∙◌, arith}
 use Rattle.std.specs.List.{flat_map}
-use Rattle.std.proofs.lemmas.List.{take-append-drop}
+use Rattle.std.proofs.lemmas.List.{take-append-drop, take_all}
 use Rattle.std.proofs.lemmas.Grind.{flat_map-append}
 use Rattle.std.proofs.lemmas.Result.{err_from_is_err_and}
-use Rattle.script_runner.proofs.Sends.{flat_map-at, part_after}
+use Rattle.script_runner.proofs.Appending.{appends_again, appends_nothing}
+use Rattle.script_runner.proofs.Sends.{flat_map-at, flat_map-more, part_after}
 use Rattle.script_runner.proofs.engine.driving.tell.Goals as goal
 
 pub returns-in_err-reply_line : goal.returns-in_err-reply_line
@@ -32,3 +33,23 @@ returns-in_err-send g c =
     rw (p.1, flat_map-at rules.reply_text replies i reply below c.reply-item.is)
     (part_after _ _ _ front (rules.reply_text reply) (flat_map rules.reply_text (drop (i + 1) replies))
     c.loop-reply.invariant part)
+
+pub loop-reply-init : goal.loop-reply-init
+loop-reply-init g c = appends_nothing (g.W.Write.contents c.args.writer.now)
+
+pub loop-reply-preserved : goal.loop-reply-preserved
+loop-reply-preserved g c =
+    let rules = g.K.Driven.rules in
+    let replies = c.args.replies.now in
+    let i = c.loop-reply.reply-index in
+    let reply = c.reply-item.result in
+    let below : i < length replies = omega arith in
+    let more = rw (c.deref.ensures.value, c.in_ok-reply_line.ensures) at c.in_ok-send.ensures in
+    rw (flat_map-more rules.reply_text replies i reply below c.reply-item.is)
+    (appends_again _ _ _ (flat_map rules.reply_text (take i replies)) (rules.reply_text reply) c.loop-reply.invariant more)
+
+pub returns : goal.returns
+returns g c =
+    let all : take c.loop-reply.reply-index c.args.replies.now ≡ c.args.replies.now =
+    take_all c.loop-reply.reply-index c.args.replies.now c.loop-reply-test.false in
+    rw all at c.loop-reply.invariant

@@ -3,4 +3,4 @@ use Rattle.std.proofs.lemmas.Grind.{common_steps}
 use Rattle.script_runner.proofs.kinds.loan_pool.write_loaned.Goals as goal
 
 pub returns : goal.returns
-returns g c = grind (arith, common_steps) steps 4000000
+returns g c = grind (arith, common_steps)
