@@ -1,7 +1,5 @@
 //! Each layer, driven.
-ghost use Rattle.std.specs.Prelude.{◌≡◌, ◌<◌, []};
-ghost use Rattle.bb_memory_base.specs.HeldBytes.{held_region};
-ghost use Rattle.uses.specs.Rings.{GivesExactly};
+ghost use Rattle.std.specs.Prelude.{◌≡◌};
 
 mod boards;
 mod budgets;
@@ -13,33 +11,21 @@ mod rows;
 mod segregated;
 mod tenants;
 
-use bb_memory::allocator::Allocator;
 use bb_memory::bump_allocator::BumpAllocator;
 use bb_memory::layout::Layout;
 use bb_memory::pool_allocator::pool_object_law;
-use bb_memory::region::Region;
 use bb_memory::shared_bump::{BumpParty, SharedBumpAllocator};
 use checks::{REFUSED, check, fail};
-use loan_book::LoanBook;
 use pools::{eight_buckets, empty_slab, its_region};
 use rows::{
     KeyedAnswer, KeyedCall, KeyedRow, LineAnswer, LineCall, LineRow, SlabAnswer, SlabCall, SlabRow,
-    all_kept,
+    keyed_slab_of, mailbox_of, ring_of, slab_of,
 };
 use std::alloc::Global;
 use std::process::Abort;
 use std::sync::Arc;
 use std::thread::Threads;
-use uses::keyed_slab::KeyedSlab;
-use uses::mailbox::Mailbox;
-use uses::ring::MessageRing;
-use uses::slab::Slab;
 use uses::workers::two_workers;
-
-/// This slab keeps each row.
-fn slab_of<A: Allocator + Drop>(rt: &impl Abort, slab: Slab<A>, rows: &[SlabRow<'_>]) {
-    all_kept(rt, slab, rows);
-}
 
 /// A slab keeps each row.
 fn slab_keeps(rt: &impl Abort, alloc: Global, rows: &[SlabRow<'_>]) {
@@ -63,18 +49,6 @@ fn slab_of_three_records(rt: HostRuntime) {
         (SlabCall::Read(1), SlabAnswer::Record(&[6])),
     ];
     slab_keeps(&rt, rt.alloc(), &rows);
-}
-
-/// This slab with keys, for records of two bytes, keeps each row.
-fn keyed_slab_of<A: Allocator + Drop>(
-    rt: &impl Abort,
-    alloc: Global,
-    slab: Slab<A>,
-    rows: &[KeyedRow<'_>],
-)
-    requires { slab.records ≡ [] }
-{
-    all_kept(rt, KeyedSlab::new(alloc, slab, 2), rows);
 }
 
 /// A slab with keys keeps each row.
@@ -131,11 +105,6 @@ fn full_slab_takes_a_free_slot_again(rt: HostRuntime) {
     keyed_slab_keeps(&rt, rt.alloc(), &rows);
 }
 
-/// A mailbox of these messages keeps each row.
-fn mailbox_of<A: Allocator + Drop>(rt: &impl Abort, messages: Slab<A>, rows: &[LineRow<'_>]) {
-    all_kept(rt, Mailbox::new(messages), rows);
-}
-
 /// A mailbox keeps each row.
 fn mailbox_keeps(rt: &impl Abort, alloc: Global, rows: &[LineRow<'_>]) {
     match empty_slab(alloc) {
@@ -156,22 +125,6 @@ fn mailbox_in_order(rt: HostRuntime) {
         (LineCall::Waiting, LineAnswer::Waiting(1)),
     ];
     mailbox_keeps(&rt, rt.alloc(), &rows);
-}
-
-/// A ring for two readers, over an allocator and its region, keeps each row.
-fn ring_of<A: Allocator + Drop>(
-    rt: &impl Abort,
-    alloc: Global,
-    allocator: A,
-    region: Region,
-    rows: &[LineRow<'_>],
-)
-    requires fresh { A.stands_for allocator [] }
-    requires exact { GivesExactly A.may_allocate }
-    requires same_region { held_region region ≡ A.region_of (A.geometry allocator) }
-{
-    let book = LoanBook::new(alloc, allocator);
-    all_kept(rt, MessageRing::new(alloc, book, region, 2), rows);
 }
 
 /// A ring keeps each row.

@@ -4,6 +4,7 @@ ghost use Rattle.bb_memory_base.specs.Chunk.{Chunk};
 ghost use Rattle.uses.specs.Budgets.{reserved_bytes};
 
 use crate::budget::Budget;
+use crate::last_chunk::return_last;
 use bb_memory_base::allocator::{
     AllocationError, AllocationGrowError, AllocationShrinkError, Allocator, BaseAllocator,
 };
@@ -173,17 +174,6 @@ impl<A: Allocator + Drop> Budget for ByteBudget<A> {
     fn budget(&self) -> usize {
         self.budget
     }
-}
-
-/// Gives back the chunk that was given last.
-pub(crate) fn return_last<A: Allocator>(inner: &mut A, chunk: Chunk, layout: Layout)
-    requires { A.may_release inner.old chunk.place }
-    ensures stands { (live : List Chunk) → A.stands_for inner.old (live ++ chunk ∷ [])
-        → A.stands_for inner.new live }
-    ensures geometry { A.geometry inner.new ≡ A.geometry inner.old }
-{
-    append_law::<Chunk>();
-    inner.deallocate(chunk.place(), layout);
 }
 
 /// How many bytes are reserved for the chunk at this place: a part of those that are reserved for all.

@@ -14,6 +14,7 @@
 //!   threads over one pool. `pool_histories`: threads whose meetings are remembered, and a pool whose parties are all here.
 //! - `job_board`: slots of a shared pool, each with one holder.
 //! - `pool_messages`: messages whose buckets are taken by one party and given back by another.
+//! - `last_chunk`: what three of them call for a chunk that goes back as soon as it was given.
 //! - `examples`: the examples of the layers' comments.
 #![tactic(auto)]
 
@@ -25,6 +26,7 @@ pub mod chunk_budget;
 pub mod examples;
 pub mod job_board;
 pub mod keyed_slab;
+mod last_chunk;
 pub mod mailbox;
 pub mod pool_histories;
 pub mod pool_messages;

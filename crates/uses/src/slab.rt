@@ -8,7 +8,7 @@ ghost use Rattle.bb_memory_base.specs.HeldBytes.{HeldBytes, held_region};
 ghost use Rattle.uses.specs.Records.{HoldsThen, Leaves, Stores, records_in};
 ghost use Rattle.uses.specs.Requests.{IsOfBytes, MayGiveLonger};
 
-use crate::byte_budget::return_last;
+use crate::last_chunk::return_last;
 use bb_memory_base::allocator::{AllocationError, Allocator, BaseAllocator};
 use bb_memory_base::layout::{Chunk, Layout, LayoutError};
 use bb_memory_base::lists::append_law;

@@ -9,7 +9,7 @@ ghost use Rattle.uses.specs.Tenants.{HasLeft, IsWhyNotAdmitted, IsWhyNotLeased};
 ghost use Rattle.uses.specs.Tenants.{bytes_for, bytes_out, chunks_of, is_lease_of, lease_at};
 ghost use Rattle.uses.specs.Tenants.{limit_of, used_by, with_lease, with_tenant, without_lease};
 
-use crate::byte_budget::return_last;
+use crate::last_chunk::return_last;
 use bb_memory_base::allocator::{AllocationError, Allocator, BaseAllocator};
 use bb_memory_base::layout::{Chunk, Layout};
 use bb_memory_base::lists::{Grouped, append_law, group_law, map_law, position_law, sum_law};

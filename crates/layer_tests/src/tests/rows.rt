@@ -1,7 +1,12 @@
 //! Rows of a table: a call, and what it has to be answered. The layers are driven by them, over any allocator.
-ghost use Rattle.std.specs.Prelude.{◌≡◌, ℕ, List, Some, IsTrue, length, slice_get};
+ghost use Rattle.std.specs.Prelude.{◌≡◌, ◌<◌, ℕ, List, [], Some, IsTrue, length, slice_get};
+ghost use Rattle.bb_memory_base.specs.HeldBytes.{held_region};
+ghost use Rattle.uses.specs.Rings.{GivesExactly};
 
 use bb_memory::allocator::Allocator;
+use bb_memory::region::Region;
+use loan_book::LoanBook;
+use std::alloc::Global;
 use std::process::Abort;
 use uses::keyed_slab::{Key, KeyedSlab};
 use uses::mailbox::Mailbox;
@@ -215,4 +220,46 @@ fn has_record<A: Allocator + Drop>(slab: &Slab<A>, position: usize, len: usize) 
         → (old : List ℕ) × (slice_get slab.now.records position ≡ Some old) × (len ≡ length old) }
 {
     position < slab.len() && slab.read(position).len() == len
+}
+
+/// This slab keeps each row.
+pub(super) fn slab_of<A: Allocator + Drop>(rt: &impl Abort, slab: Slab<A>, rows: &[SlabRow<'_>]) {
+    all_kept(rt, slab, rows);
+}
+
+/// This slab with keys, for records of two bytes, keeps each row.
+pub(super) fn keyed_slab_of<A: Allocator + Drop>(
+    rt: &impl Abort,
+    alloc: Global,
+    slab: Slab<A>,
+    rows: &[KeyedRow<'_>],
+)
+    requires { slab.records ≡ [] }
+{
+    all_kept(rt, KeyedSlab::new(alloc, slab, 2), rows);
+}
+
+/// A mailbox of these messages keeps each row.
+pub(super) fn mailbox_of<A: Allocator + Drop>(
+    rt: &impl Abort,
+    messages: Slab<A>,
+    rows: &[LineRow<'_>],
+) {
+    all_kept(rt, Mailbox::new(messages), rows);
+}
+
+/// A ring for two readers, over an allocator and its region, keeps each row.
+pub(super) fn ring_of<A: Allocator + Drop>(
+    rt: &impl Abort,
+    alloc: Global,
+    allocator: A,
+    region: Region,
+    rows: &[LineRow<'_>],
+)
+    requires fresh { A.stands_for allocator [] }
+    requires exact { GivesExactly A.may_allocate }
+    requires same_region { held_region region ≡ A.region_of (A.geometry allocator) }
+{
+    let book = LoanBook::new(alloc, allocator);
+    all_kept(rt, MessageRing::new(alloc, book, region, 2), rows);
 }
