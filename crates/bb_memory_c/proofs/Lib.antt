@@ -11,5 +11,4 @@ pub mod Layouts
 pub mod Made
 pub mod Makers
 pub mod Seating
-pub mod Resizes
 pub mod Nothing

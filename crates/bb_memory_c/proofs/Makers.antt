@@ -1,4 +1,4 @@
--- What is told of the making of what lies behind a handle, and of a pool from the two numbers of its buckets' layout on.
+-- What is told of the making of a pool, from the two numbers of its buckets' layout to the pool behind the handle.
 use Rattle.std.proofs.Common.{◌≡◌, ◌≢◌, ◌↔◌, ◌∙◌, ℕ, Bool, false, Option, Some, None, Err, IsTrue, Result, ap, refl, subst, sym}
 use Rattle.std.proofs.lemmas.Bool.{false≢true}
 use Rattle.std.proofs.lemmas.Option.{none-some}
@@ -6,7 +6,7 @@ use Rattle.std.specs.Align.{IsLayout}
 use Rattle.bb_memory_base.specs.Region.{Region}
 use Rattle.bb_memory_base.specs.declared.layout.Layout.{Layout}
 use Rattle.bb_memory.specs.Pool.{MayBeCut}
-use Rattle.bb_memory_c.specs.Calls.{AnswersMake, AnswersPoolMake}
+use Rattle.bb_memory_c.specs.Calls.{AnswersPoolMake}
 use Rattle.bb_memory_c.specs.Codes.{already_made, cannot_make, done, malloc_refused, no_bucket, not_a_layout}
 use Rattle.bb_memory_c.specs.Layouts.{CannotCut, IsOf}
 use Rattle.bb_memory_c.proofs.Layouts.{cut-or-not, is_layout, same_of}
@@ -20,43 +20,6 @@ is_empty (Some x) told made is = absurd (false≢true (sym is ∙ made.1 (λ wro
 pub neither : {X : Type 0} {one two : ℕ} (code third : ℕ) → (code ≢ one → code ≡ two) → third ≢ one → third ≢ two →
     code ≡ third → X
 neither code third either not_one not_two is = absurd (not_two (sym is ∙ either (λ one. not_one (sym is ∙ one))))
-
--- WHAT HAS NO BUCKETS
-
-module _ {X : Type 0} (old new : Option X) (may : Type 0) (fresh : Option X → Type 0) where
-  -- there is one already
-  pub one-already : old ≢ None → new ≡ old → AnswersMake old new already_made may fresh
-  one-already some still = record {
-    made = λ wrong. absurd (cc);
-    held_one = (λ _. some, λ _. refl);
-    cannot = (λ wrong. absurd (cc), λ no. absurd (some no.0));
-    else_memory = λ _ no _. absurd (no refl);
-    still = λ _. still;
-  }
-
-  module _ (none : old ≡ None) where
-    -- it may not be made
-    pub one-may-not : ¬ may → new ≡ old → AnswersMake old new cannot_make may fresh
-    one-may-not not still = record {
-      made = λ wrong. absurd (cc);
-      held_one = (λ wrong. absurd (cc), λ some. absurd (some none));
-      cannot = (λ _. (none, not), λ _. refl);
-      else_memory = λ _ _ no. absurd (no refl);
-      still = λ _. still;
-    }
-
-    -- it is made, or memory for it was refused
-    pub one-tried : (code : ℕ) → may → (code ≡ done → fresh new) → (code ≢ done → code ≡ malloc_refused) →
-        (code ≢ done → new ≡ old) → AnswersMake old new code may fresh
-    one-tried code may_be made either still = record {
-      made = λ is. (may_be, made is);
-      held_one = (neither code _ either (λ wrong. cc) (λ wrong. cc), λ some. absurd (some none));
-      cannot = (neither code _ either (λ wrong. cc) (λ wrong. cc), λ no. absurd (no.1 may_be));
-      else_memory = λ not _ _. either not;
-      still = still;
-    }
-
--- POOLS
 
 -- there is one already
 pub made-already : {X : Type 0} {old new : Option X} {size align : ℕ} {may room : Layout → Type 0}
