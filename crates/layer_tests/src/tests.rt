@@ -10,6 +10,7 @@ mod results;
 mod rows;
 mod segregated;
 mod tenants;
+mod workers;
 
 use bb_memory::bump_allocator::BumpAllocator;
 use bb_memory::layout::Layout;

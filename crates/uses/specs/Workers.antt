@@ -14,11 +14,15 @@ pub record BringsBack (bump : SharedBump) (old : BumpParty) (back : BumpParty ×
   pub theirs : back.0.allocator ≡ bump
   pub taken : length (chunks_won back.0.log) ≡ length (chunks_won old.log) + back.1
 
+-- what the party held it still holds
+abbrev pub KeepsBuckets : PoolParty → PoolParty → Type 0
+KeepsBuckets old new = (bucket : ℕ) → IsHeldAfter old.log bucket → IsHeldAfter new.log bucket
+
 -- a party of the pool comes back under its number, with all buckets that it had
 pub record ComesBack (pool : SharedPool) (old new : PoolParty) : Type 0 where
   pub theirs : new.allocator ≡ pool
   pub number : new.number ≡ old.number
-  pub keeps : (bucket : ℕ) → IsHeldAfter old.log bucket → IsHeldAfter new.log bucket
+  pub keeps : KeepsBuckets old new
 
 -- as many of the pool's parties come back as went out
 pub record AllComeBack (pool : SharedPool) (old new : List PoolParty) : Type 0 where
@@ -37,6 +41,12 @@ pub record HasSlot (board : SharedPool) (worker : PoolParty) (slot : TakenBucket
   pub theirs : worker.allocator ≡ board
   pub of_board : slot.allocator ≡ board
   pub held : IsHeldAfter worker.log slot.number
+
+-- the worker has taken this slot of the board, which it didn't have, with room for a whole job
+pub record HasTaken (board : SharedPool) (old new : PoolParty) (slot : TakenBucket) : Type 0 where
+  pub has : HasSlot board new slot
+  pub fresh : ¬ IsHeldAfter old.log slot.number
+  pub room : slot.len ≡ board.scene.geometry.bucket.size
 
 -- the worker has given back the slot of this number, and keeps its others
 pub record HasGivenBack (board : SharedPool) (number : ℕ) (old new : PoolParty) : Type 0 where

@@ -2,7 +2,6 @@
 ghost use Rattle.std.specs.Prelude.{◌≡◌, All, IfOk};
 ghost use Rattle.uses.specs.Carvings.{HasAsked, HaveAsked, IsCarved};
 
-use bb_memory::allocator::AllocationError;
 use bb_memory::bump_allocator::BumpAllocator;
 use bb_memory::layout::Layout;
 use bb_memory::shared_bump::{BumpParty, SharedBumpAllocator};
@@ -23,22 +22,20 @@ pub fn carve(shared: &SharedBumpAllocator, party: BumpParty, layout: Layout) -> 
 }
 
 /// Four workers ask a bump for a chunk each, all at once. Then it is one owner's again, and what is used of it is exactly the
-/// greatest position that one of the four has seen. It is refused, with `OutOfMemory`, only where memory was.
+/// greatest position that one of the four has seen. It is refused only where memory was.
 pub fn carved_by_four<R: Threads + Sync>(
     rt: &R,
     alloc: Global,
     bump: BumpAllocator,
     layout: Layout,
-) -> Result<BumpAllocator, AllocationError>
+) -> Result<BumpAllocator, AllocError>
     ensures region { IfOk result (λ again. again.region ≡ bump.region) }
     ensures carved { IfOk result (λ again. IsCarved bump.region bump.used 4 layout again.used) }
 {
     let Ok((shared, parties)) = bump.share(alloc, 4) else {
-        return Err(AllocationError::OutOfMemory);
+        return Err(AllocError);
     };
-    let Ok(back) = carve_all(rt, &shared, parties, layout) else {
-        return Err(AllocationError::OutOfMemory);
-    };
+    let back = carve_all(rt, &shared, parties, layout)?;
     Ok(shared.into_owner_all(back))
 }
 

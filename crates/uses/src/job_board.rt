@@ -5,7 +5,7 @@ ghost use Rattle.bb_memory_base.specs.PoolLogs.{IsHeldAfter};
 ghost use Rattle.bb_memory_base.specs.Region.{region_at};
 ghost use Rattle.bb_memory.specs.Pool.{MayBeCut};
 ghost use Rattle.bb_memory.specs.SharedPool.{AreAllHeldAfter, PoolParty};
-ghost use Rattle.uses.specs.Workers.{HasGivenBack, HasLostAll, HasSlot};
+ghost use Rattle.uses.specs.Workers.{HasGivenBack, HasLostAll, HasSlot, HasTaken, KeepsBuckets};
 
 use bb_memory::allocator::AllocationError;
 use bb_memory::layout::Layout;
@@ -64,11 +64,8 @@ impl JobBoard {
     pub fn take(&self, worker: &mut PoolParty) -> Result<Bucket<'_>, AllocationError>
         requires worker { worker.old.allocator ≡ self.now }
         ensures worker { worker.new.allocator ≡ self.now }
-        ensures has { IfOk result (HasSlot self.now worker.new) }
-        ensures room { IfOk result (λ slot. slot.len ≡ self.now.scene.geometry.bucket.size) }
-        ensures fresh { IfOk result (λ slot. ¬ IsHeldAfter worker.old.log slot.number) }
-        ensures keeps { (other : ℕ) → IsHeldAfter worker.old.log other
-            → IsHeldAfter worker.new.log other }
+        ensures taken { IfOk result (HasTaken self.now worker.old worker.new) }
+        ensures keeps { KeepsBuckets worker.old worker.new }
         ensures refused { IfErr result (HasLostAll self.now worker.old worker.new) }
         ensures alone { self.now.scene.parties ≡ 1
             → (IsErr result ↔ AreAllHeldAfter worker.old.log self.now.scene.geometry.buckets) }
@@ -84,7 +81,8 @@ impl JobBoard {
         self.slots.deallocate_bucket(worker, slot);
     }
 
-    /// Both workers ask for a slot, in two threads at once. Where both get one, the slots are different ones.
+    /// Both workers ask for a slot, in two threads at once, each as by [`JobBoard::take`]. Where both get one, the slots are
+    /// different ones.
     pub fn take_two<R: Threads + Sync>(
         &self,
         rt: &R,
@@ -100,8 +98,10 @@ impl JobBoard {
         ensures there { there.new.allocator ≡ self.now }
         ensures one_holder { IfOk result.0
             (λ slot. IfOk result.1 (λ other. slot.number ≢ other.number)) }
-        ensures has { IfOk result.0 (λ slot. IsHeldAfter here.new.log slot.number) }
-        ensures its_has { IfOk result.1 (λ slot. IsHeldAfter there.new.log slot.number) }
+        ensures taken { IfOk result.0 (HasTaken self.now here.old here.new) }
+        ensures its_taken { IfOk result.1 (HasTaken self.now there.old there.new) }
+        ensures keeps { KeepsBuckets here.old here.new }
+        ensures its_keeps { KeepsBuckets there.old there.new }
         ensures refused { IfErr result.0 (HasLostAll self.now here.old here.new) }
         ensures its_refused { IfErr result.1 (HasLostAll self.now there.old there.new) }
     {

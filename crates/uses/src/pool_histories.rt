@@ -7,14 +7,13 @@ ghost use Rattle.bb_memory.specs.SharedPoolAmong.{AreAllOf, HoldsAmongAll, IsAmo
 ghost use Rattle.bb_memory.specs.SharedPoolHistory.{HaveMetBy, MayGoOn};
 
 use crate::pool_workers::{pool_of_four, take_one_each};
-use bb_memory::allocator::AllocationError;
 use bb_memory::layout::Layout;
 use bb_memory::shared_pool::{Bucket, PoolHistory, PoolParty, SharedPoolAllocator};
 use std::alloc::{AllocError, Global};
 use std::thread::Threads;
 
 /// Each of these parties' workers takes a bucket, all at once, and when all are back, they meet in the history. It is refused
-/// where memory was, and for nothing else.
+/// only where memory was.
 pub fn out_and_back<R: Threads + Sync>(
     rt: &R,
     pool: &SharedPoolAllocator,
@@ -34,24 +33,20 @@ pub fn out_and_back<R: Threads + Sync>(
 }
 
 /// Four workers of one pool: when all are back, they meet, go out once more, and meet again. One history remembers both
-/// meetings, so that what was done after the first comes after what was done before it. It is refused, with `OutOfMemory`,
-/// where memory was, and for nothing else.
+/// meetings, so that what was done after the first comes after what was done before it. It is refused only where memory was.
 pub fn four_workers_twice<R: Threads + Sync>(
     rt: &R,
     alloc: Global,
     layout: Layout,
-) -> Result<(SharedPoolAllocator, PoolHistory, Vec<PoolParty>), AllocationError>
+) -> Result<(SharedPoolAllocator, PoolHistory, Vec<PoolParty>), AllocError>
     ensures all { IfOk result (λ made. length made.2.items ≡ made.0.scene.parties) }
     ensures met { IfOk result (λ made. HaveMetBy made.0.scene made.1.steps made.2.items) }
+    ensures may { IfOk result (λ made. MayGoOn made.0 made.1 made.2.items) }
 {
     let (pool, mut parties) = pool_of_four(alloc)?;
     let mut history = history_of(&pool, &mut parties);
-    let Ok(back) = out_and_back(rt, &pool, &mut history, parties, layout) else {
-        return Err(AllocationError::OutOfMemory);
-    };
-    let Ok(back) = out_and_back(rt, &pool, &mut history, back, layout) else {
-        return Err(AllocationError::OutOfMemory);
-    };
+    let back = out_and_back(rt, &pool, &mut history, parties, layout)?;
+    let back = out_and_back(rt, &pool, &mut history, back, layout)?;
     Ok((pool, history, back))
 }
 

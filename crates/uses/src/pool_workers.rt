@@ -4,7 +4,6 @@ ghost use Rattle.bb_memory_base.specs.PoolMachine.{PoolScene};
 ghost use Rattle.bb_memory.specs.SharedPool.{AreFresh, HasTaker, HaveAllNumbers, HaveMet, IsHeldByOne, PoolParty};
 ghost use Rattle.uses.specs.Workers.{AllComeBack, ComesBack, MayBeServed};
 
-use bb_memory::allocator::AllocationError;
 use bb_memory::layout::Layout;
 use bb_memory::pool_allocator::pool_count_law;
 use bb_memory::shared_pool::{PoolParty, SharedPoolAllocator};
@@ -24,22 +23,19 @@ pub fn take_one(pool: &SharedPoolAllocator, party: PoolParty, layout: Layout) ->
 }
 
 /// Four workers take a bucket each, all at once, and meet when they are back: one list of steps has all their logs and nothing
-/// else, and a flag is taken exactly where one of them holds the bucket. It is refused, with `OutOfMemory`, where memory was, and
-/// for nothing else.
+/// else, and a flag is taken exactly where one of them holds the bucket. It is refused only where memory was.
 pub fn four_workers<R: Threads + Sync>(
     rt: &R,
     alloc: Global,
     layout: Layout,
-) -> Result<(SharedPoolAllocator, Vec<PoolParty>), AllocationError>
+) -> Result<(SharedPoolAllocator, Vec<PoolParty>), AllocError>
     ensures four { IfOk result (λ made. made.0.scene.parties ≡ 4) }
     ensures all { IfOk result (λ made. length made.1.items ≡ made.0.scene.parties) }
     ensures theirs { IfOk result (λ made. All (λ party. party.allocator ≡ made.0) made.1.items) }
     ensures met { IfOk result (λ made. HaveMet made.0.scene made.1.items) }
 {
     let (pool, parties) = pool_of_four(alloc)?;
-    let Ok(mut back) = take_one_each(rt, &pool, parties, layout) else {
-        return Err(AllocationError::OutOfMemory);
-    };
+    let mut back = take_one_each(rt, &pool, parties, layout)?;
     pool.meet_all(&mut back);
     Ok((pool, back))
 }
@@ -57,16 +53,16 @@ pub(crate) fn take_one_each<R: Threads + Sync>(
     thread::map_vec(rt, parties, &|party| take_one(pool, party, layout))
 }
 
-/// A pool of four parties. It is refused as `SharedPoolAllocator::new` is.
+/// A pool of four parties. It is refused only where memory was, since a pool may be made of this region and bucket.
 #[tactic(auto, unfolding(bb_memory_base::specs::LeastPlace::least_place))]
 pub(crate) fn pool_of_four(
     alloc: Global,
-) -> Result<(SharedPoolAllocator, Vec<PoolParty>), AllocationError>
+) -> Result<(SharedPoolAllocator, Vec<PoolParty>), AllocError>
     ensures { IfOk result (λ made. AreFresh made.0 4 made.1.items) }
 {
     pool_count_law();
     let bucket = Layout::from_size_align(128, 8).unwrap();
-    SharedPoolAllocator::new(alloc, bucket, 4096, 1024, 4)
+    SharedPoolAllocator::new(alloc, bucket, 4096, 1024, 4).or(Err(AllocError))
 }
 
 /// A party asks for a bucket once, and comes back. Its log is then not empty.
@@ -81,8 +77,8 @@ pub fn ask_once(pool: &SharedPoolAllocator, party: PoolParty, layout: Layout) ->
 }
 
 /// All parties of a pool ask for a bucket once each, in threads of their own, and meet: one of them was given one, whatever the
-/// order of their steps. It can't be that each was refused by what somebody else held, since there was nobody else. It is refused
-/// where memory was, and for nothing else.
+/// order of their steps. It can't be that each was refused by what somebody else held, since there was nobody else. `AllocError`
+/// says that memory was refused.
 pub fn one_is_served<R: Threads + Sync>(
     rt: &R,
     pool: &SharedPoolAllocator,
@@ -92,11 +88,10 @@ pub fn one_is_served<R: Threads + Sync>(
     requires all { length parties.items ≡ pool.now.scene.parties }
     requires fresh { All (MayBeServed pool.now layout) parties.items }
     ensures one { IfOk result (λ back. HasTaker pool.now.scene back.items) }
+    ensures theirs { IfOk result (λ back. All (λ party. party.allocator ≡ pool.now) back.items) }
+    ensures back { IfOk result (λ back. length back.items ≡ pool.now.scene.parties) }
 {
-    let asked = thread::map_vec(rt, parties, &|party| ask_once(pool, party, layout));
-    let Ok(mut asked) = asked else {
-        return Err(AllocError);
-    };
+    let mut asked = thread::map_vec(rt, parties, &|party| ask_once(pool, party, layout))?;
     pool.meet_all(&mut asked);
     pool.one_took(&asked);
     Ok(asked)

@@ -1,0 +1,105 @@
+//! Threads that share a bump or a pool, and what is left of it when all of them are back.
+ghost use Rattle.std.specs.Prelude.{◌≡◌, All, IfOk, length};
+ghost use Rattle.uses.specs.Workers.{MayBeServed};
+
+use super::checks::check;
+use bb_memory::bump_allocator::BumpAllocator;
+use bb_memory::layout::Layout;
+use bb_memory::pool_allocator::{AllocationError, pool_count_law};
+use bb_memory::shared_pool::{PoolParty, SharedPoolAllocator};
+use std::alloc::Global;
+use std::thread::Threads;
+use uses::bump_workers::carved_by_four;
+use uses::pool_histories::four_workers_twice;
+use uses::pool_workers::{four_workers, one_is_served};
+
+/// How much of 1024 bytes is used when four threads have asked for so many each, or none where memory was refused.
+fn used_by_four<R: Threads + Sync>(rt: &R, alloc: Global, size: usize) -> Option<usize> {
+    let asked = Layout::from_size_align(size, 4).ok()?;
+    let again = carved_by_four(rt, alloc, BumpAllocator::new(4096, 1024), asked).ok()?;
+    Some(again.used_space())
+}
+
+/// Where four chunks fit all four are served, and else three, whichever of the four comes last.
+#[test]
+fn four_carve_a_region(rt: HostRuntime) {
+    check(&rt, used_by_four(&rt, rt.alloc(), 100) == Some(400));
+    check(&rt, used_by_four(&rt, rt.alloc(), 300) == Some(900));
+}
+
+/// Whether the party gets one more bucket, which it keeps.
+fn keeps_one(pool: &SharedPoolAllocator, party: &mut PoolParty, asked: Layout) -> bool
+    requires { party.old.allocator ≡ pool.now }
+    ensures { party.new.allocator ≡ pool.now }
+{
+    pool.allocate(party, asked).is_ok()
+}
+
+/// Whether the last of these parties gets each of five buckets more, or none where there is no party.
+fn five_more(
+    pool: &SharedPoolAllocator,
+    mut parties: Vec<PoolParty>,
+    asked: Layout,
+) -> Option<[bool; 5]>
+    requires { All (λ party. party.allocator ≡ pool.now) parties.items }
+{
+    let mut party = parties.pop()?;
+    Some([
+        keeps_one(pool, &mut party, asked),
+        keeps_one(pool, &mut party, asked),
+        keeps_one(pool, &mut party, asked),
+        keeps_one(pool, &mut party, asked),
+        keeps_one(pool, &mut party, asked),
+    ])
+}
+
+/// What is left for one of four workers when each has kept a bucket of eight.
+fn left_of_four<R: Threads + Sync>(rt: &R, alloc: Global, asked: Layout) -> Option<[bool; 5]> {
+    let (pool, parties) = four_workers(rt, alloc, asked).ok()?;
+    five_more(&pool, parties, asked)
+}
+
+/// What is left when each has kept two.
+fn left_of_eight<R: Threads + Sync>(rt: &R, alloc: Global, asked: Layout) -> Option<[bool; 5]> {
+    let (pool, _, parties) = four_workers_twice(rt, alloc, asked).ok()?;
+    five_more(&pool, parties, asked)
+}
+
+#[test]
+fn four_keep_a_bucket_each(rt: HostRuntime) {
+    let asked = Layout::from_size_align(100, 4).unwrap();
+    let four = Some([true, true, true, true, false]);
+    check(&rt, left_of_four(&rt, rt.alloc(), asked) == four);
+    check(
+        &rt,
+        left_of_eight(&rt, rt.alloc(), asked) == Some([false; 5]),
+    );
+}
+
+/// A pool of one bucket, and its two parties, each of which may be given it.
+#[tactic(auto, unfolding(bb_memory_base::specs::LeastPlace::least_place))]
+fn one_bucket(
+    alloc: Global,
+    bucket: Layout,
+) -> Result<(SharedPoolAllocator, Vec<PoolParty>), AllocationError>
+    requires { bucket ≡ record { size = 128; align = 8 } }
+    ensures all { IfOk result (λ made. length made.1.items ≡ made.0.scene.parties) }
+    ensures fresh { IfOk result (λ made. All (MayBeServed made.0 bucket) made.1.items) }
+{
+    pool_count_law();
+    SharedPoolAllocator::new(alloc, bucket, 4096, 128, 2)
+}
+
+/// What is left for one of two workers when both have asked for one bucket.
+fn left_of_one<R: Threads + Sync>(rt: &R, alloc: Global) -> Option<[bool; 5]> {
+    let bucket = Layout::from_size_align(128, 8).ok()?;
+    let (pool, parties) = one_bucket(alloc, bucket).ok()?;
+    let back = one_is_served(rt, &pool, parties, bucket).ok()?;
+    five_more(&pool, back, bucket)
+}
+
+/// One of them was given it, so none is left.
+#[test]
+fn one_of_two_is_served(rt: HostRuntime) {
+    check(&rt, left_of_one(&rt, rt.alloc()) == Some([false; 5]));
+}
