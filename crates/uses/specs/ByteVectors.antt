@@ -2,7 +2,7 @@
 use Rattle.std.specs.Prelude.{◌≡◌, ◌∷◌, ◌++◌, ◌+◌, ◌<◌, ◌≤◌, ◌⊎◌, [], ℕ, List, Result, Ok, Err, Some}
 use Rattle.std.specs.Prelude.{IfErr, IsOk, OnOk, length, slice_get}
 use Rattle.std.specs.Align.{IsLayout}
-use Rattle.bb_memory_base.specs.Chunk.{Chunk}
+use Rattle.bb_memory_base.specs.Chunk.{AreApart, Chunk, IsInside}
 use Rattle.bb_memory_base.specs.HeldBytes.{HeldBytes, bytes_in, held_region}
 use Rattle.bb_memory_base.specs.Region.{Region}
 use Rattle.bb_memory_base.specs.declared.layout.Layout.{Layout}
@@ -34,6 +34,15 @@ pub record IsPushed (here there : HeldBytes) (old : ByteVector) (byte : ℕ) (ne
     : Type 0 where
   pub behind : contents there new ≡ contents here old ++ byte ∷ []
   pub region : held_region there ≡ held_region here
+
+-- where the byte behind its last one lies
+abbrev pub next_byte : HeldBytes → ByteVector → Chunk
+next_byte held vector = record { place = held.start + vector.offset + vector.len; len = 1 }
+
+-- what lies in the region apart from that byte stays
+abbrev pub KeepsOthers : HeldBytes → ByteVector → HeldBytes → Type 0
+KeepsOthers here vector there = (another : Chunk) → IsInside (held_region here) another
+    → AreApart (next_byte here vector) another → bytes_in there another ≡ bytes_in here another
 
 -- so it may be answered where a chunk of so many bytes is to grow by one: not every two layouts rule it out
 pub record MayGrowByOne (may_grow : Layout → Layout → Result Chunk AllocationGrowError → Type 0)

@@ -4,19 +4,13 @@ use Rattle.bb_memory_base.specs.Chunk.{Chunk}
 use Rattle.bb_memory_base.specs.Region.{Region}
 use Rattle.bb_memory_base.specs.declared.layout.Layout.{Layout}
 use Rattle.bb_memory_base.specs.declared.allocator.AllocationError.{AllocationError}
-use Rattle.bb_memory.specs.SharedBump.{AgreeAt, BumpParty, MayTake, SharedBump, greatest_seen, scene_at}
+use Rattle.bb_memory.specs.SharedBump.{AgreeAt, BumpParty, MayTake, greatest_seen, scene_at}
 
 -- the party's last steps are a request for this layout
 pub record HasAsked (layout : Layout) (party : BumpParty) : Type 0 where
   pub before : BumpParty
   pub answer : Result Chunk AllocationError
   pub asked : MayTake before layout answer party
-
--- as many of the bump's parties come back as went out, and each has asked for this layout
-pub record HaveAsked (bump : SharedBump) (layout : Layout) (old new : List BumpParty) : Type 0 where
-  pub theirs : All (λ party. party.allocator ≡ bump) new
-  pub all : length new ≡ length old
-  pub asked : All (HasAsked layout) new
 
 -- So many workers have each asked for this layout, of a region of which some was used. This much is used then: it agrees with the
 -- workers' logs, which are all, and is the greatest position that one of them has seen.

@@ -19,7 +19,8 @@ pub trait Budget: BaseAllocator {
     /// A budget of so much, over an allocator that has nothing out.
     fn new(inner: Self::Inner, budget: usize) -> Self
         requires { Self.Inner.stands_for inner [] }
-        ensures { budgeted result ≡ record { inner = inner; budget = budget; out = 0 } };
+        ensures value { budgeted result ≡ record { inner = inner; budget = budget; out = 0 } }
+        ensures empty { Self.stands_for result [] };
 
     /// How much is out: as much as each live list takes that it stands for, and never more than the budget.
     fn out(&self) -> usize

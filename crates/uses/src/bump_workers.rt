@@ -1,6 +1,8 @@
 //! Threads that carve one bump up, and the bump that one owner then has again.
 ghost use Rattle.std.specs.Prelude.{◌≡◌, All, IfOk};
-ghost use Rattle.uses.specs.Carvings.{HasAsked, HaveAsked, IsCarved};
+ghost use Rattle.bb_memory.specs.SharedBump.{BumpParty, MayTake};
+ghost use Rattle.uses.specs.Carvings.{HasAsked, IsCarved};
+ghost use Rattle.uses.specs.Workers.{AllComeBack, Asks};
 
 use bb_memory::bump_allocator::BumpAllocator;
 use bb_memory::layout::Layout;
@@ -14,6 +16,7 @@ pub fn carve(shared: &SharedBumpAllocator, party: BumpParty, layout: Layout) -> 
     requires { party.allocator ≡ shared.now }
     ensures party { result.allocator ≡ shared.entry.now }
     ensures number { result.number ≡ party.number }
+    ensures once { Asks MayTake layout party result }
     ensures asked { HasAsked layout result }
 {
     let mut party = party;
@@ -47,7 +50,9 @@ fn carve_all<R: Threads + Sync>(
     layout: Layout,
 ) -> Result<Vec<BumpParty>, AllocError>
     requires { All (λ party. party.allocator ≡ shared.now) parties.items }
-    ensures { IfOk result (λ back. HaveAsked shared.now layout parties.items back.items) }
+    ensures { IfOk result (λ back.
+        AllComeBack (λ (party : BumpParty). party.allocator) (HasAsked layout)
+        shared.now parties.items back.items) }
 {
     thread::map_vec(rt, parties, &|party| carve(shared, party, layout))
 }

@@ -5,7 +5,7 @@ ghost use Rattle.std.specs.Prelude.{IfOk, IfErr, OnOk, OnErr, length, slice_get,
 ghost use Rattle.bb_memory_base.specs.Chunk.{Chunk, AreApart, IsInside};
 ghost use Rattle.bb_memory_base.specs.HeldBytes.{HeldBytes, held_region, bytes_in};
 ghost use Rattle.uses.specs.Requests.{IsOfBytes};
-ghost use Rattle.uses.specs.ByteVectors.{ByteVector, IsGrown, IsPushed, IsWhyFull, LivesIn, MakesRoom, contents};
+ghost use Rattle.uses.specs.ByteVectors.{ByteVector, IsGrown, IsPushed, IsWhyFull, KeepsOthers, LivesIn, MakesRoom, contents};
 
 use bb_memory_base::allocator::{AllocationGrowError, Allocator, BaseAllocator};
 use bb_memory_base::layout::{Chunk, Layout, LayoutError};
@@ -79,6 +79,7 @@ impl ByteVec {
         requires inside { self.old.offset + self.old.capacity ≤ length region.old.bytes }
         ensures pushed { IsPushed region.old region.new self.old byte self.new }
         ensures longer { self.new ≡ record self.old { len = self.old.len + 1 } }
+        ensures apart { KeepsOthers region.old self.old region.new }
     {
         self.write_behind(region, byte);
         self.len += 1;
@@ -127,6 +128,7 @@ impl ByteVec {
             region.old self.old }
         ensures pushed { OnOk result (IsPushed region.old region.new self.old byte self.new) }
         ensures longer { OnOk result (self.new.len ≡ self.old.len + 1) }
+        ensures apart { OnOk result (KeepsOthers region.old self.old region.new) }
         ensures still { OnErr result ((self.new ≡ self.old) × (region.new ≡ region.old)) }
         ensures answer { MakesRoom (A.stands_for allocator.old)
             (A.may_grow (A.figures allocator.old)) region.old.start self.old result self.new }
@@ -149,8 +151,9 @@ impl ByteVec {
     fn write_behind(&self, region: &mut Region, byte: u8)
         requires room { self.now.len < self.now.capacity }
         requires inside { self.now.offset + self.now.capacity ≤ length region.old.bytes }
-        ensures { IsPushed region.old region.new self.now byte
+        ensures pushed { IsPushed region.old region.new self.now byte
             (record self.now { len = self.now.len + 1 }) }
+        ensures apart { KeepsOthers region.old self.now region.new }
     {
         let place = region.start_address() + self.offset + self.len;
         let behind = Chunk::new(place, 1).unwrap();

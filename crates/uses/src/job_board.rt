@@ -4,12 +4,12 @@ ghost use Rattle.bb_memory_base.specs.PoolGeometry.{IsCut};
 ghost use Rattle.bb_memory_base.specs.PoolLogs.{IsHeldAfter};
 ghost use Rattle.bb_memory_base.specs.Region.{region_at};
 ghost use Rattle.bb_memory.specs.Pool.{MayBeCut};
-ghost use Rattle.bb_memory.specs.SharedPool.{AreAllHeldAfter, PoolParty};
+ghost use Rattle.bb_memory.specs.SharedPool.{AreAllHeldAfter, AreFresh, PoolParty};
 ghost use Rattle.uses.specs.Workers.{HasGivenBack, HasLostAll, HasSlot, HasTaken, KeepsBuckets};
 
 use bb_memory::allocator::AllocationError;
 use bb_memory::layout::Layout;
-use bb_memory::shared_pool::{Bucket, PoolParty, SharedPoolAllocator};
+use bb_memory::shared_pool::{Bucket, PoolParty, SharedPoolAllocator, shared_pool_held_law};
 use std::alloc::Global;
 use std::marker::Model;
 use std::thread;
@@ -52,6 +52,7 @@ impl JobBoard {
         ensures as_many { IfOk result (λ made. vec_len made.1 ≡ workers) }
         ensures theirs { IfOk result
             (λ made. All (λ worker. worker.allocator ≡ made.0) made.1.items) }
+        ensures fresh { IfOk result (λ made. AreFresh made.0 workers made.1.items) }
         ensures refused { IfErr result (λ error. error ≡ AllocationError.OutOfMemory) }
     {
         let (slots, parties) = SharedPoolAllocator::new(alloc, job, start, size, workers)?;
@@ -70,6 +71,7 @@ impl JobBoard {
         ensures alone { self.now.scene.parties ≡ 1
             → (IsErr result ↔ AreAllHeldAfter worker.old.log self.now.scene.geometry.buckets) }
     {
+        shared_pool_held_law();
         self.slots.allocate(worker, self.job)
     }
 
@@ -78,6 +80,7 @@ impl JobBoard {
         requires { HasSlot self.now worker.old slot }
         ensures { HasGivenBack self.now slot.entry.number worker.old worker.new }
     {
+        shared_pool_held_law();
         self.slots.deallocate_bucket(worker, slot);
     }
 

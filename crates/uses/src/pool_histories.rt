@@ -1,10 +1,11 @@
 //! Workers of one pool whose meetings are remembered, and a pool whose parties are all in one place.
-ghost use Rattle.std.specs.Prelude.{◌≡◌, ◌<◌, All, IfOk, length};
+ghost use Rattle.std.specs.Prelude.{◌≡◌, ◌≢◌, ◌<◌, ℕ, All, IfOk, Ok, length};
 ghost use Rattle.bb_memory_base.specs.PoolLogs.{IsBeginning};
 ghost use Rattle.bb_memory_base.specs.PoolObject.{IsWithin};
 ghost use Rattle.bb_memory.specs.SharedPool.{IsHeldByOne};
-ghost use Rattle.bb_memory.specs.SharedPoolAmong.{AreAllOf, HoldsAmongAll, IsAmongAll};
-ghost use Rattle.bb_memory.specs.SharedPoolHistory.{HaveMetBy, MayGoOn};
+ghost use Rattle.bb_memory.specs.SharedPoolAmong.{HasAskedAt, HoldsAmongAll, HoldsAt, IsAmongAll};
+ghost use Rattle.bb_memory.specs.SharedPoolHistory.{HaveMetBy, IsLeastFree, MayGoOn};
+ghost use Rattle.uses.specs.Workers.{GivesAndGets, HasAskedNear};
 
 use crate::pool_workers::{pool_of_four, take_one_each};
 use bb_memory::layout::Layout;
@@ -26,6 +27,7 @@ pub fn out_and_back<R: Threads + Sync>(
     ensures after { IfOk result (λ back. IsBeginning history.old.steps history.new.steps) }
     ensures may { IfOk result (λ back. MayGoOn pool.now history.new back.items) }
     ensures all { IfOk result (λ back. length back.items ≡ length parties.items) }
+    ensures asked { IfOk result (λ back. All (HasAskedNear layout) back.items) }
 {
     let mut back = take_one_each(rt, pool, parties, layout)?;
     pool.meet_again(history, &mut back);
@@ -39,7 +41,9 @@ pub fn four_workers_twice<R: Threads + Sync>(
     alloc: Global,
     layout: Layout,
 ) -> Result<(SharedPoolAllocator, PoolHistory, Vec<PoolParty>), AllocError>
+    ensures four { IfOk result (λ made. made.0.scene.parties ≡ 4) }
     ensures all { IfOk result (λ made. length made.2.items ≡ made.0.scene.parties) }
+    ensures asked { IfOk result (λ made. All (HasAskedNear layout) made.2.items) }
     ensures met { IfOk result (λ made. HaveMetBy made.0.scene made.1.steps made.2.items) }
     ensures may { IfOk result (λ made. MayGoOn made.0 made.1 made.2.items) }
 {
@@ -72,7 +76,12 @@ pub fn take_free<'a>(
     requires within { IsWithin pool.now.scene.geometry.bucket layout }
     requires below { number < pool.now.scene.geometry.buckets }
     requires free { ¬ IsHeldByOne parties.old.items number }
-    ensures { HoldsAmongAll pool.now parties.new.items index result }
+    ensures gets { HoldsAmongAll pool.now parties.new.items index result }
+    ensures asked { HasAskedAt pool.now parties.old.items index layout (Ok result)
+        parties.new.items }
+    ensures least { IsLeastFree parties.old.items result.number }
+    ensures still_held { (place kept : ℕ) → HoldsAt parties.old.items place kept
+        → HoldsAt parties.new.items place kept }
 {
     match pool.allocate_among(parties, index, layout) {
         Ok(bucket) => bucket,
@@ -95,6 +104,10 @@ pub fn free_again<'a>(
     requires may { (other < length parties.old.items)
         × IsWithin pool.now.scene.geometry.bucket layout }
     ensures gets { HoldsAmongAll pool.now parties.new.items other result }
+    ensures asked { GivesAndGets pool.now parties.old.items index bucket.entry.number other layout
+        result parties.new.items }
+    ensures still_held { (place kept : ℕ) → kept ≢ bucket.entry.number
+        → HoldsAt parties.old.items place kept → HoldsAt parties.new.items place kept }
 {
     pool.deallocate_among(parties, index, bucket);
     match pool.allocate_among(parties, other, layout) {

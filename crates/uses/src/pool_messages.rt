@@ -3,6 +3,7 @@ ghost use Rattle.std.specs.Prelude.{◌≡◌, IfErr, IfOk, true};
 ghost use Rattle.bb_memory_base.specs.PoolLogs.{IsHeldAfter};
 ghost use Rattle.bb_memory.specs.SharedPool.{MayTakeBucket, chunk_of};
 ghost use Rattle.uses.specs.Messages.{IsRefused, having_received};
+ghost use Rattle.uses.specs.Workers.{KeepsBuckets};
 
 use bb_memory::allocator::AllocationError;
 use bb_memory::layout::{Chunk, Layout};
@@ -23,6 +24,7 @@ pub fn send(
     ensures long_enough { IfOk result (λ message. message.len ≡ layout.size) }
     ensures handed_over { IfOk result
         (λ message. ¬ IsHeldAfter sender.new.log message.number) }
+    ensures keeps { KeepsBuckets sender.old sender.new }
     ensures refused { IfErr result (IsRefused sender.old layout sender.new) }
 {
     let bucket = pool.allocate_near(sender, layout)?;

@@ -1,8 +1,8 @@
 //! Threads that take buckets of one pool, and what is known once all of them are back.
-ghost use Rattle.std.specs.Prelude.{◌≡◌, ◌≢◌, ◌↔◌, [], ℕ, All, IfOk, List, Some, false, true, length, slice_get};
+ghost use Rattle.std.specs.Prelude.{◌≡◌, ◌≢◌, ◌↔◌, [], ℕ, All, IfOk, List, Some, true, length, slice_get};
 ghost use Rattle.bb_memory_base.specs.PoolMachine.{PoolScene};
-ghost use Rattle.bb_memory.specs.SharedPool.{AreFresh, HasTaker, HaveAllNumbers, HaveMet, IsHeldByOne, PoolParty};
-ghost use Rattle.uses.specs.Workers.{AllComeBack, ComesBack, MayBeServed};
+ghost use Rattle.bb_memory.specs.SharedPool.{AreFresh, HasTaker, HaveAllNumbers, HaveMet, IsHeldByOne, MayTake, PoolParty};
+ghost use Rattle.uses.specs.Workers.{AllComeBack, Asks, ComesBack, HasAskedNear, MayBeServed, MayTakeNear};
 
 use bb_memory::layout::Layout;
 use bb_memory::pool_allocator::pool_count_law;
@@ -15,7 +15,8 @@ use std::thread::Threads;
 /// bucket stays the party's, with those that it had.
 pub fn take_one(pool: &SharedPoolAllocator, party: PoolParty, layout: Layout) -> PoolParty
     requires { party.allocator ≡ pool.now }
-    ensures { ComesBack pool.entry.now party result }
+    ensures back { ComesBack pool.entry.now party result }
+    ensures asked { Asks MayTakeNear layout party result }
 {
     let mut party = party;
     let _ = pool.allocate_near(&mut party, layout);
@@ -33,6 +34,7 @@ pub fn four_workers<R: Threads + Sync>(
     ensures all { IfOk result (λ made. length made.1.items ≡ made.0.scene.parties) }
     ensures theirs { IfOk result (λ made. All (λ party. party.allocator ≡ made.0) made.1.items) }
     ensures met { IfOk result (λ made. HaveMet made.0.scene made.1.items) }
+    ensures asked { IfOk result (λ made. All (HasAskedNear layout) made.1.items) }
 {
     let (pool, parties) = pool_of_four(alloc)?;
     let mut back = take_one_each(rt, &pool, parties, layout)?;
@@ -48,9 +50,20 @@ pub(crate) fn take_one_each<R: Threads + Sync>(
     layout: Layout,
 ) -> Result<Vec<PoolParty>, AllocError>
     requires { All (λ party. party.allocator ≡ pool.now) parties.items }
-    ensures { IfOk result (λ back. AllComeBack pool.now parties.items back.items) }
+    ensures { IfOk result (λ back.
+        AllComeBack (λ (party : PoolParty). party.allocator) (HasAskedNear layout)
+        pool.now parties.items back.items) }
 {
-    thread::map_vec(rt, parties, &|party| take_one(pool, party, layout))
+    thread::map_vec(rt, parties, &|party| asked_by_one(pool, party, layout))
+}
+
+/// Takes a bucket so, of which a list of workers has to tell that each has asked.
+fn asked_by_one(pool: &SharedPoolAllocator, party: PoolParty, layout: Layout) -> PoolParty
+    requires { party.allocator ≡ pool.now }
+    ensures theirs { result.allocator ≡ pool.entry.now }
+    ensures asked { HasAskedNear layout result }
+{
+    take_one(pool, party, layout)
 }
 
 /// A pool of four parties. It is refused only where memory was, since a pool may be made of this region and bucket.
@@ -69,7 +82,8 @@ pub(crate) fn pool_of_four(
 pub fn ask_once(pool: &SharedPoolAllocator, party: PoolParty, layout: Layout) -> PoolParty
     requires { MayBeServed pool.now layout party }
     ensures pool { result.allocator ≡ pool.entry.now }
-    ensures asked { result.log ≢ [] }
+    ensures asked { Asks MayTake layout party result }
+    ensures stepped { result.log ≢ [] }
 {
     let mut party = party;
     let _ = pool.allocate(&mut party, layout);
@@ -88,6 +102,8 @@ pub fn one_is_served<R: Threads + Sync>(
     requires all { length parties.items ≡ pool.now.scene.parties }
     requires fresh { All (MayBeServed pool.now layout) parties.items }
     ensures one { IfOk result (λ back. HasTaker pool.now.scene back.items) }
+    ensures met { IfOk result (λ back. HaveMet pool.now.scene back.items) }
+    ensures stepped { IfOk result (λ back. All (λ party. party.log ≢ []) back.items) }
     ensures theirs { IfOk result (λ back. All (λ party. party.allocator ≡ pool.now) back.items) }
     ensures back { IfOk result (λ back. length back.items ≡ pool.now.scene.parties) }
 {

@@ -46,6 +46,8 @@ pub fn two_workers(
     requires there { there.allocator ≡ arc_value shared.now }
     ensures here { IfOk result (λ made. made.0.allocator ≡ arc_value shared.now) }
     ensures there { IfOk result (λ made. made.1.allocator ≡ arc_value shared.now) }
+    ensures numbers { IfOk result (λ made.
+        (made.0.number ≡ here.number) × (made.1.number ≡ there.number)) }
     ensures taken { IfOk result (λ made.
         length (chunks_won made.0.log) + length (chunks_won made.1.log)
         ≡ length (chunks_won here.log) + length (chunks_won there.log) + made.2) }

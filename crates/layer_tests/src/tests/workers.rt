@@ -82,7 +82,8 @@ fn one_bucket(
     alloc: Global,
     bucket: Layout,
 ) -> Result<(SharedPoolAllocator, Vec<PoolParty>), AllocationError>
-    requires { bucket ≡ record { size = 128; align = 8 } }
+    requires size { bucket.size ≡ 128 }
+    requires align { bucket.align ≡ 8 }
     ensures all { IfOk result (λ made. length made.1.items ≡ made.0.scene.parties) }
     ensures fresh { IfOk result (λ made. All (MayBeServed made.0 bucket) made.1.items) }
 {
