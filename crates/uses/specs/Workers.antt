@@ -7,7 +7,7 @@ use Rattle.bb_memory_base.specs.declared.allocator.AllocationError.{AllocationEr
 use Rattle.bb_memory_base.specs.declared.allocator.AllocationError.TheVariants.{OutOfMemory}
 use Rattle.bb_memory_base.specs.declared.layout.Layout.{Layout}
 use Rattle.bb_memory.specs.SharedBump.{SharedBump, BumpParty}
-use Rattle.bb_memory.specs.SharedPool.{SharedPool, PoolParty, TakenBucket, refused_pass, with_entries}
+use Rattle.bb_memory.specs.SharedPool.{MayTake, SharedPool, PoolParty, TakenBucket, refused_pass, with_entries}
 use Rattle.bb_memory.specs.SharedPoolAmong.{HasAskedAt, HasGivenBackAt}
 use Rattle.bb_memory.specs.SharedPoolRounds.{MayTakeFrom}
 
@@ -45,7 +45,15 @@ pub record MayTakeNear (old : PoolParty) (layout : Layout) (answer : Result Take
   pub first : ℕ
   pub taken : MayTakeFrom first old layout answer new
 
--- the party's last steps are such a request
+-- the party has asked so once
+abbrev pub AsksNear : Layout → PoolParty → PoolParty → Type 0
+AsksNear = Asks MayTakeNear
+
+-- the party has asked once, in a pass
+abbrev pub AsksInPass : Layout → PoolParty → PoolParty → Type 0
+AsksInPass = Asks MayTake
+
+-- the party's last steps are a request near the bucket that it had last
 pub record HasAskedNear (layout : Layout) (party : PoolParty) : Type 0 where
   pub before : PoolParty
   pub answer : Result TakenBucket AllocationError

@@ -41,7 +41,7 @@ pub fn four_workers_twice<R: Threads + Sync>(
     alloc: Global,
     layout: Layout,
 ) -> Result<(SharedPoolAllocator, PoolHistory, Vec<PoolParty>), AllocError>
-    ensures four { IfOk result (λ made. made.0.scene.parties ≡ 4) }
+    ensures four { IfOk result (λ made. length made.2.items ≡ 4) }
     ensures all { IfOk result (λ made. length made.2.items ≡ made.0.scene.parties) }
     ensures asked { IfOk result (λ made. All (HasAskedNear layout) made.2.items) }
     ensures met { IfOk result (λ made. HaveMetBy made.0.scene made.1.steps made.2.items) }

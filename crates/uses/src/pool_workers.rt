@@ -1,8 +1,8 @@
 //! Threads that take buckets of one pool, and what is known once all of them are back.
 ghost use Rattle.std.specs.Prelude.{◌≡◌, ◌≢◌, ◌↔◌, [], ℕ, All, IfOk, List, Some, true, length, slice_get};
 ghost use Rattle.bb_memory_base.specs.PoolMachine.{PoolScene};
-ghost use Rattle.bb_memory.specs.SharedPool.{AreFresh, HasTaker, HaveAllNumbers, HaveMet, IsHeldByOne, MayTake, PoolParty};
-ghost use Rattle.uses.specs.Workers.{AllComeBack, Asks, ComesBack, HasAskedNear, MayBeServed, MayTakeNear};
+ghost use Rattle.bb_memory.specs.SharedPool.{AreFresh, HasTaker, HaveAllNumbers, HaveMet, IsHeldByOne, PoolParty};
+ghost use Rattle.uses.specs.Workers.{AllComeBack, AsksInPass, AsksNear, ComesBack, HasAskedNear, MayBeServed};
 
 use bb_memory::layout::Layout;
 use bb_memory::pool_allocator::pool_count_law;
@@ -16,11 +16,21 @@ use std::thread::Threads;
 pub fn take_one(pool: &SharedPoolAllocator, party: PoolParty, layout: Layout) -> PoolParty
     requires { party.allocator ≡ pool.now }
     ensures back { ComesBack pool.entry.now party result }
-    ensures asked { Asks MayTakeNear layout party result }
+    ensures once { AsksNear layout party result }
+    ensures asked { HasAskedNear layout result }
 {
     let mut party = party;
-    let _ = pool.allocate_near(&mut party, layout);
+    ask_near(pool, &mut party, layout);
     party
+}
+
+/// The worker asks for a bucket near the one that it had last.
+fn ask_near(pool: &SharedPoolAllocator, worker: &mut PoolParty, layout: Layout)
+    requires { worker.old.allocator ≡ pool.now }
+    ensures back { ComesBack pool.now worker.old worker.new }
+    ensures asked { AsksNear layout worker.old worker.new }
+{
+    let _ = pool.allocate_near(worker, layout);
 }
 
 /// Four workers take a bucket each, all at once, and meet when they are back: one list of steps has all their logs and nothing
@@ -54,16 +64,7 @@ pub(crate) fn take_one_each<R: Threads + Sync>(
         AllComeBack (λ (party : PoolParty). party.allocator) (HasAskedNear layout)
         pool.now parties.items back.items) }
 {
-    thread::map_vec(rt, parties, &|party| asked_by_one(pool, party, layout))
-}
-
-/// Takes a bucket so, of which a list of workers has to tell that each has asked.
-fn asked_by_one(pool: &SharedPoolAllocator, party: PoolParty, layout: Layout) -> PoolParty
-    requires { party.allocator ≡ pool.now }
-    ensures theirs { result.allocator ≡ pool.entry.now }
-    ensures asked { HasAskedNear layout result }
-{
-    take_one(pool, party, layout)
+    thread::map_vec(rt, parties, &|party| take_one(pool, party, layout))
 }
 
 /// A pool of four parties. It is refused only where memory was, since a pool may be made of this region and bucket.
@@ -82,7 +83,7 @@ pub(crate) fn pool_of_four(
 pub fn ask_once(pool: &SharedPoolAllocator, party: PoolParty, layout: Layout) -> PoolParty
     requires { MayBeServed pool.now layout party }
     ensures pool { result.allocator ≡ pool.entry.now }
-    ensures asked { Asks MayTake layout party result }
+    ensures asked { AsksInPass layout party result }
     ensures stepped { result.log ≢ [] }
 {
     let mut party = party;
