@@ -163,6 +163,79 @@ fn a_history_goes_on(rt: HostRuntime) {
     }
 }
 
+/// The number of the bucket that the party takes, and keeps, by a round that begins where it has been last.
+fn near_of(pool: &SharedPoolAllocator, party: &mut PoolParty, asked: Layout) -> Option<u32>
+    requires { party.old.allocator ≡ pool.now }
+    ensures { party.new.allocator ≡ pool.now }
+{
+    match pool.allocate_near(party, asked) {
+        Ok(bucket) => Some(bucket.number()),
+        Err(_) => None,
+    }
+}
+
+/// The party of this index takes one so.
+fn near_at(
+    pool: &SharedPoolAllocator,
+    parties: &mut Vec<PoolParty>,
+    index: usize,
+    asked: Layout,
+) -> Option<u32>
+    requires { All (λ party. party.allocator ≡ pool.now) parties.old.items }
+    ensures { All (λ party. party.allocator ≡ pool.now) parties.new.items }
+{
+    match parties.get_mut(index) {
+        Some(party) => near_of(pool, party, asked),
+        None => None,
+    }
+}
+
+/// The parties at places 1 and 2 take a bucket each so.
+fn two_near(
+    pool: &SharedPoolAllocator,
+    parties: &mut Vec<PoolParty>,
+    asked: Layout,
+) -> [Option<u32>; 2]
+    requires { All (λ party. party.allocator ≡ pool.now) parties.old.items }
+    ensures { All (λ party. party.allocator ≡ pool.now) parties.new.items }
+{
+    let first = near_at(pool, parties, 1, asked);
+    let second = near_at(pool, parties, 2, asked);
+    [first, second]
+}
+
+/// They do, once more when all have met, and again when all have met in the history.
+fn near_between_meetings(
+    pool: &SharedPoolAllocator,
+    mut history: PoolHistory,
+    parties: &mut Vec<PoolParty>,
+    asked: Layout,
+) -> [[Option<u32>; 2]; 3]
+    requires history { history.allocator ≡ pool.now }
+    requires parties { All (λ party. party.allocator ≡ pool.now) parties.old.items }
+{
+    let before = two_near(pool, parties, asked);
+    pool.meet_all(parties);
+    let between = two_near(pool, parties, asked);
+    go_on(pool, &mut history, parties);
+    [before, between, two_near(pool, parties, asked)]
+}
+
+/// Of eight buckets the part of each of four parties is two. A meeting keeps where each party has been last: here neither begins
+/// at bucket 0 again, which is free.
+#[test]
+fn meetings_keep_where_a_round_begins(rt: HostRuntime) {
+    match history_over(rt.alloc(), 1024, 4) {
+        Ok((pool, history, mut parties)) => {
+            let asked = layout(&rt, 48, 4);
+            let found = near_between_meetings(&pool, history, &mut parties, asked);
+            let wanted = [[Some(2), Some(4)], [Some(3), Some(5)], [Some(6), Some(7)]];
+            check(&rt, found == wanted);
+        }
+        Err(cause) => fail(&rt, cause),
+    }
+}
+
 /// The only party of a pool leaves, and the rest, which is none, meets in the history. The party's number, and whether there is
 /// none.
 fn none_meets(
