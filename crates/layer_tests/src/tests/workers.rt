@@ -91,12 +91,29 @@ fn one_bucket(
     SharedPoolAllocator::new(alloc, bucket, 4096, 128, 2)
 }
 
-/// What is left for one of two workers when both have asked for one bucket.
+/// What is left for one of these parties when each has asked for a bucket.
+fn left_when_served<R: Threads + Sync>(
+    rt: &R,
+    pool: &SharedPoolAllocator,
+    parties: Vec<PoolParty>,
+    bucket: Layout,
+) -> Option<[bool; 5]>
+    requires all { length parties.items ≡ pool.now.scene.parties }
+    requires fresh { All (MayBeServed pool.now bucket) parties.items }
+{
+    let Ok(back) = one_is_served(rt, pool, parties, bucket) else {
+        return None;
+    };
+    five_more(pool, back, bucket)
+}
+
+/// What is left when both parties of a pool of one bucket have.
 fn left_of_one<R: Threads + Sync>(rt: &R, alloc: Global) -> Option<[bool; 5]> {
-    let bucket = Layout::from_size_align(128, 8).ok()?;
-    let (pool, parties) = one_bucket(alloc, bucket).ok()?;
-    let back = one_is_served(rt, &pool, parties, bucket).ok()?;
-    five_more(&pool, back, bucket)
+    let bucket = Layout::from_size_align(128, 8).unwrap();
+    let Ok((pool, parties)) = one_bucket(alloc, bucket) else {
+        return None;
+    };
+    left_when_served(rt, &pool, parties, bucket)
 }
 
 /// One of them was given it, so none is left.
