@@ -1,5 +1,5 @@
 //! Threads that share a bump or a pool, and what is left of it when all of them are back.
-ghost use Rattle.std.specs.Prelude.{◌≡◌, All, IfOk, length};
+ghost use Rattle.std.specs.Prelude.{◌≡◌, ◌≤◌, All, IfOk, length};
 ghost use Rattle.uses.specs.Workers.{MayBeServed};
 
 use super::checks::check;
@@ -76,19 +76,20 @@ fn four_keep_a_bucket_each(rt: HostRuntime) {
     );
 }
 
-/// A pool of one bucket, and its two parties, each of which may be given it.
+/// A pool of so many bytes in buckets of 128, of which there is one at least, and its two parties, each of which may be given one.
 #[tactic(auto, unfolding(bb_memory_base::specs::LeastPlace::least_place))]
-fn one_bucket(
+fn pool_of_two(
     alloc: Global,
     bucket: Layout,
+    size: usize,
 ) -> Result<(SharedPoolAllocator, Vec<PoolParty>), AllocationError>
-    requires size { bucket.size ≡ 128 }
-    requires align { bucket.align ≡ 8 }
+    requires bucket { (bucket.size ≡ 128) × (bucket.align ≡ 8) }
+    requires size { (128 ≤ size) × (size ≤ 1024) }
     ensures all { IfOk result (λ made. length made.1.items ≡ made.0.scene.parties) }
     ensures fresh { IfOk result (λ made. All (MayBeServed made.0 bucket) made.1.items) }
 {
     pool_count_law();
-    SharedPoolAllocator::new(alloc, bucket, 4096, 128, 2)
+    SharedPoolAllocator::new(alloc, bucket, 4096, size, 2)
 }
 
 /// What is left for one of these parties when each has asked for a bucket.
@@ -107,17 +108,21 @@ fn left_when_served<R: Threads + Sync>(
     five_more(pool, back, bucket)
 }
 
-/// What is left when both parties of a pool of one bucket have.
-fn left_of_one<R: Threads + Sync>(rt: &R, alloc: Global) -> Option<[bool; 5]> {
+/// What is left when both parties of a pool over so many bytes have.
+fn left_of_two<R: Threads + Sync>(rt: &R, alloc: Global, size: usize) -> Option<[bool; 5]>
+    requires { (128 ≤ size) × (size ≤ 1024) }
+{
     let bucket = Layout::from_size_align(128, 8).unwrap();
-    let Ok((pool, parties)) = one_bucket(alloc, bucket) else {
+    let Ok((pool, parties)) = pool_of_two(alloc, bucket, size) else {
         return None;
     };
     left_when_served(rt, &pool, parties, bucket)
 }
 
-/// One of them was given it, so none is left.
+/// Of one bucket one of them was given it, so none is left. Of six both were given one, and no more, so four are.
 #[test]
 fn one_of_two_is_served(rt: HostRuntime) {
-    check(&rt, left_of_one(&rt, rt.alloc()) == Some([false; 5]));
+    check(&rt, left_of_two(&rt, rt.alloc(), 128) == Some([false; 5]));
+    let four = Some([true, true, true, true, false]);
+    check(&rt, left_of_two(&rt, rt.alloc(), 768) == four);
 }
