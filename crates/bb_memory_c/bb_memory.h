@@ -88,7 +88,7 @@ enum {
     BB_NO_BUCKET = 16,           // of a pool's maker alone: the region has no room for one bucket
     // 17 was BB_SEAT_HOLDS up to 0.4.0; nothing is answered it
     BB_SEATS_OUT = 18,           // of bb_shared_bump_begin_anew and _into_owner alone: not each party's seat has come back
-    BB_NO_POST = 19,             // of bb_pool_seat_hand_over alone: the seat's pool has no post
+    BB_ONE_PARTY = 19,           // of bb_pool_seat_hand_over alone: the seat's pool has no other party
     BB_ENVELOPE_FULL = 20,       // of bb_pool_seat_hand_over alone: a bucket is in the envelope already
     BB_ENVELOPE_EMPTY = 21,      // of bb_pool_seat_take_over alone: no bucket is in the envelope
     BB_NOT_A_BUCKET = 22,        // of place_at and number_at alone: no bucket has the number, or begins at the place
@@ -116,7 +116,7 @@ static inline const char *bb_text(uint32_t code) {
     case BB_MORE_THAN_RESERVED: return "the new size is greater than what is reserved";
     case BB_NO_BUCKET: return "the region has no room for one bucket";
     case BB_SEATS_OUT: return "not each party's seat has come back";
-    case BB_NO_POST: return "the pool has no post";
+    case BB_ONE_PARTY: return "the pool has no other party";
     case BB_ENVELOPE_FULL: return "a bucket is in the envelope already";
     case BB_ENVELOPE_EMPTY: return "no bucket is in the envelope";
     case BB_NOT_A_BUCKET: return "no bucket has the number, or begins at the place";
@@ -172,7 +172,7 @@ typedef struct bb_figure { uint32_t code; size_t number; } bb_figure;
 //     bb_shared_bump           256, and 16 for each party; as many to begin anew, before it frees those; 64 more to become one
 //                              with an owner, of which the 64 stay; 64 for each seat
 //     bb_shared_pool           1648, and 16 for each bucket and each party; 128 for each seat, and 1 for each bucket
-//     bb_envelope              64; a pool with a post takes 16 more for each party
+//     bb_envelope              64
 
 // A bump gives one chunk after another, and takes all of them back at once.
 
@@ -386,16 +386,13 @@ bb_figure bb_pool_seat_party(const bb_pool_seat *);
 // As of the shared bump: no bucket is held by both.
 uint32_t bb_pool_seat_meet(bb_pool_seat *, bb_pool_seat *);
 
-// A bucket that another seat gives back. In a pool with a post a seat may hand over a bucket that it holds: the bucket goes into
-// an envelope, and no seat holds it. Whoever has the envelope takes the bucket over by a seat of the same pool, in any thread,
+// A bucket that another seat gives back. In a pool of two parties at least a seat may hand over a bucket that it holds: the
+// bucket goes into an envelope, and no seat holds it. Whoever has the envelope takes the bucket over by a seat of the same pool, in any thread,
 // and gives it back there: so the receiver of a message returns it (examples/c/returns.c). Neither call takes memory or waits.
 //
 // An envelope is made once, and serves one bucket after another. A queue makes its envelopes with its slots, so no message takes
 // memory. As each handle it may be moved: a full one goes along with the message, or changes places with an empty one.
 
-// As `bb_shared_pool_make`, and with a post. BB_CANNOT_MAKE also where there are UINT32_MAX parties.
-BB_MUST_USE uint32_t bb_shared_pool_make_with_post(bb_shared_pool *, size_t bucket_size, size_t bucket_align, bb_address start,
-                                                   size_t size, uint32_t parties);
 // An envelope with nothing in it, for buckets of any pool.
 BB_MUST_USE uint32_t bb_envelope_make(bb_envelope *);
 // A bucket that is in a freed envelope stays held for good. An envelope keeps no pool: a pool whose own handle and seats are all
@@ -404,7 +401,7 @@ uint32_t bb_envelope_free(bb_envelope *);
 // 1 where a bucket is in it, else 0.
 bb_figure bb_envelope_is_full(bb_envelope *);
 // The bucket at this place goes into the envelope, with a chunk of `len` bytes. The seat doesn't hold it then, and its thread
-// doesn't use the chunk any more. BB_NOT_MADE where one of the handles is empty; then BB_NO_POST; BB_NOT_HELD where the place
+// doesn't use the chunk any more. BB_NOT_MADE where one of the handles is empty; then BB_ONE_PARTY; BB_NOT_HELD where the place
 // isn't that of a bucket which this seat holds; BB_SIZE_TOO_LARGE where `len` is greater than the bucket's size; and
 // BB_ENVELOPE_FULL.
 BB_MUST_USE uint32_t bb_pool_seat_hand_over(bb_pool_seat *, bb_address place, size_t len, bb_envelope *);
@@ -413,8 +410,10 @@ BB_MUST_USE uint32_t bb_pool_seat_hand_over(bb_pool_seat *, bb_address place, si
 // bucket's pool, which nothing tests.
 BB_MUST_USE bb_answer bb_pool_seat_take_over(bb_pool_seat *, bb_envelope *);
 
-// The names that calls of a seat had before 0.2.0. With BB_NO_OLD_NAMES defined above the header they are gone.
+// Names that calls had before: those of a seat before 0.2.0, and each shared pool has been made as one with a post. With BB_NO_OLD_NAMES defined above the header they are gone.
 #ifndef BB_NO_OLD_NAMES
+#define bb_shared_pool_make_with_post bb_shared_pool_make
+#define BB_NO_POST BB_ONE_PARTY
 #define bb_shared_bump_allocate bb_bump_seat_allocate
 #define bb_shared_bump_used_space bb_bump_seat_used_space
 #define bb_shared_bump_free_space bb_bump_seat_free_space

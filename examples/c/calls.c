@@ -290,10 +290,6 @@ static void run_memory(void) {
             WITHIN(64, bb_shared_bump_seat(&shared_bump, &bump_seat));
             WITHIN(1648 + 16 * (buckets + parties), bb_shared_pool_make(&shared_pool, 8, 8, 4096, 8 * buckets, parties));
             WITHIN(128 + buckets, bb_shared_pool_seat(&shared_pool, &pool_seat));
-            bb_shared_pool with_post = BB_EMPTY;
-            WITHIN(1648 + 16 * (buckets + 2 * parties),
-                   bb_shared_pool_make_with_post(&with_post, 8, 8, 4096, 8 * buckets, parties));
-            EXPECT(bb_shared_pool_free(&with_post) == BB_DONE);
             EXPECT(bb_pool_free(&pool) == BB_DONE && bb_fixed_pool_free(&fixed) == BB_DONE);
             EXPECT(bb_shared_bump_free(&shared_bump) == BB_DONE && bb_bump_seat_free(&bump_seat) == BB_DONE);
             EXPECT(bb_shared_pool_free(&shared_pool) == BB_DONE && bb_pool_seat_free(&pool_seat) == BB_DONE);
@@ -385,11 +381,10 @@ static void run_makers(void) {
     bb_pool pool = BB_EMPTY;
     bb_fixed_pool fixed = BB_EMPTY;
     bb_shared_bump shared_bump = BB_EMPTY;
-    bb_shared_pool shared_pool = BB_EMPTY, with_post = BB_EMPTY;
+    bb_shared_pool shared_pool = BB_EMPTY;
     bb_envelope envelope = BB_EMPTY;
-    WITH_EACH_REFUSED(bb_shared_pool_free(&with_post), bb_shared_pool_make_with_post(&with_post, 128, 8, 4096, 1024, 2));
     WITH_EACH_REFUSED(bb_envelope_free(&envelope), bb_envelope_make(&envelope));
-    EXPECT(bb_shared_pool_free(&with_post) == BB_DONE && bb_envelope_free(&envelope) == BB_DONE);
+    EXPECT(bb_envelope_free(&envelope) == BB_DONE);
     WITH_EACH_REFUSED(bb_bump_free(&bump), bb_bump_make(&bump, 4096, 1024));
     WITH_EACH_REFUSED(bb_one_chunk_free(&one), bb_one_chunk_make(&one, 4096, 1024));
     WITH_EACH_REFUSED(bb_pool_free(&pool), bb_pool_make(&pool, 128, 8, 4096, 1024));
@@ -595,32 +590,6 @@ static void run_at_most(void) {
     EXPECT(bb_shared_pool_free(&pool) == BB_DONE);
 }
 
-// What can't have a post, and what has one.
-static void run_with_post(void) {
-    bb_shared_pool pool = BB_EMPTY;
-    EXPECT(bb_shared_pool_make_with_post(&pool, 64, 3, 0, 256, 0) == BB_NOT_A_LAYOUT);
-    EXPECT(bb_shared_pool_make_with_post(&pool, 64, 8, 0, 256, 2) == BB_CANNOT_MAKE);
-    EXPECT(bb_shared_pool_make_with_post(&pool, 64, 8, 4096, 256, 0) == BB_CANNOT_MAKE);
-    EXPECT(bb_shared_pool_make_with_post(&pool, 64, 8, 4096, 63, UINT32_MAX) == BB_CANNOT_MAKE);
-    EXPECT(bb_shared_pool_make_with_post(&pool, 64, 8, 4096, 63, 2) == BB_NO_BUCKET);
-    EXPECT(bb_shared_pool_free(&pool) == BB_NOT_MADE);
-    EXPECT(bb_shared_pool_make_with_post(&pool, 64, 8, 4096, 256, 2) == BB_DONE);
-    EXPECT(bb_shared_pool_make_with_post(&pool, 64, 3, 0, 256, 0) == BB_ALREADY_MADE);
-    bb_pool_seat seats[2] = {BB_EMPTY, BB_EMPTY}, none = BB_EMPTY;
-    EXPECT(bb_shared_pool_seat(&pool, &seats[0]) == BB_DONE && bb_shared_pool_seat(&pool, &seats[1]) == BB_DONE);
-    EXPECT(is(bb_pool_seat_party(&seats[0]), 1) && is(bb_pool_seat_party(&seats[1]), 0));
-    EXPECT(bb_shared_pool_seat(&pool, &none) == BB_NO_SEAT && is(bb_pool_seat_number_of_buckets(&seats[0]), 4));
-    for (size_t at = 0; at < 4; at++)
-        EXPECT(bb_pool_seat_allocate(&seats[at % 2], 64, 8).code == BB_DONE);
-    EXPECT(refused(bb_pool_seat_allocate(&seats[0], 64, 8), BB_OUT_OF_MEMORY) && is(bb_pool_seat_held_buckets(&seats[0]), 2));
-    for (size_t at = 0; at < 2; at++)
-        EXPECT(bb_shared_pool_leave(&pool, &seats[at]) == BB_DONE);
-    EXPECT(bb_shared_pool_seat(&pool, &seats[0]) == BB_DONE && is(bb_pool_seat_party(&seats[0]), 0));
-    for (size_t at = 0; at < 4; at++)
-        EXPECT(bb_pool_seat_allocate(&seats[0], 64, 8).code == BB_DONE);
-    EXPECT(bb_shared_pool_free(&pool) == BB_DONE && bb_pool_seat_free(&seats[0]) == BB_DONE);
-}
-
 // A bucket goes from one seat to another, and each refusal comes by its first cause.
 static void run_transit(void) {
     bb_shared_pool pool = BB_EMPTY;
@@ -629,7 +598,7 @@ static void run_transit(void) {
     EXPECT(bb_pool_seat_hand_over(&seats[0], 4096, 65, &envelope) == BB_NOT_MADE);
     EXPECT(refused(bb_pool_seat_take_over(&seats[0], &envelope), BB_NOT_MADE));
     EXPECT(has_none(bb_envelope_is_full(&envelope), BB_NOT_MADE));
-    EXPECT(bb_shared_pool_make_with_post(&pool, 64, 8, 4096, 128, 2) == BB_DONE);
+    EXPECT(bb_shared_pool_make(&pool, 64, 8, 4096, 128, 2) == BB_DONE);
     EXPECT(bb_shared_pool_seat(&pool, &seats[0]) == BB_DONE && bb_shared_pool_seat(&pool, &seats[1]) == BB_DONE);
     EXPECT(bb_pool_seat_hand_over(&seats[0], 4096, 65, &envelope) == BB_NOT_MADE);
     EXPECT(refused(bb_pool_seat_take_over(&seats[0], &envelope), BB_NOT_MADE));
@@ -687,15 +656,15 @@ static void run_transit(void) {
     EXPECT(is(bb_envelope_is_full(&other), 1) && bb_envelope_free(&other) == BB_DONE);
 }
 
-// A pool without a post hands nothing over, whatever the place.
-static void run_without_post(void) {
+// A pool of one party hands nothing over, whatever the place.
+static void run_one_party(void) {
     bb_shared_pool pool = BB_EMPTY;
     bb_pool_seat seat = BB_EMPTY;
     bb_envelope envelope = BB_EMPTY;
     EXPECT(bb_shared_pool_make(&pool, 64, 8, 4096, 64, 1) == BB_DONE && bb_shared_pool_seat(&pool, &seat) == BB_DONE);
     EXPECT(bb_envelope_make(&envelope) == BB_DONE && given(bb_pool_seat_allocate(&seat, 64, 8), 4096, 64));
-    EXPECT(bb_pool_seat_hand_over(&seat, 4096, 64, &envelope) == BB_NO_POST);
-    EXPECT(bb_pool_seat_hand_over(&seat, 4097, 65, &envelope) == BB_NO_POST);
+    EXPECT(bb_pool_seat_hand_over(&seat, 4096, 64, &envelope) == BB_ONE_PARTY);
+    EXPECT(bb_pool_seat_hand_over(&seat, 4097, 65, &envelope) == BB_ONE_PARTY);
     EXPECT(is(bb_pool_seat_holds(&seat, 4096), 1) && is(bb_envelope_is_full(&envelope), 0));
     EXPECT(refused(bb_pool_seat_take_over(&seat, &envelope), BB_ENVELOPE_EMPTY));
     EXPECT(bb_shared_pool_free(&pool) == BB_DONE && bb_pool_seat_free(&seat) == BB_DONE);
@@ -724,9 +693,8 @@ int main(void) {
     run_meetings();
     run_seats_come_and_go();
     run_at_most();
-    run_with_post();
     run_transit();
-    run_without_post();
+    run_one_party();
     puts("calls: each is answered as it has to be");
     return 0;
 }

@@ -189,8 +189,8 @@ static void expect_all(bb_shared_pool *pool) {
 
 int main(void) {
     bb_shared_pool pool = BB_EMPTY;
-    expect(bb_shared_pool_make_with_post(&pool, BUCKET_SIZE, 8, pool_words, sizeof pool_words, SENDERS + RECEIVERS) == BB_DONE,
-           "a pool with a post is made");
+    expect(bb_shared_pool_make(&pool, BUCKET_SIZE, 8, pool_words, sizeof pool_words, SENDERS + RECEIVERS) == BB_DONE,
+           "a pool is made");
     make(senders, SENDERS, &pool);
     make(receivers, RECEIVERS, &pool);
     for (size_t slot = 0; slot < SLOTS; slot++)

@@ -116,8 +116,8 @@ error! {
 error! {
     /// Why a bucket wasn't handed over. Its seat holds it still, if it did.
     HandOverError {
-        /// The seat's pool has no post.
-        NoPost = NO_POST: "the pool has no post",
+        /// The seat's pool has no other party.
+        OneParty = ONE_PARTY: "the pool has no other party",
         /// The place isn't that of a bucket which this seat holds.
         NotHeld = NOT_HELD: "nothing is held at the place",
         /// The length is greater than the bucket's size.

@@ -46,7 +46,7 @@ pub const MALLOC_REFUSED: u32 = 14;
 pub const MORE_THAN_RESERVED: u32 = 15;
 pub const NO_BUCKET: u32 = 16;
 pub const SEATS_OUT: u32 = 18;
-pub const NO_POST: u32 = 19;
+pub const ONE_PARTY: u32 = 19;
 pub const ENVELOPE_FULL: u32 = 20;
 pub const NOT_A_BUCKET: u32 = 22;
 
@@ -140,14 +140,6 @@ unsafe extern "C" {
         size: usize,
         parties: u32,
         most: u32,
-    ) -> u32;
-    pub fn bb_shared_pool_make_with_post(
-        handle: *mut Handle,
-        bucket_size: usize,
-        bucket_align: usize,
-        start: *const c_void,
-        size: usize,
-        parties: u32,
     ) -> u32;
     pub fn bb_shared_pool_free(handle: *mut Handle) -> u32;
     pub fn bb_shared_pool_seat(handle: *mut Handle, seat: *mut Handle) -> u32;

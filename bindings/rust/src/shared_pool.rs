@@ -162,42 +162,6 @@ impl<'region> SharedPoolAllocator<'region> {
         })
     }
 
-    /// A pool over this region as [`over`](Self::over) makes it, and with a post, so that its seats may hand buckets over:
-    /// [`PoolSeat::hand_over`]. The parties are fewer than `u32::MAX`.
-    pub fn over_with_post(
-        bucket_layout: Layout,
-        region: &'region mut [MaybeUninit<u8>],
-        parties: u32,
-    ) -> Result<Self, MakeError> {
-        let region = NonNull::from(region);
-        // SAFETY: the region is lent for as long as the pool or a seat lives.
-        unsafe { Self::new_with_post(bucket_layout, region.cast(), region.len(), parties) }
-    }
-
-    /// A pool over the `size` bytes at `ptr`, with a post.
-    ///
-    /// # Safety
-    ///
-    /// As of [`BumpAllocator::new`](crate::BumpAllocator::new).
-    pub unsafe fn new_with_post(
-        bucket_layout: Layout,
-        ptr: NonNull<u8>,
-        size: usize,
-        parties: u32,
-    ) -> Result<Self, MakeError> {
-        let (bucket_size, align) = (bucket_layout.size(), bucket_layout.align());
-        // SAFETY: the maker is of this kind.
-        let made = unsafe {
-            Owned::made(ptr, |it, start| {
-                ffi::bb_shared_pool_make_with_post(it, bucket_size, align, start, size, parties)
-            })
-        };
-        Ok(SharedPoolAllocator {
-            owned: made.map_err(MakeError::of)?,
-            region: PhantomData,
-        })
-    }
-
     /// A seat for the last party that has none. The pool stays as long as it or one of its seats does.
     pub fn seat(&self) -> Result<PoolSeat<'region>, SeatError> {
         Ok(BucketPool {

@@ -13,8 +13,8 @@ unsafe impl Kind for Letter {
     const FREE: ffi::Free = ffi::bb_envelope_free;
 }
 
-/// What carries a bucket from one seat at a [`SharedPoolAllocator`](crate::SharedPoolAllocator) with a post to another, which
-/// gives it back. It is made once, and serves one bucket after another; it borrows nothing, so it goes along with a message. The
+/// What carries a bucket from one seat at a [`SharedPoolAllocator`](crate::SharedPoolAllocator) to another, which gives it
+/// back. It is made once, and serves one bucket after another; it borrows nothing, so it goes along with a message. The
 /// bucket in a dropped one stays held for good.
 ///
 /// ```
@@ -24,7 +24,7 @@ unsafe impl Kind for Letter {
 ///
 /// let mut region = Box::new_uninit_slice(1024);
 /// let message = Layout::new::<u64>();
-/// let pool = SharedPoolAllocator::over_with_post(message, &mut region, 2)?;
+/// let pool = SharedPoolAllocator::over(message, &mut region, 2)?;
 /// let (sender, receiver) = (pool.seat()?, pool.seat()?);
 /// let (full, taken) = sync_channel::<Envelope>(1);
 /// let mut envelope = Envelope::new()?;

@@ -199,7 +199,7 @@ fn a_shared_pool_has_at_most_so_many_buckets() {
 #[test]
 fn a_receiver_gives_back_what_it_was_sent() {
     let mut region = Box::new_uninit_slice(64 * 3);
-    let pool = SharedPoolAllocator::over_with_post(bucket(), &mut region, 2).unwrap();
+    let pool = SharedPoolAllocator::over(bucket(), &mut region, 2).unwrap();
     let (sender, receiver) = (pool.seat().unwrap(), pool.seat().unwrap());
     let (full, sent) = mpsc::sync_channel::<Envelope>(1);
     let (empty, returned) = mpsc::channel::<Envelope>();
@@ -249,21 +249,21 @@ fn a_receiver_gives_back_what_it_was_sent() {
 #[test]
 fn a_bucket_is_handed_over_only_where_it_can_be() {
     let mut region = Box::new_uninit_slice(64 * 2);
-    let mut without = Box::new_uninit_slice(64);
-    let pool = SharedPoolAllocator::over_with_post(bucket(), &mut region, 2).unwrap();
+    let mut small = Box::new_uninit_slice(64);
+    let pool = SharedPoolAllocator::over(bucket(), &mut region, 2).unwrap();
     let (mine, other) = (pool.seat().unwrap(), pool.seat().unwrap());
     let mut envelope = Envelope::new().unwrap();
     assert!(!envelope.is_full() && mine.take_over(&mut envelope).is_none());
     let chunk = mine.allocate(bucket()).unwrap().cast::<u8>();
     let kept = mine.allocate(bucket()).unwrap().cast::<u8>();
-    let without = SharedPoolAllocator::over(bucket(), &mut without, 1).unwrap();
-    let elsewhere = without.seat().unwrap();
+    let alone = SharedPoolAllocator::over(bucket(), &mut small, 1).unwrap();
+    let elsewhere = alone.seat().unwrap();
     let there = elsewhere.allocate(bucket()).unwrap().cast::<u8>();
     // SAFETY: no chunk is used, here and below.
     unsafe {
         assert_eq!(
             elsewhere.hand_over(there, 64, &mut envelope),
-            Err(HandOverError::NoPost)
+            Err(HandOverError::OneParty)
         );
         assert_eq!(
             other.hand_over(chunk, 64, &mut envelope),
@@ -300,8 +300,8 @@ fn a_bucket_is_handed_over_only_where_it_can_be() {
 #[should_panic(expected = "the bucket is another pool's")]
 fn a_bucket_is_not_taken_over_at_another_pool() {
     let (mut mine, mut other) = (Box::new_uninit_slice(64), Box::new_uninit_slice(64));
-    let mine = SharedPoolAllocator::over_with_post(bucket(), &mut mine, 1).unwrap();
-    let other = SharedPoolAllocator::over_with_post(bucket(), &mut other, 1).unwrap();
+    let mine = SharedPoolAllocator::over(bucket(), &mut mine, 2).unwrap();
+    let other = SharedPoolAllocator::over(bucket(), &mut other, 2).unwrap();
     let (seat, mut envelope) = (mine.seat().unwrap(), Envelope::new().unwrap());
     let chunk = seat.allocate(bucket()).unwrap().cast::<u8>();
     // SAFETY: the chunk isn't used.
@@ -316,10 +316,6 @@ fn nothing_is_made_for_no_party() {
     assert_eq!(made.err(), Some(MakeError::CannotMake));
     let made = SharedPoolAllocator::over(bucket(), &mut region, 0);
     assert_eq!(made.err(), Some(MakeError::CannotMake));
-    for parties in [0, u32::MAX] {
-        let made = SharedPoolAllocator::over_with_post(bucket(), &mut region, parties);
-        assert_eq!(made.err(), Some(MakeError::CannotMake));
-    }
 }
 
 #[test]

@@ -29,23 +29,16 @@ mod SharedBumpSeats
 mod SharedBumpTries
 mod SharedBumpWholes
 mod SharedLogs
-mod SharedPoolAlone
-mod SharedPoolAmong
-mod SharedPoolAsked
-mod SharedPoolEntries
-mod SharedPoolFinds
 mod SharedPoolGatherings
-mod SharedPoolHandOvers
-mod SharedPoolHistories
+mod SharedPoolDetaching
+mod SharedPoolHolds
 mod SharedPoolKeeps
 mod SharedPoolLaws
 mod SharedPoolMeetings
 mod SharedPoolParties
 mod SharedPoolPasses
-mod SharedPoolPosts
 pub mod SharedPoolRounds
 mod SharedPoolSeats
-mod SharedPoolSince
+mod SharedPoolDetached
 pub mod SharedPoolTries
-mod SharedPoolStretches
 mod SharedPoolWholes

@@ -180,7 +180,7 @@ times_in-parts number (party ∷ parties) = omega arith
 
 -- ONE STEP
 
--- the log of the one party of a seat becomes another, whatever is in transit there, before and after
+-- the log of the one party of a seat becomes another, whatever is detached there, before and after
 pub seated_with : {S E : Type 0} (made : ℕ) (logs : List (List E)) (views : List (Seat S E)) (seat : ℕ) (scene : S)
     (number : ℕ) (log new : List E) (before after : List ℕ) →
     AreSeated made logs views → get_elem? views seat ≡ some (seat_of scene (numbered number log ∷ []) before) →
@@ -210,40 +210,6 @@ pub seated_step : {S E : Type 0} (made : ℕ) (logs : List (List E)) (views : Li
     AreSeated made logs views → get_elem? views seat ≡ some (alone scene number log) →
     AreSeated made (slice_set logs number new) (set views seat (alone scene number new))
 seated_step made logs views seat scene number log new = seated_with made logs views seat scene number log new [] []
-
--- the log of a party that stands in no view becomes another
-have_beyond : {E : Type 0} (made : ℕ) (logs : List (List E)) (number : ℕ) (log : List E) (parties : List (Numbered E)) →
-    made ≤ number → HaveLogs made logs parties → HaveLogs made (slice_set logs number log) parties
-have_beyond made logs number log [] beyond have = tt
-have_beyond made logs number log (party ∷ parties) beyond have =
-    let below = have.0 in (
-      have.0,
-      slice_get-set_other logs number party.number log (λ same. absurd (omega arith)) ∙ have.1,
-      have_beyond made logs number log parties beyond have.2,
-    )
-
-pub seated_beyond : {S E : Type 0} (made : ℕ) (logs : List (List E)) (views : List (Seat S E)) (number : ℕ) (log : List E) →
-    made ≤ number → AreSeated made logs views → AreSeated made (slice_set logs number log) views
-seated_beyond made logs views number log beyond seated = record {
-  known = λ other found there. have_beyond made logs number log found.parties beyond (seated.known other found there);
-  once = seated.once;
-}
-
--- parties that are among so many are among more
-pub have_within : {E : Type 0} (made all : ℕ) (logs : List (List E)) (parties : List (Numbered E)) → made ≤ all →
-    HaveLogs made logs parties → HaveLogs all logs parties
-have_within made all logs [] within have = tt
-have_within made all logs (party ∷ parties) within have =
-    let below = have.0 in (omega arith, have.1, have_within made all logs parties within have.2)
-
--- and none of them has a number beyond
-pub none_beyond : {E : Type 0} (made : ℕ) (logs : List (List E)) (number : ℕ) (parties : List (Numbered E)) → made ≤ number →
-    HaveLogs made logs parties → times_in number parties ≡ 0
-none_beyond made logs number [] beyond have = refl
-none_beyond made logs number (party ∷ parties) beyond have =
-    let below = have.0 in
-    let none = one_apart party.number number (λ same. absurd (omega arith)) in
-    let rest = none_beyond made logs number parties beyond have.2 in omega arith
 
 -- SPLITS AND JOINS
 
@@ -335,13 +301,13 @@ once_in made logs views seat view seated at number below =
 
 -- THE OPENING
 
-fresh_have : (E : Type 0) (made all number count : ℕ) → number + count ≤ made → made ≤ all →
-    HaveLogs {E = E} made (replicate all []) (fresh_from number count)
-fresh_have E made all number zero within few = tt
-fresh_have E made all number (suc count) within few = (
+fresh_have : (E : Type 0) (made number count : ℕ) → number + count ≤ made →
+    HaveLogs {E = E} made (replicate made []) (fresh_from number count)
+fresh_have E made number zero within = tt
+fresh_have E made number (suc count) within = (
   omega arith,
-  slice_get-replicate all number [] (omega arith),
-  fresh_have E made all (number + 1) count (omega arith) few,
+  slice_get-replicate made number [] (omega arith),
+  fresh_have E made (number + 1) count (omega arith),
 )
 
 fresh_below : (E : Type 0) (number from count : ℕ) → number < from → times_in {E = E} number (fresh_from from count) ≡ 0
@@ -363,23 +329,19 @@ fresh_once E number from (suc count) low high =
           let rest = fresh_once E number (from + 1) count (omega arith) (omega arith) in omega arith
     ]
 
--- the parties that are handed out, so many of all, stand in the first seat
-pub seated_few : {S E : Type 0} (made all : ℕ) (scene : S) → made ≤ all →
-    AreSeated {S = S} {E = E} made (replicate all []) (standing_for scene (fresh_from 0 made) ∷ [])
-seated_few {S = S} {E = E} made all scene within = record {
+-- all parties stand in the first seat
+pub seated_opening : {S : Type 0} (E : Type 0) (made : ℕ) (scene : S) →
+    AreSeated {S = S} {E = E} made (replicate made []) (standing_for scene (fresh_from 0 made) ∷ [])
+seated_opening {S = S} E made scene = record {
   known = first;
   once = λ number below. let one = fresh_once E number 0 made (omega arith) (omega arith) in omega arith;
 }
   where
     first : (seat : ℕ) (view : Seat S E) → get_elem? (standing_for scene (fresh_from 0 made) ∷ []) seat ≡ some view →
-        HaveLogs {E = E} made (replicate all []) view.parties
-    first zero view is = subst (λ (v : Seat S E). HaveLogs {E = E} made (replicate all []) v.parties) (some-injective _ _ is)
-        (fresh_have E made all 0 made (omega arith) within)
+        HaveLogs {E = E} made (replicate made []) view.parties
+    first zero view is = subst (λ (v : Seat S E). HaveLogs {E = E} made (replicate made []) v.parties) (some-injective _ _ is)
+        (fresh_have E made 0 made (omega arith))
     first (suc seat) view is = absurd (some-ne-none view (sym is))
-
-pub seated_opening : {S : Type 0} (E : Type 0) (made : ℕ) (scene : S) →
-    AreSeated {S = S} {E = E} made (replicate made []) (standing_for scene (fresh_from 0 made) ∷ [])
-seated_opening E made scene = seated_few made made scene (omega arith)
 
 -- DEALING
 

@@ -1,6 +1,6 @@
 -- Parties that come to one seat, and what their meeting says of their logs.
-use Rattle.std.proofs.Common.{◌≡◌, ℕ, zero, suc, replicate, ◌≤◌, List, [], ◌∷◌, ◌++◌, Bool, Some, length, refl, sym, ap, ◌∙◌}
-use Rattle.std.proofs.Common.{append-nil, subst, arith, inl, inr, true, false}
+use Rattle.std.proofs.Common.{◌≡◌, ℕ, zero, suc, replicate, ◌≤◌, List, [], ◌∷◌, ◌++◌, Some, length, refl, sym, ap, ◌∙◌}
+use Rattle.std.proofs.Common.{None, subst, arith, inl, inr, true, false}
 use Rattle.std.specs.Prelude.{map, Contains, slice_get}
 use Rattle.std.specs.List.{AllByRecursion}
 use Rattle.std.proofs.lemmas.Bool.{cases_eq}
@@ -9,36 +9,34 @@ use Rattle.std.proofs.lemmas.List.{length-map, length-replicate, map-append}
 use Rattle.std.proofs.lemmas.List.Elements.{All-from_recursion, All-nil, All-replicate}
 use Rattle.atomic_table.specs.Seated.{TableId}
 use Rattle.atomic_table.specs.Table.{Me}
-use Rattle.bb_memory_base.specs.PoolMachine.{PoolScene}
+use Rattle.bb_memory_base.specs.PoolMachine.{PoolScene, left_by}
 use Rattle.bb_memory_base.specs.PoolHistory.{PoolLog}
 use Rattle.bb_memory_base.specs.PoolLogs.{HasLog, IsHeldAfter}
-use Rattle.bb_memory_base.specs.declared.steps.pool.PoolStep.{PoolStep}
+use Rattle.bb_memory_base.proofs.PoolFlags.{flag_from_taken}
 use Rattle.bb_memory_base.proofs.PoolLogFacts.{held_is_taken, taken_is_held_whole}
 use Rattle.bb_memory_base.proofs.PoolLogSteps.{opening_agrees}
-use Rattle.bb_memory.specs.Seats as seats
-use Rattle.bb_memory.specs.Seats.{HaveLogs, both_of, times_in}
+use Rattle.bb_memory.specs.Seats.{HaveLogs, both_of, standing_for, times_in}
 use Rattle.bb_memory.specs.SharedPool.{HaveMet, IsHeldByOne, IsSharedScene, PoolParty, SharedPool}
-use Rattle.bb_memory.specs.SharedPoolHistory.{HaveMetBy}
-use Rattle.bb_memory.specs.SharedPoolRule.{IsPartySeat, NumberedLog, SeatView, numbered_of, party_in, scene_of, standing_for}
-use Rattle.bb_memory.specs.SharedPoolSteps.{TellsMeeting, TellsMeetingAgain}
+use Rattle.bb_memory.specs.SharedPoolRule.{IsPartySeat, NumberedLog, SeatView, numbered_of, party_in}
+use Rattle.bb_memory.specs.SharedPoolSteps.{TellsMeeting}
 use Rattle.bb_memory_base.proofs.Positions.{contains-behind, contains-first}
 use Rattle.bb_memory.proofs.Seatings.{all_there, one_apart}
 
 -- GATHERING
 
 -- a party's seat stands for it alone
-pub parties_of : (table : TableId) (post : Bool) (number : ℕ) (me : Me ℕ SeatView) (party : PoolParty) →
-    IsPartySeat number me → party_in table post number me.0 ≡ party → me.0.parties ≡ numbered_of party ∷ []
-parties_of table post number me party fields view_is =
+pub parties_of : (table : TableId) (number : ℕ) (me : Me ℕ SeatView) (party : PoolParty) →
+    IsPartySeat number me → party_in table number me.0 ≡ party → me.0.parties ≡ numbered_of party ∷ []
+parties_of table number me party fields view_is =
     ap (λ (m : Me ℕ SeatView). m.0.parties) fields.seat.seat.is ∙ ap (λ (p : PoolParty). numbered_of p ∷ []) view_is
 
 -- the last of a list comes to the seat
-pub all_gathered : (table : TableId) (post : Bool) (number : ℕ) (me : Me ℕ SeatView) (party : PoolParty)
+pub all_gathered : (table : TableId) (number : ℕ) (me : Me ℕ SeatView) (party : PoolParty)
     (items rest : List PoolParty) →
-    IsPartySeat number me → party_in table post number me.0 ≡ party → items ≡ rest ++ party ∷ [] →
+    IsPartySeat number me → party_in table number me.0 ≡ party → items ≡ rest ++ party ∷ [] →
     map numbered_of rest ++ me.0.parties ≡ map numbered_of items
-all_gathered table post number me party items rest fields view_is is =
-    ap (λ (last : List NumberedLog). map numbered_of rest ++ last) (parties_of table post number me party fields view_is)
+all_gathered table number me party items rest fields view_is is =
+    ap (λ (last : List NumberedLog). map numbered_of rest ++ last) (parties_of table number me party fields view_is)
     ∙ sym (map-append numbered_of rest (party ∷ [])) ∙ ap (map numbered_of) (sym is)
 
 -- WHAT A MEETING SAYS
@@ -120,32 +118,21 @@ agrees scene items told =
             let there = all_there scene.parties told.logs (map numbered_of items) told.theirs told.once long_so in (
               λ number below. has_number items number (there number below),
               λ bucket. (
-                λ taken.
-                    let holder = taken_is_held_whole scene told.flags told.logs bucket told.agree
-                    (λ number below. its_log told.logs items number had (there number below)) taken in
-                    its_bucket told.logs items holder.0 holder.1 bucket had (there holder.0 holder.2) holder.3 holder.4,
-                λ one. one_taken scene (map numbered_of items) items bucket told had one,
+                λ taken. elim (taken_is_held_whole scene told.flags told.logs bucket told.agree
+                    (λ number below. its_log told.logs items number had (there number below)) taken) [
+                      | inl holder ↦ inl (its_bucket told.logs items holder.0 holder.1 bucket had
+                          (there holder.0 holder.2) holder.3 holder.4)
+                      | inr detached ↦ inr detached
+                    ],
+                λ out. elim out [
+                  | inl one ↦ one_taken scene (map numbered_of items) items bucket told had one
+                  | inr detached ↦
+                      flag_from_taken (left_by scene told.agree.steps) told.flags bucket told.agree.leaves (inr detached)
+                ],
               ),
             );
       },
     )
-
--- they are the steps by which the logs agree
-agreed_steps : (scene : PoolScene) (items : List PoolParty) (told : TellsMeeting scene (map numbered_of items)) →
-    (agrees scene items told).1.agree.steps ≡ told.agree.steps
-unfolding agrees
-agreed_steps scene items told = refl
-
--- the same by a seat that remembers the steps
-pub agrees_again : (scene : PoolScene) (items : List PoolParty) (before after : List PoolStep) →
-    TellsMeetingAgain scene (map numbered_of items ++ []) before after → HaveMetBy scene after items
-agrees_again scene items before after told =
-    let Told : List NumberedLog → Type 0 = λ parties. TellsMeetingAgain scene parties before after in
-    let again : TellsMeetingAgain scene (map numbered_of items) before after =
-    subst Told (append-nil (map numbered_of items)) told in record {
-      met = agrees scene items again.told;
-      found = agreed_steps scene items again.told ∙ again.found;
-    }
 
 -- a meeting of none
 pub none_met : (scene : PoolScene) (items : List PoolParty) → IsSharedScene scene → items ≡ [] → HaveMet scene items
@@ -163,35 +150,35 @@ none_met scene items shared none =
     )
 
 -- the party that goes back after the meeting
-pub met_party : (table was : TableId) (post : Bool) (number : ℕ) (me new : Me ℕ SeatView) (party : PoolParty) →
-    party_in was post number me.0 ≡ party → table ≡ was → new ≡ me → party_in table post number new.0 ≡ party
-met_party table was post number me new party view_is same is =
-    (λ i. party_in (same i) post number (is i).0) ∙ view_is
+pub met_party : (table was : TableId) (number : ℕ) (me new : Me ℕ SeatView) (party : PoolParty) →
+    party_in was number me.0 ≡ party → table ≡ was → new ≡ me → party_in table number new.0 ≡ party
+met_party table was number me new party view_is same is =
+    (λ i. party_in (same i) number (is i).0) ∙ view_is
 
 -- It is as it was where its seat stands for it alone again.
-module _ (pool : SharedPool) (table : TableId) (post : Bool) (number : ℕ) (me new : Me ℕ SeatView) (party : PoolParty)
-    (is : IsPartySeat number me) (view_is : party_in table post number me.0 ≡ party) (its : party.allocator ≡ pool)
+module _ (pool : SharedPool) (table : TableId) (number : ℕ) (me new : Me ℕ SeatView) (party : PoolParty)
+    (is : IsPartySeat number me) (view_is : party_in table number me.0 ≡ party) (its : party.allocator ≡ pool)
     (back : new ≡ (standing_for pool.scene (numbered_of party ∷ []), [])) where
   same_seat : new ≡ me
   same_seat =
-      let scene : scene_of me.0 ≡ pool.scene =
+      let scene : me.0.scene ≡ pool.scene =
       ap (λ (p : PoolParty). p.allocator.scene) view_is ∙ ap (λ (p : SharedPool). p.scene) its in
       back ∙ (λ i. (standing_for (sym scene i) (numbered_of (sym view_is i) ∷ []), [])) ∙ sym is.seat.seat.is
 
   pub goes_back : IsPartySeat number new
   goes_back = subst (IsPartySeat number) (sym same_seat) is
 
-  pub as_it_was : (new_table : TableId) → new_table ≡ pool.table → party_in new_table post number new.0 ≡ party
+  pub as_it_was : (new_table : TableId) → new_table ≡ pool.table → party_in new_table number new.0 ≡ party
   as_it_was new_table same =
       let own : table ≡ pool.table =
       ap (λ (p : PoolParty). p.allocator.table) view_is ∙ ap (λ (p : SharedPool). p.table) its in
-      met_party new_table table post number me new party view_is (same ∙ sym own) same_seat
+      met_party new_table table number me new party view_is (same ∙ sym own) same_seat
 
 -- the seat of parties to which one more comes
-pub comes : (scene : PoolScene) (seat guest there : Me ℕ SeatView) (table : TableId) (post : Bool) (number : ℕ)
+pub comes : (scene : PoolScene) (seat guest there : Me ℕ SeatView) (table : TableId) (number : ℕ)
     (party : PoolParty) →
-    IsPartySeat number guest → party_in table post number guest.0 ≡ party → seat ≡ (standing_for scene seat.0.parties, []) →
+    IsPartySeat number guest → party_in table number guest.0 ≡ party → seat ≡ (standing_for scene seat.0.parties, []) →
     there ≡ (both_of seat.0 guest.0, seat.1) → there ≡ (standing_for scene (numbered_of party ∷ seat.0.parties), [])
-comes scene seat guest there table post number party is view_is here gathered =
-    let its = parties_of table post number guest party is view_is in
-    gathered ∙ λ i. (seats.standing_for (here i).0.scene (its i ++ seat.0.parties), (here i).1)
+comes scene seat guest there table number party is view_is here gathered =
+    let its = parties_of table number guest party is view_is in
+    gathered ∙ λ i. (standing_for (here i).0.scene (its i ++ seat.0.parties), (here i).1)

@@ -1,5 +1,5 @@
 -- Each atomic step keeps words and logs in agreement.
-use Rattle.std.proofs.Common.{◌≡◌, ℕ, zero, suc, ◌<◌, List, [], ◌∷◌, ◌++◌, length, set, Bool}
+use Rattle.std.proofs.Common.{◌≡◌, ◌≢◌, ℕ, zero, suc, ◌<◌, List, [], ◌∷◌, ◌++◌, length, set, Bool}
 use Rattle.std.proofs.Common.{true, false, None, Some, eqb, refl, sym, ◌∙◌, subst, arith, suc-ne-zero}
 use Rattle.std.specs.Prelude.{slice_get, slice_set}
 use mathlib.Core.Option.{none, some}
@@ -8,21 +8,21 @@ use prog.Atomic.{either}
 use Rattle.atomic_table.specs.Table.{State, Me, Act, keeps, step, stepped, carried_after, Valid, Allows}
 use Rattle.bb_memory_base.specs.PoolMachine.{PoolScene}
 use Rattle.bb_memory_base.specs.PoolHistory.{PoolEntry, PoolLog, entry_of}
-use Rattle.bb_memory_base.specs.PoolLogs.{HasLog, IsHeldAfter, LogsAgree, loss_at, next_bucket, pass_after, pass_in, with_entry}
+use Rattle.bb_memory_base.specs.PoolLogs.{HasLog, IsHeldAfter, IsDetachedAfter, LogsAgree, held_after, loss_at, next_bucket}
+use Rattle.bb_memory_base.specs.PoolLogs.{pass_after, pass_in, with_entry}
 use Rattle.bb_memory_base.specs.declared.steps.pool.PoolStep.TheVariants.{Try, GiveBack, TryAt}
 use Rattle.bb_memory_base.specs.declared.steps.pool.PoolOutcome.TheVariants.{Takes, Gives, Misses}
-use Rattle.bb_memory_base.proofs.PoolLogSteps.{AgreesBehind, take_behind, lose_behind, give_behind, take_at_behind, miss_behind}
+use Rattle.bb_memory_base.proofs.PoolLogSteps.{give_agrees, lose_agrees, miss_agrees, take_agrees, take_at_agrees}
 use Rattle.bb_memory_base.proofs.PoolLogFacts.{free_not_held, held_is_taken, taken_is_held_alone, length-flags, interleaved_log}
 use Rattle.bb_memory_base.proofs.SliceGets.{slice_get-set_same, length-set_at}
 use Rattle.bb_memory.specs.FlagWords.{HaveFlags, as_word, word_of}
-use Rattle.bb_memory.specs.Seats.{number_of, view_log}
-use Rattle.bb_memory.specs.SharedPoolRule.{IsSeatOf, IsSeatOfIdle, PoolSetting, SeatView, alone, sight}
-use Rattle.bb_memory.specs.SharedPoolRule.{WordsAndLogsAgree, handed_out, scene_of}
+use Rattle.bb_memory.specs.Seats.{alone, number_of, view_log}
+use Rattle.bb_memory.specs.SharedPoolRule.{IsSeatOf, IsSeatOfIdle, SeatView, WordsAndLogsAgree}
 use Rattle.bb_memory.specs.SharedPoolSteps.{TellsReturn, TellsTry, TellsTryAt, returns, tries, tries_at}
 use Rattle.bb_memory.proofs.FlagWords.{at_word, changed, found_in, taken_again}
 use Rattle.bb_memory.proofs.Seatings.{seated_step}
-use Rattle.bb_memory.proofs.SharedPoolHistories.{begins_with_none, remember_set}
-use Rattle.bb_memory.proofs.SharedPoolPosts.{is_made, not_post, post_kept}
+use Rattle.bb_memory.proofs.SharedPoolDetached.{flag_elsewhere, no_hold_left, no_hold_loss, no_hold_other, still_detached}
+use Rattle.bb_memory.proofs.SharedPoolDetached.{detached_kept, detached_not_free, detached_not_held}
 use Rattle.bb_memory.proofs.SharedPoolTries.{idle_after_one}
 
 -- FLAGS
@@ -34,30 +34,53 @@ some_at (flag ∷ flags) (suc i) below = some_at flags i (omega arith)
 
 -- ONE STEP
 
+-- what is detached stays so where a party takes a free bucket
+kept_at_taking : (flags : List Bool) (logs : List PoolLog) (party : ℕ) (log : PoolLog) (entry : PoolEntry) (bucket : ℕ) →
+    HasLog logs party log → slice_get flags bucket ≡ Some false →
+    ((b : ℕ) → bucket ≢ b → held_after b false entry.outcome ≡ false) → (b : ℕ) → IsDetachedAfter flags logs b →
+    IsDetachedAfter (slice_set flags bucket true) (with_entry logs party log entry) b
+kept_at_taking flags logs party log entry bucket at free no_hold b moving =
+    let apart = detached_not_free flags logs bucket b free moving in
+    still_detached flags (slice_set flags bucket true) logs party log entry b at (no_hold b apart)
+    (flag_elsewhere flags bucket b true apart) moving
+
+-- where it finds a bucket taken
+kept_at_loss : (flags : List Bool) (logs : List PoolLog) (party : ℕ) (log : PoolLog) (entry : PoolEntry) →
+    HasLog logs party log → ((b : ℕ) → held_after b false entry.outcome ≡ false) → (b : ℕ) → IsDetachedAfter flags logs b →
+    IsDetachedAfter flags (with_entry logs party log entry) b
+kept_at_loss flags logs party log entry at no_hold b moving =
+    still_detached flags flags logs party log entry b at (no_hold b) refl moving
+
+-- and where it gives back one that it holds
+kept_at_return : (flags : List Bool) (logs : List PoolLog) (party : ℕ) (log : PoolLog) (entry : PoolEntry) (bucket : ℕ) →
+    HasLog logs party log → IsHeldAfter log bucket →
+    ((b : ℕ) → held_after b false entry.outcome ≡ false) → (b : ℕ) → IsDetachedAfter flags logs b →
+    IsDetachedAfter (slice_set flags bucket false) (with_entry logs party log entry) b
+kept_at_return flags logs party log entry bucket at held no_hold b moving =
+    let apart = detached_not_held flags logs party log bucket b at held moving in
+    still_detached flags (slice_set flags bucket false) logs party log entry b at (no_hold b)
+    (flag_elsewhere flags bucket b false apart) moving
+
 -- the rule after a step of a party that stands alone in its seat
-entered : (setting : PoolSetting) (state : State ℕ SeatView) (rule : WordsAndLogsAgree setting state) (seat party : ℕ)
+entered : (scene : PoolScene) (state : State ℕ SeatView) (rule : WordsAndLogsAgree scene state) (seat party : ℕ)
     (log : PoolLog) (entry : PoolEntry) (words : List ℕ) (flags : List Bool) →
-    get_elem? state.views seat ≡ some (alone setting.scene party log) →
-    AgreesBehind setting.scene rule.agree.steps flags (with_entry rule.logs party log entry) →
+    get_elem? state.views seat ≡ some (alone scene party log) →
+    LogsAgree scene flags (with_entry rule.logs party log entry) →
     HaveFlags words flags →
-    WordsAndLogsAgree setting
-    record { words = words; homes = state.homes; views = set state.views seat (alone setting.scene party (log ++ entry ∷ [])) }
-entered setting state rule seat party log entry words flags at behind are =
+    ((b : ℕ) → IsDetachedAfter rule.flags rule.logs b → IsDetachedAfter flags (with_entry rule.logs party log entry) b) →
+    WordsAndLogsAgree scene
+    record { words = words; homes = state.homes; views = set state.views seat (alone scene party (log ++ entry ∷ [])) }
+entered scene state rule seat party log entry words flags at agree are keep =
     let longer : PoolLog = log ++ entry ∷ [] in
     record {
       flags = flags;
       logs = with_entry rule.logs party log entry;
-      agree = behind.agree;
+      agree = agree;
       words = are;
       one_a_party = length-set_at rule.logs party longer ∙ rule.one_a_party;
-      seated = seated_step (handed_out setting.has_post setting.scene.parties) rule.logs state.views seat
-          (sight setting.scene []) party log longer rule.seated at;
-      post = λ has.
-          post_kept setting.scene rule.logs state.views seat party longer (alone setting.scene party log)
-          (alone setting.scene party longer) refl refl at
-          (not_post setting party has (rule.seated.known seat (alone setting.scene party log) at).0) (rule.post has);
-      met = remember_set state.views seat (alone setting.scene party longer) rule.agree.steps behind.agree.steps rule.met
-          behind.behind (begins_with_none behind.agree.steps);
+      seated = seated_step scene.parties rule.logs state.views seat scene party log longer rule.seated at;
+      transit = detached_kept rule.flags flags rule.logs (with_entry rule.logs party log entry) state.views seat
+          (alone scene party log) (alone scene party longer) refl refl at rule.transit keep;
     }
 
 -- what it tells: the log is longer, and interleaved with others'
@@ -87,190 +110,190 @@ abbrev Telling : Type 1
 Telling = PoolScene → ℕ → PoolLog → ℕ → ℕ → Me ℕ SeatView → Type 0
 
 abbrev tells_of : Telling → Me ℕ SeatView → ℕ → ℕ → Me ℕ SeatView → Type 0
-tells_of tells me bucket found new = tells (scene_of me.0) (number_of me.0) (view_log me.0) bucket found new
+tells_of tells me bucket found new = tells me.0.scene (number_of me.0) (view_log me.0) bucket found new
 
 -- what an exchange that found a word may do
-abbrev Allowed : Telling → PoolSetting → State ℕ SeatView → ℕ → ℕ → Me ℕ SeatView → ℕ → Type 0
-Allowed tells setting state seat bucket me found =
+abbrev Allowed : Telling → PoolScene → State ℕ SeatView → ℕ → ℕ → Me ℕ SeatView → ℕ → Type 0
+Allowed tells scene state seat bucket me found =
     (new : SeatView) × (act : Act ℕ) × Valid state.homes me.1 act
-    × WordsAndLogsAgree setting (stepped state (word_of bucket) (either (eqb found 0) 1 found) seat me.1 new act)
+    × WordsAndLogsAgree scene (stepped state (word_of bucket) (either (eqb found 0) 1 found) seat me.1 new act)
     × tells_of tells me bucket found (new, carried_after me.1 act)
 
-tries_flag : (setting : PoolSetting) (seat party bucket : ℕ) (log : PoolLog) → next_bucket log ≡ bucket →
-    (state : State ℕ SeatView) (rule : WordsAndLogsAgree setting state) →
-    get_elem? state.views seat ≡ some (alone setting.scene party log) →
+tries_flag : (scene : PoolScene) (seat party bucket : ℕ) (log : PoolLog) → next_bucket log ≡ bucket →
+    (state : State ℕ SeatView) (rule : WordsAndLogsAgree scene state) →
+    get_elem? state.views seat ≡ some (alone scene party log) →
     (flag : Bool) → slice_get rule.flags bucket ≡ Some flag →
-    Allowed TellsTry setting state seat bucket (alone setting.scene party log, []) (as_word flag)
-tries_flag setting seat party bucket log next state rule at false free =
-    let mine = rule.seated.known seat (alone setting.scene party log) at in
-    let made = is_made setting party mine.0 in
+    Allowed TellsTry scene state seat bucket (alone scene party log, []) (as_word flag)
+tries_flag scene seat party bucket log next state rule at false free =
+    let mine = rule.seated.known seat (alone scene party log) at in
+    let made = mine.0 in
     let entry : PoolEntry = entry_of (Try party) (Takes bucket) in
     let flags : List Bool = slice_set rule.flags bucket true in
-    let behind = take_behind setting.scene rule.flags rule.logs party log bucket rule.agree made mine.1 next free in
-    let agree = behind.agree in (
-      alone setting.scene party (log ++ entry ∷ []),
+    let agree = take_agrees scene rule.flags rule.logs party log bucket rule.agree made mine.1 next free in (
+      alone scene party (log ++ entry ∷ []),
       keeps,
       tt,
-      entered setting state rule seat party log entry (set state.words (word_of bucket) 1) flags at behind
-          (changed state.words rule.flags bucket false true rule.words free),
+      entered scene state rule seat party log entry (set state.words (word_of bucket) 1) flags at agree
+          (changed state.words rule.flags bucket false true rule.words free)
+          (kept_at_taking rule.flags rule.logs party log entry bucket mine.1 free (λ b apart. no_hold_other bucket b apart)),
       (
         λ _. record {
-          seat = told setting.scene flags rule.logs party log entry mine.1 agree;
-          free = free_not_held setting.scene rule.flags rule.logs party log bucket rule.agree mine.1 free;
+          seat = told scene flags rule.logs party log entry mine.1 agree;
+          free = free_not_held scene rule.flags rule.logs party log bucket rule.agree mine.1 free;
         },
         λ not_free. absurd (not_free refl),
       ),
     )
-tries_flag setting seat party bucket log next state rule at true taken =
-    let mine = rule.seated.known seat (alone setting.scene party log) at in
-    let made = is_made setting party mine.0 in
-    let entry : PoolEntry = entry_of (Try party) (loss_at setting.scene.geometry.buckets bucket) in
-    let behind = lose_behind setting.scene rule.flags rule.logs party log bucket rule.agree made mine.1 next taken in
-    let agree = behind.agree in (
-      alone setting.scene party (log ++ entry ∷ []),
+tries_flag scene seat party bucket log next state rule at true taken =
+    let mine = rule.seated.known seat (alone scene party log) at in
+    let made = mine.0 in
+    let entry : PoolEntry = entry_of (Try party) (loss_at scene.geometry.buckets bucket) in
+    let agree = lose_agrees scene rule.flags rule.logs party log bucket rule.agree made mine.1 next taken in (
+      alone scene party (log ++ entry ∷ []),
       keeps,
       tt,
-      entered setting state rule seat party log entry (set state.words (word_of bucket) 1) rule.flags at behind
-          (taken_again state.words rule.flags bucket rule.words taken),
+      entered scene state rule seat party log entry (set state.words (word_of bucket) 1) rule.flags at agree
+          (taken_again state.words rule.flags bucket rule.words taken)
+          (kept_at_loss rule.flags rule.logs party log entry mine.1 (λ b. no_hold_loss scene.geometry.buckets bucket b)),
       (
         λ zero_found. absurd (suc-ne-zero zero zero_found),
         λ _. record {
-          seat = told setting.scene rule.flags rule.logs party log entry mine.1 agree;
+          seat = told scene rule.flags rule.logs party log entry mine.1 agree;
           held = λ one.
               let first : party ≡ 0 = omega (arith, made, one) in
-              taken_is_held_alone setting.scene rule.flags rule.logs log bucket rule.agree one
+              taken_is_held_alone scene rule.flags rule.logs log bucket rule.agree one
               (subst (λ n. HasLog rule.logs n log) first mine.1) taken;
         },
       ),
     )
 
-tries_one : (setting : PoolSetting) (slots seat party bucket : ℕ) (log : PoolLog) → bucket < setting.scene.geometry.buckets →
+tries_one : (scene : PoolScene) (slots seat party bucket : ℕ) (log : PoolLog) → bucket < scene.geometry.buckets →
     next_bucket log ≡ bucket →
-    Allows (WordsAndLogsAgree setting) slots seat (alone setting.scene party log, []) (word_of bucket)
+    Allows (WordsAndLogsAgree scene) slots seat (alone scene party log, []) (word_of bucket)
     (λ found. either (eqb found 0) 1 found)
-    (tells_of TellsTry (alone setting.scene party log, []) bucket)
-tries_one setting slots seat party bucket log below next state rule homes at fits =
-    let count = length-flags setting.scene rule.flags rule.logs rule.agree in
+    (tells_of TellsTry (alone scene party log, []) bucket)
+tries_one scene slots seat party bucket log below next state rule homes at fits =
+    let count = length-flags scene rule.flags rule.logs rule.agree in
     let flag = some_at rule.flags bucket (omega arith) in
     let found = found_in state.words rule.flags bucket flag.0 rule.words flag.1 in
-    subst (Allowed TellsTry setting state seat bucket (alone setting.scene party log, [])) (sym found)
-    (tries_flag setting seat party bucket log next state rule at flag.0 flag.1)
+    subst (Allowed TellsTry scene state seat bucket (alone scene party log, [])) (sym found)
+    (tries_flag scene seat party bucket log next state rule at flag.0 flag.1)
 
 -- a seat of one party may try the bucket that is next
-pub tries_as : (setting : PoolSetting) (slots seat word party bucket : ℕ) (log : PoolLog) (me : Me ℕ SeatView) →
-    word ≡ word_of bucket → me ≡ (alone setting.scene party log, []) → bucket < setting.scene.geometry.buckets →
+pub tries_as : (scene : PoolScene) (slots seat word party bucket : ℕ) (log : PoolLog) (me : Me ℕ SeatView) →
+    word ≡ word_of bucket → me ≡ (alone scene party log, []) → bucket < scene.geometry.buckets →
     next_bucket log ≡ bucket →
-    Allows (WordsAndLogsAgree setting) slots seat me word (λ found. either (eqb found 0) 1 found)
+    Allows (WordsAndLogsAgree scene) slots seat me word (λ found. either (eqb found 0) 1 found)
     (tries (step slots word 0 1 none) me)
-tries_as setting slots seat word party bucket log me there is below next =
-    at_word (WordsAndLogsAgree setting) slots seat bucket word me (λ found. either (eqb found 0) 1 found)
+tries_as scene slots seat word party bucket log me there is below next =
+    at_word (WordsAndLogsAgree scene) slots seat bucket word me (λ found. either (eqb found 0) 1 found)
     (tells_of TellsTry me) there
-    (subst (λ (m : Me ℕ SeatView). Allows (WordsAndLogsAgree setting) slots seat m (word_of bucket)
+    (subst (λ (m : Me ℕ SeatView). Allows (WordsAndLogsAgree scene) slots seat m (word_of bucket)
     (λ found. either (eqb found 0) 1 found) (tells_of TellsTry m bucket)) (sym is)
-    (tries_one setting slots seat party bucket log below next))
+    (tries_one scene slots seat party bucket log below next))
 
 -- EXCHANGES OF AN IDLE PARTY
 
-tries_one_flag : (setting : PoolSetting) (seat party bucket : ℕ) (log : PoolLog) → pass_in log ≡ None →
-    (state : State ℕ SeatView) (rule : WordsAndLogsAgree setting state) →
-    get_elem? state.views seat ≡ some (alone setting.scene party log) →
+tries_one_flag : (scene : PoolScene) (seat party bucket : ℕ) (log : PoolLog) → pass_in log ≡ None →
+    (state : State ℕ SeatView) (rule : WordsAndLogsAgree scene state) →
+    get_elem? state.views seat ≡ some (alone scene party log) →
     (flag : Bool) → slice_get rule.flags bucket ≡ Some flag →
-    Allowed TellsTryAt setting state seat bucket (alone setting.scene party log, []) (as_word flag)
-tries_one_flag setting seat party bucket log idle state rule at false free =
-    let mine = rule.seated.known seat (alone setting.scene party log) at in
-    let made = is_made setting party mine.0 in
+    Allowed TellsTryAt scene state seat bucket (alone scene party log, []) (as_word flag)
+tries_one_flag scene seat party bucket log idle state rule at false free =
+    let mine = rule.seated.known seat (alone scene party log) at in
+    let made = mine.0 in
     let entry : PoolEntry = entry_of (TryAt party bucket) (Takes bucket) in
     let flags : List Bool = slice_set rule.flags bucket true in
-    let behind = take_at_behind setting.scene rule.flags rule.logs party log bucket rule.agree made mine.1 idle free in
-    let agree = behind.agree in (
-      alone setting.scene party (log ++ entry ∷ []),
+    let agree = take_at_agrees scene rule.flags rule.logs party log bucket rule.agree made mine.1 idle free in (
+      alone scene party (log ++ entry ∷ []),
       keeps,
       tt,
-      entered setting state rule seat party log entry (set state.words (word_of bucket) 1) flags at behind
-          (changed state.words rule.flags bucket false true rule.words free),
+      entered scene state rule seat party log entry (set state.words (word_of bucket) 1) flags at agree
+          (changed state.words rule.flags bucket false true rule.words free)
+          (kept_at_taking rule.flags rule.logs party log entry bucket mine.1 free (λ b apart. no_hold_other bucket b apart)),
       (
         λ _. record {
-          ended = told_idle setting.scene flags rule.logs party log entry mine.1 agree idle refl;
-          free = free_not_held setting.scene rule.flags rule.logs party log bucket rule.agree mine.1 free;
+          ended = told_idle scene flags rule.logs party log entry mine.1 agree idle refl;
+          free = free_not_held scene rule.flags rule.logs party log bucket rule.agree mine.1 free;
         },
         λ not_free. absurd (not_free refl),
       ),
     )
-tries_one_flag setting seat party bucket log idle state rule at true taken =
-    let mine = rule.seated.known seat (alone setting.scene party log) at in
-    let made = is_made setting party mine.0 in
+tries_one_flag scene seat party bucket log idle state rule at true taken =
+    let mine = rule.seated.known seat (alone scene party log) at in
+    let made = mine.0 in
     let entry : PoolEntry = entry_of (TryAt party bucket) (Misses bucket) in
-    let behind = miss_behind setting.scene rule.flags rule.logs party log bucket rule.agree made mine.1 idle taken in
-    let agree = behind.agree in (
-      alone setting.scene party (log ++ entry ∷ []),
+    let agree = miss_agrees scene rule.flags rule.logs party log bucket rule.agree made mine.1 idle taken in (
+      alone scene party (log ++ entry ∷ []),
       keeps,
       tt,
-      entered setting state rule seat party log entry (set state.words (word_of bucket) 1) rule.flags at behind
-          (taken_again state.words rule.flags bucket rule.words taken),
+      entered scene state rule seat party log entry (set state.words (word_of bucket) 1) rule.flags at agree
+          (taken_again state.words rule.flags bucket rule.words taken)
+          (kept_at_loss rule.flags rule.logs party log entry mine.1 (λ b. refl)),
       (
         λ zero_found. absurd (suc-ne-zero zero zero_found),
         λ _. record {
-          ended = told_idle setting.scene rule.flags rule.logs party log entry mine.1 agree idle refl;
+          ended = told_idle scene rule.flags rule.logs party log entry mine.1 agree idle refl;
           held = λ one.
               let first : party ≡ 0 = omega (arith, made, one) in
-              taken_is_held_alone setting.scene rule.flags rule.logs log bucket rule.agree one
+              taken_is_held_alone scene rule.flags rule.logs log bucket rule.agree one
               (subst (λ n. HasLog rule.logs n log) first mine.1) taken;
         },
       ),
     )
 
-tries_at_one : (setting : PoolSetting) (slots seat party bucket : ℕ) (log : PoolLog) → bucket < setting.scene.geometry.buckets →
+tries_at_one : (scene : PoolScene) (slots seat party bucket : ℕ) (log : PoolLog) → bucket < scene.geometry.buckets →
     pass_in log ≡ None →
-    Allows (WordsAndLogsAgree setting) slots seat (alone setting.scene party log, []) (word_of bucket)
+    Allows (WordsAndLogsAgree scene) slots seat (alone scene party log, []) (word_of bucket)
     (λ found. either (eqb found 0) 1 found)
-    (tells_of TellsTryAt (alone setting.scene party log, []) bucket)
-tries_at_one setting slots seat party bucket log below idle state rule homes at fits =
-    let count = length-flags setting.scene rule.flags rule.logs rule.agree in
+    (tells_of TellsTryAt (alone scene party log, []) bucket)
+tries_at_one scene slots seat party bucket log below idle state rule homes at fits =
+    let count = length-flags scene rule.flags rule.logs rule.agree in
     let flag = some_at rule.flags bucket (omega arith) in
     let found = found_in state.words rule.flags bucket flag.0 rule.words flag.1 in
-    subst (Allowed TellsTryAt setting state seat bucket (alone setting.scene party log, [])) (sym found)
-    (tries_one_flag setting seat party bucket log idle state rule at flag.0 flag.1)
+    subst (Allowed TellsTryAt scene state seat bucket (alone scene party log, [])) (sym found)
+    (tries_one_flag scene seat party bucket log idle state rule at flag.0 flag.1)
 
 -- a seat of one idle party may try any bucket
-pub tries_at_as : (setting : PoolSetting) (slots seat word party bucket : ℕ) (log : PoolLog) (me : Me ℕ SeatView) →
-    word ≡ word_of bucket → me ≡ (alone setting.scene party log, []) → bucket < setting.scene.geometry.buckets →
+pub tries_at_as : (scene : PoolScene) (slots seat word party bucket : ℕ) (log : PoolLog) (me : Me ℕ SeatView) →
+    word ≡ word_of bucket → me ≡ (alone scene party log, []) → bucket < scene.geometry.buckets →
     pass_in log ≡ None →
-    Allows (WordsAndLogsAgree setting) slots seat me word (λ found. either (eqb found 0) 1 found)
+    Allows (WordsAndLogsAgree scene) slots seat me word (λ found. either (eqb found 0) 1 found)
     (tries_at (step slots word 0 1 none) me)
-tries_at_as setting slots seat word party bucket log me there is below idle =
-    at_word (WordsAndLogsAgree setting) slots seat bucket word me (λ found. either (eqb found 0) 1 found)
+tries_at_as scene slots seat word party bucket log me there is below idle =
+    at_word (WordsAndLogsAgree scene) slots seat bucket word me (λ found. either (eqb found 0) 1 found)
     (tells_of TellsTryAt me) there
-    (subst (λ (m : Me ℕ SeatView). Allows (WordsAndLogsAgree setting) slots seat m (word_of bucket)
+    (subst (λ (m : Me ℕ SeatView). Allows (WordsAndLogsAgree scene) slots seat m (word_of bucket)
     (λ found. either (eqb found 0) 1 found) (tells_of TellsTryAt m bucket)) (sym is)
-    (tries_at_one setting slots seat party bucket log below idle))
+    (tries_at_one scene slots seat party bucket log below idle))
 
 -- STORES
 
-returns_one : (setting : PoolSetting) (slots seat party bucket : ℕ) (log : PoolLog) → IsHeldAfter log bucket →
-    Allows (WordsAndLogsAgree setting) slots seat (alone setting.scene party log, []) (word_of bucket) (λ _. 0)
-    (λ _. TellsReturn setting.scene party log bucket)
-returns_one setting slots seat party bucket log held state rule homes at fits =
-    let mine = rule.seated.known seat (alone setting.scene party log) at in
+returns_one : (scene : PoolScene) (slots seat party bucket : ℕ) (log : PoolLog) → IsHeldAfter log bucket →
+    Allows (WordsAndLogsAgree scene) slots seat (alone scene party log, []) (word_of bucket) (λ _. 0)
+    (λ _. TellsReturn scene party log bucket)
+returns_one scene slots seat party bucket log held state rule homes at fits =
+    let mine = rule.seated.known seat (alone scene party log) at in
     let entry : PoolEntry = entry_of (GiveBack party bucket) (Gives bucket) in
     let flags : List Bool = slice_set rule.flags bucket false in
-    let behind = give_behind setting.scene rule.flags rule.logs party log bucket rule.agree mine.1 held in
-    let agree = behind.agree in (
-      alone setting.scene party (log ++ entry ∷ []),
+    let agree = give_agrees scene rule.flags rule.logs party log bucket rule.agree mine.1 held in (
+      alone scene party (log ++ entry ∷ []),
       keeps,
       tt,
-      entered setting state rule seat party log entry (set state.words (word_of bucket) 0) flags at behind
+      entered scene state rule seat party log entry (set state.words (word_of bucket) 0) flags at agree
           (changed state.words rule.flags bucket true false rule.words
-          (held_is_taken setting.scene rule.flags rule.logs party log bucket rule.agree mine.1 held)),
-      told setting.scene flags rule.logs party log entry mine.1 agree,
+          (held_is_taken scene rule.flags rule.logs party log bucket rule.agree mine.1 held))
+          (kept_at_return rule.flags rule.logs party log entry bucket mine.1 held (λ b. no_hold_left bucket b)),
+      told scene flags rule.logs party log entry mine.1 agree,
     )
 
 -- a seat of one party may free a bucket that is held after its log
-pub returns_as : (setting : PoolSetting) (slots seat word party bucket : ℕ) (log : PoolLog) (me : Me ℕ SeatView) →
-    word ≡ word_of bucket → me ≡ (alone setting.scene party log, []) → IsHeldAfter log bucket →
-    Allows (WordsAndLogsAgree setting) slots seat me word (λ _. 0) (λ _. returns (step slots word 0 0 none) me 0)
-returns_as setting slots seat word party bucket log me there is held =
-    at_word (WordsAndLogsAgree setting) slots seat bucket word me (λ _. 0)
-    (λ b _. TellsReturn (scene_of me.0) (number_of me.0) (view_log me.0) b) there
-    (subst (λ (m : Me ℕ SeatView). Allows (WordsAndLogsAgree setting) slots seat m (word_of bucket) (λ _. 0)
-    (λ _. TellsReturn (scene_of m.0) (number_of m.0) (view_log m.0) bucket)) (sym is)
-    (returns_one setting slots seat party bucket log held))
+pub returns_as : (scene : PoolScene) (slots seat word party bucket : ℕ) (log : PoolLog) (me : Me ℕ SeatView) →
+    word ≡ word_of bucket → me ≡ (alone scene party log, []) → IsHeldAfter log bucket →
+    Allows (WordsAndLogsAgree scene) slots seat me word (λ _. 0) (λ _. returns (step slots word 0 0 none) me 0)
+returns_as scene slots seat word party bucket log me there is held =
+    at_word (WordsAndLogsAgree scene) slots seat bucket word me (λ _. 0)
+    (λ b _. TellsReturn me.0.scene (number_of me.0) (view_log me.0) b) there
+    (subst (λ (m : Me ℕ SeatView). Allows (WordsAndLogsAgree scene) slots seat m (word_of bucket) (λ _. 0)
+    (λ _. TellsReturn m.0.scene (number_of m.0) (view_log m.0) bucket)) (sym is)
+    (returns_one scene slots seat party bucket log held))

@@ -12,6 +12,7 @@ use Rattle.bb_memory_base.specs.PoolMachine.{PoolScene, IsHolder, left_by}
 use Rattle.bb_memory_base.specs.PoolHistory.{PoolEntry, PoolLog, entries_by, entry_of, history_of, is_by, log_of}
 use Rattle.bb_memory_base.specs.PoolCalls.{AreAsked, IsPoolRun, IsRefusedAt, MissesAt}
 use Rattle.bb_memory_base.specs.PoolLogs.{IsHeldAfter, loss_at}
+use Rattle.bb_memory_base.specs.declared.steps.pool.Flag.TheVariants.{HeldBy}
 use Rattle.bb_memory_base.specs.declared.steps.pool.PoolStep.{PoolStep}
 use Rattle.bb_memory_base.specs.declared.steps.pool.PoolStep.TheVariants.{Try, TryAt}
 use Rattle.bb_memory_base.specs.declared.steps.pool.PoolOutcome.{PoolOutcome}
@@ -45,9 +46,9 @@ held_in_list : (scene : PoolScene) (steps : List PoolStep) (party bucket : ℕ) 
     (bucket < scene.geometry.buckets) × IsHeld scene.geometry live bucket
 held_in_list scene steps party bucket log layouts live geometry logged run held =
     let holder = holder_then scene steps party bucket log logged held in
-    let within = slice_get_within (left_by scene steps).holders bucket (Some party) holder in
+    let within = slice_get_within (left_by scene steps).flags bucket (HeldBy party) holder in
     let below : bucket < scene.geometry.buckets = omega (arith, within, length-left_by scene steps) in
-    (below, (taken_is_held scene steps layouts live bucket geometry run below).0 (party, holder))
+    (below, (taken_is_held scene steps layouts live bucket geometry run below).0 (inl (party, holder)))
 
 -- a bucket that is held after a party's log is one of the pool's
 pub held_below : (party : PoolParty) (is : IsParty party) (bucket : ℕ) → IsHeldAfter party.log bucket →
@@ -56,7 +57,7 @@ held_below party is bucket held =
     let scene = party.allocator.scene in
     let steps = is.interleaved.steps in
     let holder = holder_then scene steps party.number bucket party.log is.interleaved.logged held in
-    let within = slice_get_within (left_by scene steps).holders bucket (Some party.number) holder in
+    let within = slice_get_within (left_by scene steps).flags bucket (HeldBy party.number) holder in
     omega (arith, within, length-left_by scene steps)
 
 pub history_held : (party : PoolParty) (is : IsParty party) (layouts : List Layout) (live : List Chunk) (bucket : ℕ) →

@@ -1,16 +1,18 @@
 -- From what a pass or a return tells to what its party is then.
-use Rattle.std.proofs.Common.{◌≡◌, ℕ, ◌<◌, Bool, true, [], ◌++◌, refl, sym, ap, ◌∙◌, subst}
+use Rattle.std.proofs.Common.{◌≡◌, ℕ, ◌<◌, [], ◌++◌, refl, sym, ap, ◌∙◌, subst}
 use Rattle.std.proofs.lemmas.List.Elements.{All-nil}
 use Rattle.atomic_table.specs.Seated.{TableId}
 use Rattle.atomic_table.specs.Table.{Me}
 use Rattle.bb_memory_base.specs.PoolMachine.{PoolScene}
-use Rattle.bb_memory_base.specs.PoolHistory.{PoolEntry, PoolLog}
+use Rattle.bb_memory_base.specs.PoolHistory.{PoolEntry, PoolLog, entry_of}
 use Rattle.bb_memory_base.specs.PoolLogs.{IsAllowed}
-use Rattle.bb_memory.specs.Seats.{number_of, view_log}
-use Rattle.bb_memory.specs.SharedPool.{IsParty, IsSharedScene, PoolParty, SharedPool, return_entry, with_entries}
-use Rattle.bb_memory.specs.SharedPoolRule.{IsInTransitAt, IsPartySeat, IsSeatOfIdle, SeatView, alone, party_in, pool_in, scene_of}
-use Rattle.bb_memory.specs.SharedPoolSteps.{HasEnded, TellsReturn}
-use Rattle.bb_memory.proofs.SharedPoolTries.{idle_after_return}
+use Rattle.bb_memory_base.specs.declared.steps.pool.PoolStep.TheVariants.{Detach}
+use Rattle.bb_memory_base.specs.declared.steps.pool.PoolOutcome.TheVariants.{Detaches}
+use Rattle.bb_memory.specs.Seats.{alone, number_of, view_log}
+use Rattle.bb_memory.specs.SharedPool.{IsParty, IsSharedScene, PoolParty, SharedPool, detach_entry, return_entry, with_entries}
+use Rattle.bb_memory.specs.SharedPoolRule.{IsDetachedAt, IsPartySeat, IsSeatOfIdle, SeatView, party_in, pool_in}
+use Rattle.bb_memory.specs.SharedPoolSteps.{HasEnded, HasDetachedAt, TellsReturn}
+use Rattle.bb_memory.proofs.SharedPoolTries.{idle_after_one, idle_after_return}
 
 pub party_seat : (scene : PoolScene) (number : ℕ) (log : PoolLog) (me : Me ℕ SeatView) → IsSeatOfIdle scene number log me →
     number < scene.parties → IsSharedScene scene → IsPartySeat number me
@@ -33,9 +35,9 @@ no_step scene number me is = record {
 }
 
 -- a seat of a party of this pool
-module _ (pool : SharedPool) (table : TableId) (post : Bool) (me : Me ℕ SeatView) (number : ℕ) (is : IsPartySeat number me)
-    (own : (party_in table post number me.0).allocator ≡ pool) where
-  own_scene : (scene_of me.0) ≡ pool.scene
+module _ (pool : SharedPool) (table : TableId) (me : Me ℕ SeatView) (number : ℕ) (is : IsPartySeat number me)
+    (own : (party_in table number me.0).allocator ≡ pool) where
+  own_scene : me.0.scene ≡ pool.scene
   own_scene = ap (λ (p : SharedPool). p.scene) own
 
   same_number : number_of me.0 ≡ number
@@ -44,17 +46,16 @@ module _ (pool : SharedPool) (table : TableId) (post : Bool) (me : Me ℕ SeatVi
   pub idle_seat : IsSeatOfIdle pool.scene (number_of me.0) (view_log me.0) me
   idle_seat =
       subst (λ (s : PoolScene). IsSeatOfIdle s (number_of me.0) (view_log me.0) me) own_scene
-      (subst (λ (n : ℕ). IsSeatOfIdle (scene_of me.0) n (view_log me.0) me) (sym same_number) is.seat)
+      (subst (λ (n : ℕ). IsSeatOfIdle me.0.scene n (view_log me.0) me) (sym same_number) is.seat)
 
   -- its party, once these entries are added
   pub party_then : (new_table : TableId) (new : Me ℕ SeatView) (added : PoolLog) → new_table ≡ table →
       HasEnded pool.scene (number_of me.0) (view_log me.0) added new →
-      party_in new_table post number new.0 ≡ with_entries (party_in table post number me.0) added
+      party_in new_table number new.0 ≡ with_entries (party_in table number me.0) added
   party_then new_table new added kept ended = λ i. record {
     allocator = record {
       table = kept i;
-      scene = (ap (λ (m : Me ℕ SeatView). (scene_of m.0)) ended.seat.is ∙ sym own_scene) i;
-      has_post = post;
+      scene = (ap (λ (m : Me ℕ SeatView). m.0.scene) ended.seat.is ∙ sym own_scene) i;
     };
     number = number;
     log = ap (λ (m : Me ℕ SeatView). view_log m.0) ended.seat.is i;
@@ -68,6 +69,15 @@ module _ (pool : SharedPool) (table : TableId) (post : Bool) (me : Me ℕ SeatVi
       (subst (λ (s : PoolScene). number < s.parties) own_scene is.below)
       (subst IsSharedScene own_scene is.shared)
 
+  -- a hand-over has ended with its load
+  pub was_detached : (bucket : ℕ) (new : Me ℕ SeatView) →
+      HasDetachedAt pool.scene (number_of me.0) (view_log me.0) bucket new →
+      HasEnded pool.scene (number_of me.0) (view_log me.0) (detach_entry (number_of me.0) bucket) new
+  was_detached bucket new tells = record {
+    seat = tells;
+    idle = idle_after_one (view_log me.0) (entry_of (Detach (number_of me.0) bucket) (Detaches bucket)) is.seat.idle refl;
+  }
+
   -- a return has ended with its store
   pub returned : (bucket : ℕ) (new : Me ℕ SeatView) → TellsReturn pool.scene (number_of me.0) (view_log me.0) bucket new →
       HasEnded pool.scene (number_of me.0) (view_log me.0) (return_entry (number_of me.0) bucket) new
@@ -76,35 +86,34 @@ module _ (pool : SharedPool) (table : TableId) (post : Bool) (me : Me ℕ SeatVi
 
   -- its party, once a call has added entries that have its number
   pub party_with : (entries : ℕ → PoolLog) (new_table : TableId) (new : Me ℕ SeatView) (party : PoolParty) →
-      party_in table post number me.0 ≡ party → new_table ≡ table →
+      party_in table number me.0 ≡ party → new_table ≡ table →
       HasEnded pool.scene (number_of me.0) (view_log me.0) (entries (number_of me.0)) new →
-      party_in new_table post number new.0 ≡ with_entries party (entries party.number)
+      party_in new_table number new.0 ≡ with_entries party (entries party.number)
   party_with entries new_table new party view_is kept ended =
       let named : number_of me.0 ≡ party.number = same_number ∙ ap (λ (p : PoolParty). p.number) view_is in
       party_then new_table new (entries (number_of me.0)) kept ended ∙ λ i. with_entries (view_is i) (entries (named i))
 
   pub party_returned : (bucket : ℕ) (new_table : TableId) (new : Me ℕ SeatView) (party : PoolParty) →
-      party_in table post number me.0 ≡ party → new_table ≡ table →
+      party_in table number me.0 ≡ party → new_table ≡ table →
       TellsReturn pool.scene (number_of me.0) (view_log me.0) bucket new →
-      party_in new_table post number new.0 ≡ with_entries party (return_entry party.number bucket)
+      party_in new_table number new.0 ≡ with_entries party (return_entry party.number bucket)
   party_returned bucket new_table new party view_is kept tells =
       party_with (λ n. return_entry n bucket) new_table new party view_is kept (returned bucket new tells)
 
 -- what holds of every party
-pub is_party : (table : TableId) (post : Bool) (number : ℕ) (me : Me ℕ SeatView) → IsPartySeat number me →
-    IsParty (party_in table post number me.0)
-is_party table post number me is = record {
+pub is_party : (table : TableId) (number : ℕ) (me : Me ℕ SeatView) → IsPartySeat number me →
+    IsParty (party_in table number me.0)
+is_party table number me is = record {
   scene = is.shared;
   number = is.below;
   idle = is.seat.idle;
   interleaved = is.seat.seat.interleaved;
 }
 
--- the pool of what is in transit
-pub pool_of_transit : (pool : SharedPool) (table : TableId) (me : Me ℕ SeatView) (bucket : ℕ) →
-    IsInTransitAt pool table me bucket → pool_in table true me.0 ≡ pool
-pool_of_transit pool table me bucket is = λ i. record {
+-- the pool of what is detached
+pub pool_of_detached : (pool : SharedPool) (table : TableId) (me : Me ℕ SeatView) (bucket : ℕ) →
+    IsDetachedAt pool table me bucket → pool_in table me.0 ≡ pool
+pool_of_detached pool table me bucket is = λ i. record {
   table = is.at.table i;
-  scene = ap (λ (m : Me ℕ SeatView). scene_of m.0) is.at.seat i;
-  has_post = sym is.post i;
+  scene = ap (λ (m : Me ℕ SeatView). m.0.scene) is.at.seat i;
 }

@@ -8,7 +8,7 @@ use Rattle.bb_memory_base.specs.PoolLogs.{held_after, IsHeldAfter, pass_after, p
 use Rattle.bb_memory_base.specs.declared.steps.pool.PoolStep.TheVariants.{Try}
 use Rattle.bb_memory_base.specs.declared.steps.pool.PoolOutcome.TheVariants.{Takes, Loses, RefusedAtLoss}
 use Rattle.bb_memory_base.proofs.PoolHolders.{held_through}
-use Rattle.bb_memory.specs.SharedPool.{losses, taking_pass, refused_pass, return_entry}
+use Rattle.bb_memory.specs.SharedPool.{detach_entry, losses, taking_pass, refused_pass, return_entry, attach_entry}
 
 abbrev pass_through : Option ℕ → PoolLog → Option ℕ
 pass_through pass log = fold (λ pass entry. pass_after pass entry.outcome) pass log
@@ -157,3 +157,34 @@ held_after_return party bucket other log apart held =
     held-append other false log (return_entry party bucket)
     ∙ ap (λ (b : Bool). if b then false else held_through other false log) differ
     ∙ held
+
+-- HAND-OVERS AND TAKE-OVERS
+
+pub not_held_after_detach : (party bucket : ℕ) (log : PoolLog) → ¬ IsHeldAfter (log ++ detach_entry party bucket) bucket
+not_held_after_detach party bucket log held =
+    let same : (bucket == bucket) ≡ true = grind (arith, nat_tests) in
+    let gone : held_through bucket false (log ++ detach_entry party bucket) ≡ false =
+    held-append bucket false log (detach_entry party bucket)
+    ∙ ap (λ (b : Bool). if b then false else held_through bucket false log) same in
+    let no : false ≡ true = sym gone ∙ held in cc
+
+pub held_after_detach : (party bucket other : ℕ) (log : PoolLog) → other ≢ bucket → IsHeldAfter log other →
+    IsHeldAfter (log ++ detach_entry party bucket) other
+held_after_detach party bucket other log apart held =
+    let differ : (bucket == other) ≡ false = grind (arith, nat_tests) in
+    held-append other false log (detach_entry party bucket)
+    ∙ ap (λ (b : Bool). if b then false else held_through other false log) differ
+    ∙ held
+
+pub attached_is_held : (party bucket : ℕ) (log : PoolLog) → IsHeldAfter (log ++ attach_entry party bucket) bucket
+attached_is_held party bucket log =
+    let same : (bucket == bucket) ≡ true = grind (arith, nat_tests) in
+    held-append bucket false log (attach_entry party bucket)
+    ∙ ap (λ (b : Bool). if b then true else held_through bucket false log) same
+
+pub held_after_attach : (party bucket other : ℕ) (log : PoolLog) → IsHeldAfter log other →
+    IsHeldAfter (log ++ attach_entry party bucket) other
+held_after_attach party bucket other log held =
+    held-append other false log (attach_entry party bucket)
+    ∙ ap (λ (b : Bool). if bucket == other then true else b) held
+    ∙ either_true (bucket == other)

@@ -9,20 +9,23 @@ use Rattle.std.proofs.lemmas.List.Elements.{All-append, All-cons, All-contains, 
 use Rattle.bb_memory_base.specs.Chunk.{Chunk}
 use Rattle.bb_memory_base.specs.LiveList.{IsSound}
 use Rattle.bb_memory_base.specs.PoolObject.{IsHeld}
-use Rattle.bb_memory_base.specs.PoolMachine.{PoolScene, left_by, opening_state, pool_step}
+use Rattle.bb_memory_base.specs.PoolMachine.{IsDetached, PoolScene, left_by, opening_state, pool_step}
 use Rattle.bb_memory_base.specs.PoolCalls.{AreAsked, IsPoolRun}
 use Rattle.bb_memory_base.specs.PoolHistory.{PoolEntry, PoolLog, entry_of, history_of, is_by, log_of, pool_history}
-use Rattle.bb_memory_base.specs.PoolLogs.{AllAllowed, HasLog, loss_at}
+use Rattle.bb_memory_base.specs.PoolLogs.{AllAllowed, HasLog, IsHeldAfter, loss_at}
 use Rattle.bb_memory_base.specs.declared.layout.Layout.{Layout}
 use Rattle.bb_memory_base.specs.declared.steps.pool.PoolStep.{PoolStep}
-use Rattle.bb_memory_base.specs.declared.steps.pool.PoolStep.TheVariants.{Try, GiveBack, TryAt}
+use Rattle.bb_memory_base.specs.declared.steps.pool.PoolStep.TheVariants.{Try, GiveBack, TryAt, Detach, Attach}
 use Rattle.bb_memory_base.specs.declared.steps.pool.PoolOutcome.{PoolOutcome}
-use Rattle.bb_memory_base.specs.declared.steps.pool.PoolOutcome.TheVariants.{Loses, RefusedAtLoss}
+use Rattle.bb_memory_base.specs.declared.steps.pool.PoolOutcome.TheVariants.{Loses, RefusedAtLoss, Detaches}
 use Rattle.bb_memory_base.proofs.PoolLogFacts.{first_takes, nobody_else}
 use Rattle.bb_memory_base.proofs.PoolRuns.{pool_run, run_is_sound, taken_is_held}
 use Rattle.bb_memory_base.proofs.PoolFlags.{taken_from_flag, flag_from_taken}
+use Rattle.bb_memory_base.proofs.PoolHolders.{detached_unheld}
 use Rattle.bb_memory_base.proofs.PoolSteps.{test_same}
-use Rattle.bb_memory.specs.SharedPool.{HasTaker, HaveMet, IsHeldByOne, IsSharedScene, IsTaking, PoolParty, TookOne, losses, refused_pass}
+use Rattle.bb_memory_base.proofs.PoolDetached.{was_detached_before}
+use Rattle.bb_memory.specs.SharedPool.{HasTaker, HaveMet, WasDetachedByOne, IsHeldByOne, IsHeldOrDetached, IsSharedScene}
+use Rattle.bb_memory.specs.SharedPool.{IsTaking, PoolParty, TookOne, losses, refused_pass}
 use Rattle.bb_memory.proofs.Contained.{any_contained, contains-filter, contains-first, contains-none, one_of_figure}
 
 module _ (scene : PoolScene) (parties : List PoolParty) (met : HaveMet scene parties) where
@@ -49,16 +52,16 @@ module _ (scene : PoolScene) (parties : List PoolParty) (met : HaveMet scene par
       let state = left_by scene steps in (
         λ (flag : slice_get met.0 bucket ≡ Some true).
             same.0 (taken_from_flag state met.0 bucket met.1.agree.leaves flag),
-        λ held. let taken = same.1 held in flag_from_taken state met.0 bucket taken.0 met.1.agree.leaves taken.1,
+        λ held. flag_from_taken state met.0 bucket met.1.agree.leaves (same.1 held),
       )
 
   pub met_held : (layouts : List Layout) (live : List Chunk) (bucket : ℕ) → IsSharedScene scene →
       length parties ≡ scene.parties → IsPoolRun scene steps layouts live → bucket < scene.geometry.buckets →
-      IsHeld scene.geometry live bucket ↔ IsHeldByOne parties bucket
+      IsHeld scene.geometry live bucket ↔ IsHeldOrDetached scene steps parties bucket
   met_held layouts live bucket shared all run below =
       let flags = met_flags layouts live bucket shared run below in
       let whole = (met.1.whole all).1 bucket in
-      (λ held. whole.0 (flags.1 held), λ one. flags.0 (whole.1 one))
+      (λ held. whole.0 (flags.1 held), λ out. flags.0 (whole.1 out))
 
   pub met_logged : All (λ party. log_of scene steps party.number ≡ party.log) parties
   met_logged k d below =
@@ -89,12 +92,40 @@ module _ (scene : PoolScene) (parties : List PoolParty) (met : HaveMet scene par
       numbered (entry_of (GiveBack party bucket) outcome) party all there (test_same party party refl)
   owned (TryAt party bucket) outcome all there =
       numbered (entry_of (TryAt party bucket) outcome) party all there (test_same party party refl)
+  owned (Detach party bucket) outcome all there =
+      numbered (entry_of (Detach party bucket) outcome) party all there (test_same party party refl)
+  owned (Attach party bucket) outcome all there =
+      numbered (entry_of (Attach party bucket) outcome) party all there (test_same party party refl)
 
   -- each step is in the log of one that met
   pub met_nobody_else : length parties ≡ scene.parties → All (λ entry. Any (λ party. Contains party.log entry) parties) history
   met_nobody_else all =
       All-weaker (Contains history) (λ entry. Any (λ party. Contains party.log entry) parties)
       (λ entry there. owned entry.step entry.outcome all there) history (All-contains_itself history)
+
+  -- DETACHED BUCKETS
+
+  -- none of them holds it
+  pub met_detached : (bucket : ℕ) → IsDetached (left_by scene steps) bucket → ¬ IsHeldByOne parties bucket
+  met_detached bucket detached one =
+      let logged = All-contains (λ (party : PoolParty). log_of scene steps party.number ≡ party.log) parties one.1
+      met_logged (one.0, one.2, one.3) in
+      detached_unheld scene steps one.1.number bucket detached
+      (subst (λ (l : PoolLog). IsHeldAfter l bucket) (sym logged) one.4)
+
+  -- and where all have met, one of them has detached it
+  pub met_was_detached : (bucket : ℕ) → length parties ≡ scene.parties → IsDetached (left_by scene steps) bucket →
+      WasDetachedByOne parties bucket
+  met_was_detached bucket all detached =
+      let step = was_detached_before scene steps bucket detached in
+      let one = owned step.1.step step.1.outcome all (step.0, step.2, step.3) in (
+        one.0,
+        one.1,
+        one.2,
+        one.3,
+        any_contained (λ (entry : PoolEntry). entry.outcome ≡ Detaches bucket) one.1.log step.1
+            one.4 step.4,
+      )
 
 -- WHO TOOK A BUCKET
 

@@ -15,17 +15,17 @@ abbrev pub numbered : {E : Type 0} → ℕ → List E → Numbered E
 numbered number log = record { number = number; log = log }
 
 -- what a seat knows: the scene of what is shared, the parties that it stands for, which is one, but while parties are made or
--- meet, and the numbers of what is in transit at it, from one party to another
+-- meet, and the numbers of what is detached at it, from one party to another
 pub record Seat (S E : Type 0) : Type 0 where
   pub scene : S
   pub parties : List (Numbered E)
-  pub in_transit : List ℕ
+  pub detached : List ℕ
 
 abbrev pub seat_of : {S E : Type 0} → S → List (Numbered E) → List ℕ → Seat S E
-seat_of scene parties in_transit =
-    record { scene = scene; parties = parties; in_transit = in_transit }
+seat_of scene parties detached =
+    record { scene = scene; parties = parties; detached = detached }
 
--- the view of these parties, with nothing in transit
+-- the view of these parties, with nothing detached
 abbrev pub standing_for : {S E : Type 0} → S → List (Numbered E) → Seat S E
 standing_for scene parties = seat_of scene parties []
 
@@ -33,11 +33,11 @@ standing_for scene parties = seat_of scene parties []
 abbrev pub alone : {S E : Type 0} → S → ℕ → List E → Seat S E
 alone scene number log = standing_for scene (numbered number log ∷ [])
 
--- the view of what is in transit, at the seat of no party
+-- the view of what is detached, at the seat of no party
 abbrev pub carrying : {S E : Type 0} → S → ℕ → Seat S E
 carrying scene item = seat_of scene [] (item ∷ [])
 
--- the view of one party, at whose seat this is in transit
+-- the view of one party, at whose seat this is detached
 abbrev pub alone_with : {S E : Type 0} → S → ℕ → List E → ℕ → Seat S E
 alone_with scene number log item = seat_of scene (numbered number log ∷ []) (item ∷ [])
 
@@ -88,14 +88,14 @@ pub record AreSeated {S E : Type 0} (made : ℕ) (logs : List (List E)) (views :
 
 -- WHAT IS IN TRANSIT
 
--- how often something stands in a list, and is in transit in all views
+-- how often something stands in a list, and is detached in all views
 abbrev pub times_of : ℕ → List ℕ → ℕ
 times_of item [] = 0
 times_of item (other ∷ others) = one_if (other == item) + times_of item others
 
-abbrev pub times_in_transit : {S E : Type 0} → ℕ → List (Seat S E) → ℕ
-times_in_transit item [] = 0
-times_in_transit item (view ∷ views) = times_of item view.in_transit + times_in_transit item views
+abbrev pub times_detached : {S E : Type 0} → ℕ → List (Seat S E) → ℕ
+times_detached item [] = 0
+times_detached item (view ∷ views) = times_of item view.detached + times_detached item views
 
 -- SPLITS AND JOINS
 
@@ -122,17 +122,17 @@ others_of view = standing_for view.scene (tail_of view.parties)
 abbrev pub both_of : {S E : Type 0} → Seat S E → Seat S E → Seat S E
 both_of view other = standing_for view.scene (other.parties ++ view.parties)
 
--- a view of the first that is in transit, of the parties with the others, and of the parties and what is in transit of two
+-- a view of the first that is detached, of the parties with the others, and of the parties and what is detached of two
 -- views, the other's first
-abbrev pub first_in_transit : {S E : Type 0} → Seat S E → Seat S E
-first_in_transit view = seat_of view.scene [] (head_of view.in_transit)
+abbrev pub first_detached : {S E : Type 0} → Seat S E → Seat S E
+first_detached view = seat_of view.scene [] (head_of view.detached)
 
-abbrev pub others_in_transit : {S E : Type 0} → Seat S E → Seat S E
-others_in_transit view = seat_of view.scene view.parties (tail_of view.in_transit)
+abbrev pub others_detached : {S E : Type 0} → Seat S E → Seat S E
+others_detached view = seat_of view.scene view.parties (tail_of view.detached)
 
-abbrev pub both_in_transit : {S E : Type 0} → Seat S E → Seat S E → Seat S E
-both_in_transit view other =
-    seat_of view.scene (other.parties ++ view.parties) (other.in_transit ++ view.in_transit)
+abbrev pub both_detached : {S E : Type 0} → Seat S E → Seat S E → Seat S E
+both_detached view other =
+    seat_of view.scene (other.parties ++ view.parties) (other.detached ++ view.detached)
 
 -- SEATS AT A TABLE
 

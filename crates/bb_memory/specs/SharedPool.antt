@@ -1,29 +1,28 @@
 -- A shared pool, its parties and the buckets that they took, as their contracts see them, and what each call adds to its
 -- party's log.
 use Rattle.std.specs.Prelude.{◌≡◌, ℕ, zero, suc, ◌<◌, ◌≤◌, List, [], ◌∷◌, ◌++◌, None, Result, Ok, Err, ◌+◌, take}
-use Rattle.std.specs.Prelude.{◌↔◌, ◌%◌, All, Any, Bool, true, false, Contains, IfOk, IsErr, OnErr, Some, length, map, slice_get}
+use Rattle.std.specs.Prelude.{◌↔◌, ◌⊎◌, ◌%◌, All, Any, Bool, true, Contains, IfOk, IsErr, OnErr, Some, length, map, slice_get}
 use Rattle.atomic_table.specs.Seated.{TableId}
 use Rattle.bb_memory_base.specs.Chunk.{Chunk, IsInside}
 use Rattle.bb_memory_base.specs.PoolGeometry.{PoolGeometry, IsPoolGeometry, bucket_place}
 use Rattle.bb_memory_base.specs.PoolObject.{IsWithin}
-use Rattle.bb_memory_base.specs.PoolMachine.{PoolScene}
+use Rattle.bb_memory_base.specs.PoolMachine.{IsDetached, PoolScene, left_by}
 use Rattle.bb_memory_base.specs.PoolHistory.{PoolLog, entries_by, entry_of, history_of}
 use Rattle.bb_memory_base.specs.PoolCalls.{FoundHeld, IsPoolRun, IsRefusedAt}
-use Rattle.bb_memory_base.specs.PoolLogs.{CommonInterleaving, HasLog, Interleaving, IsHeldAfter, LogsAgree, loss_at, pass_in}
+use Rattle.bb_memory_base.specs.PoolLogs.{CommonInterleaving, WasDetached, HasLog, Interleaving, IsHeldAfter, LogsAgree, loss_at, pass_in}
 use Rattle.bb_memory_base.specs.declared.layout.Layout.{Layout}
 use Rattle.bb_memory_base.specs.declared.allocator.AllocationError.{AllocationError}
 use Rattle.bb_memory_base.specs.declared.allocator.AllocationError.TheVariants.{SizeIsZero, SizeTooLarge}
 use Rattle.bb_memory_base.specs.declared.allocator.AllocationError.TheVariants.{AlignmentFailure, OutOfMemory}
-use Rattle.bb_memory_base.specs.declared.steps.pool.PoolStep.TheVariants.{Try, GiveBack}
+use Rattle.bb_memory_base.specs.declared.steps.pool.PoolStep.{PoolStep}
+use Rattle.bb_memory_base.specs.declared.steps.pool.PoolStep.TheVariants.{Try, GiveBack, Detach, Attach}
 use Rattle.bb_memory_base.specs.declared.steps.pool.PoolOutcome.{PoolOutcome}
-use Rattle.bb_memory_base.specs.declared.steps.pool.PoolOutcome.TheVariants.{Takes, Gives}
+use Rattle.bb_memory_base.specs.declared.steps.pool.PoolOutcome.TheVariants.{Takes, Gives, Detaches, Attaches}
 
--- A shared pool: which one it is, where its machine began, that is its buckets and how many parties it has, and whether the
--- last of these is a post: a party that is handed out to nobody, and that holds each bucket in transit.
+-- A shared pool: which one it is, and where its machine began, that is its buckets and how many parties it has.
 pub record SharedPool : Type 0 where
   pub table : TableId
   pub scene : PoolScene
-  pub has_post : Bool
 
 abbrev pub scene_at : PoolGeometry → ℕ → PoolScene
 scene_at geometry parties = record { geometry = geometry; parties = parties }
@@ -43,26 +42,12 @@ pub record PoolParty : Type 0 where
 abbrev pub fresh_party : SharedPool → ℕ → PoolParty
 fresh_party allocator number = record { allocator = allocator; number = number; log = [] }
 
--- how many parties a pool has, with its post or without one, of which so many are handed out
-abbrev pub count_with_post : Bool → ℕ → ℕ
-count_with_post false count = count
-count_with_post true count = count + 1
-
--- these are all parties of a pool that are handed out, so many, numbered from 0, and none has made a step
-pub record AreHandedOut (has_post : Bool) (allocator : SharedPool) (count : ℕ) (parties : List PoolParty)
-    : Type 0 where
-  pub so_many : allocator.scene.parties ≡ count_with_post has_post count
-  pub post : allocator.has_post ≡ has_post
+-- these are all parties of a pool, so many, numbered from 0, and none has made a step
+pub record AreFresh (allocator : SharedPool) (count : ℕ) (parties : List PoolParty) : Type 0 where
+  pub so_many : allocator.scene.parties ≡ count
   pub as_many : length parties ≡ count
   pub fresh : (number : ℕ) → number < count → slice_get parties number ≡ Some (fresh_party allocator number)
   pub theirs : All (λ party. party.allocator ≡ allocator) parties
-
--- these are all parties of a pool without a post, and all but the post of a pool with one
-abbrev pub AreFresh : SharedPool → ℕ → List PoolParty → Type 0
-AreFresh allocator count parties = AreHandedOut false allocator count parties
-
-abbrev pub AreFreshWithPost : SharedPool → ℕ → List PoolParty → Type 0
-AreFreshWithPost allocator count parties = AreHandedOut true allocator count parties
 
 -- the party with these more entries in its log
 abbrev pub with_entries : PoolParty → PoolLog → PoolParty
@@ -113,6 +98,13 @@ refused_pass buckets party = losses buckets party buckets
 -- one return, of this bucket
 abbrev pub return_entry : ℕ → ℕ → PoolLog
 return_entry party bucket = entry_of (GiveBack party bucket) (Gives bucket) ∷ []
+
+-- one hand-over, and one take-over
+abbrev pub detach_entry : ℕ → ℕ → PoolLog
+detach_entry party bucket = entry_of (Detach party bucket) (Detaches bucket) ∷ []
+
+abbrev pub attach_entry : ℕ → ℕ → PoolLog
+attach_entry party bucket = entry_of (Attach party bucket) (Attaches bucket) ∷ []
 
 -- WHAT A REQUEST MAY BE ANSWERED
 
@@ -229,6 +221,15 @@ HaveAllNumbers count parties =
 abbrev pub IsHeldByOne : List PoolParty → ℕ → Type 0
 IsHeldByOne parties bucket = Any (λ party. IsHeldAfter party.log bucket) parties
 
+-- one of these parties has handed the bucket over
+abbrev pub WasDetachedByOne : List PoolParty → ℕ → Type 0
+WasDetachedByOne parties bucket = Any (λ party. WasDetached party.log bucket) parties
+
+-- one of these parties holds the bucket, or it is detached after these steps
+abbrev pub IsHeldOrDetached : PoolScene → List PoolStep → List PoolParty → ℕ → Type 0
+IsHeldOrDetached scene steps parties bucket =
+    IsHeldByOne parties bucket ⊎ IsDetached (left_by scene steps) bucket
+
 -- the step took a bucket
 abbrev pub IsTaking : PoolOutcome → Type 0
 IsTaking (Takes bucket) = Unit {0}
@@ -246,7 +247,8 @@ pub record HasTaker (scene : PoolScene) (parties : List PoolParty) : Type 0 wher
   pub took : TookOne taker.log
 
 -- There is a log for each of the pool's parties, with which these flags agree, and these parties' logs are among them. Where
--- these are all parties, each log is one of theirs, and a flag is taken exactly where one of them holds the bucket.
+-- these are all parties, each log is one of theirs, and a flag is taken exactly where one of them holds the bucket, or it is in
+-- transit.
 pub record AgreeWith (scene : PoolScene) (flags : List Bool) (parties : List PoolParty)
     : Type 0 where
   pub logs : List PoolLog
@@ -255,7 +257,7 @@ pub record AgreeWith (scene : PoolScene) (flags : List Bool) (parties : List Poo
   pub theirs : All (λ party. HasLog logs party.number party.log) parties
   pub whole : length parties ≡ scene.parties →
       HaveAllNumbers scene.parties parties
-      × ((bucket : ℕ) → (slice_get flags bucket ≡ Some true) ↔ IsHeldByOne parties bucket)
+      × ((bucket : ℕ) → (slice_get flags bucket ≡ Some true) ↔ IsHeldOrDetached scene agree.steps parties bucket)
 
 -- these parties have met: their logs, and the flags as they were then, agree
 abbrev pub HaveMet : PoolScene → List PoolParty → Type 0

@@ -5,16 +5,14 @@ use Rattle.atomic_table.specs.Seated.{TableId}
 use Rattle.atomic_table.specs.Table.{Me, Step}
 use Rattle.bb_memory_base.specs.PoolMachine.{PoolScene}
 use Rattle.bb_memory_base.specs.PoolHistory.{PoolLog, entry_of}
-use Rattle.bb_memory_base.specs.PoolLogs.{CommonInterleaving, Interleaving, IsBeginning, IsHeldAfter, LogsAgree, loss_at}
-use Rattle.bb_memory_base.specs.declared.steps.pool.PoolStep.{PoolStep}
+use Rattle.bb_memory_base.specs.PoolLogs.{CommonInterleaving, Interleaving, IsHeldAfter, LogsAgree, loss_at}
 use Rattle.bb_memory_base.specs.declared.steps.pool.PoolStep.TheVariants.{Try}
 use Rattle.bb_memory_base.specs.declared.steps.pool.PoolOutcome.TheVariants.{Takes}
 use Rattle.bb_memory.specs.FlagWords.{bucket_of}
-use Rattle.bb_memory.specs.Seats.{HaveLogs, number_of, times_in, view_log}
-use Rattle.bb_memory.specs.SharedPool.{AreAllHeldAfter, refused_pass, return_entry, taking_pass}
+use Rattle.bb_memory.specs.Seats.{HaveLogs, alone_with, number_of, times_in, view_log}
+use Rattle.bb_memory.specs.SharedPool.{AreAllHeldAfter, detach_entry, refused_pass, return_entry, attach_entry, taking_pass}
 use Rattle.bb_memory.specs.SharedPoolRounds.{at_turn, miss_at, refused_round, taking_at, taking_round}
-use Rattle.bb_memory.specs.SharedPoolRule.{IsSeatOf, IsSeatOfIdle, NumberedLog, SeatView, alone_with, met_by, remembering}
-use Rattle.bb_memory.specs.SharedPoolRule.{scene_of}
+use Rattle.bb_memory.specs.SharedPoolRule.{IsSeatOf, IsSeatOfIdle, NumberedLog, SeatView}
 
 -- WHAT A STEP TELLS
 
@@ -64,22 +62,23 @@ abbrev pub TellsReturn : PoolScene → ℕ → PoolLog → ℕ → Me ℕ SeatVi
 TellsReturn scene number log bucket new =
     IsSeatOf scene number (log ++ return_entry number bucket) new
 
--- A party handed this bucket over: its log then has a return of it, and the bucket is in transit at its seat.
-pub record TellsHandOver (scene : PoolScene) (number : ℕ) (log : PoolLog) (bucket : ℕ)
+-- A party handed this bucket over: its log then has the step, and the bucket is detached at its seat.
+pub record TellsDetach (scene : PoolScene) (number : ℕ) (log : PoolLog) (bucket : ℕ)
     (new : Me ℕ SeatView) : Type 0 where
-  pub is : let longer : PoolLog = log ++ return_entry number bucket in
+  pub is : let longer : PoolLog = log ++ detach_entry number bucket in
       new ≡ (alone_with scene number longer bucket, [])
-  pub interleaved : Interleaving scene number (log ++ return_entry number bucket)
+  pub interleaved : Interleaving scene number (log ++ detach_entry number bucket)
 
--- the first bucket that is in transit isn't held after this log
-abbrev pub FirstIsApart : PoolLog → List ℕ → Type 0
-FirstIsApart log [] = Unit {0}
-FirstIsApart log (bucket ∷ buckets) = ¬ IsHeldAfter log bucket
+-- so it is where the bucket has gone to a seat of its own
+abbrev pub HasDetachedAt : PoolScene → ℕ → PoolLog → ℕ → Me ℕ SeatView → Type 0
+HasDetachedAt scene number log bucket new =
+    IsSeatOf scene number (log ++ detach_entry number bucket) new
 
--- the first two that are in transit are two
-abbrev pub FirstTwoDiffer : List ℕ → Type 0
-FirstTwoDiffer (one ∷ other ∷ buckets) = one ≢ other
-FirstTwoDiffer _ = Unit {0}
+-- An idle party took over this bucket, which wasn't held after its log. The log then has the step.
+pub record HasAttachedAt (scene : PoolScene) (number : ℕ) (log : PoolLog) (bucket : ℕ)
+    (new : Me ℕ SeatView) : Type 0 where
+  pub ended : HasEnded scene number log (attach_entry number bucket) new
+  pub not_held : ¬ IsHeldAfter log bucket
 
 -- A load by a seat that stands for these parties: there are flags, and a log for each of the pool's parties, which agree, and
 -- theirs are among them; no two are one.
@@ -90,12 +89,6 @@ pub record TellsMeeting (scene : PoolScene) (parties : List NumberedLog) : Type 
   pub one_a_party : length logs ≡ scene.parties
   pub theirs : HaveLogs scene.parties logs parties
   pub once : (number : ℕ) → number < scene.parties → times_in number parties ≤ 1
-
--- The same where the steps before were remembered: they come first in those that the logs agree by, which are remembered now.
-pub record TellsMeetingAgain (scene : PoolScene) (parties : List NumberedLog) (before after : List PoolStep) : Type 0 where
-  pub told : TellsMeeting scene parties
-  pub found : told.agree.steps ≡ after
-  pub goes_on : IsBeginning before after
 
 -- what a meeting of two found: they are different ones, no bucket is held after both logs, and one interleaving has both
 pub record TellsTwo (scene : PoolScene) (number : ℕ) (log : PoolLog) (other : ℕ)
@@ -110,42 +103,29 @@ pub record TellsTwo (scene : PoolScene) (number : ℕ) (log : PoolLog) (other : 
 
 abbrev pub tries : Step ℕ → Me ℕ SeatView → ℕ → Me ℕ SeatView → Type 0
 tries step old found new =
-    TellsTry (scene_of old.0) (number_of old.0) (view_log old.0) (bucket_of step.word) found new
+    TellsTry old.0.scene (number_of old.0) (view_log old.0) (bucket_of step.word) found new
 
 abbrev pub tries_at : Step ℕ → Me ℕ SeatView → ℕ → Me ℕ SeatView → Type 0
 tries_at step old found new =
-    TellsTryAt (scene_of old.0) (number_of old.0) (view_log old.0) (bucket_of step.word) found new
+    TellsTryAt old.0.scene (number_of old.0) (view_log old.0) (bucket_of step.word) found new
 
 abbrev pub returns : Step ℕ → Me ℕ SeatView → ℕ → Me ℕ SeatView → Type 0
 returns step old found new =
-    TellsReturn (scene_of old.0) (number_of old.0) (view_log old.0) (bucket_of step.word) new
+    TellsReturn old.0.scene (number_of old.0) (view_log old.0) (bucket_of step.word) new
 
 -- a load that changes nothing, by a seat that stands for any number of parties
 abbrev pub meets : Step ℕ → Me ℕ SeatView → ℕ → Me ℕ SeatView → Type 0
-meets step old found new = (new ≡ old) × TellsMeeting (scene_of old.0) old.0.parties
-
--- the same by a seat that remembers the steps
-abbrev pub meets_again : Step ℕ → Me ℕ SeatView → ℕ → Me ℕ SeatView → Type 0
-meets_again step old found new =
-    (new ≡ (remembering (scene_of old.0) (met_by new.0) old.0.parties, old.1))
-    × TellsMeetingAgain (scene_of old.0) old.0.parties (met_by old.0) (met_by new.0)
+meets step old found new = (new ≡ old) × TellsMeeting old.0.scene old.0.parties
 
 -- a load of its word by the party that hands a bucket over
-abbrev pub hands_over : Step ℕ → Me ℕ SeatView → ℕ → Me ℕ SeatView → Type 0
-hands_over step old found new =
-    TellsHandOver (scene_of old.0) (number_of old.0) (view_log old.0) (bucket_of step.word) new
+abbrev pub detaches : Step ℕ → Me ℕ SeatView → ℕ → Me ℕ SeatView → Type 0
+detaches step old found new =
+    TellsDetach old.0.scene (number_of old.0) (view_log old.0) (bucket_of step.word) new
 
--- a load of its word by an idle party at whose seat the bucket is in transit, and which takes it
-abbrev pub takes_over : Step ℕ → Me ℕ SeatView → ℕ → Me ℕ SeatView → Type 0
-takes_over step old found new =
-    HasTakenAt (scene_of old.0) (number_of old.0) (view_log old.0) (bucket_of step.word) new
-
--- loads that change nothing, by a party at whose seat a bucket is in transit, and by a seat at which two are
-abbrev pub meets_transit : Step ℕ → Me ℕ SeatView → ℕ → Me ℕ SeatView → Type 0
-meets_transit step old found new = (new ≡ old) × FirstIsApart (view_log old.0) old.0.in_transit
-
-abbrev pub tells_apart : Step ℕ → Me ℕ SeatView → ℕ → Me ℕ SeatView → Type 0
-tells_apart step old found new = (new ≡ old) × FirstTwoDiffer old.0.in_transit
+-- a load of its word by an idle party at whose seat the bucket is detached, and which takes it over
+abbrev pub attaches : Step ℕ → Me ℕ SeatView → ℕ → Me ℕ SeatView → Type 0
+attaches step old found new =
+    HasAttachedAt old.0.scene (number_of old.0) (view_log old.0) (bucket_of step.word) new
 
 -- A load by a seat, where these parties have met. The seat stays as it is.
 pub record HasFound (scene : PoolScene) (parties : List NumberedLog) (was : TableId) (old : Me ℕ SeatView)
@@ -153,13 +133,6 @@ pub record HasFound (scene : PoolScene) (parties : List NumberedLog) (was : Tabl
   pub table : is ≡ was
   pub seat : new ≡ old
   pub told : TellsMeeting scene parties
-
--- The same by a seat that remembers the steps: it remembers those that were found now.
-pub record HasFoundAgain (scene : PoolScene) (parties : List NumberedLog) (was : TableId) (old : Me ℕ SeatView)
-    (is : TableId) (new : Me ℕ SeatView) : Type 0 where
-  pub table : is ≡ was
-  pub seat : new ≡ (remembering scene (met_by new.0) old.0.parties, [])
-  pub told : TellsMeetingAgain scene parties (met_by old.0) (met_by new.0)
 
 -- PASSES
 

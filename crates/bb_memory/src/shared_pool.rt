@@ -14,25 +14,22 @@ ghost use Rattle.bb_memory_base.specs.declared.layout.Layout.{Layout};
 ghost use Rattle.bb_memory_base.specs.declared.allocator.AllocationError.{AllocationError};
 ghost use Rattle.bb_memory.specs.HeldBuckets.{IsCutAtMost};
 ghost use Rattle.bb_memory.specs.Pool.{AreAStrideApart, MayBeCut};
-ghost use Rattle.bb_memory.specs.SharedPool.{AreFresh, AreFreshWithPost, AreInterleaved, HasFoundAllHeld, IsHistoryRun};
+ghost use Rattle.bb_memory.specs.SharedPool.{AreFresh, AreInterleaved, HasFoundAllHeld, IsHistoryRun};
 ghost use Rattle.bb_memory.specs.SharedPool.{IsParty, MayTake, PoolParty, TakenBucket, chunk_of};
-ghost use Rattle.bb_memory.specs.SharedPool.{refused_pass, return_entry, with_entries};
+ghost use Rattle.bb_memory.specs.SharedPool.{detach_entry, refused_pass, return_entry, attach_entry, with_entries};
 ghost use Rattle.bb_memory.specs.SharedPoolRounds.{HasMissedAll, refused_round};
-ghost use Rattle.bb_memory.specs.SharedPoolTransit.{IsCutOrRefused, MayHavePost};
 
 mod all_parties;
-mod among;
 mod bucket;
 mod buckets;
 pub mod by_number;
+mod detached;
 mod fixed_size;
 mod flags;
-mod history;
 mod meeting;
 mod party;
 mod rounds;
 mod rule;
-mod transit;
 
 pub use crate::allocator::{AllocationError, AllocationGrowError, AllocationShrinkError};
 use crate::layout::Layout;
@@ -40,11 +37,10 @@ use crate::pool_allocator::geometry::Geometry;
 pub use all_parties::shared_pool_meeting_law;
 pub use bucket::Bucket;
 use buckets::SharedBucketPool;
+pub use detached::DetachedBucket;
 pub use fixed_size::SharedFixedSizePoolAllocator;
-pub use history::{PoolHistory, shared_pool_history_law};
 pub use party::PoolParty;
 use std::alloc::Global;
-pub use transit::BucketInTransit;
 
 /// Gives buckets of one layout to any number of threads. The pool is made for some number of parties, and each thread that
 /// takes or gives back buckets has one of them. No call waits for another, and none takes memory once the pool is made.
@@ -91,7 +87,7 @@ impl SharedPoolAllocator {
         ensures refused { IfErr result (λ error. error ≡ AllocationError.OutOfMemory) }
     {
         let whole = Geometry::new(bucket_layout, start, size);
-        Self::make(alloc, whole, parties, false)
+        Self::make(alloc, whole, parties)
     }
 
     /// A pool as `new` makes it, of at most `most` buckets: of a region that has room for more it uses the first ones alone. A
@@ -113,34 +109,7 @@ impl SharedPoolAllocator {
         ensures refused { IfErr result (λ error. error ≡ AllocationError.OutOfMemory) }
     {
         let geometry = Geometry::cut_at_most(bucket_layout, start, size, most);
-        Self::make(alloc, geometry, parties, false)
-    }
-
-    /// A pool as `new` makes it, and with a post: one more party of the pool, which is handed out to nobody, and holds each
-    /// bucket that a party handed over and none has taken over yet. Its conditions and its refusal are those of `new`; and the
-    /// parties have to be fewer than `u32::MAX`, since the post is one more. As a meeting of all parties that are handed out is
-    /// without the post, it leaves open which buckets are in transit.
-    ///
-    /// ```
-    /// pool_count_law();
-    /// let bucket = Layout::from_size_align(128, 8).unwrap();
-    /// let (pool, parties) = SharedPoolAllocator::with_post(alloc, bucket, 4096, 1024, 2)?;
-    /// let (count, has_post) = (parties.len(), pool.has_post());
-    /// prove!(count == 2 && has_post);
-    /// ```
-    pub fn with_post(
-        alloc: Global,
-        bucket_layout: Layout,
-        start: usize,
-        size: usize,
-        parties: u32,
-    ) -> Result<(Self, Vec<PoolParty>), AllocationError>
-        requires may { MayHavePost (region_at start size) bucket_layout parties }
-        ensures cut { IsCutOrRefused (IsCut (region_at start size) bucket_layout) result }
-        ensures parties { IfOk result (λ made. AreFreshWithPost made.0 parties made.1.items) }
-    {
-        let geometry = Geometry::new(bucket_layout, start, size);
-        Self::make(alloc, geometry, parties, true)
+        Self::make(alloc, geometry, parties)
     }
 
     /// Where the first bucket is: the region's start, rounded up to the bucket's alignment.
@@ -152,8 +121,9 @@ impl SharedPoolAllocator {
     }
 }
 
-/// What a party holds after a call: what it held before, and the bucket that it was given. A bucket that it gave back it holds no
-/// more, so that a party which held none before holds none after. It does nothing: its contract is the law.
+/// What a party holds after a call: what it held before, and the bucket that it was given or took over. A bucket that it gave back
+/// or handed over it holds no more, so that a party which held none before holds none after. It does nothing: its contract is
+/// the law.
 ///
 /// ```
 /// shared_pool_held_law();
@@ -172,6 +142,12 @@ pub fn shared_pool_held_law()
     ensures given_back { (old new : PoolParty) (bucket other : ℕ)
         → new ≡ with_entries old (return_entry old.number bucket)
         → IsHeldAfter new.log other → other ≢ bucket }
+    ensures was_detached { (old new : PoolParty) (bucket other : ℕ)
+        → new ≡ with_entries old (detach_entry old.number bucket)
+        → IsHeldAfter new.log other → IsHeldAfter old.log other }
+    ensures attached { (old new : PoolParty) (bucket other : ℕ)
+        → new ≡ with_entries old (attach_entry old.number bucket) → other ≢ bucket
+        → IsHeldAfter new.log other → IsHeldAfter old.log other }
 {}
 
 /// What a user of a shared pool has of each party, and of two that met, whatever the threads did. It does nothing: its

@@ -28,6 +28,7 @@ pub mod PoolLogSteps
 pub mod PoolPasses
 pub mod PoolRuns
 pub mod PoolSteps
+pub mod PoolDetached
 pub mod Positions
 pub mod PowersOfTwo
 pub mod Runs

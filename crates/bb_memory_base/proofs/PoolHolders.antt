@@ -4,18 +4,21 @@ use Rattle.std.proofs.Common.{ap, ◌∙◌, Bool, true, false, Option, Some, No
 use Rattle.std.specs.Prelude.{slice_get, ◌==◌, if◌then◌else◌, fold}
 use Rattle.std.proofs.lemmas.Bool.{cases_eq}
 use Rattle.std.proofs.lemmas.Option.{same_Some}
-use Rattle.bb_memory_base.specs.PoolMachine.{PoolScene, PoolState, PoolMove, IsHolder}
+use Rattle.bb_memory_base.specs.PoolMachine.{PoolScene, PoolState, PoolMove, IsFlag, IsHolder, IsDetached}
 use Rattle.bb_memory_base.specs.PoolMachine.{pool_step, pool_after, opening_state, left_by}
 use Rattle.bb_memory_base.specs.PoolHistory.{entry_of, PoolLog, PoolEntry, pool_history, is_by, entries_by, log_of}
 use Rattle.bb_memory_base.specs.PoolLogs.{held_after, IsHeldAfter}
 use Rattle.bb_memory_base.specs.declared.steps.pool.PoolOutcome.{PoolOutcome}
+use Rattle.bb_memory_base.specs.declared.steps.pool.Flag.{Flag}
+use Rattle.bb_memory_base.specs.declared.steps.pool.Flag.TheVariants.{Free, HeldBy, Detached}
 use Rattle.bb_memory_base.specs.declared.steps.pool.PoolStep.{PoolStep}
 use Rattle.bb_memory_base.proofs.SliceSets.{slice_get-same, slice_get-set_other, slice_get-set_same}
 use Rattle.bb_memory_base.proofs.PoolSteps.{StepKind, takes, takes_at, loses, is_refused, gives, misses, passes}
+use Rattle.bb_memory_base.proofs.PoolSteps.{detaches, attaches}
 use Rattle.bb_memory_base.proofs.PoolSteps.{kind_of, same_from_test, test_same, test_apart}
 
-abbrev is_holder : ℕ → Option (Option ℕ) → Bool
-is_holder party (Some (Some holder)) = holder == party
+abbrev is_holder : ℕ → Option Flag → Bool
+is_holder party (Some (HeldBy holder)) = holder == party
 is_holder party _ = false
 
 -- whether a party holds a bucket after entries of its log, where it held it before them or not
@@ -40,52 +43,78 @@ held_by party bucket held step outcome = if is_by party step then held_after buc
 
 -- that changes as the flag does
 step_holds : (state : PoolState) (step : PoolStep) (move : PoolMove) (party bucket : ℕ) (held : Bool) →
-    StepKind state step move → held ≡ is_holder party (slice_get state.holders bucket) →
-    held_by party bucket held step move.outcome ≡ is_holder party (slice_get move.state.holders bucket)
+    StepKind state step move → held ≡ is_holder party (slice_get state.flags bucket) →
+    held_by party bucket held step move.outcome ≡ is_holder party (slice_get move.state.flags bucket)
 step_holds state step move party bucket held (takes other at next free) before = elim (cases_eq at bucket) [
   | inl same ↦
-      let was = slice_get-same state.holders at bucket (Some None) same free in
-      let now = slice_get-set_same state.holders at bucket (Some other) None same free in
+      let was = slice_get-same state.flags at bucket (Some Free) same free in
+      let now = slice_get-set_same state.flags at bucket (HeldBy other) Free same free in
       ap (λ (b : Bool). if other == party then (if b then true else held) else held) (test_same at bucket same)
       ∙ when_taken (other == party) held (before ∙ ap (is_holder party) was)
       ∙ sym (ap (is_holder party) now)
   | inr apart ↦
-      let now = slice_get-set_other state.holders at bucket (Some other) apart in
+      let now = slice_get-set_other state.flags at bucket (HeldBy other) apart in
       ap (λ (b : Bool). if other == party then (if b then true else held) else held) (test_apart at bucket apart)
       ∙ either_way (other == party) held ∙ before
       ∙ sym (ap (is_holder party) now)
 ]
 step_holds state step move party bucket held (takes_at other at idle free) before = elim (cases_eq at bucket) [
   | inl same ↦
-      let was = slice_get-same state.holders at bucket (Some None) same free in
-      let now = slice_get-set_same state.holders at bucket (Some other) None same free in
+      let was = slice_get-same state.flags at bucket (Some Free) same free in
+      let now = slice_get-set_same state.flags at bucket (HeldBy other) Free same free in
       ap (λ (b : Bool). if other == party then (if b then true else held) else held) (test_same at bucket same)
       ∙ when_taken (other == party) held (before ∙ ap (is_holder party) was)
       ∙ sym (ap (is_holder party) now)
   | inr apart ↦
-      let now = slice_get-set_other state.holders at bucket (Some other) apart in
+      let now = slice_get-set_other state.flags at bucket (HeldBy other) apart in
       ap (λ (b : Bool). if other == party then (if b then true else held) else held) (test_apart at bucket apart)
       ∙ either_way (other == party) held ∙ before
       ∙ sym (ap (is_holder party) now)
 ]
 step_holds state step move party bucket held (gives other at taken) before = elim (cases_eq at bucket) [
   | inl same ↦
-      let was = slice_get-same state.holders at bucket (Some (Some other)) same taken in
-      let now = slice_get-set_same state.holders at bucket None (Some other) same taken in
+      let was = slice_get-same state.flags at bucket (Some (HeldBy other)) same taken in
+      let now = slice_get-set_same state.flags at bucket Free (HeldBy other) same taken in
       ap (λ (b : Bool). if other == party then (if b then false else held) else held) (test_same at bucket same)
       ∙ when_returned (other == party) held (before ∙ ap (is_holder party) was)
       ∙ sym (ap (is_holder party) now)
   | inr apart ↦
-      let now = slice_get-set_other state.holders at bucket None apart in
+      let now = slice_get-set_other state.flags at bucket Free apart in
       ap (λ (b : Bool). if other == party then (if b then false else held) else held) (test_apart at bucket apart)
       ∙ either_way (other == party) held ∙ before
       ∙ sym (ap (is_holder party) now)
 ]
-step_holds state step move party bucket held (loses other at holder next taken more) before =
+step_holds state step move party bucket held (detaches other at taken others) before = elim (cases_eq at bucket) [
+  | inl same ↦
+      let was = slice_get-same state.flags at bucket (Some (HeldBy other)) same taken in
+      let now = slice_get-set_same state.flags at bucket Detached (HeldBy other) same taken in
+      ap (λ (b : Bool). if other == party then (if b then false else held) else held) (test_same at bucket same)
+      ∙ when_returned (other == party) held (before ∙ ap (is_holder party) was)
+      ∙ sym (ap (is_holder party) now)
+  | inr apart ↦
+      let now = slice_get-set_other state.flags at bucket Detached apart in
+      ap (λ (b : Bool). if other == party then (if b then false else held) else held) (test_apart at bucket apart)
+      ∙ either_way (other == party) held ∙ before
+      ∙ sym (ap (is_holder party) now)
+]
+step_holds state step move party bucket held (attaches other at idle detached) before = elim (cases_eq at bucket) [
+  | inl same ↦
+      let was = slice_get-same state.flags at bucket (Some Detached) same detached in
+      let now = slice_get-set_same state.flags at bucket (HeldBy other) Detached same detached in
+      ap (λ (b : Bool). if other == party then (if b then true else held) else held) (test_same at bucket same)
+      ∙ when_taken (other == party) held (before ∙ ap (is_holder party) was)
+      ∙ sym (ap (is_holder party) now)
+  | inr apart ↦
+      let now = slice_get-set_other state.flags at bucket (HeldBy other) apart in
+      ap (λ (b : Bool). if other == party then (if b then true else held) else held) (test_apart at bucket apart)
+      ∙ either_way (other == party) held ∙ before
+      ∙ sym (ap (is_holder party) now)
+]
+step_holds state step move party bucket held (loses other at next taken more) before =
     either_way (other == party) held ∙ before
-step_holds state step move party bucket held (is_refused other at holder next taken last) before =
+step_holds state step move party bucket held (is_refused other at next taken last) before =
     either_way (other == party) held ∙ before
-step_holds state step move party bucket held (misses other at holder idle taken) before =
+step_holds state step move party bucket held (misses other at idle taken) before =
     either_way (other == party) held ∙ before
 step_holds state step move party bucket held (passes other) before =
     either_way (is_by party step) held ∙ before
@@ -97,9 +126,9 @@ held_through-log party bucket held true entry log = refl
 held_through-log party bucket held false entry log = refl
 
 steps_hold : (state : PoolState) (steps : List PoolStep) (party bucket : ℕ) (held : Bool) →
-    held ≡ is_holder party (slice_get state.holders bucket) →
+    held ≡ is_holder party (slice_get state.flags bucket) →
     held_through bucket held (entries_by party (pool_history state steps)) ≡
-    is_holder party (slice_get (pool_after state steps).holders bucket)
+    is_holder party (slice_get (pool_after state steps).flags bucket)
 steps_hold state [] party bucket held before = before
 steps_hold state (step ∷ steps) party bucket held before =
     let move : PoolMove = pool_step state step in
@@ -108,18 +137,19 @@ steps_hold state (step ∷ steps) party bucket held before =
     held_through-log party bucket held (is_by party step) (entry_of step move.outcome) log
     ∙ steps_hold move.state steps party bucket (held_by party bucket held step move.outcome) now
 
-nobody_holds : (n party bucket : ℕ) → false ≡ is_holder party (slice_get (replicate n None) bucket)
+nobody_holds : (n party bucket : ℕ) → false ≡ is_holder party (slice_get (replicate n Free) bucket)
 nobody_holds zero party bucket = refl
 nobody_holds (suc n) party zero = refl
 nobody_holds (suc n) party (suc bucket) = nobody_holds n party bucket
 
-holder_from_test : (party : ℕ) (found : Option (Option ℕ)) → is_holder party found ≡ true →
-    found ≡ Some (Some party)
+holder_from_test : (party : ℕ) (found : Option Flag) → is_holder party found ≡ true →
+    found ≡ Some (HeldBy party)
 holder_from_test party None e = absurd (cc)
-holder_from_test party (Some None) e = absurd (cc)
-holder_from_test party (Some (Some holder)) e = ap (λ (h : ℕ). Some (Some h)) (same_from_test holder party e)
+holder_from_test party (Some Free) e = absurd (cc)
+holder_from_test party (Some Detached) e = absurd (cc)
+holder_from_test party (Some (HeldBy holder)) e = ap (λ (h : ℕ). Some (HeldBy h)) (same_from_test holder party e)
 
-test_from_holder : (party : ℕ) (found : Option (Option ℕ)) → found ≡ Some (Some party) →
+test_from_holder : (party : ℕ) (found : Option Flag) → found ≡ Some (HeldBy party) →
     is_holder party found ≡ true
 test_from_holder party found e = ap (is_holder party) e ∙ test_same party party refl
 
@@ -128,8 +158,27 @@ pub holder_in_log : (scene : PoolScene) (steps : List PoolStep) (party bucket : 
     IsHolder (left_by scene steps) bucket party ↔ IsHeldAfter (log_of scene steps party) bucket
 holder_in_log scene steps party bucket =
     let same = steps_hold (opening_state scene) steps party bucket false (nobody_holds scene.geometry.buckets party bucket) in
-    let found = slice_get (left_by scene steps).holders bucket in
+    let found = slice_get (left_by scene steps).flags bucket in
     ((λ holder. same ∙ test_from_holder party found holder), (λ holds. holder_from_test party found (sym same ∙ holds)))
+
+-- a flag is one thing
+same_flag : (state : PoolState) (bucket : ℕ) (one other : Flag) → IsFlag state bucket one → IsFlag state bucket other → one ≡ other
+same_flag state bucket one other is also = same_Some one other (sym is ∙ also)
+
+-- so it has one holder
+pub same_holder : (state : PoolState) (bucket party other : ℕ) → IsHolder state bucket party → IsHolder state bucket other →
+    party ≡ other
+same_holder state bucket party other one two =
+    let same = same_flag state bucket (HeldBy party) (HeldBy other) one two in cc
+
+-- and where it is free or the bucket is detached, none
+pub free_not_holder : (state : PoolState) (bucket party : ℕ) → IsFlag state bucket Free → ¬ IsHolder state bucket party
+free_not_holder state bucket party free held =
+    let same = same_flag state bucket Free (HeldBy party) free held in absurd (cc)
+
+pub detached_not_holder : (state : PoolState) (bucket party : ℕ) → IsDetached state bucket → ¬ IsHolder state bucket party
+detached_not_holder state bucket party detached held =
+    let same = same_flag state bucket Detached (HeldBy party) detached held in absurd (cc)
 
 -- no two parties hold one bucket
 pub one_holder : (scene : PoolScene) (steps : List PoolStep) (party other bucket : ℕ) →
@@ -138,4 +187,10 @@ pub one_holder : (scene : PoolScene) (steps : List PoolStep) (party other bucket
 one_holder scene steps party other bucket mine yours =
     let one = (holder_in_log scene steps party bucket).1 mine in
     let two = (holder_in_log scene steps other bucket).1 yours in
-    same_Some party other (same_Some (Some party) (Some other) (sym one ∙ two))
+    same_holder (left_by scene steps) bucket party other one two
+
+-- a detached bucket is held after no party's log
+pub detached_unheld : (scene : PoolScene) (steps : List PoolStep) (party bucket : ℕ) →
+    IsDetached (left_by scene steps) bucket → ¬ IsHeldAfter (log_of scene steps party) bucket
+detached_unheld scene steps party bucket detached held =
+    detached_not_holder (left_by scene steps) bucket party detached ((holder_in_log scene steps party bucket).1 held)

@@ -25,6 +25,6 @@ flags_run scene flags logs layouts is agree asked =
       λ bucket below.
           let same = taken_is_held scene agree.steps layouts run.0 bucket is run.1 below in (
             λ (flag : slice_get flags bucket ≡ Some true). same.0 (taken_from_flag state flags bucket agree.leaves flag),
-            λ held. let taken = same.1 held in flag_from_taken state flags bucket taken.0 agree.leaves taken.1,
+            λ held. flag_from_taken state flags bucket agree.leaves (same.1 held),
           ),
     )

@@ -3,20 +3,24 @@ use Rattle.std.proofs.Common.{◌≡◌, ℕ, zero, suc, ◌+◌, ◌<◌, ◌�
 use Rattle.std.proofs.Common.{refl, sym, ap, ◌∙◌, subst, arith, Option, Some, None, inl, inr}
 use Rattle.std.specs.Prelude.{slice_get, slice_set, take, unwrap_or}
 use Rattle.std.proofs.lemmas.Bool.{cases_eq}
-use Rattle.std.proofs.lemmas.Option.{same_Some, slice_get_within}
+use Rattle.std.proofs.lemmas.Option.{same_Some}
 use Rattle.std.proofs.lemmas.List.{length-replicate}
 use Rattle.bb_memory_base.specs.PoolGeometry.{IsPoolGeometry}
 use Rattle.bb_memory_base.specs.PoolMachine.{PoolScene, PoolState, PoolMove, IsTaken}
 use Rattle.bb_memory_base.specs.PoolMachine.{IsInCall, left_by, pool_step, pool_after, opening_state}
 use Rattle.bb_memory_base.specs.PoolHistory.{entry_of, PoolEntry, pool_history, history_of}
 use Rattle.bb_memory_base.specs.PoolCalls.{IsLossAt, LosesAt, IsRefusedAt, FoundHeld, IsHeldInRun, MissesAt}
+use Rattle.bb_memory_base.specs.declared.steps.pool.Flag.{Flag}
+use Rattle.bb_memory_base.specs.declared.steps.pool.Flag.TheVariants.{Free}
 use Rattle.bb_memory_base.specs.declared.steps.pool.PoolStep.{PoolStep}
 use Rattle.bb_memory_base.specs.declared.steps.pool.PoolStep.TheVariants.{Try, TryAt}
 use Rattle.bb_memory_base.specs.declared.steps.pool.PoolOutcome.{PoolOutcome}
 use Rattle.bb_memory_base.specs.declared.steps.pool.PoolOutcome.TheVariants.{Misses, RefusedAtLoss}
 use Rattle.bb_memory_base.proofs.SliceSets.{slice_get-same, slice_get-set_other, slice_get-set_same}
 use Rattle.bb_memory_base.proofs.PoolSteps.{IsNext, StepKind, takes, takes_at, loses, is_refused, gives, misses, passes}
+use Rattle.bb_memory_base.proofs.PoolSteps.{detaches, attaches}
 use Rattle.bb_memory_base.proofs.PoolSteps.{kind_of, length-left_by, length-step, next_of_idle}
+use Rattle.bb_memory_base.proofs.PoolFlags.{taken_within}
 use Rattle.bb_memory_base.proofs.PoolRuns.{taken_is_held}
 
 -- PROGRESS
@@ -46,15 +50,17 @@ same_party party other same = cc
 -- each bucket is lost before a refusal, or at it
 at_refusal : (state : PoolState) (step : PoolStep) (move : PoolMove) (party last bucket : ℕ) →
     StepKind state step move → step ≡ Try party → move.outcome ≡ RefusedAtLoss last →
-    bucket < length state.holders →
+    bucket < length state.flags →
     (bucket < progress_of (slice_get state.calls party)) ⊎ IsLossAt bucket move.outcome
 at_refusal state step move party last bucket (takes other taken next free) by refusal below = absurd (cc)
-at_refusal state step move party last bucket (loses other lost holder next taken more) by refusal below = absurd (cc)
+at_refusal state step move party last bucket (loses other lost next taken more) by refusal below = absurd (cc)
 at_refusal state step move party last bucket (gives other returned taken) by refusal below = absurd (cc)
 at_refusal state step move party last bucket (takes_at other taken idle free) by refusal below = absurd (cc)
-at_refusal state step move party last bucket (misses other missed holder idle taken) by refusal below = absurd (cc)
+at_refusal state step move party last bucket (misses other missed idle taken) by refusal below = absurd (cc)
+at_refusal state step move party last bucket (detaches other sent taken others) by refusal below = absurd (cc)
+at_refusal state step move party last bucket (attaches other received idle detached) by refusal below = absurd (cc)
 at_refusal state step move party last bucket (passes other) by refusal below = absurd (cc)
-at_refusal state step move party last bucket (is_refused other lost holder next taken none) by refusal below =
+at_refusal state step move party last bucket (is_refused other lost next taken none) by refusal below =
     let at = progress_next state other party lost (same_party other party by) next in
     elim (below_or_at bucket lost (omega arith)) [
       | inl before ↦ inl (omega arith)
@@ -78,14 +84,16 @@ at_progress : (state : PoolState) (step : PoolStep) (move : PoolMove) (party buc
     (bucket < progress_of (slice_get state.calls party)) ⊎ ((step ≡ Try party) × IsLossAt bucket move.outcome)
 at_progress state step move party bucket (takes other taken next free) less =
     inl (over state other party bucket taken next less)
-at_progress state step move party bucket (is_refused other lost holder next taken none) less =
+at_progress state step move party bucket (is_refused other lost next taken none) less =
     inl (over state other party bucket lost next less)
 at_progress state step move party bucket (gives other returned taken) less = inl less
 at_progress state step move party bucket (takes_at other taken idle free) less =
     inl (over state other party bucket 0 (next_of_idle state other idle) less)
-at_progress state step move party bucket (misses other missed holder idle taken) less = inl less
+at_progress state step move party bucket (misses other missed idle taken) less = inl less
+at_progress state step move party bucket (detaches other sent taken others) less = inl less
+at_progress state step move party bucket (attaches other received idle detached) less = inl less
 at_progress state step move party bucket (passes other) less = inl less
-at_progress state step move party bucket (loses other lost holder next taken more) less = elim (cases_eq other party) [
+at_progress state step move party bucket (loses other lost next taken more) less = elim (cases_eq other party) [
   | inl same ↦
       let after = slice_get-set_same state.calls other party (Some (lost + 1)) next.pass same next.there in
       let now : progress_of (slice_get (slice_set state.calls other (Some (lost + 1))) party) ≡ lost + 1 =
@@ -106,12 +114,14 @@ taken_at_loss : (state : PoolState) (step : PoolStep) (move : PoolMove) (bucket 
 taken_at_loss state step move bucket (takes other taken next free) lost = absurd lost
 taken_at_loss state step move bucket (gives other returned taken) lost = absurd lost
 taken_at_loss state step move bucket (takes_at other taken idle free) lost = absurd lost
-taken_at_loss state step move bucket (misses other missed holder idle taken) lost = absurd lost
+taken_at_loss state step move bucket (misses other missed idle taken) lost = absurd lost
+taken_at_loss state step move bucket (detaches other sent taken others) lost = absurd lost
+taken_at_loss state step move bucket (attaches other received idle detached) lost = absurd lost
 taken_at_loss state step move bucket (passes other) lost = absurd lost
-taken_at_loss state step move bucket (loses other at holder next taken more) lost =
-    (holder, slice_get-same state.holders at bucket (Some (Some holder)) lost taken)
-taken_at_loss state step move bucket (is_refused other at holder next taken none) lost =
-    (holder, slice_get-same state.holders at bucket (Some (Some holder)) lost taken)
+taken_at_loss state step move bucket (loses other at next taken more) lost =
+    subst (IsTaken state) lost taken
+taken_at_loss state step move bucket (is_refused other at next taken none) lost =
+    subst (IsTaken state) lost taken
 
 -- ONE PASS
 
@@ -165,7 +175,7 @@ loses_later : (state : PoolState) (step : PoolStep) (steps : List PoolStep) (par
 loses_later state step steps party bucket k lost = record { outcome = lost.outcome; there = lost.there; loss = lost.loss }
 
 all_behind : (state : PoolState) (steps : List PoolStep) (party last bucket : ℕ) →
-    IsRefusedAt (pool_history state steps) party last → bucket < length state.holders →
+    IsRefusedAt (pool_history state steps) party last → bucket < length state.flags →
     Behind state steps party last bucket
 all_behind state [] party last bucket refused below = absurd (let there = refused.there in cc)
 all_behind state (step ∷ steps) party zero bucket refused below =
@@ -186,7 +196,7 @@ all_behind state (step ∷ steps) party (suc last) bucket refused below =
     let move : PoolMove = pool_step state step in
     let refused_later : IsRefusedAt (pool_history move.state steps) party last =
     record { bucket = refused.bucket; there = refused.there } in
-    let below_later : bucket < length move.state.holders = omega (arith, length-step state step move (kind_of state step)) in
+    let below_later : bucket < length move.state.flags = omega (arith, length-step state step move (kind_of state step)) in
     let rest : Behind move.state steps party last bucket =
     all_behind move.state steps party last bucket refused_later below_later in
     elim rest as (λ _. Behind state (step ∷ steps) party (suc last) bucket) [
@@ -227,8 +237,8 @@ pub refused_found_held : (scene : PoolScene) (steps : List PoolStep)
     FoundHeld scene steps party last bucket
 refused_found_held scene steps party last bucket is refused below =
     let state : PoolState = opening_state scene in
-    let flags = length-replicate {A = Option ℕ} scene.geometry.buckets None in
-    let below_flags : bucket < length state.holders = omega (arith, flags) in
+    let flags = length-replicate {A = Flag} scene.geometry.buckets Free in
+    let below_flags : bucket < length state.flags = omega (arith, flags) in
     elim (all_behind state steps party last bucket refused below_flags)
     as (λ _. FoundHeld scene steps party last bucket) [
       | lost_at k within lost pass ↦ record {
@@ -253,12 +263,14 @@ taken_at_miss : (state : PoolState) (step : PoolStep) (move : PoolMove) (bucket 
     move.outcome ≡ Misses bucket → IsTaken state bucket
 taken_at_miss state step move bucket (takes other taken next free) is = absurd (cc)
 taken_at_miss state step move bucket (takes_at other taken idle free) is = absurd (cc)
-taken_at_miss state step move bucket (loses other lost holder next taken more) is = absurd (cc)
-taken_at_miss state step move bucket (is_refused other lost holder next taken none) is = absurd (cc)
+taken_at_miss state step move bucket (loses other lost next taken more) is = absurd (cc)
+taken_at_miss state step move bucket (is_refused other lost next taken none) is = absurd (cc)
 taken_at_miss state step move bucket (gives other returned taken) is = absurd (cc)
+taken_at_miss state step move bucket (detaches other sent taken others) is = absurd (cc)
+taken_at_miss state step move bucket (attaches other received idle detached) is = absurd (cc)
 taken_at_miss state step move bucket (passes other) is = absurd (cc)
-taken_at_miss state step move bucket (misses other at holder idle taken) is =
-    (holder, slice_get-same state.holders at bucket (Some (Some holder)) (same_missed at bucket is) taken)
+taken_at_miss state step move bucket (misses other at idle taken) is =
+    subst (IsTaken state) (same_missed at bucket is) taken
 
 taken_where_missed : (state : PoolState) (steps : List PoolStep) (party bucket k : ℕ) →
     MissesAt (pool_history state steps) party bucket k → IsTaken (pool_after state (take k steps)) bucket
@@ -276,6 +288,6 @@ pub missed_is_held : (scene : PoolScene) (steps : List PoolStep) (party bucket k
     (bucket < scene.geometry.buckets) × IsTaken (left_by scene (take k steps)) bucket × IsHeldInRun scene (take k steps) bucket
 missed_is_held scene steps party bucket k is missed =
     let taken = taken_where_missed (opening_state scene) steps party bucket k missed in
-    let within = slice_get_within (left_by scene (take k steps)).holders bucket (Some taken.0) taken.1 in
+    let within = taken_within (left_by scene (take k steps)) bucket taken in
     let below : bucket < scene.geometry.buckets = omega (arith, within, length-left_by scene (take k steps)) in
     (below, taken, λ layouts live run. (taken_is_held scene (take k steps) layouts live bucket is run below).0 taken)

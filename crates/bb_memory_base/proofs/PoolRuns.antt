@@ -1,7 +1,7 @@
 -- The takings and returns of a pool machine are a run of the pool object.
 use Rattle.std.proofs.Common.{◌≡◌, ℕ, zero, suc, ◌<◌, ◌↔◌, List, [], ◌∷◌, ◌++◌, length, replicate}
-use Rattle.std.proofs.Common.{refl, sym, ap, ◌∙◌, subst, arith, Option, Some, None, inl, inr}
-use Rattle.std.specs.Prelude.{take, drop, slice_get, slice_set, remove}
+use Rattle.std.proofs.Common.{refl, sym, ap, ◌∙◌, subst, arith, Bool, Option, Some, None, inl, inr}
+use Rattle.std.specs.Prelude.{take, drop, slice_get, slice_set, remove, if◌then◌else◌}
 use Rattle.std.specs.List.{AllByRecursion}
 use Rattle.std.proofs.lemmas.Bool.{cases_eq}
 use Rattle.std.proofs.lemmas.Option.{slice_get_within}
@@ -12,40 +12,51 @@ use Rattle.bb_memory_base.specs.LiveList.{IsSound}
 use Rattle.bb_memory_base.specs.Run.{IsRun}
 use Rattle.bb_memory_base.specs.PoolGeometry.{PoolGeometry, bucket_place, IsPoolGeometry}
 use Rattle.bb_memory_base.specs.PoolObject.{IsAt, IsHeld, IsWithin, MayGive, chunk_in}
-use Rattle.bb_memory_base.specs.PoolMachine.{PoolScene, PoolState, PoolMove, IsHolder, IsTaken}
+use Rattle.bb_memory_base.specs.PoolMachine.{PoolScene, PoolState, PoolMove, IsFlag, IsHolder, IsTaken, with_flag}
 use Rattle.bb_memory_base.specs.PoolMachine.{pool_step, pool_after, opening_state, left_by}
 use Rattle.bb_memory_base.specs.PoolHistory.{PoolLog, history_of, pool_history, outcomes_of}
+use Rattle.bb_memory_base.specs.PoolLogs.{is_taken}
 use Rattle.bb_memory_base.specs.PoolCalls.{IsCallRun, PoolCall, AreAsked, IsPoolRun}
 use Rattle.bb_memory_base.specs.declared.layout.Layout.{Layout}
+use Rattle.bb_memory_base.specs.declared.steps.pool.Flag.{Flag}
+use Rattle.bb_memory_base.specs.declared.steps.pool.Flag.TheVariants.{Free, HeldBy, Detached}
 use Rattle.bb_memory_base.specs.declared.steps.pool.PoolStep.{PoolStep}
 use Rattle.bb_memory_base.specs.declared.steps.pool.PoolOutcome.{PoolOutcome}
 use Rattle.bb_memory_base.proofs.SliceSets.{slice_get-same, slice_get-set_other, slice_get-set_same}
+use Rattle.bb_memory_base.proofs.PoolFlags.{taken_within}
 use Rattle.bb_memory_base.proofs.PoolGeometries.{bucket_place-apart}
 use Rattle.bb_memory_base.proofs.PoolLists.{AreInBuckets, AreInBuckets-empty, AreInBuckets-push, AreInBuckets-remove}
 use Rattle.bb_memory_base.proofs.PoolLists.{sound_from_buckets, count_at, count_at-push_same, count_at-push_other}
 use Rattle.bb_memory_base.proofs.PoolLists.{count_at-remove_same, count_at-remove_other, at_from_count, count_from_at}
 use Rattle.bb_memory_base.proofs.PoolSteps.{StepKind, takes, takes_at, loses, is_refused, gives, misses, passes, kind_of}
+use Rattle.bb_memory_base.proofs.PoolSteps.{detaches, attaches}
 
 -- STATES AND LISTS
 
-abbrev taken_weight : Option (Option ℕ) → ℕ
-taken_weight (Some (Some holder)) = 1
-taken_weight _ = 0
+abbrev taken_weight : Option Flag → ℕ
+taken_weight (Some flag) = if is_taken flag then 1 else 0
+taken_weight None = 0
+
+weight_of_taken : (state : PoolState) (bucket : ℕ) → IsTaken state bucket → taken_weight (slice_get state.flags bucket) ≡ 1
+weight_of_taken state bucket taken = elim taken [
+  | inl held ↦ ap taken_weight held.1
+  | inr detached ↦ ap taken_weight detached
+]
 
 -- the list has one chunk in each bucket whose flag is taken, and no other
 record Matches (geometry : PoolGeometry) (state : PoolState) (live : List Chunk) : Type 0 where
   flags : (bucket : ℕ) → bucket < geometry.buckets →
-      count_at (bucket_place geometry bucket) live ≡ taken_weight (slice_get state.holders bucket)
-  size : length state.holders ≡ geometry.buckets
+      count_at (bucket_place geometry bucket) live ≡ taken_weight (slice_get state.flags bucket)
+  size : length state.flags ≡ geometry.buckets
   buckets : AreInBuckets geometry live
 
 module _ (geometry : PoolGeometry) (is : IsPoolGeometry geometry) where
   -- a bucket whose flag is free may be given
   may_give : (state : PoolState) (live : List Chunk) (layout : Layout) (bucket : ℕ) →
       Matches geometry state live → IsWithin geometry.bucket layout →
-      slice_get state.holders bucket ≡ Some None → MayGive geometry live layout bucket
+      IsFlag state bucket Free → MayGive geometry live layout bucket
   may_give state live layout bucket matches within free =
-      let within_flags = slice_get_within state.holders bucket None free in
+      let within_flags = slice_get_within state.flags bucket Free free in
       let below : bucket < geometry.buckets = omega (arith, within_flags, matches.size) in
       let none : count_at (bucket_place geometry bucket) live ≡ 0 = matches.flags bucket below ∙ ap taken_weight free in
       record {
@@ -55,52 +66,52 @@ module _ (geometry : PoolGeometry) (is : IsPoolGeometry geometry) where
       }
 
   -- a bucket whose flag is taken has a chunk
-  held_from_flag : (state : PoolState) (live : List Chunk) (bucket holder : ℕ) → Matches geometry state live →
-      IsHolder state bucket holder → IsHeld geometry live bucket
-  held_from_flag state live bucket holder matches held =
-      let within_flags = slice_get_within state.holders bucket (Some holder) held in
+  held_from_flag : (state : PoolState) (live : List Chunk) (bucket : ℕ) → Matches geometry state live → IsTaken state bucket →
+      IsHeld geometry live bucket
+  held_from_flag state live bucket matches taken =
+      let within_flags = taken_within state bucket taken in
       let below : bucket < geometry.buckets = omega (arith, within_flags, matches.size) in
-      let one : count_at (bucket_place geometry bucket) live ≡ 1 = matches.flags bucket below ∙ ap taken_weight held in
+      let one : count_at (bucket_place geometry bucket) live ≡ 1 = matches.flags bucket below ∙ weight_of_taken state bucket taken in
       at_from_count (bucket_place geometry bucket) live (omega arith)
 
   flags-take : (state : PoolState) (live : List Chunk) (layout : Layout) (party bucket : ℕ) →
-      Matches geometry state live → slice_get state.holders bucket ≡ Some None → (b : ℕ) →
+      Matches geometry state live → IsFlag state bucket Free → (b : ℕ) →
       b < geometry.buckets →
       count_at (bucket_place geometry b) (live ++ chunk_in geometry bucket layout ∷ []) ≡
-      taken_weight (slice_get (slice_set state.holders bucket (Some party)) b)
+      taken_weight (slice_get (slice_set state.flags bucket (HeldBy party)) b)
   flags-take state live layout party bucket matches free b below =
       let place : ℕ = bucket_place geometry b in
       let chunk : Chunk = chunk_in geometry bucket layout in
       elim (cases_eq bucket b) [
         | inl same ↦
             let more = count_at-push_same place live chunk (ap (bucket_place geometry) same) in
-            let now = ap taken_weight (slice_get-set_same state.holders bucket b (Some party) None same free) in
-            let before = ap taken_weight (slice_get-same state.holders bucket b (Some None) same free) in
+            let now = ap taken_weight (slice_get-set_same state.flags bucket b (HeldBy party) Free same free) in
+            let before = ap taken_weight (slice_get-same state.flags bucket b (Some Free) same free) in
             omega (arith, matches.flags b below, more, now, before)
         | inr apart ↦
             let kept = count_at-push_other place live chunk (bucket_place-apart geometry is bucket b apart) in
-            let now = ap taken_weight (slice_get-set_other state.holders bucket b (Some party) apart) in
+            let now = ap taken_weight (slice_get-set_other state.flags bucket b (HeldBy party) apart) in
             omega (arith, matches.flags b below, kept, now)
       ]
 
-  flags-give : (state : PoolState) (live : List Chunk) (bucket holder position : ℕ) →
-      Matches geometry state live → IsHolder state bucket holder →
+  flags-give : (state : PoolState) (live : List Chunk) (bucket party position : ℕ) →
+      Matches geometry state live → IsHolder state bucket party →
       IsAt live position (bucket_place geometry bucket) → (b : ℕ) → b < geometry.buckets →
       count_at (bucket_place geometry b) (remove live position) ≡
-      taken_weight (slice_get (slice_set state.holders bucket None) b)
-  flags-give state live bucket holder position matches held at b below =
+      taken_weight (slice_get (slice_set state.flags bucket Free) b)
+  flags-give state live bucket party position matches held at b below =
       let place : ℕ = bucket_place geometry b in
       elim (cases_eq bucket b) [
         | inl same ↦
             let At : ℕ → Type 0 = λ i. IsAt live position (bucket_place geometry i) in
             let less = count_at-remove_same place position live (subst At same at) in
-            let now = ap taken_weight (slice_get-set_same state.holders bucket b None (Some holder) same held) in
-            let before = ap taken_weight (slice_get-same state.holders bucket b (Some (Some holder)) same held) in
+            let now = ap taken_weight (slice_get-set_same state.flags bucket b Free (HeldBy party) same held) in
+            let before = ap taken_weight (slice_get-same state.flags bucket b (Some (HeldBy party)) same held) in
             omega (arith, matches.flags b below, less, now, before)
         | inr apart ↦
             let other = bucket_place-apart geometry is bucket b apart in
             let kept = count_at-remove_other place (bucket_place geometry bucket) position live at other in
-            let now = ap taken_weight (slice_get-set_other state.holders bucket b None apart) in
+            let now = ap taken_weight (slice_get-set_other state.flags bucket b Free apart) in
             omega (arith, matches.flags b below, kept, now)
       ]
 
@@ -117,20 +128,38 @@ module _ (geometry : PoolGeometry) (is : IsPoolGeometry geometry) where
       let may = may_give old live layout bucket matches within free in
       (live ++ chunk_in geometry bucket layout ∷ [], record { answers = (bucket, may, refl); leaves = refl })
   step_calls old live layout step move (gives party bucket held) matches within =
-      let there : IsHeld geometry live bucket = held_from_flag old live bucket party matches held in
+      let there : IsHeld geometry live bucket = held_from_flag old live bucket matches (inl (party, held)) in
       let within_live = slice_get_within live there.0 there.1.chunk there.1.there in
       (remove live there.0, (there.0, there.1, record { within = within_live; leaves = refl }))
-  step_calls old live layout step move (loses party bucket holder next held more) matches within = (live, refl)
-  step_calls old live layout step move (is_refused party bucket holder next held last) matches within = (live, refl)
-  step_calls old live layout step move (misses party bucket holder idle held) matches within = (live, refl)
+  step_calls old live layout step move (loses party bucket next taken more) matches within = (live, refl)
+  step_calls old live layout step move (is_refused party bucket next taken last) matches within = (live, refl)
+  step_calls old live layout step move (misses party bucket idle taken) matches within = (live, refl)
+  step_calls old live layout step move (detaches party bucket held others) matches within = (live, refl)
+  step_calls old live layout step move (attaches party bucket idle detached) matches within = (live, refl)
   step_calls old live layout step move (passes other) matches within = (live, refl)
 
   -- the parties' passes decide nothing
-  same_holders : (old new : PoolState) (live : List Chunk) → old.holders ≡ new.holders → Matches geometry old live →
+  same_flags : (old new : PoolState) (live : List Chunk) → old.flags ≡ new.flags → Matches geometry old live →
       Matches geometry new live
-  same_holders old new live same matches = record {
-    flags = λ b below. matches.flags b below ∙ ap (λ (holders : List (Option ℕ)). taken_weight (slice_get holders b)) same;
-    size = ap (λ (holders : List (Option ℕ)). length holders) (sym same) ∙ matches.size;
+  same_flags old new live same matches = record {
+    flags = λ b below. matches.flags b below ∙ ap (λ (flags : List Flag). taken_weight (slice_get flags b)) same;
+    size = ap (λ (flags : List Flag). length flags) (sym same) ∙ matches.size;
+    buckets = matches.buckets;
+  }
+
+  -- nor does who holds a taken bucket
+  taken_again : (old : PoolState) (live : List Chunk) (bucket : ℕ) (before after : Flag) → Matches geometry old live →
+      IsFlag old bucket before → is_taken before ≡ is_taken after → Matches geometry (with_flag old bucket after) live
+  taken_again old live bucket before after matches there alike = record {
+    flags = λ b below. elim (cases_eq bucket b) [
+      | inl same ↦
+          let was = ap taken_weight (slice_get-same old.flags bucket b (Some before) same there) in
+          let now = ap taken_weight (slice_get-set_same old.flags bucket b after before same there) in
+          matches.flags b below ∙ was ∙ ap (λ (b : Bool). if b then 1 else 0) alike ∙ sym now
+      | inr apart ↦
+          matches.flags b below ∙ sym (ap taken_weight (slice_get-set_other old.flags bucket b after apart))
+    ];
+    size = length-set old.flags bucket after ∙ matches.size;
     buckets = matches.buckets;
   }
 
@@ -142,28 +171,32 @@ module _ (geometry : PoolGeometry) (is : IsPoolGeometry geometry) where
       let may : MayGive geometry live layout bucket = may_give old live layout bucket matches call.answers.1.within free in
       subst (Matches geometry move.state) (sym call.leaves) (record {
         flags = flags-take old live layout party bucket matches free;
-        size = length-set old.holders bucket (Some party) ∙ matches.size;
+        size = length-set old.flags bucket (HeldBy party) ∙ matches.size;
         buckets = AreInBuckets-push geometry live layout bucket may matches.buckets;
       })
   step_matches old live new layout step move (takes_at party bucket idle free) matches call =
       let may : MayGive geometry live layout bucket = may_give old live layout bucket matches call.answers.1.within free in
       subst (Matches geometry move.state) (sym call.leaves) (record {
         flags = flags-take old live layout party bucket matches free;
-        size = length-set old.holders bucket (Some party) ∙ matches.size;
+        size = length-set old.flags bucket (HeldBy party) ∙ matches.size;
         buckets = AreInBuckets-push geometry live layout bucket may matches.buckets;
       })
   step_matches old live new layout step move (gives party bucket held) matches (position, at, released) =
       subst (Matches geometry move.state) (sym released.leaves) (record {
         flags = flags-give old live bucket party position matches held at;
-        size = length-set old.holders bucket None ∙ matches.size;
+        size = length-set old.flags bucket Free ∙ matches.size;
         buckets = AreInBuckets-remove geometry live position released.within matches.buckets;
       })
-  step_matches old live new layout step move (loses party bucket holder next held more) matches call =
-      subst (Matches geometry move.state) (sym call) (same_holders old move.state live refl matches)
-  step_matches old live new layout step move (is_refused party bucket holder next held last) matches call =
-      subst (Matches geometry move.state) (sym call) (same_holders old move.state live refl matches)
-  step_matches old live new layout step move (misses party bucket holder idle held) matches call =
+  step_matches old live new layout step move (loses party bucket next taken more) matches call =
+      subst (Matches geometry move.state) (sym call) (same_flags old move.state live refl matches)
+  step_matches old live new layout step move (is_refused party bucket next taken last) matches call =
+      subst (Matches geometry move.state) (sym call) (same_flags old move.state live refl matches)
+  step_matches old live new layout step move (misses party bucket idle taken) matches call =
       subst (Matches geometry old) (sym call) matches
+  step_matches old live new layout step move (detaches party bucket held others) matches call =
+      subst (Matches geometry move.state) (sym call) (taken_again old live bucket (HeldBy party) Detached matches held refl)
+  step_matches old live new layout step move (attaches party bucket idle detached) matches call =
+      subst (Matches geometry move.state) (sym call) (taken_again old live bucket Detached (HeldBy party) matches detached refl)
   step_matches old live new layout step move (passes other) matches call = subst (Matches geometry old) (sym call) matches
 
   -- LISTS OF STEPS
@@ -196,7 +229,7 @@ module _ (geometry : PoolGeometry) (is : IsPoolGeometry geometry) where
 
 -- FROM THE OPENING
 
-free_at_opening : (n bucket : ℕ) → taken_weight (slice_get (replicate n None) bucket) ≡ 0
+free_at_opening : (n bucket : ℕ) → taken_weight (slice_get (replicate n Free) bucket) ≡ 0
 free_at_opening zero bucket = refl
 free_at_opening (suc n) zero = refl
 free_at_opening (suc n) (suc bucket) = free_at_opening n bucket
@@ -205,7 +238,7 @@ opening_matches : (scene : PoolScene) →
     Matches scene.geometry (opening_state scene) []
 opening_matches scene = record {
   flags = λ bucket below. sym (free_at_opening scene.geometry.buckets bucket);
-  size = length-replicate scene.geometry.buckets None;
+  size = length-replicate scene.geometry.buckets Free;
   buckets = AreInBuckets-empty scene.geometry;
 }
 
@@ -224,11 +257,12 @@ run_matches scene steps layouts live is run =
     let opening : PoolState = opening_state scene in
     steps_match scene.geometry is opening [] live steps layouts (opening_matches scene) run
 
-taken_from_weight : (state : PoolState) (bucket : ℕ) (found : Option (Option ℕ)) →
-    slice_get state.holders bucket ≡ found → 0 < taken_weight found → IsTaken state bucket
+taken_from_weight : (state : PoolState) (bucket : ℕ) (found : Option Flag) →
+    slice_get state.flags bucket ≡ found → 0 < taken_weight found → IsTaken state bucket
 taken_from_weight state bucket None there some = absurd (omega arith)
-taken_from_weight state bucket (Some None) there some = absurd (omega arith)
-taken_from_weight state bucket (Some (Some holder)) there some = (holder, there)
+taken_from_weight state bucket (Some Free) there some = absurd (omega arith)
+taken_from_weight state bucket (Some (HeldBy party)) there some = inl (party, there)
+taken_from_weight state bucket (Some Detached) there some = inr there
 
 pub taken_is_held : (scene : PoolScene) (steps : List PoolStep) (layouts : List Layout)
     (live : List Chunk) (bucket : ℕ) → IsPoolGeometry scene.geometry → IsPoolRun scene steps layouts live →
@@ -237,10 +271,10 @@ pub taken_is_held : (scene : PoolScene) (steps : List PoolStep) (layouts : List 
 taken_is_held scene steps layouts live bucket is run below =
     let state : PoolState = left_by scene steps in
     let matches : Matches scene.geometry state live = run_matches scene steps layouts live is run in (
-      λ taken. held_from_flag scene.geometry is state live bucket taken.0 matches taken.1,
+      λ taken. held_from_flag scene.geometry is state live bucket matches taken,
       λ held.
           let some = count_from_at (bucket_place scene.geometry bucket) held.0 live held.1 in
-          taken_from_weight state bucket (slice_get state.holders bucket) refl (omega (arith, matches.flags bucket below, some)),
+          taken_from_weight state bucket (slice_get state.flags bucket) refl (omega (arith, matches.flags bucket below, some)),
     )
 
 pub run_is_sound : (scene : PoolScene) (steps : List PoolStep) (layouts : List Layout)

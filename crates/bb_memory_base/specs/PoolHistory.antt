@@ -2,7 +2,7 @@
 use Rattle.std.specs.Prelude.{ℕ, ◌==◌, Bool, List, [], ◌∷◌, filter, map}
 use Rattle.bb_memory_base.specs.PoolMachine.{PoolScene, PoolState, opening_state, pool_step}
 use Rattle.bb_memory_base.specs.declared.steps.pool.PoolStep.{PoolStep}
-use Rattle.bb_memory_base.specs.declared.steps.pool.PoolStep.TheVariants.{Try, GiveBack, TryAt}
+use Rattle.bb_memory_base.specs.declared.steps.pool.PoolStep.TheVariants.{Try, GiveBack, TryAt, Detach, Attach}
 use Rattle.bb_memory_base.specs.declared.steps.pool.PoolOutcome.{PoolOutcome}
 
 -- an entry: a step with what it found
@@ -37,6 +37,8 @@ abbrev pub is_by : ℕ → PoolStep → Bool
 is_by party (Try other) = other == party
 is_by party (GiveBack other bucket) = other == party
 is_by party (TryAt other bucket) = other == party
+is_by party (Detach other bucket) = other == party
+is_by party (Attach other bucket) = other == party
 
 -- a party's own entries of a history, in order
 abbrev pub entries_by : ℕ → PoolLog → PoolLog

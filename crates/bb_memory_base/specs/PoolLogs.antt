@@ -1,11 +1,13 @@
 -- What a party's log says, and when a pool's flags and its parties' logs agree.
-use Rattle.std.specs.Prelude.{ℕ, ◌+◌, ◌≡◌, ◌==◌, Bool, true, false, is_some, nat_lt, if◌then◌else◌}
-use Rattle.std.specs.Prelude.{List, [], ◌∷◌, ◌++◌, Option, Some, None, All, fold, map, slice_get, slice_set, unwrap_or}
+use Rattle.std.specs.Prelude.{ℕ, ◌+◌, ◌≡◌, ◌==◌, Bool, true, false, nat_lt, if◌then◌else◌}
+use Rattle.std.specs.Prelude.{List, [], ◌∷◌, ◌++◌, Option, Some, None, All, Any, fold, map, slice_get, slice_set, unwrap_or}
 use Rattle.bb_memory_base.specs.PoolMachine.{PoolScene, PoolState, left_by}
 use Rattle.bb_memory_base.specs.PoolHistory.{PoolEntry, PoolLog, history_of, log_of}
+use Rattle.bb_memory_base.specs.declared.steps.pool.Flag.{Flag}
+use Rattle.bb_memory_base.specs.declared.steps.pool.Flag.TheVariants.{Free}
 use Rattle.bb_memory_base.specs.declared.steps.pool.PoolStep.{PoolStep}
 use Rattle.bb_memory_base.specs.declared.steps.pool.PoolOutcome.{PoolOutcome}
-use Rattle.bb_memory_base.specs.declared.steps.pool.PoolOutcome.TheVariants.{Takes, Loses, RefusedAtLoss, Gives, Passed}
+use Rattle.bb_memory_base.specs.declared.steps.pool.PoolOutcome.TheVariants.{Takes, Loses, RefusedAtLoss, Gives, Passed, Detaches, Attaches}
 
 -- WHAT A LOG SAYS
 
@@ -13,11 +15,17 @@ use Rattle.bb_memory_base.specs.declared.steps.pool.PoolOutcome.TheVariants.{Tak
 abbrev pub held_after : ℕ → Bool → PoolOutcome → Bool
 held_after bucket held (Takes other) = if other == bucket then true else held
 held_after bucket held (Gives other) = if other == bucket then false else held
+held_after bucket held (Detaches other) = if other == bucket then false else held
+held_after bucket held (Attaches other) = if other == bucket then true else held
 held_after bucket held _ = held
 
--- a party with this log holds the bucket: it has taken it, and not given it back since
+-- a party with this log holds the bucket: it has taken or attached it, and neither given it back nor detached it since
 abbrev pub IsHeldAfter : PoolLog → ℕ → Type 0
 IsHeldAfter log bucket = fold (λ held entry. held_after bucket held entry.outcome) false log ≡ true
+
+-- some step of the log detached the bucket
+abbrev pub WasDetached : PoolLog → ℕ → Type 0
+WasDetached log bucket = Any (λ entry. entry.outcome ≡ Detaches bucket) log
 
 -- the bucket that a pass tries next, after an outcome, or None where the party is then idle
 abbrev pub pass_after : Option ℕ → PoolOutcome → Option ℕ
@@ -41,8 +49,12 @@ loss_at buckets bucket = if nat_lt (bucket + 1) buckets then Loses bucket else R
 -- FLAGS AND LOGS
 
 -- which flags are taken
-abbrev pub flags_of : PoolState → List Bool
-flags_of state = map is_some state.holders
+abbrev pub is_taken : Flag → Bool
+is_taken Free = false
+is_taken _ = true
+
+abbrev pub taken_flags : PoolState → List Bool
+taken_flags state = map is_taken state.flags
 
 abbrev pub IsAllowed : PoolOutcome → Type 0
 IsAllowed Passed = ⊥
@@ -60,13 +72,14 @@ HasLog logs party log = slice_get logs party ≡ Some log
 pub record LogsAgree (scene : PoolScene) (flags : List Bool) (logs : List PoolLog) : Type 0 where
   pub steps : List PoolStep
   pub allowed : AllAllowed (history_of scene steps)
-  pub leaves : flags_of (left_by scene steps) ≡ flags
+  pub leaves : taken_flags (left_by scene steps) ≡ flags
   pub each : (party : ℕ) (log : PoolLog) → HasLog logs party log → log_of scene steps party ≡ log
 
--- the first list of steps is a beginning of the other
-pub record IsBeginning (before steps : List PoolStep) : Type 0 where
-  pub more : List PoolStep
-  pub is : steps ≡ before ++ more
+-- a bucket is detached, as flags and logs say it: its flag is taken, and it is held after no party's log
+pub record IsDetachedAfter (flags : List Bool) (logs : List PoolLog) (bucket : ℕ)
+    : Type 0 where
+  pub taken : slice_get flags bucket ≡ Some true
+  pub no_holder : (party : ℕ) (log : PoolLog) → HasLog logs party log → ¬ IsHeldAfter log bucket
 
 -- the logs, where a party's has one more entry
 abbrev pub with_entry : List PoolLog → ℕ → PoolLog → PoolEntry → List PoolLog

@@ -3,6 +3,7 @@ use Rattle.std.specs.Prelude.{◌≡◌, ℕ, ◌<◌, ◌^◌, List, Option, Re
 use Rattle.std.specs.declared.vec.Vec.{Vec}
 use Rattle.bb_memory_base.specs.PoolMachine.{PoolState, all_free, pool_step, pool_after}
 use Rattle.bb_memory_base.specs.PoolHistory as histories
+use Rattle.bb_memory_base.specs.declared.steps.pool.Flag.{Flag}
 use Rattle.bb_memory_base.specs.declared.steps.pool.PoolStep.{PoolStep}
 use Rattle.bb_memory_base.specs.declared.steps.pool.PoolOutcome.{PoolOutcome}
 
@@ -10,12 +11,12 @@ use Rattle.bb_memory_base.specs.declared.steps.pool.PoolOutcome.{PoolOutcome}
 abbrev pub PoolWorld : Type 0
 PoolWorld = PoolState
 
-abbrev pub world_of : List (Option ℕ) → List (Option ℕ) → PoolWorld
-world_of holders calls = record { holders = holders; calls = calls }
+abbrev pub world_of : List Flag → List (Option ℕ) → PoolWorld
+world_of flags calls = record { flags = flags; calls = calls }
 
 -- each bucket has a number that a step can name
 abbrev pub IsPoolWorld : PoolWorld → Type 0
-IsPoolWorld world = length world.holders < 2 ^ 32
+IsPoolWorld world = length world.flags < 2 ^ 32
 
 -- the machine over so many buckets, all flags free, with so many parties, all idle
 abbrev pub opened : ℕ → ℕ → PoolWorld

@@ -1,4 +1,4 @@
--- A seat's flags, and what a round or a return makes of the log that they tell of.
+-- A seat's flags, and what a round, a return, a detached or an attached bucket makes of the log that they tell of.
 use Rattle.std.proofs.Common.{◌≡◌, ℕ, ◌<◌, Bool, true, false, List, ◌++◌, length, sym, ap, ◌∙◌, subst, inl, inr}
 use Rattle.std.specs.Prelude.{Some, Ok, Err, ◌==◌, if◌then◌else◌, slice_get, slice_set}
 use Rattle.std.proofs.lemmas.Bool.{cases_eq}
@@ -12,8 +12,8 @@ use Rattle.bb_memory_base.proofs.PoolSteps.{test_same, test_apart}
 use Rattle.bb_memory_base.proofs.SliceGets.{length-set_at}
 use Rattle.bb_memory_base.proofs.SliceSets.{slice_get-set_other, slice_get-set_same}
 use Rattle.bb_memory_base.proofs.PoolHolders.{held_through}
-use Rattle.bb_memory.specs.SharedPool.{PoolParty, SharedPool, TakenBucket, return_entry, with_entries}
-use Rattle.bb_memory.specs.SharedPoolRounds.{MayTakeFrom, taking_at, taking_round}
+use Rattle.bb_memory.specs.SharedPool.{PoolParty, SharedPool, TakenBucket, detach_entry, return_entry, attach_entry, with_entries}
+use Rattle.bb_memory.specs.SharedPoolRounds.{MayTakeFrom, taking_round}
 use Rattle.bb_memory.proofs.SharedPoolRounds.{held-round, missed_same}
 use Rattle.bb_memory.proofs.SharedPoolTries.{held-append}
 use Rattle.bb_memory_c.specs.SharedPools.{AreHeldFlags, IsSeatAt}
@@ -25,10 +25,15 @@ after-return : (party returned bucket : ℕ) (log : PoolLog) →
     ≡ (if returned == bucket then false else held_through bucket false log)
 after-return party returned bucket log = held-append bucket false log (return_entry party returned)
 
-after-taking : (party taken bucket : ℕ) (log : PoolLog) →
-    held_through bucket false (log ++ taking_at party taken)
+after-detach : (party handed bucket : ℕ) (log : PoolLog) →
+    held_through bucket false (log ++ detach_entry party handed)
+    ≡ (if handed == bucket then false else held_through bucket false log)
+after-detach party handed bucket log = held-append bucket false log (detach_entry party handed)
+
+after-attach : (party taken bucket : ℕ) (log : PoolLog) →
+    held_through bucket false (log ++ attach_entry party taken)
     ≡ (if taken == bucket then true else held_through bucket false log)
-after-taking party taken bucket log = held-append bucket false log (taking_at party taken)
+after-attach party taken bucket log = held-append bucket false log (attach_entry party taken)
 
 -- FLAGS
 
@@ -111,16 +116,30 @@ returned-seat pool party new flags number is held told =
           (λ bucket. after-return party.number number bucket party.log);
     }
 
--- the taking of one bucket sets it
-pub taken-over-seat : (pool : SharedPool) (party new : PoolParty) (flags : List Bool) (number : ℕ) →
+-- so does detaching one
+pub detached-seat : (pool : SharedPool) (party new : PoolParty) (flags : List Bool) (number : ℕ) →
+    IsSeatAt pool party flags → IsHeldAfter party.log number →
+    new ≡ with_entries party (detach_entry party.number number) →
+    IsSeatAt pool new (slice_set flags number false)
+detached-seat pool party new flags number is held told =
+    let below : number < length flags = slice_get_within flags number true ((is.exact number).1 held) in
+    subst (λ (p : PoolParty). IsSeatAt pool p (slice_set flags number false)) (sym told) record {
+      theirs = is.theirs;
+      as_many = length-set_at flags number false ∙ is.as_many;
+      exact = flags-set flags number false party.log (party.log ++ detach_entry party.number number) below is.exact
+          (λ bucket. after-detach party.number number bucket party.log);
+    }
+
+-- attaching one bucket sets it
+pub attached-seat : (pool : SharedPool) (party new : PoolParty) (flags : List Bool) (number : ℕ) →
     IsSeatAt pool party flags → number < pool.scene.geometry.buckets →
-    new ≡ with_entries party (taking_at party.number number) →
+    new ≡ with_entries party (attach_entry party.number number) →
     IsSeatAt pool new (slice_set flags number true)
-taken-over-seat pool party new flags number is below told =
+attached-seat pool party new flags number is below told =
     let there : number < length flags = subst (λ n. number < n) (sym is.as_many) below in
     subst (λ (p : PoolParty). IsSeatAt pool p (slice_set flags number true)) (sym told) record {
       theirs = is.theirs;
       as_many = length-set_at flags number true ∙ is.as_many;
-      exact = flags-set flags number true party.log (party.log ++ taking_at party.number number) there is.exact
-          (λ bucket. after-taking party.number number bucket party.log);
+      exact = flags-set flags number true party.log (party.log ++ attach_entry party.number number) there is.exact
+          (λ bucket. after-attach party.number number bucket party.log);
     }

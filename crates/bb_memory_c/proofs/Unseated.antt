@@ -11,7 +11,7 @@ use Rattle.std.proofs.lemmas.Option.{same_Some, slice_get-get_or}
 use Rattle.std.proofs.Math.ListN.{replicate}
 use Rattle.bb_memory_base.proofs.SliceGets.{slice_get-last, slice_get-replicated}
 use Rattle.bb_memory.specs.SharedBump.{BumpParty, SharedBump}
-use Rattle.bb_memory.specs.SharedPool.{AreHandedOut, PoolParty, SharedPool}
+use Rattle.bb_memory.specs.SharedPool.{AreFresh, PoolParty, SharedPool}
 use Rattle.bb_memory_c.specs.Calls.{TakesSeat}
 use Rattle.bb_memory_c.specs.Codes.{malloc_refused, no_seat}
 use Rattle.bb_memory_c.specs.Seats.{Seats, joined, left_at}
@@ -19,9 +19,9 @@ use Rattle.bb_memory_c.specs.SharedBumps.{AreUnseated as AreUnseatedAtBump, IsAt
 use Rattle.bb_memory_c.specs.SharedPools.{AreUnseated, IsAt, IsIdleAt, IsSeatAt}
 
 -- a party that has made no step holds nothing
-pub fresh-idle : (has_post : Bool) (pool : SharedPool) (count : ℕ) (parties : List PoolParty) →
-    AreHandedOut has_post pool count parties → All (IsIdleAt pool) parties
-fresh-idle has_post pool count parties are = λ k d below.
+pub fresh-idle : (pool : SharedPool) (count : ℕ) (parties : List PoolParty) → AreFresh pool count parties →
+    All (IsIdleAt pool) parties
+fresh-idle pool count parties are = λ k d below.
     let first : k < count = subst (λ n. k < n) are.as_many below in
     subst (IsIdleAt pool) (same_Some _ _ (sym (are.fresh k first) ∙ slice_get-get_or parties k d below)) record {
       theirs = refl;
@@ -30,13 +30,13 @@ fresh-idle has_post pool count parties are = λ k d below.
 
 -- so such parties are those of a fresh pool that have no seat
 pub fresh-unseated : (its pool : SharedPool) (count len capacity : ℕ) (parties items : List PoolParty) → its ≡ pool →
-    items ≡ parties → len ≡ length items → len ≤ capacity → AreHandedOut false pool count parties →
+    items ≡ parties → len ≡ length items → len ≤ capacity → AreFresh pool count parties →
     AreUnseated its capacity items
 fresh-unseated its pool count len capacity parties items same is as_long fits are =
     subst (λ (p : SharedPool). AreUnseated p capacity items) (sym same) record {
       at_most = omega (arith, ap length is, are.as_many, are.so_many);
       room = omega (arith, ap length is, as_long, fits, are.as_many, are.so_many);
-      idle = subst (All (IsIdleAt pool)) (sym is) (fresh-idle false pool count parties are);
+      idle = subst (All (IsIdleAt pool)) (sym is) (fresh-idle pool count parties are);
     }
 
 -- what holds of all of a list holds of its last one
@@ -58,11 +58,6 @@ fresh-seat pool party flags count is none as_many = record {
     λ held. absurd (is.idle (bucket, held)),
   );
 }
-
--- the parties of a pool with a post that are handed out are fewer than all
-pub handed-fewer : (pool : SharedPool) (count : ℕ) (parties : List PoolParty) → AreHandedOut true pool count parties →
-    length parties + 1 ≡ pool.scene.parties
-handed-fewer pool count parties are = omega (arith, are.so_many, are.as_many)
 
 -- one that comes back holding nothing is one more of them
 pub one-more : (pool : SharedPool) (capacity room : ℕ) (parties all : List PoolParty) (back : PoolParty) →

@@ -73,9 +73,9 @@ no_bucket = 16
 abbrev pub seats_out : ℕ
 seats_out = 18
 
--- the pool has no post
-abbrev pub no_post : ℕ
-no_post = 19
+-- the pool has no other party
+abbrev pub one_party : ℕ
+one_party = 19
 
 -- a bucket is in the envelope already
 abbrev pub envelope_full : ℕ

@@ -17,7 +17,7 @@ use Rattle.bb_memory.specs.SharedPoolRounds.{MayTakeFrom}
 abbrev pub PoolSeats : Type 0
 PoolSeats = Seats SharedPool PoolParty
 
--- the party is this pool's, and not all parties of it are without a seat; a post counts as one that has a seat
+-- the party is this pool's, and not all parties of it are without a seat
 abbrev pub IsAt : PoolSeats → PoolParty → Type 0
 IsAt seats party = IsOneOf seats party.allocator seats.shared.scene.parties
 

@@ -46,8 +46,8 @@ pub(crate) const NO_BUCKET: u32 = 16;
 /// Not each party's seat has come back.
 pub(crate) const SEATS_OUT: u32 = 18;
 
-/// The pool has no post.
-pub(crate) const NO_POST: u32 = 19;
+/// The pool has no other party.
+pub(crate) const ONE_PARTY: u32 = 19;
 
 /// A bucket is in the envelope already.
 pub(crate) const ENVELOPE_FULL: u32 = 20;

@@ -1,67 +1,17 @@
-//! Buckets that go from seat to seat, in envelopes: pools with a post, envelopes, and what a seat does with one.
-ghost use Rattle.std.specs.Prelude.{◌≡◌, ◌≢◌, ◌↔◌, IsTrue, None, Some};
-ghost use Rattle.bb_memory_base.specs.Region.{region_at};
-ghost use Rattle.bb_memory.specs.SharedPoolTransit.{MayHavePost};
+//! Buckets that go from seat to seat, in envelopes: envelopes, and what a seat does with one.
+ghost use Rattle.std.specs.Prelude.{◌≡◌, ◌≢◌, None, Some};
 ghost use Rattle.bb_memory_c.specs.Answers.{refused};
-ghost use Rattle.bb_memory_c.specs.Calls.{AnswersFree, AnswersMake, AnswersOfBoth, AnswersPoolMake, IfBoth};
+ghost use Rattle.bb_memory_c.specs.Calls.{AnswersFree, AnswersMake, AnswersOfBoth, IfBoth};
 ghost use Rattle.bb_memory_c.specs.Calls.{TellsWhether};
 ghost use Rattle.bb_memory_c.specs.Codes.{not_made};
-ghost use Rattle.bb_memory_c.specs.Layouts.{HasRoom};
-ghost use Rattle.bb_memory_c.specs.Transit.{AreBesidePost, IsForPool, MakesPoolWithPost, TellsHandOver, TellsTakeOver};
+ghost use Rattle.bb_memory_c.specs.Transit.{IsForPool, TellsDetach, TellsAttach};
 
 use crate::answer::{Answer, Figure};
 use crate::call::{free, is_made, keep, tell};
 use crate::code;
 use crate::envelope::Envelope;
-use crate::handle::{EnvelopeHandle, Handle, PoolSeatHandle, SharedPoolHandle};
-use crate::layout::{cut_into, has_room};
-use crate::pool_seat::PoolSeats;
+use crate::handle::{EnvelopeHandle, Handle, PoolSeatHandle};
 use std::alloc::Global;
-
-/// Whether so many parties may be handed out beside a post: at least one, and fewer than `u32::MAX`.
-fn may_have_post(parties: u32) -> bool
-    ensures { IsTrue result ↔ AreBesidePost parties }
-{
-    parties > 0 && parties < u32::MAX
-}
-
-/// Makes a shared pool as `bb_shared_pool_make` does, and with a post, so that its seats may hand buckets over. Its parties are
-/// at least one, and fewer than `UINT32_MAX`.
-///
-/// C guarantees of the handle what the crate's page says.
-#[unsafe(no_mangle)]
-pub extern "C" fn bb_shared_pool_make_with_post(
-    alloc: Global,
-    handle: &mut SharedPoolHandle,
-    bucket_size: usize,
-    bucket_align: usize,
-    start: usize,
-    size: usize,
-    parties: u32,
-) -> u32
-    ensures { AnswersPoolMake handle.old.value handle.new.value bucket_size bucket_align result
-        (λ bucket. MayHavePost (region_at start size) bucket parties)
-        (HasRoom (region_at start size))
-        (λ bucket. MakesPoolWithPost (region_at start size) bucket parties) }
-{
-    if is_made(handle, alloc) {
-        return code::ALREADY_MADE;
-    }
-    let bucket = match cut_into(bucket_size, bucket_align, start, size) {
-        Ok(bucket) => bucket,
-        Err(code) => return code,
-    };
-    if !may_have_post(parties) {
-        return code::CANNOT_MAKE;
-    }
-    if !has_room(bucket, start, size) {
-        return code::NO_BUCKET;
-    }
-    let Some(seats) = PoolSeats::with_post(alloc, bucket, start, size, parties) else {
-        return code::MALLOC_REFUSED;
-    };
-    keep(handle, alloc, seats)
-}
 
 /// Makes an envelope with nothing in it, behind a handle that has to be empty.
 ///
@@ -116,7 +66,7 @@ pub extern "C" fn bb_pool_seat_hand_over(
 ) -> u32
     ensures { AnswersOfBoth handle.old.value handle.new.value
         envelope.old.value envelope.new.value (result ≡ not_made)
-        (λ party inside. TellsHandOver party inside place len result) }
+        (λ party inside. TellsDetach party inside place len result) }
 {
     let Some(seat) = handle.made_mut() else {
         return code::NOT_MADE;
@@ -124,7 +74,7 @@ pub extern "C" fn bb_pool_seat_hand_over(
     let Some(inside) = envelope.made_mut() else {
         return code::NOT_MADE;
     };
-    seat.hand_over(place, len, inside)
+    seat.detach(place, len, inside)
 }
 
 /// Takes the bucket that is in the envelope, which is empty then: this seat holds it, with the chunk that is answered. It takes
@@ -140,7 +90,7 @@ pub extern "C" fn bb_pool_seat_take_over(
     requires { IfBoth handle.old.value envelope.old.value IsForPool }
     ensures { AnswersOfBoth handle.old.value handle.new.value
         envelope.old.value envelope.new.value (result ≡ refused not_made)
-        (λ party inside. TellsTakeOver party inside result) }
+        (λ party inside. TellsAttach party inside result) }
 {
     let Some(seat) = handle.made_mut() else {
         return Answer::refusal(code::NOT_MADE);
@@ -148,5 +98,5 @@ pub extern "C" fn bb_pool_seat_take_over(
     let Some(inside) = envelope.made_mut() else {
         return Answer::refusal(code::NOT_MADE);
     };
-    seat.take_over(inside)
+    seat.attach(inside)
 }

@@ -1,7 +1,7 @@
 //! The examples of the libraries' doc comments, as they stand there. What each `prove!` says is decided by contracts alone.
 #![tactic(auto, unfolding(bb_memory_base::specs::LeastPlace::least_place))]
 
-ghost use Rattle.std.specs.Prelude.{◌≡◌, [], IfOk, true};
+ghost use Rattle.std.specs.Prelude.{◌≡◌, ◌<◌, [], IfOk};
 ghost use Rattle.bb_memory.specs.OneChunk.{StandsFor};
 
 use crate::errors::GiveError;
@@ -209,27 +209,18 @@ pub fn shared_pool_by_number(alloc: Global) -> Result<(), AllocationError> {
     Ok(())
 }
 
-pub fn shared_pool_with_post(alloc: Global) -> Result<(), AllocationError> {
-    pool_count_law();
-    let bucket = Layout::from_size_align(128, 8).unwrap();
-    let (pool, parties) = SharedPoolAllocator::with_post(alloc, bucket, 4096, 1024, 2)?;
-    let (count, has_post) = (parties.len(), pool.has_post());
-    prove!(count == 2 && has_post);
-    Ok(())
-}
-
 pub fn shared_pool_hand_over(
     pool: &SharedPoolAllocator,
     sender: &mut PoolParty,
     receiver: &mut PoolParty,
 ) -> Result<(), AllocationError>
-    requires { (pool.now.has_post ≡ true) × (sender.old.allocator ≡ pool.now)
+    requires { (1 < pool.now.scene.parties) × (sender.old.allocator ≡ pool.now)
         × (receiver.old.allocator ≡ pool.now) }
 {
     let taken = pool.allocate(sender, Layout::from_size_align(48, 4).unwrap())?;
-    let message = pool.hand_over(sender, taken);
+    let message = pool.detach(sender, taken);
     let (number, len) = (message.number(), message.len());
-    let received = pool.take_over(receiver, message);
+    let received = pool.attach(receiver, message);
     let (its_number, its_len) = (received.number(), received.chunk().len());
     prove!(its_number == number && its_len == len && len == 48);
     pool.deallocate_bucket(receiver, received);

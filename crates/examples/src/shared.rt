@@ -64,29 +64,6 @@ pub fn rounds_of_a_pool(alloc: Global) -> Result<(), AllocationError> {
     Ok(())
 }
 
-/// Parties of a pool meet in a history.
-pub fn history_of_a_pool(alloc: Global) -> Result<(), AllocationError> {
-    pool_count_law();
-    let bucket = Layout::from_size_align(128, 8).unwrap();
-    let (pool, mut parties) = SharedPoolAllocator::new(alloc, bucket, 4096, 1024, 2)?;
-    let mut history = pool.begin_history(&mut parties[0]);
-    pool.meet_again(&mut history, &mut parties);
-    let count = parties.len();
-    prove!(count == 2);
-    Ok(())
-}
-
-/// Of a pool whose parties are all here one takes a bucket, and gives it back.
-pub fn all_of_a_pool(alloc: Global) -> Result<(), AllocationError> {
-    pool_count_law();
-    let bucket = Layout::from_size_align(128, 8).unwrap();
-    let (pool, mut parties) = SharedPoolAllocator::new(alloc, bucket, 4096, 1024, 2)?;
-    let asked = Layout::from_size_align(48, 4).unwrap();
-    let taken = pool.allocate_among(&mut parties, 1, asked)?;
-    pool.deallocate_among(&mut parties, 1, taken);
-    Ok(())
-}
-
 /// A party that gives back what it takes holds then what it held before: one that was idle is idle again.
 pub fn idle_again(pool: &SharedPoolAllocator, party: &mut PoolParty, layout: Layout)
     requires { party.old.allocator ≡ pool.now }

@@ -6,25 +6,27 @@ use Rattle.std.specs.Prelude.{slice_get, unwrap_or}
 use Rattle.std.proofs.lemmas.Grind.{flat_map-append}
 use Rattle.std.proofs.lemmas.List.{append-nil, take_more}
 use Rattle.std.proofs.lemmas.Option.{unwrap_or-slice_get}
+use Rattle.bb_memory_base.specs.PoolMachine.{holder_in}
+use Rattle.bb_memory_base.specs.declared.steps.pool.Flag.{Flag}
+use Rattle.bb_memory_base.specs.declared.steps.pool.Flag.TheVariants.{Free}
 use Rattle.script_runner.proofs.Appending.{appends_again}
-use Rattle.script_runner.specs.kinds.PoolSteps.{holder_text}
+use Rattle.script_runner.specs.kinds.PoolSteps.{flag_text, holder_text}
 
--- the texts of one holder more
-texts-more : (holders : List (Option ℕ)) (i : ℕ) → i < length holders
-    → flat_map holder_text (take (i + 1) holders) ≡ flat_map holder_text (take i holders) ++ holder_text
-    (unwrap_or (slice_get holders i) None)
-texts-more holders i below =
+-- the texts of one flag more
+texts-more : (flags : List Flag) (i : ℕ) → i < length flags
+    → flat_map flag_text (take (i + 1) flags) ≡ flat_map flag_text (take i flags) ++ flag_text (unwrap_or (slice_get flags i) Free)
+texts-more flags i below =
     rw (
-      take_more holders i None below,
-      flat_map-append holder_text (take i holders) (get_or holders i None ∷ []),
-      unwrap_or-slice_get holders i None,
+      take_more flags i Free below,
+      flat_map-append flag_text (take i flags) (get_or flags i Free ∷ []),
+      unwrap_or-slice_get flags i Free,
     )
-    (ap (λ t. flat_map holder_text (take i holders) ++ t) (append-nil (holder_text (get_or holders i None))))
+    (ap (λ t. flat_map flag_text (take i flags) ++ t) (append-nil (flag_text (get_or flags i Free))))
 
--- the holders so far are written, and then one more
-pub appends_holder : (old mid new : Option (List ℕ)) (holders : List (Option ℕ)) (i : ℕ) → i < length holders
-    → Appends old mid (flat_map holder_text (take i holders))
-    → Appends mid new (holder_text (unwrap_or (slice_get holders i) None))
-    → Appends old new (flat_map holder_text (take (i + 1) holders))
-appends_holder old mid new holders i below before more =
-    rw (texts-more holders i below) (appends_again old mid new _ _ before more)
+-- the holders of the flags so far are written, and then one more
+pub appends_holder : (old mid new : Option (List ℕ)) (flags : List Flag) (i : ℕ) → i < length flags
+    → Appends old mid (flat_map flag_text (take i flags))
+    → Appends mid new (holder_text (holder_in (unwrap_or (slice_get flags i) Free)))
+    → Appends old new (flat_map flag_text (take (i + 1) flags))
+appends_holder old mid new flags i below before more =
+    rw (texts-more flags i below) (appends_again old mid new _ _ before more)

@@ -2,7 +2,6 @@
 mod at_most;
 mod bump_rows;
 mod checks;
-mod histories;
 mod pool_rows;
 mod pool_worlds;
 mod refused_in_turn;

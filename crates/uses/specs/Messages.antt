@@ -2,10 +2,10 @@
 use Rattle.std.specs.Prelude.{ℕ, Err}
 use Rattle.bb_memory_base.specs.declared.allocator.AllocationError.{AllocationError}
 use Rattle.bb_memory_base.specs.declared.layout.Layout.{Layout}
-use Rattle.bb_memory.specs.SharedPool.{PoolParty, return_entry, with_entries}
-use Rattle.bb_memory.specs.SharedPoolRounds.{MayTakeFrom, taking_at}
+use Rattle.bb_memory.specs.SharedPool.{PoolParty, return_entry, attach_entry, with_entries}
+use Rattle.bb_memory.specs.SharedPoolRounds.{MayTakeFrom}
 
--- the party has given this bucket back, or handed it over: its log has that
+-- the party has given this bucket back: its log has that
 abbrev pub without : ℕ → PoolParty → PoolParty
 without bucket party = with_entries party (return_entry party.number bucket)
 
@@ -16,4 +16,4 @@ IsRefused sender layout new error = (first : ℕ) × MayTakeFrom first sender la
 -- a receiver that took this bucket over and gave it back
 abbrev pub having_received : ℕ → PoolParty → PoolParty
 having_received bucket receiver =
-    without bucket (with_entries receiver (taking_at receiver.number bucket))
+    without bucket (with_entries receiver (attach_entry receiver.number bucket))

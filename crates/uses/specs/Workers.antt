@@ -1,5 +1,5 @@
 -- Threads that share a bump or a pool, each with a party of its own, which it hands back.
-use Rattle.std.specs.Prelude.{◌≡◌, ◌≢◌, ◌+◌, ◌<◌, [], ℕ, All, List, Ok, Result, length}
+use Rattle.std.specs.Prelude.{◌≡◌, ◌≢◌, ◌+◌, ◌<◌, [], ℕ, All, List, Result, length}
 use Rattle.bb_memory_base.specs.BumpHistory.{chunks_won}
 use Rattle.bb_memory_base.specs.PoolLogs.{IsHeldAfter}
 use Rattle.bb_memory_base.specs.PoolObject.{IsWithin}
@@ -8,7 +8,6 @@ use Rattle.bb_memory_base.specs.declared.allocator.AllocationError.TheVariants.{
 use Rattle.bb_memory_base.specs.declared.layout.Layout.{Layout}
 use Rattle.bb_memory.specs.SharedBump.{SharedBump, BumpParty}
 use Rattle.bb_memory.specs.SharedPool.{MayTake, SharedPool, PoolParty, TakenBucket, refused_pass, with_entries}
-use Rattle.bb_memory.specs.SharedPoolAmong.{HasAskedAt, HasGivenBackAt}
 use Rattle.bb_memory.specs.SharedPoolRounds.{MayTakeFrom}
 
 -- a party of the bump comes back under its number, with how many chunks it got meanwhile
@@ -65,13 +64,6 @@ pub record MayBeServed (pool : SharedPool) (layout : Layout) (party : PoolParty)
   pub fresh : party.log ≡ []
   pub buckets : 0 < pool.scene.geometry.buckets
   pub within : IsWithin pool.scene.geometry.bucket layout
-
--- one of all parties gave back the bucket of this number, and then another one was given this bucket
-pub record GivesAndGets (pool : SharedPool) (old : List PoolParty) (index number other : ℕ) (layout : Layout)
-    (bucket : TakenBucket) (new : List PoolParty) : Type 0 where
-  pub between : List PoolParty
-  pub given : HasGivenBackAt pool old index number between
-  pub got : HasAskedAt pool between other layout (Ok bucket) new
 
 -- the worker is this board's, and has this slot of it
 pub record HasSlot (board : SharedPool) (worker : PoolParty) (slot : TakenBucket) : Type 0 where

@@ -11,7 +11,7 @@
 //! - `ring`: messages for several readers, over a loan book. In `ring/laws` what the book's calls do to its newest and its oldest
 //!   sample.
 //! - `workers`: two threads over one bump. `bump_workers`: four, and the bump that one owner then has again. `pool_workers`:
-//!   threads over one pool. `pool_histories`: threads whose meetings are remembered, and a pool whose parties are all here.
+//!   threads over one pool.
 //! - `job_board`: slots of a shared pool, each with one holder.
 //! - `pool_messages`: messages whose buckets are taken by one party and given back by another.
 //! - `last_chunk`: what three of them call for a chunk that goes back as soon as it was given.
@@ -28,7 +28,6 @@ pub mod job_board;
 pub mod keyed_slab;
 mod last_chunk;
 pub mod mailbox;
-pub mod pool_histories;
 pub mod pool_messages;
 pub mod pool_workers;
 pub mod ring;

@@ -1,5 +1,5 @@
 //! Messages between threads, each in a bucket of one shared pool: the sender takes it, and the receiver gives it back.
-ghost use Rattle.std.specs.Prelude.{◌≡◌, IfErr, IfOk, true};
+ghost use Rattle.std.specs.Prelude.{◌≡◌, ◌<◌, IfErr, IfOk};
 ghost use Rattle.bb_memory_base.specs.PoolLogs.{IsHeldAfter};
 ghost use Rattle.bb_memory.specs.SharedPool.{MayTakeBucket, chunk_of};
 ghost use Rattle.uses.specs.Messages.{IsRefused, having_received};
@@ -7,35 +7,35 @@ ghost use Rattle.uses.specs.Workers.{KeepsBuckets};
 
 use bb_memory::allocator::AllocationError;
 use bb_memory::layout::{Chunk, Layout};
-use bb_memory::shared_pool::{BucketInTransit, PoolParty, SharedPoolAllocator};
+use bb_memory::shared_pool::{DetachedBucket, PoolParty, SharedPoolAllocator};
 
 /// Takes a bucket for a message, and hands it over. What is answered may go to any thread.
 pub fn send(
     pool: &SharedPoolAllocator,
     sender: &mut PoolParty,
     layout: Layout,
-) -> Result<BucketInTransit, AllocationError>
-    requires post { pool.now.has_post ≡ true }
+) -> Result<DetachedBucket, AllocationError>
+    requires others { 1 < pool.now.scene.parties }
     requires sender { sender.old.allocator ≡ pool.now }
     ensures sender { sender.new.allocator ≡ pool.now }
     ensures message { IfOk result (λ message. message.allocator ≡ pool.now) }
     ensures taken { IfOk result
         (λ message. MayTakeBucket sender.old layout message.number) }
     ensures long_enough { IfOk result (λ message. message.len ≡ layout.size) }
-    ensures handed_over { IfOk result
+    ensures was_detached { IfOk result
         (λ message. ¬ IsHeldAfter sender.new.log message.number) }
     ensures keeps { KeepsBuckets sender.old sender.new }
     ensures refused { IfErr result (IsRefused sender.old layout sender.new) }
 {
     let bucket = pool.allocate_near(sender, layout)?;
-    Ok(pool.hand_over(sender, bucket))
+    Ok(pool.detach(sender, bucket))
 }
 
 /// Takes a message over, reads where its chunk lies, and gives its bucket back.
 pub fn receive(
     pool: &SharedPoolAllocator,
     receiver: &mut PoolParty,
-    message: BucketInTransit,
+    message: DetachedBucket,
 ) -> Chunk
     requires receiver { receiver.old.allocator ≡ pool.now }
     requires message { message.allocator ≡ pool.now }
@@ -43,7 +43,7 @@ pub fn receive(
     ensures chunk { result ≡ chunk_of message }
     ensures given_back { receiver.new ≡ having_received message.number receiver.old }
 {
-    let bucket = pool.take_over(receiver, message);
+    let bucket = pool.attach(receiver, message);
     let chunk = bucket.chunk();
     pool.deallocate_bucket(receiver, bucket);
     chunk

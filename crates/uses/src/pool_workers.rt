@@ -1,7 +1,7 @@
 //! Threads that take buckets of one pool, and what is known once all of them are back.
 ghost use Rattle.std.specs.Prelude.{◌≡◌, ◌≢◌, ◌↔◌, [], ℕ, All, IfOk, List, Some, true, length, slice_get};
 ghost use Rattle.bb_memory_base.specs.PoolMachine.{PoolScene};
-ghost use Rattle.bb_memory.specs.SharedPool.{AreFresh, HasTaker, HaveAllNumbers, HaveMet, IsHeldByOne, PoolParty};
+ghost use Rattle.bb_memory.specs.SharedPool.{AreFresh, HasTaker, HaveAllNumbers, HaveMet, IsHeldOrDetached, PoolParty};
 ghost use Rattle.uses.specs.Workers.{AllComeBack, AsksInPass, AsksNear, ComesBack, HasAskedNear, MayBeServed};
 
 use bb_memory::layout::Layout;
@@ -34,7 +34,8 @@ fn ask_near(pool: &SharedPoolAllocator, worker: &mut PoolParty, layout: Layout)
 }
 
 /// Four workers take a bucket each, all at once, and meet when they are back: one list of steps has all their logs and nothing
-/// else, and a flag is taken exactly where one of them holds the bucket. It is refused only where memory was.
+/// else, and a flag is taken exactly where one of them holds the bucket, or it is detached. It is refused only where memory
+/// was.
 pub fn four_workers<R: Threads + Sync>(
     rt: &R,
     alloc: Global,
@@ -121,8 +122,9 @@ pub fn all_met_law()
         → HaveMet scene parties → length parties ≡ scene.parties
         → HaveAllNumbers scene.parties parties }
 
-    // A flag is taken exactly where one of them holds the bucket.
+    // A flag is taken exactly where one of them holds the bucket, or it is detached.
     ensures taken { (scene : PoolScene) (parties : List PoolParty) (met : HaveMet scene parties)
         → length parties ≡ scene.parties
-        → (bucket : ℕ) → (slice_get met.0 bucket ≡ Some true) ↔ IsHeldByOne parties bucket }
+        → (bucket : ℕ) → (slice_get met.0 bucket ≡ Some true)
+        ↔ IsHeldOrDetached scene met.1.agree.steps parties bucket }
 {}

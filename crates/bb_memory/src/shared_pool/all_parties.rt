@@ -4,11 +4,12 @@ ghost use Rattle.std.specs.Prelude.{Some, [], length, slice_get, true};
 ghost use Rattle.bb_memory_base.specs.Chunk.{Chunk};
 ghost use Rattle.bb_memory_base.specs.LiveList.{IsSound};
 ghost use Rattle.bb_memory_base.specs.PoolObject.{IsHeld};
-ghost use Rattle.bb_memory_base.specs.PoolMachine.{PoolScene};
+ghost use Rattle.bb_memory_base.specs.PoolMachine.{IsDetached, PoolScene, left_by};
 ghost use Rattle.bb_memory_base.specs.PoolCalls.{AreAsked, IsPoolRun};
 ghost use Rattle.bb_memory_base.specs.PoolHistory.{history_of, log_of};
 ghost use Rattle.bb_memory_base.specs.declared.layout.Layout.{Layout};
-ghost use Rattle.bb_memory.specs.SharedPool.{HasTaker, HaveMet, IsHeldByOne, IsSharedScene, PoolParty, TookOne, refused_pass};
+ghost use Rattle.bb_memory.specs.SharedPool.{HasTaker, HaveMet, WasDetachedByOne, IsHeldByOne, IsHeldOrDetached, IsSharedScene};
+ghost use Rattle.bb_memory.specs.SharedPool.{PoolParty, TookOne, refused_pass};
 
 use super::buckets::SharedBucketPool;
 use super::party::PoolParty;
@@ -37,12 +38,22 @@ pub fn shared_pool_meeting_law()
         → IsPoolRun scene met.1.agree.steps layouts live → bucket < scene.geometry.buckets
         → (slice_get met.0 bucket ≡ Some true ↔ IsHeld scene.geometry live bucket) }
 
-    // Where all have met, it holds a bucket exactly where one of them does.
+    // Where all have met, it holds a bucket exactly where one of them does, or the bucket is detached.
     ensures held { (scene : PoolScene) (parties : List PoolParty) (met : HaveMet scene parties)
         (layouts : List Layout) (live : List Chunk) (bucket : ℕ) → IsSharedScene scene
         → length parties ≡ scene.parties
         → IsPoolRun scene met.1.agree.steps layouts live → bucket < scene.geometry.buckets
-        → (IsHeld scene.geometry live bucket ↔ IsHeldByOne parties bucket) }
+        → (IsHeld scene.geometry live bucket
+        ↔ IsHeldOrDetached scene met.1.agree.steps parties bucket) }
+
+    // No party that met holds a detached bucket, and where all have met, one of them has handed it over. So where none has
+    // handed a bucket over, its flag is taken exactly where one of them holds it.
+    ensures detached { (scene : PoolScene) (parties : List PoolParty) (met : HaveMet scene parties)
+        (bucket : ℕ) → IsDetached (left_by scene met.1.agree.steps) bucket
+        → ¬ IsHeldByOne parties bucket }
+    ensures was_detached { (scene : PoolScene) (parties : List PoolParty) (met : HaveMet scene parties)
+        (bucket : ℕ) → length parties ≡ scene.parties
+        → IsDetached (left_by scene met.1.agree.steps) bucket → WasDetachedByOne parties bucket }
 
     // Each party's steps in the list of steps are its log.
     ensures logged { (scene : PoolScene) (parties : List PoolParty) (met : HaveMet scene parties)

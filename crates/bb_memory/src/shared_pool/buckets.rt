@@ -6,8 +6,8 @@ ghost use Rattle.bb_memory_base.specs.Chunk.{Chunk, IsInside};
 ghost use Rattle.bb_memory_base.specs.PoolObject.{IsWithin, MayGrow, MayShrink};
 ghost use Rattle.bb_memory_base.specs.PoolLogs.{IsHeldAfter};
 ghost use Rattle.bb_memory.specs.Seats.{Stays, number_of, view_log};
-ghost use Rattle.bb_memory.specs.SharedPool.{AreAllHeldAfter, AreBothOf, AreHandedOut, AreInterleaved, HaveMet, IsAlignedTo};
-ghost use Rattle.bb_memory.specs.SharedPool.{IsResizedTo, IsSameParty, IsSharedScene, MayTake, chunk_of, count_with_post};
+ghost use Rattle.bb_memory.specs.SharedPool.{AreAllHeldAfter, AreBothOf, AreFresh, AreInterleaved, HaveMet, IsAlignedTo};
+ghost use Rattle.bb_memory.specs.SharedPool.{IsResizedTo, IsSameParty, IsSharedScene, MayTake, chunk_of};
 ghost use Rattle.bb_memory.specs.SharedPool.{return_entry, with_entries};
 ghost use Rattle.bb_memory.specs.SharedPoolRule.{IsIdleAt, MaySeat};
 ghost use Rattle.bb_memory.specs.SharedPoolSteps.{HasRefused, HasTaken};
@@ -47,26 +47,18 @@ impl<const CAPPED: usize, const MOST: usize> Model for SharedBucketPool<CAPPED, 
 }
 
 impl<const CAPPED: usize, const MOST: usize> SharedBucketPool<CAPPED, MOST> {
-    /// A pool over these buckets, with all flags free, and so many parties that are handed out, which are idle. A post is one
-    /// party more.
+    /// A pool over these buckets, with all flags free, and so many parties, which are idle.
     pub(super) fn make(
         alloc: Global,
         geometry: Geometry,
         parties: u32,
-        has_post: bool,
     ) -> Result<(Self, Vec<PoolParty>), AllocationError>
         requires some { 1 ≤ parties }
-        requires fit { count_with_post has_post parties < 2 ^ 32 }
         ensures geometry { IfOk result (λ made. made.0.scene.geometry ≡ geometry) }
-        ensures parties { IfOk result (λ made. AreHandedOut has_post made.0 parties made.1.items) }
+        ensures parties { IfOk result (λ made. AreFresh made.0 parties made.1.items) }
         ensures refused { IfErr result (λ error. error ≡ AllocationError.OutOfMemory) }
     {
-        let all_parties = if has_post { parties + 1 } else { parties };
-        let scene = Scene {
-            geometry,
-            parties: all_parties,
-            has_post,
-        };
+        let scene = Scene { geometry, parties };
         let Ok(mut all) = Vec::with_capacity(alloc, parties as usize) else {
             return Err(AllocationError::OutOfMemory);
         };
@@ -81,18 +73,12 @@ impl<const CAPPED: usize, const MOST: usize> SharedBucketPool<CAPPED, MOST> {
     /// Gives each party a seat of its own.
     fn seat_parties(&self, mut rest: Seat<u8, View>, parties: u32, all: &mut Vec<PoolParty>)
         requires { MaySeat self.now parties rest.table_id rest.me all.old }
-        ensures { AreHandedOut self.now.has_post self.now parties all.new.items }
+        ensures { AreFresh self.now parties all.new.items }
     {
-        let has_post = self.has_post();
         for number in 0..parties {
             let seat = self.flags.deal(&mut rest);
             let near = part_of(number, parties, self.number_of_buckets());
-            all.push_reserved(PoolParty {
-                number,
-                seat,
-                has_post,
-                near,
-            });
+            all.push_reserved(PoolParty { number, seat, near });
         }
     }
 
@@ -162,7 +148,7 @@ impl<const CAPPED: usize, const MOST: usize> SharedBucketPool<CAPPED, MOST> {
     }
 
     /// Gives back a bucket by one store, which makes its flag free. The party and the bucket have to be this pool's, and the
-    /// party's log has to hold the bucket: this party took it, and it wasn't given back since.
+    /// party's log has to hold the bucket: this party took it, or took it over, and it wasn't given back or handed over since.
     pub fn deallocate_bucket(&self, party: &mut PoolParty, bucket: Bucket<'_>)
         requires party { party.old.allocator ≡ self.now }
         requires bucket { bucket.allocator ≡ self.now }
@@ -194,8 +180,8 @@ impl<const CAPPED: usize, const MOST: usize> SharedBucketPool<CAPPED, MOST> {
     }
 
     /// All these parties meet: one interleaving has all their logs. Where these are all the pool's parties, it has no other
-    /// steps, and a flag is taken exactly where one of them holds the bucket. It loads a word once, and two times more for each
-    /// party but one, which is in no log, and changes nothing. The parties have to be this pool's.
+    /// steps, and a flag is taken exactly where one of them holds the bucket, or it is detached. It loads a word once, and two
+    /// times more for each party but one, which is in no log, and changes nothing. The parties have to be this pool's.
     pub fn meet_all(&self, parties: &mut Vec<PoolParty>)
         requires parties { All (λ party. party.allocator ≡ self.now) parties.old.items }
         ensures kept { parties.new.items ≡ parties.old.items }
@@ -207,16 +193,10 @@ impl<const CAPPED: usize, const MOST: usize> SharedBucketPool<CAPPED, MOST> {
             let PoolParty {
                 number,
                 mut seat,
-                has_post,
                 near,
             } = party;
             flags.meet_rest(&mut seat, parties);
-            parties.push_reserved(PoolParty {
-                number,
-                seat,
-                has_post,
-                near,
-            });
+            parties.push_reserved(PoolParty { number, seat, near });
         }
     }
 
@@ -274,11 +254,11 @@ impl<const CAPPED: usize, const MOST: usize> SharedBucketPool<CAPPED, MOST> {
         self.flags.geometry().count()
     }
 
-    /// Whether the pool was made with a post, so that a party may hand a bucket over to another.
-    pub fn has_post(&self) -> bool
-        ensures value { result ≡ self.now.has_post }
+    /// How many parties the pool was made for. Where there are two at least, a party may hand a bucket over to another.
+    pub fn number_of_parties(&self) -> u32
+        ensures value { result ≡ self.now.scene.parties }
     {
-        self.flags.scene.has_post
+        self.flags.scene.parties
     }
 
     /// The size of a bucket in bytes, as it was asked for. The buckets are at least that far apart.

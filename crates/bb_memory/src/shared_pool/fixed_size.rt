@@ -3,8 +3,7 @@ ghost use Rattle.std.specs.Prelude.{◌≡◌, ◌-◌, ◌<◌, ◌≤◌, ◌^
 ghost use Rattle.bb_memory_base.specs.Region.{region_at};
 ghost use Rattle.bb_memory.specs.HeldBuckets.{IsCutAtMost};
 ghost use Rattle.bb_memory.specs.Pool.{MayBeCut};
-ghost use Rattle.bb_memory.specs.SharedPool.{AreFresh, AreFreshWithPost};
-ghost use Rattle.bb_memory.specs.SharedPoolTransit.{IsCutOrRefused, MayHavePost};
+ghost use Rattle.bb_memory.specs.SharedPool.{AreFresh};
 
 use super::buckets::SharedBucketPool;
 use super::party::PoolParty;
@@ -55,28 +54,6 @@ impl<const MAX_NUMBER_OF_BUCKETS: usize> SharedFixedSizePoolAllocator<MAX_NUMBER
     {
         let most = MAX_NUMBER_OF_BUCKETS as u32;
         let geometry = Geometry::cut_at_most(bucket_layout, start, size, most);
-        Self::make(alloc, geometry, parties, false)
-    }
-
-    /// A pool as `new` makes it, and with a post, as
-    /// [`SharedPoolAllocator::with_post`](super::SharedPoolAllocator::with_post) makes one: its parties may hand buckets over.
-    /// Its conditions and its refusal are those of `new`; and the parties have to be fewer than `u32::MAX`, since the post is one
-    /// more.
-    pub fn with_post(
-        alloc: Global,
-        bucket_layout: Layout,
-        start: usize,
-        size: usize,
-        parties: u32,
-    ) -> Result<(Self, Vec<PoolParty>), AllocationError>
-        requires may { MayHavePost (region_at start size) bucket_layout parties
-            × (MAX_NUMBER_OF_BUCKETS < 2 ^ 32 - 1) }
-        ensures cut { IsCutOrRefused
-            (IsCutAtMost MAX_NUMBER_OF_BUCKETS (region_at start size) bucket_layout) result }
-        ensures parties { IfOk result (λ made. AreFreshWithPost made.0 parties made.1.items) }
-    {
-        let most = MAX_NUMBER_OF_BUCKETS as u32;
-        let geometry = Geometry::cut_at_most(bucket_layout, start, size, most);
-        Self::make(alloc, geometry, parties, true)
+        Self::make(alloc, geometry, parties)
     }
 }

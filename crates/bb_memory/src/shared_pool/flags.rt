@@ -1,25 +1,22 @@
 //! The flags that threads share, one a bucket: their words, and the only calls that touch them.
 //!
 //! `try_flag`, `try_at` and `give_back` make one atomic step each, by the seat of the party whose step it is, and tell that its
-//! log then ends with that step and what it found. `hand_over` and `take_over` make two steps at one load of a bucket's word, one
-//! of the party's and one of the post's, and load a word more for the seat of what is in transit. `deal`, `gather`, `find`,
-//! `meet`, `meet_in_transit`, `tell_apart`, `begin_history`, `find_again` and `give_first_back` only load words, and are in no
-//! log; `open` is before all sharing, and `geometry` touches no word.
-ghost use Rattle.std.specs.Prelude.{◌≡◌, ◌≢◌, ℕ, ◌<◌, ◌≤◌, [], IfOk, MatchBool};
+//! log then ends with that step and what it found. So do `detach` and `attach`, whose step is a load of the bucket's word,
+//! and which load a word more for the seat of what is detached. `deal`, `gather`, `find` and `meet` only load words, and are in
+//! no log; `open` is before all sharing, and `geometry` touches no word.
+ghost use Rattle.std.specs.Prelude.{◌≡◌, ℕ, ◌<◌, ◌≤◌, [], IfOk, MatchBool};
 ghost use Rattle.bb_memory_base.specs.Region.{IsRegion};
 ghost use Rattle.bb_memory_base.specs.PoolGeometry.{IsPoolGeometry};
-ghost use Rattle.bb_memory_base.specs.PoolLogs.{IsHeldAfter};
 ghost use Rattle.bb_memory.specs.FlagWords.{bucket_of, word_of, words_for};
-ghost use Rattle.bb_memory.specs.Seats.{IsDealt, MayGather, Stays, both_of, number_of, others_of, view_log};
-ghost use Rattle.bb_memory.specs.SharedPoolRule.{AreTwoAt, IsHeldAt, IsIdleAt, IsInTransitAt, IsNextFor, IsOpened, IsSeatAt};
-ghost use Rattle.bb_memory.specs.SharedPoolRule.{MayHandOverAt, MayMeetTransit, RemembersAt, StandsAt, first_back};
-ghost use Rattle.bb_memory.specs.SharedPoolRule.{IsSplit, fresh_history};
-ghost use Rattle.bb_memory.specs.SharedPoolSteps.{HasFound, HasMissedAt, HasTakenAt, TellsLoss, TellsReturn, TellsTaking};
-ghost use Rattle.bb_memory.specs.SharedPoolSteps.{HasFoundAgain, TellsTwo};
+ghost use Rattle.bb_memory.specs.Seats.{IsDealt, MayGather, Stays, both_of, number_of, view_log};
+ghost use Rattle.bb_memory.specs.SharedPoolRule.{AreTwoAt, IsHeldAt, IsIdleAt, IsDetachedAt, IsNextFor, IsOpened, IsSeatAt};
+ghost use Rattle.bb_memory.specs.SharedPoolRule.{MayDetachAt, MayAttachAt, StandsAt};
+ghost use Rattle.bb_memory.specs.SharedPoolSteps.{HasFound, HasDetachedAt, HasMissedAt, HasTakenAt, HasAttachedAt};
+ghost use Rattle.bb_memory.specs.SharedPoolSteps.{TellsLoss, TellsReturn, TellsTaking, TellsTwo};
 
 use super::rule::{
-    Agreement, Gather, GiveFirst, GiveFirstBack, GiveHistory, GiveTransit, HandsOver, Meets,
-    MeetsAgain, MeetsTransit, Returns, Scene, TakeIn, TakesOver, TellsApart, Tries, TriesAt, View,
+    Agreement, Attaches, Detaches, Gather, GiveDetached, GiveFirst, Meets, Returns, Scene, TakeIn,
+    Tries, TriesAt, View,
 };
 use crate::pool_allocator::geometry::Geometry;
 use atomic_table::{Seat, Table};
@@ -65,21 +62,20 @@ impl Model for Flags {
 
     ghost view = { λ f. record {
       table = f.table.shared.table_id;
-      scene = f.scene.scene;
-      has_post = f.scene.has_post;
+      scene = f.scene;
     } };
 
     ghost invariant = { λ f. (f.table.shared.key ≡ f.scene)
-        × HasWords f.table.shared.table_id f.scene.scene };
+        × HasWords f.table.shared.table_id f.scene };
 }
 
 impl Flags {
-    /// The flags at a scene's opening, all free, and a seat that stands for all its parties that are handed out.
+    /// The flags at a scene's opening, all free, and a seat that stands for all its parties.
     pub(super) fn open(alloc: Global, scene: Scene) -> Result<(Flags, Seat<u8, View>), AllocError>
-        requires { 1 ≤ scene.scene.parties }
+        requires { 1 ≤ scene.parties }
         ensures opened { IfOk result (λ made. IsOpened scene made.0 made.1.table_id made.1.me) }
-        ensures region { IfOk result (λ made. IsRegion scene.scene.geometry.region) }
-        ensures geometry { IfOk result (λ made. IsPoolGeometry scene.scene.geometry) }
+        ensures region { IfOk result (λ made. IsRegion scene.geometry.region) }
+        ensures geometry { IfOk result (λ made. IsPoolGeometry scene.geometry) }
     {
         let words = Vec::from_elem(alloc, FREE, count_words(scene.geometry.count()))?;
         let (table, seat) = Table::of_words(alloc, words.as_slice(), &scene)?;
@@ -141,71 +137,28 @@ impl Flags {
             .store::<Returns>(seat, word_of(bucket), FREE);
     }
 
-    /// A load of its word, by the party after whose log this bucket is held: the party gives the bucket back, and the post takes
-    /// it at once. What is returned has the bucket in transit.
-    pub(super) fn hand_over(&self, seat: &mut Seat<u8, View>, bucket: u32) -> Seat<u8, View>
-        requires { MayHandOverAt self.now seat.old.table_id seat.old.me bucket }
-        ensures step { Stays self.now.table seat.new.table_id (TellsReturn self.now.scene
+    /// A load of its word, by the party after whose log this bucket is held, and which isn't the only one. What is returned has
+    /// the bucket detached.
+    pub(super) fn detach(&self, seat: &mut Seat<u8, View>, bucket: u32) -> Seat<u8, View>
+        requires { MayDetachAt self.now seat.old.table_id seat.old.me bucket }
+        ensures step { Stays self.now.table seat.new.table_id (HasDetachedAt self.now.scene
             (number_of seat.old.me.0) (view_log seat.old.me.0) bucket seat.new.me) }
-        ensures transit { IsInTransitAt self.now result.table_id result.me bucket }
+        ensures transit { IsDetachedAt self.now result.table_id result.me bucket }
     {
-        self.table.shared.load::<HandsOver>(seat, word_of(bucket));
-        self.table.shared.split_seat::<GiveTransit>(seat)
+        self.table.shared.load::<Detaches>(seat, word_of(bucket));
+        self.table.shared.split_seat::<GiveDetached>(seat)
     }
 
-    /// A load of its word, by an idle party to whose seat this bucket in transit comes: the post gives the bucket back, and the
-    /// party takes it at once.
-    pub(super) fn take_over(&self, seat: &mut Seat<u8, View>, transit: Seat<u8, View>, bucket: u32)
-        requires { MayMeetTransit self.now seat.old.table_id seat.old.me
+    /// A load of its word, by an idle party to whose seat this bucket detached comes.
+    pub(super) fn attach(&self, seat: &mut Seat<u8, View>, transit: Seat<u8, View>, bucket: u32)
+        requires { MayAttachAt self.now seat.old.table_id seat.old.me
             transit.table_id transit.me bucket }
-        ensures { Stays seat.old.table_id seat.new.table_id (HasTakenAt self.now.scene
+        ensures { Stays seat.old.table_id seat.new.table_id (HasAttachedAt self.now.scene
             (number_of seat.old.me.0) (view_log seat.old.me.0) bucket seat.new.me) }
     {
         let shared = &self.table.shared;
         shared.join_seat::<TakeIn>(seat, transit);
-        shared.load::<TakesOver>(seat, word_of(bucket));
-    }
-
-    /// A party and a bucket in transit meet at one seat, load a word there, and go back to their own.
-    pub(super) fn meet_in_transit(
-        &self,
-        seat: &mut Seat<u8, View>,
-        transit: &mut Seat<u8, View>,
-        bucket: u32,
-    )
-        requires { MayMeetTransit self.now seat.old.table_id seat.old.me
-            transit.old.table_id transit.old.me bucket }
-        ensures seat { Stays seat.old.table_id seat.new.table_id (seat.new.me ≡ seat.old.me) }
-        ensures transit { Stays transit.old.table_id transit.new.table_id
-            (transit.new.me ≡ transit.old.me) }
-        ensures apart { ¬ IsHeldAfter (view_log seat.old.me.0) bucket }
-    {
-        let shared = &self.table.shared;
-        let guest = shared.split_seat::<GiveTransit>(transit);
-        shared.join_seat::<TakeIn>(seat, guest);
-        shared.load::<MeetsTransit>(seat, 0);
-        *transit = shared.split_seat::<GiveTransit>(seat);
-    }
-
-    /// Two buckets in transit meet at one seat, load a word there, and go back to their own.
-    pub(super) fn tell_apart(
-        &self,
-        one: &mut Seat<u8, View>,
-        other: &mut Seat<u8, View>,
-        first: u32,
-        second: u32,
-    )
-        requires one { IsInTransitAt self.now one.old.table_id one.old.me first }
-        requires other { IsInTransitAt self.now other.old.table_id other.old.me second }
-        ensures one { Stays one.old.table_id one.new.table_id (one.new.me ≡ one.old.me) }
-        ensures other { Stays other.old.table_id other.new.table_id (other.new.me ≡ other.old.me) }
-        ensures differ { first ≢ second }
-    {
-        let shared = &self.table.shared;
-        let guest = shared.split_seat::<GiveTransit>(other);
-        shared.join_seat::<TakeIn>(one, guest);
-        shared.load::<TellsApart>(one, 0);
-        *other = shared.split_seat::<GiveTransit>(one);
+        shared.load::<Attaches>(seat, word_of(bucket));
     }
 
     /// A guest's parties go to this seat, before its own.
@@ -239,34 +192,6 @@ impl Flags {
         self.gather(a, guest);
         self.find(a);
         *b = self.deal(a);
-    }
-
-    /// A seat for a history, which remembers nothing.
-    pub(super) fn begin_history(&self, seat: &mut Seat<u8, View>) -> Seat<u8, View>
-        requires { seat.old.table_id ≡ self.now.table }
-        ensures { IsSplit seat.old.table_id seat.new.table_id seat.new.me seat.old.me
-            result.table_id result.me (fresh_history seat.old.me.0, []) }
-    {
-        self.table.shared.split_seat::<GiveHistory>(seat)
-    }
-
-    /// A load where parties have met at the seat of a history.
-    pub(super) fn find_again(&self, seat: &mut Seat<u8, View>)
-        requires { RemembersAt self.now seat.old.table_id seat.old.me }
-        ensures { HasFoundAgain self.now.scene seat.old.me.0.parties
-            seat.old.table_id seat.old.me seat.new.table_id seat.new.me }
-    {
-        self.table.shared.load::<MeetsAgain>(seat, 0);
-    }
-
-    /// A seat of its own for the first party that is at the seat of a history.
-    pub(super) fn give_first_back(&self, history: &mut Seat<u8, View>) -> Seat<u8, View>
-        requires { history.old.table_id ≡ self.now.table }
-        ensures { IsSplit history.old.table_id history.new.table_id
-            history.new.me (others_of history.old.me.0, history.old.me.1)
-            result.table_id result.me (first_back history.old.me.0, []) }
-    {
-        self.table.shared.split_seat::<GiveFirstBack>(history)
     }
 
     /// The buckets that the flags are of.

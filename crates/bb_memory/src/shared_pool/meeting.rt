@@ -25,7 +25,6 @@ impl Flags {
         let PoolParty {
             number,
             seat: guest,
-            has_post,
             near,
         } = party;
         self.gather(seat, guest);
@@ -34,7 +33,6 @@ impl Flags {
         rest.push_reserved(PoolParty {
             number,
             seat: back,
-            has_post,
             near,
         });
     }

@@ -12,8 +12,6 @@ use std::marker::Model;
 pub struct PoolParty {
     pub(super) number: u32,
     pub(super) seat: Seat<u8, View>,
-    /// Whether its pool has a post.
-    pub(super) has_post: bool,
     /// Where the party's next round begins: at first in its own part of the pool, and then at the bucket that it gave back
     /// last, or behind the one that its last round took.
     pub(super) near: u32,
@@ -25,7 +23,7 @@ impl Model for PoolParty {
 
     ghost Value = { PoolParty };
 
-    ghost view = { λ p. party_in p.seat.table_id p.has_post p.number p.seat.me.0 };
+    ghost view = { λ p. party_in p.seat.table_id p.number p.seat.me.0 };
 
     ghost invariant = { λ p. IsPartySeat p.number p.seat.me };
 }

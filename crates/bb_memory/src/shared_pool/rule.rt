@@ -3,21 +3,20 @@ use crate::pool_allocator::geometry::Geometry;
 use atomic_table::{Join, Play, Split, TableRule};
 use std::marker::Model;
 
-/// The scene of a shared pool's machine: where it begins, and whether the last of its parties is a post.
+/// The scene of a shared pool's machine: where it begins.
 #[derive(Drop)]
 pub(crate) struct Scene {
     pub(crate) geometry: Geometry,
     pub(crate) parties: u32,
-    pub(crate) has_post: bool,
 }
 
 impl Model for Scene {
+    ghost use Rattle.bb_memory_base.specs.PoolMachine.{PoolScene};
     ghost use Rattle.bb_memory.specs.SharedPool.{scene_at};
-    ghost use Rattle.bb_memory.specs.SharedPoolRule.{PoolSetting};
 
-    ghost Value = { PoolSetting };
+    ghost Value = { PoolScene };
 
-    ghost view = { λ s. record { scene = scene_at s.geometry s.parties; has_post = s.has_post } };
+    ghost view = { λ s. scene_at s.geometry s.parties };
 }
 
 /// What a seat knows: the parties that it stands for, each with its log. No value of this type is made.
@@ -78,70 +77,43 @@ impl Play<u8, View> for Meets {
     ghost then = { meets };
 }
 
-/// A load by the seat of a history, at which any number of parties are.
-pub(crate) struct MeetsAgain;
-
-impl Play<u8, View> for MeetsAgain {
-    ghost use Rattle.bb_memory.specs.SharedPoolSteps.{meets_again};
-
-    ghost then = { meets_again };
-}
-
 /// A load by a party after whose log the bucket is held, which hands it over.
-pub(crate) struct HandsOver;
+pub(crate) struct Detaches;
 
-impl Play<u8, View> for HandsOver {
-    ghost use Rattle.bb_memory.specs.SharedPoolSteps.{hands_over};
+impl Play<u8, View> for Detaches {
+    ghost use Rattle.bb_memory.specs.SharedPoolSteps.{detaches};
 
-    ghost then = { hands_over };
+    ghost then = { detaches };
 }
 
-/// A load by a party at whose seat the bucket is in transit, which takes it over.
-pub(crate) struct TakesOver;
+/// A load by a party at whose seat the bucket is detached, which takes it over.
+pub(crate) struct Attaches;
 
-impl Play<u8, View> for TakesOver {
-    ghost use Rattle.bb_memory.specs.SharedPoolSteps.{takes_over};
+impl Play<u8, View> for Attaches {
+    ghost use Rattle.bb_memory.specs.SharedPoolSteps.{attaches};
 
-    ghost then = { takes_over };
+    ghost then = { attaches };
 }
 
-/// A load by a party at whose seat a bucket is in transit.
-pub(crate) struct MeetsTransit;
+/// The first bucket that is detached goes to the new seat.
+pub(crate) struct GiveDetached;
 
-impl Play<u8, View> for MeetsTransit {
-    ghost use Rattle.bb_memory.specs.SharedPoolSteps.{meets_transit};
+impl Split<View> for GiveDetached {
+    ghost use Rattle.bb_memory.specs.Seats.{first_detached, others_detached};
 
-    ghost then = { meets_transit };
+    ghost left = { others_detached };
+
+    ghost right = { first_detached };
 }
 
-/// A load by a seat at which two buckets are in transit.
-pub(crate) struct TellsApart;
-
-impl Play<u8, View> for TellsApart {
-    ghost use Rattle.bb_memory.specs.SharedPoolSteps.{tells_apart};
-
-    ghost then = { tells_apart };
-}
-
-/// The first bucket that is in transit goes to the new seat.
-pub(crate) struct GiveTransit;
-
-impl Split<View> for GiveTransit {
-    ghost use Rattle.bb_memory.specs.Seats.{first_in_transit, others_in_transit};
-
-    ghost left = { others_in_transit };
-
-    ghost right = { first_in_transit };
-}
-
-/// What is in transit at one seat comes to another.
+/// What is detached at one seat comes to another.
 pub(crate) struct TakeIn;
 
 impl Join<View> for TakeIn {
-    ghost use Rattle.bb_memory.specs.Seats.{both_in_transit};
+    ghost use Rattle.bb_memory.specs.Seats.{both_detached};
     ghost use Rattle.bb_memory.specs.SharedPoolRule.{nobody};
 
-    ghost both = { both_in_transit };
+    ghost both = { both_detached };
 
     ghost spent = { nobody };
 }
@@ -155,29 +127,6 @@ impl Split<View> for GiveFirst {
     ghost left = { others_of };
 
     ghost right = { first_of };
-}
-
-/// The first party goes from the seat of a history to a new one.
-pub(crate) struct GiveFirstBack;
-
-impl Split<View> for GiveFirstBack {
-    ghost use Rattle.bb_memory.specs.Seats.{others_of};
-    ghost use Rattle.bb_memory.specs.SharedPoolRule.{first_back};
-
-    ghost left = { others_of };
-
-    ghost right = { first_back };
-}
-
-/// A new seat for a history. The parties stay.
-pub(crate) struct GiveHistory;
-
-impl Split<View> for GiveHistory {
-    ghost use Rattle.bb_memory.specs.SharedPoolRule.{fresh_history};
-
-    ghost left = { λ view. view };
-
-    ghost right = { fresh_history };
 }
 
 /// One seat stands for the parties of two.

@@ -6,16 +6,27 @@ ghost use Rattle.bb_memory_base.specs.Chunk.{Chunk};
 ghost use Rattle.bb_memory_base.specs.LiveList.{IsSound};
 ghost use Rattle.bb_memory_base.specs.PoolGeometry.{PoolGeometry, pool_geometry, FillsRegion, IsPoolGeometry, at_most};
 ghost use Rattle.bb_memory_base.specs.PoolObject.{IsHeld};
-ghost use Rattle.bb_memory_base.specs.PoolMachine.{PoolScene, IsHolder, IsTaken, left_by, opening_state, pool_step};
+ghost use Rattle.bb_memory_base.specs.PoolMachine.{PoolScene, IsHolder, IsDetached, IsTaken, left_by, opening_state, pool_step};
 ghost use Rattle.bb_memory_base.specs.PoolHistory.{PoolLog, entry_of, history_of, log_of};
 ghost use Rattle.bb_memory_base.specs.PoolCalls.{AreAsked, FoundHeld, IsCallRun, IsHeldInRun, IsPoolRun};
 ghost use Rattle.bb_memory_base.specs.PoolCalls.{IsRefusedAt, LosesAt, MissesAt};
-ghost use Rattle.bb_memory_base.specs.PoolLogs.{AllAllowed, CommonInterleaving, HasLog, Interleaving, IsHeldAfter};
-ghost use Rattle.bb_memory_base.specs.PoolLogs.{LogsAgree, loss_at, next_bucket, pass_in, with_entry};
+ghost use Rattle.bb_memory_base.specs.PoolLogs.{AllAllowed, CommonInterleaving, WasDetached, HasLog, Interleaving, IsHeldAfter};
+ghost use Rattle.bb_memory_base.specs.PoolLogs.{IsDetachedAfter, LogsAgree, loss_at, next_bucket, pass_in, with_entry};
 ghost use Rattle.bb_memory_base.specs.declared.layout.Layout.{Layout};
 ghost use Rattle.bb_memory_base.specs.declared.steps.pool.PoolStep.{PoolStep};
-ghost use Rattle.bb_memory_base.specs.declared.steps.pool.PoolStep.TheVariants.{Try, GiveBack, TryAt};
-ghost use Rattle.bb_memory_base.specs.declared.steps.pool.PoolOutcome.TheVariants.{Takes, Gives, Misses};
+ghost use Rattle.bb_memory_base.specs.declared.steps.pool.PoolStep.TheVariants.{Try, GiveBack, TryAt, Detach, Attach};
+ghost use Rattle.bb_memory_base.specs.declared.steps.pool.PoolOutcome.TheVariants.{Takes, Gives, Misses, Detaches, Attaches};
+
+/// What the flag of a bucket is. In memory a flag has two values: free, and taken for the other two.
+#[derive(Debug, Clone, Copy)]
+pub enum Flag {
+    /// No party has the bucket, and each may take it.
+    Free,
+    /// This party holds the bucket.
+    HeldBy(u32),
+    /// The bucket is on its way: a party has detached it, and no party has attached it since.
+    Detached,
+}
 
 /// One atomic step over the pool's flags, of which each bucket has one.
 #[derive(Debug, Clone, Copy, PartialEq, Eq)]
@@ -27,6 +38,11 @@ pub enum PoolStep {
     GiveBack { party: u32, bucket: u32 },
     /// The party, which is in no pass, tries to take one bucket of its choice.
     TryAt { party: u32, bucket: u32 },
+    /// The party detaches a bucket, as only its holder may, and only where there is another party. No party holds the
+    /// bucket then, and its flag stays taken.
+    Detach { party: u32, bucket: u32 },
+    /// The party, which is in no pass, attaches a detached bucket, and holds it then.
+    Attach { party: u32, bucket: u32 },
 }
 
 /// What a step found, and what it did.
@@ -44,6 +60,10 @@ pub enum PoolOutcome {
     Passed,
     /// The bucket's flag was taken, and the party, which is in no pass, stays so. It changed nothing.
     Misses(u32),
+    /// The bucket's holder detached it. Its flag stays taken.
+    Detaches(u32),
+    /// The bucket was detached, and the party is now its holder. Its flag stays taken.
+    Attaches(u32),
 }
 
 /// Whatever steps any number of parties take over the flags of a pool, from the opening with all flags free. It does
@@ -111,6 +131,19 @@ pub fn pool_theorem()
         → IsPoolGeometry scene.geometry → MissesAt (history_of scene steps) party bucket k
         → (bucket < scene.geometry.buckets) × IsTaken (left_by scene (take k steps)) bucket
         × IsHeldInRun scene (take k steps) bucket }
+
+    // A detached bucket is held after no party's log.
+    ensures detached_unheld { (scene : PoolScene) (steps : List PoolStep) (party bucket : ℕ)
+        → IsDetached (left_by scene steps) bucket
+        → ¬ IsHeldAfter (log_of scene steps party) bucket }
+
+    // A machine with one party has no detached bucket, since no other party could attach it.
+    ensures none_detached_alone { (scene : PoolScene) (steps : List PoolStep) (bucket : ℕ)
+        → scene.parties ≡ 1 → ¬ IsDetached (left_by scene steps) bucket }
+
+    // Some step has detached a detached bucket.
+    ensures was_detached { (scene : PoolScene) (steps : List PoolStep) (bucket : ℕ)
+        → IsDetached (left_by scene steps) bucket → WasDetached (history_of scene steps) bucket }
 {}
 
 /// What follows from the parties' logs alone, where they agree with the flags: some list of steps, each allowed, leaves
@@ -166,6 +199,28 @@ pub fn pool_log_theorem()
         → (let giving = entry_of (GiveBack party bucket) (Gives bucket) in
         LogsAgree scene (slice_set flags bucket false) (with_entry logs party log giving)) }
 
+    // Where there is another party, a party after whose log a bucket is held may detach it, and its flag stays taken.
+    ensures detach { (scene : PoolScene) (flags : List Bool) (logs : List PoolLog)
+        (party : ℕ) (log : PoolLog) (bucket : ℕ) → LogsAgree scene flags logs
+        → 1 < scene.parties → HasLog logs party log → IsHeldAfter log bucket
+        → (let detaching = entry_of (Detach party bucket) (Detaches bucket) in
+        LogsAgree scene flags (with_entry logs party log detaching)
+        × IsDetachedAfter flags (with_entry logs party log detaching) bucket) }
+
+    // Where each party that was made has its log in the list, any of them that is in no pass may attach a detached bucket,
+    // which changes no flag.
+    ensures attach { (scene : PoolScene) (flags : List Bool) (logs : List PoolLog)
+        (party : ℕ) (log : PoolLog) (bucket : ℕ) → LogsAgree scene flags logs
+        → length logs ≡ scene.parties → party < scene.parties → HasLog logs party log
+        → pass_in log ≡ None → IsDetachedAfter flags logs bucket
+        → (let attaching = entry_of (Attach party bucket) (Attaches bucket) in
+        LogsAgree scene flags (with_entry logs party log attaching)) }
+
+    // The bucket is then detached in the steps that agree, too.
+    ensures detached { (scene : PoolScene) (flags : List Bool) (logs : List PoolLog)
+        (bucket : ℕ) → (agree : LogsAgree scene flags logs) → length logs ≡ scene.parties
+        → IsDetachedAfter flags logs bucket → IsDetached (left_by scene agree.steps) bucket }
+
     // No bucket is held after two logs.
     ensures apart { (scene : PoolScene) (flags : List Bool) (logs : List PoolLog)
         (party : ℕ) (log : PoolLog) (other : ℕ) (other_log : PoolLog) (bucket : ℕ)
@@ -177,13 +232,13 @@ pub fn pool_log_theorem()
         (log : PoolLog) (bucket : ℕ) → LogsAgree scene flags logs → scene.parties ≡ 1
         → HasLog logs 0 log → slice_get flags bucket ≡ Some true → IsHeldAfter log bucket }
 
-    // Where each party's log is there, it is held after one of them.
+    // Where each party's log is there, it is held after one of them, or detached.
     ensures whole { (scene : PoolScene) (flags : List Bool) (logs : List PoolLog)
-        (bucket : ℕ) → LogsAgree scene flags logs
+        (bucket : ℕ) → (agree : LogsAgree scene flags logs)
         → ((party : ℕ) → party < scene.parties → (log : PoolLog) × HasLog logs party log)
         → slice_get flags bucket ≡ Some true
-        → (party : ℕ) × (log : PoolLog) × (party < scene.parties) × HasLog logs party log
-        × IsHeldAfter log bucket }
+        → ((party : ℕ) × (log : PoolLog) × (party < scene.parties) × HasLog logs party log
+        × IsHeldAfter log bucket) ⊎ IsDetached (left_by scene agree.steps) bucket }
 
     // A bucket whose flag is free is held after no log.
     ensures free { (scene : PoolScene) (flags : List Bool) (logs : List PoolLog)

@@ -1,9 +1,10 @@
-//! A pool machine that can be run: of each bucket its holder, and of each party the bucket that its pass tries next.
+//! A pool machine that can be run: of each bucket its flag, and of each party the bucket that its pass tries next.
 ghost use Rattle.std.specs.Prelude.{◌≡◌, ◌<◌, IsSome, IfOk, length, slice_get};
 ghost use Rattle.bb_memory_base.specs.PoolMachine.{holder_of, try_flag, try_next, give_flag, try_at, try_one};
+ghost use Rattle.bb_memory_base.specs.PoolMachine.{detach_flag, attach_flag, attach};
 ghost use Rattle.bb_memory_base.specs.PoolWorld.{Replays, Steps, opened};
 
-use super::{PoolOutcome, PoolStep};
+use super::{Flag, PoolOutcome, PoolStep};
 use std::alloc::{AllocError, Global};
 use std::marker::Model;
 
@@ -19,7 +20,7 @@ use std::marker::Model;
 #[derive(Drop)]
 pub struct PoolWorld {
     alloc: Global,
-    holders: Vec<Option<u32>>,
+    flags: Vec<Flag>,
     calls: Vec<Option<u32>>,
 }
 
@@ -28,9 +29,9 @@ impl Model for PoolWorld {
 
     ghost Value = { PoolWorld };
 
-    ghost view = { λ w. world_of w.holders.items w.calls.items };
+    ghost view = { λ w. world_of w.flags.items w.calls.items };
 
-    ghost invariant = { λ w. IsPoolWorld (world_of w.holders.items w.calls.items) };
+    ghost invariant = { λ w. IsPoolWorld (world_of w.flags.items w.calls.items) };
 }
 
 impl PoolWorld {
@@ -39,11 +40,11 @@ impl PoolWorld {
     pub fn new(alloc: Global, buckets: u32, parties: u32) -> Result<PoolWorld, AllocError>
         ensures opened { IfOk result (λ world. world ≡ opened buckets parties) }
     {
-        let holders = vec![in alloc; None; buckets as usize]?;
+        let flags = vec![in alloc; Flag::Free; buckets as usize]?;
         let calls = vec![in alloc; None; parties as usize]?;
         Ok(PoolWorld {
             alloc,
-            holders,
+            flags,
             calls,
         })
     }
@@ -56,6 +57,8 @@ impl PoolWorld {
             PoolStep::Try { party } => self.try_next(party),
             PoolStep::GiveBack { party, bucket } => self.give_flag(party, bucket),
             PoolStep::TryAt { party, bucket } => self.try_at(party, bucket),
+            PoolStep::Detach { party, bucket } => self.detach(party, bucket),
+            PoolStep::Attach { party, bucket } => self.attach(party, bucket),
         }
     }
 
@@ -74,18 +77,19 @@ impl PoolWorld {
 
     /// How many buckets there are.
     pub fn number_of_buckets(&self) -> u32
-        ensures { result ≡ length self.now.holders }
+        ensures { result ≡ length self.now.flags }
     {
-        self.holders.len() as u32
+        self.flags.len() as u32
     }
 
-    /// The party that holds the bucket: `None` where its flag is free, or where there is no such bucket.
+    /// The party that holds the bucket: `None` where its flag is free, where it is detached, or where there is no such
+    /// bucket.
     pub fn holder(&self, bucket: u32) -> Option<u32>
         ensures { result ≡ holder_of self.now bucket }
     {
-        match found_at(&self.holders, bucket as usize) {
-            Some(holder) => holder,
-            None => None,
+        match found_at(&self.flags, bucket as usize) {
+            Some(Flag::HeldBy(party)) => Some(party),
+            Some(Flag::Free | Flag::Detached) | None => None,
         }
     }
 
@@ -105,19 +109,19 @@ impl PoolWorld {
     /// A party tries the flag of a bucket.
     fn try_flag(&mut self, party: u32, bucket: u32) -> PoolOutcome
         requires { party < length self.old.calls }
-        ensures outcome { let flag = slice_get self.old.holders bucket in
+        ensures outcome { let flag = slice_get self.old.flags bucket in
             result ≡ (try_flag self.old party bucket flag).outcome }
-        ensures state { let flag = slice_get self.old.holders bucket in
+        ensures state { let flag = slice_get self.old.flags bucket in
             self.new ≡ (try_flag self.old party bucket flag).state }
     {
-        match found_at(&self.holders, bucket as usize) {
-            Some(None) => {
-                self.holders[bucket as usize] = Some(party);
+        match found_at(&self.flags, bucket as usize) {
+            Some(Flag::Free) => {
+                self.flags[bucket as usize] = Flag::HeldBy(party);
                 self.calls[party as usize] = None;
                 PoolOutcome::Takes(bucket)
             }
-            Some(Some(_)) => {
-                if bucket as usize + 1 < self.holders.len() {
+            Some(Flag::HeldBy(_) | Flag::Detached) => {
+                if bucket as usize + 1 < self.flags.len() {
                     self.calls[party as usize] = Some(bucket + 1);
                     PoolOutcome::Loses(bucket)
                 } else {
@@ -131,21 +135,21 @@ impl PoolWorld {
 
     /// A party gives back a bucket.
     fn give_flag(&mut self, party: u32, bucket: u32) -> PoolOutcome
-        ensures outcome { let flag = slice_get self.old.holders bucket in
+        ensures outcome { let flag = slice_get self.old.flags bucket in
             result ≡ (give_flag self.old party bucket flag).outcome }
-        ensures state { let flag = slice_get self.old.holders bucket in
+        ensures state { let flag = slice_get self.old.flags bucket in
             self.new ≡ (give_flag self.old party bucket flag).state }
     {
-        match found_at(&self.holders, bucket as usize) {
-            Some(Some(holder)) => {
+        match found_at(&self.flags, bucket as usize) {
+            Some(Flag::HeldBy(holder)) => {
                 if holder == party {
-                    self.holders[bucket as usize] = None;
+                    self.flags[bucket as usize] = Flag::Free;
                     PoolOutcome::Gives(bucket)
                 } else {
                     PoolOutcome::Passed
                 }
             }
-            Some(None) | None => PoolOutcome::Passed,
+            Some(Flag::Free | Flag::Detached) | None => PoolOutcome::Passed,
         }
     }
 
@@ -165,25 +169,74 @@ impl PoolWorld {
     /// A party that is in no pass tries the flag of a bucket.
     fn try_one(&mut self, party: u32, bucket: u32) -> PoolOutcome
         requires { party < length self.old.calls }
-        ensures outcome { let flag = slice_get self.old.holders bucket in
+        ensures outcome { let flag = slice_get self.old.flags bucket in
             result ≡ (try_one self.old party bucket flag).outcome }
-        ensures state { let flag = slice_get self.old.holders bucket in
+        ensures state { let flag = slice_get self.old.flags bucket in
             self.new ≡ (try_one self.old party bucket flag).state }
     {
-        match found_at(&self.holders, bucket as usize) {
-            Some(None) => {
-                self.holders[bucket as usize] = Some(party);
+        match found_at(&self.flags, bucket as usize) {
+            Some(Flag::Free) => {
+                self.flags[bucket as usize] = Flag::HeldBy(party);
                 self.calls[party as usize] = None;
                 PoolOutcome::Takes(bucket)
             }
-            Some(Some(_)) => PoolOutcome::Misses(bucket),
+            Some(Flag::HeldBy(_) | Flag::Detached) => PoolOutcome::Misses(bucket),
             None => PoolOutcome::Passed,
+        }
+    }
+
+    /// A party detaches a bucket, as it may where it holds it, and there is another party.
+    fn detach(&mut self, party: u32, bucket: u32) -> PoolOutcome
+        ensures outcome { let flag = slice_get self.old.flags bucket in
+            result ≡ (detach_flag self.old party bucket flag).outcome }
+        ensures state { let flag = slice_get self.old.flags bucket in
+            self.new ≡ (detach_flag self.old party bucket flag).state }
+    {
+        match found_at(&self.flags, bucket as usize) {
+            Some(Flag::HeldBy(holder)) => {
+                if holder == party && 1 < self.calls.len() {
+                    self.flags[bucket as usize] = Flag::Detached;
+                    PoolOutcome::Detaches(bucket)
+                } else {
+                    PoolOutcome::Passed
+                }
+            }
+            Some(Flag::Free | Flag::Detached) | None => PoolOutcome::Passed,
+        }
+    }
+
+    /// A party attaches a bucket, as it may where it is in no pass, and the bucket is detached.
+    fn attach(&mut self, party: u32, bucket: u32) -> PoolOutcome
+        ensures outcome { let pass = slice_get self.old.calls party in
+            result ≡ (attach self.old party bucket pass).outcome }
+        ensures state { let pass = slice_get self.old.calls party in
+            self.new ≡ (attach self.old party bucket pass).state }
+    {
+        match found_at(&self.calls, party as usize) {
+            Some(None) => self.attach_flag(party, bucket),
+            Some(Some(_)) | None => PoolOutcome::Passed,
+        }
+    }
+
+    /// A party that is in no pass attaches a bucket, as it may where the bucket is detached.
+    fn attach_flag(&mut self, party: u32, bucket: u32) -> PoolOutcome
+        ensures outcome { let flag = slice_get self.old.flags bucket in
+            result ≡ (attach_flag self.old party bucket flag).outcome }
+        ensures state { let flag = slice_get self.old.flags bucket in
+            self.new ≡ (attach_flag self.old party bucket flag).state }
+    {
+        match found_at(&self.flags, bucket as usize) {
+            Some(Flag::Detached) => {
+                self.flags[bucket as usize] = Flag::HeldBy(party);
+                PoolOutcome::Attaches(bucket)
+            }
+            Some(Flag::Free | Flag::HeldBy(_)) | None => PoolOutcome::Passed,
         }
     }
 }
 
-/// The holder of a bucket or the pass of a party, where there is such a bucket or party.
-fn found_at(all: &[Option<u32>], number: usize) -> Option<Option<u32>>
+/// The flag of a bucket, or the pass of a party, where there is such a bucket or party.
+fn found_at<T: Copy>(all: &[T], number: usize) -> Option<T>
     ensures value { result ≡ slice_get all.now number }
     ensures within { IsSome result → number < length all.now }
 {

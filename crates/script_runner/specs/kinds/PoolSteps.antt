@@ -2,11 +2,13 @@
 use Rattle.std.specs.Prelude.{ℕ, ◌≡◌, List, [], ◌++◌, codes, Option, Some, None, true}
 use Rattle.std.specs.Fmt.{decimal}
 use Rattle.std.specs.List.{flat_map}
+use Rattle.bb_memory_base.specs.PoolMachine.{holder_in}
 use Rattle.bb_memory_base.specs.PoolWorld.{PoolWorld, opened, outcomes_of, after_steps}
+use Rattle.bb_memory_base.specs.declared.steps.pool.Flag.{Flag}
 use Rattle.bb_memory_base.specs.declared.steps.pool.PoolOutcome.{PoolOutcome}
 use Rattle.bb_memory_base.specs.declared.steps.pool.PoolOutcome.TheVariants as outcome
 use Rattle.bb_memory_base.specs.declared.steps.pool.PoolStep.{PoolStep}
-use Rattle.bb_memory_base.specs.declared.steps.pool.PoolStep.TheVariants.{Try, GiveBack, TryAt}
+use Rattle.bb_memory_base.specs.declared.steps.pool.PoolStep.TheVariants.{Try, GiveBack, TryAt, Detach, Attach}
 use Rattle.script_runner.specs.engine.Rules.{Rules}
 use Rattle.script_runner.specs.kinds.Buckets.{IsBucket, IsBucketCount}
 use Rattle.script_runner.specs.kinds.Parties.{parties, IsParty}
@@ -21,8 +23,10 @@ IsGiving party bucket = IsParty party × IsBucket bucket
 abbrev pub IsStep : PoolStep → Type 0
 IsStep (Try party) = IsParty party
 IsStep (GiveBack party bucket) = IsGiving party bucket
--- no line writes this step
+-- no line writes these steps
 IsStep (TryAt party bucket) = ⊥
+IsStep (Detach party bucket) = ⊥
+IsStep (Attach party bucket) = ⊥
 
 -- `PARTY BUCKET`
 abbrev pub giving_text : ℕ → ℕ → List ℕ
@@ -39,17 +43,23 @@ abbrev pub step_line : PoolStep → List ℕ
 step_line (Try party) = try_line party
 step_line (GiveBack party bucket) = give_line party bucket
 step_line (TryAt party bucket) = []
+step_line (Detach party bucket) = []
+step_line (Attach party bucket) = []
 
 -- REPLIES
 
--- the number of a bucket's holder, or a dash where it is free
+-- the number of a bucket's holder, or a dash where no party holds it
 abbrev pub holder_text : Option ℕ → List ℕ
 holder_text (Some party) = codes " " ++ decimal party
 holder_text None = codes " -"
 
+-- the holder that a flag names, or a dash
+abbrev pub flag_text : Flag → List ℕ
+flag_text flag = holder_text (holder_in flag)
+
 -- the holder of each bucket, as `show` writes it
-abbrev pub held_line : List (Option ℕ) → List ℕ
-held_line holders = codes "held" ++ (flat_map holder_text holders ++ codes "\n")
+abbrev pub held_line : List Flag → List ℕ
+held_line flags = codes "held" ++ (flat_map flag_text flags ++ codes "\n")
 
 -- the line of an outcome
 abbrev pub outcome_line : PoolOutcome → List ℕ
@@ -60,6 +70,8 @@ outcome_line (outcome.RefusedAtLoss bucket) =
 outcome_line (outcome.Gives bucket) = codes "gives " ++ (decimal bucket ++ codes "\n")
 outcome_line outcome.Passed = codes "passed\n"
 outcome_line (outcome.Misses bucket) = codes "misses " ++ (decimal bucket ++ codes "\n")
+outcome_line (outcome.Detaches bucket) = codes "detaches " ++ (decimal bucket ++ codes "\n")
+outcome_line (outcome.Attaches bucket) = codes "attaches " ++ (decimal bucket ++ codes "\n")
 
 -- RUNS
 
@@ -79,5 +91,5 @@ pool_step_rules = record {
   opens = λ buckets world. world ≡ opened buckets parties;
   runs = StepsRun;
   reply_text = outcome_line;
-  state_text = λ world. held_line world.holders;
+  state_text = λ world. held_line world.flags;
 }

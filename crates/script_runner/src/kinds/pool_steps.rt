@@ -3,7 +3,7 @@ ghost use Rattle.std.specs.Prelude.{◌≡◌, ℕ, IfSome, Some, OnOk};
 ghost use Rattle.std.specs.Io.KnownBytes.{Appends};
 ghost use Rattle.std.specs.List.{flat_map};
 ghost use Rattle.script_runner.specs.kinds.Parties.{IsParty};
-ghost use Rattle.script_runner.specs.kinds.PoolSteps.{IsGiving, give_line, giving_text, holder_text};
+ghost use Rattle.script_runner.specs.kinds.PoolSteps.{IsGiving, flag_text, give_line, giving_text, holder_text};
 ghost use Rattle.script_runner.specs.kinds.PoolSteps.{try_line};
 
 use crate::engine::driven::Driven;
@@ -70,6 +70,18 @@ impl Driven for PoolWorld {
                 b"\n",
                 writer,
             ),
+            PoolOutcome::Detaches(bucket) => write_between(
+                b"detaches ",
+                *bucket as usize,
+                b"\n",
+                writer,
+            ),
+            PoolOutcome::Attaches(bucket) => write_between(
+                b"attaches ",
+                *bucket as usize,
+                b"\n",
+                writer,
+            ),
         }
     }
 
@@ -83,7 +95,7 @@ impl Driven for PoolWorld {
 /// Writes the holder of each bucket.
 fn write_holders<W: Write>(world: &PoolWorld, writer: &mut W) -> io::Result<()>
     ensures { OnOk result (Appends (W.contents writer.old) (W.contents writer.new)
-        (flat_map holder_text world.now.holders)) }
+        (flat_map flag_text world.now.flags)) }
 {
     for bucket in 0..world.number_of_buckets() {
         write_holder(world.holder(bucket), writer)?;

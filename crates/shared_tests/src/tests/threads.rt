@@ -1,8 +1,6 @@
 //! Threads over one shared allocator, each row by its name. A thread is handed its party, and hands it back with what it saw;
 //! the join promises that the party is still this allocator's.
-mod among;
 mod bumps;
-mod histories;
 mod messages;
 mod pools;
 mod queues;

@@ -1,53 +1,49 @@
 //! Buckets of shared pools that go from party to party.
-ghost use Rattle.std.specs.Prelude.{◌≡◌, ◌-◌, ◌<◌, ◌^◌, All, IfOk, true};
+ghost use Rattle.std.specs.Prelude.{◌≡◌, ◌-◌, ◌<◌, ◌^◌, All, IfOk};
 ghost use Rattle.shared_tests.specs.Users.{IsKeptBy};
 
 use crate::tests::checks::{check, fail};
 use crate::tests::pool_rows::last_party;
 use crate::tests::shared_buckets::{Request, SharedBuckets, SharedFixed};
-use crate::tests::shared_pools::{NO_POOL, bucket_over, cause_of, shared_over};
+use crate::tests::shared_pools::{bucket_over, cause_of};
 use bb_memory::layout::{Chunk, Layout};
 use bb_memory::pool_allocator::AllocationError;
-use bb_memory::shared_pool::{Bucket, BucketInTransit, PoolParty, SharedPoolAllocator};
+use bb_memory::shared_pool::{Bucket, DetachedBucket, PoolParty, SharedPoolAllocator};
 use std::alloc::Global;
 use std::process::Abort;
 
-/// A shared pool with a post, of buckets of 128 bytes over a region, with so many parties beside it.
-pub(super) fn posted_over(
+/// A shared pool of buckets of 128 bytes over a region, with so many parties, two at least.
+fn several_over(
     alloc: Global,
     start: usize,
     size: usize,
     parties: u32,
 ) -> Result<(SharedPoolAllocator, Vec<PoolParty>), &'static str>
+    requires { 1 < parties }
     ensures theirs { IfOk result (λ made. All (λ party. party.allocator ≡ made.0) made.1.items) }
-    ensures post { IfOk result (λ made. made.0.has_post ≡ true) }
+    ensures others { IfOk result (λ made. 1 < made.0.scene.parties) }
 {
     let bucket = bucket_over(start, size)?;
-    if parties == 0 || parties == u32::MAX {
-        return Err(NO_POOL);
-    }
-    match SharedPoolAllocator::with_post(alloc, bucket, start, size, parties) {
+    match SharedPoolAllocator::new(alloc, bucket, start, size, parties) {
         Ok(made) => Ok(made),
         Err(error) => Err(cause_of(error)),
     }
 }
 
 /// The same of at most a constant of buckets.
-pub(super) fn posted_fixed_over<const MOST: usize>(
+fn several_fixed_over<const MOST: usize>(
     alloc: Global,
     start: usize,
     size: usize,
     parties: u32,
 ) -> Result<(SharedFixed<MOST>, Vec<PoolParty>), &'static str>
-    requires { MOST < 2 ^ 32 - 1 }
+    requires most { MOST < 2 ^ 32 - 1 }
+    requires others { 1 < parties }
     ensures theirs { IfOk result (λ made. All (λ party. party.allocator ≡ made.0) made.1.items) }
-    ensures post { IfOk result (λ made. made.0.has_post ≡ true) }
+    ensures others { IfOk result (λ made. 1 < made.0.scene.parties) }
 {
     let bucket = bucket_over(start, size)?;
-    if parties == 0 || parties == u32::MAX {
-        return Err(NO_POOL);
-    }
-    match SharedFixed::<MOST>::with_post(alloc, bucket, start, size, parties) {
+    match SharedFixed::<MOST>::new(alloc, bucket, start, size, parties) {
         Ok(made) => Ok(made),
         Err(error) => Err(cause_of(error)),
     }
@@ -58,27 +54,27 @@ pub(super) fn send(
     pool: &SharedPoolAllocator,
     party: &mut PoolParty,
     asked: Layout,
-) -> Result<BucketInTransit, AllocationError>
-    requires post { pool.now.has_post ≡ true }
+) -> Result<DetachedBucket, AllocationError>
+    requires others { 1 < pool.now.scene.parties }
     requires party { party.old.allocator ≡ pool.now }
     ensures party { party.new.allocator ≡ pool.now }
     ensures sent { IfOk result (λ sent. sent.allocator ≡ pool.now) }
 {
     let taken = pool.ask(party, Request::Pass, asked)?;
-    Ok(pool.hand_over(party, taken))
+    Ok(pool.detach(party, taken))
 }
 
 /// Takes a bucket over, and gives it back. What it was.
 pub(super) fn receive(
     pool: &SharedPoolAllocator,
     party: &mut PoolParty,
-    message: BucketInTransit,
+    message: DetachedBucket,
 ) -> (u32, Chunk)
     requires party { party.old.allocator ≡ pool.now }
     requires message { message.allocator ≡ pool.now }
     ensures { party.new.allocator ≡ pool.now }
 {
-    let received = pool.take_over(party, message);
+    let received = pool.attach(party, message);
     let it_was = (received.number(), received.chunk());
     pool.deallocate_bucket(party, received);
     it_was
@@ -117,7 +113,7 @@ pub(super) fn three_given(
 }
 
 /// What a token tells.
-fn told(message: &BucketInTransit) -> (u32, usize) {
+fn told(message: &DetachedBucket) -> (u32, usize) {
     (message.number(), message.len())
 }
 
@@ -126,8 +122,8 @@ fn figures((number, chunk): (u32, Chunk)) -> (u32, usize, usize) {
     (number, chunk.place(), chunk.len())
 }
 
-/// A token in transit tells this.
-fn tells(rt: &impl Abort, message: &BucketInTransit, what: (u32, usize)) {
+/// A token detached tells this.
+fn tells(rt: &impl Abort, message: &DetachedBucket, what: (u32, usize)) {
     check(rt, told(message) == what);
 }
 
@@ -136,7 +132,7 @@ fn arrives(
     rt: &impl Abort,
     pool: &SharedPoolAllocator,
     mut party: PoolParty,
-    message: BucketInTransit,
+    message: DetachedBucket,
     bucket: (u32, usize, usize),
 )
     requires party { party.allocator ≡ pool.now }
@@ -154,14 +150,11 @@ fn one_sends(
     mut second: PoolParty,
     asked: Layout,
 ) -> Result<(), AllocationError>
-    requires post { pool.now.has_post ≡ true }
+    requires others { 1 < pool.now.scene.parties }
     requires first { first.allocator ≡ pool.now }
     requires second { second.allocator ≡ pool.now }
 {
-    let mut message = send(pool, &mut first, asked)?;
-    tells(rt, &message, (0, 48));
-    pool.meet_in_transit(&mut second, &mut message);
-    pool.meet_in_transit(&mut first, &mut message);
+    let message = send(pool, &mut first, asked)?;
     tells(rt, &message, (0, 48));
     check(rt, is_refused(pool, &mut first, asked));
     check(rt, is_refused(pool, &mut second, asked));
@@ -185,17 +178,17 @@ fn last_of(
     }
 }
 
-/// Two parties of a pool with a post, of so many bytes at 4096, and the layout of a message.
+/// The two parties of a pool of so many bytes at 4096, and the layout of a message.
 pub(super) fn two_of(
     alloc: Global,
     size: usize,
 ) -> Result<(SharedPoolAllocator, PoolParty, PoolParty, Layout), &'static str>
-    ensures post { IfOk result (λ made. made.0.has_post ≡ true) }
+    ensures others { IfOk result (λ made. 1 < made.0.scene.parties) }
     ensures first { IfOk result (λ made. made.1.allocator ≡ made.0) }
     ensures second { IfOk result (λ made. made.2.allocator ≡ made.0) }
 {
     let asked = message_layout()?;
-    let (pool, mut parties) = posted_over(alloc, 4096, size, 2)?;
+    let (pool, mut parties) = several_over(alloc, 4096, size, 2)?;
     let second = last_of(&pool, &mut parties)?;
     let first = last_of(&pool, &mut parties)?;
     Ok((pool, first, second, asked))
@@ -220,21 +213,20 @@ fn shared_pool_handed_over(rt: HostRuntime) {
     }
 }
 
-/// Two buckets are in transit at once, and are taken over in the other order.
-pub(super) fn two_in_transit(
+/// Two buckets are detached at once, and are taken over in the other order.
+pub(super) fn two_detached(
     rt: &impl Abort,
     pool: &SharedPoolAllocator,
     mut first: PoolParty,
     mut second: PoolParty,
     asked: Layout,
 ) -> Result<(), AllocationError>
-    requires post { pool.now.has_post ≡ true }
+    requires others { 1 < pool.now.scene.parties }
     requires first { first.allocator ≡ pool.now }
     requires second { second.allocator ≡ pool.now }
 {
-    let mut one = send(pool, &mut first, asked)?;
-    let mut other = send(pool, &mut second, asked)?;
-    pool.tell_apart(&mut one, &mut other);
+    let one = send(pool, &mut first, asked)?;
+    let other = send(pool, &mut second, asked)?;
     tells(rt, &one, (0, 48));
     tells(rt, &other, (1, 48));
     arrives(rt, pool, first, other, (1, 4224, 48));
@@ -248,7 +240,7 @@ fn shared_pool_two_in_transit(rt: HostRuntime) {
         Ok((pool, first, second, asked)) => {
             check(
                 &rt,
-                two_in_transit(&rt, &pool, first, second, asked).is_ok(),
+                two_detached(&rt, &pool, first, second, asked).is_ok(),
             );
         }
         Err(cause) => fail(&rt, cause),
@@ -263,7 +255,7 @@ fn one_is_dropped(
     mut second: PoolParty,
     asked: Layout,
 )
-    requires post { pool.now.has_post ≡ true }
+    requires others { 1 < pool.now.scene.parties }
     requires first { first.allocator ≡ pool.now }
     requires second { second.allocator ≡ pool.now }
 {
@@ -273,7 +265,7 @@ fn one_is_dropped(
     check(rt, is_refused(pool, &mut second, asked));
 }
 
-/// The bucket of a dropped token stays in transit.
+/// The bucket of a dropped token stays detached.
 #[test]
 fn shared_pool_dropped_in_transit(rt: HostRuntime) {
     match two_of(rt.alloc(), 256) {
@@ -282,21 +274,21 @@ fn shared_pool_dropped_in_transit(rt: HostRuntime) {
     }
 }
 
-/// The party hands the bucket over, and takes it over itself. What the token in transit tells, and the bucket.
+/// The party hands the bucket over, and takes it over itself. What the token detached tells, and the bucket.
 fn over_and_back<'a>(
     pool: &'a SharedFixed<4>,
     party: &mut PoolParty,
     bucket: Bucket<'a>,
 ) -> ((u32, usize), Bucket<'a>)
-    requires post { pool.now.has_post ≡ true }
+    requires others { 1 < pool.now.scene.parties }
     requires party { party.old.allocator ≡ pool.now }
     requires kept { IsKeptBy pool.now party.old bucket }
     ensures party { party.new.allocator ≡ pool.now }
     ensures kept { IsKeptBy pool.now party.new result.1 }
 {
-    let message = pool.hand_over(party, bucket);
+    let message = pool.detach(party, bucket);
     let it_told = told(&message);
-    (it_told, pool.take_over(party, message))
+    (it_told, pool.attach(party, message))
 }
 
 /// The calls of the next test on a pool of at most four buckets.
@@ -306,7 +298,7 @@ fn there_and_back(
     party: &mut PoolParty,
     asked: Layout,
 ) -> Result<(), AllocationError>
-    requires post { pool.now.has_post ≡ true }
+    requires others { 1 < pool.now.scene.parties }
     requires party { party.old.allocator ≡ pool.now }
     ensures { party.new.allocator ≡ pool.now }
 {
@@ -326,7 +318,7 @@ fn twice_there_and_back(
     mut party: PoolParty,
     asked: Layout,
 ) -> Result<(), AllocationError>
-    requires post { pool.now.has_post ≡ true }
+    requires others { 1 < pool.now.scene.parties }
     requires party { party.allocator ≡ pool.now }
 {
     there_and_back(rt, pool, &mut party, asked)?;
@@ -340,7 +332,7 @@ fn last_twice(
     mut parties: Vec<PoolParty>,
     asked: Layout,
 ) -> bool
-    requires post { pool.now.has_post ≡ true }
+    requires others { 1 < pool.now.scene.parties }
     requires parties { All (λ party. party.allocator ≡ pool.now) parties.items }
 {
     match last_party(pool, &mut parties) {
@@ -349,40 +341,33 @@ fn last_twice(
     }
 }
 
-/// The only party beside the post takes over what it handed over itself, hands it over again, and gives it back.
+/// A party takes over what it handed over itself, hands it over again, and gives it back.
 #[test]
 fn shared_fixed_handed_over(rt: HostRuntime) {
     let Ok(asked) = message_layout() else {
         panic!(rt; "no such layout");
     };
-    match posted_fixed_over::<4>(rt.alloc(), 4096, 128, 1) {
+    match several_fixed_over::<4>(rt.alloc(), 4096, 128, 2) {
         Ok((pool, parties)) => check(&rt, last_twice(&rt, &pool, parties, asked)),
         Err(cause) => fail(&rt, cause),
     }
 }
 
-/// Whether a pool that was made without a post has one.
-fn without_post(alloc: Global) -> Result<bool, &'static str> {
-    let (pool, _) = shared_over(alloc, 4096, 256, 2)?;
-    Ok(pool.has_post())
-}
-
-/// Whether a pool that was made with a post has one, with how many parties beside it, and how many buckets.
-fn with_post(alloc: Global) -> Result<(bool, usize, u32), &'static str> {
-    let (pool, parties) = posted_over(alloc, 4096, 256, 2)?;
-    Ok((pool.has_post(), parties.len(), pool.number_of_buckets()))
+/// How many parties a pool has, and how many buckets.
+fn counts(alloc: Global) -> Result<(u32, u32), &'static str> {
+    let (pool, _) = several_over(alloc, 4096, 256, 2)?;
+    Ok((pool.number_of_parties(), pool.number_of_buckets()))
 }
 
 /// The same of a pool of at most one bucket.
-fn fixed_with_post(alloc: Global) -> Result<(bool, usize, u32), &'static str> {
-    let (pool, parties) = posted_fixed_over::<1>(alloc, 4096, 256, 3)?;
-    Ok((pool.has_post(), parties.len(), pool.number_of_buckets()))
+fn fixed_counts(alloc: Global) -> Result<(u32, u32), &'static str> {
+    let (pool, _) = several_fixed_over::<1>(alloc, 4096, 256, 3)?;
+    Ok((pool.number_of_parties(), pool.number_of_buckets()))
 }
 
-/// A pool tells whether it has a post.
+/// A pool tells how many parties it was made for.
 #[test]
-fn shared_pools_with_and_without_post(rt: HostRuntime) {
-    check(&rt, without_post(rt.alloc()) == Ok(false));
-    check(&rt, with_post(rt.alloc()) == Ok((true, 2, 2)));
-    check(&rt, fixed_with_post(rt.alloc()) == Ok((true, 3, 1)));
+fn shared_pools_count_their_parties(rt: HostRuntime) {
+    check(&rt, counts(rt.alloc()) == Ok((2, 2)));
+    check(&rt, fixed_counts(rt.alloc()) == Ok((3, 1)));
 }

@@ -11,9 +11,9 @@ returns-in_default-made_mut c = let is = c.in-Some.ensures.value in
 
 pub returns : goal.returns
 returns c = let is = c.in-Some.ensures.value in let other_is = c.in-Some-made_mut.ensures.value in
-    let new = at_lent _ _ c.in-Some.is (c.made_mut.follows.holds c.hand_over.new.self) in
-    let new_other = at_lent _ _ c.in-Some-made_mut.is (c.made_mut-2.follows.holds c.hand_over.new.envelope) in record {
+    let new = at_lent _ _ c.in-Some.is (c.made_mut.follows.holds c.detach.new.self) in
+    let new_other = at_lent _ _ c.in-Some-made_mut.is (c.made_mut-2.follows.holds c.detach.new.envelope) in record {
       both = at_made _ _ _ is (at_made _ _ _ other_is
-          (c.hand_over.new.self, c.hand_over.new.envelope, new, new_other, c.hand_over.ensures));
+          (c.detach.new.self, c.detach.new.envelope, new, new_other, c.detach.ensures));
       empty = search rules;
     }

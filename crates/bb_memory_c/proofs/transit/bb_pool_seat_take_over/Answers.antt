@@ -11,9 +11,9 @@ returns-in_default-made_mut c = let is = c.in-Some.ensures.value in
 
 pub returns : goal.returns
 returns c = let is = c.in-Some.ensures.value in let other_is = c.in-Some-made_mut.ensures.value in
-    let new = at_lent _ _ c.in-Some.is (c.made_mut.follows.holds c.take_over.new.self) in
-    let new_other = at_lent _ _ c.in-Some-made_mut.is (c.made_mut-2.follows.holds c.take_over.new.envelope) in record {
+    let new = at_lent _ _ c.in-Some.is (c.made_mut.follows.holds c.attach.new.self) in
+    let new_other = at_lent _ _ c.in-Some-made_mut.is (c.made_mut-2.follows.holds c.attach.new.envelope) in record {
       both = at_made _ _ _ is (at_made _ _ _ other_is
-          (c.take_over.new.self, c.take_over.new.envelope, new, new_other, c.take_over.ensures));
+          (c.attach.new.self, c.attach.new.envelope, new, new_other, c.attach.ensures));
       empty = search rules;
     }

@@ -1,12 +1,10 @@
 //! Calls of what threads share that take no memory, each on values that were made before. The sweep runs these tests with each
 //! request refused, too, that comes after the making, and every call has to answer as it does with memory, without a request.
-ghost use Rattle.std.specs.Prelude.{◌≡◌, ◌<◌, All, length, true};
-ghost use Rattle.bb_memory.specs.SharedPoolAmong.{AreAllOf, IsAmongAll};
+ghost use Rattle.std.specs.Prelude.{◌≡◌, ◌<◌, All};
 
 use super::was_refused;
 use crate::tests::bump_rows::{self, all_meet, owner_by_all};
-use crate::tests::checks::{check, layout};
-use crate::tests::histories::{one_for_two, out_and_back};
+use crate::tests::checks::check;
 use crate::tests::pool_rows::Answer::{Bucket, Chunk, Nothing};
 use crate::tests::pool_rows::Call::{
     FindAgain, GiveBack, Grow, Keep, NumberAt, Shrink, Take, Token,
@@ -17,7 +15,7 @@ use crate::tests::shared_buckets::Request::{Near, Pass};
 use crate::tests::shared_buckets::{Figures, SharedBuckets};
 use crate::tests::shared_bumps::two_parties;
 use crate::tests::shared_pools::{DROPPED_BUCKET, FOUR_BUCKETS, shared_fixed_over, shared_over};
-use crate::tests::transit::{two_in_transit, two_of};
+use crate::tests::transit::{two_detached, two_of};
 use allocator_tests::marks::{none_was_asked, refuse_memory};
 use bb_memory::layout::Layout;
 use bb_memory::shared_pool::{PoolParty, SharedPoolAllocator};
@@ -217,43 +215,6 @@ fn all_parties_of_shared_pools(rt: HostRuntime) {
     shared_fixed_meet(&rt, rt.alloc());
 }
 
-/// Parties meet in a history that the first of them begins.
-fn meet_in_a_history(pool: &SharedPoolAllocator, parties: &mut Vec<PoolParty>)
-    requires all { AreAllOf pool.now parties.old.items }
-    requires two { 1 < length parties.old.items }
-    ensures { IsAmongAll pool.now parties.new.items 1 }
-{
-    let mut history = pool.begin_history(&mut parties[0]);
-    pool.meet_again(&mut history, parties);
-}
-
-/// They do, and one of all asks and gives back, without a request for memory.
-fn history_without_memory(
-    rt: &impl Abort,
-    alloc: Global,
-    pool: &SharedPoolAllocator,
-    mut parties: Vec<PoolParty>,
-    asked: Layout,
-)
-    requires all { AreAllOf pool.now parties.items }
-    requires two { 1 < length parties.items }
-{
-    refuse_memory(alloc);
-    meet_in_a_history(pool, &mut parties);
-    check(rt, out_and_back(pool, &mut parties, asked).is_some());
-    check(rt, none_was_asked(alloc));
-}
-
-#[test]
-fn a_history_of_a_shared_pool(rt: HostRuntime) {
-    match one_for_two(rt.alloc()) {
-        Ok((pool, parties)) => {
-            history_without_memory(&rt, rt.alloc(), &pool, parties, layout(&rt, 48, 4));
-        }
-        Err(_) => was_refused(&rt, rt.alloc(), REFUSED),
-    }
-}
-
 /// Two buckets go from party to party without a request for memory.
 fn transit_without_memory(
     rt: &impl Abort,
@@ -263,12 +224,12 @@ fn transit_without_memory(
     second: PoolParty,
     asked: Layout,
 )
-    requires post { pool.now.has_post ≡ true }
+    requires others { 1 < pool.now.scene.parties }
     requires first { first.allocator ≡ pool.now }
     requires second { second.allocator ≡ pool.now }
 {
     refuse_memory(alloc);
-    check(rt, two_in_transit(rt, pool, first, second, asked).is_ok());
+    check(rt, two_detached(rt, pool, first, second, asked).is_ok());
     check(rt, none_was_asked(alloc));
 }
 

@@ -1,5 +1,5 @@
 //! Rows of what threads share, whose maker was refused first.
-ghost use Rattle.std.specs.Prelude.{◌≡◌, All, IfOk, true};
+ghost use Rattle.std.specs.Prelude.{◌≡◌, ◌<◌, All, IfOk};
 
 use super::was_refused;
 use crate::tests::bump_rows::figures_of;
@@ -8,7 +8,7 @@ use crate::tests::pool_rows::{Row, hold, users_of};
 use crate::tests::shared_buckets::{SharedBuckets, SharedFixed};
 use crate::tests::shared_bumps::two_parties;
 use crate::tests::shared_pools::{DROPPED_BUCKET, FOUR_BUCKETS, shared_fixed_over, shared_over};
-use crate::tests::transit::{two_in_transit, two_of};
+use crate::tests::transit::{two_detached, two_of};
 use allocator_tests::marks::some_was_refused;
 use bb_memory::bump_allocator::{AllocationError, BumpAllocator};
 use bb_memory::layout::Layout;
@@ -109,12 +109,12 @@ fn shared_fixed_four_buckets(rt: HostRuntime) {
     }
 }
 
-/// A pool of two buckets with a post and two parties. Where memory was refused it is made once more.
-fn two_posted_buckets(
+/// A pool of two buckets and two parties. Where memory was refused it is made once more.
+fn two_to_send(
     rt: &impl Abort,
     alloc: Global,
 ) -> Result<(SharedPoolAllocator, PoolParty, PoolParty, Layout), &'static str>
-    ensures post { IfOk result (λ made. made.0.has_post ≡ true) }
+    ensures others { IfOk result (λ made. 1 < made.0.scene.parties) }
     ensures first { IfOk result (λ made. made.1.allocator ≡ made.0) }
     ensures second { IfOk result (λ made. made.2.allocator ≡ made.0) }
 {
@@ -129,11 +129,11 @@ fn two_posted_buckets(
 
 #[test]
 fn shared_pool_two_in_transit(rt: HostRuntime) {
-    match two_posted_buckets(&rt, rt.alloc()) {
+    match two_to_send(&rt, rt.alloc()) {
         Ok((pool, first, second, asked)) => {
             check(
                 &rt,
-                two_in_transit(&rt, &pool, first, second, asked).is_ok(),
+                two_detached(&rt, &pool, first, second, asked).is_ok(),
             );
         }
         Err(cause) => fail(&rt, cause),

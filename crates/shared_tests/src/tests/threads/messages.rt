@@ -1,12 +1,12 @@
 //! Messages from thread to thread, each a bucket of one shared pool: one thread takes it and hands it over, while another takes
 //! over the one before, and gives it back.
-ghost use Rattle.std.specs.Prelude.{◌≡◌, IfOk, true};
+ghost use Rattle.std.specs.Prelude.{◌≡◌, ◌<◌, IfOk};
 
 use crate::tests::checks::{check, fail};
 use crate::tests::transit::{receive, send, three_given, two_of};
 use bb_memory::layout::Layout;
 use bb_memory::pool_allocator::AllocationError;
-use bb_memory::shared_pool::{BucketInTransit, PoolParty, SharedPoolAllocator};
+use bb_memory::shared_pool::{DetachedBucket, PoolParty, SharedPoolAllocator};
 use std::process::Abort;
 use std::thread;
 use std::thread::Threads;
@@ -16,8 +16,8 @@ fn send_one(
     pool: &SharedPoolAllocator,
     mut party: PoolParty,
     asked: Layout,
-) -> Result<(PoolParty, BucketInTransit), AllocationError>
-    requires post { pool.now.has_post ≡ true }
+) -> Result<(PoolParty, DetachedBucket), AllocationError>
+    requires others { 1 < pool.now.scene.parties }
     requires party { party.allocator ≡ pool.now }
     ensures { IfOk result (λ sent. (sent.0.allocator ≡ pool.entry.now)
         × (sent.1.allocator ≡ pool.entry.now)) }
@@ -30,7 +30,7 @@ fn send_one(
 fn receive_one(
     pool: &SharedPoolAllocator,
     mut party: PoolParty,
-    message: BucketInTransit,
+    message: DetachedBucket,
 ) -> PoolParty
     requires party { party.allocator ≡ pool.now }
     requires message { message.allocator ≡ pool.now }
@@ -46,10 +46,10 @@ fn send_and_receive<R: Threads + Sync>(
     pool: &SharedPoolAllocator,
     sender: PoolParty,
     receiver: PoolParty,
-    message: BucketInTransit,
+    message: DetachedBucket,
     asked: Layout,
-) -> Result<(PoolParty, PoolParty, BucketInTransit), AllocationError>
-    requires post { pool.now.has_post ≡ true }
+) -> Result<(PoolParty, PoolParty, DetachedBucket), AllocationError>
+    requires others { 1 < pool.now.scene.parties }
     requires sender { sender.allocator ≡ pool.now }
     requires receiver { receiver.allocator ≡ pool.now }
     requires message { message.allocator ≡ pool.now }
@@ -58,8 +58,8 @@ fn send_and_receive<R: Threads + Sync>(
 {
     let (sent, receiver) = thread::join(
         rt,
-        move || -> Result<(PoolParty, BucketInTransit), AllocationError>
-            requires { (sender.allocator ≡ pool.now) × (pool.now.has_post ≡ true) }
+        move || -> Result<(PoolParty, DetachedBucket), AllocationError>
+            requires { (sender.allocator ≡ pool.now) × (1 < pool.now.scene.parties) }
             ensures { IfOk result (λ sent. (sent.0.allocator ≡ pool.entry.now)
                 × (sent.1.allocator ≡ pool.entry.now)) }
         { send_one(pool, sender, asked) },
@@ -81,7 +81,7 @@ fn pass_on<R: Threads + Sync>(
     asked: Layout,
     times: u32,
 ) -> Result<PoolParty, AllocationError>
-    requires post { pool.now.has_post ≡ true }
+    requires others { 1 < pool.now.scene.parties }
     requires sender { sender.allocator ≡ pool.now }
     requires receiver { receiver.allocator ≡ pool.now }
     ensures { IfOk result (λ party. party.allocator ≡ pool.entry.now) }
@@ -102,7 +102,7 @@ fn a_thousand<R: Threads + Abort + Sync>(
     receiver: PoolParty,
     asked: Layout,
 )
-    requires post { pool.now.has_post ≡ true }
+    requires others { 1 < pool.now.scene.parties }
     requires sender { sender.allocator ≡ pool.now }
     requires receiver { receiver.allocator ≡ pool.now }
 {

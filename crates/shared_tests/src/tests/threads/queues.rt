@@ -1,10 +1,10 @@
 //! A queue from one thread to another, each of whose messages is a bucket of one shared pool: the receiver gives it back.
-ghost use Rattle.std.specs.Prelude.{◌≡◌, IfOk, Some, true};
+ghost use Rattle.std.specs.Prelude.{◌≡◌, ◌<◌, IfOk, Some};
 
 use crate::tests::checks::{check, fail};
 use crate::tests::transit::{receive, send, three_given, two_of};
 use bb_memory::layout::Layout;
-use bb_memory::shared_pool::{BucketInTransit, PoolParty, SharedPoolAllocator};
+use bb_memory::shared_pool::{DetachedBucket, PoolParty, SharedPoolAllocator};
 use rtrb::{Consumer, Producer, Protocol, PushError, RingBuffer};
 use std::alloc::{AllocError, Global};
 use std::marker::{Brand, PhantomData};
@@ -37,7 +37,7 @@ struct OfPool<P: MessagePool> {
     of: PhantomData<P>,
 }
 
-impl<P: MessagePool> Protocol<BucketInTransit> for OfPool<P> {
+impl<P: MessagePool> Protocol<DetachedBucket> for OfPool<P> {
     ghost use Rattle.std.specs.Prelude.{◌≡◌, Some};
 
     ghost allows = { λ before message. P.pool ≡ Some message.allocator };
@@ -47,8 +47,8 @@ impl<P: MessagePool> Protocol<BucketInTransit> for OfPool<P> {
 fn put<P: MessagePool>(
     pool: &SharedPoolAllocator,
     party: &mut PoolParty,
-    queue: &mut Producer<BucketInTransit, Global, OfPool<P>>,
-    message: BucketInTransit,
+    queue: &mut Producer<DetachedBucket, Global, OfPool<P>>,
+    message: DetachedBucket,
 ) -> bool
     requires pool { P.pool ≡ Some pool.now }
     requires party { party.old.allocator ≡ pool.now }
@@ -68,11 +68,11 @@ fn put<P: MessagePool>(
 fn send_one<P: MessagePool>(
     pool: &SharedPoolAllocator,
     party: &mut PoolParty,
-    queue: &mut Producer<BucketInTransit, Global, OfPool<P>>,
+    queue: &mut Producer<DetachedBucket, Global, OfPool<P>>,
     asked: Layout,
 ) -> bool
     requires pool { P.pool ≡ Some pool.now }
-    requires post { pool.now.has_post ≡ true }
+    requires others { 1 < pool.now.scene.parties }
     requires party { party.old.allocator ≡ pool.now }
     ensures { party.new.allocator ≡ pool.now }
 {
@@ -86,11 +86,11 @@ fn send_one<P: MessagePool>(
 fn send_all<P: MessagePool>(
     pool: &SharedPoolAllocator,
     mut party: PoolParty,
-    mut queue: Producer<BucketInTransit, Global, OfPool<P>>,
+    mut queue: Producer<DetachedBucket, Global, OfPool<P>>,
     asked: Layout,
 ) -> (PoolParty, u32)
     requires pool { P.pool ≡ Some pool.now }
-    requires post { pool.now.has_post ≡ true }
+    requires others { 1 < pool.now.scene.parties }
     requires party { party.allocator ≡ pool.now }
     ensures { result.0.allocator ≡ pool.entry.now }
 {
@@ -112,7 +112,7 @@ fn send_all<P: MessagePool>(
 fn receive_all<P: MessagePool>(
     pool: &SharedPoolAllocator,
     mut party: PoolParty,
-    mut queue: Consumer<BucketInTransit, Global, OfPool<P>>,
+    mut queue: Consumer<DetachedBucket, Global, OfPool<P>>,
 ) -> (PoolParty, u32)
     requires pool { P.pool ≡ Some pool.now }
     requires party { party.allocator ≡ pool.now }
@@ -144,7 +144,7 @@ fn send_and_receive<P: MessagePool + Send, R: Threads + Sync>(
     asked: Layout,
 ) -> Result<(PoolParty, u32, u32), AllocError>
     requires pool { P.pool ≡ Some pool.now }
-    requires post { pool.now.has_post ≡ true }
+    requires others { 1 < pool.now.scene.parties }
     requires sender { sender.allocator ≡ pool.now }
     requires receiver { receiver.allocator ≡ pool.now }
     ensures { IfOk result (λ told. told.0.allocator ≡ pool.entry.now) }
@@ -154,7 +154,7 @@ fn send_and_receive<P: MessagePool + Send, R: Threads + Sync>(
         rt,
         move || -> (PoolParty, u32)
             requires { (P.pool ≡ Some pool.now) × (sender.allocator ≡ pool.now)
-                × (pool.now.has_post ≡ true) }
+                × (1 < pool.now.scene.parties) }
         { send_all::<P>(pool, sender, producer, asked) },
         move || -> (PoolParty, u32)
             requires { (P.pool ≡ Some pool.now) × (receiver.allocator ≡ pool.now) }
@@ -173,7 +173,7 @@ fn through_a_queue<R: Threads + Sync>(
     receiver: PoolParty,
     asked: Layout,
 ) -> Result<(PoolParty, u32, u32), AllocError>
-    requires post { pool.now.has_post ≡ true }
+    requires others { 1 < pool.now.scene.parties }
     requires sender { sender.allocator ≡ pool.now }
     requires receiver { receiver.allocator ≡ pool.now }
     ensures { IfOk result (λ told. told.0.allocator ≡ pool.entry.now) }
@@ -190,7 +190,7 @@ fn a_thousand<R: Threads + Abort + Sync>(
     receiver: PoolParty,
     asked: Layout,
 )
-    requires post { pool.now.has_post ≡ true }
+    requires others { 1 < pool.now.scene.parties }
     requires sender { sender.allocator ≡ pool.now }
     requires receiver { receiver.allocator ≡ pool.now }
 {

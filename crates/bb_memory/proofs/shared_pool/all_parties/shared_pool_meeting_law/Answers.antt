@@ -1,4 +1,5 @@
-use Rattle.bb_memory.proofs.SharedPoolWholes.{met_flags, met_held, met_logged, met_nobody_else, met_run, met_sound}
+use Rattle.bb_memory.proofs.SharedPoolWholes.{met_flags, met_was_detached, met_held, met_detached, met_logged}
+use Rattle.bb_memory.proofs.SharedPoolWholes.{met_nobody_else, met_run, met_sound}
 use Rattle.bb_memory.proofs.SharedPoolWholes.{one_took, refused_took_none}
 use Rattle.bb_memory.proofs.shared_pool.all_parties.shared_pool_meeting_law.Goals as goal
 
@@ -25,3 +26,9 @@ returns-clause-one_took c = one_took
 
 pub returns-clause-refused_took_none : goal.returns-clause-refused_took_none
 returns-clause-refused_took_none c = refused_took_none
+
+pub returns-clause-detached : goal.returns-clause-detached
+returns-clause-detached c = met_detached
+
+pub returns-clause-was_detached : goal.returns-clause-was_detached
+returns-clause-was_detached c = met_was_detached

@@ -2,9 +2,9 @@ use Rattle.std.proofs.Common.{sym, subst}
 use Rattle.bb_memory_base.specs.PoolHistory.{PoolLog}
 use Rattle.bb_memory_base.specs.PoolLogs.{IsHeldAfter}
 use Rattle.bb_memory_base.proofs.PoolLogFacts.{logs_apart, free_not_held, held_is_taken, taken_is_held_alone}
-use Rattle.bb_memory_base.proofs.PoolLogFacts.{length-flags, nobody_else, interleaved_log, interleaved_logs}
+use Rattle.bb_memory_base.proofs.PoolLogFacts.{length-flags, nobody_else, interleaved_log, interleaved_logs, detached_from_logs}
 use Rattle.bb_memory_base.proofs.PoolLogSteps.{opening_agrees, take_agrees, lose_agrees, give_agrees, log_pass}
-use Rattle.bb_memory_base.proofs.PoolLogSteps.{miss_agrees, take_at_agrees}
+use Rattle.bb_memory_base.proofs.PoolLogSteps.{detach_agrees, detached_after, miss_agrees, take_at_agrees, attach_agrees}
 use Rattle.bb_memory_base.proofs.PoolHolders.{one_holder}
 use Rattle.bb_memory_base.proofs.PoolLogRuns.{flags_run}
 use Rattle.bb_memory_base.proofs.PoolRuns.{pool_run}
@@ -28,6 +28,18 @@ returns-clause-miss c = miss_agrees
 
 pub returns-clause-give : goal.returns-clause-give
 returns-clause-give c = give_agrees
+
+pub returns-clause-detach : goal.returns-clause-detach
+returns-clause-detach c = λ scene flags logs party log bucket agree others at holds. (
+  detach_agrees scene flags logs party log bucket agree others at holds,
+  detached_after scene flags logs party log bucket agree others at holds,
+)
+
+pub returns-clause-attach : goal.returns-clause-attach
+returns-clause-attach c = attach_agrees
+
+pub returns-clause-detached : goal.returns-clause-detached
+returns-clause-detached c = detached_from_logs
 
 pub returns-clause-call : goal.returns-clause-call
 returns-clause-call c = log_pass

@@ -3,7 +3,7 @@ use Rattle.bb_memory_base.proofs.SliceGets.{slice_get-lent, slice_get-some}
 use Rattle.bb_memory_base.proofs.steps.pool_world.found_at.Goals as goal
 
 pub returns-clause-value : goal.returns-clause-value
-returns-clause-value c = c.copied.ensures ∙ slice_get-lent _ _ _ c.get.ensures.lookup
+returns-clause-value g c = c.copied.ensures ∙ slice_get-lent _ _ _ c.get.ensures.lookup
 
 pub returns-clause-within : goal.returns-clause-within
-returns-clause-within c = λ some. slice_get-some _ _ (subst IsSome (returns-clause-value c) some)
+returns-clause-within g c = λ some. slice_get-some _ _ (subst IsSome (returns-clause-value g c) some)

@@ -4,8 +4,8 @@ use Rattle.script_runner.proofs.kinds.pool_steps.write_holders.Goals as goal
 
 pub loop-bucket-preserved : goal.loop-bucket-preserved
 loop-bucket-preserved g c =
-    let holders = c.args.world.now.holders in
+    let flags = c.args.world.now.flags in
     let bucket = c.loop-bucket.bucket in
-    let below : bucket < length holders = omega (arith, c.number_of_buckets-bucket-end.ensures) in
+    let below : bucket < length flags = omega (arith, c.number_of_buckets-bucket-end.ensures) in
     let more = rw c.holder.ensures at c.in_ok-write_holder.ensures in
-    appends_holder _ _ _ holders bucket below c.loop-bucket.invariant more
+    appends_holder _ _ _ flags bucket below c.loop-bucket.invariant more

@@ -1,11 +1,11 @@
 use Rattle.std.proofs.Common.{take}
 use Rattle.std.specs.Io.KnownBytes.{Appends}
 use Rattle.std.specs.List.{flat_map}
-use Rattle.script_runner.specs.kinds.PoolSteps.{holder_text}
+use Rattle.script_runner.specs.kinds.PoolSteps.{flag_text}
 use Rattle.script_runner.proofs.kinds.pool_steps.write_holders.Given as goal
 
 -- the holders of the buckets so far are written
 abbrev pub invariant-loop-bucket : goal.invariant-loop-bucket
 invariant-loop-bucket g l =
     Appends (g.W.Write.contents l.fn.writer) (g.W.Write.contents l.writer)
-    (flat_map holder_text (take l.bucket l.world.holders))
+    (flat_map flag_text (take l.bucket l.world.flags))

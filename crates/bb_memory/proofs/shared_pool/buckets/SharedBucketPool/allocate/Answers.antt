@@ -56,7 +56,7 @@ invariant_of-party g c =
     let me = party.seat.me in
     let own = ap (λ (p : PoolParty). p.allocator) c.party.view_is ∙ c.requires.party in
     let new = c.pass.new.seat.me in
-    seated_then c.args.self.now party.seat.table_id party.has_post me party.number c.party.invariant own new _
+    seated_then c.args.self.now party.seat.table_id me party.number c.party.invariant own new _
     (ended_by c.args.self.now.scene (number_of me.0) (view_log me.0) new c.pass.result c.pass.ensures.step)
 
 pub returns-clause-party : goal.returns-clause-party
@@ -66,7 +66,7 @@ returns-clause-party g c =
     let me = party.seat.me in
     let own = ap (λ (p : PoolParty). p.allocator) c.party.view_is ∙ c.requires.party in
     let new = c.pass.new.seat in
-    let logged = party_with pool party.seat.table_id party.has_post me party.number c.party.invariant own
+    let logged = party_with pool party.seat.table_id me party.number c.party.invariant own
     (λ (n : ℕ). pass_of pool.scene.geometry.buckets n c.pass.result) new.table_id new.me c.args.party.now c.party.view_is
     c.pass.ensures.table
     (ended_by pool.scene (number_of me.0) (view_log me.0) new.me c.pass.result c.pass.ensures.step) in
@@ -75,7 +75,7 @@ returns-clause-party g c =
 pub returns-clause-is_party : goal.returns-clause-is_party
 returns-clause-is_party g c = record {
   number = ap (λ (p : PoolParty). p.number) c.party.view_is;
-  is_party = is_party c.pass.new.seat.table_id c.party.inside.has_post c.party.inside.number c.pass.new.seat.me
+  is_party = is_party c.pass.new.seat.table_id c.party.inside.number c.pass.new.seat.me
       (invariant_of-party g c);
 }
 

@@ -19,14 +19,14 @@ pub invariant_of-party : goal.invariant_of-party
 invariant_of-party g c =
     let party = c.party.inside in
     let own = ap (λ (p : PoolParty). p.allocator) c.party.view_is ∙ c.requires.party ∙ sym c.self.view_is in
-    seated_then c.self.inside.flags party.seat.table_id party.has_post party.seat.me party.number c.party.invariant own
+    seated_then c.self.inside.flags party.seat.table_id party.seat.me party.number c.party.invariant own
     c.try_at.new.seat.me _ c.if-not-try_at.ensures.step.ended
 
 pub invariant_of-party-else-not-try_at : goal.invariant_of-party-else-not-try_at
 invariant_of-party-else-not-try_at g c =
     let party = c.party.inside in
     let own = ap (λ (p : PoolParty). p.allocator) c.party.view_is ∙ c.requires.party ∙ sym c.self.view_is in
-    seated_then c.self.inside.flags party.seat.table_id party.has_post party.seat.me party.number c.party.invariant own
+    seated_then c.self.inside.flags party.seat.table_id party.seat.me party.number c.party.invariant own
     c.try_at.new.seat.me _ c.if-not-try_at.ensures.step.ended
 
 pub returns-then-number-number_of_buckets-clause-party :
@@ -38,7 +38,7 @@ returns-then-number-number_of_buckets-clause-party g c =
       | then-number-number_of_buckets-via-then-number-number_of_buckets w ↦
           ap (λ (p : PoolParty). p.allocator) w.party-is ∙ c.requires.party
       | then-number-number_of_buckets-via-else-number-number_of_buckets+then-not-try_at w ↦
-          let logged = party_with c.self.inside.flags party.seat.table_id party.has_post party.seat.me party.number
+          let logged = party_with c.self.inside.flags party.seat.table_id party.seat.me party.number
           c.party.invariant own (λ (n : ℕ). miss_at n c.args.number) w.try_at.new.seat.table_id w.try_at.new.seat.me
           c.args.party.now c.party.view_is w.try_at.ensures.table w.if-not-try_at.ensures.step.ended in
           ap (λ (p : PoolParty). p.allocator) (w.party-is ∙ logged) ∙ c.requires.party
@@ -54,7 +54,7 @@ returns-then-number-number_of_buckets-clause-serves g c =
         bucket = tt;
         number = ap (λ (p : PoolParty). p.number) w.party-is;
         is_party = subst IsParty (c.party.view_is ∙ sym w.party-is)
-            (is_party party.seat.table_id party.has_post party.number party.seat.me c.party.invariant);
+            (is_party party.seat.table_id party.number party.seat.me c.party.invariant);
         held = tt;
         still_held = λ other held. subst (λ (p : PoolParty). IsHeldAfter p.log other) (sym w.party-is) held;
         inside = tt;
@@ -64,14 +64,14 @@ returns-then-number-number_of_buckets-clause-serves g c =
       | then-number-number_of_buckets-via-else-number-number_of_buckets+then-not-try_at w ↦
           let new = w.try_at.new.seat in
           let ended = w.if-not-try_at.ensures.step.ended in
-          let logged = w.party-is ∙ party_with c.self.inside.flags party.seat.table_id party.has_post party.seat.me
+          let logged = w.party-is ∙ party_with c.self.inside.flags party.seat.table_id party.seat.me
           party.number c.party.invariant own (λ (n : ℕ). miss_at n c.args.number) new.table_id new.me c.args.party.now
           c.party.view_is w.try_at.ensures.table ended in
           record {
             bucket = tt;
             number = ap (λ (p : PoolParty). p.number) logged;
-            is_party = subst IsParty (sym w.party-is) (is_party new.table_id party.has_post party.number new.me
-                (seated_then c.self.inside.flags party.seat.table_id party.has_post party.seat.me party.number
+            is_party = subst IsParty (sym w.party-is) (is_party new.table_id party.number new.me
+                (seated_then c.self.inside.flags party.seat.table_id party.seat.me party.number
                 c.party.invariant own new.me _ ended));
             held = tt;
             still_held = λ other held. subst (λ (p : PoolParty). IsHeldAfter p.log other) (sym logged)
@@ -96,7 +96,7 @@ pub returns-clause-party : goal.returns-clause-party
 returns-clause-party g c =
     let party = c.party.inside in
     let own = ap (λ (p : PoolParty). p.allocator) c.party.view_is ∙ c.requires.party ∙ sym c.self.view_is in
-    let logged = party_with c.self.inside.flags party.seat.table_id party.has_post party.seat.me party.number
+    let logged = party_with c.self.inside.flags party.seat.table_id party.seat.me party.number
     c.party.invariant own (λ (n : ℕ). taking_at n c.args.number) c.try_at.new.seat.table_id c.try_at.new.seat.me
     c.args.party.now c.party.view_is c.try_at.ensures.table c.if-not-try_at.ensures.step.ended in
     ap (λ (p : PoolParty). p.allocator) logged ∙ c.requires.party
@@ -110,7 +110,7 @@ returns-clause-serves g c =
     let ended = c.if-not-try_at.ensures.step.ended in
     let pool = ap (λ (p : PoolParty). p.allocator) c.party.view_is ∙ c.requires.party in
     let own = pool ∙ sym c.self.view_is in
-    let logged = party_with c.self.inside.flags party.seat.table_id party.has_post party.seat.me party.number
+    let logged = party_with c.self.inside.flags party.seat.table_id party.seat.me party.number
     c.party.invariant own (λ (n : ℕ). taking_at n c.args.number) new.table_id new.me old c.party.view_is c.try_at.ensures.table
     ended in
     let geometry = subst (λ (p : SharedPool). IsPoolGeometry p.scene.geometry) pool c.party.invariant.shared.geometry in
@@ -121,8 +121,8 @@ returns-clause-serves g c =
     record {
       bucket = c.self.view_is;
       number = ap (λ (p : PoolParty). p.number) c.party.view_is;
-      is_party = is_party new.table_id party.has_post party.number new.me (seated_then c.self.inside.flags party.seat.table_id
-          party.has_post party.seat.me party.number c.party.invariant own new.me _ ended);
+      is_party = is_party new.table_id party.number new.me (seated_then c.self.inside.flags party.seat.table_id
+          party.seat.me party.number c.party.invariant own new.me _ ended);
       held = subst (λ (p : PoolParty). IsHeldAfter p.log c.args.number) (sym logged)
           (taken_at_is_held old.number c.args.number old.log);
       still_held = λ other held. subst (λ (p : PoolParty). IsHeldAfter p.log other) (sym logged)

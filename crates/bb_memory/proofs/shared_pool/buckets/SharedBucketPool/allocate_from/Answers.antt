@@ -16,14 +16,14 @@ pub invariant_of-party : goal.invariant_of-party
 invariant_of-party g c =
     let party = c.party.inside in
     let own = ap (λ (p : PoolParty). p.allocator) c.party.view_is ∙ c.requires.party in
-    seated_then c.args.self.now party.seat.table_id party.has_post party.seat.me party.number c.party.invariant own
+    seated_then c.args.self.now party.seat.table_id party.seat.me party.number c.party.invariant own
     c.round.new.seat.me _ c.in-Some.ensures.step.ended
 
 pub invariant_of-party-in-None : goal.invariant_of-party-in-None
 invariant_of-party-in-None g c =
     let party = c.party.inside in
     let own = ap (λ (p : PoolParty). p.allocator) c.party.view_is ∙ c.requires.party in
-    seated_then c.args.self.now party.seat.table_id party.has_post party.seat.me party.number c.party.invariant own
+    seated_then c.args.self.now party.seat.table_id party.seat.me party.number c.party.invariant own
     c.round.new.seat.me _ c.in-None.ensures.step.ended
 
 pub returns-in-Some-clause-party : goal.returns-in-Some-clause-party
@@ -32,7 +32,7 @@ returns-in-Some-clause-party g c =
     let party = c.party.inside in
     let own = ap (λ (p : PoolParty). p.allocator) c.party.view_is ∙ c.requires.party in
     let took = c.in-Some.ensures.step in
-    let logged = party_with pool party.seat.table_id party.has_post party.seat.me party.number c.party.invariant own
+    let logged = party_with pool party.seat.table_id party.seat.me party.number c.party.invariant own
     (λ (n : ℕ). taking_round pool.scene.geometry.buckets n c.args.first took.turn) c.round.new.seat.table_id c.round.new.seat.me
     c.args.party.now c.party.view_is c.round.ensures.table took.ended in
     ap (λ (p : PoolParty). p.allocator) logged ∙ c.requires.party
@@ -42,7 +42,7 @@ returns-in-None-clause-party g c =
     let pool = c.args.self.now in
     let party = c.party.inside in
     let own = ap (λ (p : PoolParty). p.allocator) c.party.view_is ∙ c.requires.party in
-    let logged = party_with pool party.seat.table_id party.has_post party.seat.me party.number c.party.invariant own
+    let logged = party_with pool party.seat.table_id party.seat.me party.number c.party.invariant own
     (λ (n : ℕ). refused_round pool.scene.geometry.buckets n c.args.first) c.round.new.seat.table_id c.round.new.seat.me
     c.args.party.now c.party.view_is c.round.ensures.table c.in-None.ensures.step.ended in
     ap (λ (p : PoolParty). p.allocator) logged ∙ c.requires.party
@@ -58,7 +58,7 @@ returns-in-Some-clause-serves g c =
     let pool = c.args.self.now in
     let own = ap (λ (p : PoolParty). p.allocator) c.party.view_is ∙ c.requires.party in
     let buckets = pool.scene.geometry.buckets in
-    let logged = party_with pool party.seat.table_id party.has_post me party.number c.party.invariant own
+    let logged = party_with pool party.seat.table_id me party.number c.party.invariant own
     (λ (n : ℕ). taking_round buckets n c.args.first took.turn) new.table_id new.me old c.party.view_is c.round.ensures.table
     took.ended in
     let geometry = subst (λ (p : SharedPool). IsPoolGeometry p.scene.geometry) own c.party.invariant.shared.geometry in
@@ -70,7 +70,7 @@ returns-in-Some-clause-serves g c =
       serves = record {
         bucket = c.self.view_is;
         number = ap (λ (p : PoolParty). p.number) c.party.view_is;
-        is_party = is_party new.table_id party.has_post party.number new.me (seated_then pool party.seat.table_id party.has_post
+        is_party = is_party new.table_id party.number new.me (seated_then pool party.seat.table_id
             me party.number c.party.invariant own new.me _ took.ended);
         held = subst (λ (p : PoolParty). IsHeldAfter p.log c.in-Some.number) (sym logged)
             (round_is_held buckets old.number c.args.first took.turn c.in-Some.number old.log took.there);
@@ -100,8 +100,8 @@ returns-in-None-clause-serves g c =
       serves = record {
         bucket = tt;
         number = ap (λ (p : PoolParty). p.number) c.party.view_is;
-        is_party = is_party new.table_id party.has_post party.number new.me (seated_then c.args.self.now
-            party.seat.table_id party.has_post me party.number c.party.invariant own new.me _ lost.ended);
+        is_party = is_party new.table_id party.number new.me (seated_then c.args.self.now
+            party.seat.table_id me party.number c.party.invariant own new.me _ lost.ended);
         held = tt;
         still_held = λ other held.
             still_held_from c.args.self.now.scene (number_of me.0) (view_log me.0) c.args.first new.me c.round.result

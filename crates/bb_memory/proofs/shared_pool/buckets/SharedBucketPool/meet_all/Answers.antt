@@ -15,14 +15,14 @@ returns-in-Some-clause-met g c =
     (ap (λ (b : SharedPool). b.scene) c.self.view_is) c.meet_rest.ensures.found.told in
     agrees scene c.args.parties.now.items
     (subst (λ (parties : List NumberedLog). TellsMeeting scene parties)
-    (all_gathered c.party.inside.seat.table_id c.party.inside.has_post c.party.inside.number c.party.inside.seat.me
+    (all_gathered c.party.inside.seat.table_id c.party.inside.number c.party.inside.seat.me
     c.in-Some.party c.args.parties.now.items c.pop.new.self.items c.party.invariant c.party.view_is c.in-Some.ensures.items)
     told)
 
 pub returns-in-Some-clause-kept : goal.returns-in-Some-clause-kept
 returns-in-Some-clause-kept g c =
     let back = met_party c.meet_rest.new.seat.table_id c.party.inside.seat.table_id
-    c.party.inside.has_post c.party.inside.number c.party.inside.seat.me c.meet_rest.new.seat.me c.in-Some.party c.party.view_is
+    c.party.inside.number c.party.inside.seat.me c.meet_rest.new.seat.me c.in-Some.party c.party.view_is
     c.meet_rest.ensures.found.table c.meet_rest.ensures.found.seat in
     c.push_reserved.ensures.items ∙ (λ i. c.meet_rest.ensures.rest.items i ++ back i ∷ []) ∙ sym c.in-Some.ensures.items
 

@@ -3,11 +3,10 @@ use Rattle.std.specs.Prelude.{All, slice_get}
 use Rattle.std.proofs.lemmas.List.Elements.{All-push}
 use Rattle.atomic_table.specs.Table.{Me}
 use Rattle.bb_memory.specs.SharedPool.{IsSharedScene, PoolParty, SharedPool, fresh_party}
-use Rattle.bb_memory.specs.Seats.{first_of, others_of, view_log}
-use Rattle.bb_memory.specs.SharedPoolRule.{NumberedLog, SeatView, party_in, scene_of, standing_for}
+use Rattle.bb_memory.specs.Seats.{first_of, others_of, standing_for, view_log}
+use Rattle.bb_memory.specs.SharedPoolRule.{NumberedLog, SeatView, party_in}
 use Rattle.bb_memory.proofs.Seatings.{fresh_more, given_more}
 use Rattle.bb_memory.proofs.SharedPoolParties.{no_step, party_seat}
-use Rattle.bb_memory.proofs.SharedPoolPosts.{handed_few}
 use Rattle.bb_memory.proofs.shared_pool.buckets.SharedBucketPool.seat_parties.Goals as goal
 
 pub deal-seat-requires : goal.deal-seat-requires
@@ -21,7 +20,7 @@ invariant_of-push_reserved g c =
     ∙ ap (λ (parties : List NumberedLog). (standing_for scene parties, [])) (fresh_more number c.args.parties (omega arith)) in
     let seated = c.deal-seat.ensures.first ∙ ap (λ (m : Me ℕ SeatView). (first_of m.0, [])) is in
     party_seat scene number [] c.deal-seat.result.me (no_step scene number c.deal-seat.result.me seated)
-    (let most = handed_few scene.parties c.args.self.now.has_post c.args.parties c.requires.parties in omega arith)
+    (let made = c.requires.parties in omega arith)
     (subst (λ (p : SharedPool). IsSharedScene p.scene) c.self.view_is c.self.invariant.shared)
 
 pub loop-number-preserved : goal.loop-number-preserved
@@ -35,12 +34,11 @@ loop-number-preserved g c =
     let is = before.rest
     ∙ ap (λ (parties : List NumberedLog). (standing_for scene parties, [])) (fresh_more number count (omega arith)) in
     let seated = dealt.first ∙ ap (λ (m : Me ℕ SeatView). (first_of m.0, [])) is in
-    let value : PoolParty = party_in c.deal-seat.result.table_id c.has_post-has_post.result number c.deal-seat.result.me.0 in
+    let value : PoolParty = party_in c.deal-seat.result.table_id number c.deal-seat.result.me.0 in
     let value_is : value ≡ fresh_party pool number = λ j. record {
       allocator = record {
         table = (dealt.its_table ∙ before.table) j;
-        scene = ap (λ (m : Me ℕ SeatView). (scene_of m.0)) seated j;
-        has_post = c.has_post-has_post.ensures.value j;
+        scene = ap (λ (m : Me ℕ SeatView). m.0.scene) seated j;
       };
       number = number;
       log = ap (λ (m : Me ℕ SeatView). view_log m.0) seated j;

@@ -1,8 +1,9 @@
 use Rattle.std.proofs.Common.{[], ℕ, sym, ap, ◌∙◌, arith, subst}
 use Rattle.atomic_table.specs.Table.{Me}
 use Rattle.bb_memory_base.specs.PoolMachine.{PoolScene}
+use Rattle.bb_memory.specs.Seats.{standing_for}
 use Rattle.bb_memory.specs.SharedPool.{SharedPool}
-use Rattle.bb_memory.specs.SharedPoolRule.{PoolSetting, SeatView, scene_of, standing_for}
+use Rattle.bb_memory.specs.SharedPoolRule.{SeatView}
 use Rattle.bb_memory.specs.SharedPoolSteps.{TellsMeeting}
 use Rattle.bb_memory.proofs.SharedPoolMeetings.{meets_as}
 use Rattle.bb_memory.proofs.shared_pool.flags.Flags.find.Goals as goal
@@ -10,7 +11,7 @@ use Rattle.bb_memory.proofs.shared_pool.flags.Flags.find.Goals as goal
 pub load-requires : goal.load-requires
 load-requires c =
     let me = c.args.seat.now.me in
-    let key = ap (λ (s : PoolSetting). s.scene) c.self.invariant.0 ∙ ap (λ (p : SharedPool). p.scene) c.self.view_is in
+    let key = c.self.invariant.0 ∙ ap (λ (p : SharedPool). p.scene) c.self.view_is in
     let has = c.self.invariant.1.words in (
       c.requires.table ∙ sym (ap (λ (p : SharedPool). p.table) c.self.view_is),
       omega (arith, has),
@@ -24,5 +25,5 @@ returns c =
       table = c.load.ensures.0;
       seat = c.load.ensures.2.0;
       told = subst (λ (s : PoolScene). TellsMeeting s me.0.parties)
-          (ap (λ (m : Me ℕ SeatView). (scene_of m.0)) c.requires.seat) c.load.ensures.2.1;
+          (ap (λ (m : Me ℕ SeatView). m.0.scene) c.requires.seat) c.load.ensures.2.1;
     }

@@ -1,15 +1,14 @@
 use Rattle.std.proofs.Common.{[], sym, ap, ◌∙◌, arith}
 use Rattle.bb_memory_base.specs.PoolMachine.{PoolScene}
-use Rattle.bb_memory.specs.Seats.{number_of, view_log}
+use Rattle.bb_memory.specs.Seats.{alone, number_of, view_log}
 use Rattle.bb_memory.specs.SharedPool.{SharedPool}
-use Rattle.bb_memory.specs.SharedPoolRule.{PoolSetting, alone}
 use Rattle.bb_memory.proofs.SharedPoolKeeps.{returns_as}
 use Rattle.bb_memory.proofs.shared_pool.flags.Flags.give_back.Goals as goal
 
 pub store-requires : goal.store-requires
 store-requires c =
     let me = c.args.seat.now.me in
-    let key = ap (λ (s : PoolSetting). s.scene) c.self.invariant.0 ∙ ap (λ (p : SharedPool). p.scene) c.self.view_is in
+    let key = c.self.invariant.0 ∙ ap (λ (p : SharedPool). p.scene) c.self.view_is in
     let below = rw (← c.self.view_is) at c.requires.held.below in
     let counted = c.self.invariant.1.words in (
       c.requires.seat.table ∙ sym (ap (λ (p : SharedPool). p.table) c.self.view_is),

@@ -1,6 +1,6 @@
 use Rattle.std.proofs.Common.{ℕ, replicate, ap, ◌∙◌}
+use Rattle.bb_memory_base.specs.PoolMachine.{PoolScene}
 use Rattle.bb_memory.specs.FlagWords.{words_for}
-use Rattle.bb_memory.specs.SharedPoolRule.{PoolSetting}
 use Rattle.bb_memory.proofs.SharedPoolSeats.{opens}
 use Rattle.bb_memory.proofs.shared_pool.flags.Flags.open.Goals as goal
 
@@ -9,5 +9,5 @@ of_words-requires c =
     opens c.args.scene c.as_slice.result.now
     (c.as_slice.ensures.value ∙ c.in_ok-words.ensures.items_if_clones_equal (λ y e. e)
     ∙ ap (λ (n : ℕ). replicate n 0) (c.count_words.ensures ∙ ap words_for (c.count.ensures.value
-    ∙ ap (λ (s : PoolSetting). s.scene.geometry.buckets) c.scene.view_is)))
+    ∙ ap (λ (s : PoolScene). s.geometry.buckets) c.scene.view_is)))
     c.requires

@@ -1,16 +1,15 @@
 use Rattle.std.proofs.Common.{◌≡◌, ◌<◌, [], sym, ap, ◌∙◌, arith, subst}
 use Rattle.bb_memory_base.specs.PoolMachine.{PoolScene}
-use Rattle.bb_memory.specs.Seats.{number_of, view_log}
+use Rattle.bb_memory.specs.Seats.{alone, number_of, view_log}
 use Rattle.bb_memory.specs.SharedPool.{SharedPool}
-use Rattle.bb_memory.specs.SharedPoolRule.{PoolSetting, alone}
 use Rattle.bb_memory.proofs.SharedPoolKeeps.{tries_as}
 use Rattle.bb_memory.proofs.shared_pool.flags.Flags.try_flag.Goals as goal
 
 pub compare_exchange-found-requires : goal.compare_exchange-found-requires
 compare_exchange-found-requires c =
     let me = c.args.seat.now.me in
-    let key : c.self.inside.table.shared.key.scene ≡ c.args.self.now.scene =
-    ap (λ (s : PoolSetting). s.scene) c.self.invariant.0 ∙ ap (λ (p : SharedPool). p.scene) c.self.view_is in
+    let key : c.self.inside.table.shared.key ≡ c.args.self.now.scene =
+    c.self.invariant.0 ∙ ap (λ (p : SharedPool). p.scene) c.self.view_is in
     let words = c.self.invariant.1 in
     let below = rw (← c.self.view_is) at c.requires.next.below in
     let counted = words.words in (
