@@ -165,6 +165,8 @@ pub record Serves (pool : SharedPool) (old : PoolParty) (layout : Layout) (answe
   pub is_party : IsParty new
   pub held : IfOk answer (λ bucket. IsHeldAfter new.log bucket.number)
   pub still_held : (other : ℕ) → IsHeldAfter old.log other → IsHeldAfter new.log other
+  pub others : (other : ℕ) → IfOk answer (λ bucket. other ≢ bucket.number) → IsHeldAfter new.log other →
+      IsHeldAfter old.log other
   pub inside : IfOk answer (λ bucket. IsInside pool.scene.geometry.region (chunk_of bucket))
   pub aligned : IfOk answer (λ bucket. (chunk_of bucket).place % layout.align ≡ 0)
   pub exact_size : IfOk answer (λ bucket. (chunk_of bucket).len ≡ layout.size)

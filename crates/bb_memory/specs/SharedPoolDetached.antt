@@ -18,6 +18,7 @@ pub record HasDetached (pool : SharedPool) (old : PoolParty) (bucket : TakenBuck
   pub is_party : IsSameParty old new
   pub was_detached : ¬ IsHeldAfter new.log bucket.number
   pub still_held : (other : ℕ) → other ≢ bucket.number → IsHeldAfter old.log other → IsHeldAfter new.log other
+  pub others : (other : ℕ) → IsHeldAfter new.log other → IsHeldAfter old.log other
 
 -- a party and a detached bucket are this pool's
 pub record AreOf (pool : SharedPool) (party : PoolParty) (transit : TakenBucket) : Type 0 where
@@ -32,3 +33,4 @@ pub record HasAttached (pool : SharedPool) (old : PoolParty) (transit : TakenBuc
   pub not_held : ¬ IsHeldAfter old.log transit.number
   pub held : IsHeldAfter new.log transit.number
   pub still_held : (other : ℕ) → IsHeldAfter old.log other → IsHeldAfter new.log other
+  pub others : (other : ℕ) → other ≢ transit.number → IsHeldAfter new.log other → IsHeldAfter old.log other

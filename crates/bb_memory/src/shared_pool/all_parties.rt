@@ -11,9 +11,6 @@ ghost use Rattle.bb_memory_base.specs.declared.layout.Layout.{Layout};
 ghost use Rattle.bb_memory.specs.SharedPool.{HasTaker, HaveMet, WasDetachedByOne, IsHeldByOne, IsHeldOrDetached, IsSharedScene};
 ghost use Rattle.bb_memory.specs.SharedPool.{PoolParty, TookOne, refused_pass};
 
-use super::buckets::SharedBucketPool;
-use super::party::PoolParty;
-
 /// What a user of a shared pool has of parties that met ([`meet_all`](super::SharedPoolAllocator::meet_all)), and above all of
 /// all its parties, whatever the threads did. It does nothing: its contract is the law.
 ///
@@ -73,17 +70,3 @@ pub fn shared_pool_meeting_law()
     // A pass that is refused takes no bucket.
     ensures refused_took_none { (buckets number : ℕ) → ¬ TookOne (refused_pass buckets number) }
 {}
-
-impl<const CAPPED: usize, const MOST: usize> SharedBucketPool<CAPPED, MOST> {
-    /// Does nothing. It is the proof that of all parties of the pool, which have each made steps and met, one has taken a bucket:
-    /// it can't be that each was refused by what somebody else held, since there is nobody else.
-    pub fn one_took(&self, parties: &Vec<PoolParty>)
-        requires all { length parties.now.items ≡ self.now.scene.parties }
-        requires met { HaveMet self.now.scene parties.now.items }
-        requires stepped { All (λ party. party.log ≢ []) parties.now.items }
-        ensures { HasTaker self.now.scene parties.now.items }
-    {
-        let _ = parties;
-        let _ = self.number_of_buckets();
-    }
-}
