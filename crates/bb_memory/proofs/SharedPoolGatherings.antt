@@ -1,6 +1,6 @@
 -- Parties that come to one seat, and what their meeting says of their logs.
 use Rattle.std.proofs.Common.{◌≡◌, ℕ, zero, suc, replicate, ◌≤◌, List, [], ◌∷◌, ◌++◌, Some, length, refl, sym, ap, ◌∙◌}
-use Rattle.std.proofs.Common.{None, subst, arith, inl, inr, true, false}
+use Rattle.std.proofs.Common.{subst, arith, inl, inr, true, false}
 use Rattle.std.specs.Prelude.{map, Contains, slice_get}
 use Rattle.std.specs.List.{AllByRecursion}
 use Rattle.std.proofs.lemmas.Bool.{cases_eq}

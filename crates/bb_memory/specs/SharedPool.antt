@@ -1,6 +1,6 @@
 -- A shared pool, its parties and the buckets that they took, as their contracts see them, and what each call adds to its
 -- party's log.
-use Rattle.std.specs.Prelude.{◌≡◌, ℕ, zero, suc, ◌<◌, ◌≤◌, List, [], ◌∷◌, ◌++◌, None, Result, Ok, Err, ◌+◌, take}
+use Rattle.std.specs.Prelude.{◌≡◌, ◌≢◌, ℕ, zero, suc, ◌<◌, ◌≤◌, List, [], ◌∷◌, ◌++◌, None, Result, Ok, Err, ◌+◌, take}
 use Rattle.std.specs.Prelude.{◌↔◌, ◌⊎◌, ◌%◌, All, Any, Bool, true, Contains, IfOk, IsErr, OnErr, Some, length, map, slice_get}
 use Rattle.atomic_table.specs.Seated.{TableId}
 use Rattle.bb_memory_base.specs.Chunk.{Chunk, IsInside}
@@ -99,7 +99,7 @@ refused_pass buckets party = losses buckets party buckets
 abbrev pub return_entry : ℕ → ℕ → PoolLog
 return_entry party bucket = entry_of (GiveBack party bucket) (Gives bucket) ∷ []
 
--- one hand-over, and one take-over
+-- one step that detaches a bucket, and one that attaches it
 abbrev pub detach_entry : ℕ → ℕ → PoolLog
 detach_entry party bucket = entry_of (Detach party bucket) (Detaches bucket) ∷ []
 
@@ -223,7 +223,7 @@ HaveAllNumbers count parties =
 abbrev pub IsHeldByOne : List PoolParty → ℕ → Type 0
 IsHeldByOne parties bucket = Any (λ party. IsHeldAfter party.log bucket) parties
 
--- one of these parties has handed the bucket over
+-- one of these parties has detached the bucket
 abbrev pub WasDetachedByOne : List PoolParty → ℕ → Type 0
 WasDetachedByOne parties bucket = Any (λ party. WasDetached party.log bucket) parties
 
@@ -249,8 +249,8 @@ pub record HasTaker (scene : PoolScene) (parties : List PoolParty) : Type 0 wher
   pub took : TookOne taker.log
 
 -- There is a log for each of the pool's parties, with which these flags agree, and these parties' logs are among them. Where
--- these are all parties, each log is one of theirs, and a flag is taken exactly where one of them holds the bucket, or it is in
--- transit.
+-- these are all parties, each log is one of theirs, and a flag is taken exactly where one of them holds the bucket, or it is
+-- detached.
 pub record AgreeWith (scene : PoolScene) (flags : List Bool) (parties : List PoolParty)
     : Type 0 where
   pub logs : List PoolLog

@@ -43,8 +43,8 @@ pub fn shared_pool_meeting_law()
         → (IsHeld scene.geometry live bucket
         ↔ IsHeldOrDetached scene met.1.agree.steps parties bucket) }
 
-    // No party that met holds a detached bucket, and where all have met, one of them has handed it over. So where none has
-    // handed a bucket over, its flag is taken exactly where one of them holds it.
+    // No party that met holds a detached bucket, and where all have met, one of them has detached it. So where none has
+    // detached a bucket, its flag is taken exactly where one of them holds it.
     ensures detached { (scene : PoolScene) (parties : List PoolParty) (met : HaveMet scene parties)
         (bucket : ℕ) → IsDetached (left_by scene met.1.agree.steps) bucket
         → ¬ IsHeldByOne parties bucket }

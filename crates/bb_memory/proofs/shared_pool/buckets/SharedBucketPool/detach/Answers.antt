@@ -19,7 +19,7 @@ pub returns-clause-bucket : goal.returns-clause-bucket
 returns-clause-bucket g c =
     let bucket = c.bucket.inside in
     let result = c.detach-seat.result in
-    let own = pool_of_detached c.self.inside.flags result.table_id result.me bucket.number c.detach-seat.ensures.transit in
+    let own = pool_of_detached c.self.inside.flags result.table_id result.me bucket.number c.detach-seat.ensures.detached in
     let its = c.self.view_is ∙ sym (ap (λ (b : TakenBucket). b.allocator) c.bucket.view_is ∙ c.requires.may.its_bucket) in
     (λ i. taken_bucket ((own ∙ its) i) bucket.number bucket.len) ∙ c.bucket.view_is
 
