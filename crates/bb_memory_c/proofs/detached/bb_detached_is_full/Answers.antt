@@ -1,6 +1,6 @@
 use Rattle.std.proofs.Common.{rules, ◌∙◌, sym}
 use Rattle.bb_memory_c.proofs.Made.{at_made, at_lent}
-use Rattle.bb_memory_c.proofs.transit.bb_envelope_is_full.Goals as goal
+use Rattle.bb_memory_c.proofs.detached.bb_detached_is_full.Goals as goal
 
 pub returns-in-Some : goal.returns-in-Some
 returns-in-Some c = let is = c.in-Some.ensures.value in record {

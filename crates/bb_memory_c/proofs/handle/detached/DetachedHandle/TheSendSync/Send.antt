@@ -1,9 +1,9 @@
 -- The handle may go to another thread.
 use denote.Param.Send.{IsSend, owning_send}
-use Rattle.bb_memory_c.specs.contracts.envelope.Envelope.{the_row as made_row}
-use Rattle.bb_memory_c.proofs.envelope.Envelope.TheSendSync.{the_send}
+use Rattle.bb_memory_c.specs.contracts.detached.Detached.{the_row as made_row}
+use Rattle.bb_memory_c.proofs.detached.Detached.TheSendSync.{the_send}
 use Rattle.bb_memory_c.proofs.Crossing.{owned, two_send}
-use Rattle.bb_memory_c.specs.contracts.handle.envelope.EnvelopeHandle.{the_row, the_type}
+use Rattle.bb_memory_c.specs.contracts.handle.detached.DetachedHandle.{the_row, the_type}
 
 pub send : IsSend the_row
 send = let made : IsSend made_row = the_send in
