@@ -17,13 +17,13 @@ use thiserror::Error;
 #[derive(Debug, Clone, Copy, PartialEq, Eq, Error)]
 pub enum PushError {
     #[error("too long: {0}")]
-    TooLong(#[from] LayoutError),
+    TooLong(LayoutError),
     #[error("no room: {0}")]
-    Full(#[from] AllocationGrowError),
+    Full(AllocationGrowError),
 }
 
 /// Bytes at an offset.
-#[derive(Debug, Clone, Copy, PartialEq, Eq)]
+#[derive(Clone, Copy)]
 pub struct ByteVec {
     offset: usize,
     capacity: usize,

@@ -3,7 +3,6 @@ ghost use Rattle.std.specs.Prelude.{◌≡◌, ◌∷◌, ◌++◌, ◌+◌, ◌
 ghost use Rattle.bb_memory_base.specs.Chunk.{Chunk};
 ghost use Rattle.bb_memory_base.specs.Object.{released};
 
-use crate::budget::Budget;
 use bb_memory_base::allocator::{
     AllocationError, AllocationGrowError, AllocationShrinkError, Allocator, BaseAllocator,
 };
@@ -30,6 +29,42 @@ impl<A: BaseAllocator + Drop> Model for ChunkBudget<A> {
 
     ghost invariant = { λ b. (b.out ≤ b.budget)
         × ((live : List Chunk) × A.stands_for b.inner live × (length live ≡ b.out)) };
+}
+
+impl<A: BaseAllocator + Drop> ChunkBudget<A> {
+    ghost use Rattle.std.specs.Prelude.{◌≡◌, ◌≤◌, [], List, length};
+    ghost use Rattle.bb_memory_base.specs.Chunk.{Chunk};
+
+    /// A budget of so many chunks, over an allocator that has nothing out.
+    pub fn new(inner: A, budget: usize) -> Self
+        requires { A.stands_for inner [] }
+        ensures value { result ≡ record { inner = inner; budget = budget; out = 0 } }
+        ensures empty { ⟦<ChunkBudget<A> as BaseAllocator>⟧.stands_for result [] }
+    {
+        ChunkBudget {
+            inner,
+            budget,
+            out: 0,
+        }
+    }
+
+    /// How many chunks are out: as many as each live list has that it stands for, and never more than the budget.
+    pub fn out(&self) -> usize
+        ensures value { result ≡ self.now.out }
+        ensures within { result ≤ self.now.budget }
+        ensures of_live { (live : List Chunk)
+            → ⟦<ChunkBudget<A> as BaseAllocator>⟧.stands_for self.now live
+            → length live ≡ result }
+    {
+        self.out
+    }
+
+    /// How many chunks may be out.
+    pub fn budget(&self) -> usize
+        ensures { result ≡ self.now.budget }
+    {
+        self.budget
+    }
 }
 
 impl<A: BaseAllocator + Drop> BaseAllocator for ChunkBudget<A> {
@@ -141,32 +176,6 @@ impl<A: Allocator + Drop> Allocator for ChunkBudget<A> {
     ghost only_live = { λ b live place stands held. A.only_live b.inner live place stands.0
         (subst (A.may_release b.inner) held.6
         (A.releases b.inner held.0 held.1 held.2 held.3 held.5)) };
-}
-
-impl<A: BaseAllocator + Drop> Budget for ChunkBudget<A> {
-    ghost use Rattle.std.specs.Prelude.{length};
-
-    type Inner = A;
-
-    ghost budgeted = { λ b. b };
-
-    ghost taken_by = { λ inner live. length live };
-
-    fn new(inner: A, budget: usize) -> Self {
-        ChunkBudget {
-            inner,
-            budget,
-            out: 0,
-        }
-    }
-
-    fn out(&self) -> usize {
-        self.out
-    }
-
-    fn budget(&self) -> usize {
-        self.budget
-    }
 }
 
 /// How many of so many chunks are out once one of them is given back.

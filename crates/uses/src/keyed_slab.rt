@@ -17,7 +17,7 @@ use std::marker::Model;
 use thiserror::Error;
 
 /// The key names no record: its record was taken out, or there was none.
-#[derive(Debug, Clone, Copy, PartialEq, Eq, Error)]
+#[derive(Debug, Clone, Copy, Error)]
 #[error("no record has this key")]
 pub struct StaleKey {}
 
@@ -29,7 +29,7 @@ pub struct Key {
 }
 
 /// Where one record is at a time: how often it was taken before, and whether it is taken.
-#[derive(Debug, Clone, Copy, PartialEq, Eq)]
+#[derive(Clone, Copy)]
 pub struct Slot {
     pub generation: u64,
     pub taken: bool,

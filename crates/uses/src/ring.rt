@@ -28,9 +28,9 @@ use thiserror::Error;
 #[derive(Debug, Drop, Error)]
 pub enum SendError {
     #[error("no memory for the list of messages")]
-    List(#[from] AllocError),
+    List(AllocError),
     #[error("no sample: {0}")]
-    Refused(#[from] LoanError),
+    Refused(LoanError),
 }
 
 /// Messages that several readers read, each in a sample of a loan book: a message's chunk goes back when the last of its readers

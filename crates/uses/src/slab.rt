@@ -21,11 +21,11 @@ use thiserror::Error;
 #[derive(Debug, Drop, Error)]
 pub enum InsertError {
     #[error("no memory for the list of records")]
-    List(#[from] AllocError),
+    List(AllocError),
     #[error("the record is too long: {0}")]
-    Layout(#[from] LayoutError),
+    Layout(LayoutError),
     #[error("no chunk: {0}")]
-    Refused(#[from] AllocationError),
+    Refused(AllocationError),
     #[error("the allocator gave a longer chunk than the record")]
     NoExactChunk,
 }

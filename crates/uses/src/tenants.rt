@@ -23,7 +23,7 @@ pub enum AdmitError {
     #[error("the limits would exceed the whole")]
     OverWhole,
     #[error("no memory for the list of limits")]
-    List(#[from] AllocError),
+    List(AllocError),
 }
 
 /// Why a tenant wasn't given a chunk.
@@ -34,20 +34,20 @@ pub enum LeaseError {
     #[error("the tenant's limit would be exceeded")]
     OverLimit,
     #[error("no memory for the list of leases")]
-    List(#[from] AllocError),
+    List(AllocError),
     #[error("no chunk: {0}")]
-    Refused(#[from] AllocationError),
+    Refused(AllocationError),
     #[error("the allocator gave a longer chunk than asked, which exceeds the tenant's limit")]
     TooLong,
 }
 
 /// The tenant holds no chunk at the place.
-#[derive(Debug, Clone, Copy, PartialEq, Eq, Error)]
+#[derive(Debug, Clone, Copy, Error)]
 #[error("the tenant holds no chunk at this place")]
 pub struct NotHeld {}
 
 /// A chunk that is out, and the number of the tenant that holds it.
-#[derive(Debug, Clone, Copy, PartialEq, Eq)]
+#[derive(Clone, Copy)]
 pub struct Lease {
     pub tenant: usize,
     pub chunk: Chunk,
