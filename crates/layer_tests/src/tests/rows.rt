@@ -9,7 +9,6 @@ use loan_book::LoanBook;
 use std::alloc::Global;
 use std::process::Abort;
 use uses::keyed_slab::{Key, KeyedSlab};
-use uses::mailbox::Mailbox;
 use uses::ring::MessageRing;
 use uses::slab::Slab;
 
@@ -149,9 +148,9 @@ fn done<'s>(is_done: bool) -> KeyedAnswer<'s> {
     }
 }
 
-/// A call of a mailbox or a ring. `Next` is done with the oldest message, as its receiver or as one of its readers.
+/// A call of a ring. `Next` is done with the oldest message, as one of its readers.
 #[derive(Drop)]
-pub(super) enum LineCall<'a> {
+pub(super) enum RingCall<'a> {
     Send(&'a [u8]),
     Front,
     Next,
@@ -160,7 +159,7 @@ pub(super) enum LineCall<'a> {
 
 /// What it is answered. `Left` tells whether the oldest message has left.
 #[derive(Drop, PartialEq)]
-pub(super) enum LineAnswer<'a> {
+pub(super) enum RingAnswer<'a> {
     Sent,
     Message(&'a [u8]),
     Left(bool),
@@ -169,48 +168,27 @@ pub(super) enum LineAnswer<'a> {
     Refused,
 }
 
-pub(super) type LineRow<'a> = (LineCall<'a>, LineAnswer<'a>);
+pub(super) type RingRow<'a> = (RingCall<'a>, RingAnswer<'a>);
 
-impl<'a, A: Allocator + Drop> Driven<LineRow<'a>> for Mailbox<A> {
-    fn keeps(&mut self, row: &LineRow<'a>) -> bool {
-        mailbox_answer(self, &row.0) == row.1
-    }
-}
-
-fn mailbox_answer<'m, A: Allocator + Drop>(
-    mailbox: &'m mut Mailbox<A>,
-    call: &LineCall<'_>,
-) -> LineAnswer<'m> {
-    match call {
-        LineCall::Send(bytes) if mailbox.send(bytes).is_ok() => LineAnswer::Sent,
-        LineCall::Send(_) => LineAnswer::Refused,
-        LineCall::Front => mailbox
-            .front()
-            .map_or(LineAnswer::Refused, LineAnswer::Message),
-        LineCall::Next => LineAnswer::Left(mailbox.receive()),
-        LineCall::Waiting => LineAnswer::Waiting(mailbox.waiting()),
-    }
-}
-
-impl<'a, A: Allocator + Drop> Driven<LineRow<'a>> for MessageRing<A> {
-    fn keeps(&mut self, row: &LineRow<'a>) -> bool {
+impl<'a, A: Allocator + Drop> Driven<RingRow<'a>> for MessageRing<A> {
+    fn keeps(&mut self, row: &RingRow<'a>) -> bool {
         ring_answer(self, &row.0) == row.1
     }
 }
 
 fn ring_answer<'r, A: Allocator + Drop>(
     ring: &'r mut MessageRing<A>,
-    call: &LineCall<'_>,
-) -> LineAnswer<'r> {
+    call: &RingCall<'_>,
+) -> RingAnswer<'r> {
     match call {
-        LineCall::Send(bytes) if ring.send(bytes).is_ok() => LineAnswer::Sent,
-        LineCall::Send(_) => LineAnswer::Refused,
-        LineCall::Front => ring
+        RingCall::Send(bytes) if ring.send(bytes).is_ok() => RingAnswer::Sent,
+        RingCall::Send(_) => RingAnswer::Refused,
+        RingCall::Front => ring
             .front()
-            .map_or(LineAnswer::Refused, LineAnswer::Message),
-        LineCall::Next if ring.waiting() > 0 => LineAnswer::Left(ring.finish()),
-        LineCall::Next => LineAnswer::Refused,
-        LineCall::Waiting => LineAnswer::Waiting(ring.waiting()),
+            .map_or(RingAnswer::Refused, RingAnswer::Message),
+        RingCall::Next if ring.waiting() > 0 => RingAnswer::Left(ring.finish()),
+        RingCall::Next => RingAnswer::Refused,
+        RingCall::Waiting => RingAnswer::Waiting(ring.waiting()),
     }
 }
 
@@ -239,22 +217,13 @@ pub(super) fn keyed_slab_of<A: Allocator + Drop>(
     all_kept(rt, KeyedSlab::new(alloc, slab, 2), rows);
 }
 
-/// A mailbox of these messages keeps each row.
-pub(super) fn mailbox_of<A: Allocator + Drop>(
-    rt: &impl Abort,
-    messages: Slab<A>,
-    rows: &[LineRow<'_>],
-) {
-    all_kept(rt, Mailbox::new(messages), rows);
-}
-
 /// A ring for two readers, over an allocator and its region, keeps each row.
 pub(super) fn ring_of<A: Allocator + Drop>(
     rt: &impl Abort,
     alloc: Global,
     allocator: A,
     region: Region,
-    rows: &[LineRow<'_>],
+    rows: &[RingRow<'_>],
 )
     requires fresh { A.stands_for allocator [] }
     requires exact { GivesExactly A.may_allocate }
