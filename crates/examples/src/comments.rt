@@ -1,4 +1,4 @@
-//! The examples of the libraries' doc comments, as they stand there. What each `prove!` says is decided by contracts alone.
+//! The examples of the libraries' doc comments, as they stand there. Contracts alone decide each `prove!`.
 #![tactic(auto, unfolding(bb_memory_base::specs::LeastPlace::least_place))]
 
 ghost use Rattle.std.specs.Prelude.{◌≡◌, ◌≢◌, ◌<◌, []};

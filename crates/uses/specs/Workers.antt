@@ -6,7 +6,7 @@ use Rattle.bb_memory_base.specs.declared.layout.Layout.{Layout}
 use Rattle.bb_memory.specs.SharedPool.{SharedPool, PoolParty, TakenBucket}
 use Rattle.bb_memory.specs.SharedPoolRounds.{MayTakeFrom}
 
--- what the party held it still holds
+-- the party still holds each bucket that it held
 abbrev pub KeepsBuckets : PoolParty → PoolParty → Type 0
 KeepsBuckets old new = (bucket : ℕ) → IsHeldAfter old.log bucket → IsHeldAfter new.log bucket
 
@@ -28,7 +28,7 @@ pub record AllComeBack {P B : Type 0} (allocator_of : P → B) (each : P → Typ
   pub all : length new ≡ length old
   pub asked : All each new
 
--- what a request near the bucket that the party had last may be answered, and what the party is then: a round from some bucket
+-- the answer of a request near the bucket that the party had last, and the party then: a round from some bucket
 pub record MayTakeNear (old : PoolParty) (layout : Layout) (answer : Result TakenBucket AllocationError) (new : PoolParty)
     : Type 0 where
   pub first : ℕ
@@ -41,5 +41,6 @@ AsksNear = Asks MayTakeNear
 -- the party's last steps are a request near the bucket that it had last
 pub record HasAskedNear (layout : Layout) (party : PoolParty) : Type 0 where
   pub before : PoolParty
+  pub first : ℕ
   pub answer : Result TakenBucket AllocationError
-  pub asked : MayTakeNear before layout answer party
+  pub asked : MayTakeFrom first before layout answer party

@@ -1,4 +1,4 @@
-//! Layers over any allocator, called. What each `prove!` says is decided by contracts alone.
+//! Layers over any allocator, called. Contracts alone decide each `prove!`.
 ghost use Rattle.std.specs.Prelude.{◌≡◌, [], length};
 
 use crate::keyed_slab::{KeyedSlab, spent_law};

@@ -84,7 +84,7 @@ impl<A: Allocator + Drop> KeyedSlab<A> {
         self.record_size
     }
 
-    /// Whether the key names a record.
+    /// Tests whether the key names a record.
     pub fn holds(&self, key: Key) -> bool
         ensures { IsTrue result ↔ IsHeld self.now.slots key }
     {
@@ -157,7 +157,10 @@ impl<A: Allocator + Drop> KeyedSlab<A> {
             × (slot.generation < 2 ^ 64 - 1) × (length bytes.now ≡ self.old.record_size) }
         ensures { PutsAgain self.old index bytes.now (Ok result) self.new }
     {
-        let key = key_after(&self.slots, index);
+        let key = Key {
+            index,
+            generation: self.slots[index].generation + 1,
+        };
         self.has_size(index);
         self.slab.write(index, bytes);
         self.slots[index] = Slot {
@@ -217,18 +220,6 @@ fn push_slot(slots: &mut Vec<Slot>) -> Key
     Key {
         index,
         generation: 0,
-    }
-}
-
-/// The key of the next record in a slot.
-fn key_after(slots: &Vec<Slot>, index: usize) -> Key
-    requires { (slot : Slot) × (slice_get slots.now.items index ≡ Some slot)
-        × (slot.generation < 2 ^ 64 - 1) }
-    ensures { result ≡ next_key slots.now.items index }
-{
-    Key {
-        index,
-        generation: slots[index].generation + 1,
     }
 }
 

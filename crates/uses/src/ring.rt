@@ -15,10 +15,7 @@ use crate::slab::put;
 use bb_memory_base::allocator::Allocator;
 use bb_memory_base::layout::Chunk;
 use bb_memory_base::region::Region;
-use laws::{
-    first_out_law, newest_law, newest_out_law, newest_state_law, published_law, returned_law,
-    seam_law,
-};
+use laws::{first_out_law, newest_law, newest_state_law, returned_law, seam_law};
 use loan_book::{LoanBook, LoanError};
 use std::alloc::{AllocError, Global};
 use std::marker::Model;
@@ -126,11 +123,12 @@ impl<A: Allocator + Drop> MessageRing<A> {
 
     /// One reader is done with the oldest message. It answers whether that was the last one: then the message leaves, and its
     /// chunk goes back.
+    #[tactic(auto, using(std::proofs::lemmas::Option::get_or_from_slice_get))]
     pub fn finish(&mut self) -> bool
         requires { 0 < length self.old.messages }
         ensures { Finishes A.geometry self.old result self.new }
     {
-        let id = first_id(&self.ids);
+        let id = self.ids[0];
         let last = return_oldest(&mut self.book, id);
         if last {
             self.ids.remove(0);
@@ -186,16 +184,6 @@ fn loan_exactly<A: Allocator>(
     book.loan(size)
 }
 
-/// The first id.
-#[tactic(auto, using(std::proofs::lemmas::Option::get_or_from_slice_get))]
-fn first_id(ids: &Vec<u64>) -> u64
-    requires { 0 < length ids.now.items }
-    ensures at { slice_get ids.now.items 0 ≡ Some result }
-    ensures is { get_or ids.now.items 0 result ≡ result }
-{
-    ids[0]
-}
-
 /// Returns the oldest sample once. It answers whether that was the last return.
 fn return_oldest<A: Allocator>(book: &mut LoanBook<A>, id: u64) -> bool
     requires oldest { slice_get (ids_of book.old.book.out) 0 ≡ Some id }
@@ -228,10 +216,8 @@ fn publish_newest<A: Allocator>(book: &mut LoanBook<A>, id: u64, readers: u32)
     ensures allocator { book.new.allocator ≡ book.old.allocator }
 {
     newest_law();
-    newest_out_law();
     newest_state_law();
     seam_law();
-    published_law();
     match book.publish(id, readers) {
         Ok(()) => {}
         Err(_) => unreachable!(),

@@ -92,7 +92,7 @@ impl<A: Allocator + Drop> Slab<A> {
             Err(error) => return Err(InsertError::Refused(error)),
         };
         if chunk.len() != bytes.len() {
-            longer_law::<A>();
+            records_law::<A>();
             return_last(&mut self.allocator, chunk, layout);
             return Err(InsertError::NoExactChunk);
         }
@@ -128,12 +128,13 @@ impl<A: Allocator + Drop> Slab<A> {
             (remove self.old.records position) self.new }
     {
         let chunk = self.chunks.remove(position);
-        removed_records_law();
+        records_law::<A>();
         self.allocator.deallocate(chunk.place(), Layout::empty());
     }
 }
 
 /// Writes the record at a position.
+#[tactic(auto, using(std::proofs::lemmas::Option::gets))]
 fn overwrite(region: &mut Region, chunks: &Vec<Chunk>, position: usize, bytes: &[u8])
     requires sound { IsSound (held_region region.old) chunks.now.items }
     requires fits { (old : List ℕ)
@@ -142,16 +143,8 @@ fn overwrite(region: &mut Region, chunks: &Vec<Chunk>, position: usize, bytes: &
     ensures { HoldsThen region.old region.new chunks.now.items
         (slice_set (records_in region.old chunks.now.items) position bytes.now) }
 {
-    let chunk = chunk_at(chunks, position);
+    let chunk = chunks[position];
     region.write(chunk, bytes);
-}
-
-/// The chunk at a position.
-fn chunk_at(chunks: &Vec<Chunk>, position: usize) -> Chunk
-    requires { position < length chunks.now.items }
-    ensures { slice_get chunks.now.items position ≡ Some result }
-{
-    chunks[position]
 }
 
 /// Writes a record in the chunk that was just given.
@@ -167,17 +160,14 @@ pub(crate) fn put(region: &mut Region, chunks: &Vec<Chunk>, chunk: Chunk, bytes:
     region.write(chunk, bytes);
 }
 
-/// A longer chunk that may be given may be given. It does nothing: its contract is the law.
-fn longer_law<A: Allocator>()
-    ensures { (geometry : A.Geometry) (live : List Chunk) (size : ℕ) (layout : Layout)
+/// An allocator that may give a longer chunk for a layout may give one for the layout's size, and taking a chunk out of a list
+/// takes its record out. It does nothing: its contract is the law.
+#[tactic(auto, using(bb_memory_base::specs::Hints::parts_of_lists))]
+fn records_law<A: Allocator>()
+    ensures longer { (geometry : A.Geometry) (live : List Chunk) (size : ℕ) (layout : Layout)
         (chunk : Chunk)
         → IsOfBytes layout size → size < chunk.len → A.may_allocate geometry live layout (Ok chunk)
         → MayGiveLonger (A.may_allocate geometry live) size }
-{}
-
-/// Taking a chunk out of a list takes its record out. It does nothing: its contract is the law.
-#[tactic(auto, using(bb_memory_base::specs::Hints::parts_of_lists))]
-fn removed_records_law()
-    ensures { (held : HeldBytes) (chunks : List Chunk) (position : ℕ)
+    ensures removed { (held : HeldBytes) (chunks : List Chunk) (position : ℕ)
         → records_in held (remove chunks position) ≡ remove (records_in held chunks) position }
 {}

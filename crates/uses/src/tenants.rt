@@ -193,7 +193,7 @@ impl<A: Allocator + Drop> Tenants<A> {
         out_within(&self.leases, self.promised)
     }
 
-    /// Whether a tenant holds the chunk at a place.
+    /// Tests whether a tenant holds the chunk at a place.
     pub fn holds(&self, tenant: usize, place: usize) -> bool
         ensures { IsTrue result ↔ IsSome (lease_at tenant place self.now.leases) }
     {
@@ -267,7 +267,7 @@ impl<A: Allocator + Drop> Tenants<A> {
             return Err(NotHeld {});
         };
         leases_law();
-        let lease = lease_there(&self.leases, position);
+        let lease = self.leases[position];
         give_back(&mut self.allocator, &self.leases, position, lease);
         self.leases.remove(position);
         Ok(())
@@ -314,14 +314,6 @@ fn lease_of(leases: &Vec<Lease>, tenant: usize, place: usize) -> Option<usize>
     leases.iter().position(|lease| lease.tenant == tenant && lease.chunk.place() == place)
 }
 
-/// The lease at a position.
-fn lease_there(leases: &Vec<Lease>, position: usize) -> Lease
-    requires { position < length leases.now.items }
-    ensures { slice_get leases.now.items position ≡ Some result }
-{
-    leases[position]
-}
-
 /// Gives the chunk of the lease at a position back to the allocator.
 fn give_back<A: Allocator>(allocator: &mut A, leases: &Vec<Lease>, position: usize, lease: Lease)
     requires stands { A.stands_for allocator.old (chunks_of leases.now.items) }
@@ -333,8 +325,8 @@ fn give_back<A: Allocator>(allocator: &mut A, leases: &Vec<Lease>, position: usi
     allocator.deallocate(lease.chunk.place(), Layout::empty());
 }
 
-/// What one lease more, or one less, makes of each tenant's use, and of the chunks that are out. It does nothing: its contract
-/// is the law.
+/// One lease more or less changes its own tenant's use alone, and is a chunk more or less that is out. It does nothing: its
+/// contract is the law.
 pub fn leases_law()
     ensures more { (leases : List Lease) (lease : Lease) (tenant : ℕ)
         → used_by tenant (leases ++ lease ∷ []) ≡ used_by tenant leases + bytes_for tenant lease }
@@ -357,7 +349,7 @@ pub fn leases_law()
     map_law::<Lease, Chunk>();
 }
 
-/// What the tenants use is what is out. It does nothing: its contract is the law.
+/// All tenants' bytes together are the bytes that are out. It does nothing: its contract is the law.
 pub fn all_leases_law()
     ensures together { (leases : List Lease) (used : List ℕ)
         → ((tenant : ℕ) → used_by tenant leases ≡ slice_index_or used tenant 0)
@@ -377,11 +369,5 @@ pub fn held_law()
         → IsSome (lease_at tenant place leases)
         → IsSome (lease_at tenant place (leases ++ lease ∷ [])) }
 {
-    own_lease_law();
     position_law::<Lease>();
 }
-
-/// A lease is that of its tenant and its place. It does nothing: its contract is the law.
-fn own_lease_law()
-    ensures { (lease : Lease) → is_lease_of lease.tenant lease.chunk.place lease ≡ true }
-{}

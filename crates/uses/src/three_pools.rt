@@ -68,7 +68,8 @@ fn pool_in<const N: usize>(bucket: Layout, start: usize, size: usize) -> FixedSi
     pool
 }
 
-/// What a pool gives begins before a border that is at its region's end or behind it. It does nothing: its contract is the law.
+/// Each chunk of a pool begins before a border that is at its region's end or behind it. It does nothing: its contract is the
+/// law.
 fn gives_before_law<const N: usize>(pool: &FixedSizePoolAllocator<N>, border: usize)
     requires { region_end pool.now.geometry.region ≤ border }
     ensures { GivesBefore (MayAllocate pool.now.geometry) border }

@@ -12,7 +12,7 @@ use uses::keyed_slab::{Key, KeyedSlab};
 use uses::ring::MessageRing;
 use uses::slab::Slab;
 
-/// What can be driven by rows.
+/// A layer that rows can drive.
 pub(super) trait Driven<R> {
     /// Makes the row's call, and tells whether it was answered as the row has it.
     fn keeps(&mut self, row: &R) -> bool;
@@ -37,7 +37,7 @@ pub(super) enum SlabCall<'a> {
     Len,
 }
 
-/// What a slab answers.
+/// The answer of a slab.
 #[derive(Drop, PartialEq)]
 pub(super) enum SlabAnswer<'a> {
     Done,
@@ -88,7 +88,7 @@ pub(super) enum KeyedCall<'a> {
     Size,
 }
 
-/// What it is answered.
+/// The answer of a slab with keys.
 #[derive(Drop, PartialEq)]
 pub(super) enum KeyedAnswer<'a> {
     Key(usize, u64),
@@ -139,7 +139,7 @@ fn key(index: usize, generation: u64) -> Key {
     Key { index, generation }
 }
 
-/// What a call that was done is told as, or one whose key was stale.
+/// The answer of a call that was done, or of one whose key was stale.
 fn done<'s>(is_done: bool) -> KeyedAnswer<'s> {
     if is_done {
         KeyedAnswer::Done
@@ -157,7 +157,7 @@ pub(super) enum RingCall<'a> {
     Waiting,
 }
 
-/// What it is answered. `Left` tells whether the oldest message has left.
+/// The answer of a ring. `Left` tells whether the oldest message has left.
 #[derive(Drop, PartialEq)]
 pub(super) enum RingAnswer<'a> {
     Sent,
@@ -192,7 +192,7 @@ fn ring_answer<'r, A: Allocator + Drop>(
     }
 }
 
-/// Whether a record of this length is at the position.
+/// Tests whether a record of this length is at the position.
 fn has_record<A: Allocator + Drop>(slab: &Slab<A>, position: usize, len: usize) -> bool
     ensures { IsTrue result
         → (old : List ℕ) × (slice_get slab.now.records position ≡ Some old) × (len ≡ length old) }

@@ -17,7 +17,7 @@ use std::process::Abort;
 use uses::segregated::Segregated;
 use uses::three_pools::{ThreePools, three_pools};
 
-/// Whether there may be a pool of one bucket of this layout over the 512 bytes at `start`.
+/// Tests whether there may be a pool of one bucket of this layout over the 512 bytes at `start`.
 fn can_be_third(bucket: Layout, start: usize) -> bool
     ensures { IsTrue result ↔ MayBePool (region_at start 512) bucket 1 }
 {

@@ -1,4 +1,4 @@
-//! Threads that share a bump or a pool, and what is left of it when all of them are back.
+//! Threads that share a bump or a pool, and the room that is left when all of them are back.
 ghost use Rattle.std.specs.Prelude.{◌≡◌, All};
 
 use super::checks::check;
@@ -24,7 +24,7 @@ fn four_carve_a_region(rt: HostRuntime) {
     check(&rt, used_by_four(&rt, rt.alloc(), 300) == Some(900));
 }
 
-/// Whether the party gets one more bucket, which it keeps.
+/// Takes one more bucket for the party, which keeps it, where there is one.
 fn keeps_one(pool: &SharedPoolAllocator, party: &mut PoolParty, asked: Layout) -> bool
     requires { party.old.allocator ≡ pool.now }
     ensures { party.new.allocator ≡ pool.now }
@@ -32,7 +32,8 @@ fn keeps_one(pool: &SharedPoolAllocator, party: &mut PoolParty, asked: Layout) -
     pool.allocate(party, asked).is_ok()
 }
 
-/// Whether the last of these parties gets each of five buckets more, or none where there is no party.
+/// Takes five buckets more for the last of these parties, and answers for each whether there was one. None is where there is no
+/// party.
 fn five_more(
     pool: &SharedPoolAllocator,
     mut parties: Vec<PoolParty>,
@@ -50,7 +51,7 @@ fn five_more(
     ])
 }
 
-/// What is left for one of four workers when each has kept a bucket of eight.
+/// Takes five more for one of four workers when each has kept a bucket of eight.
 fn left_of_four<R: Threads + Sync>(rt: &R, alloc: Global, asked: Layout) -> Option<[bool; 5]> {
     let (pool, parties) = four_workers(rt, alloc, asked).ok()?;
     five_more(&pool, parties, asked)
