@@ -2,6 +2,7 @@
 #![tactic(auto, unfolding(bb_memory_base::specs::LeastPlace::least_place))]
 
 ghost use Rattle.std.specs.Prelude.{◌≡◌, ◌≢◌, ◌<◌, []};
+ghost use Rattle.bb_memory.specs.HeldBuckets.{IsCutAtMost};
 ghost use Rattle.bb_memory.specs.OneChunk.{StandsFor};
 
 use crate::errors::GiveError;

@@ -21,13 +21,6 @@ pub record Asks {P A : Type 0} (may_take : P → Layout → A → P → Type 0) 
   pub answer : A
   pub asked : may_take old layout answer new
 
--- as many parties come back as went out, all of them this allocator's, and this holds of each
-pub record AllComeBack {P B : Type 0} (allocator_of : P → B) (each : P → Type 0) (allocator : B) (old new : List P)
-    : Type 0 where
-  pub theirs : All (λ party. allocator_of party ≡ allocator) new
-  pub all : length new ≡ length old
-  pub asked : All each new
-
 -- the answer of a request near the bucket that the party had last, and the party then: a round from some bucket
 pub record MayTakeNear (old : PoolParty) (layout : Layout) (answer : Result TakenBucket AllocationError) (new : PoolParty)
     : Type 0 where
@@ -41,6 +34,11 @@ AsksNear = Asks MayTakeNear
 -- the party's last steps are a request near the bucket that it had last
 pub record HasAskedNear (layout : Layout) (party : PoolParty) : Type 0 where
   pub before : PoolParty
-  pub first : ℕ
   pub answer : Result TakenBucket AllocationError
-  pub asked : MayTakeFrom first before layout answer party
+  pub asked : MayTakeNear before layout answer party
+
+-- as many parties come back as went out, all of them this pool's, and each has asked near the bucket that it had last
+pub record AllComeBack (layout : Layout) (pool : SharedPool) (old new : List PoolParty) : Type 0 where
+  pub theirs : All (λ party. party.allocator ≡ pool) new
+  pub all : length new ≡ length old
+  pub asked : All (HasAskedNear layout) new

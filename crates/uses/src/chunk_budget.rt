@@ -102,15 +102,16 @@ impl<A: BaseAllocator + Drop> BaseAllocator for ChunkBudget<A> {
         if self.out == self.budget {
             return Err(AllocationError::OutOfMemory);
         }
-        last_chunk_law::<A>();
+        append_law::<Chunk>();
         let chunk = self.inner.allocate(layout)?;
         self.out += 1;
         Ok(chunk)
     }
 
     fn deallocate(&mut self, place: usize, layout: Layout) {
+        remove_law::<Chunk>();
         self.inner.deallocate(place, layout);
-        self.out = left_of::<A>(self.out);
+        self.out = if A::RELEASE_EMPTIES { 0 } else { self.out - 1 };
     }
 
     fn stands_for_some_list(&self) {
@@ -176,29 +177,4 @@ impl<A: Allocator + Drop> Allocator for ChunkBudget<A> {
     ghost only_live = { λ b live place stands held. A.only_live b.inner live place stands.0
         (subst (A.may_release b.inner) held.6
         (A.releases b.inner held.0 held.1 held.2 held.3 held.5)) };
-}
-
-/// How many of so many chunks are out once one of them is given back.
-fn left_of<A: BaseAllocator>(out: usize) -> usize
-    requires { 0 < out }
-    ensures within { result ≤ out }
-    ensures left { (live : List Chunk) (position : ℕ) (chunk : Chunk) → length live ≡ out
-        → slice_get live position ≡ Some chunk
-        → length (released A.RELEASE_EMPTIES live position) ≡ result }
-{
-    remove_law::<Chunk>();
-    if A::RELEASE_EMPTIES {
-        return 0;
-    }
-    out - 1
-}
-
-/// The chunk that was given last is one of those that are out. It does nothing: its contract is the law.
-fn last_chunk_law<A: BaseAllocator>()
-    ensures { (inner : A) (live : List Chunk) (last : Chunk) → A.stands_for inner (live ++ last ∷ [])
-        → (all : List Chunk) × (position : ℕ) × (chunk : Chunk)
-        × A.stands_for inner all × (length all ≡ length live + 1)
-        × (slice_get all position ≡ Some chunk) × (chunk.place ≡ last.place) }
-{
-    append_law::<Chunk>();
 }

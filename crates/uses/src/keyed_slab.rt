@@ -22,7 +22,7 @@ use thiserror::Error;
 pub struct StaleKey {}
 
 /// Names a record: the index of its slot, and how often the slot was taken before.
-#[derive(Debug, Clone, Copy, PartialEq, Eq)]
+#[derive(Clone, Copy)]
 pub struct Key {
     pub index: usize,
     pub generation: u64,
@@ -184,42 +184,16 @@ impl<A: Allocator + Drop> KeyedSlab<A> {
         requires { (first_free self.old.slots ≡ None) × (length bytes.now ≡ self.old.record_size) }
         ensures { PutsBehind A.geometry A.may_allocate self.old bytes.now result self.new }
     {
-        reserve_slot(&mut self.slots, &self.slab, bytes)?;
+        Layout::from_size_align(bytes.len(), 1).map_err(InsertError::Layout)?;
+        self.slots.reserve(1).map_err(InsertError::List)?;
         self.slab.insert(bytes)?;
-        Ok(push_slot(&mut self.slots))
-    }
-}
-
-/// Makes room for one slot more, where a layout has as many bytes as the record.
-fn reserve_slot<A: Allocator + Drop>(
-    slots: &mut Vec<Slot>,
-    slab: &Slab<A>,
-    bytes: &[u8],
-) -> Result<(), InsertError>
-    ensures refused { IfErr result (λ error.
-        Stores {Stored = Key} A.geometry A.may_allocate slab.now bytes.now (Err error) slab.now) }
-    ensures still { slots.new.items ≡ slots.old.items }
-    ensures room { OnOk result (vec_len slots.new < vec_capacity slots.new) }
-{
-    let _ = slab;
-    Layout::from_size_align(bytes.len(), 1).map_err(InsertError::Layout)?;
-    slots.reserve(1).map_err(InsertError::List)
-}
-
-/// Takes a slot behind the others, for which there is room.
-fn push_slot(slots: &mut Vec<Slot>) -> Key
-    requires { vec_len slots.old < vec_capacity slots.old }
-    ensures key { result ≡ next_key slots.old.items (length slots.old.items) }
-    ensures slots { slots.new.items ≡ slots.old.items ++ slot_of result ∷ [] }
-{
-    let index = slots.len();
-    slots.push_reserved(Slot {
-        generation: 0,
-        taken: true,
-    });
-    Key {
-        index,
-        generation: 0,
+        let index = self.slots.len();
+        let generation = 0;
+        self.slots.push_reserved(Slot {
+            generation,
+            taken: true,
+        });
+        Ok(Key { index, generation })
     }
 }
 

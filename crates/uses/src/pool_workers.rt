@@ -1,7 +1,7 @@
 //! Threads that take buckets of one pool, and what is known once all of them are back.
 ghost use Rattle.std.specs.Prelude.{◌≡◌, All, IfOk, length};
 ghost use Rattle.bb_memory.specs.SharedPool.{AreFresh, HaveMet, PoolParty};
-ghost use Rattle.uses.specs.Workers.{AsksNear, ComesBack, HasAskedNear};
+ghost use Rattle.uses.specs.Workers.{AllComeBack, AsksNear, ComesBack, HasAskedNear};
 
 use bb_memory::layout::Layout;
 use bb_memory::pool_allocator::pool_count_law;
@@ -19,8 +19,17 @@ pub fn take_one(pool: &SharedPoolAllocator, party: PoolParty, layout: Layout) ->
     ensures asked { HasAskedNear layout result }
 {
     let mut party = party;
-    let _ = pool.allocate_near(&mut party, layout);
+    ask_near(pool, &mut party, layout);
     party
+}
+
+/// The worker asks for a bucket near the one that it had last.
+fn ask_near(pool: &SharedPoolAllocator, worker: &mut PoolParty, layout: Layout)
+    requires { worker.old.allocator ≡ pool.now }
+    ensures back { ComesBack pool.now worker.old worker.new }
+    ensures asked { AsksNear layout worker.old worker.new }
+{
+    let _ = pool.allocate_near(worker, layout);
 }
 
 /// Four workers take a bucket each, all at once, and meet when they are back: one list of steps has all their logs and nothing
@@ -38,16 +47,27 @@ pub fn four_workers<R: Threads + Sync>(
     ensures asked { IfOk result (λ made. All (HasAskedNear layout) made.1.items) }
 {
     let (pool, parties) = pool_of_four(alloc)?;
-    let mut back = thread::map_vec(rt, parties, &|party| take_one(&pool, party, layout))?;
+    let mut back = take_one_each(rt, &pool, parties, layout)?;
     pool.meet_all(&mut back);
     Ok((pool, back))
 }
 
+/// These parties take a bucket each, all at once, and come back.
+fn take_one_each<R: Threads + Sync>(
+    rt: &R,
+    pool: &SharedPoolAllocator,
+    parties: Vec<PoolParty>,
+    layout: Layout,
+) -> Result<Vec<PoolParty>, AllocError>
+    requires { All (λ party. party.allocator ≡ pool.now) parties.items }
+    ensures { IfOk result (λ back. AllComeBack layout pool.now parties.items back.items) }
+{
+    thread::map_vec(rt, parties, &|party| take_one(pool, party, layout))
+}
+
 /// A pool of four parties. It is refused only where memory was, since a pool may be made of this region and bucket.
 #[tactic(auto, unfolding(bb_memory_base::specs::LeastPlace::least_place))]
-fn pool_of_four(
-    alloc: Global,
-) -> Result<(SharedPoolAllocator, Vec<PoolParty>), AllocError>
+fn pool_of_four(alloc: Global) -> Result<(SharedPoolAllocator, Vec<PoolParty>), AllocError>
     ensures { IfOk result (λ made. AreFresh made.0 4 made.1.items) }
 {
     pool_count_law();

@@ -15,7 +15,7 @@ use crate::slab::put;
 use bb_memory_base::allocator::Allocator;
 use bb_memory_base::layout::Chunk;
 use bb_memory_base::region::Region;
-use laws::{first_out_law, newest_law, newest_state_law, returned_law, seam_law};
+use laws::{first_law, newest_law, newest_state_law, returned_law, seam_law};
 use loan_book::{LoanBook, LoanError};
 use std::alloc::{AllocError, Global};
 use std::marker::Model;
@@ -109,7 +109,8 @@ impl<A: Allocator + Drop> MessageRing<A> {
             (self.new ≡ record self.old { allocator = self.new.allocator }) }
         ensures geometry { A.geometry self.new.allocator ≡ A.geometry self.old.allocator }
     {
-        reserve_both(&mut self.ids, &mut self.chunks).map_err(SendError::List)?;
+        self.ids.reserve(1).map_err(SendError::List)?;
+        self.chunks.reserve(1).map_err(SendError::List)?;
         let (id, chunk) = match loan_exactly(&mut self.book, bytes.len()) {
             Ok(loaned) => loaned,
             Err(error) => return Err(SendError::Refused(error)),
@@ -146,17 +147,6 @@ impl<A: Allocator + Drop> MessageRing<A> {
         let chunk = self.chunks.first()?;
         Some(self.region.chunk(*chunk))
     }
-}
-
-/// Makes room for one more in both lists.
-fn reserve_both(ids: &mut Vec<u64>, chunks: &mut Vec<Chunk>) -> Result<(), AllocError>
-    ensures ids { ids.new.items ≡ ids.old.items }
-    ensures chunks { chunks.new.items ≡ chunks.old.items }
-    ensures room { OnOk result ((vec_len ids.new < vec_capacity ids.new)
-        × (vec_len chunks.new < vec_capacity chunks.new)) }
-{
-    ids.reserve(1)?;
-    chunks.reserve(1)
 }
 
 /// Loans a sample of exactly this size.
@@ -197,7 +187,7 @@ fn return_oldest<A: Allocator>(book: &mut LoanBook<A>, id: u64) -> bool
             last
         }
         Err(_) => {
-            first_out_law();
+            first_law();
             unreachable!()
         }
     }

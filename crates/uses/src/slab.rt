@@ -134,7 +134,6 @@ impl<A: Allocator + Drop> Slab<A> {
 }
 
 /// Writes the record at a position.
-#[tactic(auto, using(std::proofs::lemmas::Option::gets))]
 fn overwrite(region: &mut Region, chunks: &Vec<Chunk>, position: usize, bytes: &[u8])
     requires sound { IsSound (held_region region.old) chunks.now.items }
     requires fits { (old : List ℕ)
@@ -143,8 +142,16 @@ fn overwrite(region: &mut Region, chunks: &Vec<Chunk>, position: usize, bytes: &
     ensures { HoldsThen region.old region.new chunks.now.items
         (slice_set (records_in region.old chunks.now.items) position bytes.now) }
 {
-    let chunk = chunks[position];
+    let chunk = chunk_at(chunks, position);
     region.write(chunk, bytes);
+}
+
+/// The chunk at a position.
+fn chunk_at(chunks: &Vec<Chunk>, position: usize) -> Chunk
+    requires { position < length chunks.now.items }
+    ensures { slice_get chunks.now.items position ≡ Some result }
+{
+    chunks[position]
 }
 
 /// Writes a record in the chunk that was just given.

@@ -1,10 +1,10 @@
 //! Laws of a loan book's newest and oldest sample. Each function does nothing: its contract is the law.
-ghost use Rattle.std.specs.Prelude.{AllPairs, Ok, ◌≡◌, ◌∷◌, ◌++◌, ◌<◌, [], ℕ, List, Some, None, false, get_or, length, slice_get, slice_set};
+ghost use Rattle.std.specs.Prelude.{AllPairs, Ok, ◌≡◌, ◌∷◌, ◌++◌, ◌<◌, [], ℕ, List, Some, None, get_or, length, slice_get, slice_set};
 ghost use Rattle.bb_memory_base.specs.Chunk.{Chunk};
 ghost use Rattle.loan_book.specs.Book.{Book, IsBook, IsAt, IsOut, IsPublished, chunks_of};
 ghost use Rattle.loan_book.specs.Calls.{Publishes, GivesBack, with_sample, with_returns};
 ghost use Rattle.loan_book.specs.Sample.{Sample, returns_to_come};
-ghost use Rattle.uses.specs.Rings.{Returned, WaitsOn, ids_of, readers_of};
+ghost use Rattle.uses.specs.Rings.{Returned, ids_of, readers_of};
 
 /// A sample behind the last is put in its place.
 #[tactic(auto, using(bb_memory_base::specs::Hints::lists))]
@@ -61,19 +61,13 @@ fn position_law()
         → (get_or samples 0 d).id < (get_or samples position d).id }
 {}
 
-/// The first sample's id is at no other position.
+/// The first sample is out, and its id is at no other position.
 #[tactic(auto, using(std::proofs::lemmas::Grind::common_steps))]
-fn first_law()
-    ensures { (samples : List Sample) (id position : ℕ) (sample : Sample)
+pub(super) fn first_law()
+    ensures only { (samples : List Sample) (id position : ℕ) (sample : Sample)
         → AllPairs (λ one other. one.id < other.id) samples → get_or (ids_of samples) 0 id ≡ id
         → slice_get samples position ≡ Some sample → sample.id ≡ id → position ≡ 0 }
-{
-    position_law();
-}
-
-/// The first sample is out.
-pub(super) fn first_out_law()
-    ensures { (book : Book) (id : ℕ) → slice_get (ids_of book.out) 0 ≡ Some id → (¬ IsOut book id)
+    ensures out { (book : Book) (id : ℕ) → slice_get (ids_of book.out) 0 ≡ Some id → (¬ IsOut book id)
         → ⊥ }
 {
     waiting_law();
@@ -87,18 +81,9 @@ pub(super) fn returned_law(last: bool)
 {
     first_law();
     waiting_law();
-    if !last {
-        further_return_law();
+    if last {
+        return;
     }
-}
-
-/// A return of the first sample that isn't its last leaves it waiting for one return less.
-fn further_return_law()
-    ensures { (old new : Book) (id : ℕ) → IsBook old → get_or (ids_of old.out) 0 id ≡ id
-        → GivesBack old id (Ok false) new → WaitsOn old.out new.out }
-{
-    first_law();
-    waiting_law();
 }
 
 /// A sample that waits for another number of returns changes that number alone.
