@@ -1,12 +1,14 @@
-//! The examples of the libraries' doc comments, as they stand there. What each `prove!` says is decided by contracts alone.
+//! The examples of the libraries' doc comments, as they stand there. Contracts alone decide each `prove!`.
 #![tactic(auto, unfolding(bb_memory_base::specs::LeastPlace::least_place))]
 
-ghost use Rattle.std.specs.Prelude.{◌≡◌, ◌<◌, [], IfOk};
+ghost use Rattle.std.specs.Prelude.{◌≡◌, ◌≢◌, ◌<◌, []};
+ghost use Rattle.bb_memory.specs.HeldBuckets.{IsCutAtMost};
 ghost use Rattle.bb_memory.specs.OneChunk.{StandsFor};
 
 use crate::errors::GiveError;
 use bb_memory::allocator::{
-    AllocationError, Allocator, BaseAllocator, Command, run_base, run_full,
+    AllocationError, Allocator, BaseAllocator, Command, deallocate_beside, may_release_law, run_base,
+    run_full,
 };
 use bb_memory::bump_allocator::BumpAllocator;
 use bb_memory::heap_allocator::HeapAllocator;
@@ -76,6 +78,16 @@ pub fn run_of_one_chunk(alloc: Global) -> Result<(), AllocError> {
     let size = one.size();
     prove!(size == 1024);
     Ok(())
+}
+
+pub fn places_kept<A: Allocator>(allocator: &mut A, place: usize, other: usize, layout: Layout)
+    requires { A.may_release allocator.old place × A.may_release allocator.old other × (other ≢ place) }
+{
+    may_release_law::<A>();
+    allocator.stands_for_some_list();
+    let _ = allocator.allocate(layout);
+    deallocate_beside(allocator, place, layout);
+    allocator.deallocate(other, layout);
 }
 
 pub fn bump() -> Result<(), AllocationError> {
@@ -209,7 +221,7 @@ pub fn shared_pool_by_number(alloc: Global) -> Result<(), AllocationError> {
     Ok(())
 }
 
-pub fn shared_pool_hand_over(
+pub fn shared_pool_detached(
     pool: &SharedPoolAllocator,
     sender: &mut PoolParty,
     receiver: &mut PoolParty,

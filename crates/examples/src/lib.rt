@@ -1,5 +1,5 @@
-//! What the documents show, proved: straight-line calls with literals. What each `prove!` says is decided by contracts alone, and
-//! this crate has no proof files.
+//! Examples of the documents, proved: straight-line calls with literals. Contracts alone decide each `prove!`, and this crate has
+//! no proof files.
 //!
 //! The modules: `first`, a file for each allocator, `shared` for what threads share, `errors`, how the errors go through `?`, and
 //! `comments`, the examples of the libraries' comments.

@@ -1,15 +1,12 @@
 //! The bump and the pools that threads share, in one thread.
 #![tactic(auto, unfolding(bb_memory_base::specs::LeastPlace::least_place))]
 
-ghost use Rattle.std.specs.Prelude.{◌≡◌, ℕ};
-ghost use Rattle.bb_memory_base.specs.PoolLogs.{IsHeldAfter};
-
 use super::bump::forty_eight;
 use bb_memory::allocator::AllocationError;
 use bb_memory::bump_allocator::BumpAllocator;
 use bb_memory::layout::Layout;
 use bb_memory::pool_allocator::pool_count_law;
-use bb_memory::shared_pool::{PoolParty, SharedPoolAllocator, shared_pool_held_law};
+use bb_memory::shared_pool::SharedPoolAllocator;
 use std::alloc::Global;
 
 /// A bump that one party alone uses, and then has again.
@@ -44,33 +41,16 @@ pub fn shared_pool(alloc: Global) -> Result<(), AllocationError> {
     Ok(())
 }
 
-/// A bucket near the party's own part of the pool is taken, which one exchange then misses; and one by a round from bucket 5.
-pub fn rounds_of_a_pool(alloc: Global) -> Result<(), AllocationError> {
+/// A bucket is taken by a round, and given back.
+pub fn round_of_a_pool(alloc: Global) -> Result<(), AllocationError> {
     pool_count_law();
     let bucket = Layout::from_size_align(128, 8).unwrap();
     let (pool, mut parties) = SharedPoolAllocator::new(alloc, bucket, 4096, 1024, 1)?;
     let mut party = parties.pop().unwrap();
-    let near = pool.allocate_near(&mut party, forty_eight())?;
-    let missed = pool
-        .allocate_at(&mut party, forty_eight(), near.number())
-        .is_err();
-    prove!(missed);
-    pool.deallocate_bucket(&mut party, near);
-    let taken = pool.allocate_from(&mut party, forty_eight(), 5)?;
+    let taken = pool.allocate_near(&mut party, forty_eight())?;
     let (number, len) = (taken.number(), taken.chunk().len());
     prove!(number < 8);
     prove!(len == 48);
     pool.deallocate_bucket(&mut party, taken);
     Ok(())
-}
-
-/// A party that gives back what it takes holds then what it held before: one that was idle is idle again.
-pub fn idle_again(pool: &SharedPoolAllocator, party: &mut PoolParty, layout: Layout)
-    requires { party.old.allocator ≡ pool.now }
-    ensures only { (other : ℕ) → IsHeldAfter party.new.log other → IsHeldAfter party.old.log other }
-{
-    shared_pool_held_law();
-    if let Ok(bucket) = pool.allocate(party, layout) {
-        pool.deallocate_bucket(party, bucket);
-    }
 }

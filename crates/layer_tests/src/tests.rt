@@ -1,10 +1,8 @@
 //! Each layer, driven.
-ghost use Rattle.std.specs.Prelude.{◌≡◌};
-
-mod boards;
 mod budgets;
 mod byte_vectors;
 mod checks;
+mod live_list;
 mod pools;
 mod results;
 mod rows;
@@ -12,21 +10,15 @@ mod segregated;
 mod tenants;
 mod workers;
 
-use bb_memory::bump_allocator::BumpAllocator;
-use bb_memory::layout::Layout;
 use bb_memory::pool_allocator::pool_object_law;
-use bb_memory::shared_bump::{BumpParty, SharedBumpAllocator};
-use checks::{REFUSED, check, fail};
+use checks::{REFUSED, fail};
 use pools::{eight_buckets, empty_slab, its_region};
 use rows::{
-    KeyedAnswer, KeyedCall, KeyedRow, LineAnswer, LineCall, LineRow, SlabAnswer, SlabCall, SlabRow,
-    keyed_slab_of, mailbox_of, ring_of, slab_of,
+    KeyedAnswer, KeyedCall, KeyedRow, RingAnswer, RingCall, RingRow, SlabAnswer, SlabCall, SlabRow,
+    keyed_slab_of, ring_of, slab_of,
 };
 use std::alloc::Global;
 use std::process::Abort;
-use std::sync::Arc;
-use std::thread::Threads;
-use uses::workers::two_workers;
 
 /// A slab keeps each row.
 fn slab_keeps(rt: &impl Abort, alloc: Global, rows: &[SlabRow<'_>]) {
@@ -106,30 +98,8 @@ fn full_slab_takes_a_free_slot_again(rt: HostRuntime) {
     keyed_slab_keeps(&rt, rt.alloc(), &rows);
 }
 
-/// A mailbox keeps each row.
-fn mailbox_keeps(rt: &impl Abort, alloc: Global, rows: &[LineRow<'_>]) {
-    match empty_slab(alloc) {
-        Some(messages) => mailbox_of(rt, messages, rows),
-        None => fail(rt, REFUSED),
-    }
-}
-
-#[test]
-fn mailbox_in_order(rt: HostRuntime) {
-    let rows = [
-        (LineCall::Next, LineAnswer::Left(false)),
-        (LineCall::Send(&[1, 2, 3]), LineAnswer::Sent),
-        (LineCall::Send(&[4]), LineAnswer::Sent),
-        (LineCall::Front, LineAnswer::Message(&[1, 2, 3])),
-        (LineCall::Next, LineAnswer::Left(true)),
-        (LineCall::Front, LineAnswer::Message(&[4])),
-        (LineCall::Waiting, LineAnswer::Waiting(1)),
-    ];
-    mailbox_keeps(&rt, rt.alloc(), &rows);
-}
-
 /// A ring keeps each row.
-fn ring_keeps(rt: &impl Abort, alloc: Global, rows: &[LineRow<'_>]) {
+fn ring_keeps(rt: &impl Abort, alloc: Global, rows: &[RingRow<'_>]) {
     pool_object_law();
     match its_region(alloc) {
         Some(region) => ring_of(rt, alloc, eight_buckets(), region, rows),
@@ -140,53 +110,14 @@ fn ring_keeps(rt: &impl Abort, alloc: Global, rows: &[LineRow<'_>]) {
 #[test]
 fn ring_for_two_readers(rt: HostRuntime) {
     let rows = [
-        (LineCall::Send(&[1, 2]), LineAnswer::Sent),
-        (LineCall::Send(&[3]), LineAnswer::Sent),
-        (LineCall::Front, LineAnswer::Message(&[1, 2])),
-        (LineCall::Next, LineAnswer::Left(false)),
-        (LineCall::Front, LineAnswer::Message(&[1, 2])),
-        (LineCall::Next, LineAnswer::Left(true)),
-        (LineCall::Front, LineAnswer::Message(&[3])),
-        (LineCall::Waiting, LineAnswer::Waiting(1)),
+        (RingCall::Send(&[1, 2]), RingAnswer::Sent),
+        (RingCall::Send(&[3]), RingAnswer::Sent),
+        (RingCall::Front, RingAnswer::Message(&[1, 2])),
+        (RingCall::Next, RingAnswer::Left(false)),
+        (RingCall::Front, RingAnswer::Message(&[1, 2])),
+        (RingCall::Next, RingAnswer::Left(true)),
+        (RingCall::Front, RingAnswer::Message(&[3])),
+        (RingCall::Waiting, RingAnswer::Waiting(1)),
     ];
     ring_keeps(&rt, rt.alloc(), &rows);
-}
-
-/// How much is used, as one of two parties finds that have met.
-fn used_where_met(shared: &SharedBumpAllocator, mut here: BumpParty, mut there: BumpParty) -> usize
-    requires here { here.allocator ≡ shared.now }
-    requires there { there.allocator ≡ shared.now }
-{
-    shared.meet(&mut here, &mut there);
-    shared.used_space(&mut here)
-}
-
-/// How many chunks two threads take at once from a shared region, and how much is used then. None is where memory was refused.
-fn taken_at_once(
-    rt: &impl Threads,
-    alloc: Global,
-    shared: SharedBumpAllocator,
-    here: BumpParty,
-    there: BumpParty,
-) -> Option<(u64, usize)>
-    requires here { here.allocator ≡ shared }
-    requires there { there.allocator ≡ shared }
-{
-    let shared = Arc::new(alloc, shared).ok()?;
-    let of_100 = Layout::from_size_align(100, 4).unwrap();
-    let (here, there, taken) = two_workers(rt, &shared, here, there, of_100).ok()?;
-    Some((taken, used_where_met(&shared, here, there)))
-}
-
-#[test]
-fn workers_share_a_region(rt: HostRuntime) {
-    match BumpAllocator::new(4096, 1024).share(rt.alloc(), 2) {
-        Ok((shared, mut parties)) => {
-            let there = parties.pop().unwrap();
-            let here = parties.pop().unwrap();
-            let found = taken_at_once(&rt, rt.alloc(), shared, here, there);
-            check(&rt, found == Some((4, 400)));
-        }
-        Err(_) => fail(&rt, REFUSED),
-    }
 }

@@ -13,7 +13,7 @@ without bucket party = with_entries party (return_entry party.number bucket)
 abbrev pub IsRefused : PoolParty → Layout → PoolParty → AllocationError → Type 0
 IsRefused sender layout new error = (first : ℕ) × MayTakeFrom first sender layout (Err error) new
 
--- a receiver that took this bucket over and gave it back
+-- the receiver once it attached this bucket and gave it back
 abbrev pub having_received : ℕ → PoolParty → PoolParty
 having_received bucket receiver =
     without bucket (with_entries receiver (attach_entry receiver.number bucket))

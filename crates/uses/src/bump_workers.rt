@@ -1,8 +1,8 @@
 //! Threads that carve one bump up, and the bump that one owner then has again.
-ghost use Rattle.std.specs.Prelude.{◌≡◌, All, IfOk};
+ghost use Rattle.std.specs.Prelude.{◌≡◌, IfOk};
 ghost use Rattle.bb_memory.specs.SharedBump.{BumpParty, MayTake};
 ghost use Rattle.uses.specs.Carvings.{HasAsked, IsCarved};
-ghost use Rattle.uses.specs.Workers.{AllComeBack, Asks};
+ghost use Rattle.uses.specs.Workers.{Asks};
 
 use bb_memory::bump_allocator::BumpAllocator;
 use bb_memory::layout::Layout;
@@ -38,21 +38,6 @@ pub fn carved_by_four<R: Threads + Sync>(
     let Ok((shared, parties)) = bump.share(alloc, 4) else {
         return Err(AllocError);
     };
-    let back = carve_all(rt, &shared, parties, layout)?;
+    let back = thread::map_vec(rt, parties, &|party| carve(&shared, party, layout))?;
     Ok(shared.into_owner_all(back))
-}
-
-/// These parties ask for a chunk each, all at once, and come back.
-fn carve_all<R: Threads + Sync>(
-    rt: &R,
-    shared: &SharedBumpAllocator,
-    parties: Vec<BumpParty>,
-    layout: Layout,
-) -> Result<Vec<BumpParty>, AllocError>
-    requires { All (λ party. party.allocator ≡ shared.now) parties.items }
-    ensures { IfOk result (λ back.
-        AllComeBack (λ (party : BumpParty). party.allocator) (HasAsked layout)
-        shared.now parties.items back.items) }
-{
-    thread::map_vec(rt, parties, &|party| carve(shared, party, layout))
 }

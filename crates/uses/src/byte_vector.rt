@@ -17,13 +17,13 @@ use thiserror::Error;
 #[derive(Debug, Clone, Copy, PartialEq, Eq, Error)]
 pub enum PushError {
     #[error("too long: {0}")]
-    TooLong(#[from] LayoutError),
+    TooLong(LayoutError),
     #[error("no room: {0}")]
-    Full(#[from] AllocationGrowError),
+    Full(AllocationGrowError),
 }
 
 /// Bytes at an offset.
-#[derive(Debug, Clone, Copy, PartialEq, Eq)]
+#[derive(Clone, Copy)]
 pub struct ByteVec {
     offset: usize,
     capacity: usize,
@@ -160,8 +160,8 @@ impl ByteVec {
         region.write(behind, &[byte]);
     }
 
-    /// The same bytes in a chunk of another region, which has to have room for them: a copy of the vector, with the chunk's
-    /// room. All that lies there outside the chunk stays.
+    /// Copies the vector to a chunk of another region, which has to have room for its bytes. The copy has the chunk's room. All
+    /// that lies there outside the chunk stays.
     pub fn copy_to(&self, region: &Region, other: &mut Region, chunk: Chunk) -> ByteVec
         requires inside { self.now.offset + self.now.capacity ≤ length region.now.bytes }
         requires there { IsInside (held_region other.old) chunk }
@@ -206,21 +206,12 @@ fn grow_by_one<A: Allocator>(
         → IsWhyFull (A.may_grow (A.figures allocator.old) live chunk.place) size error) }
     ensures still { allocator.new ≡ allocator.old }
 {
-    let (old, new) = layouts_of(size, size + 1).map_err(PushError::TooLong)?;
+    let old = Layout::from_size_align(size, 1).map_err(PushError::TooLong)?;
+    let new = Layout::from_size_align(size + 1, 1).map_err(PushError::TooLong)?;
     match allocator.grow(place, old, new) {
         Ok(grown) => Ok(grown.len()),
         Err(error) => Err(PushError::Full(error)),
     }
-}
-
-/// The layouts of so many bytes and of more, at any place.
-fn layouts_of(size: usize, longer: usize) -> Result<(Layout, Layout), LayoutError>
-    ensures layouts { IfOk result (λ (old, new). IsOfBytes old size × IsOfBytes new longer) }
-    ensures refused { OnErr result ((¬ IsLayout size 1) ⊎ (¬ IsLayout longer 1)) }
-{
-    let old = Layout::from_size_align(size, 1)?;
-    let new = Layout::from_size_align(longer, 1)?;
-    Ok((old, new))
 }
 
 /// Where the bytes of a region lie at another start, a vector has the same bytes there: it is addressed by its offset. It does

@@ -3,7 +3,6 @@ ghost use Rattle.std.specs.Prelude.{◌≡◌, ◌∷◌, ◌++◌, ◌+◌, ◌
 ghost use Rattle.bb_memory_base.specs.Chunk.{Chunk};
 ghost use Rattle.bb_memory_base.specs.Object.{released};
 
-use crate::budget::Budget;
 use bb_memory_base::allocator::{
     AllocationError, AllocationGrowError, AllocationShrinkError, Allocator, BaseAllocator,
 };
@@ -30,6 +29,42 @@ impl<A: BaseAllocator + Drop> Model for ChunkBudget<A> {
 
     ghost invariant = { λ b. (b.out ≤ b.budget)
         × ((live : List Chunk) × A.stands_for b.inner live × (length live ≡ b.out)) };
+}
+
+impl<A: BaseAllocator + Drop> ChunkBudget<A> {
+    ghost use Rattle.std.specs.Prelude.{◌≡◌, ◌≤◌, [], List, length};
+    ghost use Rattle.bb_memory_base.specs.Chunk.{Chunk};
+
+    /// A budget of so many chunks, over an allocator that has nothing out.
+    pub fn new(inner: A, budget: usize) -> Self
+        requires { A.stands_for inner [] }
+        ensures value { result ≡ record { inner = inner; budget = budget; out = 0 } }
+        ensures empty { ⟦<ChunkBudget<A> as BaseAllocator>⟧.stands_for result [] }
+    {
+        ChunkBudget {
+            inner,
+            budget,
+            out: 0,
+        }
+    }
+
+    /// How many chunks are out: as many as each live list has that it stands for, and never more than the budget.
+    pub fn out(&self) -> usize
+        ensures value { result ≡ self.now.out }
+        ensures within { result ≤ self.now.budget }
+        ensures of_live { (live : List Chunk)
+            → ⟦<ChunkBudget<A> as BaseAllocator>⟧.stands_for self.now live
+            → length live ≡ result }
+    {
+        self.out
+    }
+
+    /// How many chunks may be out.
+    pub fn budget(&self) -> usize
+        ensures { result ≡ self.now.budget }
+    {
+        self.budget
+    }
 }
 
 impl<A: BaseAllocator + Drop> BaseAllocator for ChunkBudget<A> {
@@ -67,15 +102,16 @@ impl<A: BaseAllocator + Drop> BaseAllocator for ChunkBudget<A> {
         if self.out == self.budget {
             return Err(AllocationError::OutOfMemory);
         }
-        last_chunk_law::<A>();
+        append_law::<Chunk>();
         let chunk = self.inner.allocate(layout)?;
         self.out += 1;
         Ok(chunk)
     }
 
     fn deallocate(&mut self, place: usize, layout: Layout) {
+        remove_law::<Chunk>();
         self.inner.deallocate(place, layout);
-        self.out = left_of::<A>(self.out);
+        self.out = if A::RELEASE_EMPTIES { 0 } else { self.out - 1 };
     }
 
     fn stands_for_some_list(&self) {
@@ -141,55 +177,4 @@ impl<A: Allocator + Drop> Allocator for ChunkBudget<A> {
     ghost only_live = { λ b live place stands held. A.only_live b.inner live place stands.0
         (subst (A.may_release b.inner) held.6
         (A.releases b.inner held.0 held.1 held.2 held.3 held.5)) };
-}
-
-impl<A: BaseAllocator + Drop> Budget for ChunkBudget<A> {
-    ghost use Rattle.std.specs.Prelude.{length};
-
-    type Inner = A;
-
-    ghost budgeted = { λ b. b };
-
-    ghost taken_by = { λ inner live. length live };
-
-    fn new(inner: A, budget: usize) -> Self {
-        ChunkBudget {
-            inner,
-            budget,
-            out: 0,
-        }
-    }
-
-    fn out(&self) -> usize {
-        self.out
-    }
-
-    fn budget(&self) -> usize {
-        self.budget
-    }
-}
-
-/// How many of so many chunks are out once one of them is given back.
-fn left_of<A: BaseAllocator>(out: usize) -> usize
-    requires { 0 < out }
-    ensures within { result ≤ out }
-    ensures left { (live : List Chunk) (position : ℕ) (chunk : Chunk) → length live ≡ out
-        → slice_get live position ≡ Some chunk
-        → length (released A.RELEASE_EMPTIES live position) ≡ result }
-{
-    remove_law::<Chunk>();
-    if A::RELEASE_EMPTIES {
-        return 0;
-    }
-    out - 1
-}
-
-/// The chunk that was given last is one of those that are out. It does nothing: its contract is the law.
-fn last_chunk_law<A: BaseAllocator>()
-    ensures { (inner : A) (live : List Chunk) (last : Chunk) → A.stands_for inner (live ++ last ∷ [])
-        → (all : List Chunk) × (position : ℕ) × (chunk : Chunk)
-        × A.stands_for inner all × (length all ≡ length live + 1)
-        × (slice_get all position ≡ Some chunk) × (chunk.place ≡ last.place) }
-{
-    append_law::<Chunk>();
 }

@@ -1,10 +1,10 @@
-//! Layers over any allocator, called. What each `prove!` says is decided by contracts alone.
-ghost use Rattle.std.specs.Prelude.{◌≡◌, ◌≢◌, [], length};
+//! Layers over any allocator, called. Contracts alone decide each `prove!`.
+ghost use Rattle.std.specs.Prelude.{◌≡◌, [], length};
 
 use crate::keyed_slab::{KeyedSlab, spent_law};
 use crate::slab::InsertError;
 use crate::tenants::{AdmitError, Tenants};
-use bb_memory_base::allocator::{Allocator, BaseAllocator, deallocate_beside, may_release_law};
+use bb_memory_base::allocator::Allocator;
 use bb_memory_base::layout::Layout;
 use std::alloc::Global;
 
@@ -33,15 +33,4 @@ pub fn over_limit<A: Allocator + Drop>(alloc: Global, allocator: A) -> Result<()
     let refused = tenants.allocate(tenant, layout).is_err();
     prove!(refused);
     Ok(())
-}
-
-/// What may be given back may be still behind another request, and behind the return of another chunk.
-pub fn places_kept<A: Allocator>(allocator: &mut A, place: usize, other: usize, layout: Layout)
-    requires { A.may_release allocator.old place × A.may_release allocator.old other × (other ≢ place) }
-{
-    may_release_law::<A>();
-    allocator.stands_for_some_list();
-    let _ = allocator.allocate(layout);
-    deallocate_beside(allocator, place, layout);
-    allocator.deallocate(other, layout);
 }

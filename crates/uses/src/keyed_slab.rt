@@ -17,19 +17,19 @@ use std::marker::Model;
 use thiserror::Error;
 
 /// The key names no record: its record was taken out, or there was none.
-#[derive(Debug, Clone, Copy, PartialEq, Eq, Error)]
+#[derive(Debug, Clone, Copy, Error)]
 #[error("no record has this key")]
 pub struct StaleKey {}
 
 /// Names a record: the index of its slot, and how often the slot was taken before.
-#[derive(Debug, Clone, Copy, PartialEq, Eq)]
+#[derive(Clone, Copy)]
 pub struct Key {
     pub index: usize,
     pub generation: u64,
 }
 
 /// Where one record is at a time: how often it was taken before, and whether it is taken.
-#[derive(Debug, Clone, Copy, PartialEq, Eq)]
+#[derive(Clone, Copy)]
 pub struct Slot {
     pub generation: u64,
     pub taken: bool,
@@ -84,7 +84,7 @@ impl<A: Allocator + Drop> KeyedSlab<A> {
         self.record_size
     }
 
-    /// Whether the key names a record.
+    /// Tests whether the key names a record.
     pub fn holds(&self, key: Key) -> bool
         ensures { IsTrue result ↔ IsHeld self.now.slots key }
     {
@@ -157,7 +157,10 @@ impl<A: Allocator + Drop> KeyedSlab<A> {
             × (slot.generation < 2 ^ 64 - 1) × (length bytes.now ≡ self.old.record_size) }
         ensures { PutsAgain self.old index bytes.now (Ok result) self.new }
     {
-        let key = key_after(&self.slots, index);
+        let key = Key {
+            index,
+            generation: self.slots[index].generation + 1,
+        };
         self.has_size(index);
         self.slab.write(index, bytes);
         self.slots[index] = Slot {
@@ -181,54 +184,16 @@ impl<A: Allocator + Drop> KeyedSlab<A> {
         requires { (first_free self.old.slots ≡ None) × (length bytes.now ≡ self.old.record_size) }
         ensures { PutsBehind A.geometry A.may_allocate self.old bytes.now result self.new }
     {
-        reserve_slot(&mut self.slots, &self.slab, bytes)?;
+        Layout::from_size_align(bytes.len(), 1).map_err(InsertError::Layout)?;
+        self.slots.reserve(1).map_err(InsertError::List)?;
         self.slab.insert(bytes)?;
-        Ok(push_slot(&mut self.slots))
-    }
-}
-
-/// Makes room for one slot more, where a layout has as many bytes as the record.
-fn reserve_slot<A: Allocator + Drop>(
-    slots: &mut Vec<Slot>,
-    slab: &Slab<A>,
-    bytes: &[u8],
-) -> Result<(), InsertError>
-    ensures refused { IfErr result (λ error.
-        Stores {Stored = Key} A.geometry A.may_allocate slab.now bytes.now (Err error) slab.now) }
-    ensures still { slots.new.items ≡ slots.old.items }
-    ensures room { OnOk result (vec_len slots.new < vec_capacity slots.new) }
-{
-    let _ = slab;
-    Layout::from_size_align(bytes.len(), 1).map_err(InsertError::Layout)?;
-    slots.reserve(1).map_err(InsertError::List)
-}
-
-/// Takes a slot behind the others, for which there is room.
-fn push_slot(slots: &mut Vec<Slot>) -> Key
-    requires { vec_len slots.old < vec_capacity slots.old }
-    ensures key { result ≡ next_key slots.old.items (length slots.old.items) }
-    ensures slots { slots.new.items ≡ slots.old.items ++ slot_of result ∷ [] }
-{
-    let index = slots.len();
-    slots.push_reserved(Slot {
-        generation: 0,
-        taken: true,
-    });
-    Key {
-        index,
-        generation: 0,
-    }
-}
-
-/// The key of the next record in a slot.
-fn key_after(slots: &Vec<Slot>, index: usize) -> Key
-    requires { (slot : Slot) × (slice_get slots.now.items index ≡ Some slot)
-        × (slot.generation < 2 ^ 64 - 1) }
-    ensures { result ≡ next_key slots.now.items index }
-{
-    Key {
-        index,
-        generation: slots[index].generation + 1,
+        let index = self.slots.len();
+        let generation = 0;
+        self.slots.push_reserved(Slot {
+            generation,
+            taken: true,
+        });
+        Ok(Key { index, generation })
     }
 }
 

@@ -9,7 +9,7 @@ use bb_memory::allocator::AllocationError;
 use bb_memory::layout::{Chunk, Layout};
 use bb_memory::shared_pool::{DetachedBucket, PoolParty, SharedPoolAllocator};
 
-/// Takes a bucket for a message, and hands it over. What is answered may go to any thread.
+/// Takes a bucket for a message, and detaches it. The token may go to any thread.
 pub fn send(
     pool: &SharedPoolAllocator,
     sender: &mut PoolParty,
@@ -31,7 +31,7 @@ pub fn send(
     Ok(pool.detach(sender, bucket))
 }
 
-/// Takes a message over, reads where its chunk lies, and gives its bucket back.
+/// Attaches the bucket of a message, reads where its chunk lies, and gives the bucket back.
 pub fn receive(
     pool: &SharedPoolAllocator,
     receiver: &mut PoolParty,

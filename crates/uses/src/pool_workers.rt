@@ -1,8 +1,7 @@
 //! Threads that take buckets of one pool, and what is known once all of them are back.
-ghost use Rattle.std.specs.Prelude.{◌≡◌, ◌≢◌, ◌↔◌, [], ℕ, All, IfOk, List, Some, true, length, slice_get};
-ghost use Rattle.bb_memory_base.specs.PoolMachine.{PoolScene};
-ghost use Rattle.bb_memory.specs.SharedPool.{AreFresh, HasTaker, HaveAllNumbers, HaveMet, IsHeldOrDetached, PoolParty};
-ghost use Rattle.uses.specs.Workers.{AllComeBack, AsksInPass, AsksNear, ComesBack, HasAskedNear, MayBeServed};
+ghost use Rattle.std.specs.Prelude.{◌≡◌, All, IfOk, length};
+ghost use Rattle.bb_memory.specs.SharedPool.{AreFresh, HaveMet, PoolParty};
+ghost use Rattle.uses.specs.Workers.{AllComeBack, AsksNear, ComesBack, HasAskedNear};
 
 use bb_memory::layout::Layout;
 use bb_memory::pool_allocator::pool_count_law;
@@ -54,77 +53,24 @@ pub fn four_workers<R: Threads + Sync>(
 }
 
 /// These parties take a bucket each, all at once, and come back.
-pub(crate) fn take_one_each<R: Threads + Sync>(
+fn take_one_each<R: Threads + Sync>(
     rt: &R,
     pool: &SharedPoolAllocator,
     parties: Vec<PoolParty>,
     layout: Layout,
 ) -> Result<Vec<PoolParty>, AllocError>
     requires { All (λ party. party.allocator ≡ pool.now) parties.items }
-    ensures { IfOk result (λ back.
-        AllComeBack (λ (party : PoolParty). party.allocator) (HasAskedNear layout)
-        pool.now parties.items back.items) }
+    ensures { IfOk result (λ back. AllComeBack layout pool.now parties.items back.items) }
 {
     thread::map_vec(rt, parties, &|party| take_one(pool, party, layout))
 }
 
 /// A pool of four parties. It is refused only where memory was, since a pool may be made of this region and bucket.
 #[tactic(auto, unfolding(bb_memory_base::specs::LeastPlace::least_place))]
-pub(crate) fn pool_of_four(
-    alloc: Global,
-) -> Result<(SharedPoolAllocator, Vec<PoolParty>), AllocError>
+fn pool_of_four(alloc: Global) -> Result<(SharedPoolAllocator, Vec<PoolParty>), AllocError>
     ensures { IfOk result (λ made. AreFresh made.0 4 made.1.items) }
 {
     pool_count_law();
     let bucket = Layout::from_size_align(128, 8).unwrap();
     SharedPoolAllocator::new(alloc, bucket, 4096, 1024, 4).or(Err(AllocError))
 }
-
-/// A party asks for a bucket once, and comes back. Its log is then not empty.
-pub fn ask_once(pool: &SharedPoolAllocator, party: PoolParty, layout: Layout) -> PoolParty
-    requires { MayBeServed pool.now layout party }
-    ensures pool { result.allocator ≡ pool.entry.now }
-    ensures asked { AsksInPass layout party result }
-    ensures stepped { result.log ≢ [] }
-{
-    let mut party = party;
-    let _ = pool.allocate(&mut party, layout);
-    party
-}
-
-/// All parties of a pool ask for a bucket once each, in threads of their own, and meet: one of them was given one, whatever the
-/// order of their steps. It can't be that each was refused by what somebody else held, since there was nobody else. `AllocError`
-/// says that memory was refused.
-pub fn one_is_served<R: Threads + Sync>(
-    rt: &R,
-    pool: &SharedPoolAllocator,
-    parties: Vec<PoolParty>,
-    layout: Layout,
-) -> Result<Vec<PoolParty>, AllocError>
-    requires all { length parties.items ≡ pool.now.scene.parties }
-    requires fresh { All (MayBeServed pool.now layout) parties.items }
-    ensures one { IfOk result (λ back. HasTaker pool.now.scene back.items) }
-    ensures met { IfOk result (λ back. HaveMet pool.now.scene back.items) }
-    ensures stepped { IfOk result (λ back. All (λ party. party.log ≢ []) back.items) }
-    ensures theirs { IfOk result (λ back. All (λ party. party.allocator ≡ pool.now) back.items) }
-    ensures back { IfOk result (λ back. length back.items ≡ pool.now.scene.parties) }
-{
-    let mut asked = thread::map_vec(rt, parties, &|party| ask_once(pool, party, layout))?;
-    pool.meet_all(&mut asked);
-    pool.one_took(&asked);
-    Ok(asked)
-}
-
-/// What is known where all parties of a pool have met. It does nothing: its contract is the law.
-pub fn all_met_law()
-    // Each number below theirs is that of one of them.
-    ensures numbers { (scene : PoolScene) (parties : List PoolParty)
-        → HaveMet scene parties → length parties ≡ scene.parties
-        → HaveAllNumbers scene.parties parties }
-
-    // A flag is taken exactly where one of them holds the bucket, or it is detached.
-    ensures taken { (scene : PoolScene) (parties : List PoolParty) (met : HaveMet scene parties)
-        → length parties ≡ scene.parties
-        → (bucket : ℕ) → (slice_get met.0 bucket ≡ Some true)
-        ↔ IsHeldOrDetached scene met.1.agree.steps parties bucket }
-{}

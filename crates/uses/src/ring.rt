@@ -15,10 +15,7 @@ use crate::slab::put;
 use bb_memory_base::allocator::Allocator;
 use bb_memory_base::layout::Chunk;
 use bb_memory_base::region::Region;
-use laws::{
-    first_out_law, newest_law, newest_out_law, newest_state_law, published_law, returned_law,
-    seam_law,
-};
+use laws::{first_law, newest_law, newest_state_law, returned_law, seam_law};
 use loan_book::{LoanBook, LoanError};
 use std::alloc::{AllocError, Global};
 use std::marker::Model;
@@ -28,9 +25,9 @@ use thiserror::Error;
 #[derive(Debug, Drop, Error)]
 pub enum SendError {
     #[error("no memory for the list of messages")]
-    List(#[from] AllocError),
+    List(AllocError),
     #[error("no sample: {0}")]
-    Refused(#[from] LoanError),
+    Refused(LoanError),
 }
 
 /// Messages that several readers read, each in a sample of a loan book: a message's chunk goes back when the last of its readers
@@ -112,7 +109,8 @@ impl<A: Allocator + Drop> MessageRing<A> {
             (self.new ≡ record self.old { allocator = self.new.allocator }) }
         ensures geometry { A.geometry self.new.allocator ≡ A.geometry self.old.allocator }
     {
-        reserve_both(&mut self.ids, &mut self.chunks).map_err(SendError::List)?;
+        self.ids.reserve(1).map_err(SendError::List)?;
+        self.chunks.reserve(1).map_err(SendError::List)?;
         let (id, chunk) = match loan_exactly(&mut self.book, bytes.len()) {
             Ok(loaned) => loaned,
             Err(error) => return Err(SendError::Refused(error)),
@@ -126,11 +124,12 @@ impl<A: Allocator + Drop> MessageRing<A> {
 
     /// One reader is done with the oldest message. It answers whether that was the last one: then the message leaves, and its
     /// chunk goes back.
+    #[tactic(auto, using(std::proofs::lemmas::Option::get_or_from_slice_get))]
     pub fn finish(&mut self) -> bool
         requires { 0 < length self.old.messages }
         ensures { Finishes A.geometry self.old result self.new }
     {
-        let id = first_id(&self.ids);
+        let id = self.ids[0];
         let last = return_oldest(&mut self.book, id);
         if last {
             self.ids.remove(0);
@@ -148,17 +147,6 @@ impl<A: Allocator + Drop> MessageRing<A> {
         let chunk = self.chunks.first()?;
         Some(self.region.chunk(*chunk))
     }
-}
-
-/// Makes room for one more in both lists.
-fn reserve_both(ids: &mut Vec<u64>, chunks: &mut Vec<Chunk>) -> Result<(), AllocError>
-    ensures ids { ids.new.items ≡ ids.old.items }
-    ensures chunks { chunks.new.items ≡ chunks.old.items }
-    ensures room { OnOk result ((vec_len ids.new < vec_capacity ids.new)
-        × (vec_len chunks.new < vec_capacity chunks.new)) }
-{
-    ids.reserve(1)?;
-    chunks.reserve(1)
 }
 
 /// Loans a sample of exactly this size.
@@ -186,16 +174,6 @@ fn loan_exactly<A: Allocator>(
     book.loan(size)
 }
 
-/// The first id.
-#[tactic(auto, using(std::proofs::lemmas::Option::get_or_from_slice_get))]
-fn first_id(ids: &Vec<u64>) -> u64
-    requires { 0 < length ids.now.items }
-    ensures at { slice_get ids.now.items 0 ≡ Some result }
-    ensures is { get_or ids.now.items 0 result ≡ result }
-{
-    ids[0]
-}
-
 /// Returns the oldest sample once. It answers whether that was the last return.
 fn return_oldest<A: Allocator>(book: &mut LoanBook<A>, id: u64) -> bool
     requires oldest { slice_get (ids_of book.old.book.out) 0 ≡ Some id }
@@ -209,7 +187,7 @@ fn return_oldest<A: Allocator>(book: &mut LoanBook<A>, id: u64) -> bool
             last
         }
         Err(_) => {
-            first_out_law();
+            first_law();
             unreachable!()
         }
     }
@@ -228,10 +206,8 @@ fn publish_newest<A: Allocator>(book: &mut LoanBook<A>, id: u64, readers: u32)
     ensures allocator { book.new.allocator ≡ book.old.allocator }
 {
     newest_law();
-    newest_out_law();
     newest_state_law();
     seam_law();
-    published_law();
     match book.publish(id, readers) {
         Ok(()) => {}
         Err(_) => unreachable!(),

@@ -21,11 +21,11 @@ use thiserror::Error;
 #[derive(Debug, Drop, Error)]
 pub enum InsertError {
     #[error("no memory for the list of records")]
-    List(#[from] AllocError),
+    List(AllocError),
     #[error("the record is too long: {0}")]
-    Layout(#[from] LayoutError),
+    Layout(LayoutError),
     #[error("no chunk: {0}")]
-    Refused(#[from] AllocationError),
+    Refused(AllocationError),
     #[error("the allocator gave a longer chunk than the record")]
     NoExactChunk,
 }
@@ -92,7 +92,7 @@ impl<A: Allocator + Drop> Slab<A> {
             Err(error) => return Err(InsertError::Refused(error)),
         };
         if chunk.len() != bytes.len() {
-            longer_law::<A>();
+            records_law::<A>();
             return_last(&mut self.allocator, chunk, layout);
             return Err(InsertError::NoExactChunk);
         }
@@ -128,7 +128,7 @@ impl<A: Allocator + Drop> Slab<A> {
             (remove self.old.records position) self.new }
     {
         let chunk = self.chunks.remove(position);
-        removed_records_law();
+        records_law::<A>();
         self.allocator.deallocate(chunk.place(), Layout::empty());
     }
 }
@@ -167,17 +167,14 @@ pub(crate) fn put(region: &mut Region, chunks: &Vec<Chunk>, chunk: Chunk, bytes:
     region.write(chunk, bytes);
 }
 
-/// A longer chunk that may be given may be given. It does nothing: its contract is the law.
-fn longer_law<A: Allocator>()
-    ensures { (geometry : A.Geometry) (live : List Chunk) (size : ℕ) (layout : Layout)
+/// An allocator that may give a longer chunk for a layout may give one for the layout's size, and taking a chunk out of a list
+/// takes its record out. It does nothing: its contract is the law.
+#[tactic(auto, using(bb_memory_base::specs::Hints::parts_of_lists))]
+fn records_law<A: Allocator>()
+    ensures longer { (geometry : A.Geometry) (live : List Chunk) (size : ℕ) (layout : Layout)
         (chunk : Chunk)
         → IsOfBytes layout size → size < chunk.len → A.may_allocate geometry live layout (Ok chunk)
         → MayGiveLonger (A.may_allocate geometry live) size }
-{}
-
-/// Taking a chunk out of a list takes its record out. It does nothing: its contract is the law.
-#[tactic(auto, using(bb_memory_base::specs::Hints::parts_of_lists))]
-fn removed_records_law()
-    ensures { (held : HeldBytes) (chunks : List Chunk) (position : ℕ)
+    ensures removed { (held : HeldBytes) (chunks : List Chunk) (position : ℕ)
         → records_in held (remove chunks position) ≡ remove (records_in held chunks) position }
 {}

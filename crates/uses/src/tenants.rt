@@ -1,12 +1,12 @@
 //! Tenants of one allocator, each with a limit of its own.
-ghost use Rattle.std.specs.Prelude.{◌≡◌, ◌≢◌, ◌<◌, ◌≤◌, ◌+◌, ◌%◌, ◌↔◌, ◌∷◌, ◌++◌, [], ℕ, List, Some, Ok, true};
+ghost use Rattle.std.specs.Prelude.{◌≡◌, ◌≢◌, ◌<◌, ◌≤◌, ◌+◌, ◌%◌, ◌↔◌, ◌∷◌, ◌++◌, [], ℕ, List, Some, Ok};
 ghost use Rattle.std.specs.Prelude.{IfOk, IfErr, IfSome, IsOk, IsSome, IsTrue, OnOk, OnErr};
 ghost use Rattle.std.specs.Prelude.{length, remove, slice_get, slice_index_or, sum};
 ghost use Rattle.bb_memory_base.specs.Chunk.{IsInside};
 ghost use Rattle.bb_memory_base.specs.LiveList.{IsSound};
 ghost use Rattle.uses.specs.declared.tenants.Lease.{Lease};
 ghost use Rattle.uses.specs.Tenants.{HasLeft, IsWhyNotAdmitted, IsWhyNotLeased};
-ghost use Rattle.uses.specs.Tenants.{bytes_for, bytes_out, chunks_of, is_lease_of, lease_at};
+ghost use Rattle.uses.specs.Tenants.{bytes_for, bytes_out, chunks_of, lease_at};
 ghost use Rattle.uses.specs.Tenants.{limit_of, used_by, with_lease, with_tenant, without_lease};
 
 use crate::last_chunk::return_last;
@@ -23,7 +23,7 @@ pub enum AdmitError {
     #[error("the limits would exceed the whole")]
     OverWhole,
     #[error("no memory for the list of limits")]
-    List(#[from] AllocError),
+    List(AllocError),
 }
 
 /// Why a tenant wasn't given a chunk.
@@ -34,20 +34,20 @@ pub enum LeaseError {
     #[error("the tenant's limit would be exceeded")]
     OverLimit,
     #[error("no memory for the list of leases")]
-    List(#[from] AllocError),
+    List(AllocError),
     #[error("no chunk: {0}")]
-    Refused(#[from] AllocationError),
+    Refused(AllocationError),
     #[error("the allocator gave a longer chunk than asked, which exceeds the tenant's limit")]
     TooLong,
 }
 
 /// The tenant holds no chunk at the place.
-#[derive(Debug, Clone, Copy, PartialEq, Eq, Error)]
+#[derive(Debug, Clone, Copy, Error)]
 #[error("the tenant holds no chunk at this place")]
 pub struct NotHeld {}
 
 /// A chunk that is out, and the number of the tenant that holds it.
-#[derive(Debug, Clone, Copy, PartialEq, Eq)]
+#[derive(Clone, Copy)]
 pub struct Lease {
     pub tenant: usize,
     pub chunk: Chunk,
@@ -177,7 +177,12 @@ impl<A: Allocator + Drop> Tenants<A> {
         ensures value { result ≡ used_by tenant self.now.leases }
         ensures within { result ≤ limit_of self.now.limits tenant }
     {
-        used_within(&self.leases, tenant, self.limit(tenant))
+        // Proof hint: the sum is within the limit, which is a `usize`.
+        let _limit = self.limit(tenant);
+        self.leases
+            .iter()
+            .map(|lease| lease.bytes_for(tenant))
+            .sum()
     }
 
     /// How many bytes are out: those of all chunks that the allocator has given. Whatever list has what each tenant uses, this is
@@ -189,11 +194,11 @@ impl<A: Allocator + Drop> Tenants<A> {
             → ((tenant : ℕ) → used_by tenant self.now.leases ≡ slice_index_or used tenant 0)
             → result ≡ sum used }
     {
-        all_leases_law();
+        leases_law();
         out_within(&self.leases, self.promised)
     }
 
-    /// Whether a tenant holds the chunk at a place.
+    /// Tests whether a tenant holds the chunk at a place.
     pub fn holds(&self, tenant: usize, place: usize) -> bool
         ensures { IsTrue result ↔ IsSome (lease_at tenant place self.now.leases) }
     {
@@ -267,7 +272,7 @@ impl<A: Allocator + Drop> Tenants<A> {
             return Err(NotHeld {});
         };
         leases_law();
-        let lease = lease_there(&self.leases, position);
+        let lease = self.leases[position];
         give_back(&mut self.allocator, &self.leases, position, lease);
         self.leases.remove(position);
         Ok(())
@@ -282,16 +287,6 @@ impl<A: Allocator + Drop> Tenants<A> {
     {
         let _ = &self.leases;
     }
-}
-
-/// How many bytes of the leases are a tenant's. They are within a limit.
-fn used_within(leases: &Vec<Lease>, tenant: usize, limit: usize) -> usize
-    requires { used_by tenant leases.now.items ≤ limit }
-    ensures value { result ≡ used_by tenant leases.now.items }
-    ensures within { result ≤ limit }
-{
-    let _ = limit;
-    leases.iter().map(|lease| lease.bytes_for(tenant)).sum()
 }
 
 /// How many bytes the leases have. They are within what is promised.
@@ -314,14 +309,6 @@ fn lease_of(leases: &Vec<Lease>, tenant: usize, place: usize) -> Option<usize>
     leases.iter().position(|lease| lease.tenant == tenant && lease.chunk.place() == place)
 }
 
-/// The lease at a position.
-fn lease_there(leases: &Vec<Lease>, position: usize) -> Lease
-    requires { position < length leases.now.items }
-    ensures { slice_get leases.now.items position ≡ Some result }
-{
-    leases[position]
-}
-
 /// Gives the chunk of the lease at a position back to the allocator.
 fn give_back<A: Allocator>(allocator: &mut A, leases: &Vec<Lease>, position: usize, lease: Lease)
     requires stands { A.stands_for allocator.old (chunks_of leases.now.items) }
@@ -333,8 +320,9 @@ fn give_back<A: Allocator>(allocator: &mut A, leases: &Vec<Lease>, position: usi
     allocator.deallocate(lease.chunk.place(), Layout::empty());
 }
 
-/// What one lease more, or one less, makes of each tenant's use, and of the chunks that are out. It does nothing: its contract
-/// is the law.
+/// Laws of leases. One more or less changes its own tenant's use alone, and is a chunk more or less that is out. A tenant holds
+/// the chunk that it was given last, and those that it held before. All tenants' bytes together are the bytes that are out. It
+/// does nothing: its contract is the law.
 pub fn leases_law()
     ensures more { (leases : List Lease) (lease : Lease) (tenant : ℕ)
         → used_by tenant (leases ++ lease ∷ []) ≡ used_by tenant leases + bytes_for tenant lease }
@@ -352,13 +340,11 @@ pub fn leases_law()
         → slice_get (chunks_of leases) position ≡ Some lease.chunk }
     ensures rest { (leases : List Lease) (position : ℕ)
         → chunks_of (remove leases position) ≡ remove (chunks_of leases) position }
-{
-    sum_law::<Lease>();
-    map_law::<Lease, Chunk>();
-}
-
-/// What the tenants use is what is out. It does nothing: its contract is the law.
-pub fn all_leases_law()
+    ensures held { (leases : List Lease) (lease : Lease)
+        → IsSome (lease_at lease.tenant lease.chunk.place (leases ++ lease ∷ [])) }
+    ensures still_held { (leases : List Lease) (lease : Lease) (tenant place : ℕ)
+        → IsSome (lease_at tenant place leases)
+        → IsSome (lease_at tenant place (leases ++ lease ∷ [])) }
     ensures together { (leases : List Lease) (used : List ℕ)
         → ((tenant : ℕ) → used_by tenant leases ≡ slice_index_or used tenant 0)
         → bytes_out leases ≡ sum used }
@@ -366,22 +352,8 @@ pub fn all_leases_law()
         → ((tenant : ℕ) → used_by tenant leases ≤ limit_of limits tenant)
         → bytes_out leases ≤ sum limits }
 {
+    sum_law::<Lease>();
+    map_law::<Lease, Chunk>();
+    position_law::<Lease>();
     group_law::<Lease>();
 }
-
-/// A tenant holds what it was given last, and what it held before. It does nothing: its contract is the law.
-pub fn held_law()
-    ensures held { (leases : List Lease) (lease : Lease)
-        → IsSome (lease_at lease.tenant lease.chunk.place (leases ++ lease ∷ [])) }
-    ensures still_held { (leases : List Lease) (lease : Lease) (tenant place : ℕ)
-        → IsSome (lease_at tenant place leases)
-        → IsSome (lease_at tenant place (leases ++ lease ∷ [])) }
-{
-    own_lease_law();
-    position_law::<Lease>();
-}
-
-/// A lease is that of its tenant and its place. It does nothing: its contract is the law.
-fn own_lease_law()
-    ensures { (lease : Lease) → is_lease_of lease.tenant lease.chunk.place lease ≡ true }
-{}

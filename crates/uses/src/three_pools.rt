@@ -64,23 +64,7 @@ fn pool_in<const N: usize>(bucket: Layout, start: usize, size: usize) -> FixedSi
     ensures gives_before { GivesBefore (MayAllocate result.geometry) (start + size) }
 {
     let pool = FixedSizePoolAllocator::new(bucket, start, size);
-    gives_before_law(&pool, start + size);
-    pool
-}
-
-/// What a pool gives begins before a border that is at its region's end or behind it. It does nothing: its contract is the law.
-fn gives_before_law<const N: usize>(pool: &FixedSizePoolAllocator<N>, border: usize)
-    requires { region_end pool.now.geometry.region ≤ border }
-    ensures { GivesBefore (MayAllocate pool.now.geometry) border }
-{
-    buckets_law(pool);
-}
-
-/// Each bucket of a pool begins before its region's end. It does nothing: its contract is the law.
-fn buckets_law<const N: usize>(pool: &FixedSizePoolAllocator<N>)
-    ensures { (i : ℕ) → i < pool.now.geometry.buckets
-        → bucket_place pool.now.geometry i < region_end pool.now.geometry.region }
-{
     pool_inside_law();
     pool.number_of_buckets();
+    pool
 }

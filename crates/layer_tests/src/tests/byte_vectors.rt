@@ -68,7 +68,7 @@ impl<A: Allocator + Drop> Growing<A> {
         self.bytes.push(&mut self.allocator, &mut self.region, byte)
     }
 
-    /// Whether each push of these bytes is answered so.
+    /// Pushes these bytes, and tests whether each push is answered so.
     fn pushes(&mut self, bytes: &[u8], answers: &[Result<(), PushError>]) -> bool {
         for (byte, answer) in bytes.iter().zip(answers) {
             if self.push(*byte) != *answer {
@@ -78,7 +78,7 @@ impl<A: Allocator + Drop> Growing<A> {
         bytes.len() == answers.len()
     }
 
-    /// What the chunk has that the vector began with.
+    /// The bytes of the chunk that the vector began with.
     fn held(&self) -> &[u8] {
         self.region.chunk(self.chunk)
     }
@@ -96,7 +96,7 @@ impl<A: Allocator + Drop> Growing<A> {
     }
 }
 
-/// What is answered where a byte is pushed, and where the bucket is full.
+/// The answers where a byte is pushed, and where the bucket is full.
 const PUSHED: Result<(), PushError> = Ok(());
 
 const FULL: Result<(), PushError> = Err(PushError::Full(AllocationGrowError::OutOfMemory));

@@ -1,4 +1,4 @@
-//! What a test compares and how it ends, proved once: a test carries no more of it than that it was called.
+//! Comparisons of tests and their ends, proved once: a test carries no more of them than the call.
 use std::process::Abort;
 
 /// Memory for what a test makes was refused.

@@ -9,7 +9,7 @@ use bb_memory::region::Region;
 use std::alloc::Global;
 use uses::slab::Slab;
 
-/// What a layer is driven over.
+/// The allocator below a layer.
 pub(super) type TestPool = FixedSizePoolAllocator<16>;
 
 /// A pool of 8 buckets of 128 bytes, of which none is out.

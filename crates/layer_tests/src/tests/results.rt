@@ -7,7 +7,7 @@ use examples::heap::grown;
 use std::alloc::Global;
 use std::test::Fail;
 
-/// Whether no pool was opened, for want of memory.
+/// Tests whether no pool was opened, for want of memory.
 fn is_refused(made: Result<PoolAllocator<Global>, GiveError>) -> bool {
     matches!(made, Err(GiveError::Refused(AllocationError::OutOfMemory)))
 }

@@ -9,11 +9,10 @@ use loan_book::LoanBook;
 use std::alloc::Global;
 use std::process::Abort;
 use uses::keyed_slab::{Key, KeyedSlab};
-use uses::mailbox::Mailbox;
 use uses::ring::MessageRing;
 use uses::slab::Slab;
 
-/// What can be driven by rows.
+/// A layer that rows can drive.
 pub(super) trait Driven<R> {
     /// Makes the row's call, and tells whether it was answered as the row has it.
     fn keeps(&mut self, row: &R) -> bool;
@@ -38,7 +37,7 @@ pub(super) enum SlabCall<'a> {
     Len,
 }
 
-/// What a slab answers.
+/// The answer of a slab.
 #[derive(Drop, PartialEq)]
 pub(super) enum SlabAnswer<'a> {
     Done,
@@ -89,7 +88,7 @@ pub(super) enum KeyedCall<'a> {
     Size,
 }
 
-/// What it is answered.
+/// The answer of a slab with keys.
 #[derive(Drop, PartialEq)]
 pub(super) enum KeyedAnswer<'a> {
     Key(usize, u64),
@@ -140,7 +139,7 @@ fn key(index: usize, generation: u64) -> Key {
     Key { index, generation }
 }
 
-/// What a call that was done is told as, or one whose key was stale.
+/// The answer of a call that was done, or of one whose key was stale.
 fn done<'s>(is_done: bool) -> KeyedAnswer<'s> {
     if is_done {
         KeyedAnswer::Done
@@ -149,18 +148,18 @@ fn done<'s>(is_done: bool) -> KeyedAnswer<'s> {
     }
 }
 
-/// A call of a mailbox or a ring. `Next` is done with the oldest message, as its receiver or as one of its readers.
+/// A call of a ring. `Next` is done with the oldest message, as one of its readers.
 #[derive(Drop)]
-pub(super) enum LineCall<'a> {
+pub(super) enum RingCall<'a> {
     Send(&'a [u8]),
     Front,
     Next,
     Waiting,
 }
 
-/// What it is answered. `Left` tells whether the oldest message has left.
+/// The answer of a ring. `Left` tells whether the oldest message has left.
 #[derive(Drop, PartialEq)]
-pub(super) enum LineAnswer<'a> {
+pub(super) enum RingAnswer<'a> {
     Sent,
     Message(&'a [u8]),
     Left(bool),
@@ -169,52 +168,31 @@ pub(super) enum LineAnswer<'a> {
     Refused,
 }
 
-pub(super) type LineRow<'a> = (LineCall<'a>, LineAnswer<'a>);
+pub(super) type RingRow<'a> = (RingCall<'a>, RingAnswer<'a>);
 
-impl<'a, A: Allocator + Drop> Driven<LineRow<'a>> for Mailbox<A> {
-    fn keeps(&mut self, row: &LineRow<'a>) -> bool {
-        mailbox_answer(self, &row.0) == row.1
-    }
-}
-
-fn mailbox_answer<'m, A: Allocator + Drop>(
-    mailbox: &'m mut Mailbox<A>,
-    call: &LineCall<'_>,
-) -> LineAnswer<'m> {
-    match call {
-        LineCall::Send(bytes) if mailbox.send(bytes).is_ok() => LineAnswer::Sent,
-        LineCall::Send(_) => LineAnswer::Refused,
-        LineCall::Front => mailbox
-            .front()
-            .map_or(LineAnswer::Refused, LineAnswer::Message),
-        LineCall::Next => LineAnswer::Left(mailbox.receive()),
-        LineCall::Waiting => LineAnswer::Waiting(mailbox.waiting()),
-    }
-}
-
-impl<'a, A: Allocator + Drop> Driven<LineRow<'a>> for MessageRing<A> {
-    fn keeps(&mut self, row: &LineRow<'a>) -> bool {
+impl<'a, A: Allocator + Drop> Driven<RingRow<'a>> for MessageRing<A> {
+    fn keeps(&mut self, row: &RingRow<'a>) -> bool {
         ring_answer(self, &row.0) == row.1
     }
 }
 
 fn ring_answer<'r, A: Allocator + Drop>(
     ring: &'r mut MessageRing<A>,
-    call: &LineCall<'_>,
-) -> LineAnswer<'r> {
+    call: &RingCall<'_>,
+) -> RingAnswer<'r> {
     match call {
-        LineCall::Send(bytes) if ring.send(bytes).is_ok() => LineAnswer::Sent,
-        LineCall::Send(_) => LineAnswer::Refused,
-        LineCall::Front => ring
+        RingCall::Send(bytes) if ring.send(bytes).is_ok() => RingAnswer::Sent,
+        RingCall::Send(_) => RingAnswer::Refused,
+        RingCall::Front => ring
             .front()
-            .map_or(LineAnswer::Refused, LineAnswer::Message),
-        LineCall::Next if ring.waiting() > 0 => LineAnswer::Left(ring.finish()),
-        LineCall::Next => LineAnswer::Refused,
-        LineCall::Waiting => LineAnswer::Waiting(ring.waiting()),
+            .map_or(RingAnswer::Refused, RingAnswer::Message),
+        RingCall::Next if ring.waiting() > 0 => RingAnswer::Left(ring.finish()),
+        RingCall::Next => RingAnswer::Refused,
+        RingCall::Waiting => RingAnswer::Waiting(ring.waiting()),
     }
 }
 
-/// Whether a record of this length is at the position.
+/// Tests whether a record of this length is at the position.
 fn has_record<A: Allocator + Drop>(slab: &Slab<A>, position: usize, len: usize) -> bool
     ensures { IsTrue result
         → (old : List ℕ) × (slice_get slab.now.records position ≡ Some old) × (len ≡ length old) }
@@ -239,22 +217,13 @@ pub(super) fn keyed_slab_of<A: Allocator + Drop>(
     all_kept(rt, KeyedSlab::new(alloc, slab, 2), rows);
 }
 
-/// A mailbox of these messages keeps each row.
-pub(super) fn mailbox_of<A: Allocator + Drop>(
-    rt: &impl Abort,
-    messages: Slab<A>,
-    rows: &[LineRow<'_>],
-) {
-    all_kept(rt, Mailbox::new(messages), rows);
-}
-
 /// A ring for two readers, over an allocator and its region, keeps each row.
 pub(super) fn ring_of<A: Allocator + Drop>(
     rt: &impl Abort,
     alloc: Global,
     allocator: A,
     region: Region,
-    rows: &[LineRow<'_>],
+    rows: &[RingRow<'_>],
 )
     requires fresh { A.stands_for allocator [] }
     requires exact { GivesExactly A.may_allocate }

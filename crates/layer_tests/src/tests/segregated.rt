@@ -5,131 +5,19 @@ ghost use Rattle.bb_memory_base.specs.Region.{region_at};
 ghost use Rattle.uses.specs.Segregations.{MayBePool};
 
 use super::checks::fail;
-use super::rows::{Driven, all_kept};
+use super::live_list::{Ask, AskRow, Told, WithLiveList};
+use super::rows::all_kept;
 use bb_memory::allocator::{
-    AllocationError, AllocationGrowError, AllocationShrinkError, Allocator, BaseAllocator, Command,
-    Reply, run_full,
+    AllocationError, AllocationGrowError, AllocationShrinkError, Allocator, BaseAllocator,
 };
-use bb_memory::layout::{Chunk, Layout};
+use bb_memory::layout::Layout;
 use bb_memory::pool_allocator::FixedSizePoolAllocator;
 use std::alloc::Global;
-use std::marker::Model;
 use std::process::Abort;
 use uses::segregated::Segregated;
 use uses::three_pools::{ThreePools, three_pools};
 
-/// What is asked, of the chunk at a position of the live list where it isn't for a new one.
-#[derive(Clone, Copy)]
-enum Ask {
-    /// A chunk of so many bytes.
-    Allocate(usize),
-    /// A chunk of 8 bytes at a multiple of so much.
-    Aligned(usize),
-    Release(usize),
-    /// From so many bytes to so many.
-    Grow(usize, usize, usize),
-    Shrink(usize, usize, usize),
-    /// How many bytes are reserved for it.
-    Reserved(usize),
-}
-
-/// What is told of the reply.
-#[derive(Clone, Copy, PartialEq)]
-enum Told {
-    /// A chunk at a place, of so many bytes, was given or resized.
-    At(usize, usize),
-    Released,
-    Refused(AllocationError),
-    NotGrown(AllocationGrowError),
-    NotShrunk(AllocationShrinkError),
-    /// So many bytes are reserved.
-    Reserved(usize),
-    /// There is no such chunk.
-    Passed,
-}
-
-impl Told {
-    fn of(reply: Reply) -> Told {
-        match reply {
-            Reply::Chunk(chunk) => Told::At(chunk.place(), chunk.len()),
-            Reply::Released => Told::Released,
-            Reply::Refused(error) => Told::Refused(error),
-            Reply::GrowRefused(error) => Told::NotGrown(error),
-            Reply::ShrinkRefused(error) => Told::NotShrunk(error),
-            Reply::Passed => Told::Passed,
-        }
-    }
-}
-
-impl Ask {
-    /// The command, or none where a layout isn't one or what is reserved is asked.
-    fn command(self) -> Option<Command> {
-        match self {
-            Ask::Allocate(size) => Some(Command::Allocate(of_bytes(size)?)),
-            Ask::Aligned(align) => {
-                Some(Command::Allocate(Layout::from_size_align(8, align).ok()?))
-            }
-            Ask::Release(position) => Some(Command::Release(position)),
-            Ask::Grow(position, old, new) => {
-                Some(Command::Grow(position, of_bytes(old)?, of_bytes(new)?))
-            }
-            Ask::Shrink(position, old, new) => {
-                Some(Command::Shrink(position, of_bytes(old)?, of_bytes(new)?))
-            }
-            Ask::Reserved(_) => None,
-        }
-    }
-}
-
-/// The layout of so many bytes at any place.
-fn of_bytes(size: usize) -> Option<Layout> {
-    Layout::from_size_align(size, 1).ok()
-}
-
-/// An allocator with its live list, so that commands can be given to it one by one.
-#[derive(Drop)]
-struct Tried<A: Allocator + Drop> {
-    allocator: A,
-    live: Vec<Chunk>,
-}
-
-impl<A: Allocator + Drop> Model for Tried<A> {
-    ghost Value = { A };
-
-    ghost view = { λ t. t.allocator };
-
-    ghost invariant = { λ t. A.stands_for t.allocator t.live.items };
-}
-
-impl<A: Allocator + Drop> Tried<A> {
-    /// What is told of what is answered. Nothing is where memory was refused.
-    fn answer(&mut self, ask: Ask) -> Option<Told> {
-        if let Ask::Reserved(position) = ask {
-            return Some(self.reserved(position));
-        }
-        let command = ask.command()?;
-        let replies = run_full(&mut self.allocator, &mut self.live, &[command]).ok()?;
-        Some(Told::of(*replies.first()?))
-    }
-
-    /// How many bytes are reserved for the chunk at this position of the live list.
-    fn reserved(&self, position: usize) -> Told {
-        match self.live.get(position) {
-            Some(chunk) => Told::Reserved(self.allocator.reserved(chunk.place())),
-            None => Told::Passed,
-        }
-    }
-}
-
-type PoolsRow = (Ask, Told);
-
-impl<A: Allocator + Drop> Driven<PoolsRow> for Tried<A> {
-    fn keeps(&mut self, row: &PoolsRow) -> bool {
-        self.answer(row.0) == Some(row.1)
-    }
-}
-
-/// Whether there may be a pool of one bucket of this layout over the 512 bytes at `start`.
+/// Tests whether there may be a pool of one bucket of this layout over the 512 bytes at `start`.
 fn can_be_third(bucket: Layout, start: usize) -> bool
     ensures { IsTrue result ↔ MayBePool (region_at start 512) bucket 1 }
 {
@@ -154,12 +42,11 @@ fn allocator_keeps<A: Allocator + Drop>(
     rt: &impl Abort,
     alloc: Global,
     allocator: A,
-    rows: &[PoolsRow],
+    rows: &[AskRow],
 )
     requires { A.stands_for allocator [] }
 {
-    let live = Vec::new(alloc);
-    all_kept(rt, Tried { allocator, live }, rows);
+    all_kept(rt, WithLiveList::new(alloc, allocator), rows);
 }
 
 /// A pair of allocators that is one, with nothing out, keeps each row.
@@ -167,7 +54,7 @@ fn pair_keeps<A: Allocator + Drop, B: Allocator + Drop>(
     rt: &impl Abort,
     alloc: Global,
     pair: Segregated<A, B>,
-    rows: &[PoolsRow],
+    rows: &[AskRow],
 )
     requires { ⟦<Segregated<A, B> as BaseAllocator>⟧.stands_for pair [] }
 {
@@ -175,7 +62,7 @@ fn pair_keeps<A: Allocator + Drop, B: Allocator + Drop>(
 }
 
 /// The three pools keep each row.
-fn pools_keep(rt: &impl Abort, alloc: Global, rows: &[PoolsRow]) {
+fn pools_keep(rt: &impl Abort, alloc: Global, rows: &[AskRow]) {
     match one_bucket_each() {
         Some(pools) => pair_keeps(rt, alloc, pools, rows),
         None => fail(rt, "no such pools may be made"),

@@ -27,7 +27,7 @@ enum Call {
     Count,
 }
 
-/// What it is answered.
+/// The answer of tenants to a call.
 #[derive(Clone, Copy, PartialEq)]
 enum Answer {
     /// A number of a tenant, of tenants, or of bytes.

@@ -7,7 +7,7 @@ use bb_memory::allocator::Allocator;
 use std::process::Abort;
 use uses::tenants::Tenants;
 
-/// What a call that takes memory is answered, or that memory was refused. Then nothing is used that wasn't.
+/// Tests whether a call that takes memory is answered as wanted, or memory was refused. Then nothing is used that wasn't.
 fn is_answered(answer: Answer, wanted: Answer) -> bool {
     answer == wanted || answer == Answer::NoMemory
 }
