@@ -117,11 +117,7 @@ pub(super) fn send(
 }
 
 /// Attaches a bucket, and gives it back.
-pub(super) fn receive(
-    pool: &SharedPoolAllocator,
-    party: &mut PoolParty,
-    message: DetachedBucket,
-)
+pub(super) fn receive(pool: &SharedPoolAllocator, party: &mut PoolParty, message: DetachedBucket)
     requires party { party.old.allocator ≡ pool.now }
     requires message { message.allocator ≡ pool.now }
     ensures { party.new.allocator ≡ pool.now }

@@ -168,18 +168,21 @@ fn detach<'a, P: SharedBuckets>(pool: &'a P, user: &mut User<'a>) -> Answer
     }
 }
 
-/// The detached bucket that the user of this index sent.
-fn sent_by<'a, P: SharedBuckets>(
+/// The detached bucket that this call is to attach, as a user sent it.
+fn sent_for<'a, P: SharedBuckets>(
     pool: &P,
     users: &mut Vec<User<'a>>,
-    index: usize,
+    call: Call,
 ) -> Option<DetachedBucket>
     requires { All (λ user. IsUser (P.shown pool.now) user.party user.kept user.sent) users.old.items }
     ensures users { All (λ user. IsUser (P.shown pool.now) user.party user.kept user.sent) users.new.items }
     ensures sent { IfSome result (λ detached. detached.allocator ≡ P.shown pool.now) }
 {
     let _ = pool;
-    match users.get_mut(index) {
+    let Call::Attach(sender) = call else {
+        return None;
+    };
+    match users.get_mut(sender) {
         Some(user) => user.sent.take(),
         None => None,
     }
@@ -332,10 +335,7 @@ fn answer_of<'a, P: SharedBuckets>(
     requires { All (λ user. IsUser (P.shown pool.now) user.party user.kept user.sent) users.old.items }
     ensures { All (λ user. IsUser (P.shown pool.now) user.party user.kept user.sent) users.new.items }
 {
-    let detached = match call {
-        Call::Attach(sender) => sent_by(pool, users, sender),
-        _ => None,
-    };
+    let detached = sent_for(pool, users, call);
     match users.get_mut(index) {
         Some(user) => answered(pool, user, call, detached),
         None => Answer::WrongRow,

@@ -7,9 +7,7 @@ use crate::tests::bump_rows::{self, all_meet, owner_by_all};
 use crate::tests::checks::check;
 use crate::tests::detached::TWO_DETACHED;
 use crate::tests::pool_rows::Answer::{Bucket, Chunk, Nothing};
-use crate::tests::pool_rows::Call::{
-    FindAgain, GiveBack, Grow, Keep, NumberAt, Shrink, Token,
-};
+use crate::tests::pool_rows::Call::{FindAgain, GiveBack, Grow, Keep, NumberAt, Shrink, Token};
 use crate::tests::pool_rows::{ASKED, Answer, Call, Row, hold, last_meets, users_of};
 use crate::tests::rounds::FROM_EACH_BUCKET;
 use crate::tests::shared_buckets::Request::Pass;
