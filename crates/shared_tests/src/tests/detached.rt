@@ -162,14 +162,6 @@ fn last_of(
     }
 }
 
-/// The layout of a message.
-fn message_layout() -> Result<Layout, &'static str> {
-    match Layout::from_size_align(48, 4) {
-        Ok(layout) => Ok(layout),
-        Err(_) => Err("no such layout"),
-    }
-}
-
 /// The two parties of a pool of so many bytes at 4096, and the layout of a message.
 pub(super) fn two_of(
     alloc: Global,
@@ -179,7 +171,9 @@ pub(super) fn two_of(
     ensures first { IfOk result (λ made. made.1.allocator ≡ made.0) }
     ensures second { IfOk result (λ made. made.2.allocator ≡ made.0) }
 {
-    let asked = message_layout()?;
+    let Ok(asked) = Layout::from_size_align(48, 4) else {
+        return Err("no such layout");
+    };
     let (pool, mut parties) = shared_over(alloc, 4096, size, 2)?;
     if pool.number_of_parties() < 2 {
         return Err("a party is missing");

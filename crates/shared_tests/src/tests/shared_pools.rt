@@ -22,10 +22,10 @@ use std::alloc::Global;
 use std::process::Abort;
 
 /// A test asks for a pool that can't be made.
-pub(super) const NO_POOL: &str = "no pool can be made of that";
+const NO_POOL: &str = "no pool can be made of that";
 
 /// The layout of buckets of 128 bytes, where a pool of them can be made over a region.
-pub(super) fn bucket_over(start: usize, size: usize) -> Result<Layout, &'static str>
+fn bucket_over(start: usize, size: usize) -> Result<Layout, &'static str>
     ensures { IfOk result (MayBeCut (region_at start size)) }
 {
     let Ok(bucket) = Layout::from_size_align(128, 8) else {
@@ -38,7 +38,7 @@ pub(super) fn bucket_over(start: usize, size: usize) -> Result<Layout, &'static 
 }
 
 /// Why no pool was made.
-pub(super) fn cause_of(error: AllocationError) -> &'static str {
+fn cause_of(error: AllocationError) -> &'static str {
     match error {
         AllocationError::OutOfMemory => REFUSED,
         _ => "another cause",
