@@ -2,13 +2,12 @@
 #![tactic(auto, unfolding(bb_memory_base::specs::LeastPlace::least_place))]
 
 ghost use Rattle.std.specs.Prelude.{◌≡◌, ◌≢◌, ◌<◌, []};
-ghost use Rattle.bb_memory.specs.HeldBuckets.{IsCutAtMost};
 ghost use Rattle.bb_memory.specs.OneChunk.{StandsFor};
 
 use crate::errors::GiveError;
 use bb_memory::allocator::{
-    AllocationError, Allocator, BaseAllocator, Command, deallocate_beside, may_release_law, run_base,
-    run_full,
+    AllocationError, Allocator, BaseAllocator, Command, deallocate_beside, may_release_law,
+    run_base, run_full,
 };
 use bb_memory::bump_allocator::BumpAllocator;
 use bb_memory::heap_allocator::HeapAllocator;
@@ -242,7 +241,10 @@ pub fn shared_pool_detached(
 pub fn shared_fixed_pool(alloc: Global) -> Result<(), AllocationError> {
     pool_count_law();
     let bucket = Layout::from_size_align(128, 8).unwrap();
-    let (pool, mut parties) = SharedFixedSizePoolAllocator::<4>::new(alloc, bucket, 4096, 1024, 2)?;
+    let made = SharedFixedSizePoolAllocator::<4>::new(alloc, bucket, 4096, 1024, 2);
+    let Ok((pool, mut parties)) = made else {
+        return Err(AllocationError::OutOfMemory);
+    };
     let count = pool.number_of_buckets();
     prove!(count == 4);
     let mut party = parties.pop().unwrap();

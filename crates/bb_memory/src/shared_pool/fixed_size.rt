@@ -18,7 +18,10 @@ use std::alloc::Global;
 /// ```
 /// pool_count_law();
 /// let bucket = Layout::from_size_align(128, 8).unwrap();
-/// let (pool, mut parties) = SharedFixedSizePoolAllocator::<4>::new(alloc, bucket, 4096, 1024, 2)?;
+/// let made = SharedFixedSizePoolAllocator::<4>::new(alloc, bucket, 4096, 1024, 2);
+/// let Ok((pool, mut parties)) = made else {
+///     return Err(AllocationError::OutOfMemory);
+/// };
 /// let count = pool.number_of_buckets();
 /// prove!(count == 4);
 /// let mut party = parties.pop().unwrap();
