@@ -257,6 +257,8 @@ pub record AgreeWith (scene : PoolScene) (flags : List Bool) (parties : List Poo
   pub agree : LogsAgree scene flags logs
   pub one_a_party : length logs ≡ scene.parties
   pub theirs : All (λ party. HasLog logs party.number party.log) parties
+  pub differ : (i j : ℕ) (one other : PoolParty) → slice_get parties i ≡ Some one → slice_get parties j ≡ Some other → i ≢ j →
+      one.number ≢ other.number
   pub whole : length parties ≡ scene.parties →
       HaveAllNumbers scene.parties parties
       × ((bucket : ℕ) → (slice_get flags bucket ≡ Some true) ↔ IsHeldOrDetached scene agree.steps parties bucket)

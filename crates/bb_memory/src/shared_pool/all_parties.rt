@@ -7,6 +7,7 @@ ghost use Rattle.bb_memory_base.specs.PoolObject.{IsHeld};
 ghost use Rattle.bb_memory_base.specs.PoolMachine.{IsDetached, PoolScene, left_by};
 ghost use Rattle.bb_memory_base.specs.PoolCalls.{AreAsked, IsPoolRun};
 ghost use Rattle.bb_memory_base.specs.PoolHistory.{history_of, log_of};
+ghost use Rattle.bb_memory_base.specs.PoolLogs.{IsHeldAfter};
 ghost use Rattle.bb_memory_base.specs.declared.layout.Layout.{Layout};
 ghost use Rattle.bb_memory.specs.SharedPool.{HasTaker, HaveMet, WasDetachedByOne, IsHeldByOne, IsHeldOrDetached, IsSharedScene};
 ghost use Rattle.bb_memory.specs.SharedPool.{PoolParty, TookOne, refused_pass};
@@ -55,6 +56,12 @@ pub fn shared_pool_meeting_law()
     // Each party's steps in the list of steps are its log.
     ensures logged { (scene : PoolScene) (parties : List PoolParty) (met : HaveMet scene parties)
         → All (λ party. log_of scene met.1.agree.steps party.number ≡ party.log) parties }
+
+    // No bucket is held by two of them.
+    ensures apart { (scene : PoolScene) (parties : List PoolParty) (met : HaveMet scene parties)
+        (i j : ℕ) (one other : PoolParty) (bucket : ℕ) → slice_get parties i ≡ Some one
+        → slice_get parties j ≡ Some other → i ≢ j
+        → IsHeldAfter one.log bucket → ¬ IsHeldAfter other.log bucket }
 
     // Where all have met, each step stands in the log of one of them: it was nobody else's.
     ensures nobody_else { (scene : PoolScene) (parties : List PoolParty)

@@ -223,6 +223,7 @@ impl<const CAPPED: usize, const MOST: usize> SharedBucketPool<CAPPED, MOST> {
         requires bucket { IsAlignedTo self.now old bucket.old }
         ensures answer { MayGrow self.now.scene.geometry.bucket (chunk_of bucket.old).place
             old new result }
+        ensures aligned { IfOk result (λ chunk. chunk.place % new.align ≡ 0) }
         ensures resized { IsResizedTo self.now bucket.old result bucket.new }
     {
         let place = bucket.chunk().place();
@@ -246,6 +247,7 @@ impl<const CAPPED: usize, const MOST: usize> SharedBucketPool<CAPPED, MOST> {
         requires reserved { old.size ≤ self.now.scene.geometry.bucket.size }
         ensures answer { MayShrink self.now.scene.geometry.bucket (chunk_of bucket.old).place
             old new result }
+        ensures aligned { IfOk result (λ chunk. chunk.place % new.align ≡ 0) }
         ensures resized { IsResizedTo self.now bucket.old result bucket.new }
     {
         let place = bucket.chunk().place();
