@@ -1,12 +1,12 @@
 //! What the shared pools are: buckets with a flag each, on which any number of threads step.
 ghost use Rattle.std.specs.Prelude.{◌≡◌, ◌≢◌, ℕ, ◌<◌, ◌≤◌, ◌↔◌, ◌%◌, ◌^◌, [], All, IsErr, IfErr, IfOk};
-ghost use Rattle.std.specs.Prelude.{MatchOption, length};
+ghost use Rattle.std.specs.Prelude.{MatchOption, Some, length, slice_get};
 ghost use Rattle.bb_memory_base.specs.Region.{IsRegion};
 ghost use Rattle.bb_memory_base.specs.Chunk.{Chunk, IsInside};
 ghost use Rattle.bb_memory_base.specs.PoolObject.{IsWithin, MayGrow, MayShrink};
 ghost use Rattle.bb_memory_base.specs.PoolLogs.{IsHeldAfter};
 ghost use Rattle.bb_memory.specs.Seats.{Stays, number_of, view_log};
-ghost use Rattle.bb_memory.specs.SharedPool.{AreAllHeldAfter, AreBothOf, AreFresh, AreInterleaved, HasTaker, HaveMet, IsAlignedTo};
+ghost use Rattle.bb_memory.specs.SharedPool.{AreAllHeldAfter, AreBothOf, AreFresh, AreInterleaved, HasTaker, HaveMet, IsAlignedTo, PoolParty};
 ghost use Rattle.bb_memory.specs.SharedPool.{IsResizedTo, IsSameParty, IsSharedScene, MayTake, chunk_of};
 ghost use Rattle.bb_memory.specs.SharedPool.{return_entry, with_entries};
 ghost use Rattle.bb_memory.specs.SharedPoolRule.{IsIdleAt, MaySeat};
@@ -183,16 +183,19 @@ impl<const CAPPED: usize, const MOST: usize> SharedBucketPool<CAPPED, MOST> {
         self.flags.meet(&mut a.seat, &mut b.seat);
     }
 
-    /// All these parties meet: one interleaving has all their logs. Where these are all the pool's parties, it has no other
-    /// steps, and a flag is taken exactly where one of them holds the bucket, or it is detached. Where each of them has made a
-    /// step, too, one of them has taken a bucket: not all were refused by what somebody else held, as there is nobody else. It
-    /// loads a word once, and two times more for each party but one, which is in no log, and changes nothing. The parties have to
-    /// be this pool's.
+    /// All these parties meet: no bucket is held by two of them. One interleaving has all their logs. Where these are all the
+    /// pool's parties, it has no other steps, and a flag is taken exactly where one of them holds the bucket, or it is detached.
+    /// Where each of them has made a step, too, one of them has taken a bucket: not all were refused by what somebody else held,
+    /// as there is nobody else. The meeting loads a word once, and two times more for each party but one, which is in no log,
+    /// and changes nothing. The parties have to be this pool's.
     pub fn meet_all(&self, parties: &mut Vec<PoolParty>)
         requires parties { All (λ party. party.allocator ≡ self.now) parties.old.items }
         ensures kept { parties.new.items ≡ parties.old.items }
         ensures parties { All (λ party. party.allocator ≡ self.now) parties.new.items }
         ensures met { HaveMet self.now.scene parties.old.items }
+        ensures apart { (i j : ℕ) (one other : PoolParty) (bucket : ℕ)
+            → slice_get parties.old.items i ≡ Some one → slice_get parties.old.items j ≡ Some other
+            → i ≢ j → IsHeldAfter one.log bucket → ¬ IsHeldAfter other.log bucket }
         ensures one_took { length parties.old.items ≡ self.now.scene.parties
             → All (λ party. party.log ≢ []) parties.old.items
             → HasTaker self.now.scene parties.old.items }
