@@ -6,11 +6,10 @@ ghost use Rattle.script_runner.specs.Inputs.{IsAnswered, IsUnreadable, BeginsOut
 ghost use Rattle.script_runner.specs.engine.Transcript.{unreadable_text};
 
 use crate::engine::driving::tell_unreadable;
-use crate::engine::reading::first_line;
+use crate::engine::script::first_line;
 use crate::kinds::{AllKinds, Kinds};
 use crate::status::Status;
 use std::alloc::Global;
-use std::io;
 use std::io::{ErrorKind, Read, Write};
 
 /// Reads a script to its end, checks every line of it, and then runs it: what it drives is made, takes the commands in order,
@@ -45,17 +44,8 @@ fn read_input<R: Read + Drop>(alloc: Global, mut reader: R) -> Result<Vec<u8>, S
     let mut input = Vec::new(alloc);
     match reader.read_to_end(&mut input) {
         Ok(_) => Ok(input),
-        Err(e) => Err(input_status(&e)),
-    }
-}
-
-fn input_status(e: &io::Error) -> Status
-    ensures { (result ≡ Status.InputFailed) ⊎ (result ≡ Status.OutOfMemory) }
-{
-    if e.kind() == ErrorKind::OutOfMemory {
-        Status::OutOfMemory
-    } else {
-        Status::InputFailed
+        Err(e) if e.kind() == ErrorKind::OutOfMemory => Err(Status::OutOfMemory),
+        Err(_) => Err(Status::InputFailed),
     }
 }
 

@@ -6,14 +6,23 @@ use Rattle.script_runner.proofs.fields.value.Goals as goal
 pub returns-in_err-digit : goal.returns-in_err-digit
 returns-in_err-digit c =
     let below : c.loop-byte.byte-index < length c.args.digits.now = omega arith in
-    rw c.from_residual.ensures (no_digit c.args.digits.now c.loop-byte.byte-index below c.in_err-digit.ensures)
+    rw c.from_residual.ensures (no_digit c.args.digits.now c.loop-byte.byte-index below c.in_err-digit.ensures.value)
 
 pub returns-in_err-value : goal.returns-in_err-value
 returns-in_err-value c =
     let below : c.loop-byte.byte-index < length c.args.digits.now = omega arith in
     rw c.from_residual-in_err-value.ensures
-    (too_large c.args.digits.now c.loop-byte.byte-index c.loop-byte.value c.in_ok-digit.field-0 below
-    c.loop-byte.invariant.value c.in_ok-digit.ensures.1 c.in_err-value.ensures)
+    (too_large c.args.digits.now c.loop-byte.byte-index c.loop-byte.value c.in_ok-digit.digit below
+    c.loop-byte.invariant.value c.in_ok-digit.ensures.value.1
+    (λ h. c.in_err-value.ensures (rw c.in_ok-checked_mul.ensures.1 h)))
+
+pub returns-in_err-checked_mul : goal.returns-in_err-checked_mul
+returns-in_err-checked_mul c =
+    let below : c.loop-byte.byte-index < length c.args.digits.now = omega arith in
+    rw c.from_residual-in_err-checked_mul.ensures
+    (too_large c.args.digits.now c.loop-byte.byte-index c.loop-byte.value c.in_ok-digit.digit below
+    c.loop-byte.invariant.value c.in_ok-digit.ensures.value.1
+    (λ h. c.in_err-checked_mul.ensures (omega (arith, h))))
 
 pub loop-byte-preserved : goal.loop-byte-preserved
 loop-byte-preserved c =

@@ -104,8 +104,8 @@ returns-clause-ok g c =
     let run = rw c.last.ensures at c.in_ok-replies-2.ensures in
     let all = played rules c.args.driven.now c.loop-index.driven c.run-2.new.self script i text replies past told run in
     let lines = rw c.deref-2.ensures.value at c.in_ok-tell-2.ensures in
-    on_ok c.map_err.result
-    (text ++ more, all, appends_kept _ _ _ (text ++ more) (appends_again _ _ _ text more wrote lines) c.flush.ensures.bytes)
+    on_ok c.flush.result
+    (text ++ more, all, appends_kept _ _ _ (text ++ more) (appends_again _ _ _ text more wrote lines) c.flush.ensures)
 
 pub returns-clause-err : goal.returns-clause-err
 returns-clause-err g c =
@@ -119,5 +119,5 @@ returns-clause-err g c =
     let run = rw c.last.ensures at c.in_ok-replies-2.ensures in
     let all = played rules c.args.driven.now c.loop-index.driven c.run-2.new.self script i text replies past told run in
     let lines = rw c.deref-2.ensures.value at c.in_ok-tell-2.ensures in
-    let wrote_all = appends_kept _ _ _ (text ++ more) (appends_again _ _ _ text more wrote lines) c.flush.ensures.bytes in
-    on_err c.map_err.result (begun_all rules c.args.driven.now c.run-2.new.self script _ _ (text ++ more) (inr all) wrote_all)
+    let wrote_all = appends_kept _ _ _ (text ++ more) (appends_again _ _ _ text more wrote lines) c.flush.ensures in
+    on_err c.flush.result (begun_all rules c.args.driven.now c.run-2.new.self script _ _ (text ++ more) (inr all) wrote_all)
