@@ -1,5 +1,5 @@
 -- Numbers in decimal, without a sign or a leading zero.
-use Rattle.std.proofs.Common.{arith, ◌≡◌, ℕ, ◌+◌, ◌*◌, ◌<◌, ◌≤◌, ◌^◌, zero, suc, List, [], length, take, take_all}
+use Rattle.std.proofs.Common.{arith, ◌≡◌, ℕ, ◌+◌, ◌-◌, ◌*◌, ◌<◌, ◌≤◌, ◌^◌, zero, suc, List, [], length, take, take_all}
 use Rattle.std.proofs.Common.{get_or, slice_index, Option, Some, None, IfSome, sym, ap, ◌∙◌, ◌∷◌}
 use Rattle.std.specs.Char.{digit_value}
 use Rattle.std.specs.Fmt.{decimal}
@@ -50,10 +50,10 @@ read_all ds i value past small all is =
 
 -- a plain field of digits writes their value
 pub value_writes : (field : List ℕ) (read : Option ℕ) → IsPlain field → SomeIff read (AreDigits field) (digits_value 10 field)
-    → IfSome read (λ n. field ≡ decimal n)
+    → IfSome read (λ n. (n < 2 ^ 64) × (field ≡ decimal n))
 value_writes field None plain is = tt
 value_writes field (Some n) plain is =
-    rw is.1 (sym (decimal-digits_value own field is.0.0 plain.0 plain.1 is.0.1))
+    rw is.1 (is.0.1, sym (decimal-digits_value own field is.0.0 plain.0 plain.1 is.0.1))
 
 -- a field that writes a number is read as it
 pub value_gives_each : (field : List ℕ) (read : Option ℕ) (n : ℕ) → SomeIff read (AreDigits field) (digits_value 10 field)
@@ -74,3 +74,15 @@ IsPlain-decimal (suc n) small =
 -- so is a field that writes a number
 pub IsPlain-writes : (field : List ℕ) (n : ℕ) → n < 2 ^ 64 → field ≡ decimal n → IsPlain field
 IsPlain-writes field n small e = rw e (IsPlain-decimal n small)
+
+-- a number of 6 bits may be written
+pub sixty_four : (n : ℕ) → n < 64 → n < 2 ^ 64
+sixty_four n small = omega (arith, small)
+
+-- so may one of 32 bits
+pub half_word : (n : ℕ) → n < 2 ^ 32 → n < 2 ^ 64
+half_word n small = omega (arith, small)
+
+-- what is free is what isn't used
+pub what_is_free : (used free size : ℕ) → used + free ≡ size → free ≡ size - used
+what_is_free used free size whole = omega (arith, whole)

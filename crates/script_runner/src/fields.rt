@@ -20,7 +20,7 @@ pub const PARTIES: u32 = 64;
 
 /// Parses a number in decimal, without a sign or a leading zero.
 pub fn number(field: &[u8]) -> Option<usize>
-    ensures written { IfSome result (λ n. field.now ≡ decimal n) }
+    ensures written { IfSome result (λ n. IsNumber n × (field.now ≡ decimal n)) }
     ensures each { (n : ℕ) → IsNumber n → field.now ≡ decimal n → result ≡ Some n }
 {
     if !is_plain(field) {
@@ -55,14 +55,6 @@ fn value(digits: &[u8]) -> Option<usize>
     Some(value)
 }
 
-/// Writes a number in decimal.
-pub fn write_number<W: Write>(number: usize, writer: &mut W) -> io::Result<()>
-    ensures { OnOk result
-        (Appends (W.contents writer.old) (W.contents writer.new) (decimal number)) }
-{
-    write!(writer, "{number}")
-}
-
 /// Writes a number between two texts.
 pub fn write_between<W: Write>(
     before: &[u8],
@@ -74,7 +66,7 @@ pub fn write_between<W: Write>(
         (before.now ++ (decimal number ++ after.now))) }
 {
     writer.write_all(before)?;
-    write_number(number, writer)?;
+    write!(writer, "{number}")?;
     writer.write_all(after)
 }
 
@@ -92,9 +84,9 @@ pub fn cut(text: &[u8], byte: u8) -> Option<(&[u8], &[u8])>
 }
 
 /// Parses `NUMBER REST`, as the number and the rest.
-#[tactic(auto, using(crate::proofs::Cuts::spaceless_decimal))]
 pub fn number_and_rest(text: &[u8]) -> Option<(usize, &[u8])>
-    ensures written { IfSome result (λ (n, rest). text.now ≡ decimal n ++ (codes " " ++ rest.now)) }
+    ensures written { IfSome result (λ (n, rest). IsNumber n
+        × (text.now ≡ decimal n ++ (codes " " ++ rest.now))) }
     ensures each { (n : ℕ) (rest : List ℕ) → IsNumber n
         → text.now ≡ decimal n ++ (codes " " ++ rest)
         → IsSomeAnd result (λ (m, left). (m ≡ n) × (left.now ≡ rest)) }

@@ -1,4 +1,4 @@
-use Rattle.std.proofs.Common.{arith, List, ℕ, ◌++◌, ◌+◌, ◌≤◌, length, sym, ap, ◌∙◌, [], inl, inr, refl}
+use Rattle.std.proofs.Common.{List, ℕ, ◌++◌, ◌+◌, ◌≤◌, length, sym, ap, ◌∙◌, [], inl, inr, refl}
 use Rattle.std.specs.List.{flat_map}
 use Rattle.std.proofs.lemmas.List.{append_assoc, append-nil}
 use Rattle.script_runner.proofs.Appending.{appends_again, appends_kept, on_ok, on_err}
@@ -84,7 +84,7 @@ returns-in_err-tell-2-clause-err g c =
     let (text, told, wrote) = c.loop-index.invariant.told in
     let replies = c.in_ok-replies-2.replies.items in
     let more : List ℕ = flat_map rules.reply_text replies in
-    let past : length script.shown ≤ i = omega (arith, c.shows-index-end.ensures) in
+    let past : length script.shown ≤ i = rw c.shows-index-end.ensures at c.loop-index-test.false in
     let run = rw c.last.ensures at c.in_ok-replies-2.ensures in
     let all = played rules c.args.driven.now c.loop-index.driven c.run-2.new.self script i text replies past told run in
     let part = rw c.deref-2.ensures.value at c.in_err-tell-2.ensures in
@@ -100,7 +100,7 @@ returns-clause-ok g c =
     let (text, told, wrote) = c.loop-index.invariant.told in
     let replies = c.in_ok-replies-2.replies.items in
     let more : List ℕ = flat_map rules.reply_text replies in
-    let past : length script.shown ≤ i = omega (arith, c.shows-index-end.ensures) in
+    let past : length script.shown ≤ i = rw c.shows-index-end.ensures at c.loop-index-test.false in
     let run = rw c.last.ensures at c.in_ok-replies-2.ensures in
     let all = played rules c.args.driven.now c.loop-index.driven c.run-2.new.self script i text replies past told run in
     let lines = rw c.deref-2.ensures.value at c.in_ok-tell-2.ensures in
@@ -115,7 +115,7 @@ returns-clause-err g c =
     let (text, told, wrote) = c.loop-index.invariant.told in
     let replies = c.in_ok-replies-2.replies.items in
     let more : List ℕ = flat_map rules.reply_text replies in
-    let past : length script.shown ≤ i = omega (arith, c.shows-index-end.ensures) in
+    let past : length script.shown ≤ i = rw c.shows-index-end.ensures at c.loop-index-test.false in
     let run = rw c.last.ensures at c.in_ok-replies-2.ensures in
     let all = played rules c.args.driven.now c.loop-index.driven c.run-2.new.self script i text replies past told run in
     let lines = rw c.deref-2.ensures.value at c.in_ok-tell-2.ensures in

@@ -1,4 +1,5 @@
-use Rattle.std.proofs.Common.{arith, ap, rules, subst, sym, Some}
+use Rattle.std.proofs.Common.{arith, ap, codes, rules, subst, sym, Some, ◌∙◌, ◌++◌}
+use Rattle.std.specs.Fmt.{decimal}
 use Rattle.std.proofs.lemmas.Option.{none-some}
 use Rattle.script_runner.specs.Fields.{layout_text}
 use Rattle.script_runner.specs.kinds.Pool.{IsPoolPlan}
@@ -39,3 +40,13 @@ returns-then-not-can_make-clause-each c plan is e =
     let same = same_plan c.in_ok-start.start c.in_ok-size.size c.in_ok-bucket.bucket plan same_start same_size same_bucket in
     let may = subst IsPoolPlan (sym same) is in
     search rules
+
+pub returns-clause-written : goal.returns-clause-written
+returns-clause-written c =
+    let (start_fits, first) = c.in_ok-start.ensures.written in
+    let (size_fits, second) = c.in_ok-size.ensures.written in
+    let (numbers, third) = c.in_ok-bucket.ensures.written in (
+      c.can_make.ensures.0 c.if-not-can_make.false,
+      first ∙ ap (λ l. decimal c.in_ok-start.start ++ (codes " " ++ l))
+          (second ∙ ap (λ l. decimal c.in_ok-size.size ++ (codes " " ++ l)) third),
+    )

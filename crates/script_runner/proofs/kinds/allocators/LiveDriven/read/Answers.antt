@@ -1,4 +1,4 @@
-use Rattle.std.proofs.Common.{arith, ◌∙◌, sym, ◌∷◌, ◌++◌, codes, ap, None, Some}
+use Rattle.std.proofs.Common.{◌∙◌, sym, ◌∷◌, ◌++◌, codes, ap, None, Some}
 use Rattle.std.specs.Cmp.Lexicographic.{same_text, other_text}
 use Rattle.script_runner.proofs.CommandLines.{Writes-cut, has_space, by_name, reads_alloc, reads_free, reads_grow, reads_shrink}
 use Rattle.script_runner.proofs.kinds.allocators.LiveDriven.read.Goals as goal
@@ -46,10 +46,11 @@ returns-then-eq-2-clause-each g c command numbers e =
 
 pub returns-then-eq-2-clause-written : goal.returns-then-eq-2-clause-written
 returns-then-eq-2-clause-written g c =
-    let is_free = same_text _ _ c.if-eq-2.ensures ∙ c.as_slice-2.ensures in (
-      omega arith,
+    let is_free = same_text _ _ c.if-eq-2.ensures ∙ c.as_slice-2.ensures in
+    let (small, rest) = c.in_ok-number.ensures.written in (
+      small,
       c.in_ok-name.ensures.parts ∙ (ap (λ l. l ++ 32 ∷ c.in_ok-name.rest.now) is_free ∙ ap
-          (λ l. codes "free" ++ 32 ∷ l) c.in_ok-number.ensures.written),
+          (λ l. codes "free" ++ 32 ∷ l) rest),
     )
 
 pub returns-in_err-position-clause-each : goal.returns-in_err-position-clause-each
