@@ -48,22 +48,17 @@ pub fn tell_unreadable<W: Write>(alloc: Global, number: usize, writer: &mut W) -
         → AppendsPart (W.contents writer.old) (W.contents writer.new) (unreadable_text number) }
     ensures status { (result ≡ Status.Unreadable) ⊎ IsCutShort result }
 {
-    match write_unreadable(alloc, number, writer) {
-        Ok(()) => Status::Unreadable,
-        Err(failure) => failure.status(),
-    }
-}
-
-fn write_unreadable<W: Write>(alloc: Global, number: usize, writer: &mut W) -> Result<(), Failure>
-    ensures { Sends (W.contents writer.old) (W.contents writer.new)
-        (unreadable_text number) result }
-{
     let mut line = Vec::new(alloc);
     let Ok(()) = writeln!(line, "line {number}: refused") else {
-        return Err(Failure::Memory);
+        return Status::OutOfMemory;
     };
-    send(&line, writer)?;
-    flush(writer)
+    if let Err(failure) = send(&line, writer) {
+        return failure.status();
+    }
+    let Ok(()) = writer.flush() else {
+        return Status::OutputFailed;
+    };
+    Status::Unreadable
 }
 
 /// Makes what the script drives, and runs the script on it.
@@ -114,7 +109,10 @@ fn play<K: Driven, W: Write>(
     }
     let replies = driven.run(script.last())?;
     tell::<K, W>(&replies, &mut line, writer)?;
-    flush(writer)
+    let Ok(()) = writer.flush() else {
+        return Err(Failure::Output);
+    };
+    Ok(())
 }
 
 /// Writes a line for each reply.
@@ -146,15 +144,6 @@ fn show<K: Driven, W: Write>(driven: &K, line: &mut Vec<u8>, writer: &mut W) -> 
         return Err(Failure::Memory);
     };
     send(line, writer)
-}
-
-fn flush<W: Write>(writer: &mut W) -> Result<(), Failure>
-    ensures { Keeps (W.contents writer.old) (W.contents writer.new) }
-{
-    match writer.flush() {
-        Ok(()) => Ok(()),
-        Err(_) => Err(Failure::Output),
-    }
 }
 
 /// Writes bytes, or where that fails a beginning of them.

@@ -1,7 +1,7 @@
 //! A loan book over a pool that a script drives.
 ghost use Rattle.std.specs.Prelude.{◌≡◌, ℕ, IfSome, Some, OnOk};
 ghost use Rattle.std.specs.Io.KnownBytes.{Appends};
-ghost use Rattle.script_runner.specs.kinds.LoanPool.{IsPublishing, publish_line, loan_refusal_line, loaned_line};
+ghost use Rattle.script_runner.specs.kinds.LoanPool.{IsPublishing, publish_line, loan_refusal_line};
 
 use crate::engine::driven::Driven;
 use crate::fields::{behind, named_number, number, number_and_rest, small, write_between};
@@ -84,7 +84,10 @@ impl Driven for LoanPool {
 
     fn write_reply<W: Write>(reply: &LoanReply, writer: &mut W) -> io::Result<()> {
         match reply {
-            LoanReply::Loaned(id, chunk) => write_loaned(*id, chunk, writer),
+            LoanReply::Loaned(id, chunk) => {
+                write_between(b"loan ", *id as usize, b" ", writer)?;
+                write_chunk(b"", chunk, writer)
+            }
             LoanReply::Published => writer.write_all(b"published\n"),
             LoanReply::Returned => writer.write_all(b"returned\n"),
             LoanReply::Kept => writer.write_all(b"kept\n"),
@@ -108,14 +111,6 @@ fn publishing(line: &[u8]) -> Option<(u64, u32)>
 {
     let (id, rest) = number_and_rest(behind(b"publish ", line)?)?;
     Some((id as u64, small(number(rest)?)?))
-}
-
-fn write_loaned<W: Write>(id: u64, chunk: &Chunk, writer: &mut W) -> io::Result<()>
-    ensures { OnOk result
-        (Appends (W.contents writer.old) (W.contents writer.new) (loaned_line id chunk.now)) }
-{
-    write_between(b"loan ", id as usize, b" ", writer)?;
-    write_chunk(b"", chunk, writer)
 }
 
 fn write_loan_refusal<W: Write>(error: &LoanError, writer: &mut W) -> io::Result<()>
