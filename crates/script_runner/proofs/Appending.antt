@@ -1,5 +1,5 @@
 -- Known bytes that grow.
-use Rattle.std.proofs.Common.{ℕ, List, [], ◌++◌, Option, Some, None, Result, Ok, Err, OnOk, OnErr, ap, sym, ◌∙◌}
+use Rattle.std.proofs.Common.{◌≡◌, ℕ, List, [], ◌∷◌, ◌++◌, Option, Some, None, Result, Ok, Err, OnOk, OnErr, ap, sym, subst, ◌∙◌}
 use Rattle.std.specs.Io.KnownBytes.{Appends, Keeps}
 use Rattle.std.proofs.lemmas.List.{append_assoc, append-nil}
 
@@ -37,3 +37,15 @@ on_err (Err e) p = p
 pub on_ok-map : {A E P Q : Type 0} (r : Result A E) → (P → Q) → OnOk r P → OnOk r Q
 on_ok-map (Ok a) f p = f p
 on_ok-map (Err e) f p = tt
+
+-- a cleared line that grows by a text is the text
+pub written_whole : (old new text : List ℕ) → old ≡ [] → Appends (Some old) (Some new) text → new ≡ text
+written_whole old new text empty wrote = wrote ∙ ap (λ l. l ++ text) empty
+
+-- by a name and a field with a space, and then by a text
+pub appends_field : (old mid new : Option (List ℕ)) (name field rest : List ℕ) → Appends old mid (name ++ (field ++ 32 ∷ []))
+    → Appends mid new rest → Appends old new (name ++ (field ++ 32 ∷ rest))
+appends_field old mid new name field rest one two =
+    subst (Appends old new)
+    (append_assoc name (field ++ 32 ∷ []) rest ∙ ap (λ l. name ++ l) (append_assoc field (32 ∷ []) rest))
+    (appends_again old mid new (name ++ (field ++ 32 ∷ [])) rest one two)

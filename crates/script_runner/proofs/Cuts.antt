@@ -1,5 +1,10 @@
 -- Texts cut at the first byte of a value.
-use Rattle.std.proofs.Common.{arith, ◌≡◌, ◌≢◌, ℕ, ◌<◌, ◌^◌, suc, zero, List, [], ◌∷◌, ◌++◌, All, refl}
+use Rattle.std.proofs.Common.{arith, ◌≡◌, ◌≢◌, ◌==◌, ℕ, ◌<◌, ◌^◌, ◌+◌, suc, zero, List, [], ◌∷◌, ◌++◌, All, refl, sym, ◌∙◌}
+use Rattle.std.proofs.Common.{Option, Some, None, MatchOption, IfSome, IsSomeAnd, Bor, true, false, take, drop, length, ap}
+use Rattle.std.specs.Cmp.Lexicographic.{pointwise}
+use Rattle.std.proofs.lemmas.List.{append_cancel_left}
+use Rattle.std.proofs.lemmas.Slice.Eq.{strip_prefix_is}
+use Rattle.std.proofs.lemmas.Bool.Decides.{Decides-eqb}
 use Rattle.std.specs.Fmt.{decimal}
 use Rattle.std.proofs.lemmas.List.{get_or_default}
 use Rattle.std.proofs.lemmas.Fmt.{digits_decimal}
@@ -48,3 +53,30 @@ Without-decimal byte n small low = λ k d l e.
 -- a number is written without the space
 pub spaceless_decimal : (n : ℕ) → n < 2 ^ 64 → Without 32 (decimal n)
 spaceless_decimal n small = Without-decimal 32 n small (omega arith)
+
+-- what `strip_prefix` says of bytes
+abbrev pub Strips : List ℕ → List ℕ → Option (Bor (List ℕ)) → Type 0
+Strips line name result =
+    MatchOption result (pointwise ◌==◌ (take (length name) line) name ≡ false)
+    (λ x. (pointwise ◌==◌ (take (length name) line) name ≡ true) × (x.now ≡ drop (length name) line)
+    × (length x.now + length name ≡ length line))
+
+-- a name that is stripped is what the line begins with
+pub stripped : (line name : List ℕ) (result : Option (Bor (List ℕ))) → Strips line name result
+    → IfSome result (λ rest. line ≡ name ++ rest.now)
+stripped line name None strips = tt
+stripped line name (Some x) strips = strip_prefix_is Decides-eqb line name (Some x) strips
+
+-- a line that begins with a name is stripped of it
+pub strips_each : (line name : List ℕ) (result : Option (Bor (List ℕ))) → Strips line name result → (rest : List ℕ)
+    → line ≡ name ++ rest → IsSomeAnd result (λ left. left.now ≡ rest)
+strips_each line name None strips rest e = absurd (strip_prefix_is Decides-eqb line name None strips rest e)
+strips_each line name (Some x) strips rest e =
+    append_cancel_left name x.now rest (sym (strip_prefix_is Decides-eqb line name (Some x) strips) ∙ e)
+
+-- what is read behind a name is what the line writes
+pub read_behind : {T : Type 0} (line name rest : List ℕ) (Is : T → Type 0) (text_of : T → List ℕ) (read : Option T)
+    → line ≡ name ++ rest → IfSome read (λ value. Is value × (rest ≡ text_of value))
+    → IfSome read (λ value. Is value × (line ≡ name ++ text_of value))
+read_behind line name rest Is text_of None begins reads = tt
+read_behind line name rest Is text_of (Some value) begins (is, text) = (is, begins ∙ ap (λ l. name ++ l) text)

@@ -1,5 +1,6 @@
 -- Layouts made of two numbers.
-use Rattle.std.proofs.Common.{◌≡◌, ℕ, zero, suc, ◌*◌, ◌<◌, ◌≤◌, ◌^◌, Result, Ok, Err, Some, IsOk, IfOk, ◌↔◌, ap, ◌∙◌}
+use Rattle.std.proofs.Common.{◌≡◌, ℕ, zero, suc, ◌*◌, ◌<◌, ◌≤◌, ◌^◌, Result, Ok, Err, Some, IsOk, IfOk, IfSome, ◌↔◌, ap, ◌∙◌, List, ◌∷◌, ◌++◌}
+use Rattle.std.specs.Fmt.{decimal}
 use Rattle.std.proofs.Common.{arith, mul-le-mul_right}
 use Rattle.std.proofs.lemmas.Bool.{false≢true}
 use Rattle.std.specs.Align.{IsLayout}
@@ -8,7 +9,7 @@ use Rattle.bb_memory_base.specs.LeastPlace.{least_place}
 use Rattle.bb_memory_base.specs.declared.layout.Layout.{Layout}
 use Rattle.bb_memory_base.proofs.Layouts.{same_layout}
 use Rattle.bb_memory_base.proofs.LeastPlaces.{least_place-is}
-use Rattle.script_runner.specs.Fields.{IsLayoutOfNumbers}
+use Rattle.script_runner.specs.Fields.{IsLayoutOfNumbers, layout_text}
 
 -- what is made of the numbers of a layout is that layout
 pub result_ok-layout : {E : Type 0} (r : Result Layout E) (size align : ℕ) (layout : Layout)
@@ -18,6 +19,14 @@ result_ok-layout (Ok l) size align layout succeeds made same_size same_align =
     ap Some (same_layout l layout (made.0 ∙ same_size) (made.1 ∙ same_align))
 result_ok-layout (Err e) size align layout succeeds made same_size same_align =
     absurd (false≢true (succeeds.1 (rw (same_size, same_align) layout.valid)))
+
+-- a layout that is made of two numbers writes them
+pub result_ok-written : {E : Type 0} (r : Result Layout E) (size align : ℕ) (text : List ℕ) → size < 2 ^ 64 → align < 2 ^ 64
+    → IfOk r (λ l. (l.size ≡ size) × (l.align ≡ align)) → text ≡ decimal size ++ 32 ∷ decimal align
+    → IfSome (result_ok r) (λ l. IsLayoutOfNumbers l × (text ≡ layout_text l))
+result_ok-written (Err e) size align text small fits made writes = tt
+result_ok-written (Ok l) size align text small fits made writes =
+    ((rw made.0 small, rw made.1 fits), rw (made.0, made.1) writes)
 
 -- a multiple that isn't 0 is no less than what it is a multiple of
 multiple-above : (n k align : ℕ) → n ≡ k * align → 0 < n → align ≤ n

@@ -1,10 +1,8 @@
 mod Appending
 mod CommandLines
-mod CutShort
 mod Cuts
 mod Cutting
 mod Layouts
-mod LineEnds
 mod Numbers
 mod PoolPlans
 mod PoolShows

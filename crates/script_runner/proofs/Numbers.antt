@@ -1,7 +1,6 @@
 -- Numbers in decimal, without a sign or a leading zero.
-use Rattle.std.proofs.Common.{arith, ◌≡◌, ℕ, ◌+◌, ◌*◌, ◌<◌, ◌≤◌, ◌^◌, zero, suc, List, [], length, take, take_all}
-use Rattle.std.proofs.Common.{get_or, slice_index, Option, Some, None, IfSome, sym, ap, ◌∙◌, ◌++◌, ◌∷◌, ◌/◌, ◌%◌, drop}
-use Rattle.std.proofs.Common.{set, append_assoc, length-append, length-drop}
+use Rattle.std.proofs.Common.{arith, ◌≡◌, ℕ, ◌+◌, ◌-◌, ◌*◌, ◌<◌, ◌≤◌, ◌^◌, zero, suc, List, [], length, take, take_all}
+use Rattle.std.proofs.Common.{get_or, slice_index, Option, Some, None, IfSome, sym, ap, ◌∙◌, ◌∷◌}
 use Rattle.std.specs.Char.{digit_value}
 use Rattle.std.specs.Fmt.{decimal}
 use Rattle.std.specs.Option.{SomeIff}
@@ -9,8 +8,7 @@ use Rattle.std.specs.Str.Parse.{AllDigits, digits_value}
 use Rattle.std.proofs.lemmas.Int.Digits.{digits_value_more}
 use Rattle.std.proofs.lemmas.Str.Parse.{IsNumeralModel, numerals_by_value, tells_digits, digits_value-take-le}
 use Rattle.std.proofs.lemmas.Fmt.{decimal-digits_value, decimal_nonempty, digits_decimal, digits_value-decimal}
-use Rattle.std.proofs.lemmas.Fmt.{first_decimal, decimal_digit, decimal_step, length-decimal-le}
-use Rattle.std.proofs.lemmas.List.{drop-set}
+use Rattle.std.proofs.lemmas.Fmt.{first_decimal, decimal_digit}
 
 -- the field has something, and begins with no zero unless that is all of it
 abbrev pub IsPlain : List ℕ → Type 0
@@ -52,10 +50,10 @@ read_all ds i value past small all is =
 
 -- a plain field of digits writes their value
 pub value_writes : (field : List ℕ) (read : Option ℕ) → IsPlain field → SomeIff read (AreDigits field) (digits_value 10 field)
-    → IfSome read (λ n. field ≡ decimal n)
+    → IfSome read (λ n. (n < 2 ^ 64) × (field ≡ decimal n))
 value_writes field None plain is = tt
 value_writes field (Some n) plain is =
-    rw is.1 (sym (decimal-digits_value own field is.0.0 plain.0 plain.1 is.0.1))
+    rw is.1 (is.0.1, sym (decimal-digits_value own field is.0.0 plain.0 plain.1 is.0.1))
 
 -- a field that writes a number is read as it
 pub value_gives_each : (field : List ℕ) (read : Option ℕ) (n : ℕ) → SomeIff read (AreDigits field) (digits_value 10 field)
@@ -77,52 +75,14 @@ IsPlain-decimal (suc n) small =
 pub IsPlain-writes : (field : List ℕ) (n : ℕ) → n < 2 ^ 64 → field ≡ decimal n → IsPlain field
 IsPlain-writes field n small e = rw e (IsPlain-decimal n small)
 
--- there is room for the digits that are left
-pub room_left : (n left start : ℕ) (digits : List ℕ) → n < 2 ^ 64 → left < 2 ^ 64 → length digits ≡ 20
-    → decimal n ≡ decimal left ++ drop start digits → 0 < start
-room_left n left start digits small fits len written =
-    let long = length-decimal-le 20 n (omega arith) (omega (arith, small)) small in
-    omega (
-      arith,
-      long,
-      ap length written,
-      length-append (decimal left) (drop start digits),
-      length-drop start digits,
-      len,
-      decimal_nonempty left fits,
-    )
+-- a number of 6 bits may be written
+pub sixty_four : (n : ℕ) → n < 64 → n < 2 ^ 64
+sixty_four n small = omega (arith, small)
 
-pub room_for_two : (n left start : ℕ) (digits : List ℕ) → n < 2 ^ 64 → left < 2 ^ 64 → 9 < left → length digits ≡ 20
-    → decimal n ≡ decimal left ++ drop start digits → 1 < start
-room_for_two n left start digits small fits more len written =
-    let long = length-decimal-le 20 n (omega arith) (omega (arith, small)) small in
-    let step = ap length (decimal_step left (omega (arith, more)) fits) in
-    omega (
-      arith,
-      long,
-      ap length written,
-      length-append (decimal left) (drop start digits),
-      length-drop start digits,
-      len,
-      step,
-      length-append (decimal (left / 10)) ((48 + left % 10) ∷ []),
-      decimal_nonempty (left / 10) (omega (arith, fits)),
-    )
+-- so may one of 32 bits
+pub half_word : (n : ℕ) → n < 2 ^ 32 → n < 2 ^ 64
+half_word n small = omega (arith, small)
 
--- one digit more is put in front of those so far
-pub put_more : (n left start front : ℕ) (digits : List ℕ) → left < 2 ^ 64 → 9 < left → start ≡ front + 1 → front < length digits
-    → decimal n ≡ decimal left ++ drop start digits
-    → decimal n ≡ decimal (left / 10) ++ drop front (set digits front (48 + left % 10))
-put_more n left start front digits fits more is below written =
-    let found : decimal n ≡ decimal left ++ drop (front + 1) digits = rw is at written in
-    found ∙ (ap (λ l. l ++ drop (front + 1) digits) (decimal_step left (omega (arith, more)) fits)
-    ∙ (append_assoc (decimal (left / 10)) ((48 + left % 10) ∷ []) (drop (front + 1) digits)
-    ∙ ap (λ l. decimal (left / 10) ++ l) (sym (drop-set digits front (48 + left % 10) below))))
-
--- the last digit is put, and they are whole
-pub put_last : (n left start front : ℕ) (digits : List ℕ) → left < 10 → start ≡ front + 1 → front < length digits
-    → decimal n ≡ decimal left ++ drop start digits → drop front (set digits front (48 + left)) ≡ decimal n
-put_last n left start front digits small is below written =
-    let found : decimal n ≡ decimal left ++ drop (front + 1) digits = rw is at written in
-    drop-set digits front (48 + left) below
-    ∙ (ap (λ l. l ++ drop (front + 1) digits) (sym (decimal_digit left small)) ∙ sym found)
+-- what is free is what isn't used
+pub what_is_free : (used free size : ℕ) → used + free ≡ size → free ≡ size - used
+what_is_free used free size whole = omega (arith, whole)

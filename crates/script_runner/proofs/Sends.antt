@@ -1,11 +1,11 @@
 -- Bytes that are sent, all or a beginning.
-use Rattle.std.proofs.Common.{◌≡◌, ℕ, ◌+◌, ◌-◌, ◌<◌, List, [], ◌∷◌, ◌++◌, length, take, drop, get_or, Option}
+use Rattle.std.proofs.Common.{◌≡◌, ℕ, ◌+◌, ◌-◌, ◌<◌, List, [], ◌∷◌, ◌++◌, length, take, drop, get_or, Option, Result, Ok, Err}
 use Rattle.std.proofs.Common.{sym, ap, ◌∙◌}
 use Rattle.std.specs.List.{flat_map}
 use Rattle.std.specs.Io.KnownBytes.{Appends}
 use Rattle.std.proofs.lemmas.List.{append_assoc, append-nil, take-append-drop, take_rest, take_more, drop_more}
 use Rattle.std.proofs.lemmas.Grind.{flat_map-append}
-use Rattle.script_runner.specs.engine.Sending.{Begins, AppendsPart}
+use Rattle.script_runner.specs.engine.Sending.{Begins, AppendsPart, Sends}
 use Rattle.script_runner.proofs.Appending.{appends_again}
 
 -- a text begins itself
@@ -50,3 +50,9 @@ flat_map-more text_of items index item below is =
     ∙ (flat_map-append text_of (take index items) (get_or items index item ∷ [])
     ∙ ap (λ l. flat_map text_of (take index items) ++ l)
     (append-nil (text_of (get_or items index item)) ∙ ap text_of (sym is)))
+
+-- what is all written is sent, also where the flush fails
+pub sends_all : {T E : Type 0} (old new : Option (List ℕ)) (text : List ℕ) (r : Result T E) → Appends old new text
+    → Sends old new text r
+sends_all old new text (Ok x) wrote = wrote
+sends_all old new text (Err e) wrote = (text, begins_all text, wrote)

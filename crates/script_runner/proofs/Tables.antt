@@ -3,8 +3,8 @@ use Rattle.std.proofs.Common.{◌≡◌, ◌==◌, ◌-◌, ℕ, zero, suc, true
 use Rattle.std.proofs.Common.{Option, Some, None, IfSome, refl, sym, ap, ◌∙◌, arith, append_assoc}
 use Rattle.std.specs.Prelude.{slice_get}
 use Rattle.std.proofs.lemmas.Bool.{and_parts, or_cases, both_ways, not-true, eq-eqb}
-use Rattle.script_runner.specs.engine.Rules.{Rules, Kind, kind, SomeOf, first_line, apart, apart_from}
-use Rattle.script_runner.specs.Inputs.{IsOpenedBy, IsScriptOf, AreReadable, IsUnreadableAt, BeginsOutputOf}
+use Rattle.script_runner.specs.engine.Rules.{Rules, Kind, kind, SomeOf, header_line, apart, apart_from}
+use Rattle.script_runner.specs.Inputs.{HasHeaderOf, IsScriptOf, AreReadable, IsUnreadableAt, BeginsOutputOf}
 use Rattle.script_runner.specs.engine.Transcript.{IsLaterUnreadable, IsLineText, BeginsLaterOutput}
 
 -- texts that are apart begin no text both
@@ -32,20 +32,20 @@ some-none (one ∷ others) P f (inl p) = f one p
 some-none (one ∷ others) P f (inr later) = some-none others P f later
 
 -- the lines up to some number are a script of a kind only where the first is of that kind
-pub script_opened : (first : List ℕ) (rest : List (List ℕ)) (number : ℕ) (one : Kind)
-    → IsScriptOf (take number (first ∷ rest)) one → IsOpenedBy (first ∷ rest) one
-script_opened first rest zero one (opening, after, opens, read) =
-    let cut : [] ≡ first_line one.rules opening ∷ after = opens.cut in absurd (cc)
-script_opened first rest (suc n) one (opening, after, opens, read) =
-    let cut : first ∷ take n rest ≡ first_line one.rules opening ∷ after = opens.cut in
-    let head : first ≡ first_line one.rules opening = cc in
-    (opening, rest, record { allowed = opens.allowed; cut = ap (λ l. l ∷ rest) head })
+pub script_header : (first : List ℕ) (rest : List (List ℕ)) (number : ℕ) (one : Kind)
+    → IsScriptOf (take number (first ∷ rest)) one → HasHeaderOf (first ∷ rest) one
+script_header first rest zero one (header, after, starts, read) =
+    let cut : [] ≡ header_line one.rules header ∷ after = starts.cut in absurd (cc)
+script_header first rest (suc n) one (header, after, starts, read) =
+    let cut : first ∷ take n rest ≡ header_line one.rules header ∷ after = starts.cut in
+    let head : first ≡ header_line one.rules header = cc in
+    (header, rest, record { allowed = starts.allowed; cut = ap (λ l. l ∷ rest) head })
 
 -- a line of no kind is the first that is unreadable
 pub unreadable_first : (table : List Kind) (first : List ℕ) (rest : List (List ℕ))
-    → (SomeOf table (IsOpenedBy (first ∷ rest)) → ⊥) → IsUnreadableAt table (first ∷ rest) 1
+    → (SomeOf table (HasHeaderOf (first ∷ rest)) → ⊥) → IsUnreadableAt table (first ∷ rest) 1
 unreadable_first table first rest none =
-    let opened = some-map table (IsScriptOf (take 1 (first ∷ rest))) (IsOpenedBy (first ∷ rest)) (script_opened first rest 1) in
+    let opened = some-map table (IsScriptOf (take 1 (first ∷ rest))) (HasHeaderOf (first ∷ rest)) (script_header first rest 1) in
     (inl refl, λ readable. none (opened readable))
 
 -- where there is no line it is the first too
@@ -53,42 +53,42 @@ pub unreadable_empty : (table : List Kind) → IsUnreadableAt table [] 1
 unreadable_empty table = (
   inl refl,
   some-none table (IsScriptOf [])
-      (λ one (opening, after, opens, read). let cut : [] ≡ first_line one.rules opening ∷ after = opens.cut in cc),
+      (λ one (header, after, starts, read). let cut : [] ≡ header_line one.rules header ∷ after = starts.cut in cc),
 )
 
 -- a line that is the first unreadable one to other kinds is so also with a kind more that doesn't read the first line
 pub unreadable_later : (one : Kind) (others : List Kind) (first : List ℕ) (rest : List (List ℕ)) (number : ℕ)
-    → (IsOpenedBy (first ∷ rest) one → ⊥) → IsUnreadableAt others (first ∷ rest) number
+    → (HasHeaderOf (first ∷ rest) one → ⊥) → IsUnreadableAt others (first ∷ rest) number
     → IsUnreadableAt (one ∷ others) (first ∷ rest) number
-unreadable_later one others first rest number unopened (inl is, unread) = (
+unreadable_later one others first rest number no_header (inl is, unread) = (
   inl is,
   elim [
-    | inl here ↦ unopened (script_opened first rest number one here)
+    | inl here ↦ no_header (script_header first rest number one here)
     | inr there ↦ unread there
   ],
 )
-unreadable_later one others first rest number unopened (inr read, unread) = (
+unreadable_later one others first rest number no_header (inr read, unread) = (
   inr (inr read),
   elim [
-    | inl here ↦ unopened (script_opened first rest number one here)
+    | inl here ↦ no_header (script_header first rest number one here)
     | inr there ↦ unread there
   ],
 )
 
 -- a first line that begins with a text apart from each kind's name is of none
-pub apart_unopened : (table : List Kind) (start text : List ℕ) (first : List ℕ) (rest : List (List ℕ))
-    → apart_from start table ≡ true → first ≡ start ++ text → SomeOf table (IsOpenedBy (first ∷ rest)) → ⊥
-apart_unopened [] start text first rest test e h = h
-apart_unopened (one ∷ others) start text first rest test e (inl (opening, after, opens)) =
+pub apart_no_header : (table : List Kind) (start text : List ℕ) (first : List ℕ) (rest : List (List ℕ))
+    → apart_from start table ≡ true → first ≡ start ++ text → SomeOf table (HasHeaderOf (first ∷ rest)) → ⊥
+apart_no_header [] start text first rest test e h = h
+apart_no_header (one ∷ others) start text first rest test e (inl (header, after, starts)) =
     let name : List ℕ = one.rules.name in
     let parts = and_parts (apart start (name ++ codes " ")) (apart_from start others) test in
-    let cut : first ∷ rest ≡ first_line one.rules opening ∷ after = opens.cut in
-    let head : first ≡ first_line one.rules opening = cc in
-    apart-never start (name ++ codes " ") text (one.rules.opening_text opening) parts.0
-    (sym e ∙ (head ∙ sym (append_assoc name (codes " ") (one.rules.opening_text opening))))
-apart_unopened (one ∷ others) start text first rest test e (inr later) =
+    let cut : first ∷ rest ≡ header_line one.rules header ∷ after = starts.cut in
+    let head : first ≡ header_line one.rules header = cc in
+    apart-never start (name ++ codes " ") text (one.rules.header_text header) parts.0
+    (sym e ∙ (head ∙ sym (append_assoc name (codes " ") (one.rules.header_text header))))
+apart_no_header (one ∷ others) start text first rest test e (inr later) =
     let parts = and_parts (apart start (one.rules.name ++ codes " ")) (apart_from start others) test in
-    apart_unopened others start text first rest parts.1 e later
+    apart_no_header others start text first rest parts.1 e later
 
 -- a line further than those that are read
 further_unread : (P : List ℕ → Type 0) (rest : List (List ℕ)) (index : ℕ) (line : List ℕ)
@@ -99,57 +99,57 @@ further_unread P (x ∷ xs) (suc index) line got all =
     further_unread P xs index line got (λ k d below. all (suc k) d (omega (arith, below)))
 
 -- behind a first line of a kind that is apart from the others, the kind's first unreadable line is the first
-pub unreadable_here : {S O C R : Type 0} (rules : Rules S O C R) (others : List Kind) (opening : O) (first : List ℕ)
+pub unreadable_here : {S O C R : Type 0} (rules : Rules S O C R) (others : List Kind) (header : O) (first : List ℕ)
     (rest : List (List ℕ)) (number : ℕ)
-    → apart_from (rules.name ++ codes " ") others ≡ true → rules.may_open opening → first ≡ first_line rules opening
+    → apart_from (rules.name ++ codes " ") others ≡ true → rules.is_header header → first ≡ header_line rules header
     → IsLaterUnreadable rules rest number
     → IsUnreadableAt (kind rules ∷ others) (first ∷ rest) number
-unreadable_here rules others opening first rest number test allowed e (index, (before, line, got, unread), is) =
+unreadable_here rules others header first rest number test allowed e (index, (before, line, got, unread), is) =
     let same : number ≡ suc (suc index) = omega (arith, is) in
     let less : number - 1 ≡ suc index = omega (arith, is) in
-    let whole : first ≡ (rules.name ++ codes " ") ++ rules.opening_text opening =
-    e ∙ sym (append_assoc rules.name (codes " ") (rules.opening_text opening)) in
+    let whole : first ≡ (rules.name ++ codes " ") ++ rules.header_text header =
+    e ∙ sym (append_assoc rules.name (codes " ") (rules.header_text header)) in
     let readable : AreReadable (kind rules ∷ others) (take (suc index) (first ∷ rest)) =
-    inl (opening, take index rest, record { allowed = allowed; cut = ap (λ l. l ∷ take index rest) e }, before) in
+    inl (header, take index rest, record { allowed = allowed; cut = ap (λ l. l ∷ take index rest) e }, before) in
     let unreadable : AreReadable (kind rules ∷ others) (take (suc (suc index)) (first ∷ rest)) → ⊥ =
     elim [
-      | inl (again, after, opens, read) ↦
-          let cut : first ∷ take (suc index) rest ≡ first_line rules again ∷ after = opens.cut in
+      | inl (again, after, starts, read) ↦
+          let cut : first ∷ take (suc index) rest ≡ header_line rules again ∷ after = starts.cut in
           let same_after : after ≡ take (suc index) rest = cc in
           unread (further_unread (IsLineText rules) rest index line got (rw same_after at read))
       | inr there ↦
-          apart_unopened others (rules.name ++ codes " ") (rules.opening_text opening) first rest test whole
-          (some-map others (IsScriptOf (take (suc (suc index)) (first ∷ rest))) (IsOpenedBy (first ∷ rest))
-          (script_opened first rest (suc (suc index))) there)
+          apart_no_header others (rules.name ++ codes " ") (rules.header_text header) first rest test whole
+          (some-map others (IsScriptOf (take (suc (suc index)) (first ∷ rest))) (HasHeaderOf (first ∷ rest))
+          (script_header first rest (suc (suc index))) there)
     ] in
     rw (less, same) (inr readable, unreadable)
 
 -- the same of what is written of the lines
-pub begun_here : {S O C R : Type 0} (rules : Rules S O C R) (others : List Kind) (opening : O) (first : List ℕ)
+pub begun_here : {S O C R : Type 0} (rules : Rules S O C R) (others : List Kind) (header : O) (first : List ℕ)
     (rest : List (List ℕ)) (sent : List ℕ)
-    → apart_from (rules.name ++ codes " ") others ≡ true → rules.may_open opening → first ≡ first_line rules opening
-    → BeginsLaterOutput rules opening rest sent
+    → apart_from (rules.name ++ codes " ") others ≡ true → rules.is_header header → first ≡ header_line rules header
+    → BeginsLaterOutput rules header rest sent
     → BeginsOutputOf (kind rules ∷ others) (first ∷ rest) sent
-begun_here rules others opening first rest sent test allowed e (inl begun) =
-    inl (inl (opening, rest, record { allowed = allowed; cut = ap (λ l. l ∷ rest) e }, begun))
-begun_here rules others opening first rest sent test allowed e (inr (number, is_unreadable, begins)) =
-    inr (number, unreadable_here rules others opening first rest number test allowed e is_unreadable, begins)
+begun_here rules others header first rest sent test allowed e (inl begun) =
+    inl (inl (header, rest, record { allowed = allowed; cut = ap (λ l. l ∷ rest) e }, begun))
+begun_here rules others header first rest sent test allowed e (inr (number, is_unreadable, begins)) =
+    inr (number, unreadable_here rules others header first rest number test allowed e is_unreadable, begins)
 
 pub begun_later : (one : Kind) (others : List Kind) (first : List ℕ) (rest : List (List ℕ)) (sent : List ℕ)
-    → (IsOpenedBy (first ∷ rest) one → ⊥)
+    → (HasHeaderOf (first ∷ rest) one → ⊥)
     → BeginsOutputOf others (first ∷ rest) sent → BeginsOutputOf (one ∷ others) (first ∷ rest) sent
-begun_later one others first rest sent unopened (inl begun) = inl (inr begun)
-begun_later one others first rest sent unopened (inr (number, is_unreadable, begins)) =
-    inr (number, unreadable_later one others first rest number unopened is_unreadable, begins)
+begun_later one others first rest sent no_header (inl begun) = inl (inr begun)
+begun_later one others first rest sent no_header (inr (number, is_unreadable, begins)) =
+    inr (number, unreadable_later one others first rest number no_header is_unreadable, begins)
 
--- a line that is read as no opening of a kind is none of its first lines
-pub unopened : {S O C R : Type 0} (rules : Rules S O C R) (first : List ℕ) (rest : List (List ℕ))
-    → ((opening : O) → rules.may_open opening → first ≡ first_line rules opening → None ≡ Some opening)
-    → IsOpenedBy (first ∷ rest) (kind rules) → ⊥
-unopened rules first rest each (opening, after, opens) =
-    let cut : first ∷ rest ≡ first_line rules opening ∷ after = opens.cut in
-    let head : first ≡ first_line rules opening = cc in
-    let e = each opening opens.allowed head in
+-- a line that is read as no header of a kind is none of its first lines
+pub no_header : {S O C R : Type 0} (rules : Rules S O C R) (first : List ℕ) (rest : List (List ℕ))
+    → ((header : O) → rules.is_header header → first ≡ header_line rules header → None ≡ Some header)
+    → HasHeaderOf (first ∷ rest) (kind rules) → ⊥
+no_header rules first rest each (header, after, starts) =
+    let cut : first ∷ rest ≡ header_line rules header ∷ after = starts.cut in
+    let head : first ≡ header_line rules header = cc in
+    let e = each header starts.allowed head in
     cc
 
 -- what a status tells, in other words

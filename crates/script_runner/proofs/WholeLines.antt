@@ -1,12 +1,15 @@
 -- What the lines of an input are, and that no others are.
 use Rattle.std.proofs.Common.{◌≡◌, ◌≢◌, ℕ, suc, zero, Bool, true, false, List, [], ◌∷◌, ◌++◌, length, refl, sym, ap}
 use Rattle.std.proofs.Common.{◌∙◌, arith, inl, inr, ◌⊎◌, append_assoc, subst, append-nil, length-append, tests, All}
-use Rattle.std.proofs.Common.{Contains}
+use Rattle.std.proofs.Common.{Contains, eqb}
 use Rattle.std.specs.List.{onto_first}
 use Rattle.std.proofs.lemmas.List.{append_cancel_right, flat_map_more}
 use Rattle.std.proofs.lemmas.List.Elements.{All-nil, All-cons, All-head, All-tail}
 use Rattle.script_runner.specs.engine.Lines.{lines_of, ended, EndsInText, AreLines}
-use Rattle.script_runner.proofs.LineEnds.{feed}
+
+-- whether a byte is a line feed
+abbrev feed : ℕ → Bool
+feed byte = eqb byte 10
 
 -- what holds of each element holds of each in front
 All-front : {X : Type 0} (P : X → Type 0) (xs ys : List X) → All P (xs ++ ys) → All P xs
@@ -19,7 +22,7 @@ All-last P [] x all = All-head P x [] all
 All-last P (y ∷ xs) x all = All-last P xs x (All-tail P y (xs ++ x ∷ []) all)
 
 -- no byte of the line is a line feed
-abbrev HasNoFeed : List ℕ → Type 0
+abbrev pub HasNoFeed : List ℕ → Type 0
 HasNoFeed line = ¬ Contains line 10
 
 -- the lines are the input, with one line feed more where it ends in text
@@ -34,6 +37,12 @@ no_feed-nil (k, below, at) = absurd (omega (arith, below))
 no_feed-cons : (byte : ℕ) (line : List ℕ) → byte ≢ 10 → HasNoFeed line → HasNoFeed (byte ∷ line)
 no_feed-cons byte line other none (zero, below, at) = other at
 no_feed-cons byte line other none (suc k, below, at) = none (k, omega (arith, below), at)
+
+-- a text of other bytes has no line feed
+pub no_feed-all : (line : List ℕ) → All (λ byte. byte ≢ 10) line → HasNoFeed line
+no_feed-all [] all = no_feed-nil
+no_feed-all (byte ∷ line) all =
+    no_feed-cons byte line (All-head (λ b. b ≢ 10) byte line all) (no_feed-all line (All-tail (λ b. b ≢ 10) byte line all))
 
 -- what isn't tested to be a line feed is none
 other_byte : (byte : ℕ) → feed byte ≡ false → byte ≢ 10
@@ -116,7 +125,7 @@ no_feed-tail : (byte : ℕ) (line : List ℕ) → HasNoFeed (byte ∷ line) → 
 no_feed-tail byte line none (k, below, at) = none (suc k, omega (arith, below), at)
 
 -- a line that ends comes first
-lines_line : (line rest : List ℕ) → HasNoFeed line → lines_of (line ++ 10 ∷ rest) ≡ line ∷ lines_of rest
+pub lines_line : (line rest : List ℕ) → HasNoFeed line → lines_of (line ++ 10 ∷ rest) ≡ line ∷ lines_of rest
 lines_line [] rest none = refl
 lines_line (byte ∷ line) rest none =
     line_by (feed byte) byte line rest refl none (lines_line line rest (no_feed-tail byte line none))
@@ -129,7 +138,7 @@ last_by false byte [] e none later = rw e refl
 last_by false byte (next ∷ line) e none later = rw e (ap (onto_first byte) (later (λ n. cc)))
 
 -- a line that doesn't end is the only one
-lines_last : (line : List ℕ) → HasNoFeed line → line ≢ [] → lines_of line ≡ line ∷ []
+pub lines_last : (line : List ℕ) → HasNoFeed line → line ≢ [] → lines_of line ≡ line ∷ []
 lines_last [] none some = absurd (some refl)
 lines_last (byte ∷ line) none some = last_by (feed byte) byte line refl none (lines_last line (no_feed-tail byte line none))
 

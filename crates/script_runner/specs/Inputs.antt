@@ -2,40 +2,40 @@
 use Rattle.std.specs.Prelude.{ℕ, ◌≡◌, ◌-◌, ◌⊎◌, List, ◌∷◌, All, Option, IfSome, take}
 use Rattle.script_runner.specs.AllKinds.{kinds}
 use Rattle.script_runner.specs.engine.Lines.{lines_of}
-use Rattle.script_runner.specs.engine.Rules.{Kind, SomeOf, first_line}
+use Rattle.script_runner.specs.engine.Rules.{Kind, SomeOf, header_line}
 use Rattle.script_runner.specs.engine.Sending.{Begins}
 use Rattle.script_runner.specs.engine.Transcript.{IsTranscript, IsBegunTranscript, IsLineText, unreadable_text}
 
 -- OF LINES, BY A TABLE OF KINDS
 
 -- the lines are a first line of this kind, that says this of what is to be made, and the rest
-pub record HasFirstLine (kind : Kind) (lines : List (List ℕ))
-    (opening : kind.Opening) (rest : List (List ℕ)) : Type 0 where
-  pub allowed : kind.rules.may_open opening
-  pub cut : lines ≡ first_line kind.rules opening ∷ rest
+pub record HasHeader (kind : Kind) (lines : List (List ℕ))
+    (header : kind.Header) (rest : List (List ℕ)) : Type 0 where
+  pub allowed : kind.rules.is_header header
+  pub cut : lines ≡ header_line kind.rules header ∷ rest
 
 -- the first line is of this kind
-abbrev pub IsOpenedBy : List (List ℕ) → Kind → Type 0
-IsOpenedBy lines kind =
-    (opening : kind.Opening) × (rest : List (List ℕ)) × HasFirstLine kind lines opening rest
+abbrev pub HasHeaderOf : List (List ℕ) → Kind → Type 0
+HasHeaderOf lines kind =
+    (header : kind.Header) × (rest : List (List ℕ)) × HasHeader kind lines header rest
 
 -- so is each further line
 abbrev pub IsScriptOf : List (List ℕ) → Kind → Type 0
 IsScriptOf lines kind =
-    (opening : kind.Opening) × (rest : List (List ℕ)) × HasFirstLine kind lines opening rest
+    (header : kind.Header) × (rest : List (List ℕ)) × HasHeader kind lines header rest
     × All (IsLineText kind.rules) rest
 
 -- the lines are a script of this kind, and the text is what it is answered
 abbrev pub IsAnsweredBy : List (List ℕ) → List ℕ → Kind → Type 0
 IsAnsweredBy lines text kind =
-    (opening : kind.Opening) × (rest : List (List ℕ)) × HasFirstLine kind lines opening rest
-    × IsTranscript kind.rules opening rest text
+    (header : kind.Header) × (rest : List (List ℕ)) × HasHeader kind lines header rest
+    × IsTranscript kind.rules header rest text
 
 -- the lines are a script of this kind, and the bytes begin what it is answered
 abbrev pub IsBegunBy : List (List ℕ) → List ℕ → Kind → Type 0
 IsBegunBy lines sent kind =
-    (opening : kind.Opening) × (rest : List (List ℕ)) × HasFirstLine kind lines opening rest
-    × IsBegunTranscript kind.rules opening rest sent
+    (header : kind.Header) × (rest : List (List ℕ)) × HasHeader kind lines header rest
+    × IsBegunTranscript kind.rules header rest sent
 
 -- the lines are a script of some kind
 abbrev pub AreReadable : List Kind → List (List ℕ) → Type 0

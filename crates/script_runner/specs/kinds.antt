@@ -1,12 +1,8 @@
 -- The kinds of scripts, each with its lines, its runs and its replies.
 pub mod Allocators
-pub mod Bounds
-pub mod Buckets
 pub mod Bump
 pub mod BumpSteps
 pub mod LoanPool
 pub mod OneChunk
-pub mod Parties
 pub mod Pool
-pub mod PoolPlan
 pub mod PoolSteps

@@ -1,5 +1,4 @@
 //! From the lines of a script of any kind to the lines of its replies.
 pub mod driven;
 pub mod driving;
-pub mod reading;
 pub mod script;

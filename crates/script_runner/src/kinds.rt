@@ -1,15 +1,11 @@
 //! The kinds of scripts.
 
 pub mod allocators;
-pub mod bounds;
-pub mod buckets;
 pub mod bump;
 pub mod bump_steps;
 pub mod loan_pool;
 pub mod one_chunk;
-pub mod parties;
 pub mod pool;
-pub mod pool_plan;
 pub mod pool_steps;
 
 use crate::engine::driven::Driven;
@@ -25,7 +21,7 @@ use bb_memory::steps::{BumpWorld, PoolWorld};
 use std::alloc::Global;
 use std::io::Write;
 
-/// The kinds of scripts, in the order in which a first line is tried: a row for each, and then the rows behind it.
+/// The kinds of scripts, in the order in which a header is tried: a row for each, and then the rows behind it.
 pub type AllKinds = (Live<BumpAllocator>, FromOneChunk);
 
 type FromOneChunk = (Live<OneChunkAllocator>, FromPool);
@@ -47,17 +43,17 @@ pub trait Kinds {
     ghost use Rattle.script_runner.specs.Status.{IsCutShort};
     ghost use Rattle.script_runner.specs.engine.Lines.{lines_of};
     ghost use Rattle.script_runner.specs.engine.Rules.{Kind, SomeOf, are_apart};
-    ghost use Rattle.script_runner.specs.Inputs.{IsOpenedBy, IsAnsweredBy, IsUnreadableAt, BeginsOutputOf};
+    ghost use Rattle.script_runner.specs.Inputs.{HasHeaderOf, IsAnsweredBy, IsUnreadableAt, BeginsOutputOf};
     ghost use Rattle.script_runner.specs.engine.Transcript.{unreadable_text};
     ghost use Rattle.script_runner.specs.declared.status.Status.TheVariants.{Done, Unreadable, InputFailed};
 
     ghost table: { List Kind };
 
-    /// Checks and runs the script of this first line and these bytes behind it, where one of the kinds reads the line.
+    /// Checks and runs the script of this header and these bytes behind it, where one of the kinds reads the header.
     fn run<W: Write>(alloc: Global, first: &[u8], rest: &[u8], writer: &mut W) -> Option<Status>
         requires { are_apart table ≡ true }
         ensures none { IfNone result
-            (¬ SomeOf table (IsOpenedBy (first.now ∷ lines_of rest.now))) }
+            (¬ SomeOf table (HasHeaderOf (first.now ∷ lines_of rest.now))) }
         ensures untouched { IfNone result (writer.new ≡ writer.old) }
         ensures done { IfSome result (λ status. status ≡ Done → (text : List ℕ)
             × SomeOf table (IsAnsweredBy (first.now ∷ lines_of rest.now) text)
@@ -90,8 +86,8 @@ impl<K: Driven, Others: Kinds> Kinds for (K, Others) {
     ghost table = { kind K.rules ∷ Others.table };
 
     fn run<W: Write>(alloc: Global, first: &[u8], rest: &[u8], writer: &mut W) -> Option<Status> {
-        match K::read_first(first) {
-            Some(opening) => Some(drive::<K, W>(alloc, opening, rest, writer)),
+        match K::read_header(first) {
+            Some(header) => Some(drive::<K, W>(alloc, header, rest, writer)),
             None => Others::run(alloc, first, rest, writer),
         }
     }

@@ -6,10 +6,10 @@
 //! - `running`: from the bytes of a script to the bytes that it is answered. `status`: how a run ends. `laws`: what holds of
 //!   every input and every status.
 //! - `engine`, what all kinds of scripts share. `driven` says what a kind of script has to have; `driving` runs a script of a
-//!   kind; `reading` cuts the input into lines and reads them, and `script` keeps what they say.
+//!   kind; `script` cuts the input into lines, reads them, and keeps what they say.
 //! - `kinds`, the table of the kinds and a file for each: the allocators, over what `allocators` shares; `bump_steps` and
-//!   `pool_steps`, the twins; `loan_pool`. What first lines and steps name: `bounds`, `pool_plan`, `buckets`, `parties`.
-//! - `fields`: the numbers and layouts that stand between the spaces of a line.
+//!   `pool_steps`, the twins; `loan_pool`.
+//! - `fields`: the numbers, layouts, regions and parties that stand between the spaces of a line.
 #![tactic(auto)]
 
 mod engine;

@@ -1,22 +1,21 @@
 //! From the bytes of a script to the bytes that it is answered.
-ghost use Rattle.std.specs.Prelude.{◌≡◌, ◌≢◌, ◌⊎◌, ℕ, List, IfOk, IfErr};
+ghost use Rattle.std.specs.Prelude.{◌≡◌, ◌≢◌, ◌⊎◌, ℕ, List};
 ghost use Rattle.std.specs.Io.KnownBytes.{Keeps, Appends};
 ghost use Rattle.script_runner.specs.Status.{IsCutShort};
 ghost use Rattle.script_runner.specs.Inputs.{IsAnswered, IsUnreadable, BeginsOutput, IsLeft};
 ghost use Rattle.script_runner.specs.engine.Transcript.{unreadable_text};
 
 use crate::engine::driving::tell_unreadable;
-use crate::engine::reading::first_line;
+use crate::engine::script::first_line;
 use crate::kinds::{AllKinds, Kinds};
 use crate::status::Status;
 use std::alloc::Global;
-use std::io;
 use std::io::{ErrorKind, Read, Write};
 
 /// Reads a script to its end, checks every line of it, and then runs it: what it drives is made, takes the commands in order,
 /// and a line for each reply goes to the writer, which is then flushed. `docs/script-format.md` says what the lines of a script
 /// are, what each is answered, and which [`Status`] comes when; its scripts are examples.
-pub fn run<R: Read + Drop, W: Write>(alloc: Global, reader: R, writer: &mut W) -> Status
+pub fn run<R: Read + Drop, W: Write>(alloc: Global, mut reader: R, writer: &mut W) -> Status
     ensures done { result ≡ Status.Done → (input : List ℕ) × (text : List ℕ)
         × IsLeft input (R.remaining reader) × IsAnswered input text
         × Appends (W.contents writer.old) (W.contents writer.new) text }
@@ -30,32 +29,11 @@ pub fn run<R: Read + Drop, W: Write>(alloc: Global, reader: R, writer: &mut W) -
         × IsLeft input (R.remaining reader) × BeginsOutput input sent
         × Appends (W.contents writer.old) (W.contents writer.new) sent) }
 {
-    match read_input(alloc, reader) {
-        Ok(input) => run_input(alloc, &input, writer),
-        Err(status) => status,
-    }
-}
-
-/// Reads an input to its end.
-fn read_input<R: Read + Drop>(alloc: Global, mut reader: R) -> Result<Vec<u8>, Status>
-    ensures read { IfOk result (λ input. IsLeft input.items (R.remaining reader)) }
-    ensures failed { IfErr result (λ status.
-        (status ≡ Status.InputFailed) ⊎ (status ≡ Status.OutOfMemory)) }
-{
     let mut input = Vec::new(alloc);
     match reader.read_to_end(&mut input) {
-        Ok(_) => Ok(input),
-        Err(e) => Err(input_status(&e)),
-    }
-}
-
-fn input_status(e: &io::Error) -> Status
-    ensures { (result ≡ Status.InputFailed) ⊎ (result ≡ Status.OutOfMemory) }
-{
-    if e.kind() == ErrorKind::OutOfMemory {
-        Status::OutOfMemory
-    } else {
-        Status::InputFailed
+        Ok(_) => run_input(alloc, &input, writer),
+        Err(e) if e.kind() == ErrorKind::OutOfMemory => Status::OutOfMemory,
+        Err(_) => Status::InputFailed,
     }
 }
 

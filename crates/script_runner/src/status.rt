@@ -47,7 +47,7 @@ impl Status {
 }
 
 /// What stops a script that is readable.
-#[derive(Debug, Clone, Copy, PartialEq, Eq)]
+#[derive(Clone, Copy)]
 pub enum Failure {
     Output,
     Memory,

@@ -3,22 +3,22 @@ use Rattle.std.specs.Prelude.{ℕ, ◌==◌, List, ◌++◌, ◌⊎◌, [], ◌�
 use Rattle.script_runner.specs.declared.engine.script.Line.{Line}
 use Rattle.script_runner.specs.declared.engine.script.Line.TheVariants as line
 
--- the rules of the scripts that drive what has states S, is made of openings O, and takes commands C, each with a reply R
+-- the rules of the scripts that drive what has states S, is made by headers O, and takes commands C, each with a reply R
 pub record Rules (S O C R : Type 0) : Type 1 where
   pub name : List ℕ
-  pub may_open : O → Type 0
-  pub opening_text : O → List ℕ
+  pub is_header : O → Type 0
+  pub header_text : O → List ℕ
   pub is_command : C → Type 0
   pub command_line : C → List ℕ
   pub can_show : Bool
-  pub opens : O → S → Type 0
+  pub starts : O → S → Type 0
   pub runs : S → List C → List R → S → Type 0
   pub reply_text : R → List ℕ
   pub state_text : S → List ℕ
 
 -- the first line: the kind's name, a space, and what it says of what is to be made
-abbrev pub first_line : {S O C R : Type 0} → Rules S O C R → O → List ℕ
-first_line rules opening = rules.name ++ (codes " " ++ rules.opening_text opening)
+abbrev pub header_line : {S O C R : Type 0} → Rules S O C R → O → List ℕ
+header_line rules header = rules.name ++ (codes " " ++ rules.header_text header)
 
 -- a line after the first: a command, or a show where the kind has it
 abbrev pub IsLine : {S O C R : Type 0} → Rules S O C R → Line C → Type 0
@@ -32,14 +32,14 @@ line_text rules line.Show = codes "show"
 -- a kind of script: its rules, over types of its own
 pub record Kind : Type 1 where
   pub State : Type 0
-  pub Opening : Type 0
+  pub Header : Type 0
   pub Command : Type 0
   pub Reply : Type 0
-  pub rules : Rules State Opening Command Reply
+  pub rules : Rules State Header Command Reply
 
 abbrev pub kind : {S O C R : Type 0} → Rules S O C R → Kind
 kind {S} {O} {C} {R} rules =
-    record { State = S; Opening = O; Command = C; Reply = R; rules = rules }
+    record { State = S; Header = O; Command = C; Reply = R; rules = rules }
 
 -- it holds of some kind of the table
 abbrev pub SomeOf : List Kind → (Kind → Type 0) → Type 0

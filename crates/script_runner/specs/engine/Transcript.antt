@@ -42,18 +42,18 @@ abbrev pub IsBegun : {S O C R : Type 0} → Rules S O C R → S → Batches C �
 IsBegun {S} rules old script sent =
     (text : List ℕ) × (new : S) × Begins sent text × IsSoFar rules old script text new
 
--- these lines are a script, and the text is what it is answered where it opens so
+-- these lines are a script, and the text is what it is answered where it starts so
 abbrev pub IsTranscript : {S O C R : Type 0} → Rules S O C R → O → List (List ℕ) → List ℕ → Type 0
-IsTranscript {S} {O} {C} {R} rules opening lines text =
+IsTranscript {S} {O} {C} {R} rules header lines text =
     (script : Batches C) × (first : S) × (last : S) × AreScript rules lines script
-    × rules.opens opening first × IsPlayed rules first script text last
+    × rules.starts header first × IsPlayed rules first script text last
 
 -- these lines are a script, and the bytes begin what it is answered
 abbrev pub IsBegunTranscript : {S O C R : Type 0} → Rules S O C R → O
     → List (List ℕ) → List ℕ → Type 0
-IsBegunTranscript {S} {O} {C} {R} rules opening lines sent =
+IsBegunTranscript {S} {O} {C} {R} rules header lines sent =
     (script : Batches C) × (first : S) × AreScript rules lines script
-    × rules.opens opening first × IsBegun rules first script sent
+    × rules.starts header first × IsBegun rules first script sent
 
 -- behind a readable first line, the first that is unreadable has this number
 abbrev pub IsLaterUnreadable : {S O C R : Type 0} → Rules S O C R → List (List ℕ) → ℕ → Type 0
@@ -70,8 +70,8 @@ abbrev pub IsBegunLaterUnreadable : {S O C R : Type 0} → Rules S O C R
 IsBegunLaterUnreadable rules rest sent =
     (number : ℕ) × IsLaterUnreadable rules rest number × Begins sent (unreadable_text number)
 
--- the bytes begin what is written of these lines, behind a first line of this opening, be they readable or not
+-- the bytes begin what is written of these lines, behind a first line of this header, be they readable or not
 abbrev pub BeginsLaterOutput : {S O C R : Type 0} → Rules S O C R → O
     → List (List ℕ) → List ℕ → Type 0
-BeginsLaterOutput rules opening rest sent =
-    IsBegunTranscript rules opening rest sent ⊎ IsBegunLaterUnreadable rules rest sent
+BeginsLaterOutput rules header rest sent =
+    IsBegunTranscript rules header rest sent ⊎ IsBegunLaterUnreadable rules rest sent

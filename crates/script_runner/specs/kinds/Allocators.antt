@@ -81,12 +81,12 @@ pub record LiveState (A : Type 0) : Type 0 where
   pub allocator : A
   pub live : List Chunk
 
--- what is said of an allocator A that is made of an opening O
+-- what is said of an allocator A that is made of an header O
 pub record AllocatorRules (A O : Type 0) : Type 1 where
   pub name : List ℕ
-  pub may_open : O → Type 0
-  pub opening_text : O → List ℕ
-  pub opens : O → A → Type 0
+  pub is_header : O → Type 0
+  pub header_text : O → List ℕ
+  pub starts : O → A → Type 0
   pub runs : A → List Chunk → List Command → List Reply → A → List Chunk → Type 0
   pub state_text : A → ℕ → List ℕ
 
@@ -94,12 +94,12 @@ pub record AllocatorRules (A O : Type 0) : Type 1 where
 abbrev pub live_rules : {A O : Type 0} → AllocatorRules A O → Rules (LiveState A) O Command Reply
 live_rules rules = record {
   name = rules.name;
-  may_open = rules.may_open;
-  opening_text = rules.opening_text;
+  is_header = rules.is_header;
+  header_text = rules.header_text;
   is_command = IsCommandOfNumbers;
   command_line = command_line;
   can_show = true;
-  opens = λ opening state. rules.opens opening state.allocator × (state.live ≡ []);
+  starts = λ header state. rules.starts header state.allocator × (state.live ≡ []);
   runs = λ old commands replies new.
       rules.runs old.allocator old.live commands replies new.allocator new.live;
   reply_text = reply_line;

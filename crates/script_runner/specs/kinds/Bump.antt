@@ -8,7 +8,7 @@ use Rattle.bb_memory_base.specs.BumpObject.{bump_object, StandsFor}
 use Rattle.bb_memory_base.specs.declared.allocator.Command.{Command}
 use Rattle.bb_memory_base.specs.declared.allocator.Reply.{Reply}
 use Rattle.bb_memory.specs.Bump.{Bump, bump_text}
-use Rattle.script_runner.specs.kinds.Bounds.{region_text}
+use Rattle.script_runner.specs.Fields.{region_text}
 use Rattle.script_runner.specs.kinds.Allocators.{AllocatorRules}
 
 -- the replies are a run of the bump object over the bump's region, and the bump stands for the list that the run leaves
@@ -34,9 +34,9 @@ bump_lines bump =
 abbrev pub bump_rules : AllocatorRules Bump Region
 bump_rules = record {
   name = codes "bump";
-  may_open = IsRegion;
-  opening_text = region_text;
-  opens = λ region bump. bump ≡ record { region = region; used = 0 };
+  is_header = IsRegion;
+  header_text = region_text;
+  starts = λ region bump. bump ≡ record { region = region; used = 0 };
   runs = BumpRuns;
   state_text = λ bump _. bump_lines bump;
 }

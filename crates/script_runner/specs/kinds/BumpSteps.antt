@@ -9,10 +9,8 @@ use Rattle.bb_memory_base.specs.declared.steps.bump.BumpOutcome.{BumpOutcome}
 use Rattle.bb_memory_base.specs.declared.steps.bump.BumpOutcome.TheVariants as outcome
 use Rattle.bb_memory_base.specs.declared.steps.bump.BumpStep.{BumpStep}
 use Rattle.bb_memory_base.specs.declared.steps.bump.BumpStep.TheVariants.{Read, Exchange, Load, Clear}
-use Rattle.script_runner.specs.Fields.{IsLayoutOfNumbers, layout_text}
+use Rattle.script_runner.specs.Fields.{IsLayoutOfNumbers, IsParty, layout_text, parties, region_text}
 use Rattle.script_runner.specs.engine.Rules.{Rules}
-use Rattle.script_runner.specs.kinds.Bounds.{region_text}
-use Rattle.script_runner.specs.kinds.Parties.{parties, IsParty}
 
 -- LINES
 
@@ -80,12 +78,12 @@ StepsRun old steps outcomes new = (outcomes ≡ outcomes_of old steps) × (new �
 abbrev pub bump_step_rules : Rules BumpWorld Region BumpStep BumpOutcome
 bump_step_rules = record {
   name = codes "steps-bump";
-  may_open = IsRegion;
-  opening_text = region_text;
+  is_header = IsRegion;
+  header_text = region_text;
   is_command = IsStep;
   command_line = step_line;
   can_show = true;
-  opens = λ region world. world ≡ opened region parties;
+  starts = λ region world. world ≡ opened region parties;
   runs = StepsRun;
   reply_text = outcome_line;
   state_text = λ world. used_line world.state.position;

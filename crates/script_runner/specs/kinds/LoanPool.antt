@@ -15,8 +15,7 @@ use Rattle.loan_book.specs.declared.run.LoanCall.TheVariants.{Loan, Publish, Giv
 use Rattle.loan_book.specs.declared.run.LoanReply.{LoanReply}
 use Rattle.loan_book.specs.declared.run.LoanReply.TheVariants as reply
 use Rattle.script_runner.specs.Fields.{IsNumber}
-use Rattle.script_runner.specs.kinds.PoolPlan.{PoolPlan, IsPoolPlan, pool_plan_text}
-use Rattle.script_runner.specs.kinds.Pool.{BeginsPool}
+use Rattle.script_runner.specs.kinds.Pool.{PoolPlan, IsPoolPlan, pool_plan_text, BeginsPool}
 use Rattle.script_runner.specs.kinds.Allocators.{refusal_line}
 use Rattle.script_runner.specs.engine.Rules.{Rules}
 
@@ -107,12 +106,12 @@ pub record BeginsLoans (plan : PoolPlan) (loans : LoanBook CountedPool) : Type 0
 abbrev pub loan_pool_rules : Rules (LoanBook CountedPool) PoolPlan LoanCall LoanReply
 loan_pool_rules = record {
   name = codes "loan-pool";
-  may_open = IsPoolPlan;
-  opening_text = pool_plan_text;
+  is_header = IsPoolPlan;
+  header_text = pool_plan_text;
   is_command = IsCall;
   command_line = call_line;
   can_show = false;
-  opens = BeginsLoans;
+  starts = BeginsLoans;
   runs = LoansRun;
   reply_text = loan_reply_line;
   state_text = λ loans. [];

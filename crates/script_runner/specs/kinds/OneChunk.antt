@@ -9,7 +9,7 @@ use Rattle.bb_memory_base.specs.declared.allocator.Command.{Command}
 use Rattle.bb_memory_base.specs.declared.allocator.Reply.{Reply}
 use Rattle.bb_memory.specs.OneChunk.{OneChunk, StandsFor}
 use Rattle.bb_memory_base.specs.OneChunkObject.{one_chunk_object}
-use Rattle.script_runner.specs.kinds.Bounds.{region_text}
+use Rattle.script_runner.specs.Fields.{region_text}
 use Rattle.script_runner.specs.kinds.Allocators.{AllocatorRules}
 
 -- the replies are a run of the one-chunk object over its region, and it stands for the list that the run leaves
@@ -34,9 +34,9 @@ one_chunk_state one =
 abbrev pub one_chunk_rules : AllocatorRules OneChunk Region
 one_chunk_rules = record {
   name = codes "one";
-  may_open = IsRegion;
-  opening_text = region_text;
-  opens = λ region one. one ≡ record { region = region; kept = None };
+  is_header = IsRegion;
+  header_text = region_text;
+  starts = λ region one. one ≡ record { region = region; kept = None };
   runs = OneChunkRuns;
   state_text = λ one _. one_chunk_state one;
 }

@@ -5,14 +5,34 @@ use Rattle.bb_memory_base.specs.Chunk.{Chunk}
 use Rattle.bb_memory_base.specs.FirstPlace.{first_place}
 use Rattle.bb_memory_base.specs.PoolGeometry.{PoolGeometry, IsCut, at_most}
 use Rattle.bb_memory_base.specs.PoolObject.{pool_object}
+use Rattle.bb_memory_base.specs.Region.{Region}
 use Rattle.bb_memory_base.specs.ResizableObject.{ResizableStep}
 use Rattle.bb_memory_base.specs.Run.{IsRun}
 use Rattle.bb_memory_base.specs.declared.allocator.Command.{Command}
 use Rattle.bb_memory_base.specs.declared.allocator.Reply.{Reply}
+use Rattle.bb_memory_base.specs.declared.layout.Layout.{Layout}
 use Rattle.bb_memory.specs.IndexWords.{index_words}
-use Rattle.bb_memory.specs.Pool.{Pool, StandsFor, fresh_pool, CountedPool, counted, reads_after}
-use Rattle.script_runner.specs.kinds.PoolPlan.{PoolPlan, IsPoolPlan, pool_plan_text}
+use Rattle.bb_memory.specs.Pool.{Pool, StandsFor, fresh_pool, CountedPool, counted, reads_after, MayBeCut}
+use Rattle.script_runner.specs.Fields.{layout_text}
 use Rattle.script_runner.specs.kinds.Allocators.{AllocatorRules}
+
+-- the region that is to be cut, and the layout of each bucket
+pub record PoolPlan : Type 0 where
+  pub region : Region
+  pub bucket : Layout
+
+abbrev pub pool_plan : Region → Layout → PoolPlan
+pool_plan region bucket = record { region = region; bucket = bucket }
+
+-- a pool may be made by it
+abbrev pub IsPoolPlan : PoolPlan → Type 0
+IsPoolPlan plan = MayBeCut plan.region plan.bucket
+
+-- `START SIZE BUCKET ALIGN`
+abbrev pub pool_plan_text : PoolPlan → List ℕ
+pool_plan_text plan =
+    decimal plan.region.start ++ (codes " " ++ (decimal plan.region.size
+    ++ (codes " " ++ layout_text plan.bucket)))
 
 -- the pool's region is cut into all the buckets that it has room for; none is held, and no index word was read
 abbrev pub BeginsPool : PoolPlan → CountedPool → Type 0
@@ -54,9 +74,9 @@ pool_state pool live =
 abbrev pub pool_rules : AllocatorRules CountedPool PoolPlan
 pool_rules = record {
   name = codes "pool";
-  may_open = IsPoolPlan;
-  opening_text = pool_plan_text;
-  opens = BeginsPool;
+  is_header = IsPoolPlan;
+  header_text = pool_plan_text;
+  starts = BeginsPool;
   runs = CountedPoolRuns;
   state_text = pool_state;
 }
@@ -75,9 +95,9 @@ fixed_state pool live = codes "fixed" ++ pool_figures pool.geometry live (codes 
 abbrev pub fixed_rules : AllocatorRules Pool PoolPlan
 fixed_rules = record {
   name = codes "fixed";
-  may_open = IsPoolPlan;
-  opening_text = pool_plan_text;
-  opens = BeginsFixed;
+  is_header = IsPoolPlan;
+  header_text = pool_plan_text;
+  starts = BeginsFixed;
   runs = PoolRuns;
   state_text = fixed_state;
 }

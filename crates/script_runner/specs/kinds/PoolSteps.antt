@@ -1,5 +1,5 @@
 -- Scripts that take the steps of a pool machine.
-use Rattle.std.specs.Prelude.{ℕ, ◌≡◌, List, [], ◌++◌, codes, Option, Some, None, true}
+use Rattle.std.specs.Prelude.{ℕ, ◌≡◌, List, [], ◌++◌, ◌^◌, ◌<◌, ◌≤◌, codes, Option, Some, None, true}
 use Rattle.std.specs.Fmt.{decimal}
 use Rattle.std.specs.List.{flat_map}
 use Rattle.bb_memory_base.specs.PoolMachine.{holder_in}
@@ -10,10 +10,17 @@ use Rattle.bb_memory_base.specs.declared.steps.pool.PoolOutcome.TheVariants as o
 use Rattle.bb_memory_base.specs.declared.steps.pool.PoolStep.{PoolStep}
 use Rattle.bb_memory_base.specs.declared.steps.pool.PoolStep.TheVariants.{Try, GiveBack, TryAt, Detach, Attach}
 use Rattle.script_runner.specs.engine.Rules.{Rules}
-use Rattle.script_runner.specs.kinds.Buckets.{IsBucket, IsBucketCount}
-use Rattle.script_runner.specs.kinds.Parties.{parties, IsParty}
+use Rattle.script_runner.specs.Fields.{parties, IsParty}
 
 -- LINES
+
+-- a number of buckets that a script may ask for
+abbrev pub IsBucketCount : ℕ → Type 0
+IsBucketCount count = count ≤ 4096
+
+-- a number that may name a bucket
+abbrev pub IsBucket : ℕ → Type 0
+IsBucket bucket = bucket < 2 ^ 32
 
 -- one of the parties, and a number that may name a bucket
 abbrev pub IsGiving : ℕ → ℕ → Type 0
@@ -83,12 +90,12 @@ StepsRun old steps outcomes new = (outcomes ≡ outcomes_of old steps) × (new �
 abbrev pub pool_step_rules : Rules PoolWorld ℕ PoolStep PoolOutcome
 pool_step_rules = record {
   name = codes "steps-pool";
-  may_open = IsBucketCount;
-  opening_text = decimal;
+  is_header = IsBucketCount;
+  header_text = decimal;
   is_command = IsStep;
   command_line = step_line;
   can_show = true;
-  opens = λ buckets world. world ≡ opened buckets parties;
+  starts = λ buckets world. world ≡ opened buckets parties;
   runs = StepsRun;
   reply_text = outcome_line;
   state_text = λ world. held_line world.flags;

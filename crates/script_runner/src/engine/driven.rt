@@ -6,35 +6,39 @@ use std::io::Write;
 
 /// What a kind of script drives: it takes commands and gives one reply to each.
 pub trait Driven: Drop {
-    ghost use Rattle.std.specs.Prelude.{◌≡◌, ℕ, List, OnOk, IfOk, IfSome, Some};
+    ghost use Rattle.std.specs.Prelude.{◌≡◌, ℕ, Bool, List, OnOk, IfOk, IfSome, Some};
     ghost use Rattle.std.specs.Io.KnownBytes.{Appends};
-    ghost use Rattle.script_runner.specs.engine.Rules.{Rules, first_line};
+    ghost use Rattle.script_runner.specs.engine.Rules.{Rules, header_line};
 
-    /// What the first line of a script says of it.
-    type Opening: Drop;
+    /// What a header says of it.
+    type Header: Drop;
 
     type Command: Drop;
 
     type Reply: Drop;
 
+    /// Says that a script may show the state.
+    const CAN_SHOW: bool;
+
+    ghost CAN_SHOW: { Bool };
+
     /// The rules of its scripts.
-    ghost rules: { Rules Self Self.Opening Self.Command Self.Reply };
+    ghost rules: { Rules Self Self.Header Self.Command Self.Reply };
 
-    /// Reads the first line.
-    fn read_first(line: &[u8]) -> Option<Self::Opening>
-        ensures written { IfSome result (λ opening. rules.may_open opening
-            × (line.now ≡ first_line rules opening)) }
-        ensures each { (opening : Self.Opening) → rules.may_open opening
-            → line.now ≡ first_line rules opening → result ≡ Some opening };
+    ghost shows: { CAN_SHOW ≡ rules.can_show };
 
-    fn make(alloc: Global, opening: Self::Opening) -> Result<Self, AllocError>
-        ensures { IfOk result (λ driven. rules.opens opening driven) };
+    /// Parses a header.
+    fn read_header(line: &[u8]) -> Option<Self::Header>
+        ensures written { IfSome result (λ header. rules.is_header header
+            × (line.now ≡ header_line rules header)) }
+        ensures each { (header : Self.Header) → rules.is_header header
+            → line.now ≡ header_line rules header → result ≡ Some header };
 
-    /// Whether a script may show the state.
-    fn can_show() -> bool
-        ensures { result ≡ rules.can_show };
+    fn make(alloc: Global, header: Self::Header) -> Result<Self, AllocError>
+        requires { rules.is_header header }
+        ensures { IfOk result (λ driven. rules.starts header driven) };
 
-    /// Reads a command.
+    /// Parses a command.
     fn read(line: &[u8]) -> Option<Self::Command>
         ensures written { IfSome result (λ command. rules.is_command command
             × (line.now ≡ rules.command_line command)) }

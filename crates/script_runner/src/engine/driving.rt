@@ -1,4 +1,4 @@
-//! From the lines of a script behind the first to the lines of its replies.
+//! From the lines of a script behind its header to the lines of its replies.
 ghost use Rattle.std.specs.Prelude.{◌≡◌, ◌≢◌, ◌⊎◌, ◌++◌, ◌+◌, ◌<◌, ◌^◌, ℕ, List, IfOk, IfErr, OnOk, OnErr};
 ghost use Rattle.std.specs.List.{flat_map};
 ghost use Rattle.std.specs.Io.KnownBytes.{Keeps, Appends};
@@ -9,38 +9,38 @@ ghost use Rattle.script_runner.specs.engine.Transcript.{IsPlayed, IsBegun, IsTra
 ghost use Rattle.script_runner.specs.engine.Transcript.{BeginsLaterOutput, IsLaterUnreadable, unreadable_text};
 
 use crate::engine::driven::Driven;
-use crate::engine::reading::read_script;
-use crate::engine::script::Script;
+use crate::engine::script::{Script, read_script};
 use crate::status::{Failure, Status};
-use std::alloc::{AllocError, Global};
+use std::alloc::Global;
 use std::io::{ErrorKind, Write};
 
-/// Checks every line after the first, and then makes what the script drives and runs it.
+/// Checks every line behind the header, and then makes what the script drives and runs it.
 pub fn drive<K: Driven, W: Write>(
     alloc: Global,
-    opening: K::Opening,
+    header: K::Header,
     rest: &[u8],
     writer: &mut W,
 ) -> Status
+    requires { K.rules.is_header header }
     ensures done { result ≡ Status.Done → (text : List ℕ)
-        × IsTranscript K.rules opening (lines_of rest.now) text
+        × IsTranscript K.rules header (lines_of rest.now) text
         × Appends (W.contents writer.old) (W.contents writer.new) text }
     ensures unreadable { result ≡ Status.Unreadable → (number : ℕ)
         × IsLaterUnreadable K.rules (lines_of rest.now) number
         × Appends (W.contents writer.old) (W.contents writer.new) (unreadable_text number) }
     ensures cut_short { IsCutShort result → Keeps (W.contents writer.old) (W.contents writer.new)
-        ⊎ ((sent : List ℕ) × BeginsLaterOutput K.rules opening (lines_of rest.now) sent
+        ⊎ ((sent : List ℕ) × BeginsLaterOutput K.rules header (lines_of rest.now) sent
         × Appends (W.contents writer.old) (W.contents writer.new) sent) }
     ensures input_read { result ≢ Status.InputFailed }
 {
     match read_script::<K>(alloc, rest) {
-        Ok(Ok(script)) => answer::<K, W>(alloc, opening, &script, writer),
+        Ok(Ok(script)) => answer::<K, W>(alloc, header, &script, writer),
         Ok(Err(index)) => tell_unreadable(alloc, index + 2, writer),
         Err(_) => Status::OutOfMemory,
     }
 }
 
-/// Tells that the line of this number is the first unreadable one.
+/// Writes the number of the first unreadable line.
 pub fn tell_unreadable<W: Write>(alloc: Global, number: usize, writer: &mut W) -> Status
     ensures unreadable { result ≡ Status.Unreadable
         → Appends (W.contents writer.old) (W.contents writer.new) (unreadable_text number) }
@@ -48,46 +48,37 @@ pub fn tell_unreadable<W: Write>(alloc: Global, number: usize, writer: &mut W) -
         → AppendsPart (W.contents writer.old) (W.contents writer.new) (unreadable_text number) }
     ensures status { (result ≡ Status.Unreadable) ⊎ IsCutShort result }
 {
-    match write_unreadable(alloc, number, writer) {
-        Ok(()) => Status::Unreadable,
-        Err(failure) => failure.status(),
-    }
-}
-
-fn write_unreadable<W: Write>(alloc: Global, number: usize, writer: &mut W) -> Result<(), Failure>
-    ensures { Sends (W.contents writer.old) (W.contents writer.new)
-        (unreadable_text number) result }
-{
     let mut line = Vec::new(alloc);
-    unreadable_line(number, &mut line)?;
-    send(&line, writer)?;
-    writer.flush().map_err(|_| Failure::Output)
-}
-
-/// Renders what is told of the unreadable line of this number, behind what `line` has. Only memory can be refused.
-fn unreadable_line(number: usize, line: &mut Vec<u8>) -> Result<(), AllocError>
-    ensures { OnOk result (line.new.items ≡ line.old.items ++ unreadable_text number) }
-{
-    writeln!(line, "line {number}: refused").map_err(|_| AllocError)
+    let Ok(()) = writeln!(line, "line {number}: refused") else {
+        return Status::OutOfMemory;
+    };
+    if let Err(failure) = send(&line, writer) {
+        return failure.status();
+    }
+    let Ok(()) = writer.flush() else {
+        return Status::OutputFailed;
+    };
+    Status::Unreadable
 }
 
 /// Makes what the script drives, and runs the script on it.
 fn answer<K: Driven, W: Write>(
     alloc: Global,
-    opening: K::Opening,
+    header: K::Header,
     script: &Script<K::Command>,
     writer: &mut W,
 ) -> Status
+    requires { K.rules.is_header header }
     ensures done { result ≡ Status.Done → (first : K) × (last : K) × (text : List ℕ)
-        × K.rules.opens opening first × IsPlayed K.rules first script.now text last
+        × K.rules.starts header first × IsPlayed K.rules first script.now text last
         × Appends (W.contents writer.old) (W.contents writer.new) text }
     ensures cut_short { IsCutShort result → Keeps (W.contents writer.old) (W.contents writer.new)
         ⊎ ((first : K) × (sent : List ℕ)
-        × K.rules.opens opening first × IsBegun K.rules first script.now sent
+        × K.rules.starts header first × IsBegun K.rules first script.now sent
         × Appends (W.contents writer.old) (W.contents writer.new) sent) }
     ensures status { (result ≡ Status.Done) ⊎ IsCutShort result }
 {
-    let Ok(mut driven) = K::make(alloc, opening) else {
+    let Ok(mut driven) = K::make(alloc, header) else {
         return Status::OutOfMemory;
     };
     match play(alloc, &mut driven, script, writer) {
@@ -118,7 +109,10 @@ fn play<K: Driven, W: Write>(
     }
     let replies = driven.run(script.last())?;
     tell::<K, W>(&replies, &mut line, writer)?;
-    writer.flush().map_err(|_| Failure::Output)
+    let Ok(()) = writer.flush() else {
+        return Err(Failure::Output);
+    };
+    Ok(())
 }
 
 /// Writes a line for each reply.
@@ -131,7 +125,10 @@ fn tell<K: Driven, W: Write>(
         (flat_map K.rules.reply_text replies.now) result }
 {
     for reply in replies {
-        reply_line::<K>(reply, line)?;
+        line.clear();
+        let Ok(()) = K::write_reply(reply, line) else {
+            return Err(Failure::Memory);
+        };
         send(line, writer)?;
     }
     Ok(())
@@ -142,24 +139,11 @@ fn show<K: Driven, W: Write>(driven: &K, line: &mut Vec<u8>, writer: &mut W) -> 
     ensures { Sends (W.contents writer.old) (W.contents writer.new)
         (K.rules.state_text driven.now) result }
 {
-    state_line(driven, line)?;
+    line.clear();
+    let Ok(()) = driven.write_state(line) else {
+        return Err(Failure::Memory);
+    };
     send(line, writer)
-}
-
-/// Renders a reply as the line. Only memory can be refused.
-fn reply_line<K: Driven>(reply: &K::Reply, line: &mut Vec<u8>) -> Result<(), AllocError>
-    ensures { OnOk result (line.new.items ≡ K.rules.reply_text reply.now) }
-{
-    line.clear();
-    K::write_reply(reply, line).map_err(|_| AllocError)
-}
-
-/// Renders the state as the line. Only memory can be refused.
-fn state_line<K: Driven>(driven: &K, line: &mut Vec<u8>) -> Result<(), AllocError>
-    ensures { OnOk result (line.new.items ≡ K.rules.state_text driven.now) }
-{
-    line.clear();
-    driven.write_state(line).map_err(|_| AllocError)
 }
 
 /// Writes bytes, or where that fails a beginning of them.

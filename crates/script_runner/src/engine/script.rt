@@ -1,13 +1,17 @@
-//! Scripts: the commands after the first line, cut at each `show`.
-ghost use Rattle.std.specs.Prelude.{◌≡◌, ◌<◌, ◌≤◌, ◌∷◌, [], length, Some};
+//! Scripts: how an input is cut into lines, and the commands that the lines behind the header say, cut at each `show`.
+ghost use Rattle.std.specs.Prelude.{◌≡◌, ◌<◌, ◌≤◌, ◌∷◌, [], length, IfOk, IfErr, IfSome, IfNone, Some};
 ghost use Rattle.std.specs.Prelude.{slice_get, slice_index, slice_range};
-ghost use Rattle.script_runner.specs.engine.Script.{batches_from, AreInOrder};
-ghost use Rattle.script_runner.specs.engine.Script.{Adds, script_lines};
+ghost use Rattle.script_runner.specs.engine.Lines.{lines_of};
+ghost use Rattle.script_runner.specs.engine.Rules.{IsLine, line_text};
+ghost use Rattle.script_runner.specs.engine.Script.{Adds, IsFirstUnreadable, AreInOrder, batches_from, script_lines};
+ghost use Rattle.script_runner.specs.engine.Transcript.{AreScript, IsLineText};
 
+use crate::engine::driven::Driven;
+use crate::fields::cut;
 use std::alloc::{AllocError, Global};
 use std::marker::Model;
 
-/// A line of a script after the first.
+/// A line behind the header.
 #[derive(Drop)]
 pub enum Line<C> {
     Command(C),
@@ -37,7 +41,7 @@ impl<C> Model for Script<C> {
 }
 
 impl<C: Drop> Script<C> {
-    /// A script without a line.
+    /// Makes a script without a line.
     pub fn new(alloc: Global) -> Self
         ensures { script_lines result ≡ [] }
     {
@@ -52,33 +56,25 @@ impl<C: Drop> Script<C> {
         ensures { Adds self.old line result self.new }
     {
         match line {
-            Line::Command(command) => self.push_command(command),
-            Line::Show => self.push_show(),
+            Line::Command(command) => {
+                self.commands.push(command)?;
+                Ok(())
+            }
+            Line::Show => {
+                self.shows.push(self.commands.len())?;
+                Ok(())
+            }
         }
     }
 
-    fn push_command(&mut self, command: C) -> Result<(), AllocError>
-        ensures { Adds self.old (Line.Command command) result self.new }
-    {
-        self.commands.push(command)?;
-        Ok(())
-    }
-
-    fn push_show(&mut self) -> Result<(), AllocError>
-        ensures { Adds self.old Line.Show result self.new }
-    {
-        self.shows.push(self.commands.len())?;
-        Ok(())
-    }
-
-    /// How many lines show the state.
+    /// Returns how many lines show the state.
     pub fn shows(&self) -> usize
         ensures { result ≡ length self.now.shown }
     {
         self.shows.len()
     }
 
-    /// The commands before the `show` of this index, and after the one before it.
+    /// Returns the commands before the `show` of this index, and after the one before it.
     pub fn shown(&self, index: usize) -> &[C]
         requires { index < length self.now.shown }
         ensures { slice_get self.now.shown index ≡ Some result.now }
@@ -86,7 +82,7 @@ impl<C: Drop> Script<C> {
         batch(&self.commands, &self.shows, index)
     }
 
-    /// The commands after the last `show`.
+    /// Returns the commands after the last `show`.
     pub fn last(&self) -> &[C]
         ensures { result.now ≡ self.now.last }
     {
@@ -96,7 +92,7 @@ impl<C: Drop> Script<C> {
     }
 }
 
-/// The batch of this index, of those with these ends.
+/// Returns the batch of this index, of those with these ends.
 fn batch<'a, C>(commands: &'a [C], ends: &[usize], index: usize) -> &'a [C]
     requires ordered { AreInOrder 0 ends.now (length commands.now) }
     requires within { index < length ends.now }
@@ -105,7 +101,7 @@ fn batch<'a, C>(commands: &'a [C], ends: &[usize], index: usize) -> &'a [C]
     part(commands, start(ends, index), ends[index])
 }
 
-/// Where the batch of this index starts, of those with these ends.
+/// Returns where the batch of this index starts, of those with these ends.
 fn start(ends: &[usize], index: usize) -> usize
     requires { index ≤ length ends.now }
     ensures { result ≡ slice_index (0 ∷ ends.now) index }
@@ -113,11 +109,67 @@ fn start(ends: &[usize], index: usize) -> usize
     if index == 0 { 0 } else { ends[index - 1] }
 }
 
-/// The commands from one index up to another.
+/// Returns the commands from one index up to another.
 fn part<C>(commands: &[C], start: usize, end: usize) -> &[C]
     requires ordered { start ≤ end }
     requires within { end ≤ length commands.now }
     ensures { result.now ≡ slice_range commands.now start end }
 {
     &commands[start..end]
+}
+
+/// Reads the lines behind the header, or returns the index of the first that is unreadable.
+pub fn read_script<K: Driven>(
+    alloc: Global,
+    input: &[u8],
+) -> Result<Result<Script<K::Command>, usize>, AllocError>
+    ensures read { IfOk result (λ outcome. IfOk outcome (λ script.
+        AreScript K.rules (lines_of input.now) script)) }
+    ensures unreadable { IfOk result (λ outcome. IfErr outcome (λ index.
+        IsFirstUnreadable (IsLineText K.rules) (lines_of input.now) index)) }
+    ensures within { IfOk result (λ outcome. IfErr outcome (λ index. index < length input.now)) }
+{
+    let mut script = Script::new(alloc);
+    let mut index = 0;
+    let mut left = input;
+    while let Some((line, rest)) = first_line(left) {
+        let Some(line) = read_line::<K>(line) else {
+            return Ok(Err(index));
+        };
+        script.push(line)?;
+        index += 1;
+        left = rest;
+    }
+    Ok(Ok(script))
+}
+
+/// Parses a line behind the header.
+fn read_line<K: Driven>(text: &[u8]) -> Option<Line<K::Command>>
+    ensures written { IfSome result (λ line. IsLine K.rules line
+        × (text.now ≡ line_text K.rules line)) }
+    ensures unreadable { IfNone result (¬ IsLineText K.rules text.now) }
+{
+    if let Some(command) = K::read(text) {
+        return Some(Line::Command(command));
+    }
+    if K::CAN_SHOW && text == b"show".as_slice() {
+        return Some(Line::Show);
+    }
+    None
+}
+
+/// Cuts off the first line of an input, where a line is left.
+pub fn first_line(input: &[u8]) -> Option<(&[u8], &[u8])>
+    ensures none { IfNone result (input.now ≡ []) }
+    ensures cut { IfSome result (λ (line, rest).
+        lines_of input.now ≡ line.now ∷ lines_of rest.now) }
+    ensures shorter { IfSome result (λ (_, rest). length rest.now < length input.now) }
+{
+    if input.is_empty() {
+        return None;
+    }
+    match cut(input, b'\n') {
+        Some((line, rest)) => Some((line, rest)),
+        None => Some((input, &[])),
+    }
 }

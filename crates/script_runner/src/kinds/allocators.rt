@@ -1,16 +1,13 @@
 //! Allocators that a script drives: what all of them share.
-ghost use Rattle.std.specs.Prelude.{◌≡◌, ℕ, IfSome, Some, OnOk};
+ghost use Rattle.std.specs.Prelude.{◌≡◌, ◌++◌, ℕ, IfSome, Some, OnOk, codes};
+ghost use Rattle.std.specs.Fmt.{decimal};
 ghost use Rattle.std.specs.Io.KnownBytes.{Appends};
-ghost use Rattle.bb_memory_base.specs.declared.allocator.Command.{Command};
 ghost use Rattle.bb_memory_base.specs.declared.layout.Layout.{Layout};
-ghost use Rattle.script_runner.specs.kinds.Allocators.{IsResizeOfNumbers, IsCommandOfNumbers};
-ghost use Rattle.script_runner.specs.kinds.Allocators.{command_line, resize_text, chunk_line, reply_line};
+ghost use Rattle.script_runner.specs.kinds.Allocators.{IsResizeOfNumbers, resize_text};
 ghost use Rattle.script_runner.specs.kinds.Allocators.{refusal_line, grow_refusal_line, shrink_refusal_line};
 
 use crate::engine::driven::Driven;
-use crate::fields::{
-    cut, layout, layout_and_rest, number, number_and_rest, write_between, write_number,
-};
+use crate::fields::{cut, layout, layout_and_rest, number, number_and_rest, write_between};
 use bb_memory::allocator::{
     AllocationError, AllocationGrowError, AllocationShrinkError, BaseAllocator, Command, Reply,
 };
@@ -20,28 +17,29 @@ use std::io;
 use std::io::Write;
 use std::marker::Model;
 
-/// What an allocator adds to be driven by a script: how it is made of what the first line says, run, and shown.
+/// An allocator that a script drives: how it is made by a header, run, and shown.
 pub trait Scripted: BaseAllocator + Drop {
     ghost use Rattle.std.specs.Prelude.{◌≡◌, [], Some, OnOk, OnErr, IfOk, IfSome};
     ghost use Rattle.std.specs.Io.KnownBytes.{Appends};
     ghost use Rattle.script_runner.specs.kinds.Allocators.{AllocatorRules, live_rules};
-    ghost use Rattle.script_runner.specs.engine.Rules.{first_line};
+    ghost use Rattle.script_runner.specs.engine.Rules.{header_line};
 
-    /// What the first line of a script says of it.
-    type Opening: Drop;
+    /// What a header says of it.
+    type Header: Drop;
 
-    /// What it adds to the rules of its scripts.
-    ghost rules: { AllocatorRules Self Self.Opening };
+    /// The rules of its scripts, but for what all allocators share.
+    ghost rules: { AllocatorRules Self Self.Header };
 
-    /// Reads the first line of a script.
-    fn read_first(line: &[u8]) -> Option<Self::Opening>
-        ensures written { IfSome result (λ opening. rules.may_open opening
-            × (line.now ≡ first_line (live_rules rules) opening)) }
-        ensures each { (opening : Self.Opening) → rules.may_open opening
-            → line.now ≡ first_line (live_rules rules) opening → result ≡ Some opening };
+    /// Parses a header.
+    fn read_header(line: &[u8]) -> Option<Self::Header>
+        ensures written { IfSome result (λ header. rules.is_header header
+            × (line.now ≡ header_line (live_rules rules) header)) }
+        ensures each { (header : Self.Header) → rules.is_header header
+            → line.now ≡ header_line (live_rules rules) header → result ≡ Some header };
 
-    fn make(alloc: Global, opening: Self::Opening) -> Result<Self, AllocError>
-        ensures opens { IfOk result (λ allocator. rules.opens opening allocator) }
+    fn make(alloc: Global, header: Self::Header) -> Result<Self, AllocError>
+        requires { rules.is_header header }
+        ensures starts { IfOk result (λ allocator. rules.starts header allocator) }
         ensures empty { IfOk result (λ allocator. Self.stands_for allocator []) };
 
     /// Applies the commands in order.
@@ -76,32 +74,51 @@ impl<A: Scripted> Model for Live<A> {
 }
 
 impl<A: Scripted> Driven for Live<A> {
+    ghost use Rattle.std.specs.Prelude.{true};
+    ghost use Rattle.std.proofs.Common.{refl};
     ghost use Rattle.script_runner.specs.kinds.Allocators.{live_rules};
 
-    type Opening = A::Opening;
+    type Header = A::Header;
 
     type Command = Command;
 
     type Reply = Reply;
 
+    const CAN_SHOW: bool = true;
+
+    ghost CAN_SHOW = { true };
+
     ghost rules = { live_rules A.rules };
 
-    fn read_first(line: &[u8]) -> Option<A::Opening> {
-        A::read_first(line)
+    ghost shows = { refl };
+
+    fn read_header(line: &[u8]) -> Option<A::Header> {
+        A::read_header(line)
     }
 
-    fn make(alloc: Global, opening: A::Opening) -> Result<Self, AllocError> {
-        let allocator = A::make(alloc, opening)?;
+    fn make(alloc: Global, header: A::Header) -> Result<Self, AllocError> {
+        let allocator = A::make(alloc, header)?;
         let live = Vec::new(alloc);
         Ok(Live { allocator, live })
     }
 
-    fn can_show() -> bool {
-        true
-    }
-
     fn read(line: &[u8]) -> Option<Command> {
-        read_command(line)
+        let (name, rest) = cut(line, b' ')?;
+        if name == b"alloc".as_slice() {
+            return Some(Command::Allocate(layout(rest)?));
+        }
+        if name == b"free".as_slice() {
+            return Some(Command::Release(number(rest)?));
+        }
+        if name == b"grow".as_slice() {
+            let (position, old, new) = resize(rest)?;
+            return Some(Command::Grow(position, old, new));
+        }
+        if name == b"shrink".as_slice() {
+            let (position, old, new) = resize(rest)?;
+            return Some(Command::Shrink(position, old, new));
+        }
+        None
     }
 
     fn run(&mut self, commands: &[Command]) -> Result<Vec<Reply>, AllocError> {
@@ -109,7 +126,14 @@ impl<A: Scripted> Driven for Live<A> {
     }
 
     fn write_reply<W: Write>(reply: &Reply, writer: &mut W) -> io::Result<()> {
-        write_reply(reply, writer)
+        match reply {
+            Reply::Chunk(chunk) => write_chunk(b"chunk ", chunk, writer),
+            Reply::Released => writer.write_all(b"released\n"),
+            Reply::Passed => writer.write_all(b"passed\n"),
+            Reply::Refused(error) => write_refusal(error, writer),
+            Reply::GrowRefused(error) => write_grow_refusal(error, writer),
+            Reply::ShrinkRefused(error) => write_shrink_refusal(error, writer),
+        }
     }
 
     fn write_state<W: Write>(&self, writer: &mut W) -> io::Result<()> {
@@ -117,32 +141,7 @@ impl<A: Scripted> Driven for Live<A> {
     }
 }
 
-/// The command that this line writes.
-pub fn read_command(line: &[u8]) -> Option<Command>
-    ensures written { IfSome result (λ command. IsCommandOfNumbers command
-        × (line.now ≡ command_line command)) }
-    ensures each { (command : Command) → IsCommandOfNumbers command
-        → line.now ≡ command_line command → result ≡ Some command }
-{
-    let (name, rest) = cut(line, b' ')?;
-    if name == b"alloc".as_slice() {
-        return Some(Command::Allocate(layout(rest)?));
-    }
-    if name == b"free".as_slice() {
-        return Some(Command::Release(number(rest)?));
-    }
-    if name == b"grow".as_slice() {
-        let (position, old, new) = resize(rest)?;
-        return Some(Command::Grow(position, old, new));
-    }
-    if name == b"shrink".as_slice() {
-        let (position, old, new) = resize(rest)?;
-        return Some(Command::Shrink(position, old, new));
-    }
-    None
-}
-
-/// The position of a chunk, its layout, and the layout that it shall have.
+/// Parses `POSITION SIZE ALIGN SIZE ALIGN`.
 fn resize(text: &[u8]) -> Option<(usize, Layout, Layout)>
     ensures written { IfSome result (λ (position, old, new). IsResizeOfNumbers position old new
         × (text.now ≡ resize_text position old new)) }
@@ -154,28 +153,14 @@ fn resize(text: &[u8]) -> Option<(usize, Layout, Layout)>
     Some((position, old, layout(rest)?))
 }
 
-/// Writes the line of a reply.
-pub fn write_reply<W: Write>(reply: &Reply, writer: &mut W) -> io::Result<()>
-    ensures { OnOk result
-        (Appends (W.contents writer.old) (W.contents writer.new) (reply_line reply.now)) }
+/// Writes `NAME PLACE LEN` and a line feed, where `name` has the space.
+pub fn write_chunk<W: Write>(name: &[u8], chunk: &Chunk, writer: &mut W) -> io::Result<()>
+    ensures { OnOk result (Appends (W.contents writer.old) (W.contents writer.new)
+        (name.now ++ (decimal chunk.now.place
+        ++ (codes " " ++ (decimal chunk.now.len ++ codes "\n"))))) }
 {
-    match reply {
-        Reply::Chunk(chunk) => write_chunk(chunk, writer),
-        Reply::Released => writer.write_all(b"released\n"),
-        Reply::Passed => writer.write_all(b"passed\n"),
-        Reply::Refused(error) => write_refusal(error, writer),
-        Reply::GrowRefused(error) => write_grow_refusal(error, writer),
-        Reply::ShrinkRefused(error) => write_shrink_refusal(error, writer),
-    }
-}
-
-fn write_chunk<W: Write>(chunk: &Chunk, writer: &mut W) -> io::Result<()>
-    ensures { OnOk result
-        (Appends (W.contents writer.old) (W.contents writer.new) (chunk_line chunk.now)) }
-{
-    writer.write_all(b"chunk ")?;
-    write_number(chunk.place(), writer)?;
-    write_between(b" ", chunk.len(), b"\n", writer)
+    write_between(name, chunk.place(), b" ", writer)?;
+    write_between(b"", chunk.len(), b"\n", writer)
 }
 
 /// Writes the line of a refused request.

@@ -1,11 +1,7 @@
 //! A bump that a script drives.
-ghost use Rattle.std.specs.Prelude.{◌++◌, codes, OnOk};
-ghost use Rattle.std.specs.Io.KnownBytes.{Appends};
-ghost use Rattle.bb_memory.specs.Bump.{bump_text};
-ghost use Rattle.script_runner.specs.kinds.Bump.{figures_line};
 
+use crate::fields::{Bounds, behind, region};
 use crate::kinds::allocators::Scripted;
-use crate::kinds::bounds::Bounds;
 use bb_memory::allocator::{Command, Reply};
 use bb_memory::bump_allocator::{BumpAllocator, run_bump};
 use bb_memory::layout::Chunk;
@@ -16,17 +12,16 @@ use std::io::Write;
 impl Scripted for BumpAllocator {
     ghost use Rattle.script_runner.specs.kinds.Bump.{bump_rules};
 
-    type Opening = Bounds;
+    type Header = Bounds;
 
     ghost rules = { bump_rules };
 
-    fn read_first(line: &[u8]) -> Option<Bounds> {
-        Bounds::read(line.strip_prefix(b"bump ")?)
+    fn read_header(line: &[u8]) -> Option<Bounds> {
+        region(behind(b"bump ", line)?)
     }
 
-    fn make(_alloc: Global, opening: Bounds) -> Result<Self, AllocError> {
-        let (start, size) = opening.parts();
-        Ok(BumpAllocator::new(start, size))
+    fn make(_alloc: Global, header: Bounds) -> Result<Self, AllocError> {
+        Ok(BumpAllocator::new(header.start, header.size))
     }
 
     fn run(
@@ -38,26 +33,9 @@ impl Scripted for BumpAllocator {
     }
 
     fn write_state<W: Write>(&self, _live: usize, writer: &mut W) -> io::Result<()> {
-        write_text(self, writer)?;
-        write_figures(
-            self.used_space(),
-            self.free_space(),
-            self.total_space(),
-            writer,
-        )
+        let used = self.used_space();
+        let free = self.free_space();
+        let total = self.total_space();
+        writeln!(writer, "{self}\nused {used} free {free} total {total}")
     }
-}
-
-fn write_text<W: Write>(bump: &BumpAllocator, writer: &mut W) -> io::Result<()>
-    ensures { OnOk result (Appends (W.contents writer.old) (W.contents writer.new)
-        (bump_text bump.now ++ codes "\n")) }
-{
-    writeln!(writer, "{bump}")
-}
-
-fn write_figures<W: Write>(used: usize, free: usize, total: usize, writer: &mut W) -> io::Result<()>
-    ensures { OnOk result (Appends (W.contents writer.old) (W.contents writer.new)
-        (figures_line used free total)) }
-{
-    writeln!(writer, "used {used} free {free} total {total}")
 }

@@ -1,56 +1,57 @@
 //! A bump world that a script drives by its steps.
-ghost use Rattle.std.specs.Prelude.{◌≡◌, ℕ, IfSome, Some, OnOk};
-ghost use Rattle.std.specs.Io.KnownBytes.{Appends};
+ghost use Rattle.std.specs.Prelude.{◌≡◌, ℕ, IfSome, Some};
 ghost use Rattle.bb_memory_base.specs.declared.layout.Layout.{Layout};
-ghost use Rattle.script_runner.specs.kinds.BumpSteps.{IsReading, exchange_line, load_line, read_line};
-ghost use Rattle.script_runner.specs.kinds.BumpSteps.{reading_text, wins_line};
-ghost use Rattle.script_runner.specs.kinds.Parties.{IsParty};
+ghost use Rattle.script_runner.specs.kinds.BumpSteps.{IsReading, read_line};
 
 use crate::engine::driven::Driven;
-use crate::fields::{layout, number_and_rest, write_between, write_number};
-use crate::kinds::bounds::Bounds;
-use crate::kinds::parties::{PARTIES, party_of, read_party};
-use bb_memory::layout::{Chunk, Layout};
+use crate::fields::{
+    Bounds, PARTIES, behind, layout, named_party, number_and_rest, party_of, region, write_between,
+};
+use crate::kinds::allocators::write_chunk;
+use bb_memory::layout::Layout;
 use bb_memory::steps::{BumpOutcome, BumpStep, BumpWorld};
 use std::alloc::{AllocError, Global};
 use std::io;
 use std::io::Write;
 
 impl Driven for BumpWorld {
+    ghost use Rattle.std.specs.Prelude.{true};
+    ghost use Rattle.std.proofs.Common.{refl};
     ghost use Rattle.script_runner.specs.kinds.BumpSteps.{bump_step_rules};
 
-    type Opening = Bounds;
+    type Header = Bounds;
 
     type Command = BumpStep;
 
     type Reply = BumpOutcome;
 
+    const CAN_SHOW: bool = true;
+
+    ghost CAN_SHOW = { true };
+
     ghost rules = { bump_step_rules };
 
-    fn read_first(line: &[u8]) -> Option<Bounds> {
-        Bounds::read(line.strip_prefix(b"steps-bump ")?)
+    ghost shows = { refl };
+
+    fn read_header(line: &[u8]) -> Option<Bounds> {
+        region(behind(b"steps-bump ", line)?)
     }
 
-    fn make(alloc: Global, opening: Bounds) -> Result<Self, AllocError> {
-        let (start, size) = opening.parts();
-        BumpWorld::new(alloc, start, size, PARTIES)
-    }
-
-    fn can_show() -> bool {
-        true
+    fn make(alloc: Global, header: Bounds) -> Result<Self, AllocError> {
+        BumpWorld::new(alloc, header.start, header.size, PARTIES)
     }
 
     fn read(line: &[u8]) -> Option<BumpStep> {
         if line == b"clear".as_slice() {
             return Some(BumpStep::Clear);
         }
-        if let Some(party) = read_exchange(line) {
+        if let Some(party) = named_party(b"exchange ", line) {
             return Some(BumpStep::Exchange { party });
         }
-        if let Some(party) = read_load(line) {
+        if let Some(party) = named_party(b"load ", line) {
             return Some(BumpStep::Load { party });
         }
-        let (party, layout) = read_read(line)?;
+        let (party, layout) = reading(line)?;
         Some(BumpStep::Read { party, layout })
     }
 
@@ -64,7 +65,7 @@ impl Driven for BumpWorld {
             BumpOutcome::RefusedAtRead(used) => {
                 write_between(b"sees ", *used, b" refused OutOfMemory\n", writer)
             }
-            BumpOutcome::Wins(chunk) => write_win(chunk, writer),
+            BumpOutcome::Wins(chunk) => write_chunk(b"wins ", chunk, writer),
             BumpOutcome::Loses(used) => write_between(b"loses ", *used, b"\n", writer),
             BumpOutcome::RefusedAtLoss(used) => {
                 write_between(b"loses ", *used, b" refused OutOfMemory\n", writer)
@@ -80,50 +81,13 @@ impl Driven for BumpWorld {
     }
 }
 
-fn write_win<W: Write>(chunk: &Chunk, writer: &mut W) -> io::Result<()>
-    ensures { OnOk result
-        (Appends (W.contents writer.old) (W.contents writer.new) (wins_line chunk.now)) }
-{
-    writer.write_all(b"wins ")?;
-    write_number(chunk.place(), writer)?;
-    write_between(b" ", chunk.len(), b"\n", writer)
-}
-
-/// The party that this line has exchange.
-fn read_exchange(line: &[u8]) -> Option<u32>
-    ensures written { IfSome result (λ party. IsParty party × (line.now ≡ exchange_line party)) }
-    ensures each { (party : ℕ) → IsParty party → line.now ≡ exchange_line party
-        → result ≡ Some party }
-{
-    read_party(line.strip_prefix(b"exchange ")?)
-}
-
-/// The party that this line has load.
-fn read_load(line: &[u8]) -> Option<u32>
-    ensures written { IfSome result (λ party. IsParty party × (line.now ≡ load_line party)) }
-    ensures each { (party : ℕ) → IsParty party → line.now ≡ load_line party
-        → result ≡ Some party }
-{
-    read_party(line.strip_prefix(b"load ")?)
-}
-
-/// The party that this line has read for a layout, and the layout.
-fn read_read(line: &[u8]) -> Option<(u32, Layout)>
+/// Parses `read PARTY SIZE ALIGN`.
+fn reading(line: &[u8]) -> Option<(u32, Layout)>
     ensures written { IfSome result (λ (party, layout). IsReading party layout
         × (line.now ≡ read_line party layout)) }
     ensures each { (party : ℕ) (layout : Layout) → IsReading party layout
         → line.now ≡ read_line party layout → result ≡ Some (party, layout) }
 {
-    reading(line.strip_prefix(b"read ")?)
-}
-
-/// The party and the layout that `PARTY SIZE ALIGN` names.
-fn reading(text: &[u8]) -> Option<(u32, Layout)>
-    ensures written { IfSome result (λ (party, layout). IsReading party layout
-        × (text.now ≡ reading_text party layout)) }
-    ensures each { (party : ℕ) (layout : Layout) → IsReading party layout
-        → text.now ≡ reading_text party layout → result ≡ Some (party, layout) }
-{
-    let (party, rest) = number_and_rest(text)?;
+    let (party, rest) = number_and_rest(behind(b"read ", line)?)?;
     Some((party_of(party)?, layout(rest)?))
 }

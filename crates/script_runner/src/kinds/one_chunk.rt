@@ -1,7 +1,7 @@
 //! A one chunk that a script drives.
 
+use crate::fields::{Bounds, behind, region};
 use crate::kinds::allocators::Scripted;
-use crate::kinds::bounds::Bounds;
 use bb_memory::allocator::{Command, Reply};
 use bb_memory::layout::Chunk;
 use bb_memory::one_chunk_allocator::{OneChunkAllocator, run_one_chunk};
@@ -12,17 +12,16 @@ use std::io::Write;
 impl Scripted for OneChunkAllocator {
     ghost use Rattle.script_runner.specs.kinds.OneChunk.{one_chunk_rules};
 
-    type Opening = Bounds;
+    type Header = Bounds;
 
     ghost rules = { one_chunk_rules };
 
-    fn read_first(line: &[u8]) -> Option<Bounds> {
-        Bounds::read(line.strip_prefix(b"one ")?)
+    fn read_header(line: &[u8]) -> Option<Bounds> {
+        region(behind(b"one ", line)?)
     }
 
-    fn make(_alloc: Global, opening: Bounds) -> Result<Self, AllocError> {
-        let (start, size) = opening.parts();
-        Ok(OneChunkAllocator::new(start, size))
+    fn make(_alloc: Global, header: Bounds) -> Result<Self, AllocError> {
+        Ok(OneChunkAllocator::new(header.start, header.size))
     }
 
     fn run(

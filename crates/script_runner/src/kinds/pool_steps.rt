@@ -2,47 +2,57 @@
 ghost use Rattle.std.specs.Prelude.{◌≡◌, ℕ, IfSome, Some, OnOk};
 ghost use Rattle.std.specs.Io.KnownBytes.{Appends};
 ghost use Rattle.std.specs.List.{flat_map};
-ghost use Rattle.script_runner.specs.kinds.Parties.{IsParty};
-ghost use Rattle.script_runner.specs.kinds.PoolSteps.{IsGiving, flag_text, give_line, giving_text, holder_text};
-ghost use Rattle.script_runner.specs.kinds.PoolSteps.{try_line};
+ghost use Rattle.script_runner.specs.kinds.PoolSteps.{IsGiving, flag_text, give_line, holder_text};
 
 use crate::engine::driven::Driven;
-use crate::fields::{number, number_and_rest, write_between};
-use crate::kinds::buckets::{Buckets, bucket_of};
-use crate::kinds::parties::{PARTIES, party_of, read_party};
+use crate::fields::{
+    PARTIES, behind, named_number, named_party, number, number_and_rest, party_of, small,
+    write_between,
+};
 use bb_memory::steps::{PoolOutcome, PoolStep, PoolWorld};
 use std::alloc::{AllocError, Global};
 use std::io;
 use std::io::Write;
 
+/// The most buckets that a script may ask for.
+const MOST_BUCKETS: usize = 4096;
+
 impl Driven for PoolWorld {
+    ghost use Rattle.std.specs.Prelude.{true};
+    ghost use Rattle.std.proofs.Common.{refl};
     ghost use Rattle.script_runner.specs.kinds.PoolSteps.{pool_step_rules};
 
-    type Opening = Buckets;
+    type Header = u32;
 
     type Command = PoolStep;
 
     type Reply = PoolOutcome;
 
+    const CAN_SHOW: bool = true;
+
+    ghost CAN_SHOW = { true };
+
     ghost rules = { pool_step_rules };
 
-    fn read_first(line: &[u8]) -> Option<Buckets> {
-        Buckets::read(line.strip_prefix(b"steps-pool ")?)
+    ghost shows = { refl };
+
+    fn read_header(line: &[u8]) -> Option<u32> {
+        let count = named_number(b"steps-pool ", line)?;
+        if count > MOST_BUCKETS {
+            return None;
+        }
+        Some(count as u32)
     }
 
-    fn make(alloc: Global, opening: Buckets) -> Result<Self, AllocError> {
-        PoolWorld::new(alloc, opening.count(), PARTIES)
-    }
-
-    fn can_show() -> bool {
-        true
+    fn make(alloc: Global, header: u32) -> Result<Self, AllocError> {
+        PoolWorld::new(alloc, header, PARTIES)
     }
 
     fn read(line: &[u8]) -> Option<PoolStep> {
-        if let Some(party) = read_try(line) {
+        if let Some(party) = named_party(b"try ", line) {
             return Some(PoolStep::Try { party });
         }
-        let (party, bucket) = read_give(line)?;
+        let (party, bucket) = giving(line)?;
         Some(PoolStep::GiveBack { party, bucket })
     }
 
@@ -113,32 +123,13 @@ fn write_holder<W: Write>(holder: Option<u32>, writer: &mut W) -> io::Result<()>
     }
 }
 
-/// The party that this line has try.
-fn read_try(line: &[u8]) -> Option<u32>
-    ensures written { IfSome result (λ party. IsParty party × (line.now ≡ try_line party)) }
-    ensures each { (party : ℕ) → IsParty party → line.now ≡ try_line party
-        → result ≡ Some party }
-{
-    read_party(line.strip_prefix(b"try ")?)
-}
-
-/// The party that this line has give back a bucket, and the bucket.
-fn read_give(line: &[u8]) -> Option<(u32, u32)>
+/// Parses `give PARTY BUCKET`.
+fn giving(line: &[u8]) -> Option<(u32, u32)>
     ensures written { IfSome result (λ (party, bucket). IsGiving party bucket
         × (line.now ≡ give_line party bucket)) }
     ensures each { (party bucket : ℕ) → IsGiving party bucket → line.now ≡ give_line party bucket
         → result ≡ Some (party, bucket) }
 {
-    giving(line.strip_prefix(b"give ")?)
-}
-
-/// The party and the bucket that `PARTY BUCKET` names.
-fn giving(text: &[u8]) -> Option<(u32, u32)>
-    ensures written { IfSome result (λ (party, bucket). IsGiving party bucket
-        × (text.now ≡ giving_text party bucket)) }
-    ensures each { (party bucket : ℕ) → IsGiving party bucket
-        → text.now ≡ giving_text party bucket → result ≡ Some (party, bucket) }
-{
-    let (party, bucket) = number_and_rest(text)?;
-    Some((party_of(party)?, bucket_of(number(bucket)?)?))
+    let (party, bucket) = number_and_rest(behind(b"give ", line)?)?;
+    Some((party_of(party)?, small(number(bucket)?)?))
 }

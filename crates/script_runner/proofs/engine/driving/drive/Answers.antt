@@ -16,14 +16,14 @@ returns-in-Ok-Err-clause-unreadable g c e =
 
 pub returns-in-Ok-Ok-clause-done : goal.returns-in-Ok-Ok-clause-done
 returns-in-Ok-Ok-clause-done g c e =
-    let (first, last, text, opens, played, wrote) = c.answer.ensures.done e in
+    let (first, last, text, starts, played, wrote) = c.answer.ensures.done e in
     let read = rw c.in-Ok-Ok.field-0-is at c.in-Ok-Ok.ensures.read in
-    (text, (c.in-Ok-Ok.script, first, last, read, opens, played), wrote)
+    (text, (c.in-Ok-Ok.script, first, last, read, starts, played), wrote)
 
 pub returns-in-Ok-Ok-clause-cut_short : goal.returns-in-Ok-Ok-clause-cut_short
 returns-in-Ok-Ok-clause-cut_short g c short =
     let read = rw c.in-Ok-Ok.field-0-is at c.in-Ok-Ok.ensures.read in
     elim (c.answer.ensures.cut_short short) [
       | inl kept ↦ inl kept
-      | inr (first, sent, opens, begun, wrote) ↦ inr (sent, inl (c.in-Ok-Ok.script, first, read, opens, begun), wrote)
+      | inr (first, sent, starts, begun, wrote) ↦ inr (sent, inl (c.in-Ok-Ok.script, first, read, starts, begun), wrote)
     ]

@@ -1,7 +1,7 @@
-use Rattle.std.proofs.Common.{arith, List, ℕ, ◌++◌, ◌+◌, ◌≤◌, length, sym, ap, ◌∙◌, [], inl, inr, refl}
+use Rattle.std.proofs.Common.{List, ℕ, ◌++◌, ◌+◌, ◌≤◌, length, sym, ap, ◌∙◌, [], inl, inr, refl}
 use Rattle.std.specs.List.{flat_map}
 use Rattle.std.proofs.lemmas.List.{append_assoc, append-nil}
-use Rattle.script_runner.proofs.Appending.{appends_again, appends_kept, on_ok, on_err}
+use Rattle.script_runner.proofs.Appending.{appends_again, appends_kept, on_err}
 use Rattle.script_runner.proofs.Telling.{told_more, played, begun_part, begun_all}
 use Rattle.script_runner.proofs.engine.driving.play.Goals as goal
 
@@ -84,7 +84,7 @@ returns-in_err-tell-2-clause-err g c =
     let (text, told, wrote) = c.loop-index.invariant.told in
     let replies = c.in_ok-replies-2.replies.items in
     let more : List ℕ = flat_map rules.reply_text replies in
-    let past : length script.shown ≤ i = omega (arith, c.shows-index-end.ensures) in
+    let past : length script.shown ≤ i = rw c.shows-index-end.ensures at c.loop-index-test.false in
     let run = rw c.last.ensures at c.in_ok-replies-2.ensures in
     let all = played rules c.args.driven.now c.loop-index.driven c.run-2.new.self script i text replies past told run in
     let part = rw c.deref-2.ensures.value at c.in_err-tell-2.ensures in
@@ -100,24 +100,24 @@ returns-clause-ok g c =
     let (text, told, wrote) = c.loop-index.invariant.told in
     let replies = c.in_ok-replies-2.replies.items in
     let more : List ℕ = flat_map rules.reply_text replies in
-    let past : length script.shown ≤ i = omega (arith, c.shows-index-end.ensures) in
+    let past : length script.shown ≤ i = rw c.shows-index-end.ensures at c.loop-index-test.false in
     let run = rw c.last.ensures at c.in_ok-replies-2.ensures in
     let all = played rules c.args.driven.now c.loop-index.driven c.run-2.new.self script i text replies past told run in
     let lines = rw c.deref-2.ensures.value at c.in_ok-tell-2.ensures in
-    on_ok c.map_err.result
     (text ++ more, all, appends_kept _ _ _ (text ++ more) (appends_again _ _ _ text more wrote lines) c.flush.ensures.bytes)
 
-pub returns-clause-err : goal.returns-clause-err
-returns-clause-err g c =
+pub returns-in_default-clause-err : goal.returns-in_default-clause-err
+returns-in_default-clause-err g c =
     let rules = g.K.Driven.rules in
     let script = c.args.script.now in
     let i = c.loop-index.index in
     let (text, told, wrote) = c.loop-index.invariant.told in
     let replies = c.in_ok-replies-2.replies.items in
     let more : List ℕ = flat_map rules.reply_text replies in
-    let past : length script.shown ≤ i = omega (arith, c.shows-index-end.ensures) in
+    let past : length script.shown ≤ i = rw c.shows-index-end.ensures at c.loop-index-test.false in
     let run = rw c.last.ensures at c.in_ok-replies-2.ensures in
     let all = played rules c.args.driven.now c.loop-index.driven c.run-2.new.self script i text replies past told run in
     let lines = rw c.deref-2.ensures.value at c.in_ok-tell-2.ensures in
-    let wrote_all = appends_kept _ _ _ (text ++ more) (appends_again _ _ _ text more wrote lines) c.flush.ensures.bytes in
-    on_err c.map_err.result (begun_all rules c.args.driven.now c.run-2.new.self script _ _ (text ++ more) (inr all) wrote_all)
+    let wrote_all =
+    appends_kept _ _ _ (text ++ more) (appends_again _ _ _ text more wrote lines) c.flush.ensures.bytes in
+    begun_all rules c.args.driven.now c.run-2.new.self script _ _ (text ++ more) (inr all) wrote_all

@@ -1,14 +1,14 @@
-use Rattle.std.proofs.Common.{◌≡◌, ◌++◌, ◌+◌, ◌<◌, List, ℕ, length, take, drop, sym, ap, ◌∙◌, arith}
+use Rattle.std.proofs.Common.{◌≡◌, ◌++◌, ◌+◌, ◌<◌, List, ℕ, length, take, drop, sym, ap, ◌∙◌}
 use Rattle.std.specs.List.{flat_map}
 use Rattle.std.proofs.lemmas.List.{take-append-drop, take_all}
 use Rattle.std.proofs.lemmas.Grind.{flat_map-append}
 use Rattle.std.proofs.lemmas.Result.{err_from_is_err_and}
-use Rattle.script_runner.proofs.Appending.{appends_again, appends_nothing}
+use Rattle.script_runner.proofs.Appending.{appends_again, appends_nothing, written_whole}
 use Rattle.script_runner.proofs.Sends.{flat_map-at, flat_map-more, part_after}
 use Rattle.script_runner.proofs.engine.driving.tell.Goals as goal
 
-pub returns-in_err-reply_line : goal.returns-in_err-reply_line
-returns-in_err-reply_line g c =
+pub returns-in_default : goal.returns-in_default
+returns-in_default g c =
     let rules = g.K.Driven.rules in
     let replies = c.args.replies.now in
     let i = c.loop-reply.reply-index in
@@ -17,8 +17,7 @@ returns-in_err-reply_line g c =
     let whole : flat_map rules.reply_text replies ≡ front ++ back =
     ap (flat_map rules.reply_text) (sym (take-append-drop i replies))
     ∙ flat_map-append rules.reply_text (take i replies) (drop i replies) in
-    let p = err_from_is_err_and c.from_residual.result c.from_residual.ensures.1 in
-    rw p.1 (front, (back, whole), c.loop-reply.invariant)
+    (front, (back, whole), c.loop-reply.invariant)
 
 pub returns-in_err-send : goal.returns-in_err-send
 returns-in_err-send g c =
@@ -27,9 +26,10 @@ returns-in_err-send g c =
     let i = c.loop-reply.reply-index in
     let reply = c.reply-item.result in
     let front : List ℕ = flat_map rules.reply_text (take i replies) in
-    let below : i < length replies = omega arith in
-    let p = err_from_is_err_and c.from_residual-in_err-send.result c.from_residual-in_err-send.ensures.1 in
-    let part = rw (c.deref.ensures.value, c.in_ok-reply_line.ensures) at c.in_err-send.ensures in
+    let below : i < length replies = c.loop-reply-test.true in
+    let p = err_from_is_err_and c.from_residual.result c.from_residual.ensures.1 in
+    let is = written_whole _ _ (rules.reply_text reply) c.clear.ensures.items c.in-Ok.ensures in
+    let part = rw (c.deref.ensures.value, is) at c.in_err-send.ensures in
     rw (p.1, flat_map-at rules.reply_text replies i reply below c.reply-item.is)
     (part_after _ _ _ front (rules.reply_text reply) (flat_map rules.reply_text (drop (i + 1) replies))
     c.loop-reply.invariant part)
@@ -43,8 +43,9 @@ loop-reply-preserved g c =
     let replies = c.args.replies.now in
     let i = c.loop-reply.reply-index in
     let reply = c.reply-item.result in
-    let below : i < length replies = omega arith in
-    let more = rw (c.deref.ensures.value, c.in_ok-reply_line.ensures) at c.in_ok-send.ensures in
+    let below : i < length replies = c.loop-reply-test.true in
+    let is = written_whole _ _ (rules.reply_text reply) c.clear.ensures.items c.in-Ok.ensures in
+    let more = rw (c.deref.ensures.value, is) at c.in_ok-send.ensures in
     rw (flat_map-more rules.reply_text replies i reply below c.reply-item.is)
     (appends_again _ _ _ (flat_map rules.reply_text (take i replies)) (rules.reply_text reply) c.loop-reply.invariant more)
 

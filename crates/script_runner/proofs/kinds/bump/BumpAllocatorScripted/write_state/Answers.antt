@@ -1,17 +1,13 @@
-use Rattle.std.proofs.Common.{◌≡◌, ◌++◌, ◌-◌, codes, OnOk, arith}
-use Rattle.std.specs.Io.KnownBytes.{Appends}
+use Rattle.std.proofs.Common.{◌-◌, codes, append_assoc}
 use Rattle.bb_memory.specs.Bump.{bump_text}
 use Rattle.script_runner.specs.kinds.Bump.{figures_line}
-use Rattle.script_runner.proofs.Appending.{appends_again, on_ok-map}
+use Rattle.script_runner.proofs.Numbers.{what_is_free}
 use Rattle.script_runner.proofs.kinds.bump.BumpAllocatorScripted.write_state.Goals as goal
 
 pub returns : goal.returns
 returns g c =
     let bump = c.args.self.now in
-    let free : c.free_space.result ≡ bump.region.size - bump.used = omega (arith, c.free_space.ensures) in
+    let free = what_is_free bump.used c.free_space-free.result bump.region.size c.free_space-free.ensures in
     let figures = figures_line bump.used (bump.region.size - bump.used) bump.region.size in
-    let told : OnOk c.write_figures.result (Appends (g.W.Write.contents c.write_text.new.writer)
-    (g.W.Write.contents c.write_figures.new.writer) figures) =
-    rw (c.used_space.ensures.value, free, c.total_space.ensures) at c.write_figures.ensures
-    in
-    on_ok-map c.write_figures.result (appends_again _ _ _ (bump_text bump ++ codes "\n") figures c.in_ok-write_text.ensures) told
+    rw (append_assoc (bump_text bump) (codes "\n") figures)
+    (rw (c.used_space-used.ensures.value, free, c.total_space-total.ensures) at c.writeln.ensures.bytes)

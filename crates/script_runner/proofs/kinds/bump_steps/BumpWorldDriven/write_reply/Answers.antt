@@ -7,7 +7,7 @@ pub returns-in-RefusedAtRead : goal.returns-in-RefusedAtRead
 returns-in-RefusedAtRead g c = rw c.in-RefusedAtRead.is c.write_between-in-RefusedAtRead.ensures
 
 pub returns-in-Wins : goal.returns-in-Wins
-returns-in-Wins g c = rw c.in-Wins.is c.write_win.ensures
+returns-in-Wins g c = rw c.in-Wins.is c.write_chunk.ensures
 
 pub returns-in-Loses : goal.returns-in-Loses
 returns-in-Loses g c = rw c.in-Loses.is c.write_between-in-Loses.ensures

@@ -1,5 +1,6 @@
+use Rattle.std.proofs.Common.{subst}
+use Rattle.script_runner.specs.kinds.Pool.{BeginsFixed}
 use Rattle.script_runner.proofs.kinds.pool.FixedScripted.make.Goals as goal
 
-pub returns-clause-opens : goal.returns-clause-opens
-returns-clause-opens c =
-    rw (c.parts-start.ensures.start, c.parts-start.ensures.size, c.parts-start.ensures.bucket) at c.new.ensures.value
+pub returns-clause-starts : goal.returns-clause-starts
+returns-clause-starts c = subst (λ plan. BeginsFixed plan c.new.result) c.header.view_is c.new.ensures.value

@@ -1,0 +1,10 @@
+use Rattle.std.proofs.Common.{rules}
+use Rattle.script_runner.proofs.kinds.loan_pool.LoanPoolDriven.run.Goals as goal
+
+pub returns : goal.returns
+returns c = record {
+  run = rw c.self.view_is at c.in_ok-replies.ensures.run;
+  remembered = search rules;
+  geometry = rw c.self.view_is at c.in_ok-replies.ensures.geometry;
+  stands = c.in_ok-replies.ensures.stands;
+}
