@@ -169,7 +169,7 @@ impl<A: Allocator + Drop, B: Allocator + Drop> BaseAllocator for Segregated<A, B
 
 impl<A: Allocator + Drop, B: Allocator + Drop> Allocator for Segregated<A, B> {
     ghost use Rattle.std.specs.Prelude.{refl};
-    ghost use Rattle.std.proofs.Common.{ap, subst};
+    ghost use Rattle.std.proofs.Common.{ap};
     ghost use Rattle.bb_memory_base.specs.SideBySide.{BySide, before, behind, by_side};
     ghost use Rattle.bb_memory_base.specs.SideBySide.{position_before, position_behind};
     ghost use Rattle.bb_memory_base.proofs.SideBySides.{covered, differ, place_in_whole, there_before, there_behind};

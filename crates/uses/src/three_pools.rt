@@ -1,7 +1,6 @@
 //! Three pools in one region, each in a third of it: of small buckets, of larger ones, and of the largest.
-ghost use Rattle.std.specs.Prelude.{◌≡◌, ◌+◌, ◌*◌, ◌<◌, ◌≤◌, ℕ, []};
-ghost use Rattle.bb_memory_base.specs.Region.{region_at, region_end};
-ghost use Rattle.bb_memory_base.specs.PoolGeometry.{bucket_place};
+ghost use Rattle.std.specs.Prelude.{◌≡◌, ◌+◌, ◌*◌, ◌<◌, []};
+ghost use Rattle.bb_memory_base.specs.Region.{region_at};
 ghost use Rattle.bb_memory_base.specs.PoolObject.{MayAllocate};
 ghost use Rattle.uses.specs.Segregations.{GivesBefore, IsFreshPool, MayBePool};
 
