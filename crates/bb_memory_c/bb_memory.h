@@ -8,7 +8,7 @@
 // - One call at a time has a handle. Only a maker, a free and the calls that give a seat or take one back write a handle, but
 //   each other one may write what is behind it: so what two at once make of it is anything, a bucket that is given twice among
 //   that. A call that takes two handles is passed two; one that takes a seat back is passed a seat of what takes it; and one that
-//   takes a bucket over, a seat of the pool of which the bucket is. A handle may go to another thread between two calls, if the
+//   attaches a bucket, a seat of the pool of which the bucket is. A handle may go to another thread between two calls, if the
 //   threads order that by a lock, by a release and an acquire of one atomic, or by a thread's start or join. Threads that call at
 //   once share by the shared forms alone, each through a seat of its own; any other handle they share under one lock.
 // - But a getter whose handle is `const` may run beside any call with that handle but one that writes it: it reads the handle
@@ -47,9 +47,9 @@ extern "C" {
 #endif
 
 // The version of this library, as text and by its numbers. The last of them grows with each version, for `#if`.
-#define BB_VERSION "0.10.0"
+#define BB_VERSION "0.11.0"
 #define BB_VERSION_MAJOR 0
-#define BB_VERSION_MINOR 10
+#define BB_VERSION_MINOR 11
 #define BB_VERSION_PATCH 0
 #define BB_VERSION_NUMBER (BB_VERSION_MAJOR * 10000 + BB_VERSION_MINOR * 100 + BB_VERSION_PATCH)
 
@@ -88,9 +88,9 @@ enum {
     BB_NO_BUCKET = 16,           // of a pool's maker alone: the region has no room for one bucket
     // 17 was BB_SEAT_HOLDS up to 0.4.0; nothing is answered it
     BB_SEATS_OUT = 18,           // of bb_shared_bump_begin_anew and _into_owner alone: not each party's seat has come back
-    BB_ONE_PARTY = 19,           // of bb_pool_seat_hand_over alone: the seat's pool has no other party
-    BB_ENVELOPE_FULL = 20,       // of bb_pool_seat_hand_over alone: a bucket is in the envelope already
-    BB_ENVELOPE_EMPTY = 21,      // of bb_pool_seat_take_over alone: no bucket is in the envelope
+    BB_ONE_PARTY = 19,           // of bb_pool_seat_detach alone: the seat's pool has no other party
+    BB_DETACHED_FULL = 20,       // of bb_pool_seat_detach alone: a detached bucket is there already
+    BB_DETACHED_EMPTY = 21,      // of bb_pool_seat_attach alone: no detached bucket is there
     BB_NOT_A_BUCKET = 22,        // of place_at and number_at alone: no bucket has the number, or begins at the place
     BB_LAST_CODE = BB_NOT_A_BUCKET
 };
@@ -117,15 +117,15 @@ static inline const char *bb_text(uint32_t code) {
     case BB_NO_BUCKET: return "the region has no room for one bucket";
     case BB_SEATS_OUT: return "not each party's seat has come back";
     case BB_ONE_PARTY: return "the pool has no other party";
-    case BB_ENVELOPE_FULL: return "a bucket is in the envelope already";
-    case BB_ENVELOPE_EMPTY: return "no bucket is in the envelope";
+    case BB_DETACHED_FULL: return "a detached bucket is there already";
+    case BB_DETACHED_EMPTY: return "no detached bucket is there";
     case BB_NOT_A_BUCKET: return "no bucket has the number, or begins at the place";
     default: return "not a code of bb_memory";
     }
 }
 
-// Compilers warn where the answer isn't looked at of a maker, a request, a resize, a call that gives a seat, one that hands a
-// bucket over or takes one over, `bb_shared_bump_begin_anew`, or `bb_shared_bump_into_owner`.
+// Compilers warn where the answer isn't looked at of a maker, a request, a resize, a call that gives a seat, one that detaches or
+// attaches a bucket, `bb_shared_bump_begin_anew`, or `bb_shared_bump_into_owner`.
 #ifdef __GNUC__
 #define BB_MUST_USE __attribute__((warn_unused_result))
 #else
@@ -148,7 +148,7 @@ typedef struct bb_shared_bump { void *at; bool made; } bb_shared_bump;
 typedef struct bb_bump_seat { void *at; bool made; } bb_bump_seat;
 typedef struct bb_shared_pool { void *at; bool made; } bb_shared_pool;
 typedef struct bb_pool_seat { void *at; bool made; } bb_pool_seat;
-typedef struct bb_envelope { void *at; bool made; } bb_envelope;
+typedef struct bb_detached { void *at; bool made; } bb_detached;
 
 // A chunk that was given: where it begins, and how many bytes it has.
 typedef struct bb_answer { uint32_t code; bb_place place; size_t len; } bb_answer;
@@ -172,7 +172,7 @@ typedef struct bb_figure { uint32_t code; size_t number; } bb_figure;
 //     bb_shared_bump           256, and 16 for each party; as many to begin anew, before it frees those; 64 more to become one
 //                              with an owner, of which the 64 stay; 64 for each seat
 //     bb_shared_pool           1648, and 16 for each bucket and each party; 128 for each seat, and 1 for each bucket
-//     bb_envelope              64
+//     bb_detached              64
 
 // A bump gives one chunk after another, and takes all of them back at once.
 
@@ -339,7 +339,7 @@ bb_figure bb_bump_seat_party(const bb_bump_seat *);
 uint32_t bb_bump_seat_meet(bb_bump_seat *, bb_bump_seat *);
 
 // A pool that threads share, in the same way. A bucket is given back through the seat that holds it: the one that took it, or one
-// that took it over (below). A return comes before the next taking of that bucket (the steps are sequentially consistent), so its
+// that attached it (below). A return comes before the next taking of that bucket (the steps are sequentially consistent), so its
 // bytes need no further lock. ThreadSanitizer can't see that in the built library: tell it by `__tsan_release` before a return
 // and `__tsan_acquire` after a taking, as examples/c/threads.c does.
 
@@ -386,34 +386,34 @@ bb_figure bb_pool_seat_party(const bb_pool_seat *);
 // As of the shared bump: no bucket is held by both.
 uint32_t bb_pool_seat_meet(bb_pool_seat *, bb_pool_seat *);
 
-// A bucket that another seat gives back. In a pool of two parties at least a seat may hand over a bucket that it holds: the
-// bucket goes into an envelope, and no seat holds it. Whoever has the envelope takes the bucket over by a seat of the same pool, in any thread,
-// and gives it back there: so the receiver of a message returns it (examples/c/returns.c). Neither call takes memory or waits.
+// A bucket that another seat gives back. In a pool of at least two parties a seat may detach a bucket that it holds: the bucket
+// goes into a `bb_detached`, and no seat holds it. Whoever has the `bb_detached` attaches the bucket by a seat of the same pool,
+// in any thread, and gives it back there: so the receiver of a message returns it (examples/c/returns.c). Neither call takes
+// memory or waits.
 //
-// An envelope is made once, and serves one bucket after another. A queue makes its envelopes with its slots, so no message takes
-// memory. As each handle it may be moved: a full one goes along with the message, or changes places with an empty one.
+// A `bb_detached` is made once, and serves one bucket after another. A queue makes one for each of its slots, so no message
+// takes memory. As each handle it may be moved: a full one goes along with the message, or changes places with one that has no
+// bucket.
 
-// An envelope with nothing in it, for buckets of any pool.
-BB_MUST_USE uint32_t bb_envelope_make(bb_envelope *);
-// A bucket that is in a freed envelope stays held for good. An envelope keeps no pool: a pool whose own handle and seats are all
-// freed is gone, and a bucket of it that is in an envelope can't be taken over any more; the envelope is then only freed.
-uint32_t bb_envelope_free(bb_envelope *);
+// A `bb_detached` with no bucket in it, for buckets of any pool.
+BB_MUST_USE uint32_t bb_detached_make(bb_detached *);
+// A bucket that is in a freed `bb_detached` stays detached for good. A `bb_detached` keeps no pool: a pool whose own handle and
+// seats are all freed is gone, and a detached bucket of it can't be attached any more; the `bb_detached` is then only freed.
+uint32_t bb_detached_free(bb_detached *);
 // 1 where a bucket is in it, else 0.
-bb_figure bb_envelope_is_full(bb_envelope *);
-// The bucket at this place goes into the envelope, with a chunk of `len` bytes. The seat doesn't hold it then, and its thread
-// doesn't use the chunk any more. BB_NOT_MADE where one of the handles is empty; then BB_ONE_PARTY; BB_NOT_HELD where the place
-// isn't that of a bucket which this seat holds; BB_SIZE_TOO_LARGE where `len` is greater than the bucket's size; and
-// BB_ENVELOPE_FULL.
-BB_MUST_USE uint32_t bb_pool_seat_hand_over(bb_pool_seat *, bb_address place, size_t len, bb_envelope *);
-// This seat holds the bucket that is in the envelope, which is empty then. The answer is the chunk, at its place and with the
-// length with which it was handed over. BB_NOT_MADE where one of the handles is empty; then BB_ENVELOPE_EMPTY. A seat of the
+bb_figure bb_detached_is_full(bb_detached *);
+// The bucket at this place goes into the `bb_detached`, with a chunk of `len` bytes. The seat doesn't hold it then, and its
+// thread doesn't use the chunk any more. BB_NOT_MADE where one of the handles is empty; then BB_ONE_PARTY; BB_NOT_HELD where the
+// place isn't that of a bucket which this seat holds; BB_SIZE_TOO_LARGE where `len` is greater than the bucket's size; and
+// BB_DETACHED_FULL.
+BB_MUST_USE uint32_t bb_pool_seat_detach(bb_pool_seat *, bb_address place, size_t len, bb_detached *);
+// This seat holds the bucket that is in the `bb_detached`, which has none then. The answer is the chunk, at its place and with
+// the length with which it was detached. BB_NOT_MADE where one of the handles is empty; then BB_DETACHED_EMPTY. A seat of the
 // bucket's pool, which nothing tests.
-BB_MUST_USE bb_answer bb_pool_seat_take_over(bb_pool_seat *, bb_envelope *);
+BB_MUST_USE bb_answer bb_pool_seat_attach(bb_pool_seat *, bb_detached *);
 
-// Names that calls had before: those of a seat before 0.2.0, and each shared pool has been made as one with a post. With BB_NO_OLD_NAMES defined above the header they are gone.
+// The names that calls of a seat had before 0.2.0. With BB_NO_OLD_NAMES defined above the header they are gone.
 #ifndef BB_NO_OLD_NAMES
-#define bb_shared_pool_make_with_post bb_shared_pool_make
-#define BB_NO_POST BB_ONE_PARTY
 #define bb_shared_bump_allocate bb_bump_seat_allocate
 #define bb_shared_bump_used_space bb_bump_seat_used_space
 #define bb_shared_bump_free_space bb_bump_seat_free_space

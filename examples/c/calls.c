@@ -273,9 +273,9 @@ static void run_memory(void) {
     WITHIN(64, bb_bump_make(&bump, 4096, 1024));
     WITHIN(64, bb_one_chunk_make(&one, 4096, 1024));
     EXPECT(bb_bump_free(&bump) == BB_DONE && bb_one_chunk_free(&one) == BB_DONE);
-    bb_envelope envelope = BB_EMPTY;
-    WITHIN(64, bb_envelope_make(&envelope));
-    EXPECT(bb_envelope_free(&envelope) == BB_DONE);
+    bb_detached detached = BB_EMPTY;
+    WITHIN(64, bb_detached_make(&detached));
+    EXPECT(bb_detached_free(&detached) == BB_DONE);
     for (uint32_t parties = 1; parties < 6; parties++)
         for (size_t buckets = 1; buckets < 100000; buckets = buckets * 2 + 1) {
             bb_pool pool = BB_EMPTY;
@@ -382,9 +382,9 @@ static void run_makers(void) {
     bb_fixed_pool fixed = BB_EMPTY;
     bb_shared_bump shared_bump = BB_EMPTY;
     bb_shared_pool shared_pool = BB_EMPTY;
-    bb_envelope envelope = BB_EMPTY;
-    WITH_EACH_REFUSED(bb_envelope_free(&envelope), bb_envelope_make(&envelope));
-    EXPECT(bb_envelope_free(&envelope) == BB_DONE);
+    bb_detached detached = BB_EMPTY;
+    WITH_EACH_REFUSED(bb_detached_free(&detached), bb_detached_make(&detached));
+    EXPECT(bb_detached_free(&detached) == BB_DONE);
     WITH_EACH_REFUSED(bb_bump_free(&bump), bb_bump_make(&bump, 4096, 1024));
     WITH_EACH_REFUSED(bb_one_chunk_free(&one), bb_one_chunk_make(&one, 4096, 1024));
     WITH_EACH_REFUSED(bb_pool_free(&pool), bb_pool_make(&pool, 128, 8, 4096, 1024));
@@ -591,84 +591,84 @@ static void run_at_most(void) {
 }
 
 // A bucket goes from one seat to another, and each refusal comes by its first cause.
-static void run_transit(void) {
+static void run_detached(void) {
     bb_shared_pool pool = BB_EMPTY;
     bb_pool_seat seats[2] = {BB_EMPTY, BB_EMPTY};
-    bb_envelope envelope = BB_EMPTY, other = BB_EMPTY;
-    EXPECT(bb_pool_seat_hand_over(&seats[0], 4096, 65, &envelope) == BB_NOT_MADE);
-    EXPECT(refused(bb_pool_seat_take_over(&seats[0], &envelope), BB_NOT_MADE));
-    EXPECT(has_none(bb_envelope_is_full(&envelope), BB_NOT_MADE));
+    bb_detached detached = BB_EMPTY, other = BB_EMPTY;
+    EXPECT(bb_pool_seat_detach(&seats[0], 4096, 65, &detached) == BB_NOT_MADE);
+    EXPECT(refused(bb_pool_seat_attach(&seats[0], &detached), BB_NOT_MADE));
+    EXPECT(has_none(bb_detached_is_full(&detached), BB_NOT_MADE));
     EXPECT(bb_shared_pool_make(&pool, 64, 8, 4096, 128, 2) == BB_DONE);
     EXPECT(bb_shared_pool_seat(&pool, &seats[0]) == BB_DONE && bb_shared_pool_seat(&pool, &seats[1]) == BB_DONE);
-    EXPECT(bb_pool_seat_hand_over(&seats[0], 4096, 65, &envelope) == BB_NOT_MADE);
-    EXPECT(refused(bb_pool_seat_take_over(&seats[0], &envelope), BB_NOT_MADE));
-    EXPECT(bb_envelope_make(&envelope) == BB_DONE && bb_envelope_make(&envelope) == BB_ALREADY_MADE);
-    EXPECT(bb_envelope_make(&other) == BB_DONE && is(bb_envelope_is_full(&envelope), 0));
-    EXPECT(refused(bb_pool_seat_take_over(&seats[0], &envelope), BB_ENVELOPE_EMPTY));
+    EXPECT(bb_pool_seat_detach(&seats[0], 4096, 65, &detached) == BB_NOT_MADE);
+    EXPECT(refused(bb_pool_seat_attach(&seats[0], &detached), BB_NOT_MADE));
+    EXPECT(bb_detached_make(&detached) == BB_DONE && bb_detached_make(&detached) == BB_ALREADY_MADE);
+    EXPECT(bb_detached_make(&other) == BB_DONE && is(bb_detached_is_full(&detached), 0));
+    EXPECT(refused(bb_pool_seat_attach(&seats[0], &detached), BB_DETACHED_EMPTY));
 
     requests = 0;
     bb_answer sent = bb_pool_seat_allocate(&seats[0], 48, 8), kept = bb_pool_seat_allocate(&seats[0], 48, 8);
     EXPECT(sent.code == BB_DONE && kept.code == BB_DONE && sent.place + kept.place == 4096 + 4160);
-    EXPECT(bb_pool_seat_hand_over(&seats[0], sent.place + 1, 65, &envelope) == BB_NOT_HELD);
-    EXPECT(bb_pool_seat_hand_over(&seats[1], sent.place, 65, &envelope) == BB_NOT_HELD);
-    EXPECT(bb_pool_seat_hand_over(&seats[0], sent.place, 65, &envelope) == BB_SIZE_TOO_LARGE);
-    EXPECT(is(bb_envelope_is_full(&envelope), 0) && is(bb_pool_seat_held_buckets(&seats[0]), 2));
-    EXPECT(bb_pool_seat_hand_over(&seats[0], sent.place, 40, &envelope) == BB_DONE && is(bb_envelope_is_full(&envelope), 1));
+    EXPECT(bb_pool_seat_detach(&seats[0], sent.place + 1, 65, &detached) == BB_NOT_HELD);
+    EXPECT(bb_pool_seat_detach(&seats[1], sent.place, 65, &detached) == BB_NOT_HELD);
+    EXPECT(bb_pool_seat_detach(&seats[0], sent.place, 65, &detached) == BB_SIZE_TOO_LARGE);
+    EXPECT(is(bb_detached_is_full(&detached), 0) && is(bb_pool_seat_held_buckets(&seats[0]), 2));
+    EXPECT(bb_pool_seat_detach(&seats[0], sent.place, 40, &detached) == BB_DONE && is(bb_detached_is_full(&detached), 1));
     EXPECT(is(bb_pool_seat_holds(&seats[0], sent.place), 0) && is(bb_pool_seat_held_buckets(&seats[0]), 1));
     EXPECT(bb_pool_seat_deallocate(&seats[0], sent.place) == BB_NOT_HELD);
-    EXPECT(bb_pool_seat_hand_over(&seats[0], sent.place, 40, &other) == BB_NOT_HELD);
-    EXPECT(bb_pool_seat_hand_over(&seats[0], kept.place, 65, &envelope) == BB_SIZE_TOO_LARGE);
-    EXPECT(bb_pool_seat_hand_over(&seats[0], kept.place, 64, &envelope) == BB_ENVELOPE_FULL);
+    EXPECT(bb_pool_seat_detach(&seats[0], sent.place, 40, &other) == BB_NOT_HELD);
+    EXPECT(bb_pool_seat_detach(&seats[0], kept.place, 65, &detached) == BB_SIZE_TOO_LARGE);
+    EXPECT(bb_pool_seat_detach(&seats[0], kept.place, 64, &detached) == BB_DETACHED_FULL);
     EXPECT(is(bb_pool_seat_holds(&seats[0], kept.place), 1));
-    // In transit it isn't free.
+    // A detached bucket isn't free.
     EXPECT(refused(bb_pool_seat_allocate(&seats[1], 8, 8), BB_OUT_OF_MEMORY));
-    // The envelope may be moved, and serves again.
-    bb_envelope moved = envelope;
-    EXPECT(given(bb_pool_seat_take_over(&seats[1], &moved), sent.place, 40) && is(bb_envelope_is_full(&moved), 0));
+    // A `bb_detached` may be moved, and serves again.
+    bb_detached moved = detached;
+    EXPECT(given(bb_pool_seat_attach(&seats[1], &moved), sent.place, 40) && is(bb_detached_is_full(&moved), 0));
     EXPECT(is(bb_pool_seat_holds(&seats[1], sent.place), 1) && is(bb_pool_seat_held_buckets(&seats[1]), 1));
-    EXPECT(refused(bb_pool_seat_take_over(&seats[1], &moved), BB_ENVELOPE_EMPTY));
+    EXPECT(refused(bb_pool_seat_attach(&seats[1], &moved), BB_DETACHED_EMPTY));
     EXPECT(bb_pool_seat_deallocate(&seats[0], sent.place) == BB_NOT_HELD);
     EXPECT(bb_pool_seat_deallocate(&seats[1], sent.place) == BB_DONE);
-    // A seat may take over what it handed over, with another length, and 0 is one.
-    EXPECT(bb_pool_seat_hand_over(&seats[0], kept.place, 0, &moved) == BB_DONE);
-    EXPECT(given(bb_pool_seat_take_over(&seats[0], &moved), kept.place, 0) && is(bb_pool_seat_holds(&seats[0], kept.place), 1));
+    // A seat may attach what it detached, with another length, and 0 is one.
+    EXPECT(bb_pool_seat_detach(&seats[0], kept.place, 0, &moved) == BB_DONE);
+    EXPECT(given(bb_pool_seat_attach(&seats[0], &moved), kept.place, 0) && is(bb_pool_seat_holds(&seats[0], kept.place), 1));
 
-    // A seat that leaves gives back what it took over, and not what it handed over.
-    EXPECT(bb_pool_seat_hand_over(&seats[0], kept.place, 64, &moved) == BB_DONE);
+    // A seat that leaves gives back what it attached, and not what it detached.
+    EXPECT(bb_pool_seat_detach(&seats[0], kept.place, 64, &moved) == BB_DONE);
     EXPECT(bb_shared_pool_leave(&pool, &seats[0]) == BB_DONE);
     EXPECT(given(bb_pool_seat_allocate(&seats[1], 8, 8), sent.place, 8));
     EXPECT(refused(bb_pool_seat_allocate(&seats[1], 8, 8), BB_OUT_OF_MEMORY));
-    EXPECT(given(bb_pool_seat_take_over(&seats[1], &moved), kept.place, 64) && bb_shared_pool_leave(&pool, &seats[1]) == BB_DONE);
+    EXPECT(given(bb_pool_seat_attach(&seats[1], &moved), kept.place, 64) && bb_shared_pool_leave(&pool, &seats[1]) == BB_DONE);
     EXPECT(requests == 0 && bb_shared_pool_seat(&pool, &seats[0]) == BB_DONE);
     sent = bb_pool_seat_allocate(&seats[0], 48, 8);
     kept = bb_pool_seat_allocate(&seats[0], 48, 8);
     EXPECT(sent.code == BB_DONE && kept.code == BB_DONE && sent.place + kept.place == 4096 + 4160);
 
-    // A bucket in a freed envelope stays held.
-    EXPECT(bb_pool_seat_hand_over(&seats[0], sent.place, 48, &moved) == BB_DONE && bb_envelope_free(&moved) == BB_DONE);
-    EXPECT(bb_envelope_free(&moved) == BB_NOT_MADE && bb_shared_pool_leave(&pool, &seats[0]) == BB_DONE);
+    // A bucket in a freed `bb_detached` stays detached.
+    EXPECT(bb_pool_seat_detach(&seats[0], sent.place, 48, &moved) == BB_DONE && bb_detached_free(&moved) == BB_DONE);
+    EXPECT(bb_detached_free(&moved) == BB_NOT_MADE && bb_shared_pool_leave(&pool, &seats[0]) == BB_DONE);
     EXPECT(bb_shared_pool_seat(&pool, &seats[0]) == BB_DONE);
     EXPECT(given(bb_pool_seat_allocate(&seats[0], 48, 8), kept.place, 48));
     EXPECT(refused(bb_pool_seat_allocate(&seats[0], 48, 8), BB_OUT_OF_MEMORY));
-    // An envelope keeps no pool: it is freed behind what the bucket in it was of.
-    EXPECT(bb_pool_seat_hand_over(&seats[0], kept.place, 48, &other) == BB_DONE);
+    // A `bb_detached` keeps no pool: it is freed behind the pool of which the bucket in it was.
+    EXPECT(bb_pool_seat_detach(&seats[0], kept.place, 48, &other) == BB_DONE);
     EXPECT(bb_shared_pool_free(&pool) == BB_DONE && bb_pool_seat_free(&seats[0]) == BB_DONE);
-    EXPECT(is(bb_envelope_is_full(&other), 1) && bb_envelope_free(&other) == BB_DONE);
+    EXPECT(is(bb_detached_is_full(&other), 1) && bb_detached_free(&other) == BB_DONE);
 }
 
-// A pool of one party hands nothing over, whatever the place.
+// In a pool of one party nothing is detached, whatever the place.
 static void run_one_party(void) {
     bb_shared_pool pool = BB_EMPTY;
     bb_pool_seat seat = BB_EMPTY;
-    bb_envelope envelope = BB_EMPTY;
+    bb_detached detached = BB_EMPTY;
     EXPECT(bb_shared_pool_make(&pool, 64, 8, 4096, 64, 1) == BB_DONE && bb_shared_pool_seat(&pool, &seat) == BB_DONE);
-    EXPECT(bb_envelope_make(&envelope) == BB_DONE && given(bb_pool_seat_allocate(&seat, 64, 8), 4096, 64));
-    EXPECT(bb_pool_seat_hand_over(&seat, 4096, 64, &envelope) == BB_ONE_PARTY);
-    EXPECT(bb_pool_seat_hand_over(&seat, 4097, 65, &envelope) == BB_ONE_PARTY);
-    EXPECT(is(bb_pool_seat_holds(&seat, 4096), 1) && is(bb_envelope_is_full(&envelope), 0));
-    EXPECT(refused(bb_pool_seat_take_over(&seat, &envelope), BB_ENVELOPE_EMPTY));
+    EXPECT(bb_detached_make(&detached) == BB_DONE && given(bb_pool_seat_allocate(&seat, 64, 8), 4096, 64));
+    EXPECT(bb_pool_seat_detach(&seat, 4096, 64, &detached) == BB_ONE_PARTY);
+    EXPECT(bb_pool_seat_detach(&seat, 4097, 65, &detached) == BB_ONE_PARTY);
+    EXPECT(is(bb_pool_seat_holds(&seat, 4096), 1) && is(bb_detached_is_full(&detached), 0));
+    EXPECT(refused(bb_pool_seat_attach(&seat, &detached), BB_DETACHED_EMPTY));
     EXPECT(bb_shared_pool_free(&pool) == BB_DONE && bb_pool_seat_free(&seat) == BB_DONE);
-    EXPECT(bb_envelope_free(&envelope) == BB_DONE);
+    EXPECT(bb_detached_free(&detached) == BB_DONE);
 }
 
 int main(void) {
@@ -693,7 +693,7 @@ int main(void) {
     run_meetings();
     run_seats_come_and_go();
     run_at_most();
-    run_transit();
+    run_detached();
     run_one_party();
     puts("calls: each is answered as it has to be");
     return 0;

@@ -1,9 +1,9 @@
 // A queue whose receivers return what they received: two threads send, two receive, and all share one pool, each by a seat of
-// its own. A sender takes a bucket, fills it, and hands it over into an envelope. The receiver that gets the envelope takes the
-// bucket over, reads the message, and gives the bucket back by its own seat, with no word to the sender.
+// its own. A sender takes a bucket, fills it, and detaches it into a `bb_detached`. The receiver that gets the `bb_detached`
+// attaches the bucket, reads the message, and gives the bucket back by its own seat, with no word to the sender.
 //
-// The envelopes are made with the queue. Who puts one into a slot takes the slot's empty one in its place, so no message takes
-// memory, and no call of a seat is made under the lock.
+// Each slot of the queue has a `bb_detached`, which is made with the queue. A sender puts its full one into a slot, and takes the
+// slot's empty one in its place. So no message takes memory, and no call of a seat is made under the lock.
 #define _POSIX_C_SOURCE 200809L
 #include <pthread.h>
 #include <sched.h>
@@ -24,18 +24,18 @@ typedef struct { uint64_t sender, number; } head;
 typedef struct {
     pthread_mutex_t lock;
     pthread_cond_t changed;
-    bb_envelope slots[SLOTS];
+    bb_detached slots[SLOTS];
     size_t first, count;
     size_t taken;  // how many messages receivers took out
 } queue;
 
 static queue shared = {PTHREAD_MUTEX_INITIALIZER, PTHREAD_COND_INITIALIZER, {BB_EMPTY}, 0, 0, 0};
 
-// A thread: its seat, and the one envelope that it has in hand.
+// A thread: its seat, and the one `bb_detached` that it has in hand.
 typedef struct {
     size_t number;
     bb_pool_seat seat;
-    bb_envelope envelope;
+    bb_detached detached;
     unsigned char seen[SENDERS][MESSAGES];  // of a receiver: how often it received each message
 } worker;
 
@@ -76,8 +76,8 @@ static void expect(int holds, const char *what) {
     }
 }
 
-static void change_places(bb_envelope *one, bb_envelope *other) {
-    bb_envelope moved = *one;
+static void change_places(bb_detached *one, bb_detached *other) {
+    bb_detached moved = *one;
     *one = *other;
     *other = moved;
 }
@@ -88,25 +88,25 @@ static size_t length_of(size_t sender, size_t number) {
 
 static int byte_of(size_t sender, size_t number) { return (int)((sender * 61 + number * 7 + 1) % 256); }
 
-// A full envelope goes into a slot, and the slot's empty one comes out.
-static void put(bb_envelope *envelope) {
+// A full `bb_detached` goes into a slot, and the slot's empty one comes out.
+static void put(bb_detached *full) {
     pthread_mutex_lock(&shared.lock);
     while (shared.count == SLOTS)
         pthread_cond_wait(&shared.changed, &shared.lock);
-    change_places(envelope, &shared.slots[(shared.first + shared.count) % SLOTS]);
+    change_places(full, &shared.slots[(shared.first + shared.count) % SLOTS]);
     shared.count++;
     pthread_cond_broadcast(&shared.changed);
     pthread_mutex_unlock(&shared.lock);
 }
 
 // The reverse of the oldest full one, or 0 where each message was taken out.
-static int get(bb_envelope *envelope) {
+static int get(bb_detached *empty) {
     pthread_mutex_lock(&shared.lock);
     while (shared.count == 0 && shared.taken < SENDERS * MESSAGES)
         pthread_cond_wait(&shared.changed, &shared.lock);
     int is_there = shared.count > 0;
     if (is_there) {
-        change_places(envelope, &shared.slots[shared.first]);
+        change_places(empty, &shared.slots[shared.first]);
         shared.first = (shared.first + 1) % SLOTS;
         shared.count--;
         shared.taken++;
@@ -128,18 +128,18 @@ static void *send_all(void *argument) {
         head begins = {self->number, number};
         memcpy(given.place, &begins, sizeof begins);
         memset((unsigned char *)given.place + sizeof begins, byte_of(self->number, number), len - sizeof begins);
-        expect(bb_pool_seat_hand_over(&self->seat, given.place, len, &self->envelope) == BB_DONE, "a bucket is handed over");
+        expect(bb_pool_seat_detach(&self->seat, given.place, len, &self->detached) == BB_DONE, "a bucket is detached");
         expect(bb_pool_seat_deallocate(&self->seat, given.place) == BB_NOT_HELD, "its sender doesn't hold it any more");
-        put(&self->envelope);
+        put(&self->detached);
     }
     return NULL;
 }
 
 static void *receive_all(void *argument) {
     worker *self = (worker *)argument;
-    while (get(&self->envelope)) {
-        bb_answer taken = bb_pool_seat_take_over(&self->seat, &self->envelope);
-        expect(taken.code == BB_DONE && taken.len >= sizeof(head), "a bucket is taken over");
+    while (get(&self->detached)) {
+        bb_answer taken = bb_pool_seat_attach(&self->seat, &self->detached);
+        expect(taken.code == BB_DONE && taken.len >= sizeof(head), "a bucket is attached");
         head begins;
         memcpy(&begins, taken.place, sizeof begins);
         expect(begins.sender < SENDERS && begins.number < MESSAGES, "a message begins as its sender wrote it");
@@ -158,7 +158,7 @@ static void make(worker *workers, size_t count, bb_shared_pool *pool) {
     for (size_t number = 0; number < count; number++) {
         workers[number].number = number;
         expect(bb_shared_pool_seat(pool, &workers[number].seat) == BB_DONE, "a party has a seat");
-        expect(bb_envelope_make(&workers[number].envelope) == BB_DONE, "an envelope is made");
+        expect(bb_detached_make(&workers[number].detached) == BB_DONE, "a thread has a bb_detached");
     }
 }
 
@@ -166,8 +166,8 @@ static void take_back(worker *workers, size_t count, bb_shared_pool *pool) {
     for (size_t number = 0; number < count; number++) {
         expect(bb_pool_seat_held_buckets(&workers[number].seat).number == 0, "no seat holds a bucket");
         expect(bb_shared_pool_leave(pool, &workers[number].seat) == BB_DONE, "a seat comes back");
-        expect(bb_envelope_is_full(&workers[number].envelope).number == 0, "no bucket is in transit");
-        expect(bb_envelope_free(&workers[number].envelope) == BB_DONE, "an envelope is freed");
+        expect(bb_detached_is_full(&workers[number].detached).number == 0, "no bucket is detached");
+        expect(bb_detached_free(&workers[number].detached) == BB_DONE, "a thread's bb_detached is freed");
     }
 }
 
@@ -194,7 +194,7 @@ int main(void) {
     make(senders, SENDERS, &pool);
     make(receivers, RECEIVERS, &pool);
     for (size_t slot = 0; slot < SLOTS; slot++)
-        expect(bb_envelope_make(&shared.slots[slot]) == BB_DONE, "a slot has an envelope");
+        expect(bb_detached_make(&shared.slots[slot]) == BB_DONE, "a slot has a bb_detached");
 
     pthread_t sending[SENDERS], receiving[RECEIVERS];
     for (size_t number = 0; number < RECEIVERS; number++)
@@ -210,7 +210,7 @@ int main(void) {
     take_back(receivers, RECEIVERS, &pool);
     expect_all(&pool);
     for (size_t slot = 0; slot < SLOTS; slot++)
-        expect(bb_envelope_free(&shared.slots[slot]) == BB_DONE, "an envelope is freed");
+        expect(bb_detached_free(&shared.slots[slot]) == BB_DONE, "a slot's bb_detached is freed");
     expect(bb_shared_pool_free(&pool) == BB_DONE, "the pool is freed");
     puts("returns: every message came once, and its receiver returned it");
     return 0;

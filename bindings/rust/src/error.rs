@@ -114,16 +114,16 @@ error! {
 }
 
 error! {
-    /// Why a bucket wasn't handed over. Its seat holds it still, if it did.
-    HandOverError {
+    /// Why a bucket wasn't detached. Its seat holds it still, if it did.
+    DetachError {
         /// The seat's pool has no other party.
         OneParty = ONE_PARTY: "the pool has no other party",
         /// The place isn't that of a bucket which this seat holds.
         NotHeld = NOT_HELD: "nothing is held at the place",
         /// The length is greater than the bucket's size.
         SizeTooLarge = SIZE_TOO_LARGE: "the size is greater than a bucket's",
-        /// A bucket is in the envelope already.
-        EnvelopeFull = ENVELOPE_FULL: "a bucket is in the envelope already",
+        /// A detached bucket is there already.
+        DetachedFull = DETACHED_FULL: "a detached bucket is there already",
     }
 }
 

@@ -47,7 +47,7 @@ pub const MORE_THAN_RESERVED: u32 = 15;
 pub const NO_BUCKET: u32 = 16;
 pub const SEATS_OUT: u32 = 18;
 pub const ONE_PARTY: u32 = 19;
-pub const ENVELOPE_FULL: u32 = 20;
+pub const DETACHED_FULL: u32 = 20;
 pub const NOT_A_BUCKET: u32 = 22;
 
 /// Frees what is behind a handle.
@@ -219,16 +219,16 @@ unsafe extern "C" {
     pub fn bb_fixed_pool_place_at(handle: *mut Handle, number: u32) -> Figure;
     pub fn bb_fixed_pool_number_at(handle: *mut Handle, place: *const c_void) -> Figure;
 
-    pub fn bb_envelope_make(handle: *mut Handle) -> u32;
-    pub fn bb_envelope_free(handle: *mut Handle) -> u32;
-    pub fn bb_envelope_is_full(handle: *mut Handle) -> Figure;
-    pub fn bb_pool_seat_hand_over(
+    pub fn bb_detached_make(handle: *mut Handle) -> u32;
+    pub fn bb_detached_free(handle: *mut Handle) -> u32;
+    pub fn bb_detached_is_full(handle: *mut Handle) -> Figure;
+    pub fn bb_pool_seat_detach(
         handle: *mut Handle,
         place: *const c_void,
         len: usize,
-        envelope: *mut Handle,
+        detached: *mut Handle,
     ) -> u32;
-    pub fn bb_pool_seat_take_over(handle: *mut Handle, envelope: *mut Handle) -> Answer;
+    pub fn bb_pool_seat_attach(handle: *mut Handle, detached: *mut Handle) -> Answer;
 
     pub fn bb_pool_seat_free(handle: *mut Handle) -> u32;
     pub fn bb_pool_seat_allocate(handle: *mut Handle, size: usize, align: usize) -> Answer;

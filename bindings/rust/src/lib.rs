@@ -4,6 +4,7 @@
 
 mod allocator;
 mod bump;
+mod detached;
 mod error;
 mod ffi;
 mod one_chunk;
@@ -11,16 +12,15 @@ mod owned;
 mod pool;
 mod shared_bump;
 mod shared_pool;
-mod transit;
 
 pub use allocator::{Allocator, BaseAllocator};
 pub use bump::BumpAllocator;
+pub use detached::DetachedBucket;
 pub use error::{
     AllocationError, AllocationGrowError, AllocationShrinkError, BeginError, DeallocationError,
-    HandOverError, MakeError, SeatError,
+    DetachError, MakeError, SeatError,
 };
 pub use one_chunk::OneChunkAllocator;
 pub use pool::{BucketPool, FixedSizePoolAllocator, PoolAllocator};
 pub use shared_bump::{BumpSeat, SharedBumpAllocator};
 pub use shared_pool::{PoolSeat, SharedPoolAllocator};
-pub use transit::Envelope;

@@ -216,7 +216,7 @@ impl<'region> SharedPoolAllocator<'region> {
 }
 
 /// A seat at a [`SharedPoolAllocator`], for one thread at a time. A bucket is given back through the seat that holds it: the one
-/// that took it, or one that took it over. What a dropped seat holds stays held for good.
+/// that took it, or one that attached it. What a dropped seat holds stays held for good.
 ///
 /// ```compile_fail,E0277
 /// # use bb_memory::SharedPoolAllocator;

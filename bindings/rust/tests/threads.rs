@@ -1,7 +1,7 @@
 //! What threads share: each has a seat, which it takes along.
 use bb_memory::{
-    AllocationError, BaseAllocator, BeginError, BumpSeat, DeallocationError, Envelope,
-    HandOverError, MakeError, PoolSeat, SeatError, SharedBumpAllocator, SharedPoolAllocator,
+    AllocationError, BaseAllocator, BeginError, BumpSeat, DeallocationError, DetachError,
+    DetachedBucket, MakeError, PoolSeat, SeatError, SharedBumpAllocator, SharedPoolAllocator,
 };
 use std::alloc::Layout;
 use std::ptr::NonNull;
@@ -201,40 +201,40 @@ fn a_receiver_gives_back_what_it_was_sent() {
     let mut region = Box::new_uninit_slice(64 * 3);
     let pool = SharedPoolAllocator::over(bucket(), &mut region, 2).unwrap();
     let (sender, receiver) = (pool.seat().unwrap(), pool.seat().unwrap());
-    let (full, sent) = mpsc::sync_channel::<Envelope>(1);
-    let (empty, returned) = mpsc::channel::<Envelope>();
+    let (full, sent) = mpsc::sync_channel::<DetachedBucket>(1);
+    let (empty, returned) = mpsc::channel::<DetachedBucket>();
     for _ in 0..2 {
-        empty.send(Envelope::new().unwrap()).unwrap();
+        empty.send(DetachedBucket::new().unwrap()).unwrap();
     }
     let (sender, receiver) = thread::scope(|scope| {
         let sending = scope.spawn(move || {
             for number in 0..ROUNDS {
-                let mut envelope = returned.recv().unwrap();
+                let mut detached = returned.recv().unwrap();
                 let chunk = sender.allocate(bucket()).unwrap().cast::<u64>();
                 let len = 8 + (number % 57) as usize;
-                // SAFETY: the chunk is this thread's until it is handed over.
+                // SAFETY: the chunk is this thread's until it is detached.
                 unsafe {
                     chunk.write(number);
-                    assert_eq!(sender.hand_over(chunk.cast(), len, &mut envelope), Ok(()));
+                    assert_eq!(sender.detach(chunk.cast(), len, &mut detached), Ok(()));
                 }
-                assert!(!sender.holds(chunk.cast()) && envelope.is_full());
-                full.send(envelope).unwrap();
+                assert!(!sender.holds(chunk.cast()) && detached.is_full());
+                full.send(detached).unwrap();
             }
             sender
         });
         let receiving = scope.spawn(move || {
             for number in 0..ROUNDS {
-                let mut envelope = sent.recv().unwrap();
-                let chunk = receiver.take_over(&mut envelope).unwrap();
+                let mut detached = sent.recv().unwrap();
+                let chunk = receiver.attach(&mut detached).unwrap();
                 assert_eq!(chunk.len(), 8 + (number % 57) as usize);
-                assert!(receiver.take_over(&mut envelope).is_none() && !envelope.is_full());
+                assert!(receiver.attach(&mut detached).is_none() && !detached.is_full());
                 // SAFETY: the chunk is this thread's until it gives it back.
                 unsafe {
                     assert_eq!(chunk.cast::<u64>().read(), number);
                     assert_eq!(receiver.try_deallocate(chunk.cast()), Ok(()));
                 }
                 // The sender is done before the last ones.
-                let _ = empty.send(envelope);
+                let _ = empty.send(detached);
             }
             receiver
         });
@@ -247,13 +247,13 @@ fn a_receiver_gives_back_what_it_was_sent() {
 }
 
 #[test]
-fn a_bucket_is_handed_over_only_where_it_can_be() {
+fn a_bucket_is_detached_only_where_it_can_be() {
     let mut region = Box::new_uninit_slice(64 * 2);
     let mut small = Box::new_uninit_slice(64);
     let pool = SharedPoolAllocator::over(bucket(), &mut region, 2).unwrap();
     let (mine, other) = (pool.seat().unwrap(), pool.seat().unwrap());
-    let mut envelope = Envelope::new().unwrap();
-    assert!(!envelope.is_full() && mine.take_over(&mut envelope).is_none());
+    let mut detached = DetachedBucket::new().unwrap();
+    assert!(!detached.is_full() && mine.attach(&mut detached).is_none());
     let chunk = mine.allocate(bucket()).unwrap().cast::<u8>();
     let kept = mine.allocate(bucket()).unwrap().cast::<u8>();
     let alone = SharedPoolAllocator::over(bucket(), &mut small, 1).unwrap();
@@ -262,21 +262,21 @@ fn a_bucket_is_handed_over_only_where_it_can_be() {
     // SAFETY: no chunk is used, here and below.
     unsafe {
         assert_eq!(
-            elsewhere.hand_over(there, 64, &mut envelope),
-            Err(HandOverError::OneParty)
+            elsewhere.detach(there, 64, &mut detached),
+            Err(DetachError::OneParty)
         );
         assert_eq!(
-            other.hand_over(chunk, 64, &mut envelope),
-            Err(HandOverError::NotHeld)
+            other.detach(chunk, 64, &mut detached),
+            Err(DetachError::NotHeld)
         );
         assert_eq!(
-            mine.hand_over(chunk, 65, &mut envelope),
-            Err(HandOverError::SizeTooLarge)
+            mine.detach(chunk, 65, &mut detached),
+            Err(DetachError::SizeTooLarge)
         );
-        assert_eq!(mine.hand_over(chunk, 64, &mut envelope), Ok(()));
+        assert_eq!(mine.detach(chunk, 64, &mut detached), Ok(()));
         assert_eq!(
-            mine.hand_over(kept, 64, &mut envelope),
-            Err(HandOverError::EnvelopeFull)
+            mine.detach(kept, 64, &mut detached),
+            Err(DetachError::DetachedFull)
         );
         assert_eq!(mine.try_deallocate(chunk), Err(DeallocationError::NotHeld));
     }
@@ -284,7 +284,7 @@ fn a_bucket_is_handed_over_only_where_it_can_be() {
         other.allocate(bucket()).err(),
         Some(AllocationError::OutOfMemory)
     );
-    let taken = other.take_over(&mut envelope).unwrap();
+    let taken = other.attach(&mut detached).unwrap();
     assert_eq!(
         (taken.cast(), taken.len(), other.holds(chunk)),
         (chunk, 64, true)
@@ -298,15 +298,15 @@ fn a_bucket_is_handed_over_only_where_it_can_be() {
 
 #[test]
 #[should_panic(expected = "the bucket is another pool's")]
-fn a_bucket_is_not_taken_over_at_another_pool() {
+fn a_bucket_is_not_attached_at_another_pool() {
     let (mut mine, mut other) = (Box::new_uninit_slice(64), Box::new_uninit_slice(64));
     let mine = SharedPoolAllocator::over(bucket(), &mut mine, 2).unwrap();
     let other = SharedPoolAllocator::over(bucket(), &mut other, 2).unwrap();
-    let (seat, mut envelope) = (mine.seat().unwrap(), Envelope::new().unwrap());
+    let (seat, mut detached) = (mine.seat().unwrap(), DetachedBucket::new().unwrap());
     let chunk = seat.allocate(bucket()).unwrap().cast::<u8>();
     // SAFETY: the chunk isn't used.
-    unsafe { seat.hand_over(chunk, 64, &mut envelope).unwrap() };
-    other.seat().unwrap().take_over(&mut envelope);
+    unsafe { seat.detach(chunk, 64, &mut detached).unwrap() };
+    other.seat().unwrap().attach(&mut detached);
 }
 
 #[test]

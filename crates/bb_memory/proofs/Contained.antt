@@ -1,6 +1,7 @@
 -- What stands in a list: behind others, in what is kept of it, and by a figure of its own.
-use Rattle.std.proofs.Common.{◌≡◌, ℕ, zero, suc, Bool, true, false, List, [], ◌∷◌, refl, ap, ◌∙◌, arith}
-use Rattle.std.specs.Prelude.{Any, Contains, filter, if◌then◌else◌, map}
+use Rattle.std.proofs.Common.{◌≡◌, ℕ, zero, suc, Some, Bool, true, false, List, [], ◌∷◌, refl, ap, ◌∙◌, arith}
+use Rattle.std.specs.Prelude.{Any, Contains, filter, if◌then◌else◌, map, slice_get}
+use Rattle.std.proofs.lemmas.Option.{same_Some}
 
 module _ {X : Type 0} where
   pub contains-first : (x y : X) (xs : List X) → x ≡ y → Contains (x ∷ xs) y
@@ -8,6 +9,12 @@ module _ {X : Type 0} where
 
   pub contains-behind : (x y : X) (xs : List X) → Contains xs y → Contains (x ∷ xs) y
   contains-behind x y xs has = (suc has.0, omega (arith, has.1), has.2)
+
+  -- what has a position stands there
+  pub contains_at : (xs : List X) (i : ℕ) (x : X) → slice_get xs i ≡ Some x → Contains xs x
+  contains_at [] i x at = absurd (cc)
+  contains_at (y ∷ xs) zero x at = contains-first y x xs (same_Some y x at)
+  contains_at (y ∷ xs) (suc i) x at = contains-behind y x xs (contains_at xs i x at)
 
   pub contains-none : (x : X) → Contains [] x → ⊥
   contains-none x has = absurd (omega (arith, has.1))

@@ -11,6 +11,7 @@ mod NumberSets
 mod NumberWords
 mod OpenWords
 mod OneChunks
+mod PartyNumbers
 mod PoolAnswers
 mod PoolCalls
 mod PoolRuns

@@ -21,6 +21,7 @@ use Rattle.bb_memory.specs.SharedBumpRule.{IsPartySeat, NumberedLog, SeatView, g
 use Rattle.bb_memory.specs.SharedBumpRule.{party_in, scene_of, sight}
 use Rattle.bb_memory.specs.SharedBumpSteps.{TellsMeeting}
 use Rattle.bb_memory_base.proofs.Positions.{contains-behind, contains-first}
+use Rattle.bb_memory.proofs.PartyNumbers.{numbers_differ}
 use Rattle.bb_memory.proofs.Seatings.{all_there, one_apart}
 use Rattle.bb_memory.proofs.SharedBumpParties.{party_seat}
 
@@ -126,6 +127,7 @@ agrees bump items met found shared theirs told =
       agree = told.agree;
       one_a_party = told.one_a_party;
       theirs = All-from_recursion (λ (p : BumpParty). HasLog told.logs p.number p.log) items had;
+      differ = numbers_differ numbered_of scene.parties told.logs items told.theirs told.once;
       whole = λ long.
           let long_so : length (map numbered_of items) ≡ scene.parties = length-map items numbered_of ∙ long in
           let there = all_there scene.parties told.logs (map numbered_of items) told.theirs told.once long_so in
@@ -192,6 +194,7 @@ none_met bump items new shared none none_new =
         agree = opening_agrees scene logs (All-replicate (λ (log : BumpLog). log ≡ []) scene.parties [] refl);
         one_a_party = length-replicate scene.parties [];
         theirs = All-nil (λ (p : BumpParty). HasLog logs p.number p.log);
+        differ = λ i j one other at at_other apart same. absurd (cc);
         whole = λ long. let some = shared.parties in absurd (omega (arith, some, long));
       };
     }

@@ -1,6 +1,6 @@
 -- What all parties of a bump have who met.
-use Rattle.std.proofs.Common.{◌≡◌, ℕ, List, [], ◌∷◌, length, refl, sym, ap, ◌∙◌, subst, arith, true, inl, inr}
-use Rattle.std.specs.Prelude.{Any, Contains}
+use Rattle.std.proofs.Common.{◌≡◌, ◌≢◌, Some, ℕ, List, [], ◌∷◌, length, refl, sym, ap, ◌∙◌, subst, arith, true, inl, inr}
+use Rattle.std.specs.Prelude.{Any, Contains, slice_get}
 use Rattle.std.specs.List.{All, AllByRecursion}
 use Rattle.std.proofs.lemmas.Bool.{cases_lt}
 use Rattle.std.proofs.lemmas.List.Elements.{All-contains, All-contains_itself, All-from_recursion}
@@ -11,14 +11,15 @@ use Rattle.bb_memory_base.specs.BumpObject.{StandsFor}
 use Rattle.bb_memory_base.specs.BumpMachine.{BumpScene, BumpState, bump_step, opening_state}
 use Rattle.bb_memory_base.specs.BumpHistory.{BumpEntry, BumpLog, bump_history, chunks_won, history_of, is_by, log_of}
 use Rattle.bb_memory_base.specs.BumpCalls.{OpensWith, live_after}
-use Rattle.bb_memory_base.specs.BumpLogs.{AllAllowed, Interleaving}
+use Rattle.bb_memory_base.specs.BumpLogs.{AllAllowed, HasLog, Interleaving}
+use Rattle.bb_memory_base.proofs.BumpMeetings.{chunks_apart}
 use Rattle.bb_memory_base.specs.declared.steps.bump.BumpStep.{BumpStep}
 use Rattle.bb_memory_base.proofs.BumpAllowed.{first_allowed, nobody_else, rest_allowed}
 use Rattle.bb_memory_base.proofs.BumpPositions.{interleaving_stands}
 use Rattle.bb_memory_base.proofs.BumpSteps.{step_view}
 use Rattle.bb_memory_base.proofs.BumpWholes.{owner_of}
-use Rattle.bb_memory.specs.SharedBump.{AgreeAt, BumpParty}
-use Rattle.bb_memory.proofs.Contained.{any_contained, contains-filter, contains-none, one_of_figure}
+use Rattle.bb_memory.specs.SharedBump.{AgreeAt, BumpParty, HaveChunksApart, IsSharedScene}
+use Rattle.bb_memory.proofs.Contained.{any_contained, contains-filter, contains_at, contains-none, one_of_figure}
 use Rattle.bb_memory.proofs.SharedBumpHistories.{held_in_list}
 
 -- the entry is that of a step of some party
@@ -37,6 +38,15 @@ each_someones region state (step ∷ steps) allowed =
     )
 
 module _ (scene : BumpScene) (position : ℕ) (parties : List BumpParty) (met : AgreeAt scene position parties) where
+  pub met_apart : (i j : ℕ) (one other : BumpParty) → IsSharedScene scene → slice_get parties i ≡ Some one →
+      slice_get parties j ≡ Some other → i ≢ j → HaveChunksApart one.log other.log
+  met_apart i j one other shared at at_other apart =
+      let HasIts : BumpParty → Type 0 = λ party. HasLog met.logs party.number party.log in
+      let its = All-contains HasIts parties one met.theirs (contains_at parties i one at) in
+      let its_other = All-contains HasIts parties other met.theirs (contains_at parties j other at_other) in
+      chunks_apart scene position met.logs one.number one.log other.number other.log shared.opening met.agree its its_other
+      (met.differ i j one other at at_other apart)
+
   abbrev steps : List BumpStep
   steps = met.agree.steps
 

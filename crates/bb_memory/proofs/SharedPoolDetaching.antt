@@ -1,4 +1,4 @@
--- Hand-overs and take-overs keep words and logs in agreement.
+-- Detaching and attaching a bucket keep words and logs in agreement.
 use Rattle.std.proofs.Common.{◌≡◌, ℕ, ◌<◌, None, List, [], ◌∷◌, ◌++◌, Bool, refl, sym, ◌∙◌, subst}
 use mathlib.Core.Option.{none}
 use Rattle.atomic_table.specs.Table.{Me, keeps, step, Allows}
@@ -29,7 +29,7 @@ longer_interleaved scene flags logs party log entry at agree =
     interleaved_log scene flags (with_entry logs party log entry) party (log ++ entry ∷ []) agree
     (slice_get-set_same logs party (log ++ entry ∷ []) log at)
 
--- HAND-OVERS
+-- DETACHING
 
 detaches_one : (scene : PoolScene) (slots seat party bucket : ℕ) (log : PoolLog) → 1 < scene.parties →
     IsHeldAfter log bucket →
@@ -54,15 +54,15 @@ detaches_one scene slots seat party bucket log others held state rule homes at f
         words = subst (λ (w : List ℕ). HaveFlags w rule.flags) (sym (same_word state.words (word_of bucket))) rule.words;
         one_a_party = length-set_at rule.logs party longer ∙ rule.one_a_party;
         seated = seated_with scene.parties rule.logs state.views seat scene party log longer [] (bucket ∷ []) rule.seated at;
-        transit = more_detached rule.flags rule.logs logs state.views seat bucket old new refl refl at
-            (λ moving. moving.no_holder party log mine.1 held) rule.transit now
+        detached = more_detached rule.flags rule.logs logs state.views seat bucket old new refl refl at
+            (λ moving. moving.no_holder party log mine.1 held) rule.detached now
             (λ b moving. still_detached rule.flags rule.flags rule.logs party log entry b mine.1 (no_hold_left bucket b) refl
             moving);
       },
       record { is = refl; interleaved = longer_interleaved scene rule.flags rule.logs party log entry mine.1 agree },
     )
 
--- a seat of one party, which isn't the only one, may hand over a bucket that is held after its log
+-- a seat of one party, which isn't the only one, may detach a bucket that is held after its log
 pub detaches_as : (scene : PoolScene) (slots seat word party bucket : ℕ) (log : PoolLog) (me : Me ℕ SeatView) →
     word ≡ word_of bucket → me ≡ (alone scene party log, []) → 1 < scene.parties → IsHeldAfter log bucket →
     Allows (WordsAndLogsAgree scene) slots seat me word (λ found. found) (detaches (step slots word 0 0 none) me)
@@ -73,7 +73,7 @@ detaches_as scene slots seat word party bucket log me there is others held =
     (λ _. TellsDetach m.0.scene (number_of m.0) (view_log m.0) bucket)) (sym is)
     (detaches_one scene slots seat party bucket log others held))
 
--- TAKE-OVERS
+-- ATTACHING
 
 attaches_one : (scene : PoolScene) (slots seat party bucket : ℕ) (log : PoolLog) → pass_in log ≡ None →
     Allows (WordsAndLogsAgree scene) slots seat (alone_with scene party log bucket, []) (word_of bucket) (λ found. found)
@@ -86,7 +86,7 @@ attaches_one scene slots seat party bucket log idle state rule homes at fits =
     let logs : List PoolLog = with_entry rule.logs party log entry in
     let new : SeatView = alone scene party longer in
     let moving : IsDetachedAfter rule.flags rule.logs bucket =
-    detached_of_seat rule.flags rule.logs state.views seat bucket old refl at rule.transit in
+    detached_of_seat rule.flags rule.logs state.views seat bucket old refl at rule.detached in
     let agree =
     attach_agrees scene rule.flags rule.logs party log bucket rule.agree rule.one_a_party mine.0 mine.1 idle moving in (
       new,
@@ -99,7 +99,7 @@ attaches_one scene slots seat party bucket log idle state rule homes at fits =
         words = subst (λ (w : List ℕ). HaveFlags w rule.flags) (sym (same_word state.words (word_of bucket))) rule.words;
         one_a_party = length-set_at rule.logs party longer ∙ rule.one_a_party;
         seated = seated_with scene.parties rule.logs state.views seat scene party log longer (bucket ∷ []) [] rule.seated at;
-        transit = fewer_detached_one rule.flags rule.logs logs state.views seat bucket old new refl refl at rule.transit
+        detached = fewer_detached_one rule.flags rule.logs logs state.views seat bucket old new refl refl at rule.detached
             (λ b apart other. still_detached rule.flags rule.flags rule.logs party log entry b mine.1
             (no_hold_other bucket b apart) refl other);
       },
@@ -112,7 +112,7 @@ attaches_one scene slots seat party bucket log idle state rule homes at fits =
       },
     )
 
--- a seat of one idle party may take over the bucket that is detached there
+-- a seat of one idle party may attach the bucket that is detached there
 pub attaches_as : (scene : PoolScene) (slots seat word party bucket : ℕ) (log : PoolLog) (me : Me ℕ SeatView) →
     word ≡ word_of bucket → me ≡ (alone_with scene party log bucket, []) → pass_in log ≡ None →
     Allows (WordsAndLogsAgree scene) slots seat me word (λ found. found) (attaches (step slots word 0 0 none) me)

@@ -1,6 +1,6 @@
 -- Parties that come to one seat, and what their meeting says of their logs.
 use Rattle.std.proofs.Common.{◌≡◌, ℕ, zero, suc, replicate, ◌≤◌, List, [], ◌∷◌, ◌++◌, Some, length, refl, sym, ap, ◌∙◌}
-use Rattle.std.proofs.Common.{None, subst, arith, inl, inr, true, false}
+use Rattle.std.proofs.Common.{subst, arith, inl, inr, true, false}
 use Rattle.std.specs.Prelude.{map, Contains, slice_get}
 use Rattle.std.specs.List.{AllByRecursion}
 use Rattle.std.proofs.lemmas.Bool.{cases_eq}
@@ -20,6 +20,7 @@ use Rattle.bb_memory.specs.SharedPool.{HaveMet, IsHeldByOne, IsSharedScene, Pool
 use Rattle.bb_memory.specs.SharedPoolRule.{IsPartySeat, NumberedLog, SeatView, numbered_of, party_in}
 use Rattle.bb_memory.specs.SharedPoolSteps.{TellsMeeting}
 use Rattle.bb_memory_base.proofs.Positions.{contains-behind, contains-first}
+use Rattle.bb_memory.proofs.PartyNumbers.{numbers_differ}
 use Rattle.bb_memory.proofs.Seatings.{all_there, one_apart}
 
 -- GATHERING
@@ -113,6 +114,7 @@ agrees scene items told =
         agree = told.agree;
         one_a_party = told.one_a_party;
         theirs = All-from_recursion (λ (p : PoolParty). HasLog told.logs p.number p.log) items had;
+        differ = numbers_differ numbered_of scene.parties told.logs items told.theirs told.once;
         whole = λ long.
             let long_so : length (map numbered_of items) ≡ scene.parties = length-map items numbered_of ∙ long in
             let there = all_there scene.parties told.logs (map numbered_of items) told.theirs told.once long_so in (
@@ -145,6 +147,7 @@ none_met scene items shared none =
         agree = opening_agrees scene logs (All-replicate (λ (log : PoolLog). log ≡ []) scene.parties [] refl);
         one_a_party = length-replicate scene.parties [];
         theirs = All-nil (λ (p : PoolParty). HasLog logs p.number p.log);
+        differ = λ i j one other at at_other apart same. absurd (cc);
         whole = λ long. let some = shared.parties in absurd (omega (arith, some, long));
       },
     )

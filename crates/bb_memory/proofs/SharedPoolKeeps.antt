@@ -79,8 +79,8 @@ entered scene state rule seat party log entry words flags at agree are keep =
       words = are;
       one_a_party = length-set_at rule.logs party longer ∙ rule.one_a_party;
       seated = seated_step scene.parties rule.logs state.views seat scene party log longer rule.seated at;
-      transit = detached_kept rule.flags flags rule.logs (with_entry rule.logs party log entry) state.views seat
-          (alone scene party log) (alone scene party longer) refl refl at rule.transit keep;
+      detached = detached_kept rule.flags flags rule.logs (with_entry rule.logs party log entry) state.views seat
+          (alone scene party log) (alone scene party longer) refl refl at rule.detached keep;
     }
 
 -- what it tells: the log is longer, and interleaved with others'

@@ -69,7 +69,7 @@ module _ (pool : SharedPool) (table : TableId) (me : Me ℕ SeatView) (number : 
       (subst (λ (s : PoolScene). number < s.parties) own_scene is.below)
       (subst IsSharedScene own_scene is.shared)
 
-  -- a hand-over has ended with its load
+  -- a detaching has ended with its load
   pub was_detached : (bucket : ℕ) (new : Me ℕ SeatView) →
       HasDetachedAt pool.scene (number_of me.0) (view_log me.0) bucket new →
       HasEnded pool.scene (number_of me.0) (view_log me.0) (detach_entry (number_of me.0) bucket) new

@@ -1,7 +1,7 @@
 -- How a pass goes on: from its first exchange to the step that ends it.
-use Rattle.std.proofs.Common.{◌≡◌, ℕ, ◌+◌, ◌<◌, [], ◌∷◌, ◌++◌, append_assoc, append-nil}
+use Rattle.std.proofs.Common.{◌≡◌, ◌≢◌, ℕ, ◌+◌, ◌<◌, [], ◌∷◌, ◌++◌, Bool, true, false, append_assoc, append-nil}
 use Rattle.std.proofs.Common.{add-one, refl, sym, ap, ◌∙◌, subst, arith, Option, Some, None}
-use Rattle.std.specs.Prelude.{MatchOption}
+use Rattle.std.specs.Prelude.{MatchOption, if◌then◌else◌}
 use borrow.Author.Count.{below_more}
 use Rattle.atomic_table.specs.Table.{Me}
 use Rattle.bb_memory_base.specs.PoolMachine.{PoolScene}
@@ -13,7 +13,9 @@ use Rattle.bb_memory.specs.Seats.{number_of, view_log}
 use Rattle.bb_memory.specs.SharedPool.{AreAllHeldAfter, losses, refused_pass, taking_pass}
 use Rattle.bb_memory.specs.SharedPoolRule.{IsSeatOf, SeatView}
 use Rattle.bb_memory.specs.SharedPoolSteps.{HasEnded, HasRefused, HasTaken, TellsLoss, TellsTaking}
-use Rattle.bb_memory.proofs.SharedPoolTries.{held_after_refusal, held_after_taking, idle_after_refusal}
+use Rattle.bb_memory_base.proofs.PoolHolders.{held_through}
+use Rattle.bb_memory_base.proofs.PoolSteps.{test_apart}
+use Rattle.bb_memory.proofs.SharedPoolTries.{held-taking, held_after_refusal, held_after_taking, idle_after_refusal}
 use Rattle.bb_memory.proofs.SharedPoolTries.{idle_after_taking, next_after_losses, same_held}
 
 -- a pass under way: since it began, the seat's party has lost at the buckets below this one
@@ -108,3 +110,17 @@ module _ (scene : PoolScene) (number : ℕ) (log : PoolLog) (new : Me ℕ SeatVi
   still_held (Some taken) bucket passed held =
       subst (λ (m : Me ℕ SeatView). IsHeldAfter (view_log m.0) bucket) (sym passed.ended.seat.is)
       (held_after_taking scene.geometry.buckets number taken bucket log held)
+
+  -- and nothing else, but the bucket that it took
+  pub others_held : (result : Option ℕ) (bucket : ℕ) →
+      MatchOption result (HasRefused scene number log new) (HasTaken scene number log new) →
+      MatchOption result (Unit {0}) (λ taken. bucket ≢ taken) → IsHeldAfter (view_log new.0) bucket → IsHeldAfter log bucket
+  others_held None bucket refused apart held =
+      let buckets : ℕ = scene.geometry.buckets in
+      sym (same_held buckets number buckets bucket log)
+      ∙ subst (λ (m : Me ℕ SeatView). IsHeldAfter (view_log m.0) bucket) refused.ended.seat.is held
+  others_held (Some taken) bucket passed apart held =
+      let before : Bool = held_through bucket false log in
+      sym (held-taking scene.geometry.buckets number taken bucket log
+      ∙ ap (λ (b : Bool). if b then true else before) (test_apart taken bucket (λ same. apart (sym same))))
+      ∙ subst (λ (m : Me ℕ SeatView). IsHeldAfter (view_log m.0) bucket) passed.ended.seat.is held

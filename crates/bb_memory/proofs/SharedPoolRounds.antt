@@ -1,5 +1,5 @@
 -- How a round goes on: from its first exchange to the step that ends it.
-use Rattle.std.proofs.Common.{◌≡◌, ℕ, zero, suc, ◌+◌, ◌-◌, ◌<◌, ◌≤◌, ◌%◌, Bool, true, false, ◌++◌, append_assoc}
+use Rattle.std.proofs.Common.{◌≡◌, ◌≢◌, ℕ, zero, suc, ◌+◌, ◌-◌, ◌<◌, ◌≤◌, ◌%◌, Bool, true, false, ◌++◌, append_assoc}
 use Rattle.std.proofs.Common.{append-nil, add-one, refl, sym, ap, ◌∙◌, subst, arith, Option, Some, None, inl, inr}
 use Rattle.std.specs.Prelude.{MatchOption, ◌==◌, if◌then◌else◌}
 use Rattle.std.proofs.lemmas.Bool.{cases_lt}
@@ -15,6 +15,7 @@ use Rattle.bb_memory.specs.SharedPoolRounds.{at_turn, miss_at, misses, start_of,
 use Rattle.bb_memory.specs.SharedPoolRule.{IsSeatOfIdle, SeatView}
 use Rattle.bb_memory.specs.SharedPoolSteps.{HasEnded, HasMissedAt, HasRefusedFrom, HasTakenAt, HasTakenFrom}
 use Rattle.bb_memory_base.proofs.PoolHolders.{held_through}
+use Rattle.bb_memory_base.proofs.PoolSteps.{test_apart}
 use Rattle.bb_memory.proofs.SharedPoolTries.{held-append, test_below, test_not_below, either_true}
 
 -- TURNS
@@ -115,19 +116,7 @@ held_after_taking_at party taken bucket log held =
     ∙ ap (λ (b : Bool). if taken == bucket then true else b) held
     ∙ either_true (taken == bucket)
 
--- the bucket, too
-pub taken_at_is_held : (party bucket : ℕ) (log : PoolLog) → IsHeldAfter (log ++ taking_at party bucket) bucket
-taken_at_is_held party bucket log =
-    let same : (bucket == bucket) ≡ true = grind (arith, nat_tests) in
-    held-taking_at party bucket bucket log
-    ∙ ap (λ (b : Bool). if b then true else held_through bucket false log) same
-
--- a miss leaves the log holding what it held
-pub held_after_miss_at : (party missed bucket : ℕ) (log : PoolLog) → IsHeldAfter log bucket →
-    IsHeldAfter (log ++ miss_at party missed) bucket
-held_after_miss_at party missed bucket log held = held-append bucket false log (miss_at party missed) ∙ held
-
--- so do a round's misses, and its taking
+-- a round's misses leave the log holding what it held, and so does its taking
 pub held_after_misses : (buckets party first turn bucket : ℕ) (log : PoolLog) → IsHeldAfter log bucket →
     IsHeldAfter (log ++ misses buckets party first turn) bucket
 held_after_misses buckets party first turn bucket log held = missed_same buckets party first turn bucket log ∙ held
@@ -246,3 +235,17 @@ module _ (scene : PoolScene) (number : ℕ) (log : PoolLog) (first : ℕ) where
   still_held_from new (Some taken) bucket passed held =
       subst (λ (m : Me ℕ SeatView). IsHeldAfter (view_log m.0) bucket) (sym passed.ended.seat.is)
       (held_after_round scene.geometry.buckets number first passed.turn bucket log held)
+
+  -- and nothing else, but the bucket that it took
+  pub others_held_from : (new : Me ℕ SeatView) (result : Option ℕ) (bucket : ℕ) →
+      MatchOption result (HasRefusedFrom scene number log first new) (HasTakenFrom scene number log first new) →
+      MatchOption result (Unit {0}) (λ taken. bucket ≢ taken) → IsHeldAfter (view_log new.0) bucket → IsHeldAfter log bucket
+  others_held_from new None bucket refused apart held =
+      let buckets : ℕ = scene.geometry.buckets in
+      sym (missed_same buckets number first buckets bucket log)
+      ∙ subst (λ (m : Me ℕ SeatView). IsHeldAfter (view_log m.0) bucket) refused.ended.seat.is held
+  others_held_from new (Some taken) bucket passed apart held =
+      let before : Bool = held_through bucket false log in
+      sym (held-round scene.geometry.buckets number first passed.turn taken bucket log passed.there
+      ∙ ap (λ (b : Bool). if b then true else before) (test_apart taken bucket (λ same. apart (sym same))))
+      ∙ subst (λ (m : Me ℕ SeatView). IsHeldAfter (view_log m.0) bucket) passed.ended.seat.is held

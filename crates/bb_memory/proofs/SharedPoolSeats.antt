@@ -1,5 +1,5 @@
 -- How parties go to seats of their own, and two of them to one seat.
-use Rattle.std.proofs.Common.{◌≡◌, ◌≤◌, ℕ, arith, List, [], ◌∷◌, ◌++◌, replicate, false, refl, sym, subst}
+use Rattle.std.proofs.Common.{◌≡◌, ◌≤◌, ℕ, arith, List, [], ◌++◌, replicate, false, refl, sym, subst}
 use Rattle.std.specs.Prelude.{All}
 use Rattle.std.proofs.lemmas.List.{length-replicate}
 use Rattle.std.proofs.lemmas.List.Elements.{All-replicate}
@@ -23,8 +23,8 @@ gives_first scene seat view state rule at = record {
   words = rule.words;
   one_a_party = rule.one_a_party;
   seated = seated_others scene.parties rule.logs state.views seat view rule.seated at;
-  transit = detached_split rule.flags rule.logs state.views seat view (others_of view) (first_of view) (λ bucket. omega arith)
-      rule.transit at;
+  detached = detached_split rule.flags rule.logs state.views seat view (others_of view) (first_of view) (λ bucket. omega arith)
+      rule.detached at;
 }
 
 pub gathers : (scene : PoolScene) (seat other : ℕ) (view guest : SeatView) →
@@ -37,8 +37,8 @@ gathers scene seat other view guest state rule at apart there = record {
   one_a_party = rule.one_a_party;
   seated = seated_joined scene.parties rule.logs state.views seat view other guest
       view.scene nobody.scene [] rule.seated at apart there;
-  transit = detached_joined rule.flags rule.logs state.views seat other view guest (both_of view guest) nobody refl
-      (λ bucket. omega arith) rule.transit at there;
+  detached = detached_joined rule.flags rule.logs state.views seat other view guest (both_of view guest) nobody refl
+      (λ bucket. omega arith) rule.detached at there;
 }
 
 -- what is detached goes to a seat of its own, and to the seat of another
@@ -52,8 +52,8 @@ gives_detached scene seat view state rule at = record {
   one_a_party = rule.one_a_party;
   seated = seated_split scene.parties rule.logs state.views seat view
       (others_detached view) (first_detached view) (λ number. omega arith) (λ have. (have, tt)) rule.seated at;
-  transit = detached_split rule.flags rule.logs state.views seat view (others_detached view) (first_detached view)
-      (λ bucket. let parts = times_of-parts bucket view.detached in omega arith) rule.transit at;
+  detached = detached_split rule.flags rule.logs state.views seat view (others_detached view) (first_detached view)
+      (λ bucket. let parts = times_of-parts bucket view.detached in omega arith) rule.detached at;
 }
 
 pub takes_in : (scene : PoolScene) (seat other : ℕ) (view guest : SeatView) →
@@ -66,8 +66,8 @@ takes_in scene seat other view guest state rule at apart there = record {
   one_a_party = rule.one_a_party;
   seated = seated_joined scene.parties rule.logs state.views seat view other guest
       view.scene nobody.scene (guest.detached ++ view.detached) rule.seated at apart there;
-  transit = detached_joined rule.flags rule.logs state.views seat other view guest (both_detached view guest) nobody refl
-      (both_parts guest.detached view.detached) rule.transit at there;
+  detached = detached_joined rule.flags rule.logs state.views seat other view guest (both_detached view guest) nobody refl
+      (both_parts guest.detached view.detached) rule.detached at there;
 }
 
 -- THE OPENING
@@ -86,5 +86,5 @@ opens scene words are some_party =
           (all_free scene.geometry.buckets);
       one_a_party = length-replicate {A = PoolLog} scene.parties [];
       seated = seated_opening PoolEntry scene.parties scene;
-      transit = record { each = λ bucket some. absurd (omega arith); once = λ bucket. omega arith };
+      detached = record { each = λ bucket some. absurd (omega arith); once = λ bucket. omega arith };
     }

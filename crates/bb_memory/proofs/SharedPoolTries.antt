@@ -158,7 +158,7 @@ held_after_return party bucket other log apart held =
     ∙ ap (λ (b : Bool). if b then false else held_through other false log) differ
     ∙ held
 
--- HAND-OVERS AND TAKE-OVERS
+-- DETACHING AND ATTACHING
 
 pub not_held_after_detach : (party bucket : ℕ) (log : PoolLog) → ¬ IsHeldAfter (log ++ detach_entry party bucket) bucket
 not_held_after_detach party bucket log held =

@@ -18,7 +18,7 @@ use Rattle.bb_memory_base.specs.declared.steps.pool.PoolStep.{PoolStep}
 use Rattle.bb_memory_base.specs.declared.steps.pool.PoolStep.TheVariants.{Try, GiveBack, TryAt, Detach, Attach}
 use Rattle.bb_memory_base.specs.declared.steps.pool.PoolOutcome.{PoolOutcome}
 use Rattle.bb_memory_base.specs.declared.steps.pool.PoolOutcome.TheVariants.{Loses, RefusedAtLoss, Detaches}
-use Rattle.bb_memory_base.proofs.PoolLogFacts.{first_takes, nobody_else}
+use Rattle.bb_memory_base.proofs.PoolLogFacts.{first_takes, logs_apart, nobody_else}
 use Rattle.bb_memory_base.proofs.PoolRuns.{pool_run, run_is_sound, taken_is_held}
 use Rattle.bb_memory_base.proofs.PoolFlags.{taken_from_flag, flag_from_taken}
 use Rattle.bb_memory_base.proofs.PoolHolders.{detached_unheld}
@@ -26,7 +26,7 @@ use Rattle.bb_memory_base.proofs.PoolSteps.{test_same}
 use Rattle.bb_memory_base.proofs.PoolDetached.{was_detached_before}
 use Rattle.bb_memory.specs.SharedPool.{HasTaker, HaveMet, WasDetachedByOne, IsHeldByOne, IsHeldOrDetached, IsSharedScene}
 use Rattle.bb_memory.specs.SharedPool.{IsTaking, PoolParty, TookOne, losses, refused_pass}
-use Rattle.bb_memory.proofs.Contained.{any_contained, contains-filter, contains-first, contains-none, one_of_figure}
+use Rattle.bb_memory.proofs.Contained.{any_contained, contains-filter, contains-first, contains_at, contains-none, one_of_figure}
 
 module _ (scene : PoolScene) (parties : List PoolParty) (met : HaveMet scene parties) where
   abbrev steps : List PoolStep
@@ -66,6 +66,16 @@ module _ (scene : PoolScene) (parties : List PoolParty) (met : HaveMet scene par
   pub met_logged : All (λ party. log_of scene steps party.number ≡ party.log) parties
   met_logged k d below =
       met.1.agree.each _ _ (met.1.theirs k d below)
+
+  -- no bucket is held by two of them
+  pub met_apart : (i j : ℕ) (one other : PoolParty) (bucket : ℕ) → slice_get parties i ≡ Some one →
+      slice_get parties j ≡ Some other → i ≢ j → IsHeldAfter one.log bucket → ¬ IsHeldAfter other.log bucket
+  met_apart i j one other bucket at at_other apart held other_held =
+      let HasIts : PoolParty → Type 0 = λ party. HasLog met.1.logs party.number party.log in
+      let its = All-contains HasIts parties one met.1.theirs (contains_at parties i one at) in
+      let its_other = All-contains HasIts parties other met.1.theirs (contains_at parties j other at_other) in
+      met.1.differ i j one other at at_other apart
+      (logs_apart scene met.0 met.1.logs one.number one.log other.number other.log bucket met.1.agree its its_other held other_held)
 
   -- an entry whose step is that of a number stands in the log of the party with this number
   numbered : (entry : PoolEntry) (number : ℕ) → length parties ≡ scene.parties → Contains history entry →

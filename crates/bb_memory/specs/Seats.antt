@@ -86,7 +86,7 @@ pub record AreSeated {S E : Type 0} (made : ℕ) (logs : List (List E)) (views :
       HaveLogs made logs view.parties
   pub once : (number : ℕ) → number < made → times_in_views number views ≡ 1
 
--- WHAT IS IN TRANSIT
+-- WHAT IS DETACHED
 
 -- how often something stands in a list, and is detached in all views
 abbrev pub times_of : ℕ → List ℕ → ℕ

@@ -219,6 +219,8 @@ pub record AgreeAt (scene : BumpScene) (position : ℕ) (parties : List BumpPart
   pub agree : LogsAgree scene position logs
   pub one_a_party : length logs ≡ scene.parties
   pub theirs : All (λ party. HasLog logs party.number party.log) parties
+  pub differ : (i j : ℕ) (one other : BumpParty) → slice_get parties i ≡ Some one → slice_get parties j ≡ Some other → i ≢ j →
+      one.number ≢ other.number
   pub whole : length parties ≡ scene.parties →
       HaveAllNumbers scene.parties parties × (position ≡ greatest_seen parties)
 

@@ -1,6 +1,6 @@
 -- A shared pool, its parties and the buckets that they took, as their contracts see them, and what each call adds to its
 -- party's log.
-use Rattle.std.specs.Prelude.{◌≡◌, ℕ, zero, suc, ◌<◌, ◌≤◌, List, [], ◌∷◌, ◌++◌, None, Result, Ok, Err, ◌+◌, take}
+use Rattle.std.specs.Prelude.{◌≡◌, ◌≢◌, ℕ, zero, suc, ◌<◌, ◌≤◌, List, [], ◌∷◌, ◌++◌, None, Result, Ok, Err, ◌+◌, take}
 use Rattle.std.specs.Prelude.{◌↔◌, ◌⊎◌, ◌%◌, All, Any, Bool, true, Contains, IfOk, IsErr, OnErr, Some, length, map, slice_get}
 use Rattle.atomic_table.specs.Seated.{TableId}
 use Rattle.bb_memory_base.specs.Chunk.{Chunk, IsInside}
@@ -99,7 +99,7 @@ refused_pass buckets party = losses buckets party buckets
 abbrev pub return_entry : ℕ → ℕ → PoolLog
 return_entry party bucket = entry_of (GiveBack party bucket) (Gives bucket) ∷ []
 
--- one hand-over, and one take-over
+-- one step that detaches a bucket, and one that attaches it
 abbrev pub detach_entry : ℕ → ℕ → PoolLog
 detach_entry party bucket = entry_of (Detach party bucket) (Detaches bucket) ∷ []
 
@@ -165,6 +165,8 @@ pub record Serves (pool : SharedPool) (old : PoolParty) (layout : Layout) (answe
   pub is_party : IsParty new
   pub held : IfOk answer (λ bucket. IsHeldAfter new.log bucket.number)
   pub still_held : (other : ℕ) → IsHeldAfter old.log other → IsHeldAfter new.log other
+  pub others : (other : ℕ) → IfOk answer (λ bucket. other ≢ bucket.number) → IsHeldAfter new.log other →
+      IsHeldAfter old.log other
   pub inside : IfOk answer (λ bucket. IsInside pool.scene.geometry.region (chunk_of bucket))
   pub aligned : IfOk answer (λ bucket. (chunk_of bucket).place % layout.align ≡ 0)
   pub exact_size : IfOk answer (λ bucket. (chunk_of bucket).len ≡ layout.size)
@@ -221,7 +223,7 @@ HaveAllNumbers count parties =
 abbrev pub IsHeldByOne : List PoolParty → ℕ → Type 0
 IsHeldByOne parties bucket = Any (λ party. IsHeldAfter party.log bucket) parties
 
--- one of these parties has handed the bucket over
+-- one of these parties has detached the bucket
 abbrev pub WasDetachedByOne : List PoolParty → ℕ → Type 0
 WasDetachedByOne parties bucket = Any (λ party. WasDetached party.log bucket) parties
 
@@ -247,14 +249,16 @@ pub record HasTaker (scene : PoolScene) (parties : List PoolParty) : Type 0 wher
   pub took : TookOne taker.log
 
 -- There is a log for each of the pool's parties, with which these flags agree, and these parties' logs are among them. Where
--- these are all parties, each log is one of theirs, and a flag is taken exactly where one of them holds the bucket, or it is in
--- transit.
+-- these are all parties, each log is one of theirs, and a flag is taken exactly where one of them holds the bucket, or it is
+-- detached.
 pub record AgreeWith (scene : PoolScene) (flags : List Bool) (parties : List PoolParty)
     : Type 0 where
   pub logs : List PoolLog
   pub agree : LogsAgree scene flags logs
   pub one_a_party : length logs ≡ scene.parties
   pub theirs : All (λ party. HasLog logs party.number party.log) parties
+  pub differ : (i j : ℕ) (one other : PoolParty) → slice_get parties i ≡ Some one → slice_get parties j ≡ Some other → i ≢ j →
+      one.number ≢ other.number
   pub whole : length parties ≡ scene.parties →
       HaveAllNumbers scene.parties parties
       × ((bucket : ℕ) → (slice_get flags bucket ≡ Some true) ↔ IsHeldOrDetached scene agree.steps parties bucket)

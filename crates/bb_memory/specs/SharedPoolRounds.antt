@@ -1,6 +1,6 @@
--- Requests of a shared pool's party that try one bucket, or each bucket from one on: what they add to the party's log, and what
--- they may be answered.
-use Rattle.std.specs.Prelude.{◌≡◌, ℕ, zero, suc, ◌+◌, ◌%◌, ◌<◌, ◌≤◌, ◌⊎◌, nat_lt, if◌then◌else◌, [], ◌∷◌, ◌++◌}
+-- Requests of a shared pool's party that try each bucket from one on: what they add to the party's log, and what they may be
+-- answered.
+use Rattle.std.specs.Prelude.{◌≡◌, ℕ, zero, suc, ◌+◌, ◌%◌, ◌<◌, ◌≤◌, nat_lt, if◌then◌else◌, [], ◌∷◌, ◌++◌}
 use Rattle.std.specs.Prelude.{Result, Ok, Err, take}
 use Rattle.bb_memory_base.specs.PoolObject.{IsWithin}
 use Rattle.bb_memory_base.specs.PoolHistory.{PoolLog, entries_by, entry_of, history_of}
@@ -47,30 +47,6 @@ abbrev pub refused_round : ℕ → ℕ → ℕ → PoolLog
 refused_round buckets party first = misses buckets party first buckets
 
 -- WHAT A REQUEST MAY BE ANSWERED
-
--- What a party's request for the bucket of this number may be answered, and what the party is then.
-abbrev pub MayTakeAt : ℕ → PoolParty → Layout → Result TakenBucket AllocationError → PoolParty
-    → Type 0
--- one step: it took the bucket
-MayTakeAt number party layout (Ok bucket) new =
-    MayTakeBucket party layout number
-    × (bucket ≡ taken_bucket party.allocator number layout.size)
-    × (new ≡ with_entries party (taking_at party.number number))
--- no step
-MayTakeAt number party layout (Err SizeTooLarge) new =
-    (party.allocator.scene.geometry.bucket.size < layout.size) × (new ≡ party)
-MayTakeAt number party layout (Err AlignmentFailure) new =
-    (layout.size ≤ party.allocator.scene.geometry.bucket.size)
-    × (party.allocator.scene.geometry.bucket.align < layout.align)
-    × (new ≡ party)
--- one step, which missed the bucket, or no step where there is none of this number
-MayTakeAt number party layout (Err OutOfMemory) new =
-    let buckets = party.allocator.scene.geometry.buckets in
-    IsWithin party.allocator.scene.geometry.bucket layout
-    × (((number < buckets) × (new ≡ with_entries party (miss_at party.number number)))
-    ⊎ ((buckets ≤ number) × (new ≡ party)))
--- it never refuses so
-MayTakeAt number party layout (Err SizeIsZero) new = ⊥
 
 -- a round of the party's took this bucket at some turn, and left the party so
 pub record TakesInRound (party : PoolParty) (first bucket : ℕ) (new : PoolParty) : Type 0 where

@@ -114,7 +114,7 @@ pub record MayDetachAt (pool : SharedPool) (here : TableId) (me : Me ℕ SeatVie
 pub record MayAttachAt (pool : SharedPool) (here : TableId) (me : Me ℕ SeatView) (there : TableId) (other : Me ℕ SeatView)
     (bucket : ℕ) : Type 0 where
   pub seat : IsIdleAt pool here me
-  pub transit : IsDetachedAt pool there other bucket
+  pub detached : IsDetachedAt pool there other bucket
 
 -- THE RULE
 
@@ -132,7 +132,7 @@ pub record WordsAndLogsAgree (scene : PoolScene) (state : State ℕ SeatView) : 
   pub words : HaveFlags state.words flags
   pub one_a_party : length logs ≡ scene.parties
   pub seated : AreSeated scene.parties logs state.views
-  pub transit : AreDetached flags logs state.views
+  pub detached : AreDetached flags logs state.views
 
 -- the table has the words of the buckets' flags
 pub record HasWords (table : TableId) (scene : PoolScene) : Type 0 where

@@ -62,7 +62,7 @@ abbrev pub TellsReturn : PoolScene → ℕ → PoolLog → ℕ → Me ℕ SeatVi
 TellsReturn scene number log bucket new =
     IsSeatOf scene number (log ++ return_entry number bucket) new
 
--- A party handed this bucket over: its log then has the step, and the bucket is detached at its seat.
+-- A party detached this bucket: its log then has the step, and the bucket is detached at its seat.
 pub record TellsDetach (scene : PoolScene) (number : ℕ) (log : PoolLog) (bucket : ℕ)
     (new : Me ℕ SeatView) : Type 0 where
   pub is : let longer : PoolLog = log ++ detach_entry number bucket in
@@ -74,7 +74,7 @@ abbrev pub HasDetachedAt : PoolScene → ℕ → PoolLog → ℕ → Me ℕ Seat
 HasDetachedAt scene number log bucket new =
     IsSeatOf scene number (log ++ detach_entry number bucket) new
 
--- An idle party took over this bucket, which wasn't held after its log. The log then has the step.
+-- An idle party attached this bucket, which wasn't held after its log. The log then has the step.
 pub record HasAttachedAt (scene : PoolScene) (number : ℕ) (log : PoolLog) (bucket : ℕ)
     (new : Me ℕ SeatView) : Type 0 where
   pub ended : HasEnded scene number log (attach_entry number bucket) new
@@ -117,12 +117,12 @@ returns step old found new =
 abbrev pub meets : Step ℕ → Me ℕ SeatView → ℕ → Me ℕ SeatView → Type 0
 meets step old found new = (new ≡ old) × TellsMeeting old.0.scene old.0.parties
 
--- a load of its word by the party that hands a bucket over
+-- a load of its word by the party that detaches a bucket
 abbrev pub detaches : Step ℕ → Me ℕ SeatView → ℕ → Me ℕ SeatView → Type 0
 detaches step old found new =
     TellsDetach old.0.scene (number_of old.0) (view_log old.0) (bucket_of step.word) new
 
--- a load of its word by an idle party at whose seat the bucket is detached, and which takes it over
+-- a load of its word by an idle party at whose seat the bucket is detached, and which attaches it
 abbrev pub attaches : Step ℕ → Me ℕ SeatView → ℕ → Me ℕ SeatView → Type 0
 attaches step old found new =
     HasAttachedAt old.0.scene (number_of old.0) (view_log old.0) (bucket_of step.word) new

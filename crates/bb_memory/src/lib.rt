@@ -21,7 +21,7 @@
 //!   - `flags`, `rule`, `party`, `meeting` and `all_parties`: as those of the bump, with a word for each bucket.
 //!   - `buckets`: the pool itself, and a request by a pass. `rounds`: requests that begin elsewhere than at bucket 0.
 //!   - `bucket`: what a request answers. `by_number`: buckets by number and by place.
-//!   - `transit`: buckets that go from party to party.
+//!   - `detached`: buckets on their way from one party to another.
 //!   - `fixed_size`: the pool of at most a constant of buckets.
 //!
 //! The examples in the comments of this crate stand in `crates/examples/src/comments.rt`, where they are proved; its first

@@ -145,7 +145,7 @@ impl<A: LanguageAllocator> PoolAllocator<A> {
     pub fn start_address(&self) -> usize
         ensures { result ≡ first_place self.now.pool.geometry.region self.now.pool.geometry.bucket }
     {
-        self.buckets.first()
+        self.buckets.geometry().first()
     }
 
     /// How many index words the last `allocate` or `allocate_zeroed` read: one where it looked for a free bucket in a pool that

@@ -1,6 +1,6 @@
 //! The bump that threads share: its word is the position, and each thread steps with a party of its own.
 ghost use Rattle.std.specs.Prelude.{◌≡◌, ◌≢◌, ◌+◌, ◌-◌, ◌≤◌, ◌%◌, ◌∷◌, ◌++◌, [], List, All, IfOk};
-ghost use Rattle.std.specs.Prelude.{ℕ, OnErr, length, Contains};
+ghost use Rattle.std.specs.Prelude.{ℕ, OnErr, Some, length, slice_get, Contains};
 ghost use Rattle.bb_memory_base.specs.Region.{IsRegion, region_at};
 ghost use Rattle.bb_memory_base.specs.Chunk.{AreApart, Chunk, IsInside};
 ghost use Rattle.bb_memory_base.specs.LiveList.{IsSound};
@@ -179,13 +179,16 @@ impl SharedBumpAllocator {
         self.position.meet(&mut a.seat, &mut b.seat);
     }
 
-    /// All these parties meet: one interleaving has all their logs, and leaves the position that the meeting finds; where these
-    /// are all the bump's parties, it has no other steps, and the position is the greatest that one of them has seen. What it
-    /// finds raises the floor of each, and nothing else changes. It loads a word once, and two times more for each party but
-    /// one, which is in no log. The parties have to be this bump's.
+    /// All these parties meet: no chunk of one overlaps a chunk of another. One interleaving has all their logs, and leaves the
+    /// position that the meeting finds. Where these are all the bump's parties, it has no other steps, and the position is the
+    /// greatest that one of them has seen. The position found raises the floor of each, and nothing else changes. The meeting
+    /// loads a word once, and two times more for each party but one, which is in no log. The parties have to be this bump's.
     pub fn meet_all(&self, parties: &mut Vec<BumpParty>)
         requires parties { All (λ party. party.allocator ≡ self.now) parties.old.items }
         ensures met { HaveMet self.now.scene parties.old.items parties.new.items }
+        ensures apart { (i j : ℕ) (one other : BumpParty)
+            → slice_get parties.old.items i ≡ Some one → slice_get parties.old.items j ≡ Some other
+            → i ≢ j → HaveChunksApart one.log other.log }
         ensures parties { All (λ party. party.allocator ≡ self.now) parties.new.items }
     {
         let _ = &self.start;

@@ -1,6 +1,6 @@
 //! Pools that threads share: each call takes its pool by `&`, and steps on one atomic flag for each bucket.
 ghost use Rattle.std.specs.Prelude.{◌≡◌, ◌≢◌, ◌<◌, ◌≤◌, ℕ, List};
-ghost use Rattle.std.specs.Prelude.{IfOk, IfErr, Result, ◌++◌, ◌⊎◌};
+ghost use Rattle.std.specs.Prelude.{IfOk, IfErr, ◌++◌, ◌⊎◌};
 ghost use Rattle.bb_memory_base.specs.Region.{region_at};
 ghost use Rattle.bb_memory_base.specs.Chunk.{AreApart, Chunk};
 ghost use Rattle.bb_memory_base.specs.LiveList.{IsSound};
@@ -11,12 +11,10 @@ ghost use Rattle.bb_memory_base.specs.PoolCalls.{AreAsked, IsPoolRun};
 ghost use Rattle.bb_memory_base.specs.PoolHistory.{PoolLog};
 ghost use Rattle.bb_memory_base.specs.PoolLogs.{IsHeldAfter};
 ghost use Rattle.bb_memory_base.specs.declared.layout.Layout.{Layout};
-ghost use Rattle.bb_memory_base.specs.declared.allocator.AllocationError.{AllocationError};
 ghost use Rattle.bb_memory.specs.HeldBuckets.{IsCutAtMost};
 ghost use Rattle.bb_memory.specs.Pool.{AreAStrideApart, MayBeCut};
 ghost use Rattle.bb_memory.specs.SharedPool.{AreFresh, AreInterleaved, HasFoundAllHeld, IsHistoryRun};
-ghost use Rattle.bb_memory.specs.SharedPool.{IsParty, MayTake, PoolParty, TakenBucket, chunk_of};
-ghost use Rattle.bb_memory.specs.SharedPool.{detach_entry, refused_pass, return_entry, attach_entry, with_entries};
+ghost use Rattle.bb_memory.specs.SharedPool.{IsParty, PoolParty, TakenBucket, chunk_of, refused_pass};
 ghost use Rattle.bb_memory.specs.SharedPoolRounds.{HasMissedAll, refused_round};
 
 mod all_parties;
@@ -45,9 +43,8 @@ use std::alloc::Global;
 /// Gives buckets of one layout to any number of threads. The pool is made for some number of parties, and each thread that
 /// takes or gives back buckets has one of them. No call waits for another, and none takes memory once the pool is made.
 ///
-/// Of the requests, `allocate_near` is the one to begin with: it tries the buckets from where its party has been last, so what
-/// is held elsewhere costs it nothing. `allocate` tries them from bucket 0 each time, `allocate_from` from a bucket that it
-/// names, and `allocate_at` tries one alone.
+/// Of the two requests, `allocate_near` is the one to begin with: it tries the buckets from where its party has been last, so
+/// what is held elsewhere costs it nothing. `allocate` tries them from bucket 0 each time.
 ///
 /// What a call promises is told by the party's log: the list of the atomic steps that the party made, each with what it found.
 /// Some interleaving of each party's log with some logs of the others is always one that the pool machine allows. A user who has
@@ -120,35 +117,6 @@ impl SharedPoolAllocator {
         self.flags.geometry().first()
     }
 }
-
-/// What a party holds after a call: what it held before, and the bucket that it was given or took over. A bucket that it gave back
-/// or handed over it holds no more, so that a party which held none before holds none after. It does nothing: its contract is
-/// the law.
-///
-/// ```
-/// shared_pool_held_law();
-/// if let Ok(bucket) = pool.allocate(party, layout) {
-///     pool.deallocate_bucket(party, bucket);
-/// }
-/// ```
-pub fn shared_pool_held_law()
-    ensures taken { (old new : PoolParty) (layout : Layout)
-        (answer : Result TakenBucket AllocationError) (other : ℕ) → MayTake old layout answer new
-        → IfOk answer (λ bucket. other ≢ bucket.number)
-        → IsHeldAfter new.log other → IsHeldAfter old.log other }
-    ensures returned { (old new : PoolParty) (bucket other : ℕ)
-        → new ≡ with_entries old (return_entry old.number bucket)
-        → IsHeldAfter new.log other → IsHeldAfter old.log other }
-    ensures given_back { (old new : PoolParty) (bucket other : ℕ)
-        → new ≡ with_entries old (return_entry old.number bucket)
-        → IsHeldAfter new.log other → other ≢ bucket }
-    ensures was_detached { (old new : PoolParty) (bucket other : ℕ)
-        → new ≡ with_entries old (detach_entry old.number bucket)
-        → IsHeldAfter new.log other → IsHeldAfter old.log other }
-    ensures attached { (old new : PoolParty) (bucket other : ℕ)
-        → new ≡ with_entries old (attach_entry old.number bucket) → other ≢ bucket
-        → IsHeldAfter new.log other → IsHeldAfter old.log other }
-{}
 
 /// What a user of a shared pool has of each party, and of two that met, whatever the threads did. It does nothing: its
 /// contract is the law.

@@ -10,7 +10,6 @@ pub mod BumpRuns
 pub mod BumpSteps
 pub mod BumpStretches
 pub mod BumpWholes
-pub mod Filters
 pub mod FirstPositions
 pub mod GroupSums
 pub mod Layouts
@@ -22,6 +21,7 @@ pub mod PoolFlags
 pub mod PoolGeometries
 pub mod PoolHolders
 pub mod PoolLists
+pub mod PoolLogEntries
 pub mod PoolLogFacts
 pub mod PoolLogRuns
 pub mod PoolLogSteps
@@ -32,10 +32,8 @@ pub mod PoolDetached
 pub mod Positions
 pub mod PowersOfTwo
 pub mod Runs
-pub mod SideBySides
 pub mod SliceGets
 pub mod SliceSets
 pub mod SplitBytes
-pub mod TwoSides
 pub mod UsualLayouts
 mod Written

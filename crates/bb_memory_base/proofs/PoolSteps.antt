@@ -186,7 +186,7 @@ length-step state step move (takes party bucket next free) = length-set state.fl
 length-step state step move (takes_at party bucket idle free) = length-set state.flags bucket (HeldBy party)
 length-step state step move (gives party bucket held) = length-set state.flags bucket Free
 length-step state step move (detaches party bucket held others) = length-set state.flags bucket Detached
-length-step state step move (attaches party bucket idle transit) = length-set state.flags bucket (HeldBy party)
+length-step state step move (attaches party bucket idle detached) = length-set state.flags bucket (HeldBy party)
 length-step state step move _ = refl
 
 -- steps leave as many flags as there were

@@ -25,5 +25,4 @@ pub mod Region
 pub mod Request
 pub mod ResizableObject
 pub mod Run
-pub mod SideBySide
 pub mod UsualLayout

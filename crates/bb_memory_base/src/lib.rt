@@ -7,7 +7,6 @@
 //! - `region`: the bytes of a region, lent chunk by chunk.
 //! - `allocator`: the traits that an allocator meets, why one refuses, and commands with their replies. In `allocator/run` runs
 //!   of commands over any allocator.
-//! - `side_by_side`: what two allocators with a border between them make of one live list, for layers.
 //! - `steps`: what any number of parties do to words that they share.
 //!   - `bump`, `pool`: the machines' steps, and what holds of every list of them.
 //!   - `bump_world`, `pool_world`: machines that a caller steps by hand.
@@ -23,5 +22,4 @@ pub mod equality;
 pub mod layout;
 pub mod lists;
 pub mod region;
-pub mod side_by_side;
 pub mod steps;

@@ -12,7 +12,7 @@ use Rattle.bb_memory_base.proofs.PoolSteps.{test_same, test_apart}
 use Rattle.bb_memory_base.proofs.SliceGets.{length-set_at}
 use Rattle.bb_memory_base.proofs.SliceSets.{slice_get-set_other, slice_get-set_same}
 use Rattle.bb_memory_base.proofs.PoolHolders.{held_through}
-use Rattle.bb_memory.specs.SharedPool.{PoolParty, SharedPool, TakenBucket, detach_entry, return_entry, attach_entry, with_entries}
+use Rattle.bb_memory.specs.SharedPool.{PoolParty, SharedPool, TakenBucket, attach_entry, detach_entry, return_entry, with_entries}
 use Rattle.bb_memory.specs.SharedPoolRounds.{MayTakeFrom, taking_round}
 use Rattle.bb_memory.proofs.SharedPoolRounds.{held-round, missed_same}
 use Rattle.bb_memory.proofs.SharedPoolTries.{held-append}
@@ -25,15 +25,15 @@ after-return : (party returned bucket : ℕ) (log : PoolLog) →
     ≡ (if returned == bucket then false else held_through bucket false log)
 after-return party returned bucket log = held-append bucket false log (return_entry party returned)
 
-after-detach : (party handed bucket : ℕ) (log : PoolLog) →
-    held_through bucket false (log ++ detach_entry party handed)
-    ≡ (if handed == bucket then false else held_through bucket false log)
-after-detach party handed bucket log = held-append bucket false log (detach_entry party handed)
+after-detach : (party detached bucket : ℕ) (log : PoolLog) →
+    held_through bucket false (log ++ detach_entry party detached)
+    ≡ (if detached == bucket then false else held_through bucket false log)
+after-detach party detached bucket log = held-append bucket false log (detach_entry party detached)
 
-after-attach : (party taken bucket : ℕ) (log : PoolLog) →
-    held_through bucket false (log ++ attach_entry party taken)
-    ≡ (if taken == bucket then true else held_through bucket false log)
-after-attach party taken bucket log = held-append bucket false log (attach_entry party taken)
+after-attach : (party attached bucket : ℕ) (log : PoolLog) →
+    held_through bucket false (log ++ attach_entry party attached)
+    ≡ (if attached == bucket then true else held_through bucket false log)
+after-attach party attached bucket log = held-append bucket false log (attach_entry party attached)
 
 -- FLAGS
 

@@ -3,7 +3,6 @@ use Rattle.std.proofs.Common.{◌≡◌, ℕ, Result, Ok, Err, Option, Some, Non
 use Rattle.std.proofs.lemmas.Bool.{false≢true}
 use Rattle.std.specs.Align.{IsLayout}
 use Rattle.std.specs.Result.{result_ok}
-use Rattle.std.specs.Option.{is_some}
 use Rattle.bb_memory_base.specs.declared.layout.Layout.{Layout}
 use Rattle.bb_memory_base.specs.Region.{Region}
 use Rattle.bb_memory_base.proofs.Layouts.{same_layout}
@@ -27,11 +26,6 @@ layout_or other None = other
 pub the_same : (made layout : Layout) (given : Option Layout) (size align : ℕ) → given ≡ Some made
     → ((other : Layout) → IsOf size align other → given ≡ Some other) → IsOf size align layout → made ≡ layout
 the_same made layout given size align is each of = ap (layout_or made) (sym is ∙ each layout of)
-
--- none was made, so there is none of these numbers
-pub is_none : {X : Type 0} (layout : Layout) (given : Option Layout) (size align : ℕ) → given ≡ None
-    → ((other : Layout) → IsOf size align other → given ≡ Some other) → IsOf size align layout → X
-is_none layout given size align is each of = absurd (false≢true (ap is_some (sym is ∙ each layout of)))
 
 -- CUTS
 

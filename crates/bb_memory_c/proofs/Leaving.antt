@@ -140,11 +140,6 @@ none-returned party number free =
     sym (append-nil party.log)
     ∙ ap (λ (b : Bool). party.log ++ (if b then return_entry party.number number else [])) (sym free))
 
-pub one-returned : (party : PoolParty) (number : ℕ) → holds_bucket party number ≡ true →
-    with_entries party (return_entry party.number number) ≡ with_entries party (return_of party number)
-one-returned party number held =
-    ap (λ (b : Bool). with_entries party (if b then return_entry party.number number else [])) (sym held)
-
 -- the next bucket is held after the returns of those in front of it exactly as before them
 next-held : (party : PoolParty) (number : ℕ) →
     holds_bucket (with_entries party (returns_of party number)) number ≡ holds_bucket party number

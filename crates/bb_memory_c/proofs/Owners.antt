@@ -9,7 +9,7 @@ use Rattle.bb_memory_c.specs.contracts.bump_seat.BumpSeats.{the_row as shared_bu
 use Rattle.bb_memory_c.specs.contracts.bump_seat.BumpSeat.{the_row as bump_seat_row}
 use Rattle.bb_memory_c.specs.contracts.pool_seat.PoolSeats.{the_row as shared_pool_row}
 use Rattle.bb_memory_c.specs.contracts.pool_seat.PoolSeat.{the_row as pool_seat_row}
-use Rattle.bb_memory_c.specs.contracts.envelope.Envelope.{the_row as envelope_row}
+use Rattle.bb_memory_c.specs.contracts.detached.Detached.{the_row as detached_row}
 use Rattle.bb_memory_c.specs.contracts.handle.bump.BumpHandle as bump_handle
 use Rattle.bb_memory_c.specs.contracts.handle.one_chunk.OneChunkHandle as one_chunk_handle
 use Rattle.bb_memory_c.specs.contracts.handle.pool.PoolHandle as pool_handle
@@ -18,7 +18,7 @@ use Rattle.bb_memory_c.specs.contracts.handle.shared_bump.SharedBumpHandle as sh
 use Rattle.bb_memory_c.specs.contracts.handle.bump_seat.BumpSeatHandle as bump_seat_handle
 use Rattle.bb_memory_c.specs.contracts.handle.shared_pool.SharedPoolHandle as shared_pool_handle
 use Rattle.bb_memory_c.specs.contracts.handle.pool_seat.PoolSeatHandle as pool_seat_handle
-use Rattle.bb_memory_c.specs.contracts.handle.envelope.EnvelopeHandle as envelope_handle
+use Rattle.bb_memory_c.specs.contracts.handle.detached.DetachedHandle as detached_handle
 use Rattle.bb_memory_c.proofs.Holds.{Held}
 use Rattle.bb_memory_c.proofs.Passing.{Owner}
 
@@ -121,8 +121,8 @@ pool_seat = record {
   blanks = λ d f. tt;
 }
 
-abbrev pub envelope : Owner envelope_row envelope_handle.the_row
-envelope = record {
+abbrev pub detached : Owner detached_row detached_handle.the_row
+detached = record {
   held = λ d. record { at = d.at; made = d.made; heap = d.heap; value = d.value };
   back = λ d. record { at = d.at; made = d.made; heap = d.heap; value = d.value };
   again = λ d. refl;

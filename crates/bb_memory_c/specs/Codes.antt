@@ -77,13 +77,13 @@ seats_out = 18
 abbrev pub one_party : ℕ
 one_party = 19
 
--- a bucket is in the envelope already
-abbrev pub envelope_full : ℕ
-envelope_full = 20
+-- a detached bucket is there already
+abbrev pub detached_full : ℕ
+detached_full = 20
 
--- no bucket is in the envelope
-abbrev pub envelope_empty : ℕ
-envelope_empty = 21
+-- no detached bucket is there
+abbrev pub detached_empty : ℕ
+detached_empty = 21
 
 -- no bucket has the number, or begins at the place
 abbrev pub not_a_bucket : ℕ

@@ -4,6 +4,7 @@ pub mod Bumps
 pub mod ByNumber
 pub mod Calls
 pub mod Codes
+pub mod Detached
 pub mod Figures
 pub mod Handles
 pub mod Layouts
@@ -16,4 +17,3 @@ pub mod SharedBumpHandles
 pub mod SharedBumps
 pub mod SharedPoolHandles
 pub mod SharedPools
-pub mod Transit

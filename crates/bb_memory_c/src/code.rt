@@ -49,11 +49,11 @@ pub(crate) const SEATS_OUT: u32 = 18;
 /// The pool has no other party.
 pub(crate) const ONE_PARTY: u32 = 19;
 
-/// A bucket is in the envelope already.
-pub(crate) const ENVELOPE_FULL: u32 = 20;
+/// A detached bucket is there already.
+pub(crate) const DETACHED_FULL: u32 = 20;
 
-/// No bucket is in the envelope.
-pub(crate) const ENVELOPE_EMPTY: u32 = 21;
+/// No detached bucket is there.
+pub(crate) const DETACHED_EMPTY: u32 = 21;
 
 /// No bucket has the number, or begins at the place.
 pub(crate) const NOT_A_BUCKET: u32 = 22;

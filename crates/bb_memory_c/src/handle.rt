@@ -7,7 +7,7 @@ ghost use Rattle.std.specs.Borrow.{sem, LendsSo};
 
 mod bump;
 mod bump_seat;
-mod envelope;
+mod detached;
 mod one_chunk;
 mod pool;
 mod pool_seat;
@@ -17,7 +17,7 @@ mod shared_pool;
 use crate::held::Held;
 pub use bump::BumpHandle;
 pub use bump_seat::BumpSeatHandle;
-pub use envelope::EnvelopeHandle;
+pub use detached::DetachedHandle;
 pub use one_chunk::OneChunkHandle;
 pub use pool::{FlagsPoolHandle, PoolHandle};
 pub use pool_seat::PoolSeatHandle;

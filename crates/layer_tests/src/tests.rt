@@ -6,7 +6,6 @@ mod live_list;
 mod pools;
 mod results;
 mod rows;
-mod segregated;
 mod tenants;
 mod workers;
 

@@ -2,6 +2,9 @@
 use Rattle.std.specs.Prelude.{◌≡◌, ℕ, ◌<◌, ◌^◌, List, Option, Some, None}
 use Rattle.std.specs.Option.{ForSome}
 use Rattle.bb_memory_base.specs.Chunk.{Chunk}
+use Rattle.bb_memory_base.specs.declared.layout.Layout.{Layout}
+use Rattle.loan_book.specs.declared.error.LoanError.{LoanError}
+use Rattle.loan_book.specs.declared.error.LoanError.TheVariants.{Allocation}
 use Rattle.loan_book.specs.Sample.{Sample}
 use Rattle.loan_book.specs.Book.{Book, IsBook, chunks_of, chunks_out}
 
@@ -34,3 +37,15 @@ pub record StillStands {A Geometry : Type 0} (stands_for : A → List Chunk → 
     (old new : LoanBook A) : Type 0 where
   pub stands : stands_for new.allocator (chunks_out new.book)
   pub geometry : geometry_of new.allocator ≡ geometry_of old.allocator
+
+-- the refusal is the allocator's, and not the book's own
+abbrev pub IsAllocators : LoanError → Type 0
+IsAllocators (Allocation error) = Unit {0}
+IsAllocators _ = ⊥
+
+-- one request for so many bytes, at any place, made this note of the one before
+pub record IsAskedOnce {Note : Type 0} (note_after : Layout → Note → Note) (size : ℕ) (old new : Note) : Type 0 where
+  pub layout : Layout
+  pub many : layout.size ≡ size
+  pub align : layout.align ≡ 1
+  pub noted : new ≡ note_after layout old

@@ -1,13 +1,13 @@
 //! Loan books.
 ghost use Rattle.std.specs.Prelude.{◌≡◌, ◌↔◌, ◌<◌, ◌≤◌, ◌^◌, ℕ, false, [], List, Result};
-ghost use Rattle.std.specs.Prelude.{length, IfOk, OnOk, OnErr, IfSome, IfNone, IsTrue};
+ghost use Rattle.std.specs.Prelude.{length, IfErr, IfOk, OnOk, OnErr, IfSome, IfNone, IsTrue};
 ghost use Rattle.bb_memory_base.specs.Chunk.{Chunk};
 ghost use Rattle.bb_memory_base.specs.LiveList.{IsSound};
 ghost use Rattle.loan_book.specs.Sample.{Sample};
 ghost use Rattle.loan_book.specs.declared.error.LoanError.{LoanError};
 ghost use Rattle.loan_book.specs.Book.{Book, IsBook, IsAt, IsOut, HasReturns, IsPublished, IsUnpublished, chunks_out};
 ghost use Rattle.loan_book.specs.Calls.{Loans, Publishes, GivesBack, without};
-ghost use Rattle.loan_book.specs.LoanBook.{StillStands, loan_book_of};
+ghost use Rattle.loan_book.specs.LoanBook.{IsAllocators, IsAskedOnce, StillStands, loan_book_of};
 
 use crate::error::LoanError;
 use crate::sample::Sample;
@@ -70,7 +70,8 @@ impl<A: Allocator> LoanBook<A> {
     ///
     /// It is refused in this order: with `Size` where `size` exceeds `isize::MAX`, with `IdsExhausted` where the greatest
     /// id was loaned before, with `Memory` where the memory for the sample's record was refused, and with `Allocation`
-    /// where the allocator refused. A refusal leaves the book as it was.
+    /// where the allocator refused. A refusal leaves the book as it was. The allocator is asked once, and only behind the
+    /// first three tests.
     pub fn loan(&mut self, size: usize) -> Result<(u64, Chunk), LoanError>
         ensures answer { Loans (A.may_allocate (A.geometry self.old.allocator))
             self.old.book size result self.new.book }
@@ -83,6 +84,15 @@ impl<A: Allocator> LoanBook<A> {
         ensures long_enough { IfOk result (λ loaned. size ≤ loaned.1.len) }
         ensures kept { OnErr result ((live : List Chunk) → A.stands_for self.old.allocator live
             → A.stands_for self.new.allocator live) }
+
+        // The allocator is asked once, and not where the refusal is the book's own.
+        ensures unasked { IfErr result (λ error. (¬ IsAllocators error) → self.new ≡ self.old) }
+        ensures asked_once { IfOk result (λ loaned. IsAskedOnce
+            (A.note_after (A.geometry self.old.allocator)) size
+            (A.note self.old.allocator) (A.note self.new.allocator)) }
+        ensures refused_once { IfErr result (λ error. IsAllocators error → IsAskedOnce
+            (A.note_after (A.geometry self.old.allocator)) size
+            (A.note self.old.allocator) (A.note self.new.allocator)) }
     {
         // What the type promises is known from here on.
         let _ = &self.next;

@@ -2,6 +2,7 @@
 mod at_most;
 mod bump_rows;
 mod checks;
+mod detached;
 mod pool_rows;
 mod pool_worlds;
 mod refused_in_turn;
@@ -10,4 +11,3 @@ mod shared_buckets;
 mod shared_bumps;
 mod shared_pools;
 mod threads;
-mod transit;

@@ -6,6 +6,5 @@ pub mod Messages
 pub mod Records
 pub mod Requests
 pub mod Rings
-pub mod Segregations
 pub mod Tenants
 pub mod Workers

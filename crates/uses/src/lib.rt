@@ -5,7 +5,6 @@
 //! - `slab`: records of bytes, each in a chunk of its own. `keyed_slab`: records under keys that are refused once their record is
 //!   taken out, over the slab.
 //! - `chunk_budget`: a limit of chunks over an allocator, which is an allocator itself.
-//! - `segregated`: two allocators side by side, which are one. `three_pools`: three pools in one region, likewise.
 //! - `tenants`: tenants of one allocator, each with a limit, which together never exceed a whole.
 //! - `byte_vector`: a vector of bytes at an offset of a region, which can move to another region.
 //! - `ring`: messages for several readers, over a loan book. `ring/laws`: laws of the book's newest and oldest sample.
@@ -24,7 +23,5 @@ mod last_chunk;
 pub mod pool_messages;
 pub mod pool_workers;
 pub mod ring;
-pub mod segregated;
 pub mod slab;
 pub mod tenants;
-pub mod three_pools;

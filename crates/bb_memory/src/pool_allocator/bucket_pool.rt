@@ -48,7 +48,7 @@ impl<S: HeldSet> BucketPool<S> {
         ensures value { result ≡ (S.pool self.now).geometry.buckets }
         ensures is_pool { IsPool (S.pool self.now) }
     {
-        self.buckets.count()
+        self.buckets.geometry().count()
     }
 
     /// The size of a bucket in bytes, as it was asked for. The buckets are at least that far apart.
@@ -56,7 +56,7 @@ impl<S: HeldSet> BucketPool<S> {
     pub fn bucket_size(&self) -> usize
         ensures { result ≡ (S.pool self.now).geometry.bucket.size }
     {
-        self.buckets.bucket().size()
+        self.buckets.geometry().bucket().size()
     }
 
     /// The greatest alignment that a request may have, of which each bucket's place is a multiple.
@@ -64,7 +64,7 @@ impl<S: HeldSet> BucketPool<S> {
     pub fn max_alignment(&self) -> usize
         ensures { result ≡ (S.pool self.now).geometry.bucket.align }
     {
-        self.buckets.bucket().align()
+        self.buckets.geometry().bucket().align()
     }
 
     /// How many bytes the region has, as it was handed in.
@@ -72,21 +72,21 @@ impl<S: HeldSet> BucketPool<S> {
     pub fn size(&self) -> usize
         ensures { result ≡ (S.pool self.now).geometry.region.size }
     {
-        self.buckets.region_size()
+        self.buckets.geometry().region_size()
     }
 
     /// Where the bucket of this number begins, held or not, or `None` where there is no such bucket.
     pub fn place_at(&self, number: u32) -> Option<usize>
         ensures { TellsPlace (S.pool self.now).geometry number result }
     {
-        self.buckets.place_at(number)
+        self.buckets.geometry().place_at(number)
     }
 
     /// The number of the bucket that begins at this place, held or not, or `None` where none does.
     pub fn number_at(&self, place: usize) -> Option<u32>
         ensures { TellsNumber (S.pool self.now).geometry place result }
     {
-        self.buckets.number_at(place)
+        self.buckets.geometry().number_at(place)
     }
 
     /// How many buckets are held: as many as were given and not given back. Each bucket is looked at, and no read is counted.
@@ -266,7 +266,7 @@ impl<S: HeldSet> Allocator for BucketPool<S> {
         old: Layout,
         new: Layout,
     ) -> Result<Chunk, AllocationGrowError> {
-        self.buckets.grow(place, old, new)
+        self.buckets.geometry().grow(place, old, new)
     }
 
     /// Gives the chunk exactly the new size. It is refused in this order: with `ShrinkWouldGrow` where the new size isn't
@@ -280,7 +280,7 @@ impl<S: HeldSet> Allocator for BucketPool<S> {
         old: Layout,
         new: Layout,
     ) -> Result<Chunk, AllocationShrinkError> {
-        self.buckets.shrink(place, old, new)
+        self.buckets.geometry().shrink(place, old, new)
     }
 
     ghost fixed = { λ one other same. same };

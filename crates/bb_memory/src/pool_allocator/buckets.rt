@@ -1,15 +1,12 @@
 //! What both pools are: the buckets of a region, and a set of those that are held.
 ghost use Rattle.std.specs.Prelude.{◌≡◌, ℕ, ◌≤◌, ◌↔◌, length, IsTrue};
-ghost use Rattle.bb_memory_base.specs.FirstPlace.{first_place};
 ghost use Rattle.bb_memory_base.specs.PoolGeometry.{bucket_place};
-ghost use Rattle.bb_memory_base.specs.PoolObject.{MayGrow, MayShrink};
-ghost use Rattle.bb_memory.specs.Buckets.{TellsNumber, TellsPlace};
 ghost use Rattle.bb_memory.specs.HeldBuckets.{held_count};
 ghost use Rattle.bb_memory.specs.NumberSet.{Lacks};
 ghost use Rattle.bb_memory.specs.Pool.{Frees, FreesIfHeld, HoldsPlace, Takes, pool_of, reads_of};
 
 use super::geometry::Geometry;
-use crate::allocator::{AllocationError, AllocationGrowError, AllocationShrinkError};
+use crate::allocator::AllocationError;
 use crate::index_set::{Counter, IndexSet};
 use crate::layout::{Chunk, Layout};
 use std::marker::Model;
@@ -43,33 +40,12 @@ impl<S: IndexSet> Buckets<S> {
         Buckets { geometry, held }
     }
 
+    /// The buckets, held or not.
     #[inline(always)]
-    pub fn count(&self) -> u32
-        ensures { result ≡ self.now.geometry.buckets }
+    pub fn geometry(&self) -> &Geometry
+        ensures { result.now ≡ self.now.geometry }
     {
-        self.geometry.count()
-    }
-
-    #[inline(always)]
-    pub fn bucket(&self) -> Layout
-        ensures { result ≡ self.now.geometry.bucket }
-    {
-        self.geometry.bucket()
-    }
-
-    #[inline]
-    pub fn region_size(&self) -> usize
-        ensures { result ≡ self.now.geometry.region.size }
-    {
-        self.geometry.region_size()
-    }
-
-    /// Where the first bucket is.
-    #[inline(always)]
-    pub fn first(&self) -> usize
-        ensures { result ≡ first_place self.now.geometry.region self.now.geometry.bucket }
-    {
-        self.geometry.first()
+        &self.geometry
     }
 
     /// Takes a bucket that isn't held.
@@ -80,10 +56,10 @@ impl<S: IndexSet> Buckets<S> {
         ensures reads { counter.new ≡ reads_of self.old.geometry.bucket
             (S.words self.old.geometry.buckets) layout }
     {
-        if layout.size() > self.bucket().size() {
+        if layout.size() > self.geometry.bucket().size() {
             return Err(AllocationError::SizeTooLarge);
         }
-        if layout.align() > self.bucket().align() {
+        if layout.align() > self.geometry.bucket().align() {
             return Err(AllocationError::AlignmentFailure);
         }
         let Some(i) = self.held.take(counter) else {
@@ -120,26 +96,12 @@ impl<S: IndexSet> Buckets<S> {
         self.held.has_room()
     }
 
-    /// The number of the bucket at this place, or `None` where no bucket begins there.
-    pub fn number_at(&self, place: usize) -> Option<u32>
-        ensures { TellsNumber self.now.geometry place result }
-    {
-        self.geometry.number_at(place)
-    }
-
-    /// Where the bucket of this number begins, or `None` where there is no such bucket.
-    pub fn place_at(&self, number: u32) -> Option<usize>
-        ensures { TellsPlace self.now.geometry number result }
-    {
-        self.geometry.place_at(number)
-    }
-
     /// How many buckets are held.
     pub fn held_count(&self) -> u32
         ensures { result ≡ held_count self.now }
     {
         let mut held = 0;
-        for number in 0..self.count() {
+        for number in 0..self.geometry.count() {
             if self.held.has(number as usize) {
                 held += 1;
             }
@@ -172,29 +134,5 @@ impl<S: IndexSet> Buckets<S> {
         }
         self.held.release(number);
         true
-    }
-
-    /// What the chunk at this place of a held bucket is answered that is to grow.
-    #[inline]
-    pub fn grow(&self, place: usize, old: Layout, new: Layout) -> Result<Chunk, AllocationGrowError>
-        requires { HoldsPlace self.now place }
-        ensures { MayGrow self.now.geometry.bucket place old new result }
-    {
-        self.geometry.grow(place, old, new)
-    }
-
-    /// What the chunk at this place of a held bucket is answered that is to shrink.
-    #[inline]
-    pub fn shrink(
-        &self,
-        place: usize,
-        old: Layout,
-        new: Layout,
-    ) -> Result<Chunk, AllocationShrinkError>
-        requires live { HoldsPlace self.now place }
-        requires reserved { old.size ≤ self.now.geometry.bucket.size }
-        ensures { MayShrink self.now.geometry.bucket place old new result }
-    {
-        self.geometry.shrink(place, old, new)
     }
 }

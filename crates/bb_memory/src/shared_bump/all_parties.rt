@@ -1,11 +1,11 @@
 //! What a user has who met all parties of a shared bump.
-ghost use Rattle.std.specs.Prelude.{◌≡◌, ◌++◌, ℕ, All, Any, Contains, List, length};
+ghost use Rattle.std.specs.Prelude.{◌≡◌, ◌≢◌, ◌++◌, ℕ, All, Any, Contains, List, Some, length, slice_get};
 ghost use Rattle.bb_memory_base.specs.Chunk.{Chunk};
 ghost use Rattle.bb_memory_base.specs.BumpObject.{StandsFor};
 ghost use Rattle.bb_memory_base.specs.BumpMachine.{BumpScene};
 ghost use Rattle.bb_memory_base.specs.BumpHistory.{chunks_won, history_of, log_of};
 ghost use Rattle.bb_memory_base.specs.BumpCalls.{IsCallRun, OpensWith, calls_of, live_after};
-ghost use Rattle.bb_memory.specs.SharedBump.{AgreeAt, BumpParty};
+ghost use Rattle.bb_memory.specs.SharedBump.{AgreeAt, BumpParty, HaveChunksApart, IsSharedScene};
 
 /// What a user of a shared bump has of parties that met ([`meet_all`](super::SharedBumpAllocator::meet_all)), and above all of
 /// all its parties, whatever the threads did. It does nothing: its contract is the law.
@@ -39,6 +39,12 @@ pub fn shared_bump_meeting_law()
     ensures logged { (scene : BumpScene) (position : ℕ) (parties : List BumpParty)
         (met : AgreeAt scene position parties)
         → All (λ party. log_of scene met.agree.steps party.number ≡ party.log) parties }
+
+    // No chunk of one of them overlaps a chunk of another.
+    ensures apart { (scene : BumpScene) (position : ℕ) (parties : List BumpParty)
+        (met : AgreeAt scene position parties) (i j : ℕ) (one other : BumpParty)
+        → IsSharedScene scene → slice_get parties i ≡ Some one → slice_get parties j ≡ Some other
+        → i ≢ j → HaveChunksApart one.log other.log }
 
     // Where all have met, each step stands in the log of one of them: it was nobody else's.
     ensures nobody_else { (scene : BumpScene) (position : ℕ) (parties : List BumpParty)

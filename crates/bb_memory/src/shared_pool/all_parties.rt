@@ -7,12 +7,10 @@ ghost use Rattle.bb_memory_base.specs.PoolObject.{IsHeld};
 ghost use Rattle.bb_memory_base.specs.PoolMachine.{IsDetached, PoolScene, left_by};
 ghost use Rattle.bb_memory_base.specs.PoolCalls.{AreAsked, IsPoolRun};
 ghost use Rattle.bb_memory_base.specs.PoolHistory.{history_of, log_of};
+ghost use Rattle.bb_memory_base.specs.PoolLogs.{IsHeldAfter};
 ghost use Rattle.bb_memory_base.specs.declared.layout.Layout.{Layout};
 ghost use Rattle.bb_memory.specs.SharedPool.{HasTaker, HaveMet, WasDetachedByOne, IsHeldByOne, IsHeldOrDetached, IsSharedScene};
 ghost use Rattle.bb_memory.specs.SharedPool.{PoolParty, TookOne, refused_pass};
-
-use super::buckets::SharedBucketPool;
-use super::party::PoolParty;
 
 /// What a user of a shared pool has of parties that met ([`meet_all`](super::SharedPoolAllocator::meet_all)), and above all of
 /// all its parties, whatever the threads did. It does nothing: its contract is the law.
@@ -46,8 +44,8 @@ pub fn shared_pool_meeting_law()
         → (IsHeld scene.geometry live bucket
         ↔ IsHeldOrDetached scene met.1.agree.steps parties bucket) }
 
-    // No party that met holds a detached bucket, and where all have met, one of them has handed it over. So where none has
-    // handed a bucket over, its flag is taken exactly where one of them holds it.
+    // No party that met holds a detached bucket, and where all have met, one of them has detached it. So where none has
+    // detached a bucket, its flag is taken exactly where one of them holds it.
     ensures detached { (scene : PoolScene) (parties : List PoolParty) (met : HaveMet scene parties)
         (bucket : ℕ) → IsDetached (left_by scene met.1.agree.steps) bucket
         → ¬ IsHeldByOne parties bucket }
@@ -58,6 +56,12 @@ pub fn shared_pool_meeting_law()
     // Each party's steps in the list of steps are its log.
     ensures logged { (scene : PoolScene) (parties : List PoolParty) (met : HaveMet scene parties)
         → All (λ party. log_of scene met.1.agree.steps party.number ≡ party.log) parties }
+
+    // No bucket is held by two of them.
+    ensures apart { (scene : PoolScene) (parties : List PoolParty) (met : HaveMet scene parties)
+        (i j : ℕ) (one other : PoolParty) (bucket : ℕ) → slice_get parties i ≡ Some one
+        → slice_get parties j ≡ Some other → i ≢ j
+        → IsHeldAfter one.log bucket → ¬ IsHeldAfter other.log bucket }
 
     // Where all have met, each step stands in the log of one of them: it was nobody else's.
     ensures nobody_else { (scene : PoolScene) (parties : List PoolParty)
@@ -73,17 +77,3 @@ pub fn shared_pool_meeting_law()
     // A pass that is refused takes no bucket.
     ensures refused_took_none { (buckets number : ℕ) → ¬ TookOne (refused_pass buckets number) }
 {}
-
-impl<const CAPPED: usize, const MOST: usize> SharedBucketPool<CAPPED, MOST> {
-    /// Does nothing. It is the proof that of all parties of the pool, which have each made steps and met, one has taken a bucket:
-    /// it can't be that each was refused by what somebody else held, since there is nobody else.
-    pub fn one_took(&self, parties: &Vec<PoolParty>)
-        requires all { length parties.now.items ≡ self.now.scene.parties }
-        requires met { HaveMet self.now.scene parties.now.items }
-        requires stepped { All (λ party. party.log ≢ []) parties.now.items }
-        ensures { HasTaker self.now.scene parties.now.items }
-    {
-        let _ = parties;
-        let _ = self.number_of_buckets();
-    }
-}

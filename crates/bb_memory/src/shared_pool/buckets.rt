@@ -1,12 +1,12 @@
 //! What the shared pools are: buckets with a flag each, on which any number of threads step.
-ghost use Rattle.std.specs.Prelude.{◌≡◌, ◌≢◌, ℕ, ◌<◌, ◌≤◌, ◌↔◌, ◌%◌, ◌^◌, All, IsErr, IfErr, IfOk};
-ghost use Rattle.std.specs.Prelude.{MatchOption};
+ghost use Rattle.std.specs.Prelude.{◌≡◌, ◌≢◌, ℕ, ◌<◌, ◌≤◌, ◌↔◌, ◌%◌, ◌^◌, [], All, IsErr, IfErr, IfOk};
+ghost use Rattle.std.specs.Prelude.{MatchOption, Some, length, slice_get};
 ghost use Rattle.bb_memory_base.specs.Region.{IsRegion};
 ghost use Rattle.bb_memory_base.specs.Chunk.{Chunk, IsInside};
 ghost use Rattle.bb_memory_base.specs.PoolObject.{IsWithin, MayGrow, MayShrink};
 ghost use Rattle.bb_memory_base.specs.PoolLogs.{IsHeldAfter};
 ghost use Rattle.bb_memory.specs.Seats.{Stays, number_of, view_log};
-ghost use Rattle.bb_memory.specs.SharedPool.{AreAllHeldAfter, AreBothOf, AreFresh, AreInterleaved, HaveMet, IsAlignedTo};
+ghost use Rattle.bb_memory.specs.SharedPool.{AreAllHeldAfter, AreBothOf, AreFresh, AreInterleaved, HasTaker, HaveMet, IsAlignedTo, PoolParty};
 ghost use Rattle.bb_memory.specs.SharedPool.{IsResizedTo, IsSameParty, IsSharedScene, MayTake, chunk_of};
 ghost use Rattle.bb_memory.specs.SharedPool.{return_entry, with_entries};
 ghost use Rattle.bb_memory.specs.SharedPoolRule.{IsIdleAt, MaySeat};
@@ -119,6 +119,8 @@ impl<const CAPPED: usize, const MOST: usize> SharedBucketPool<CAPPED, MOST> {
         ensures held { IfOk result (λ bucket. IsHeldAfter party.new.log bucket.number) }
         ensures still_held { (other : ℕ) → IsHeldAfter party.old.log other
             → IsHeldAfter party.new.log other }
+        ensures others { (other : ℕ) → IfOk result (λ bucket. other ≢ bucket.number)
+            → IsHeldAfter party.new.log other → IsHeldAfter party.old.log other }
         ensures alone { self.now.scene.parties ≡ 1 → IsWithin self.now.scene.geometry.bucket layout
             → (IsErr result ↔ AreAllHeldAfter party.old.log self.now.scene.geometry.buckets) }
 
@@ -148,7 +150,7 @@ impl<const CAPPED: usize, const MOST: usize> SharedBucketPool<CAPPED, MOST> {
     }
 
     /// Gives back a bucket by one store, which makes its flag free. The party and the bucket have to be this pool's, and the
-    /// party's log has to hold the bucket: this party took it, or took it over, and it wasn't given back or handed over since.
+    /// party's log has to hold the bucket: this party took or attached it, and hasn't given it back or detached it since.
     pub fn deallocate_bucket(&self, party: &mut PoolParty, bucket: Bucket<'_>)
         requires party { party.old.allocator ≡ self.now }
         requires bucket { bucket.allocator ≡ self.now }
@@ -160,6 +162,8 @@ impl<const CAPPED: usize, const MOST: usize> SharedBucketPool<CAPPED, MOST> {
         ensures given_back { ¬ IsHeldAfter party.new.log bucket.entry.number }
         ensures still_held { (other : ℕ) → other ≢ bucket.entry.number
             → IsHeldAfter party.old.log other → IsHeldAfter party.new.log other }
+        ensures others { (other : ℕ) → IsHeldAfter party.new.log other
+            → IsHeldAfter party.old.log other }
     {
         self.flags.give_back(&mut party.seat, bucket.number);
         party.near = bucket.number;
@@ -179,14 +183,22 @@ impl<const CAPPED: usize, const MOST: usize> SharedBucketPool<CAPPED, MOST> {
         self.flags.meet(&mut a.seat, &mut b.seat);
     }
 
-    /// All these parties meet: one interleaving has all their logs. Where these are all the pool's parties, it has no other
-    /// steps, and a flag is taken exactly where one of them holds the bucket, or it is detached. It loads a word once, and two
-    /// times more for each party but one, which is in no log, and changes nothing. The parties have to be this pool's.
+    /// All these parties meet: no bucket is held by two of them. One interleaving has all their logs. Where these are all the
+    /// pool's parties, it has no other steps, and a flag is taken exactly where one of them holds the bucket, or it is detached.
+    /// Where each of them has made a step, too, one of them has taken a bucket: not all were refused by what somebody else held,
+    /// as there is nobody else. The meeting loads a word once, and two times more for each party but one, which is in no log,
+    /// and changes nothing. The parties have to be this pool's.
     pub fn meet_all(&self, parties: &mut Vec<PoolParty>)
         requires parties { All (λ party. party.allocator ≡ self.now) parties.old.items }
         ensures kept { parties.new.items ≡ parties.old.items }
         ensures parties { All (λ party. party.allocator ≡ self.now) parties.new.items }
         ensures met { HaveMet self.now.scene parties.old.items }
+        ensures apart { (i j : ℕ) (one other : PoolParty) (bucket : ℕ)
+            → slice_get parties.old.items i ≡ Some one → slice_get parties.old.items j ≡ Some other
+            → i ≢ j → IsHeldAfter one.log bucket → ¬ IsHeldAfter other.log bucket }
+        ensures one_took { length parties.old.items ≡ self.now.scene.parties
+            → All (λ party. party.log ≢ []) parties.old.items
+            → HasTaker self.now.scene parties.old.items }
     {
         let flags = &self.flags;
         if let Some(party) = parties.pop() {
@@ -214,6 +226,7 @@ impl<const CAPPED: usize, const MOST: usize> SharedBucketPool<CAPPED, MOST> {
         requires bucket { IsAlignedTo self.now old bucket.old }
         ensures answer { MayGrow self.now.scene.geometry.bucket (chunk_of bucket.old).place
             old new result }
+        ensures aligned { IfOk result (λ chunk. chunk.place % new.align ≡ 0) }
         ensures resized { IsResizedTo self.now bucket.old result bucket.new }
     {
         let place = bucket.chunk().place();
@@ -237,6 +250,7 @@ impl<const CAPPED: usize, const MOST: usize> SharedBucketPool<CAPPED, MOST> {
         requires reserved { old.size ≤ self.now.scene.geometry.bucket.size }
         ensures answer { MayShrink self.now.scene.geometry.bucket (chunk_of bucket.old).place
             old new result }
+        ensures aligned { IfOk result (λ chunk. chunk.place % new.align ≡ 0) }
         ensures resized { IsResizedTo self.now bucket.old result bucket.new }
     {
         let place = bucket.chunk().place();

@@ -1,4 +1,4 @@
-//! Detached buckets: handed over by one party of a shared pool, and not yet taken over by another.
+//! Buckets on their way from one party of a shared pool to another.
 ghost use Rattle.std.specs.Prelude.{◌≡◌, ◌<◌, ◌≤◌};
 ghost use Rattle.bb_memory.specs.SharedPoolDetached.{AreOf, HasDetached, HasAttached, MayDetach};
 
@@ -9,9 +9,9 @@ use super::rule::View;
 use atomic_table::Seat;
 use std::marker::Model;
 
-/// A token for a detached bucket, which a party handed over. It borrows nothing, so that it may go to another thread with a
-/// message, or lie in a struct. No party holds the bucket meanwhile, and there is one such token for it. A take-over spends the
-/// token. The bucket of a dropped token stays detached, with its flag taken.
+/// The token of a detached bucket, which [`SharedPoolAllocator::attach`](super::SharedPoolAllocator::attach) spends. It borrows
+/// nothing, so it can go to another thread with a message, or lie in a struct. Meanwhile no party holds the bucket, and its flag
+/// stays taken. There is one token for each detached bucket. Dropping the token leaks the bucket: its flag stays taken for good.
 #[derive(Drop)]
 pub struct DetachedBucket {
     number: u32,
@@ -40,7 +40,7 @@ impl DetachedBucket {
         self.number
     }
 
-    /// How many bytes the chunk in the bucket has, as the bucket had it that was handed over.
+    /// The length in bytes of the chunk in the bucket, as it was when the bucket was detached.
     pub fn len(&self) -> usize
         ensures value { (result ≡ self.now.len)
             × (result ≤ self.now.allocator.scene.geometry.bucket.size) }
@@ -50,11 +50,11 @@ impl DetachedBucket {
 }
 
 impl<const CAPPED: usize, const MOST: usize> SharedBucketPool<CAPPED, MOST> {
-    /// Hands a bucket over: the party's log gets this step, and the bucket, which stays taken, is detached. Whoever gets the
-    /// token may take the bucket over, in any thread. It loads two words, changes none, takes no memory and waits for nothing.
-    /// The pool has to be made for two parties at least, as `number_of_parties` tells, since nobody else could take the bucket
-    /// over; the party and the bucket have to be this pool's, and the party's log has to hold the bucket: this party took it, or
-    /// took it over, and it wasn't given back or handed over since.
+    /// Detaches a bucket from the party that holds it, so that another party can attach it, in any thread. The party's log gets
+    /// this step, and the flag stays taken. Detaching loads two words, changes none, takes no memory and waits for nothing.
+    /// Conditions: the pool was made for two parties at least, as `number_of_parties` tells; the party and the bucket are this
+    /// pool's; and the party's log holds the bucket: this party took or attached it, and hasn't given it back or detached it
+    /// since.
     ///
     /// ```
     /// let taken = pool.allocate(sender, Layout::from_size_align(48, 4).unwrap())?;
@@ -79,15 +79,15 @@ impl<const CAPPED: usize, const MOST: usize> SharedBucketPool<CAPPED, MOST> {
         DetachedBucket { number, len, seat }
     }
 
-    /// Takes over a detached bucket: the party's log gets this step, so that the party holds the bucket, with the number and
-    /// the length that it had, and may give it back. It loads two words, changes none, takes no memory and waits for nothing.
-    /// The party and the bucket have to be this pool's; there is no other condition, and no refusal.
-    pub fn attach(&self, party: &mut PoolParty, transit: DetachedBucket) -> Bucket<'_>
-        requires own { AreOf self.now party.old transit }
-        ensures bucket { result ≡ transit }
-        ensures party { HasAttached self.now party.old transit party.new }
+    /// Attaches a detached bucket: the party holds it from then on, with the number and the length that it had, and can give it
+    /// back. The party's log gets this step. Attaching loads two words, changes none, takes no memory and waits for nothing.
+    /// Condition: the party and the bucket are this pool's. There is no refusal.
+    pub fn attach(&self, party: &mut PoolParty, detached: DetachedBucket) -> Bucket<'_>
+        requires own { AreOf self.now party.old detached }
+        ensures bucket { result ≡ detached }
+        ensures party { HasAttached self.now party.old detached party.new }
     {
-        let DetachedBucket { number, len, seat } = transit;
+        let DetachedBucket { number, len, seat } = detached;
         self.flags.attach(&mut party.seat, seat, number);
         Bucket {
             flags: &self.flags,

@@ -143,21 +143,21 @@ impl Flags {
         requires { MayDetachAt self.now seat.old.table_id seat.old.me bucket }
         ensures step { Stays self.now.table seat.new.table_id (HasDetachedAt self.now.scene
             (number_of seat.old.me.0) (view_log seat.old.me.0) bucket seat.new.me) }
-        ensures transit { IsDetachedAt self.now result.table_id result.me bucket }
+        ensures detached { IsDetachedAt self.now result.table_id result.me bucket }
     {
         self.table.shared.load::<Detaches>(seat, word_of(bucket));
         self.table.shared.split_seat::<GiveDetached>(seat)
     }
 
     /// A load of its word, by an idle party to whose seat this bucket detached comes.
-    pub(super) fn attach(&self, seat: &mut Seat<u8, View>, transit: Seat<u8, View>, bucket: u32)
+    pub(super) fn attach(&self, seat: &mut Seat<u8, View>, detached: Seat<u8, View>, bucket: u32)
         requires { MayAttachAt self.now seat.old.table_id seat.old.me
-            transit.table_id transit.me bucket }
+            detached.table_id detached.me bucket }
         ensures { Stays seat.old.table_id seat.new.table_id (HasAttachedAt self.now.scene
             (number_of seat.old.me.0) (view_log seat.old.me.0) bucket seat.new.me) }
     {
         let shared = &self.table.shared;
-        shared.join_seat::<TakeIn>(seat, transit);
+        shared.join_seat::<TakeIn>(seat, detached);
         shared.load::<Attaches>(seat, word_of(bucket));
     }
 

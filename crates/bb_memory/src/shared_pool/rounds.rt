@@ -1,10 +1,8 @@
-//! Takings that don't begin at bucket 0: of a bucket of the caller's choice, and of the first free one from a bucket on.
-ghost use Rattle.std.specs.Prelude.{◌≡◌, ℕ, ◌<◌, ◌↔◌, IsErr, MatchOption};
-ghost use Rattle.bb_memory_base.specs.PoolObject.{IsWithin};
-ghost use Rattle.bb_memory_base.specs.PoolLogs.{IsHeldAfter};
+//! Takings by a round, which needn't begin at bucket 0.
+ghost use Rattle.std.specs.Prelude.{◌≡◌, ℕ, ◌<◌, MatchOption};
 ghost use Rattle.bb_memory.specs.Seats.{Stays, number_of, view_log};
-ghost use Rattle.bb_memory.specs.SharedPool.{Serves, ServesRound};
-ghost use Rattle.bb_memory.specs.SharedPoolRounds.{MayTakeAt, MayTakeFrom, at_turn};
+ghost use Rattle.bb_memory.specs.SharedPool.{ServesRound};
+ghost use Rattle.bb_memory.specs.SharedPoolRounds.{MayTakeFrom, at_turn};
 ghost use Rattle.bb_memory.specs.SharedPoolRule.{IsIdleAt};
 ghost use Rattle.bb_memory.specs.SharedPoolSteps.{HasRefusedFrom, HasTakenFrom};
 
@@ -59,49 +57,8 @@ impl<const CAPPED: usize, const MOST: usize> SharedBucketPool<CAPPED, MOST> {
         None
     }
 
-    /// Takes the bucket of this number for the party, with a chunk of `layout.size()` bytes. It is refused in this order: with
-    /// `SizeTooLarge` where the size is greater than the bucket's, and with `AlignmentFailure` where the alignment is greater
-    /// than the bucket's, both without a step; and with `OutOfMemory` where there is no bucket of this number, without a step,
-    /// or where one exchange on its flag finds it taken. The party has to be this pool's.
-    pub fn allocate_at(
-        &self,
-        party: &mut PoolParty,
-        layout: Layout,
-        number: u32,
-    ) -> Result<Bucket<'_>, AllocationError>
-        requires party { party.old.allocator ≡ self.now }
-        ensures answer { MayTakeAt number party.old layout result party.new }
-        ensures party { party.new.allocator ≡ self.now }
-        ensures serves { Serves self.now party.old layout result party.new }
-        ensures alone { self.now.scene.parties ≡ 1 → IsWithin self.now.scene.geometry.bucket layout
-            → number < self.now.scene.geometry.buckets
-            → (IsErr result ↔ IsHeldAfter party.old.log number) }
-    {
-        // What holds of the party is known from here on, also where no step is made.
-        let _ = &party.number;
-        let bucket = self.flags.geometry().bucket();
-        if layout.size() > bucket.size() {
-            return Err(AllocationError::SizeTooLarge);
-        }
-        if layout.align() > bucket.align() {
-            return Err(AllocationError::AlignmentFailure);
-        }
-        if number >= self.number_of_buckets() || !self.flags.try_at(&mut party.seat, number) {
-            return Err(AllocationError::OutOfMemory);
-        }
-        Ok(Bucket {
-            flags: &self.flags,
-            number,
-            len: layout.size(),
-        })
-    }
-
-    /// Takes a bucket for the party, as `allocate` does, but tries the buckets in another order: after the same tests of size and
-    /// alignment it makes one round, one exchange on each flag from bucket `first` up to the last, and then from bucket 0 up,
-    /// until one is taken. Where there is no bucket `first`, it begins at bucket 0. It is refused with `OutOfMemory` where each
-    /// is missed. Where other parties step meanwhile, that doesn't mean that all buckets were held at one moment. The party has
-    /// to be this pool's.
-    pub fn allocate_from(
+    /// Takes a bucket by a round that begins at bucket `first`, or at bucket 0 where there is none of this number.
+    fn allocate_from(
         &self,
         party: &mut PoolParty,
         layout: Layout,
@@ -134,9 +91,12 @@ impl<const CAPPED: usize, const MOST: usize> SharedBucketPool<CAPPED, MOST> {
         }
     }
 
-    /// Takes a bucket for the party by a round, as `allocate_from` does, which begins where the party has been last: at the
-    /// bucket that it gave back, or behind the one that such a round took. Its first round begins in a part of the pool of its
-    /// own.
+    /// Takes a bucket for the party, as `allocate` does, but tries the buckets in another order: after the same tests of size and
+    /// alignment it makes one round, one exchange on each flag, until one is taken. The round begins where the party has been
+    /// last: at the bucket that it gave back, or behind the one that its last round took; its first round begins in a part of
+    /// the pool of its own. It goes on to the last bucket, and then from bucket 0 up. It is refused with `OutOfMemory` where
+    /// each bucket is missed. Where other parties step meanwhile, that doesn't mean that all buckets were held at one moment.
+    /// The party has to be this pool's.
     pub fn allocate_near(
         &self,
         party: &mut PoolParty,

@@ -77,7 +77,7 @@ impl Play<u8, View> for Meets {
     ghost then = { meets };
 }
 
-/// A load by a party after whose log the bucket is held, which hands it over.
+/// A load by a party after whose log the bucket is held, which detaches it.
 pub(crate) struct Detaches;
 
 impl Play<u8, View> for Detaches {
@@ -86,7 +86,7 @@ impl Play<u8, View> for Detaches {
     ghost then = { detaches };
 }
 
-/// A load by a party at whose seat the bucket is detached, which takes it over.
+/// A load by a party at whose seat the bucket is detached, which attaches it.
 pub(crate) struct Attaches;
 
 impl Play<u8, View> for Attaches {

@@ -6,16 +6,17 @@ ghost use Rattle.shared_tests.specs.Users.{IsUser};
 use crate::tests::shared_buckets::{Figures, Request, SharedBuckets};
 use bb_memory::layout::{Chunk, Layout};
 use bb_memory::shared_pool::{
-    AllocationError, AllocationGrowError, AllocationShrinkError, Bucket, PoolParty,
+    AllocationError, AllocationGrowError, AllocationShrinkError, Bucket, DetachedBucket, PoolParty,
 };
 use std::alloc::{AllocError, Global};
 use std::process::Abort;
 
-/// A party, and the token that it keeps.
+/// A party, the token that it keeps, and the bucket that it detached last.
 #[derive(Drop)]
 pub(super) struct User<'a> {
     pub(super) party: PoolParty,
     pub(super) kept: Option<Bucket<'a>>,
+    pub(super) sent: Option<DetachedBucket>,
 }
 
 /// A size in bytes and an alignment.
@@ -30,6 +31,10 @@ pub(super) enum Call {
     Keep(Request, Asked),
     /// The return of the bucket whose token is kept.
     GiveBack,
+    /// Detaches the bucket whose token is kept, in a pool of two parties at least.
+    Detach,
+    /// Attaches the bucket that the user of this index detached last, and keeps its token in place of the one that was.
+    Attach(usize),
     /// The token that is kept is dropped for another, by the bucket's number and with a chunk of so many bytes.
     FindAgain(usize),
     /// A resize by the token that is kept, from one layout to another.
@@ -49,6 +54,8 @@ pub(super) enum Call {
 pub(super) enum Answer {
     /// The bucket of a number, and in it a chunk at a place, of so many bytes.
     Bucket(u32, usize, usize),
+    /// A detached bucket of a number, with a chunk of so many bytes.
+    Detached(u32, usize),
     /// A chunk at a place, of so many bytes.
     Chunk(usize, usize),
     Refused(AllocationError),
@@ -94,8 +101,8 @@ fn take<'a, P: SharedBuckets>(
     request: Request,
     asked: Asked,
 ) -> Answer
-    requires { IsUser (P.shown pool.now) user.old.party user.old.kept }
-    ensures { IsUser (P.shown pool.now) user.new.party user.new.kept }
+    requires { IsUser (P.shown pool.now) user.old.party user.old.kept user.old.sent }
+    ensures { IsUser (P.shown pool.now) user.new.party user.new.kept user.new.sent }
 {
     let Some(asked) = layout_of(asked) else {
         return Answer::WrongRow;
@@ -113,8 +120,8 @@ fn keep<'a, P: SharedBuckets>(
     request: Request,
     asked: Asked,
 ) -> Answer
-    requires { IsUser (P.shown pool.now) user.old.party user.old.kept }
-    ensures { IsUser (P.shown pool.now) user.new.party user.new.kept }
+    requires { IsUser (P.shown pool.now) user.old.party user.old.kept user.old.sent }
+    ensures { IsUser (P.shown pool.now) user.new.party user.new.kept user.new.sent }
 {
     let Some(asked) = layout_of(asked) else {
         return Answer::WrongRow;
@@ -131,8 +138,8 @@ fn keep<'a, P: SharedBuckets>(
 
 /// The return by the token that is kept.
 fn give_back<'a, P: SharedBuckets>(pool: &'a P, user: &mut User<'a>) -> Answer
-    requires { IsUser (P.shown pool.now) user.old.party user.old.kept }
-    ensures { IsUser (P.shown pool.now) user.new.party user.new.kept }
+    requires { IsUser (P.shown pool.now) user.old.party user.old.kept user.old.sent }
+    ensures { IsUser (P.shown pool.now) user.new.party user.new.kept user.new.sent }
 {
     match user.kept.take() {
         Some(bucket) => {
@@ -143,10 +150,67 @@ fn give_back<'a, P: SharedBuckets>(pool: &'a P, user: &mut User<'a>) -> Answer
     }
 }
 
+/// Detaches the bucket whose token is kept.
+fn detach<'a, P: SharedBuckets>(pool: &'a P, user: &mut User<'a>) -> Answer
+    requires { IsUser (P.shown pool.now) user.old.party user.old.kept user.old.sent }
+    ensures { IsUser (P.shown pool.now) user.new.party user.new.kept user.new.sent }
+{
+    let Some(bucket) = user.kept.take() else {
+        return Answer::WrongRow;
+    };
+    match pool.detach(&mut user.party, bucket) {
+        Some(detached) => {
+            let answer = Answer::Detached(detached.number(), detached.len());
+            user.sent = Some(detached);
+            answer
+        }
+        None => Answer::WrongRow,
+    }
+}
+
+/// The detached bucket that this call is to attach, as a user sent it.
+fn sent_for<'a, P: SharedBuckets>(
+    pool: &P,
+    users: &mut Vec<User<'a>>,
+    call: Call,
+) -> Option<DetachedBucket>
+    requires { All (λ user. IsUser (P.shown pool.now) user.party user.kept user.sent) users.old.items }
+    ensures users { All (λ user. IsUser (P.shown pool.now) user.party user.kept user.sent) users.new.items }
+    ensures sent { IfSome result (λ detached. detached.allocator ≡ P.shown pool.now) }
+{
+    let _ = pool;
+    let Call::Attach(sender) = call else {
+        return None;
+    };
+    match users.get_mut(sender) {
+        Some(user) => user.sent.take(),
+        None => None,
+    }
+}
+
+/// Attaches a bucket, whose token is kept in place of the one that was.
+fn attach<'a, P: SharedBuckets>(
+    pool: &'a P,
+    user: &mut User<'a>,
+    detached: Option<DetachedBucket>,
+) -> Answer
+    requires user { IsUser (P.shown pool.now) user.old.party user.old.kept user.old.sent }
+    requires sent { IfSome detached (λ detached. detached.allocator ≡ P.shown pool.now) }
+    ensures { IsUser (P.shown pool.now) user.new.party user.new.kept user.new.sent }
+{
+    let Some(detached) = detached else {
+        return Answer::WrongRow;
+    };
+    let bucket = pool.attach(&mut user.party, detached);
+    let answer = bucket_of(&bucket);
+    user.kept = Some(bucket);
+    answer
+}
+
 /// Another token in place of the one that is kept, by the bucket's number.
 fn find_again<'a, P: SharedBuckets>(pool: &'a P, user: &mut User<'a>, len: usize) -> Answer
-    requires { IsUser (P.shown pool.now) user.old.party user.old.kept }
-    ensures { IsUser (P.shown pool.now) user.new.party user.new.kept }
+    requires { IsUser (P.shown pool.now) user.old.party user.old.kept user.old.sent }
+    ensures { IsUser (P.shown pool.now) user.new.party user.new.kept user.new.sent }
 {
     let Some(bucket) = user.kept.take() else {
         return Answer::WrongRow;
@@ -163,8 +227,8 @@ fn find_again<'a, P: SharedBuckets>(pool: &'a P, user: &mut User<'a>, len: usize
 
 /// Resizes by the token that is kept.
 fn grow<'a, P: SharedBuckets>(pool: &'a P, user: &mut User<'a>, old: Asked, new: Asked) -> Answer
-    requires { IsUser (P.shown pool.now) user.old.party user.old.kept }
-    ensures { IsUser (P.shown pool.now) user.new.party user.new.kept }
+    requires { IsUser (P.shown pool.now) user.old.party user.old.kept user.old.sent }
+    ensures { IsUser (P.shown pool.now) user.new.party user.new.kept user.new.sent }
 {
     let (Some(old), Some(new)) = (layout_of(old), layout_of(new)) else {
         return Answer::WrongRow;
@@ -181,8 +245,8 @@ fn grow<'a, P: SharedBuckets>(pool: &'a P, user: &mut User<'a>, old: Asked, new:
 
 /// The same to a smaller size.
 fn shrink<'a, P: SharedBuckets>(pool: &'a P, user: &mut User<'a>, old: Asked, new: Asked) -> Answer
-    requires { IsUser (P.shown pool.now) user.old.party user.old.kept }
-    ensures { IsUser (P.shown pool.now) user.new.party user.new.kept }
+    requires { IsUser (P.shown pool.now) user.old.party user.old.kept user.old.sent }
+    ensures { IsUser (P.shown pool.now) user.new.party user.new.kept user.new.sent }
 {
     let (Some(old), Some(new)) = (layout_of(old), layout_of(new)) else {
         return Answer::WrongRow;
@@ -213,15 +277,23 @@ fn token(user: &User<'_>) -> Answer {
     }
 }
 
-/// What the call of a user is answered.
-fn answered<'a, P: SharedBuckets>(pool: &'a P, user: &mut User<'a>, call: Call) -> Answer
-    requires { IsUser (P.shown pool.now) user.old.party user.old.kept }
-    ensures { IsUser (P.shown pool.now) user.new.party user.new.kept }
+/// What the call of a user is answered, which gets a detached bucket where it is to attach one.
+fn answered<'a, P: SharedBuckets>(
+    pool: &'a P,
+    user: &mut User<'a>,
+    call: Call,
+    detached: Option<DetachedBucket>,
+) -> Answer
+    requires user { IsUser (P.shown pool.now) user.old.party user.old.kept user.old.sent }
+    requires sent { IfSome detached (λ detached. detached.allocator ≡ P.shown pool.now) }
+    ensures { IsUser (P.shown pool.now) user.new.party user.new.kept user.new.sent }
 {
     match call {
         Call::Take(request, asked) => take(pool, user, request, asked),
         Call::Keep(request, asked) => keep(pool, user, request, asked),
         Call::GiveBack => give_back(pool, user),
+        Call::Detach => detach(pool, user),
+        Call::Attach(_) => attach(pool, user, detached),
         Call::FindAgain(len) => find_again(pool, user, len),
         Call::Grow(old, new) => grow(pool, user, old, new),
         Call::Shrink(old, new) => shrink(pool, user, old, new),
@@ -240,11 +312,15 @@ pub(super) fn users_of<'a, P: SharedBuckets>(
 ) -> Result<Vec<User<'a>>, AllocError>
     requires { All (λ party. party.allocator ≡ P.shown pool.now) parties.items }
     ensures { IfOk result (λ users.
-        All (λ user. IsUser (P.shown pool.now) user.party user.kept) users.items) }
+        All (λ user. IsUser (P.shown pool.now) user.party user.kept user.sent) users.items) }
 {
     let mut users = Vec::with_capacity(alloc, parties.len())?;
     for party in parties {
-        users.push(User { party, kept: None })?;
+        users.push(User {
+            party,
+            kept: None,
+            sent: None,
+        })?;
     }
     Ok(users)
 }
@@ -256,11 +332,12 @@ fn answer_of<'a, P: SharedBuckets>(
     index: usize,
     call: Call,
 ) -> Answer
-    requires { All (λ user. IsUser (P.shown pool.now) user.party user.kept) users.old.items }
-    ensures { All (λ user. IsUser (P.shown pool.now) user.party user.kept) users.new.items }
+    requires { All (λ user. IsUser (P.shown pool.now) user.party user.kept user.sent) users.old.items }
+    ensures { All (λ user. IsUser (P.shown pool.now) user.party user.kept user.sent) users.new.items }
 {
+    let detached = sent_for(pool, users, call);
     match users.get_mut(index) {
-        Some(user) => answered(pool, user, call),
+        Some(user) => answered(pool, user, call, detached),
         None => Answer::WrongRow,
     }
 }
@@ -277,8 +354,8 @@ pub(super) fn hold<'a, P: SharedBuckets>(
     users: &mut Vec<User<'a>>,
     rows: &[Row],
 )
-    requires { All (λ user. IsUser (P.shown pool.now) user.party user.kept) users.old.items }
-    ensures { All (λ user. IsUser (P.shown pool.now) user.party user.kept) users.new.items }
+    requires { All (λ user. IsUser (P.shown pool.now) user.party user.kept user.sent) users.old.items }
+    ensures { All (λ user. IsUser (P.shown pool.now) user.party user.kept user.sent) users.new.items }
 {
     let mut number: usize = 0;
     for row in rows {
@@ -290,9 +367,9 @@ pub(super) fn hold<'a, P: SharedBuckets>(
 
 /// The last of these users leaves.
 fn last_user<'a, P: SharedBuckets>(pool: &P, users: &mut Vec<User<'a>>) -> Option<User<'a>>
-    requires { All (λ user. IsUser (P.shown pool.now) user.party user.kept) users.old.items }
-    ensures others { All (λ user. IsUser (P.shown pool.now) user.party user.kept) users.new.items }
-    ensures own { IfSome result (λ user. IsUser (P.shown pool.now) user.party user.kept) }
+    requires { All (λ user. IsUser (P.shown pool.now) user.party user.kept user.sent) users.old.items }
+    ensures others { All (λ user. IsUser (P.shown pool.now) user.party user.kept user.sent) users.new.items }
+    ensures own { IfSome result (λ user. IsUser (P.shown pool.now) user.party user.kept user.sent) }
 {
     let _ = pool;
     users.pop()
@@ -300,12 +377,18 @@ fn last_user<'a, P: SharedBuckets>(pool: &P, users: &mut Vec<User<'a>>) -> Optio
 
 /// The party comes as the last of these users, if there is memory for it.
 fn comes<'a, P: SharedBuckets>(pool: &P, users: &mut Vec<User<'a>>, party: PoolParty) -> bool
-    requires users { All (λ user. IsUser (P.shown pool.now) user.party user.kept) users.old.items }
+    requires users { All (λ user. IsUser (P.shown pool.now) user.party user.kept user.sent) users.old.items }
     requires party { party.allocator ≡ P.shown pool.now }
-    ensures { All (λ user. IsUser (P.shown pool.now) user.party user.kept) users.new.items }
+    ensures { All (λ user. IsUser (P.shown pool.now) user.party user.kept user.sent) users.new.items }
 {
     let _ = pool;
-    users.push(User { party, kept: None }).is_ok()
+    users
+        .push(User {
+            party,
+            kept: None,
+            sent: None,
+        })
+        .is_ok()
 }
 
 /// One of these users meets another one.
@@ -315,9 +398,9 @@ fn meets<'a, P: SharedBuckets>(
     index: usize,
     party: &mut PoolParty,
 ) -> bool
-    requires users { All (λ user. IsUser (P.shown pool.now) user.party user.kept) users.old.items }
+    requires users { All (λ user. IsUser (P.shown pool.now) user.party user.kept user.sent) users.old.items }
     requires party { party.old.allocator ≡ P.shown pool.now }
-    ensures users { All (λ user. IsUser (P.shown pool.now) user.party user.kept) users.new.items }
+    ensures users { All (λ user. IsUser (P.shown pool.now) user.party user.kept user.sent) users.new.items }
     ensures party { party.new.allocator ≡ P.shown pool.now }
 {
     match users.get_mut(index) {
@@ -335,8 +418,8 @@ pub(super) fn last_meets<'a, P: SharedBuckets>(
     users: &mut Vec<User<'a>>,
     index: usize,
 ) -> bool
-    requires { All (λ user. IsUser (P.shown pool.now) user.party user.kept) users.old.items }
-    ensures { All (λ user. IsUser (P.shown pool.now) user.party user.kept) users.new.items }
+    requires { All (λ user. IsUser (P.shown pool.now) user.party user.kept user.sent) users.old.items }
+    ensures { All (λ user. IsUser (P.shown pool.now) user.party user.kept user.sent) users.new.items }
 {
     let Some(last) = last_user(pool, users) else {
         return false;
@@ -374,9 +457,9 @@ fn one_leaves<'a, P: SharedBuckets>(
     users: &mut Vec<User<'a>>,
     parties: &mut Vec<PoolParty>,
 ) -> bool
-    requires users { All (λ user. IsUser (P.shown pool.now) user.party user.kept) users.old.items }
+    requires users { All (λ user. IsUser (P.shown pool.now) user.party user.kept user.sent) users.old.items }
     requires parties { All (λ party. party.allocator ≡ P.shown pool.now) parties.old.items }
-    ensures users { All (λ user. IsUser (P.shown pool.now) user.party user.kept) users.new.items }
+    ensures users { All (λ user. IsUser (P.shown pool.now) user.party user.kept user.sent) users.new.items }
     ensures parties { All (λ party. party.allocator ≡ P.shown pool.now) parties.new.items }
 {
     match last_user(pool, users) {
@@ -391,9 +474,9 @@ fn one_comes_back<'a, P: SharedBuckets>(
     users: &mut Vec<User<'a>>,
     parties: &mut Vec<PoolParty>,
 ) -> bool
-    requires users { All (λ user. IsUser (P.shown pool.now) user.party user.kept) users.old.items }
+    requires users { All (λ user. IsUser (P.shown pool.now) user.party user.kept user.sent) users.old.items }
     requires parties { All (λ party. party.allocator ≡ P.shown pool.now) parties.old.items }
-    ensures users { All (λ user. IsUser (P.shown pool.now) user.party user.kept) users.new.items }
+    ensures users { All (λ user. IsUser (P.shown pool.now) user.party user.kept user.sent) users.new.items }
     ensures parties { All (λ party. party.allocator ≡ P.shown pool.now) parties.new.items }
 {
     match last_party(pool, parties) {
@@ -409,8 +492,8 @@ pub(super) fn last_ones_meet<'a, P: SharedBuckets>(
     users: &mut Vec<User<'a>>,
     count: usize,
 ) -> bool
-    requires { All (λ user. IsUser (P.shown pool.now) user.party user.kept) users.old.items }
-    ensures { All (λ user. IsUser (P.shown pool.now) user.party user.kept) users.new.items }
+    requires { All (λ user. IsUser (P.shown pool.now) user.party user.kept user.sent) users.old.items }
+    ensures { All (λ user. IsUser (P.shown pool.now) user.party user.kept user.sent) users.new.items }
 {
     let mut parties = Vec::new(alloc);
     for _ in 0..count {

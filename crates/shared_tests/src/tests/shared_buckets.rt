@@ -5,7 +5,7 @@ ghost use Rattle.shared_tests.specs.Users.{IsKeptBy};
 
 use bb_memory::layout::{Chunk, Layout};
 use bb_memory::shared_pool::{
-    AllocationError, AllocationGrowError, AllocationShrinkError, Bucket, PoolParty,
+    AllocationError, AllocationGrowError, AllocationShrinkError, Bucket, DetachedBucket, PoolParty,
     SharedFixedSizePoolAllocator, SharedPoolAllocator, by_number,
 };
 
@@ -17,11 +17,7 @@ pub(super) type SharedFixed<const MOST: usize> = SharedFixedSizePoolAllocator<MO
 pub(super) enum Request {
     /// From bucket 0 up.
     Pass,
-    /// From this bucket up, and then from bucket 0 up.
-    From(u32),
-    /// At this bucket alone.
-    At(u32),
-    /// From where the party has been last.
+    /// From where the party has been last up, and then from bucket 0 up.
     Near,
 }
 
@@ -64,6 +60,19 @@ pub(super) trait SharedBuckets {
         requires party { party.old.allocator ≡ shown self.now }
         requires kept { IsKeptBy (shown self.now) party.old bucket }
         ensures { party.new.allocator ≡ shown self.now };
+
+    /// The bucket is detached, where the pool has another party.
+    fn detach(&self, party: &mut PoolParty, bucket: Bucket<'_>) -> Option<DetachedBucket>
+        requires party { party.old.allocator ≡ shown self.now }
+        requires kept { IsKeptBy (shown self.now) party.old bucket }
+        ensures party { party.new.allocator ≡ shown self.now }
+        ensures detached { IfSome result (λ detached. detached.allocator ≡ shown self.now) };
+
+    fn attach(&self, party: &mut PoolParty, detached: DetachedBucket) -> Bucket<'_>
+        requires party { party.old.allocator ≡ shown self.now }
+        requires detached { detached.allocator ≡ shown self.now }
+        ensures party { party.new.allocator ≡ shown self.now }
+        ensures kept { IsKeptBy (shown self.now) party.new result };
 
     /// The same bucket by its number, with a chunk of so many bytes, where a bucket has as many.
     fn again(&self, party: &PoolParty, bucket: Bucket<'_>, len: usize) -> Option<Bucket<'_>>
@@ -128,14 +137,23 @@ impl SharedBuckets for SharedPoolAllocator {
     ) -> Result<Bucket<'_>, AllocationError> {
         match request {
             Request::Pass => self.allocate(party, asked),
-            Request::From(first) => self.allocate_from(party, asked, first),
-            Request::At(number) => self.allocate_at(party, asked, number),
             Request::Near => self.allocate_near(party, asked),
         }
     }
 
     fn give_back(&self, party: &mut PoolParty, bucket: Bucket<'_>) {
         self.deallocate_bucket(party, bucket);
+    }
+
+    fn detach(&self, party: &mut PoolParty, bucket: Bucket<'_>) -> Option<DetachedBucket> {
+        if self.number_of_parties() < 2 {
+            return None;
+        }
+        Some(SharedPoolAllocator::detach(self, party, bucket))
+    }
+
+    fn attach(&self, party: &mut PoolParty, detached: DetachedBucket) -> Bucket<'_> {
+        SharedPoolAllocator::attach(self, party, detached)
     }
 
     fn again(&self, party: &PoolParty, bucket: Bucket<'_>, len: usize) -> Option<Bucket<'_>> {
@@ -203,14 +221,23 @@ impl<const MOST: usize> SharedBuckets for SharedFixed<MOST> {
     ) -> Result<Bucket<'_>, AllocationError> {
         match request {
             Request::Pass => self.allocate(party, asked),
-            Request::From(first) => self.allocate_from(party, asked, first),
-            Request::At(number) => self.allocate_at(party, asked, number),
             Request::Near => self.allocate_near(party, asked),
         }
     }
 
     fn give_back(&self, party: &mut PoolParty, bucket: Bucket<'_>) {
         self.deallocate_bucket(party, bucket);
+    }
+
+    fn detach(&self, party: &mut PoolParty, bucket: Bucket<'_>) -> Option<DetachedBucket> {
+        if self.number_of_parties() < 2 {
+            return None;
+        }
+        Some(SharedFixed::<MOST>::detach(self, party, bucket))
+    }
+
+    fn attach(&self, party: &mut PoolParty, detached: DetachedBucket) -> Bucket<'_> {
+        SharedFixed::<MOST>::attach(self, party, detached)
     }
 
     fn again(&self, party: &PoolParty, bucket: Bucket<'_>, len: usize) -> Option<Bucket<'_>> {

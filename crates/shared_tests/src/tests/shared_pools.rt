@@ -5,13 +5,15 @@ ghost use Rattle.bb_memory.specs.Pool.{MayBeCut};
 ghost use Rattle.shared_tests.specs.Users.{IsUser};
 
 use crate::tests::checks::{check, fail};
-use crate::tests::pool_rows::Answer::{Bucket, Chunk, GrowRefused, Nothing};
-use crate::tests::pool_rows::Call::{FindAgain, GiveBack, Grow, Keep, NumberAt, Take, Token};
+use crate::tests::pool_rows::Answer::{Bucket, Chunk, Detached, GrowRefused, Nothing};
+use crate::tests::pool_rows::Call::{
+    Attach, Detach, FindAgain, GiveBack, Grow, Keep, NumberAt, Take, Token,
+};
 use crate::tests::pool_rows::{
     ASKED, Answer, Call, NONE_FREE, Row, User, are_numbered, hold, last_meets, last_ones_meet,
     users_of,
 };
-use crate::tests::shared_buckets::Request::{self, At, Pass};
+use crate::tests::shared_buckets::Request::{Near, Pass};
 use crate::tests::shared_buckets::{Figures, SharedBuckets, SharedFixed};
 use bb_memory::layout::Layout;
 use bb_memory::pool_allocator::{AllocationError, AllocationGrowError, PoolAllocator};
@@ -20,10 +22,10 @@ use std::alloc::Global;
 use std::process::Abort;
 
 /// A test asks for a pool that can't be made.
-pub(super) const NO_POOL: &str = "no pool can be made of that";
+const NO_POOL: &str = "no pool can be made of that";
 
 /// The layout of buckets of 128 bytes, where a pool of them can be made over a region.
-pub(super) fn bucket_over(start: usize, size: usize) -> Result<Layout, &'static str>
+fn bucket_over(start: usize, size: usize) -> Result<Layout, &'static str>
     ensures { IfOk result (MayBeCut (region_at start size)) }
 {
     let Ok(bucket) = Layout::from_size_align(128, 8) else {
@@ -36,7 +38,7 @@ pub(super) fn bucket_over(start: usize, size: usize) -> Result<Layout, &'static 
 }
 
 /// Why no pool was made.
-pub(super) fn cause_of(error: AllocationError) -> &'static str {
+fn cause_of(error: AllocationError) -> &'static str {
     match error {
         AllocationError::OutOfMemory => REFUSED,
         _ => "another cause",
@@ -194,7 +196,7 @@ fn users_of_none<'a, P: SharedBuckets>(
     mut users: Vec<User<'a>>,
     start: Option<usize>,
 )
-    requires { All (λ user. IsUser (P.shown pool.now) user.party user.kept) users.items }
+    requires { All (λ user. IsUser (P.shown pool.now) user.party user.kept user.sent) users.items }
 {
     check(rt, last_meets(pool, &mut users, 0));
     let rows = [
@@ -236,7 +238,7 @@ fn many_users<'a, P: SharedBuckets>(
     mut users: Vec<User<'a>>,
     count: usize,
 )
-    requires { All (λ user. IsUser (P.shown pool.now) user.party user.kept) users.items }
+    requires { All (λ user. IsUser (P.shown pool.now) user.party user.kept user.sent) users.items }
 {
     check(rt, users.len() == count);
     check(rt, are_numbered(&users));
@@ -293,7 +295,8 @@ fn shared_fixed_of_1000_parties(rt: HostRuntime) {
     shared_fixed_of_parties(&rt, rt.alloc(), 1000);
 }
 
-/// Where the constant is 512, a pool has as many buckets, and no more.
+/// Where the constant is 512, a pool has as many buckets, and no more. The part of the last of 512 parties is the last bucket,
+/// and behind it the party goes on at bucket 0.
 #[test]
 fn shared_fixed_of_512_buckets(rt: HostRuntime) {
     let figures = Figures {
@@ -305,10 +308,12 @@ fn shared_fixed_of_512_buckets(rt: HostRuntime) {
     };
     let rows = [
         (0, Call::Figures, Answer::Figures(figures)),
-        (0, Take(At(511), ASKED), Bucket(511, 69504, 48)),
-        (0, Take(At(512), ASKED), NONE_FREE),
+        (0, NumberAt(69504), Answer::Number(511)),
+        (0, NumberAt(69632), Nothing),
+        (511, Take(Near, ASKED), Bucket(511, 69504, 48)),
+        (511, Take(Near, ASKED), Bucket(0, 4096, 48)),
     ];
-    match shared_fixed_over::<512>(rt.alloc(), 4096, 128 * 600, 1) {
+    match shared_fixed_over::<512>(rt.alloc(), 4096, 128 * 600, 512) {
         Ok((pool, parties)) => answers(&rt, rt.alloc(), &pool, parties, &rows),
         Err(cause) => fail(&rt, cause),
     }
@@ -376,11 +381,93 @@ fn shared_pool_of_1000_parties(rt: HostRuntime) {
     shared_of_parties(&rt, rt.alloc(), 1000);
 }
 
-/// What three parties take before some of them meet.
-const BEFORE_THE_MEETING: [Row; 3] = [
+/// How many parties a pool was made for, and how many buckets it has.
+fn counts(alloc: Global) -> Result<(u32, u32), &'static str> {
+    let (pool, _) = shared_over(alloc, 4096, 256, 2)?;
+    Ok((pool.number_of_parties(), pool.number_of_buckets()))
+}
+
+/// The same of a pool of at most one bucket.
+fn fixed_counts(alloc: Global) -> Result<(u32, u32), &'static str> {
+    let (pool, _) = shared_fixed_over::<1>(alloc, 4096, 256, 3)?;
+    Ok((pool.number_of_parties(), pool.number_of_buckets()))
+}
+
+/// A pool tells how many parties it was made for.
+#[test]
+fn shared_pools_count_their_parties(rt: HostRuntime) {
+    check(&rt, counts(rt.alloc()) == Ok((2, 2)));
+    check(&rt, fixed_counts(rt.alloc()) == Ok((3, 1)));
+}
+
+/// What users are answered, how many of them meet then, from the last one on, and what they are answered behind the meeting.
+#[derive(Clone, Copy)]
+struct Meeting<'a> {
+    before: &'a [Row],
+    count: usize,
+    after: &'a [Row],
+}
+
+/// Users take, some of them meet, and all take again.
+fn some_users_meet<'a, P: SharedBuckets>(
+    rt: &impl Abort,
+    alloc: Global,
+    pool: &'a P,
+    mut users: Vec<User<'a>>,
+    meeting: Meeting<'_>,
+)
+    requires { All (λ user. IsUser (P.shown pool.now) user.party user.kept user.sent) users.items }
+{
+    hold(rt, pool, &mut users, meeting.before);
+    check(rt, last_ones_meet(alloc, pool, &mut users, meeting.count));
+    hold(rt, pool, &mut users, meeting.after);
+}
+
+/// The same of parties.
+fn some_meet<P: SharedBuckets>(
+    rt: &impl Abort,
+    alloc: Global,
+    pool: &P,
+    parties: Vec<PoolParty>,
+    meeting: Meeting<'_>,
+)
+    requires { All (λ party. party.allocator ≡ P.shown pool.now) parties.items }
+{
+    match users_of(alloc, pool, parties) {
+        Ok(users) => some_users_meet(rt, alloc, pool, users, meeting),
+        Err(_) => fail(rt, REFUSED),
+    }
+}
+
+/// Some of so many parties of a pool over so many bytes at 4096 meet.
+fn shared_some_meet(
+    rt: &impl Abort,
+    alloc: Global,
+    size: usize,
+    parties: u32,
+    meeting: Meeting<'_>,
+) {
+    match shared_over(alloc, 4096, size, parties) {
+        Ok((pool, parties)) => some_meet(rt, alloc, &pool, parties, meeting),
+        Err(cause) => fail(rt, cause),
+    }
+}
+
+/// The same of a pool of at most four buckets.
+fn shared_fixed_some_meet(rt: &impl Abort, alloc: Global, parties: u32, meeting: Meeting<'_>) {
+    match shared_fixed_over::<4>(alloc, 4096, 1024, parties) {
+        Ok((pool, parties)) => some_meet(rt, alloc, &pool, parties, meeting),
+        Err(cause) => fail(rt, cause),
+    }
+}
+
+/// What three parties of a pool of four buckets take before some of them meet.
+const BEFORE_THE_MEETING: [Row; 5] = [
     (0, Take(Pass, ASKED), Bucket(0, 4096, 48)),
     (1, Take(Pass, ASKED), Bucket(1, 4224, 48)),
-    (2, Take(Request::From(3), ASKED), Bucket(3, 4480, 48)),
+    (2, Keep(Pass, ASKED), Bucket(2, 4352, 48)),
+    (2, Take(Pass, ASKED), Bucket(3, 4480, 48)),
+    (2, GiveBack, Nothing),
 ];
 
 /// What they are answered then: what was held is held, and what was free is free.
@@ -388,49 +475,19 @@ const AFTER_THE_MEETING: [Row; 8] = [
     (0, Call::Number, Answer::Number(0)),
     (1, Call::Number, Answer::Number(1)),
     (2, Call::Number, Answer::Number(2)),
-    (0, Take(At(1), ASKED), NONE_FREE),
-    (1, Take(At(3), ASKED), NONE_FREE),
     (2, Keep(Pass, ASKED), Bucket(2, 4352, 48)),
+    (0, Take(Pass, ASKED), NONE_FREE),
+    (1, Take(Pass, ASKED), NONE_FREE),
     (2, GiveBack, Nothing),
-    (1, Take(Request::From(3), ASKED), Bucket(2, 4352, 48)),
+    (1, Take(Near, ASKED), Bucket(2, 4352, 48)),
 ];
 
-/// Three users of a pool of at least four buckets take, so many of them meet, and all take again.
-fn some_users_meet<'a, P: SharedBuckets>(
-    rt: &impl Abort,
-    alloc: Global,
-    pool: &'a P,
-    mut users: Vec<User<'a>>,
-    count: usize,
-)
-    requires { All (λ user. IsUser (P.shown pool.now) user.party user.kept) users.items }
-{
-    hold(rt, pool, &mut users, &BEFORE_THE_MEETING);
-    check(rt, last_ones_meet(alloc, pool, &mut users, count));
-    hold(rt, pool, &mut users, &AFTER_THE_MEETING);
-}
-
-/// The same of three parties.
-fn some_meet<P: SharedBuckets>(
-    rt: &impl Abort,
-    alloc: Global,
-    pool: &P,
-    parties: Vec<PoolParty>,
-    count: usize,
-)
-    requires { All (λ party. party.allocator ≡ P.shown pool.now) parties.items }
-{
-    match users_of(alloc, pool, parties) {
-        Ok(users) => some_users_meet(rt, alloc, pool, users, count),
-        Err(_) => fail(rt, REFUSED),
-    }
-}
-
-/// So many parties of a pool of four buckets meet.
-fn shared_some_meet(rt: &impl Abort, alloc: Global, count: usize) {
-    match shared_over(alloc, 4096, 512, 3) {
-        Ok((pool, parties)) => some_meet(rt, alloc, &pool, parties, count),
-        Err(cause) => fail(rt, cause),
+/// So many of the three meet.
+fn of_three(count: usize) -> Meeting<'static> {
+    Meeting {
+        before: &BEFORE_THE_MEETING,
+        count,
+        after: &AFTER_THE_MEETING,
     }
 }
 
@@ -438,21 +495,54 @@ fn shared_some_meet(rt: &impl Abort, alloc: Global, count: usize) {
 #[test]
 fn all_parties_of_a_shared_pool_meet(rt: HostRuntime) {
     for count in [0, 1, 2, 3] {
-        shared_some_meet(&rt, rt.alloc(), count);
-    }
-}
-
-/// So many parties of a pool of at most four buckets meet.
-fn shared_fixed_some_meet(rt: &impl Abort, alloc: Global, count: usize) {
-    match shared_fixed_over::<4>(alloc, 4096, 1024, 3) {
-        Ok((pool, parties)) => some_meet(rt, alloc, &pool, parties, count),
-        Err(cause) => fail(rt, cause),
+        shared_some_meet(&rt, rt.alloc(), 512, 3, of_three(count));
     }
 }
 
 #[test]
 fn shared_fixed_all_parties_meet(rt: HostRuntime) {
     for count in [0, 1, 2, 3] {
-        shared_fixed_some_meet(&rt, rt.alloc(), count);
+        shared_fixed_some_meet(&rt, rt.alloc(), 3, of_three(count));
     }
+}
+
+/// Of eight buckets the part of each of four parties is two. A meeting keeps where each party has been last: here none begins at
+/// bucket 0 again, which is free.
+#[test]
+fn meetings_keep_where_a_round_begins(rt: HostRuntime) {
+    let meeting = Meeting {
+        before: &[
+            (1, Take(Near, ASKED), Bucket(2, 4352, 48)),
+            (2, Take(Near, ASKED), Bucket(4, 4608, 48)),
+        ],
+        count: 4,
+        after: &[
+            (1, Take(Near, ASKED), Bucket(3, 4480, 48)),
+            (2, Take(Near, ASKED), Bucket(5, 4736, 48)),
+            (1, Take(Near, ASKED), Bucket(6, 4864, 48)),
+            (2, Take(Near, ASKED), Bucket(7, 4992, 48)),
+        ],
+    };
+    shared_some_meet(&rt, rt.alloc(), 1024, 4, meeting);
+}
+
+/// The same of a pool of at most four buckets with two parties: the second one has been at bucket 2, which is free again, and goes
+/// on behind it.
+#[test]
+fn shared_fixed_meetings_keep_where_a_round_begins(rt: HostRuntime) {
+    let meeting = Meeting {
+        before: &[
+            (1, Keep(Near, ASKED), Bucket(2, 4352, 48)),
+            (1, Detach, Detached(2, 48)),
+            (0, Attach(1), Bucket(2, 4352, 48)),
+            (0, GiveBack, Nothing),
+        ],
+        count: 2,
+        after: &[
+            (1, Take(Near, ASKED), Bucket(3, 4480, 48)),
+            (0, Take(Near, ASKED), Bucket(2, 4352, 48)),
+            (1, Take(Near, ASKED), Bucket(0, 4096, 48)),
+        ],
+    };
+    shared_fixed_some_meet(&rt, rt.alloc(), 2, meeting);
 }

@@ -1,24 +1,21 @@
 //! Calls of what threads share that take no memory, each on values that were made before. The sweep runs these tests with each
 //! request refused, too, that comes after the making, and every call has to answer as it does with memory, without a request.
-ghost use Rattle.std.specs.Prelude.{◌≡◌, ◌<◌, All};
+ghost use Rattle.std.specs.Prelude.{◌≡◌, All};
 
 use super::was_refused;
 use crate::tests::bump_rows::{self, all_meet, owner_by_all};
 use crate::tests::checks::check;
+use crate::tests::detached::TWO_DETACHED;
 use crate::tests::pool_rows::Answer::{Bucket, Chunk, Nothing};
-use crate::tests::pool_rows::Call::{
-    FindAgain, GiveBack, Grow, Keep, NumberAt, Shrink, Take, Token,
-};
+use crate::tests::pool_rows::Call::{FindAgain, GiveBack, Grow, Keep, NumberAt, Shrink, Token};
 use crate::tests::pool_rows::{ASKED, Answer, Call, Row, hold, last_meets, users_of};
 use crate::tests::rounds::FROM_EACH_BUCKET;
-use crate::tests::shared_buckets::Request::{Near, Pass};
+use crate::tests::shared_buckets::Request::Pass;
 use crate::tests::shared_buckets::{Figures, SharedBuckets};
 use crate::tests::shared_bumps::two_parties;
 use crate::tests::shared_pools::{DROPPED_BUCKET, FOUR_BUCKETS, shared_fixed_over, shared_over};
-use crate::tests::transit::{two_detached, two_of};
 use allocator_tests::marks::{none_was_asked, refuse_memory};
-use bb_memory::layout::Layout;
-use bb_memory::shared_pool::{PoolParty, SharedPoolAllocator};
+use bb_memory::shared_pool::PoolParty;
 use std::alloc::Global;
 use std::process::Abort;
 
@@ -171,12 +168,11 @@ fn shared_fixed_bucket(rt: HostRuntime) {
     shared_fixed_answers(&rt, rt.alloc(), 1, &rows, &[]);
 }
 
-/// Rounds from each bucket on, and one that begins where the party has been last.
+/// Rounds from each bucket on.
 #[test]
 fn rounds_of_shared_pools(rt: HostRuntime) {
-    let near = [(0, Take(Near, ASKED), Bucket(0, 4096, 48))];
-    shared_answers(&rt, rt.alloc(), 512, 1, &FROM_EACH_BUCKET, &near);
-    shared_fixed_answers(&rt, rt.alloc(), 1, &FROM_EACH_BUCKET, &near);
+    shared_answers(&rt, rt.alloc(), 512, 4, &FROM_EACH_BUCKET, &[]);
+    shared_fixed_answers(&rt, rt.alloc(), 4, &FROM_EACH_BUCKET, &[]);
 }
 
 /// All parties of a pool meet without a request for memory.
@@ -215,30 +211,8 @@ fn all_parties_of_shared_pools(rt: HostRuntime) {
     shared_fixed_meet(&rt, rt.alloc());
 }
 
-/// Two buckets go from party to party without a request for memory.
-fn transit_without_memory(
-    rt: &impl Abort,
-    alloc: Global,
-    pool: &SharedPoolAllocator,
-    first: PoolParty,
-    second: PoolParty,
-    asked: Layout,
-)
-    requires others { 1 < pool.now.scene.parties }
-    requires first { first.allocator ≡ pool.now }
-    requires second { second.allocator ≡ pool.now }
-{
-    refuse_memory(alloc);
-    check(rt, two_detached(rt, pool, first, second, asked).is_ok());
-    check(rt, none_was_asked(alloc));
-}
-
+/// Two buckets go from party to party.
 #[test]
-fn buckets_in_transit(rt: HostRuntime) {
-    match two_of(rt.alloc(), 256) {
-        Ok((pool, first, second, asked)) => {
-            transit_without_memory(&rt, rt.alloc(), &pool, first, second, asked);
-        }
-        Err(cause) => was_refused(&rt, rt.alloc(), cause),
-    }
+fn detached_buckets(rt: HostRuntime) {
+    shared_answers(&rt, rt.alloc(), 256, 2, &TWO_DETACHED, &[]);
 }

@@ -1,17 +1,16 @@
 //! Rows of what threads share, whose maker was refused first.
-ghost use Rattle.std.specs.Prelude.{◌≡◌, ◌<◌, All, IfOk};
+ghost use Rattle.std.specs.Prelude.{◌≡◌, All, IfOk};
 
 use super::was_refused;
 use crate::tests::bump_rows::figures_of;
 use crate::tests::checks::{check, fail};
+use crate::tests::detached::TWO_DETACHED;
 use crate::tests::pool_rows::{Row, hold, users_of};
 use crate::tests::shared_buckets::{SharedBuckets, SharedFixed};
 use crate::tests::shared_bumps::two_parties;
 use crate::tests::shared_pools::{DROPPED_BUCKET, FOUR_BUCKETS, shared_fixed_over, shared_over};
-use crate::tests::transit::{two_detached, two_of};
 use allocator_tests::marks::some_was_refused;
 use bb_memory::bump_allocator::{AllocationError, BumpAllocator};
-use bb_memory::layout::Layout;
 use bb_memory::shared_bump::{BumpParty, SharedBumpAllocator};
 use bb_memory::shared_pool::{PoolParty, SharedPoolAllocator};
 use std::alloc::Global;
@@ -61,26 +60,35 @@ fn answers<P: SharedBuckets>(
     }
 }
 
-/// A pool of two buckets with one party. Where memory was refused it is made once more.
+/// A pool of two buckets with so many parties. Where memory was refused it is made once more.
 fn two_buckets(
     rt: &impl Abort,
     alloc: Global,
+    parties: u32,
 ) -> Result<(SharedPoolAllocator, Vec<PoolParty>), &'static str>
     ensures { IfOk result (λ made. All (λ party. party.allocator ≡ made.0) made.1.items) }
 {
-    match shared_over(alloc, 4096, 256, 1) {
+    match shared_over(alloc, 4096, 256, parties) {
         Ok(made) => Ok(made),
         Err(cause) => {
             was_refused(rt, alloc, cause);
-            shared_over(alloc, 4096, 256, 1)
+            shared_over(alloc, 4096, 256, parties)
         }
     }
 }
 
 #[test]
 fn shared_pool_dropped_bucket(rt: HostRuntime) {
-    match two_buckets(&rt, rt.alloc()) {
+    match two_buckets(&rt, rt.alloc(), 1) {
         Ok((pool, parties)) => answers(&rt, rt.alloc(), &pool, parties, &DROPPED_BUCKET),
+        Err(cause) => fail(&rt, cause),
+    }
+}
+
+#[test]
+fn shared_pool_two_detached(rt: HostRuntime) {
+    match two_buckets(&rt, rt.alloc(), 2) {
+        Ok((pool, parties)) => answers(&rt, rt.alloc(), &pool, parties, &TWO_DETACHED),
         Err(cause) => fail(&rt, cause),
     }
 }
@@ -105,37 +113,6 @@ fn four_buckets(
 fn shared_fixed_four_buckets(rt: HostRuntime) {
     match four_buckets(&rt, rt.alloc()) {
         Ok((pool, parties)) => answers(&rt, rt.alloc(), &pool, parties, &FOUR_BUCKETS),
-        Err(cause) => fail(&rt, cause),
-    }
-}
-
-/// A pool of two buckets and two parties. Where memory was refused it is made once more.
-fn two_to_send(
-    rt: &impl Abort,
-    alloc: Global,
-) -> Result<(SharedPoolAllocator, PoolParty, PoolParty, Layout), &'static str>
-    ensures others { IfOk result (λ made. 1 < made.0.scene.parties) }
-    ensures first { IfOk result (λ made. made.1.allocator ≡ made.0) }
-    ensures second { IfOk result (λ made. made.2.allocator ≡ made.0) }
-{
-    match two_of(alloc, 256) {
-        Ok(made) => Ok(made),
-        Err(cause) => {
-            was_refused(rt, alloc, cause);
-            two_of(alloc, 256)
-        }
-    }
-}
-
-#[test]
-fn shared_pool_two_in_transit(rt: HostRuntime) {
-    match two_to_send(&rt, rt.alloc()) {
-        Ok((pool, first, second, asked)) => {
-            check(
-                &rt,
-                two_detached(&rt, &pool, first, second, asked).is_ok(),
-            );
-        }
         Err(cause) => fail(&rt, cause),
     }
 }

@@ -1,9 +1,9 @@
-//! Messages from thread to thread, each a bucket of one shared pool: one thread takes it and hands it over, while another takes
-//! over the one before, and gives it back.
+//! Messages from thread to thread, each a bucket of one shared pool: one thread takes it and detaches it, while another attaches
+//! the one before, and gives it back.
 ghost use Rattle.std.specs.Prelude.{◌≡◌, ◌<◌, IfOk};
 
 use crate::tests::checks::{check, fail};
-use crate::tests::transit::{receive, send, three_given, two_of};
+use crate::tests::detached::{receive, send, three_given, two_of};
 use bb_memory::layout::Layout;
 use bb_memory::pool_allocator::AllocationError;
 use bb_memory::shared_pool::{DetachedBucket, PoolParty, SharedPoolAllocator};
@@ -11,7 +11,7 @@ use std::process::Abort;
 use std::thread;
 use std::thread::Threads;
 
-/// Takes a bucket, and hands it over.
+/// Takes a bucket, and detaches it.
 fn send_one(
     pool: &SharedPoolAllocator,
     mut party: PoolParty,
@@ -26,7 +26,7 @@ fn send_one(
     Ok((party, message))
 }
 
-/// Takes over a bucket, and gives it back.
+/// Attaches a bucket, and gives it back.
 fn receive_one(
     pool: &SharedPoolAllocator,
     mut party: PoolParty,
@@ -36,7 +36,7 @@ fn receive_one(
     requires message { message.allocator ≡ pool.now }
     ensures { result.allocator ≡ pool.entry.now }
 {
-    let _ = receive(pool, &mut party, message);
+    receive(pool, &mut party, message);
     party
 }
 

@@ -18,7 +18,7 @@ use std::thread::{Promise, PromisedHandle, Threads};
 
 /// A thread's party comes back as this pool's.
 #[derive(Drop)]
-pub(super) struct ComesBack(Snapshot<SharedPoolAllocator>);
+struct ComesBack(Snapshot<SharedPoolAllocator>);
 
 impl Promise<(PoolParty, u64)> for ComesBack {
     ghost kept_by = { λ promise answer. answer.0.allocator ≡ promise.0.value };
@@ -117,7 +117,7 @@ fn take_and_drop(
 
 /// What a thread does with its party.
 #[derive(Clone, Copy)]
-pub(super) enum Work {
+enum Work {
     /// Takes a bucket and gives it back 1000 times, and counts clashes.
     TakeAndReturn,
     /// Takes a bucket and drops its token, and counts what it took.
@@ -126,10 +126,10 @@ pub(super) enum Work {
 
 /// What each thread is started with beside its party.
 #[derive(Clone, Copy)]
-pub(super) struct Job {
-    pub(super) work: Work,
-    pub(super) request: Request,
-    pub(super) asked: Layout,
+struct Job {
+    work: Work,
+    request: Request,
+    asked: Layout,
 }
 
 /// What a thread hands back when its job is done.
@@ -203,7 +203,7 @@ fn join_all(
 }
 
 /// These parties meet, and then so many buckets are left for one of them.
-pub(super) fn are_left(
+fn are_left(
     rt: &impl Abort,
     pool: &SharedPoolAllocator,
     mut parties: Vec<PoolParty>,
@@ -218,7 +218,7 @@ pub(super) fn are_left(
 }
 
 /// Each of these parties' threads does the job. The parties that come back, and what each counted, in order.
-pub(super) fn work_in_threads(
+fn work_in_threads(
     rt: &impl Threads,
     alloc: Global,
     pool: &Arc<SharedPoolAllocator, Global>,
@@ -247,7 +247,7 @@ struct Trial {
 }
 
 /// Each of so many threads counted this.
-pub(super) fn counted(rt: &impl Abort, counts: &[u64], threads: usize, count: u64) {
+fn counted(rt: &impl Abort, counts: &[u64], threads: usize, count: u64) {
     check(rt, counts.len() == threads);
     for found in counts {
         check(rt, *found == count);

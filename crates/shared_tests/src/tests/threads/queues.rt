@@ -2,7 +2,7 @@
 ghost use Rattle.std.specs.Prelude.{◌≡◌, ◌<◌, IfOk, Some};
 
 use crate::tests::checks::{check, fail};
-use crate::tests::transit::{receive, send, three_given, two_of};
+use crate::tests::detached::{receive, send, three_given, two_of};
 use bb_memory::layout::Layout;
 use bb_memory::shared_pool::{DetachedBucket, PoolParty, SharedPoolAllocator};
 use rtrb::{Consumer, Producer, Protocol, PushError, RingBuffer};

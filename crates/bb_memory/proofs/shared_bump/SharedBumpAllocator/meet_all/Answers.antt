@@ -8,6 +8,7 @@ use Rattle.bb_memory.specs.Seats.{standing_for}
 use Rattle.bb_memory.specs.SharedBumpRule.{NumberedLog, SeatView, met_by, numbered_of, party_in, scene_of, sight}
 use Rattle.bb_memory.specs.SharedBumpSteps.{TellsMeeting}
 use Rattle.bb_memory.proofs.SharedBumpGatherings.{all_gathered, have_met, met_party, met_seat, none_met}
+use Rattle.bb_memory.proofs.SharedBumpWholes.{met_apart}
 use Rattle.bb_memory.proofs.shared_bump.SharedBumpAllocator.meet_all.Goals as goal
 
 pub invariant_of-push_reserved : goal.invariant_of-push_reserved
@@ -70,3 +71,15 @@ returns-in_default-clause-met c =
     none_met c.args.self.now items rest
     (subst IsSharedScene (ap (λ (b : SharedBump). b.scene) c.self.view_is) c.self.invariant.shared)
     none (sym (append-nil rest) ∙ sym is ∙ none)
+
+pub returns-in-Some-clause-apart : goal.returns-in-Some-clause-apart
+returns-in-Some-clause-apart c i j one other at at_other apart =
+    let met = returns-in-Some-clause-met c in
+    met_apart c.args.self.now.scene met.position c.args.parties.now.items met.agree i j one other
+    (subst IsSharedScene (ap (λ (b : SharedBump). b.scene) c.self.view_is) c.self.invariant.shared) at at_other apart
+
+pub returns-in_default-clause-apart : goal.returns-in_default-clause-apart
+returns-in_default-clause-apart c i j one other at at_other apart =
+    let met = returns-in_default-clause-met c in
+    met_apart c.args.self.now.scene met.position c.args.parties.now.items met.agree i j one other
+    (subst IsSharedScene (ap (λ (b : SharedBump). b.scene) c.self.view_is) c.self.invariant.shared) at at_other apart

@@ -1,6 +1,6 @@
 use Rattle.bb_memory_base.proofs.BumpRuns.{calls_run}
 use Rattle.bb_memory_base.proofs.OwnChunks.{agreed_since}
-use Rattle.bb_memory.proofs.SharedBumpWholes.{met_held, met_logged, met_nobody_else, met_stands}
+use Rattle.bb_memory.proofs.SharedBumpWholes.{met_apart, met_held, met_logged, met_nobody_else, met_stands}
 use Rattle.bb_memory.proofs.shared_bump.all_parties.shared_bump_meeting_law.Goals as goal
 
 pub returns-clause-run : goal.returns-clause-run
@@ -20,3 +20,6 @@ returns-clause-logged c = met_logged
 
 pub returns-clause-nobody_else : goal.returns-clause-nobody_else
 returns-clause-nobody_else c = met_nobody_else
+
+pub returns-clause-apart : goal.returns-clause-apart
+returns-clause-apart c = met_apart

@@ -1,4 +1,4 @@
-use Rattle.bb_memory.proofs.SharedPoolWholes.{met_flags, met_was_detached, met_held, met_detached, met_logged}
+use Rattle.bb_memory.proofs.SharedPoolWholes.{met_apart, met_flags, met_was_detached, met_held, met_detached, met_logged}
 use Rattle.bb_memory.proofs.SharedPoolWholes.{met_nobody_else, met_run, met_sound}
 use Rattle.bb_memory.proofs.SharedPoolWholes.{one_took, refused_took_none}
 use Rattle.bb_memory.proofs.shared_pool.all_parties.shared_pool_meeting_law.Goals as goal
@@ -32,3 +32,6 @@ returns-clause-detached c = met_detached
 
 pub returns-clause-was_detached : goal.returns-clause-was_detached
 returns-clause-was_detached c = met_was_detached
+
+pub returns-clause-apart : goal.returns-clause-apart
+returns-clause-apart c = met_apart

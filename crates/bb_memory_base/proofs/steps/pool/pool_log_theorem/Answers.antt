@@ -3,7 +3,8 @@ use Rattle.bb_memory_base.specs.PoolHistory.{PoolLog}
 use Rattle.bb_memory_base.specs.PoolLogs.{IsHeldAfter}
 use Rattle.bb_memory_base.proofs.PoolLogFacts.{logs_apart, free_not_held, held_is_taken, taken_is_held_alone}
 use Rattle.bb_memory_base.proofs.PoolLogFacts.{length-flags, nobody_else, interleaved_log, interleaved_logs, detached_from_logs}
-use Rattle.bb_memory_base.proofs.PoolLogSteps.{opening_agrees, take_agrees, lose_agrees, give_agrees, log_pass}
+use Rattle.bb_memory_base.proofs.PoolLogEntries.{log_pass}
+use Rattle.bb_memory_base.proofs.PoolLogSteps.{opening_agrees, take_agrees, lose_agrees, give_agrees}
 use Rattle.bb_memory_base.proofs.PoolLogSteps.{detach_agrees, detached_after, miss_agrees, take_at_agrees, attach_agrees}
 use Rattle.bb_memory_base.proofs.PoolHolders.{one_holder}
 use Rattle.bb_memory_base.proofs.PoolLogRuns.{flags_run}

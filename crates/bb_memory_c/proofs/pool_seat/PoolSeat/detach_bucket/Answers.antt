@@ -8,8 +8,8 @@ pub invariant_of-self : goal.invariant_of-self
 invariant_of-self c =
     let there = rw (← c.self.view_is) at c.requires.held in
     let party = c.self.inside.party in
-    detached-seat (arc_value c.self.inside.pool) party c.detach-transit.new.party c.self.inside.held.items
-    c.args.number c.self.invariant there (c.detach-transit.ensures.party.logged
+    detached-seat (arc_value c.self.inside.pool) party c.detach-token.new.party c.self.inside.held.items
+    c.args.number c.self.invariant there (c.detach-token.ensures.party.logged
     ∙ ap (λ (b : TakenBucket). with_entries party (detach_entry party.number b.number)) c.bucket-bucket.ensures.value)
 
 pub index_mut-requires : goal.index_mut-requires

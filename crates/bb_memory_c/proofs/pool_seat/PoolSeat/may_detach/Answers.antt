@@ -1,6 +1,6 @@
 use Rattle.std.proofs.Common.{◌≢◌, ◌<◌, ◌≤◌, None, arith, refl, rules}
 use Rattle.bb_memory_c.specs.SharedPools.{HoldsPlace}
-use Rattle.bb_memory_c.specs.Transit.{HasOthers}
+use Rattle.bb_memory_c.specs.Detached.{HasOthers}
 use Rattle.bb_memory_c.proofs.pool_seat.PoolSeat.may_detach.Goals as goal
 
 pub returns-then-number_of_parties-lt2-clause-refused : goal.returns-then-number_of_parties-lt2-clause-refused
@@ -53,7 +53,7 @@ returns-then-is_full-clause-refused c =
     let others : HasOthers c.args.self.now = search rules in
     let holds : HoldsPlace c.args.self.now c.args.place = (c.in-Some.number, c.in-Some.ensures.held) in
     let short : c.args.len ≤ c.args.self.now.allocator.scene.geometry.bucket.size = search rules in
-    let full : c.args.envelope.now ≢ None = search rules in (
+    let full : c.args.detached.now ≢ None = search rules in (
       search rules,
       record {
         one_party = λ without. absurd (without others);

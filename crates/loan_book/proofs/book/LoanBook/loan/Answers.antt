@@ -80,3 +80,19 @@ pub returns-in_default-clause-ids_exhausted : goal.returns-in_default-clause-ids
 returns-in_default-clause-ids_exhausted g c =
     let above = too_large c.args.size (λ layout. let accepted = c.in_default.ensures.accepted.1 layout in cc) in
     (λ same. cc, λ (below, used). absurd (omega (arith, below)))
+
+pub returns-in-Ok-allocate-clause-asked_once : goal.returns-in-Ok-allocate-clause-asked_once
+returns-in-Ok-allocate-clause-asked_once g c = rw (← c.self.view_is) record {
+  layout = c.in-Ok.layout;
+  many = c.in-Ok.ensures.value.0;
+  align = c.in-Ok.ensures.value.1;
+  noted = c.in-Ok-allocate.ensures.note;
+}
+
+pub returns-in-Err-clause-refused_once : goal.returns-in-Err-clause-refused_once
+returns-in-Err-clause-refused_once g c asked = rw (← c.self.view_is) record {
+  layout = c.in-Ok.layout;
+  many = c.in-Ok.ensures.value.0;
+  align = c.in-Ok.ensures.value.1;
+  noted = c.in-Err.ensures.note;
+}

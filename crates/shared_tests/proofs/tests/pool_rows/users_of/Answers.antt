@@ -12,6 +12,6 @@ loop-party-preserved g c =
     let step = c.in-Some.ensures.steps.0 in
     let first = All-head Theirs _ _ (All-same Theirs _ _ (sym step) c.loop-party.invariant.0) in (
       All-rest Theirs _ _ _ step c.loop-party.invariant.0,
-      All-same (λ u. IsUser pool u.party u.kept) _ _ c.in_ok-push.ensures.items
-          (All-push (λ u. IsUser pool u.party u.kept) _ _ c.loop-party.invariant.1 (first, tt)),
+      All-same (λ u. IsUser pool u.party u.kept u.sent) _ _ c.in_ok-push.ensures.items
+          (All-push (λ u. IsUser pool u.party u.kept u.sent) _ _ c.loop-party.invariant.1 (first, tt, tt)),
     )

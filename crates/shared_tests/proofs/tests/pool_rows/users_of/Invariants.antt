@@ -8,4 +8,4 @@ use Rattle.shared_tests.proofs.tests.pool_rows.users_of.Given as goal
 abbrev pub invariant-loop-party : goal.invariant-loop-party
 invariant-loop-party g l =
     All (λ (p : PoolParty). p.allocator ≡ g.P.SharedBuckets.shown l.pool) (into_iter_items l.party-iterator)
-    × All (λ u. IsUser (g.P.SharedBuckets.shown l.pool) u.party u.kept) (vec_items l.users)
+    × All (λ u. IsUser (g.P.SharedBuckets.shown l.pool) u.party u.kept u.sent) (vec_items l.users)

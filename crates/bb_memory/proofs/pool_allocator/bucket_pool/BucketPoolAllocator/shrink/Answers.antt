@@ -4,44 +4,49 @@ use Rattle.bb_memory_base.specs.Chunk.{Chunk}
 use Rattle.bb_memory_base.specs.PoolObject.{MayShrink}
 use Rattle.bb_memory_base.specs.declared.layout.Layout.{Layout}
 use Rattle.bb_memory_base.specs.declared.allocator.AllocationShrinkError.{AllocationShrinkError}
+use Rattle.bb_memory_base.specs.PoolGeometry.{PoolGeometry}
+use Rattle.bb_memory.specs.Buckets.{IsPlaceOfBucket}
 use Rattle.bb_memory.specs.Pool.{Pool, IsPool, HoldsPlace}
+use Rattle.bb_memory.specs.PoolLaws.{held_bucket_below}
 use Rattle.bb_memory.proofs.PoolCalls.{MayShrink-inside, MayShrink-resized}
 use Rattle.bb_memory.proofs.pool_allocator.bucket_pool.BucketPoolAllocator.shrink.Goals as goal
-
-pub returns-clause-resized : goal.returns-clause-resized
-returns-clause-resized g c =
-    let same = sym (g.met.S.HeldSet.pool_seen c.self.inside.buckets c.self.inside.last_search)
-    ∙ ap g.S.HeldSet.pool c.self.view_is in
-    let is = subst IsPool same c.self.invariant.0 in
-    let may = subst (λ (p : Pool). MayShrink p.geometry.bucket c.args.place c.args.old c.args.new c.shrink.result) same
-    c.shrink.ensures in
-    MayShrink-resized (g.S.HeldSet.pool c.args.self.now) c.args.place c.args.old c.args.new c.shrink.result is c.requires.reserved
-    may
-
-pub returns-clause-inside : goal.returns-clause-inside
-returns-clause-inside g c =
-    let same = sym (g.met.S.HeldSet.pool_seen c.self.inside.buckets c.self.inside.last_search)
-    ∙ ap g.S.HeldSet.pool c.self.view_is in
-    let is = subst IsPool same c.self.invariant.0 in
-    let may = subst (λ (p : Pool). MayShrink p.geometry.bucket c.args.place c.args.old c.args.new c.shrink.result) same
-    c.shrink.ensures in
-    MayShrink-inside (g.S.HeldSet.pool c.args.self.now) c.args.place c.args.old c.args.new c.shrink.result is c.requires.live
-    c.requires.reserved may
-
-pub shrink-requires : goal.shrink-requires
-shrink-requires g c =
-    let same = sym (g.met.S.HeldSet.pool_seen c.self.inside.buckets c.self.inside.last_search)
-    ∙ ap g.S.HeldSet.pool c.self.view_is in
-    record {
-      live = subst (λ (p : Pool). HoldsPlace p c.args.place) (sym same) c.requires.live;
-      reserved = subst (λ (p : Pool). c.args.old.size ≤ p.geometry.bucket.size) (sym same) c.requires.reserved;
-    }
 
 pub returns-clause-value : goal.returns-clause-value
 returns-clause-value g c =
     let same = sym (g.met.S.HeldSet.pool_seen c.self.inside.buckets c.self.inside.last_search)
     ∙ ap g.S.HeldSet.pool c.self.view_is in
-    subst (λ (p : Pool). MayShrink p.geometry.bucket c.args.place c.args.old c.args.new c.shrink.result) same c.shrink.ensures
+    let told = subst (λ (geometry : PoolGeometry). MayShrink geometry.bucket c.args.place c.args.old c.args.new c.shrink.result)
+    c.geometry.ensures c.shrink.ensures.answer in
+    subst (λ (p : Pool). MayShrink p.geometry.bucket c.args.place c.args.old c.args.new c.shrink.result) same told
+
+pub returns-clause-resized : goal.returns-clause-resized
+returns-clause-resized g c =
+    let same = sym (g.met.S.HeldSet.pool_seen c.self.inside.buckets c.self.inside.last_search)
+    ∙ ap g.S.HeldSet.pool c.self.view_is in
+    MayShrink-resized (g.S.HeldSet.pool c.args.self.now) c.args.place c.args.old c.args.new c.shrink.result
+    (subst IsPool same c.self.invariant.0) c.requires.reserved (returns-clause-value g c)
+
+pub returns-clause-inside : goal.returns-clause-inside
+returns-clause-inside g c =
+    let same = sym (g.met.S.HeldSet.pool_seen c.self.inside.buckets c.self.inside.last_search)
+    ∙ ap g.S.HeldSet.pool c.self.view_is in
+    MayShrink-inside (g.S.HeldSet.pool c.args.self.now) c.args.place c.args.old c.args.new c.shrink.result
+    (subst IsPool same c.self.invariant.0) c.requires.live c.requires.reserved (returns-clause-value g c)
+
+pub shrink-requires-clause-place : goal.shrink-requires-clause-place
+shrink-requires-clause-place g c =
+    let same = sym (g.met.S.HeldSet.pool_seen c.self.inside.buckets c.self.inside.last_search)
+    ∙ ap g.S.HeldSet.pool c.self.view_is in
+    subst (λ (geometry : PoolGeometry). IsPlaceOfBucket geometry c.args.place) (sym c.geometry.ensures)
+    (held_bucket_below c.self.inside.buckets c.args.place c.self.invariant.0.flags
+    (subst (λ (p : Pool). HoldsPlace p c.args.place) (sym same) c.requires.live))
+
+pub shrink-requires-clause-reserved : goal.shrink-requires-clause-reserved
+shrink-requires-clause-reserved g c =
+    let same = sym (g.met.S.HeldSet.pool_seen c.self.inside.buckets c.self.inside.last_search)
+    ∙ ap g.S.HeldSet.pool c.self.view_is in
+    subst (λ (geometry : PoolGeometry). c.args.old.size ≤ geometry.bucket.size) (sym c.geometry.ensures)
+    (subst (λ (p : Pool). c.args.old.size ≤ p.geometry.bucket.size) (sym same) c.requires.reserved)
 
 pub returns-clause-answer : goal.returns-clause-answer
 returns-clause-answer g c = λ live position chunk stands at there. returns-clause-value g c
@@ -56,7 +61,7 @@ same_place bucket place old new (Err error) may = tt
 
 pub returns-clause-same_place : goal.returns-clause-same_place
 returns-clause-same_place g c =
-    same_place c.self.inside.buckets.geometry.bucket c.args.place c.args.old c.args.new c.shrink.result c.shrink.ensures
+    same_place c.geometry.result.now.bucket c.args.place c.args.old c.args.new c.shrink.result c.shrink.ensures.answer
 
 long_enough : (bucket : Layout) (place : ℕ) (old new : Layout) (answer : Result Chunk AllocationShrinkError) →
     MayShrink bucket place old new answer → IfOk answer (λ shrunk. new.size ≤ shrunk.len)
@@ -65,7 +70,7 @@ long_enough bucket place old new (Err error) may = tt
 
 pub returns-clause-long_enough : goal.returns-clause-long_enough
 returns-clause-long_enough g c =
-    long_enough c.self.inside.buckets.geometry.bucket c.args.place c.args.old c.args.new c.shrink.result c.shrink.ensures
+    long_enough c.geometry.result.now.bucket c.args.place c.args.old c.args.new c.shrink.result c.shrink.ensures.answer
 
 within_bucket : (bucket : Layout) (place : ℕ) (old new : Layout) (answer : Result Chunk AllocationShrinkError) →
     old.size ≤ bucket.size → MayShrink bucket place old new answer → IfOk answer (λ shrunk. shrunk.len ≤ bucket.size)

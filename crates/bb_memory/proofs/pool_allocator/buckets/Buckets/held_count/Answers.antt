@@ -15,7 +15,7 @@ loop-number-preserved g c =
     let as_many : length pool.held ≡ pool.geometry.buckets =
     ap length (sym same) ∙ c.self.invariant ∙ ap (λ (p : Pool). p.geometry.buckets) c.self.view_is in
     let below : number < length pool.held =
-    omega (arith, as_many, c.count-number-end.ensures, c.loop-number-test.true) in
+    omega (arith, as_many, c.count-number-end.ensures.value, ap (λ (p : Pool). p.geometry.buckets) c.self.view_is, c.loop-number-test.true) in
     elim c.if-has.branch [
       | then-has w ↦ record {
         counted = w.held-is ∙ ap (λ (n : ℕ). n + 1) before.counted

@@ -18,7 +18,8 @@ of_small bucket words layout small =
 
 pub returns-then-size : goal.returns-then-size
 returns-then-size g c =
-    let size = c.size-2.ensures ∙ ap (λ (l : Layout). l.size) c.bucket.ensures in
+    let bucket = ap (λ (p : Pool). p.geometry.bucket) c.self.view_is in
+    let size = c.size-2.ensures ∙ ap (λ (l : Layout). l.size) (c.bucket.ensures ∙ bucket) in
     let large : c.args.self.now.geometry.bucket.size < c.args.layout.size = omega (arith, size) in
     record {
       taken = (large, refl);
@@ -27,8 +28,9 @@ returns-then-size g c =
 
 pub returns-then-align : goal.returns-then-align
 returns-then-align g c =
-    let size = c.size-2.ensures ∙ ap (λ (l : Layout). l.size) c.bucket.ensures in
-    let align = c.align-2.ensures.value ∙ ap (λ (l : Layout). l.align) c.bucket-2.ensures in
+    let bucket = ap (λ (p : Pool). p.geometry.bucket) c.self.view_is in
+    let size = c.size-2.ensures ∙ ap (λ (l : Layout). l.size) (c.bucket.ensures ∙ bucket) in
+    let align = c.align-2.ensures.value ∙ ap (λ (l : Layout). l.align) (c.bucket-2.ensures ∙ bucket) in
     let small : c.args.layout.size ≤ c.args.self.now.geometry.bucket.size = omega (arith, size) in
     let large : c.args.self.now.geometry.bucket.align < c.args.layout.align = omega (arith, align) in
     record {
@@ -40,9 +42,8 @@ returns-then-align g c =
 
 pub returns-in_default : goal.returns-in_default
 returns-in_default g c =
-    let bucket = ap (λ (p : Pool). p.geometry.bucket) (sym c.self.view_is) in
-    let size = c.size-2.ensures ∙ ap (λ (l : Layout). l.size) (c.bucket.ensures ∙ bucket) in
-    let align = c.align-2.ensures.value ∙ ap (λ (l : Layout). l.align) (c.bucket-2.ensures ∙ bucket) in
+    let size = c.size-2.ensures ∙ ap (λ (l : Layout). l.size) c.bucket.ensures in
+    let align = c.align-2.ensures.value ∙ ap (λ (l : Layout). l.align) c.bucket-2.ensures in
     let geometry : PoolGeometry = c.self.inside.geometry in
     let small : c.args.layout.size ≤ geometry.bucket.size = omega (arith, size) in
     let low : c.args.layout.align ≤ geometry.bucket.align = omega (arith, align) in
@@ -60,8 +61,7 @@ returns-in_default g c =
 
 pub chunk-requires : goal.chunk-requires
 chunk-requires g c =
-    let size = c.size-2.ensures ∙ ap (λ (l : Layout). l.size) c.bucket.ensures
-    ∙ ap (λ (p : Pool). p.geometry.bucket.size) (sym c.self.view_is) in
+    let size = c.size-2.ensures ∙ ap (λ (l : Layout). l.size) c.bucket.ensures in
     record {
       below = subst (λ n. c.in-Some.i < n) c.self.invariant (slice_get_within _ _ _ c.in-Some.ensures.lacked);
       short = omega (arith, size);
@@ -69,9 +69,8 @@ chunk-requires g c =
 
 pub returns : goal.returns
 returns g c =
-    let bucket = ap (λ (p : Pool). p.geometry.bucket) (sym c.self.view_is) in
-    let size = c.size-2.ensures ∙ ap (λ (l : Layout). l.size) (c.bucket.ensures ∙ bucket) in
-    let align = c.align-2.ensures.value ∙ ap (λ (l : Layout). l.align) (c.bucket-2.ensures ∙ bucket) in
+    let size = c.size-2.ensures ∙ ap (λ (l : Layout). l.size) c.bucket.ensures in
+    let align = c.align-2.ensures.value ∙ ap (λ (l : Layout). l.align) c.bucket-2.ensures in
     let geometry : PoolGeometry = c.self.inside.geometry in
     let small : c.args.layout.size ≤ geometry.bucket.size = omega (arith, size) in
     let low : c.args.layout.align ≤ geometry.bucket.align = omega (arith, align) in

@@ -1,4 +1,4 @@
-use Rattle.std.proofs.Common.{ℕ, refl, sym, ap, ◌∙◌, arith, subst}
+use Rattle.std.proofs.Common.{ℕ, Some, None, refl, sym, ap, ◌∙◌, arith, subst}
 use Rattle.atomic_table.specs.Table.{Me}
 use Rattle.bb_memory_base.specs.PoolGeometry.{PoolGeometry, IsPoolGeometry}
 use Rattle.bb_memory_base.specs.PoolMachine.{PoolScene}
@@ -10,7 +10,7 @@ use Rattle.bb_memory.specs.SharedPoolRule.{SeatView}
 use Rattle.bb_memory.proofs.Measures.{bucket-inside}
 use Rattle.bb_memory.proofs.PoolCalls.{bucket_place-multiple}
 use Rattle.bb_memory.proofs.SharedPoolParties.{is_party, party_with, seated_then}
-use Rattle.bb_memory.proofs.SharedPoolPasses.{ended_by, pass_of, still_held}
+use Rattle.bb_memory.proofs.SharedPoolPasses.{ended_by, others_held, pass_of, still_held}
 use Rattle.bb_memory.proofs.SharedPoolTries.{taken_is_held}
 use Rattle.bb_memory.proofs.shared_pool.buckets.SharedBucketPool.allocate.Goals.{in-Some, in-None}
 use Rattle.bb_memory.proofs.shared_pool.buckets.SharedBucketPool.allocate.Goals as goal
@@ -21,6 +21,21 @@ returns-clause-still_held g c other held =
     let me = c.party.inside.seat.me in
     still_held c.args.self.now.scene (number_of me.0) (view_log me.0) c.pass.new.seat.me c.pass.result other
     c.pass.ensures.step before
+
+pub returns-clause-others : goal.returns-clause-others
+returns-clause-others g c other apart held =
+    let me = c.party.inside.seat.me in
+    let new = c.pass.new.seat.me in
+    let scene : PoolScene = c.args.self.now.scene in
+    let Before : PoolParty → Type 0 = λ p. IsHeldAfter p.log other in
+    elim c.match-pass.branch [
+      | in-Some w ↦
+          subst Before c.party.view_is (others_held scene (number_of me.0) (view_log me.0) new (Some w.in-Some.number) other
+          w.in-Some.ensures.step (rw w.result-is at apart) held)
+      | in-None w ↦
+          subst Before c.party.view_is (others_held scene (number_of me.0) (view_log me.0) new None other
+          w.in-None.ensures.step tt held)
+    ]
 
 pub returns-clause-inside : goal.returns-clause-inside
 returns-clause-inside g c =

@@ -1,4 +1,4 @@
-use Rattle.std.proofs.Common.{ℕ, refl, sym, ap, ◌∙◌, arith, subst}
+use Rattle.std.proofs.Common.{ℕ, Some, None, refl, sym, ap, ◌∙◌, arith, subst}
 use Rattle.bb_memory_base.specs.PoolGeometry.{PoolGeometry, IsPoolGeometry}
 use Rattle.bb_memory_base.specs.PoolMachine.{PoolScene}
 use Rattle.bb_memory_base.specs.PoolLogs.{IsHeldAfter}
@@ -9,7 +9,7 @@ use Rattle.bb_memory.specs.SharedPoolRounds.{refused_round, taking_round}
 use Rattle.bb_memory.proofs.Measures.{bucket-inside}
 use Rattle.bb_memory.proofs.PoolCalls.{bucket_place-multiple}
 use Rattle.bb_memory.proofs.SharedPoolParties.{is_party, party_with, seated_then}
-use Rattle.bb_memory.proofs.SharedPoolRounds.{round_is_held, still_held_from}
+use Rattle.bb_memory.proofs.SharedPoolRounds.{others_held_from, round_is_held, still_held_from}
 use Rattle.bb_memory.proofs.shared_pool.buckets.SharedBucketPool.allocate_from.Goals as goal
 
 pub invariant_of-party : goal.invariant_of-party
@@ -77,6 +77,10 @@ returns-in-Some-clause-serves g c =
         still_held = λ other held.
             still_held_from scene (number_of me.0) (view_log me.0) c.args.first new.me c.round.result other
             c.round.ensures.step (rw (← c.party.view_is) at held);
+        others = λ other apart held.
+            subst (λ (p : PoolParty). IsHeldAfter p.log other) c.party.view_is
+            (others_held_from scene (number_of me.0) (view_log me.0) c.args.first new.me (Some c.in-Some.number) other
+            took apart held);
         inside = rw c.self.view_is
             (bucket-inside scene.geometry c.in-Some.number c.size-in-Some.result geometry took.below (omega arith));
         aligned = rw c.self.view_is (bucket_place-multiple scene.geometry c.in-Some.number c.args.layout (omega arith));
@@ -106,6 +110,10 @@ returns-in-None-clause-serves g c =
         still_held = λ other held.
             still_held_from c.args.self.now.scene (number_of me.0) (view_log me.0) c.args.first new.me c.round.result
             other c.round.ensures.step (rw (← c.party.view_is) at held);
+        others = λ other apart held.
+            subst (λ (p : PoolParty). IsHeldAfter p.log other) c.party.view_is
+            (others_held_from c.args.self.now.scene (number_of me.0) (view_log me.0) c.args.first new.me None other
+            lost apart held);
         inside = tt;
         aligned = tt;
         exact_size = tt;

@@ -1,6 +1,7 @@
 use Rattle.std.proofs.Common.{ℕ, ◌<◌, sym, ap, ◌∙◌, subst}
 use Rattle.bb_memory_base.specs.PoolLogs.{IsHeldAfter}
 use Rattle.bb_memory.specs.SharedPool.{PoolParty, SharedPool, TakenBucket, return_entry, with_entries}
+use Rattle.bb_memory.proofs.SharedPoolHolds.{was_held}
 use Rattle.bb_memory.proofs.SharedPoolParties.{is_party, party_returned, returned, seated_then}
 use Rattle.bb_memory.proofs.SharedPoolTries.{held_after_return, not_held_after_return}
 use Rattle.bb_memory.proofs.shared_pool.buckets.SharedBucketPool.deallocate_bucket.Goals as goal
@@ -51,3 +52,8 @@ pub returns-clause-still_held : goal.returns-clause-still_held
 returns-clause-still_held g c other apart held =
     subst (λ (p : PoolParty). IsHeldAfter p.log other) (sym (returns-clause-logged g c))
     (held_after_return c.args.party.now.number c.args.bucket.number other c.args.party.now.log apart held)
+
+pub returns-clause-others : goal.returns-clause-others
+returns-clause-others g c other held =
+    was_held c.args.party.now c.args.bucket.number other
+    (subst (λ (p : PoolParty). IsHeldAfter p.log other) (returns-clause-logged g c) held)

@@ -1,6 +1,7 @@
 use Rattle.std.proofs.Common.{ℕ, sym, ap, ◌∙◌, subst}
 use Rattle.bb_memory_base.specs.PoolLogs.{IsHeldAfter}
 use Rattle.bb_memory.specs.SharedPool.{PoolParty, SharedPool, TakenBucket, detach_entry, taken_bucket, with_entries}
+use Rattle.bb_memory.proofs.SharedPoolHolds.{was_held_too}
 use Rattle.bb_memory.proofs.SharedPoolParties.{was_detached, is_party, party_with, pool_of_detached, seated_then}
 use Rattle.bb_memory.proofs.SharedPoolTries.{held_after_detach, not_held_after_detach}
 use Rattle.bb_memory.proofs.shared_pool.buckets.SharedBucketPool.detach.Goals as goal
@@ -18,7 +19,7 @@ pub returns-clause-bucket : goal.returns-clause-bucket
 returns-clause-bucket g c =
     let bucket = c.bucket.inside in
     let result = c.detach-seat.result in
-    let own = pool_of_detached c.self.inside.flags result.table_id result.me bucket.number c.detach-seat.ensures.transit in
+    let own = pool_of_detached c.self.inside.flags result.table_id result.me bucket.number c.detach-seat.ensures.detached in
     let its = c.self.view_is ∙ sym (ap (λ (b : TakenBucket). b.allocator) c.bucket.view_is ∙ c.requires.may.its_bucket) in
     (λ i. taken_bucket ((own ∙ its) i) bucket.number bucket.len) ∙ c.bucket.view_is
 
@@ -47,4 +48,5 @@ returns-clause-party g c =
           (subst (λ (p : PoolParty). IsHeldAfter p.log bucket) logged held);
       still_held = λ other apart held. subst (λ (p : PoolParty). IsHeldAfter p.log other) (sym logged)
           (held_after_detach old.number bucket other old.log apart held);
+      others = λ other held. was_held_too old bucket other (subst (λ (p : PoolParty). IsHeldAfter p.log other) logged held);
     }

@@ -5,6 +5,7 @@ use Rattle.bb_memory.specs.SharedPool.{IsSharedScene, PoolParty, SharedPool}
 use Rattle.bb_memory.specs.SharedPoolRule.{IsPartySeat, NumberedLog, numbered_of}
 use Rattle.bb_memory.specs.SharedPoolSteps.{TellsMeeting}
 use Rattle.bb_memory.proofs.SharedPoolGatherings.{agrees, all_gathered, met_party, none_met}
+use Rattle.bb_memory.proofs.SharedPoolWholes.{met_apart, one_served}
 use Rattle.bb_memory.proofs.shared_pool.buckets.SharedBucketPool.meet_all.Goals as goal
 
 pub returns-in-Some-clause-met : goal.returns-in-Some-clause-met
@@ -45,3 +46,22 @@ returns-in_default-clause-met g c =
 pub invariant_of-push_reserved : goal.invariant_of-push_reserved
 invariant_of-push_reserved g c =
     subst (IsPartySeat c.party.inside.number) (sym c.meet_rest.ensures.found.seat) c.party.invariant
+
+pub returns-in-Some-clause-one_took : goal.returns-in-Some-clause-one_took
+returns-in-Some-clause-one_took g c all stepped =
+    one_served c.args.self.now.scene c.args.parties.now.items
+    (subst IsSharedScene (ap (λ (b : SharedPool). b.scene) c.self.view_is) c.self.invariant.shared)
+    (returns-in-Some-clause-met g c) all stepped
+
+pub returns-in_default-clause-one_took : goal.returns-in_default-clause-one_took
+returns-in_default-clause-one_took g c all stepped =
+    one_served c.args.self.now.scene c.args.parties.now.items
+    (subst IsSharedScene (ap (λ (b : SharedPool). b.scene) c.self.view_is) c.self.invariant.shared)
+    (returns-in_default-clause-met g c) all stepped
+
+pub returns-in-Some-clause-apart : goal.returns-in-Some-clause-apart
+returns-in-Some-clause-apart g c = met_apart c.args.self.now.scene c.args.parties.now.items (returns-in-Some-clause-met g c)
+
+pub returns-in_default-clause-apart : goal.returns-in_default-clause-apart
+returns-in_default-clause-apart g c =
+    met_apart c.args.self.now.scene c.args.parties.now.items (returns-in_default-clause-met g c)
