@@ -3,7 +3,8 @@ ghost use Rattle.std.specs.Prelude.{[]};
 
 use super::rows::Driven;
 use bb_memory::allocator::{
-    AllocationError, AllocationGrowError, AllocationShrinkError, Allocator, Command, Reply, run_full,
+    AllocationError, AllocationGrowError, AllocationShrinkError, Allocator, Command, Reply,
+    run_full,
 };
 use bb_memory::layout::{Chunk, Layout};
 use std::alloc::Global;
