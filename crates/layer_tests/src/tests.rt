@@ -2,7 +2,6 @@
 mod budgets;
 mod byte_vectors;
 mod checks;
-mod live_list;
 mod pools;
 mod results;
 mod rows;

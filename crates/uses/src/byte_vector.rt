@@ -1,10 +1,8 @@
 //! A vector of bytes that lives at an offset of a region, and can move to another region with its bytes.
-ghost use Rattle.std.specs.Prelude.{◌≡◌, ◌+◌, ◌<◌, ◌≤◌, ◌^◌, ◌⊎◌, ℕ, List, Some};
-ghost use Rattle.std.specs.Align.{IsLayout};
+ghost use Rattle.std.specs.Prelude.{◌≡◌, ◌+◌, ◌<◌, ◌≤◌, ◌^◌, ℕ, List, Some};
 ghost use Rattle.std.specs.Prelude.{IfOk, IfErr, OnOk, OnErr, length, slice_get, slice_index};
 ghost use Rattle.bb_memory_base.specs.Chunk.{Chunk, AreApart, IsInside};
 ghost use Rattle.bb_memory_base.specs.HeldBytes.{HeldBytes, held_region, bytes_in};
-ghost use Rattle.uses.specs.Requests.{IsOfBytes};
 ghost use Rattle.uses.specs.ByteVectors.{ByteVector, IsGrown, IsPushed, IsWhyFull, KeepsOthers, LivesIn, MakesRoom, contents};
 
 use bb_memory_base::allocator::{AllocationGrowError, Allocator, BaseAllocator};

@@ -1,7 +1,6 @@
 //! Records under keys, which are refused once their record is taken out: a layer over the slab.
 ghost use Rattle.std.specs.Prelude.{◌≡◌, ◌<◌, ◌-◌, ◌^◌, ◌∷◌, ◌++◌, ◌↔◌, [], ℕ, List, Some, None, Ok, Err};
-ghost use Rattle.std.specs.Prelude.{IfErr, IfOk, IfSome, IfNone, IsOk, IsTrue, OnOk, length, slice_get, slice_set};
-ghost use Rattle.std.specs.Prelude.{vec_capacity, vec_len};
+ghost use Rattle.std.specs.Prelude.{IfOk, IfSome, IfNone, IsOk, IsTrue, length, slice_get, slice_set};
 ghost use Rattle.uses.specs.Records.{Stores};
 ghost use Rattle.uses.specs.declared.keyed_slab.Slot.{Slot};
 ghost use Rattle.uses.specs.declared.keyed_slab.Key.{Key};

@@ -1,5 +1,5 @@
 //! Records of bytes, each in a chunk of its own.
-ghost use Rattle.std.specs.Prelude.{◌≡◌, ◌∷◌, ◌++◌, ◌<◌, [], ℕ, List, Some, Ok, IfErr, OnOk, OnErr};
+ghost use Rattle.std.specs.Prelude.{◌≡◌, ◌∷◌, ◌++◌, ◌<◌, [], ℕ, List, Some, Ok};
 ghost use Rattle.std.specs.Prelude.{length, remove, slice_get, slice_set};
 ghost use Rattle.bb_memory_base.specs.Chunk.{Chunk};
 ghost use Rattle.bb_memory_base.specs.LiveList.{IsSound};
