@@ -21,7 +21,7 @@ pub enum PushError {
 }
 
 /// Bytes at an offset.
-#[derive(Clone, Copy)]
+#[derive(Debug, Clone, Copy, PartialEq, Eq)]
 pub struct ByteVec {
     offset: usize,
     capacity: usize,

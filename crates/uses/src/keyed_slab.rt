@@ -16,19 +16,19 @@ use std::marker::Model;
 use thiserror::Error;
 
 /// The key names no record: its record was taken out, or there was none.
-#[derive(Debug, Clone, Copy, Error)]
+#[derive(Debug, Clone, Copy, PartialEq, Eq, Error)]
 #[error("no record has this key")]
 pub struct StaleKey {}
 
 /// Names a record: the index of its slot, and how often the slot was taken before.
-#[derive(Clone, Copy)]
+#[derive(Debug, Clone, Copy, PartialEq, Eq)]
 pub struct Key {
     pub index: usize,
     pub generation: u64,
 }
 
 /// Where one record is at a time: how often it was taken before, and whether it is taken.
-#[derive(Clone, Copy)]
+#[derive(Debug, Clone, Copy, PartialEq, Eq)]
 pub struct Slot {
     pub generation: u64,
     pub taken: bool,

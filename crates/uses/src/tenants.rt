@@ -42,12 +42,12 @@ pub enum LeaseError {
 }
 
 /// The tenant holds no chunk at the place.
-#[derive(Debug, Clone, Copy, Error)]
+#[derive(Debug, Clone, Copy, PartialEq, Eq, Error)]
 #[error("the tenant holds no chunk at this place")]
 pub struct NotHeld {}
 
 /// A chunk that is out, and the number of the tenant that holds it.
-#[derive(Clone, Copy)]
+#[derive(Debug, Clone, Copy, PartialEq, Eq)]
 pub struct Lease {
     pub tenant: usize,
     pub chunk: Chunk,
