@@ -1,205 +1,156 @@
-//! How many buckets a pool holds, and each bucket by its number.
-use super::checks::{self, check};
-use super::fixed::{Fixed, fixed_over};
-use super::layouts::layout;
-use super::pools::pool_over;
+//! How many buckets a pool holds, each bucket by its number, and by how few reads one is found.
+use super::super::ends_unmade;
+use crate::marks::{none_was_asked, refuse_memory};
+use crate::tests::checks::{check, layout};
+use crate::tests::owner::kinds::{fixed_over, pool_over};
 use bb_memory::layout::Layout;
-use bb_memory::pool_allocator::{BaseAllocator, PoolAllocator};
+use bb_memory::pool_allocator::{
+    AllocationError, BaseAllocator, FixedSizePoolAllocator, PoolAllocator,
+};
 use std::alloc::Global;
 use std::process::Abort;
 
+/// What a pool tells of a number and of a place: how many buckets are held, whether there is room, the number's place, the
+/// place's number, and whether a bucket is held there.
+type Told = (u32, bool, Option<usize>, Option<u32>, bool);
+
 /// What is asked of a pool here.
-trait Buckets: Drop {
-    /// Takes a bucket, and tells its place.
-    fn take(&mut self, layout: Layout) -> Option<usize>;
+trait Buckets: BaseAllocator + Drop {
+    fn told(&self, number: u32, place: usize) -> Told;
 
     /// Gives the bucket at a place back, where one is held.
     fn give(&mut self, place: usize) -> bool;
-
-    fn held(&self) -> u32;
-
-    fn room(&self) -> bool;
-
-    fn place(&self, number: u32) -> Option<usize>;
-
-    fn number(&self, place: usize) -> Option<u32>;
 }
 
 impl Buckets for PoolAllocator<Global> {
-    fn take(&mut self, layout: Layout) -> Option<usize> {
-        Some(self.allocate(layout).ok()?.place())
+    fn told(&self, number: u32, place: usize) -> Told {
+        let (at, number) = (self.place_at(number), self.number_at(place));
+        (
+            self.held_buckets(),
+            self.has_room(),
+            at,
+            number,
+            self.holds(place),
+        )
     }
 
     fn give(&mut self, place: usize) -> bool {
         self.deallocate_if_held(place)
     }
-
-    fn held(&self) -> u32 {
-        self.held_buckets()
-    }
-
-    fn room(&self) -> bool {
-        self.has_room()
-    }
-
-    fn place(&self, number: u32) -> Option<usize> {
-        self.place_at(number)
-    }
-
-    fn number(&self, place: usize) -> Option<u32> {
-        self.number_at(place)
-    }
 }
 
-impl<const N: usize> Buckets for Fixed<N> {
-    fn take(&mut self, layout: Layout) -> Option<usize> {
-        Some(self.allocate(layout).ok()?.place())
+impl<const N: usize> Buckets for FixedSizePoolAllocator<N> {
+    fn told(&self, number: u32, place: usize) -> Told {
+        let (at, number) = (self.place_at(number), self.number_at(place));
+        (
+            self.held_buckets(),
+            self.has_room(),
+            at,
+            number,
+            self.holds(place),
+        )
     }
 
     fn give(&mut self, place: usize) -> bool {
         self.deallocate_if_held(place)
     }
+}
 
-    fn held(&self) -> u32 {
-        self.held_buckets()
-    }
+/// Where the bucket of a number begins.
+fn place_of(number: u32) -> usize {
+    4096 + 16 * number as usize
+}
 
-    fn room(&self) -> bool {
-        self.has_room()
-    }
-
-    fn place(&self, number: u32) -> Option<usize> {
-        self.place_at(number)
-    }
-
-    fn number(&self, place: usize) -> Option<u32> {
-        self.number_at(place)
+/// At places where no bucket of 16 bytes begins, of so many from 4096 on, none is held, has a number, or is given back.
+fn has_none_between(rt: &impl Abort, pool: &mut impl Buckets, buckets: u32, held: u32) {
+    let room = held < buckets;
+    for wild in &[
+        0usize,
+        1,
+        4080,
+        4095,
+        4097,
+        4104,
+        4111,
+        usize::MAX,
+        place_of(buckets),
+    ] {
+        check(
+            rt,
+            pool.told(buckets, *wild) == (held, room, None, None, false),
+        );
+        check(
+            rt,
+            !pool.give(*wild) && pool.told(u32::MAX, *wild) == (held, room, None, None, false),
+        );
     }
 }
 
-/// A place where no bucket of 16 bytes begins from 4096 on, of so many of them, gives none back.
-fn gives_nothing_back(rt: &impl Abort, pool: &mut impl Buckets, buckets: u32) {
-    let held = pool.held();
-    let end = 4096 + 16 * buckets as usize;
-    for wild in &[0usize, 1, 4080, 4095, 4097, 4104, 4111, usize::MAX, end] {
-        check(rt, !pool.give(*wild));
-    }
-    check(rt, pool.held() == held);
-}
-
-/// A bucket is taken from a pool that has room, so many are held then, and its place is told.
-fn takes(rt: &impl Abort, pool: &mut impl Buckets, layout: Layout, held: u32) -> usize {
-    check(rt, pool.room());
-    match pool.take(layout) {
-        Some(place) if pool.held() == held => place,
-        _ => panic!(rt; "no bucket is free, or the count is another"),
+/// Each of so many buckets is known by its number, whether it is held or not; so many are.
+fn tells(rt: &impl Abort, pool: &impl Buckets, buckets: u32, held: u32) {
+    for number in 0..buckets {
+        let (count, room, place, told, _) = pool.told(number, place_of(number));
+        check(rt, (count, room) == (held, held < buckets));
+        check(rt, (place, told) == (Some(place_of(number)), Some(number)));
     }
 }
 
-/// A pool that holds all of so many buckets has no room, and a refusal changes nothing.
-fn is_full(rt: &impl Abort, pool: &mut impl Buckets, layout: Layout, buckets: u32) {
-    check(rt, pool.take(layout).is_none());
-    check(rt, pool.held() == buckets && !pool.room());
-}
-
-/// The bucket at a place goes back once, and so many are held then. A second return changes nothing.
-fn goes_back(rt: &impl Abort, pool: &mut impl Buckets, place: usize, held: u32) {
-    check(rt, pool.give(place) && pool.held() == held && pool.room());
-    check(rt, !pool.give(place) && pool.held() == held);
-}
-
-/// All of so many buckets that are held, at these places, go back in turn.
-fn go_back(rt: &impl Abort, pool: &mut impl Buckets, places: &[usize], buckets: u32) {
-    let mut left = buckets;
-    for place in places {
-        left = left.saturating_sub(1);
-        goes_back(rt, pool, *place, left);
+/// Whether the bucket of a number wasn't taken before. Then it is.
+fn is_new(taken: &mut [bool], number: Option<u32>) -> bool {
+    let Some(number) = number else {
+        return false;
+    };
+    match taken.get_mut(number as usize) {
+        Some(taken) if !*taken => {
+            *taken = true;
+            true
+        }
+        _ => false,
     }
-    check(rt, pool.held() == 0);
+}
+
+/// A bucket is taken that wasn't, and one more is held then.
+fn takes(rt: &impl Abort, pool: &mut impl Buckets, bucket: Layout, taken: &mut [bool], held: u32) {
+    let Ok(chunk) = pool.allocate(bucket) else {
+        panic!(rt; "no bucket is free");
+    };
+    let (count, room, _, number, holds) = pool.told(0, chunk.place());
+    check(
+        rt,
+        (count, room, holds) == (held, (held as usize) < taken.len(), true),
+    );
+    check(rt, is_new(taken, number));
+}
+
+/// The bucket of a number goes back once, and so many are held then. A second return changes nothing.
+fn goes_back(rt: &impl Abort, pool: &mut impl Buckets, number: u32, held: u32) {
+    let place = place_of(number);
+    check(rt, pool.told(number, place).4 && pool.give(place));
+    let told = (held, true, Some(place), Some(number), false);
+    check(rt, pool.told(number, place) == told);
+    check(rt, !pool.give(place) && pool.told(number, place) == told);
 }
 
 /// A pool of so many buckets holds none at first, one more after each taking, as many after a refusal, and one less after each
 /// return. It has room but where it holds them all. A return of what isn't held changes nothing.
-fn counts(rt: &impl Abort, alloc: Global, pool: &mut impl Buckets, buckets: u32) {
+fn counts(rt: &impl Abort, alloc: Global, made: Option<impl Buckets>, buckets: u32) {
+    let (Some(mut pool), Ok(mut taken)) = (made, vec![in alloc; false; buckets as usize]) else {
+        return ends_unmade(rt, alloc);
+    };
+    refuse_memory(alloc);
     let sixteen = layout(rt, 16, 8);
-    let mut places = Vec::new(alloc);
-    check(rt, pool.held() == 0);
+    tells(rt, &pool, buckets, 0);
     for held in 0..buckets {
-        let place = takes(rt, pool, sixteen, held + 1);
-        check(rt, places.push(place).is_ok());
+        takes(rt, &mut pool, sixteen, &mut taken, held + 1);
     }
-    is_full(rt, pool, sixteen, buckets);
-    gives_nothing_back(rt, pool, buckets);
-    go_back(rt, pool, &places, buckets);
-}
-
-/// A number has a place, which is this one.
-fn is_place(told: Option<usize>, wanted: usize) -> bool {
-    match told {
-        Some(place) => place == wanted,
-        None => false,
-    }
-}
-
-/// A place has a number, which is this one.
-fn is_number(told: Option<u32>, wanted: u32) -> bool {
-    match told {
-        Some(number) => number == wanted,
-        None => false,
-    }
-}
-
-/// The bucket of this number is at this place, and no other one.
-fn is_at(pool: &impl Buckets, number: u32, place: usize) -> bool {
-    is_place(pool.place(number), place) && is_number(pool.number(place), number)
-}
-
-/// No bucket begins at any of these places.
-fn none_begins_at(rt: &impl Abort, pool: &impl Buckets, places: &[usize]) {
-    for place in places {
-        check(rt, pool.number(*place).is_none());
-    }
-}
-
-/// The place of the bucket at a place, by its number.
-fn place_by_number(pool: &impl Buckets, place: usize) -> Option<usize> {
-    pool.place(pool.number(place)?)
-}
-
-/// A bucket at a place has the same number once it is free.
-fn keeps_its_number(rt: &impl Abort, pool: &mut impl Buckets, place: usize) {
-    let number = pool.number(place);
-    check(rt, is_place(place_by_number(pool, place), place));
-    check(rt, pool.give(place));
-    check(rt, pool.number(place) == number);
-}
-
-/// Buckets of 16 bytes at 4096, so many of them, are known by their numbers, held or not.
-fn tells_numbers(rt: &impl Abort, pool: &mut impl Buckets, buckets: u32) {
+    check(rt, pool.allocate(sixteen).is_err());
+    tells(rt, &pool, buckets, buckets);
+    has_none_between(rt, &mut pool, buckets, buckets);
     for number in 0..buckets {
-        let place = 4096 + 16 * number as usize;
-        check(rt, is_at(pool, number, place));
-        none_begins_at(rt, pool, &[place + 1, place + 15]);
+        goes_back(rt, &mut pool, number, buckets - number - 1);
     }
-    check(rt, pool.place(buckets).is_none());
-    check(rt, pool.place(u32::MAX).is_none());
-    let end = 4096 + 16 * buckets as usize;
-    none_begins_at(rt, pool, &[end, 4095, 0, 4080, usize::MAX]);
-    if let Some(place) = pool.take(layout(rt, 16, 8)) {
-        keeps_its_number(rt, pool, place);
-    }
-}
-
-/// A pool that was made counts so many buckets, and tells their numbers.
-fn counts_and_tells(
-    rt: &impl Abort,
-    alloc: Global,
-    made: Result<impl Buckets, &'static str>,
-    buckets: u32,
-) {
-    let mut pool = checks::made(rt, made);
-    counts(rt, alloc, &mut pool, buckets);
-    tells_numbers(rt, &mut pool, buckets);
+    has_none_between(rt, &mut pool, buckets, 0);
+    check(rt, none_was_asked(alloc));
 }
 
 /// More buckets than a word has bits; one; and none.
@@ -208,7 +159,7 @@ fn pools_count_what_they_hold(rt: HostRuntime) {
     let sixteen = layout(&rt, 16, 8);
     for buckets in &[70u32, 64, 1, 0] {
         let pool = pool_over(rt.alloc(), sixteen, 4096, 16 * *buckets as usize);
-        counts_and_tells(&rt, rt.alloc(), pool, *buckets);
+        counts(&rt, rt.alloc(), pool, *buckets);
     }
 }
 
@@ -218,6 +169,62 @@ fn fixed_counts_what_it_holds(rt: HostRuntime) {
     let sixteen = layout(&rt, 16, 8);
     for (region, buckets) in &[(70usize, 66u32), (66, 66), (3, 3), (0, 0)] {
         let pool = fixed_over::<66>(sixteen, 4096, 16 * *region);
-        counts_and_tells(&rt, rt.alloc(), pool, *buckets);
+        counts(&rt, rt.alloc(), pool, *buckets);
     }
+}
+
+/// A request for a byte is answered with the place of a bucket, or refused where this is none; one index word is read for it.
+fn by_one_read(rt: &impl Abort, pool: &mut PoolAllocator<Global>, place: Option<usize>) {
+    let given = pool.allocate(layout(rt, 1, 1));
+    check(rt, pool.last_reads() == 1);
+    match (given, place) {
+        (Ok(chunk), Some(place)) => check(rt, (chunk.place(), chunk.len()) == (place, 1)),
+        (given, _) => check(
+            rt,
+            place.is_none() && given == Err(AllocationError::OutOfMemory),
+        ),
+    }
+}
+
+/// All buckets of one byte from 4096 on, so many of them, are taken, each once; no further one is. Then the one at a place goes back,
+/// by the call for its place alone or not, and is the one that is given next.
+fn fills(rt: &impl Abort, alloc: Global, buckets: u32, place: usize, by_place: bool) {
+    let byte = layout(rt, 1, 1);
+    let made = pool_over(alloc, byte, 4096, buckets as usize);
+    let (Some(mut pool), Ok(mut taken)) = (made, vec![in alloc; false; buckets as usize]) else {
+        return ends_unmade(rt, alloc);
+    };
+    refuse_memory(alloc);
+    for held in 0..buckets {
+        takes(rt, &mut pool, byte, &mut taken, held + 1);
+        check(rt, pool.last_reads() == 1);
+    }
+    by_one_read(rt, &mut pool, None);
+    if !pool.holds(place) {
+        panic!(rt; "the bucket isn't held");
+    }
+    if by_place {
+        pool.deallocate_bucket(place);
+    } else {
+        pool.deallocate(place, byte);
+    }
+    by_one_read(rt, &mut pool, Some(place));
+    by_one_read(rt, &mut pool, None);
+    check(rt, none_was_asked(alloc));
+}
+
+#[test]
+fn pool_sixty_five_buckets(rt: HostRuntime) {
+    fills(&rt, rt.alloc(), 65, 4160, true);
+}
+
+#[test]
+fn pool_two_full_words(rt: HostRuntime) {
+    fills(&rt, rt.alloc(), 128, 4100, false);
+}
+
+/// A pool whose buckets are all held is found so by one read, and so is a bucket that is given back.
+#[test]
+fn one_read_where_all_are_held(rt: HostRuntime) {
+    fills(&rt, rt.alloc(), 320, 4300, true);
 }
