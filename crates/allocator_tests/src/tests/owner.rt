@@ -191,7 +191,7 @@ impl<A: Allocator + Drop> Owner<A> {
 
     /// The replies of a run over any allocator, with resizes or without.
     fn run_any(&mut self, run: Run, commands: &[Command]) -> Result<Vec<Reply>, AllocError> {
-        if run.resizes() {
+        if run.resizes {
             run_full(&mut self.allocator, &mut self.live, commands)
         } else {
             self.run_base(commands)
@@ -289,7 +289,7 @@ fn are_replies(run: Run, replies: &[Reply], calls: &str) -> bool {
             first = told.1[0];
         }
         let (call, wanted) = call_and_answer(call);
-        let is_passed = layouts(call).is_some() && !run.resizes();
+        let is_passed = layouts(call).is_some() && !run.resizes;
         if !may_be_told(
             told,
             if is_passed { alone("passed") } else { wanted },

@@ -1,10 +1,11 @@
 //! Readers and writers that fail at each of their calls in turn, and a script that is cut at every byte.
+use super::check_at;
 use super::table::answer;
-use super::{check, check_at};
 use script_runner::{Status, run};
 use std::alloc::Global;
 use std::io;
 use std::io::{ErrorKind, Read, Write};
+use std::process::Abort;
 
 /// The script of row `bump-first-path`, and what it writes.
 const FIRST_PATH: &[u8] =
@@ -81,35 +82,22 @@ impl Write for CountingWriter<'_> {
     }
 }
 
-/// How the run ends, and what it writes, where reading the script of row `bump-first-path` fails so at one of its reads.
-fn answer_to_failed_read(alloc: Global, fails_read: (usize, ErrorKind)) -> (Status, Vec<u8>) {
+/// Reading the script of row `bump-first-path` fails so at one of its reads; then the run ends so, and these lines are written.
+fn reads(
+    rt: &impl Abort,
+    alloc: Global,
+    fails_read: (usize, ErrorKind),
+    ends: Status,
+    lines: &[u8],
+) {
     let mut told = Vec::new(alloc);
     let reader = FailingReader {
         left: FIRST_PATH,
         reads: 0,
         fails_read,
     };
-    let status = run(alloc, reader, &mut told);
-    (status, told)
-}
-
-/// How the run of a script ends over a writer that fails so, and how many writes and flushes it made. What was written is kept.
-fn run_counting(
-    alloc: Global,
-    script: &[u8],
-    fails_write: (usize, ErrorKind),
-    fails_flush: bool,
-    kept: &mut Vec<u8>,
-) -> (Status, usize, usize) {
-    let mut writer = CountingWriter {
-        kept,
-        writes: 0,
-        flushes: 0,
-        fails_write,
-        fails_flush,
-    };
-    let status = run(alloc, script, &mut writer);
-    (status, writer.writes, writer.flushes)
+    let ended = run(alloc, reader, &mut told);
+    check_at(rt, ended == ends && told.as_slice() == lines, fails_read.0);
 }
 
 #[test]
@@ -119,64 +107,58 @@ fn reader_fails_in_turn(rt: HostRuntime) {
         (ErrorKind::OutOfMemory, Status::OutOfMemory),
     ] {
         // The script has 70 bytes: ten reads, and one that finds its end.
-        for fails_at in 1..12 {
-            let (ended, told) = answer_to_failed_read(rt.alloc(), (fails_at, kind));
-            check_at(&rt, ended == status && told.len() == 0, fails_at);
+        for at in 1..12 {
+            reads(&rt, rt.alloc(), (at, kind), status, b"");
         }
-        let (ended, told) = answer_to_failed_read(rt.alloc(), (12, kind));
-        check(
-            &rt,
-            ended == Status::Done && told.as_slice() == FIRST_PATH_LINES,
-        );
+        reads(&rt, rt.alloc(), (12, kind), Status::Done, FIRST_PATH_LINES);
     }
+    let interrupted = (3, ErrorKind::Interrupted);
+    reads(&rt, rt.alloc(), interrupted, Status::Done, FIRST_PATH_LINES);
 }
 
-#[test]
-fn an_interrupted_read_is_tried_again(rt: HostRuntime) {
-    let (ended, told) = answer_to_failed_read(rt.alloc(), (3, ErrorKind::Interrupted));
-    check(
-        &rt,
-        ended == Status::Done && told.as_slice() == FIRST_PATH_LINES,
-    );
+/// A writer fails so at one of its writes or its flushes; then the run ends so, after so many writes and flushes. Before it flushes,
+/// it has written each byte once.
+fn writes(
+    rt: &impl Abort,
+    alloc: Global,
+    (script, lines): (&[u8], &[u8]),
+    (fails_write, fails_flush): ((usize, ErrorKind), bool),
+    ends: (Status, usize, usize),
+) {
+    let mut told = Vec::new(alloc);
+    let mut writer = CountingWriter {
+        kept: &mut told,
+        writes: 0,
+        flushes: 0,
+        fails_write,
+        fails_flush,
+    };
+    let status = run(alloc, script, &mut writer);
+    let CountingWriter {
+        writes,
+        flushes,
+        ..
+    } = writer;
+    check_at(rt, (status, writes, flushes) == ends, fails_write.0);
+    check_at(rt, lines.starts_with(told.as_slice()), fails_write.0);
+    check_at(rt, flushes == 0 || told.len() == lines.len(), fails_write.0);
 }
 
-/// A failed write is the last one, and an interrupted one is tried again.
+/// A failed write is the last call, and an interrupted one is tried again. No write has number 0.
 #[test]
 fn writer_fails_in_turn(rt: HostRuntime) {
-    for (script, lines, writes, status) in SCRIPTS {
-        for at in 1..writes + 1 {
-            let mut kept = Vec::new(rt.alloc());
-            let told = run_counting(rt.alloc(), script, (at, ErrorKind::Other), false, &mut kept);
-            check_at(&rt, (told.0, told.1) == (Status::OutputFailed, at), at);
-            check_at(&rt, lines.starts_with(kept.as_slice()), at);
-            kept.clear();
-            let told = run_counting(
-                rt.alloc(),
-                script,
-                (at, ErrorKind::Interrupted),
-                false,
-                &mut kept,
-            );
-            check_at(&rt, told == (status, writes + 1, 1), at);
-            check_at(&rt, kept.as_slice() == lines, at);
+    let failed = Status::OutputFailed;
+    for (script, lines, count, status) in SCRIPTS {
+        let texts = (script, lines);
+        for at in 1..count + 1 {
+            let fault = ((at, ErrorKind::Other), false);
+            writes(&rt, rt.alloc(), texts, fault, (failed, at, 0));
+            let fault = ((at, ErrorKind::Interrupted), false);
+            writes(&rt, rt.alloc(), texts, fault, (status, count + 1, 1));
         }
-    }
-}
-
-/// Each byte is written once, and flushed; a failed flush fails the output. No write has number 0.
-#[test]
-fn flushes_once_and_may_fail(rt: HostRuntime) {
-    for (script, lines, writes, status) in SCRIPTS {
-        for (fails_flush, ends) in [(false, status), (true, Status::OutputFailed)] {
-            let mut kept = Vec::new(rt.alloc());
-            let told = run_counting(
-                rt.alloc(),
-                script,
-                (0, ErrorKind::Other),
-                fails_flush,
-                &mut kept,
-            );
-            check(&rt, told == (ends, writes, 1) && kept.as_slice() == lines);
+        for (fails_flush, ends) in [(false, status), (true, failed)] {
+            let fault = ((0, ErrorKind::Other), fails_flush);
+            writes(&rt, rt.alloc(), texts, fault, (ends, count, 1));
         }
     }
 }

@@ -22,20 +22,12 @@ pub(crate) type Figures = [usize; 6];
 /// The replies of a run, or none where memory was refused.
 pub(crate) type Replies = Result<Vec<Reply>, AllocError>;
 
-/// By which function commands are run: without resizes or with them, over any allocator or by an allocator's name.
-#[derive(Debug, Clone, Copy, PartialEq, Eq)]
-pub(crate) enum Run {
-    Base,
-    Full,
-    BaseByName,
-    FullByName,
-}
-
-impl Run {
-    /// Whether resizes are carried out. Where not, they are passed over.
-    pub(crate) fn resizes(self) -> bool {
-        self == Run::Full || self == Run::FullByName
-    }
+/// How commands are run: with resizes, or without them, where they are passed over; by the function of an allocator's name, or by
+/// that over any allocator.
+#[derive(Debug, Clone, Copy)]
+pub(crate) struct Run {
+    pub(crate) resizes: bool,
+    pub(crate) by_name: bool,
 }
 
 /// A kind of allocator.
@@ -60,9 +52,10 @@ impl Kind for BumpAllocator {
     }
 
     fn run(owner: &mut Owner<Self>, run: Run, commands: &[Command]) -> Replies {
-        match run {
-            Run::Base | Run::Full => owner.run_base(commands),
-            _ => run_bump(&mut owner.allocator, &mut owner.live, commands),
+        if run.by_name {
+            run_bump(&mut owner.allocator, &mut owner.live, commands)
+        } else {
+            owner.run_base(commands)
         }
     }
 }
@@ -80,10 +73,10 @@ impl Kind for OneChunkAllocator {
     }
 
     fn run(owner: &mut Owner<Self>, run: Run, commands: &[Command]) -> Replies {
-        match run {
-            Run::Base | Run::Full => owner.run_any(run, commands),
-            Run::BaseByName => run_base_one_chunk(&mut owner.allocator, &mut owner.live, commands),
-            Run::FullByName => run_one_chunk(&mut owner.allocator, &mut owner.live, commands),
+        match (run.by_name, run.resizes) {
+            (false, _) => owner.run_any(run, commands),
+            (true, false) => run_base_one_chunk(&mut owner.allocator, &mut owner.live, commands),
+            (true, true) => run_one_chunk(&mut owner.allocator, &mut owner.live, commands),
         }
     }
 }
@@ -104,10 +97,10 @@ impl Kind for PoolAllocator<Global> {
     }
 
     fn run(owner: &mut Owner<Self>, run: Run, commands: &[Command]) -> Replies {
-        match run {
-            Run::Base | Run::Full => owner.run_any(run, commands),
-            Run::BaseByName => run_base_pool(&mut owner.allocator, &mut owner.live, commands),
-            Run::FullByName => run_pool(&mut owner.allocator, &mut owner.live, commands),
+        match (run.by_name, run.resizes) {
+            (false, _) => owner.run_any(run, commands),
+            (true, false) => run_base_pool(&mut owner.allocator, &mut owner.live, commands),
+            (true, true) => run_pool(&mut owner.allocator, &mut owner.live, commands),
         }
     }
 }
@@ -130,10 +123,10 @@ impl<const N: usize> Kind for FixedSizePoolAllocator<N> {
     }
 
     fn run(owner: &mut Owner<Self>, run: Run, commands: &[Command]) -> Replies {
-        match run {
-            Run::Base | Run::Full => owner.run_any(run, commands),
-            Run::BaseByName => run_base_fixed_pool(&mut owner.allocator, &mut owner.live, commands),
-            Run::FullByName => run_fixed_pool(&mut owner.allocator, &mut owner.live, commands),
+        match (run.by_name, run.resizes) {
+            (false, _) => owner.run_any(run, commands),
+            (true, false) => run_base_fixed_pool(&mut owner.allocator, &mut owner.live, commands),
+            (true, true) => run_fixed_pool(&mut owner.allocator, &mut owner.live, commands),
         }
     }
 }

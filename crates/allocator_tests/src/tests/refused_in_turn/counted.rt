@@ -1,6 +1,4 @@
 //! An allocator that counts the requests that are made of it, where a test can read it.
-ghost use Rattle.std.specs.Prelude.{◌≡◌};
-
 use bb_memory::allocator::{
     AllocationError, AllocationGrowError, AllocationShrinkError, Allocator, BaseAllocator,
 };
@@ -11,16 +9,8 @@ use std::rc::Rc;
 /// Answers as the allocator that it has, and counts the requests for chunks in a cell.
 #[derive(Drop)]
 pub(super) struct Counted<A: Allocator + Drop> {
-    inner: A,
-    requests: Rc<Cell<usize>>,
-}
-
-impl<A: Allocator + Drop> Counted<A> {
-    pub(super) fn new(inner: A, requests: Rc<Cell<usize>>) -> Counted<A>
-        ensures { result.inner ≡ inner }
-    {
-        Counted { inner, requests }
-    }
+    pub(super) inner: A,
+    pub(super) requests: Rc<Cell<usize>>,
 }
 
 impl<A: Allocator + Drop> BaseAllocator for Counted<A> {

@@ -5,9 +5,10 @@ ghost use Rattle.std.specs.Prelude.{[]};
 use super::counted::Counted;
 use super::ends_unmade;
 use crate::marks::{none_was_asked, refuse_memory, some_was_refused};
-use crate::tests::checks::{check, check_at, layout};
+use crate::tests::checks::{check, chunk, layout};
 use crate::tests::owner::kinds::pool_over;
 use bb_memory::allocator::{AllocationError, Allocator};
+use bb_memory::layout::Chunk;
 use bb_memory::one_chunk_allocator::OneChunkAllocator;
 use loan_book::{LoanBook, LoanCall, LoanError, LoanReply, run_loans};
 use std::alloc::{AllocError, Global};
@@ -20,67 +21,42 @@ fn one_book(alloc: Global) -> LoanBook<OneChunkAllocator> {
     LoanBook::new(alloc, OneChunkAllocator::new(4096, 64))
 }
 
-/// What is told of a book's reply. A chunk is its place and its length.
-#[derive(Clone, Copy, PartialEq, Eq)]
-enum Told {
-    /// The sample of this id, with its chunk.
-    Loaned(u64, usize, usize),
-    Published,
-    Returned,
-    Kept,
-    Out(bool),
-    Refused(LoanError),
-}
-
-impl Told {
-    fn of(reply: LoanReply) -> Told {
-        match reply {
-            LoanReply::Loaned(id, chunk) => Told::Loaned(id, chunk.place(), chunk.len()),
-            LoanReply::Published => Told::Published,
-            LoanReply::Returned => Told::Returned,
-            LoanReply::Kept => Told::Kept,
-            LoanReply::Out(is_out) => Told::Out(is_out),
-            LoanReply::Refused(error) => Told::Refused(error),
-        }
-    }
-
-    /// Whether the sample of this id was loaned.
-    fn is_loan(self, id: u64) -> bool {
-        match self {
-            Told::Loaned(loaned, _, _) => loaned == id,
-            _ => false,
-        }
+/// Whether the sample of this id was loaned.
+fn is_loan(reply: LoanReply, id: u64) -> bool {
+    match reply {
+        LoanReply::Loaned(loaned, _) => loaned == id,
+        _ => false,
     }
 }
 
 /// A loan book as rows call it: over any allocator, and without a clause.
 trait Book: Drop {
-    /// What is told of the reply to a call.
-    fn told(&mut self, call: LoanCall) -> Told;
+    /// The reply to a call.
+    fn reply(&mut self, call: LoanCall) -> LoanReply;
 
     /// The replies to a list of calls, by the run.
     fn replies(&mut self, alloc: Global, calls: &[LoanCall]) -> Result<Vec<LoanReply>, AllocError>;
 }
 
 impl<A: Allocator + Drop> Book for LoanBook<A> {
-    fn told(&mut self, call: LoanCall) -> Told {
+    fn reply(&mut self, call: LoanCall) -> LoanReply {
         // This does nothing: it is a proof.
         self.law();
         match call {
             LoanCall::Loan(size) => match self.loan(size) {
-                Ok((id, chunk)) => Told::Loaned(id, chunk.place(), chunk.len()),
-                Err(error) => Told::Refused(error),
+                Ok((id, chunk)) => LoanReply::Loaned(id, chunk),
+                Err(error) => LoanReply::Refused(error),
             },
             LoanCall::Publish(id, readers) => match self.publish(id, readers) {
-                Ok(()) => Told::Published,
-                Err(error) => Told::Refused(error),
+                Ok(()) => LoanReply::Published,
+                Err(error) => LoanReply::Refused(error),
             },
             LoanCall::GiveBack(id) => match self.give_back(id) {
-                Ok(true) => Told::Returned,
-                Ok(false) => Told::Kept,
-                Err(error) => Told::Refused(error),
+                Ok(true) => LoanReply::Returned,
+                Ok(false) => LoanReply::Kept,
+                Err(error) => LoanReply::Refused(error),
             },
-            LoanCall::IsOut(id) => Told::Out(self.is_out(id)),
+            LoanCall::IsOut(id) => LoanReply::Out(self.is_out(id)),
         }
     }
 
@@ -89,83 +65,80 @@ impl<A: Allocator + Drop> Book for LoanBook<A> {
     }
 }
 
-/// A call, and what has to be told of the reply.
-type LoanRow = (LoanCall, Told);
-
-/// Makes the calls of a table in turn. Each has to be answered as the table has it.
-fn keeps(rt: &impl Abort, book: &mut impl Book, table: &[LoanRow]) {
-    for (number, (call, wanted)) in table.iter().enumerate() {
-        check_at(rt, book.told(*call) == *wanted, "a book", number);
-    }
+/// The sample of this id is out, or isn't.
+fn check_out(rt: &impl Abort, book: &mut impl Book, id: u64, is_out: bool) {
+    check(
+        rt,
+        book.reply(LoanCall::IsOut(id)) == LoanReply::Out(is_out),
+    );
 }
 
 /// A loan that is refused for its record's memory.
-const NO_MEMORY: Told = Told::Refused(LoanError::Memory);
+const NO_MEMORY: LoanReply = LoanReply::Refused(LoanError::Memory);
 
 /// What a loan is refused with where its allocator is full.
-const FULL: Told = Told::Refused(LoanError::Allocation(AllocationError::OutOfMemory));
+const FULL: LoanReply = LoanReply::Refused(LoanError::Allocation(AllocationError::OutOfMemory));
 
 /// What is told of a loan, at a second trial where memory was refused. The refusal leaves just the samples below an id out.
-fn at_last(rt: &impl Abort, alloc: Global, book: &mut impl Book, size: usize, id: u64) -> Told {
-    let told = book.told(LoanCall::Loan(size));
+fn at_last(
+    rt: &impl Abort,
+    alloc: Global,
+    book: &mut impl Book,
+    size: usize,
+    id: u64,
+) -> LoanReply {
+    let told = book.reply(LoanCall::Loan(size));
     if told != NO_MEMORY {
         return told;
     }
     check(rt, some_was_refused(alloc));
     for other in 0..17 {
-        keeps(rt, book, &[(LoanCall::IsOut(other), Told::Out(other < id))]);
+        check_out(rt, book, other, other < id);
     }
-    book.told(LoanCall::Loan(size))
+    book.reply(LoanCall::Loan(size))
 }
 
 /// Row `loan-over-one-chunk`.
 #[test]
 fn loan_over_one_chunk(rt: HostRuntime) {
+    let whole = chunk(&rt, 4096, 64);
     let mut book = one_book(rt.alloc());
     let first = at_last(&rt, rt.alloc(), &mut book, 64, 0);
-    check(&rt, first == Told::Loaned(0, 4096, 64));
+    check(&rt, first == LoanReply::Loaned(0, whole));
     check(&rt, at_last(&rt, rt.alloc(), &mut book, 1, 1) == FULL);
-    let table = [
-        (LoanCall::GiveBack(0), Told::Returned),
-        (LoanCall::Loan(1), Told::Loaned(1, 4096, 64)),
-    ];
-    keeps(&rt, &mut book, &table);
-}
-
-/// Whether this is told of the replies.
-fn are_told(replies: &[LoanReply], wanted: &[Told]) -> bool {
-    for (reply, wanted) in replies.iter().zip(wanted) {
-        if Told::of(*reply) != *wanted {
-            return false;
-        }
-    }
-    replies.len() == wanted.len()
+    check(
+        &rt,
+        book.reply(LoanCall::GiveBack(0)) == LoanReply::Returned,
+    );
+    check(
+        &rt,
+        book.reply(LoanCall::Loan(1)) == LoanReply::Loaned(1, whole),
+    );
 }
 
 /// Whether a loan and its return, as one list, are made. None is where memory was refused: for the list of replies, or behind it
 /// for the record of the loan, which no id is used up for.
-fn is_made(alloc: Global, book: &mut impl Book) -> Option<bool> {
+fn is_made(alloc: Global, book: &mut impl Book, whole: Chunk) -> Option<bool> {
     let calls = [LoanCall::Loan(1), LoanCall::GiveBack(0)];
     let replies = book.replies(alloc, &calls).ok()?;
-    if are_told(
-        &replies,
-        &[NO_MEMORY, Told::Refused(LoanError::UnknownSample)],
-    ) {
+    let unmade = [NO_MEMORY, LoanReply::Refused(LoanError::UnknownSample)];
+    if replies.as_slice() == unmade.as_slice() {
         return None;
     }
-    Some(are_told(&replies, &[Told::Loaned(0, 4096, 64), Told::Returned]))
+    let made = [LoanReply::Loaned(0, whole), LoanReply::Returned];
+    Some(replies.as_slice() == made.as_slice())
 }
 
 /// The list is made, at a second trial where memory was refused.
 #[test]
 fn a_list_of_loans_keeps_the_book(rt: HostRuntime) {
-    let mut book = one_book(rt.alloc());
-    if let Some(is_made) = is_made(rt.alloc(), &mut book) {
+    let (mut book, whole) = (one_book(rt.alloc()), chunk(&rt, 4096, 64));
+    if let Some(is_made) = is_made(rt.alloc(), &mut book, whole) {
         return check(&rt, is_made);
     }
     check(&rt, some_was_refused(rt.alloc()));
-    keeps(&rt, &mut book, &[(LoanCall::IsOut(0), Told::Out(false))]);
-    check(&rt, is_made(rt.alloc(), &mut book) == Some(true));
+    check_out(&rt, &mut book, 0, false);
+    check(&rt, is_made(rt.alloc(), &mut book, whole) == Some(true));
 }
 
 /// Sixteen samples are loaned, of which some go back, some are published, and others take their buckets. A loan that is refused
@@ -177,49 +150,47 @@ fn sixteen_go_back(
     requests: &Rc<Cell<usize>>,
 ) {
     for id in 0..16 {
-        check(rt, at_last(rt, alloc, book, 64, id).is_loan(id));
+        check(rt, is_loan(at_last(rt, alloc, book, 64, id), id));
         check(rt, requests.replace(0) == 1);
     }
     leave(rt, book, &[7, 0, 15, 8, 1, 14]);
     for id in &[2, 3, 4, 5, 6, 9, 10, 11, 12, 13] {
-        let publishes = [
-            (LoanCall::IsOut(*id), Told::Out(true)),
-            (LoanCall::Publish(*id, 2), Told::Published),
-        ];
-        keeps(rt, book, &publishes);
+        check_out(rt, book, *id, true);
+        check(
+            rt,
+            book.reply(LoanCall::Publish(*id, 2)) == LoanReply::Published,
+        );
     }
     for id in 16..22 {
-        check(rt, book.told(LoanCall::Loan(64)).is_loan(id));
+        check(rt, is_loan(book.reply(LoanCall::Loan(64)), id));
     }
-    keeps(rt, book, &[(LoanCall::GiveBack(9), Told::Kept)]);
+    check(rt, book.reply(LoanCall::GiveBack(9)) == LoanReply::Kept);
     leave(rt, book, &[9]);
 }
 
 /// Each of these samples leaves by one return.
 fn leave(rt: &impl Abort, book: &mut impl Book, ids: &[u64]) {
     for id in ids {
-        let leaves = [
-            (LoanCall::GiveBack(*id), Told::Returned),
-            (LoanCall::IsOut(*id), Told::Out(false)),
-        ];
-        keeps(rt, book, &leaves);
+        check(
+            rt,
+            book.reply(LoanCall::GiveBack(*id)) == LoanReply::Returned,
+        );
+        check_out(rt, book, *id, false);
     }
 }
 
 /// The same, over an allocator of sixteen chunks of 64 bytes, which has nothing out.
-fn sixteen_of<A: Allocator + Drop>(rt: &impl Abort, alloc: Global, allocator: A)
-    requires { A.stands_for allocator [] }
+fn sixteen_of<A: Allocator + Drop>(rt: &impl Abort, alloc: Global, inner: A)
+    requires { A.stands_for inner [] }
 {
-    let Ok(requests) = Rc::new(alloc, Cell::new(0)) else {
+    let Ok(counter) = Rc::new(alloc, Cell::new(0)) else {
         return ends_unmade(rt, alloc);
     };
-    match requests.clone() {
-        Ok(counter) => {
-            let mut book = LoanBook::new(alloc, Counted::new(allocator, counter));
-            sixteen_go_back(rt, alloc, &mut book, &requests);
-        }
-        Err(_) => ends_unmade(rt, alloc),
-    }
+    let Ok(requests) = counter.clone() else {
+        return ends_unmade(rt, alloc);
+    };
+    let mut book = LoanBook::new(alloc, Counted { inner, requests });
+    sixteen_go_back(rt, alloc, &mut book, &counter);
 }
 
 #[test]
@@ -233,27 +204,24 @@ fn samples_go_back_in_any_order(rt: HostRuntime) {
 /// A book of which one sample is out keeps the table without a request for memory, and so is a book of its own made.
 pub(super) fn keeps_without_memory(rt: &impl Abort, alloc: Global) {
     let mut book = one_book(alloc);
-    if !book.told(LoanCall::Loan(64)).is_loan(0) {
+    if !is_loan(book.reply(LoanCall::Loan(64)), 0) {
         return ends_unmade(rt, alloc);
     }
     refuse_memory(alloc);
-    let table = [
+    for (call, wanted) in [
         (
             LoanCall::Publish(1, 2),
-            Told::Refused(LoanError::UnknownSample),
+            LoanReply::Refused(LoanError::UnknownSample),
         ),
-        (LoanCall::Publish(0, 2), Told::Published),
-        (LoanCall::GiveBack(0), Told::Kept),
-        (LoanCall::IsOut(0), Told::Out(true)),
-        (LoanCall::GiveBack(0), Told::Returned),
-        (LoanCall::IsOut(0), Told::Out(false)),
-    ];
-    keeps(rt, &mut book, &table);
-    keeps(
-        rt,
-        &mut one_book(alloc),
-        &[(LoanCall::IsOut(0), Told::Out(false))],
-    );
+        (LoanCall::Publish(0, 2), LoanReply::Published),
+        (LoanCall::GiveBack(0), LoanReply::Kept),
+        (LoanCall::IsOut(0), LoanReply::Out(true)),
+        (LoanCall::GiveBack(0), LoanReply::Returned),
+        (LoanCall::IsOut(0), LoanReply::Out(false)),
+    ] {
+        check(rt, book.reply(call) == wanted);
+    }
+    check_out(rt, &mut one_book(alloc), 0, false);
     check(rt, none_was_asked(alloc));
 }
 
@@ -264,12 +232,12 @@ pub(super) fn is_full<A: Allocator + Drop>(rt: &impl Abort, alloc: Global, alloc
 {
     let mut book = LoanBook::new(alloc, allocator);
     for id in 0..16 {
-        if !book.told(LoanCall::Loan(64)).is_loan(id) {
+        if !is_loan(book.reply(LoanCall::Loan(64)), id) {
             return ends_unmade(rt, alloc);
         }
     }
     let refused = refuse_memory(alloc);
-    let told = book.told(LoanCall::Loan(64));
+    let told = book.reply(LoanCall::Loan(64));
     check(rt, none_was_asked(alloc) != refused);
     check(
         rt,
@@ -279,5 +247,5 @@ pub(super) fn is_full<A: Allocator + Drop>(rt: &impl Abort, alloc: Global, alloc
             FULL
         },
     );
-    check(rt, book.told(LoanCall::Loan(64)) == FULL);
+    check(rt, book.reply(LoanCall::Loan(64)) == FULL);
 }

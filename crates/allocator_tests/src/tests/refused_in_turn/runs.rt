@@ -26,7 +26,8 @@ a resize and a release of a fixed pool | four 4096 16 16 8 | alloc 8 8 = chunk 4
 #[test]
 fn runs_of_each_kind(rt: HostRuntime) {
     for row in RUNS.split('\n') {
-        for run in [Run::Base, Run::Full, Run::BaseByName, Run::FullByName] {
+        for (resizes, by_name) in [(false, false), (false, true), (true, false), (true, true)] {
+            let run = Run { resizes, by_name };
             keeps_row(&rt, rt.alloc(), Some(run), row);
         }
     }

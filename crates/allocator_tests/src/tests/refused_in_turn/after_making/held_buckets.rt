@@ -24,14 +24,9 @@ trait Buckets: BaseAllocator + Drop {
 
 impl Buckets for PoolAllocator<Global> {
     fn told(&self, number: u32, place: usize) -> Told {
+        let (held, room) = (self.held_buckets(), self.has_room());
         let (at, number) = (self.place_at(number), self.number_at(place));
-        (
-            self.held_buckets(),
-            self.has_room(),
-            at,
-            number,
-            self.holds(place),
-        )
+        (held, room, at, number, self.holds(place))
     }
 
     fn give(&mut self, place: usize) -> bool {
@@ -41,14 +36,9 @@ impl Buckets for PoolAllocator<Global> {
 
 impl<const N: usize> Buckets for FixedSizePoolAllocator<N> {
     fn told(&self, number: u32, place: usize) -> Told {
+        let (held, room) = (self.held_buckets(), self.has_room());
         let (at, number) = (self.place_at(number), self.number_at(place));
-        (
-            self.held_buckets(),
-            self.has_room(),
-            at,
-            number,
-            self.holds(place),
-        )
+        (held, room, at, number, self.holds(place))
     }
 
     fn give(&mut self, place: usize) -> bool {
@@ -63,26 +53,10 @@ fn place_of(number: u32) -> usize {
 
 /// At places where no bucket of 16 bytes begins, of so many from 4096 on, none is held, has a number, or is given back.
 fn has_none_between(rt: &impl Abort, pool: &mut impl Buckets, buckets: u32, held: u32) {
-    let room = held < buckets;
-    for wild in &[
-        0usize,
-        1,
-        4080,
-        4095,
-        4097,
-        4104,
-        4111,
-        usize::MAX,
-        place_of(buckets),
-    ] {
-        check(
-            rt,
-            pool.told(buckets, *wild) == (held, room, None, None, false),
-        );
-        check(
-            rt,
-            !pool.give(*wild) && pool.told(u32::MAX, *wild) == (held, room, None, None, false),
-        );
+    let (told, end) = ((held, held < buckets, None, None, false), place_of(buckets));
+    for wild in &[0, 1, 4080, 4095, 4097, 4104, 4111, usize::MAX, end] {
+        check(rt, pool.told(buckets, *wild) == told && !pool.give(*wild));
+        check(rt, pool.told(u32::MAX, *wild) == told);
     }
 }
 
@@ -115,11 +89,8 @@ fn takes(rt: &impl Abort, pool: &mut impl Buckets, bucket: Layout, taken: &mut [
         panic!(rt; "no bucket is free");
     };
     let (count, room, _, number, holds) = pool.told(0, chunk.place());
-    check(
-        rt,
-        (count, room, holds) == (held, (held as usize) < taken.len(), true),
-    );
-    check(rt, is_new(taken, number));
+    check(rt, count == held && room == ((held as usize) < taken.len()));
+    check(rt, holds && is_new(taken, number));
 }
 
 /// The bucket of a number goes back once, and so many are held then. A second return changes nothing.
@@ -134,7 +105,10 @@ fn goes_back(rt: &impl Abort, pool: &mut impl Buckets, number: u32, held: u32) {
 /// A pool of so many buckets holds none at first, one more after each taking, as many after a refusal, and one less after each
 /// return. It has room but where it holds them all. A return of what isn't held changes nothing.
 fn counts(rt: &impl Abort, alloc: Global, made: Option<impl Buckets>, buckets: u32) {
-    let (Some(mut pool), Ok(mut taken)) = (made, vec![in alloc; false; buckets as usize]) else {
+    let Some(mut pool) = made else {
+        return ends_unmade(rt, alloc);
+    };
+    let Ok(mut taken) = vec![in alloc; false; buckets as usize] else {
         return ends_unmade(rt, alloc);
     };
     refuse_memory(alloc);
@@ -190,8 +164,10 @@ fn by_one_read(rt: &impl Abort, pool: &mut PoolAllocator<Global>, place: Option<
 /// by the call for its place alone or not, and is the one that is given next.
 fn fills(rt: &impl Abort, alloc: Global, buckets: u32, place: usize, by_place: bool) {
     let byte = layout(rt, 1, 1);
-    let made = pool_over(alloc, byte, 4096, buckets as usize);
-    let (Some(mut pool), Ok(mut taken)) = (made, vec![in alloc; false; buckets as usize]) else {
+    let Some(mut pool) = pool_over(alloc, byte, 4096, buckets as usize) else {
+        return ends_unmade(rt, alloc);
+    };
+    let Ok(mut taken) = vec![in alloc; false; buckets as usize] else {
         return ends_unmade(rt, alloc);
     };
     refuse_memory(alloc);

@@ -70,11 +70,10 @@ fn takes_a_bucket(rt: &impl Abort, world: &mut PoolWorld, parties: u32) {
 #[test]
 fn worlds_of_many_parties(rt: HostRuntime) {
     for parties in [2, 65, 100, 1000] {
-        let made = (
-            bump_world(rt.alloc(), parties),
-            pool_world(rt.alloc(), parties),
-        );
-        let (Some(mut bump), Some(mut pool)) = made else {
+        let Some(mut bump) = bump_world(rt.alloc(), parties) else {
+            return ends_unmade(&rt, rt.alloc());
+        };
+        let Some(mut pool) = pool_world(rt.alloc(), parties) else {
             return ends_unmade(&rt, rt.alloc());
         };
         refuse_memory(rt.alloc());
