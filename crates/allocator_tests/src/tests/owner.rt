@@ -92,7 +92,7 @@ impl<A: BaseAllocator + Drop> Owner<A> {
         let mut place = self.region.start_address();
         for byte in self.region.bytes() {
             let is_zero = start <= place && place - start < count;
-            if (*byte == 0) != is_zero || *byte % 7 != 0 {
+            if *byte != if is_zero { 0 } else { 7 } {
                 return false;
             }
             place = place.saturating_add(1);
@@ -341,10 +341,8 @@ impl<A: Kind> Owner<A> {
             return Ok(replies);
         }
         check(rt, some_was_refused(alloc));
-        check(
-            rt,
-            self.live.len() == 0 && self.allocator.figures() == before,
-        );
+        check(rt, self.live.len() == 0);
+        check(rt, self.allocator.figures() == before);
         A::run(self, run, commands)
     }
 

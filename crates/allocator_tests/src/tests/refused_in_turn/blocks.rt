@@ -24,7 +24,7 @@ fn made(answer: Result<HeapBlock, AllocationError>) -> Answered {
 
 /// The block whose bytes count from this one.
 fn counted(mut block: HeapBlock, first: usize) -> HeapBlock {
-    let mut number = first as u8;
+    let mut number = u8::try_from(first).unwrap_or(0);
     for byte in block.as_mut_slice() {
         *byte = number;
         number = number.saturating_add(1);
@@ -108,23 +108,27 @@ fn at_last(
     answered(&heap, block, call)
 }
 
+/// The bytes that a call leaves, or none.
+fn bytes_behind(call: &str) -> &str {
+    call.split_once(" with ").unwrap_or((call, "")).1
+}
+
 /// Makes the calls of a row in turn, each of which has to be answered as the row has it.
 fn keeps(rt: &impl Abort, alloc: Global, start: Option<HeapBlock>, row: &str) -> Option<HeapBlock> {
     let (name, calls) = field_and_rest(row);
     let mut block = start;
-    let mut before = "";
-    for (number, call) in calls.split("; ").enumerate() {
-        let (_, bytes) = call.split_once(" with ").unwrap_or((call, ""));
-        let (call, wanted) = call_and_answer(call);
-        let (next, told) = at_last(rt, alloc, block, call, before);
-        check_at(
-            rt,
-            told.0 == wanted.0 && has_bytes(&next, bytes),
-            name,
-            number,
-        );
+    let mut earlier = calls.split("; ");
+    for (number, text) in calls.split("; ").enumerate() {
+        let before = if number == 0 {
+            ""
+        } else {
+            earlier.next().unwrap_or("")
+        };
+        let (call, wanted) = call_and_answer(text);
+        let (next, told) = at_last(rt, alloc, block, call, bytes_behind(before));
+        check_at(rt, told.0 == wanted.0, name, number);
+        check_at(rt, has_bytes(&next, bytes_behind(text)), name, number);
         block = next;
-        before = bytes;
     }
     block
 }

@@ -10,7 +10,9 @@ use crate::tests::owner::kinds::pool_over;
 use bb_memory::allocator::{AllocationError, Allocator};
 use bb_memory::layout::Chunk;
 use bb_memory::one_chunk_allocator::OneChunkAllocator;
-use loan_book::{LoanBook, LoanCall, LoanError, LoanReply, run_loans};
+use loan_book::LoanCall::{self, GiveBack, IsOut, Loan, Publish};
+use loan_book::LoanReply::{self, Kept, Loaned, Out, Published, Refused, Returned};
+use loan_book::{LoanBook, LoanError, run_loans};
 use std::alloc::{AllocError, Global};
 use std::cell::Cell;
 use std::process::Abort;
@@ -24,7 +26,7 @@ fn one_book(alloc: Global) -> LoanBook<OneChunkAllocator> {
 /// Whether the sample of this id was loaned.
 fn is_loan(reply: LoanReply, id: u64) -> bool {
     match reply {
-        LoanReply::Loaned(loaned, _) => loaned == id,
+        Loaned(loaned, _) => loaned == id,
         _ => false,
     }
 }
@@ -43,20 +45,20 @@ impl<A: Allocator + Drop> Book for LoanBook<A> {
         // This does nothing: it is a proof.
         self.law();
         match call {
-            LoanCall::Loan(size) => match self.loan(size) {
-                Ok((id, chunk)) => LoanReply::Loaned(id, chunk),
-                Err(error) => LoanReply::Refused(error),
+            Loan(size) => match self.loan(size) {
+                Ok((id, chunk)) => Loaned(id, chunk),
+                Err(error) => Refused(error),
             },
-            LoanCall::Publish(id, readers) => match self.publish(id, readers) {
-                Ok(()) => LoanReply::Published,
-                Err(error) => LoanReply::Refused(error),
+            Publish(id, readers) => match self.publish(id, readers) {
+                Ok(()) => Published,
+                Err(error) => Refused(error),
             },
-            LoanCall::GiveBack(id) => match self.give_back(id) {
-                Ok(true) => LoanReply::Returned,
-                Ok(false) => LoanReply::Kept,
-                Err(error) => LoanReply::Refused(error),
+            GiveBack(id) => match self.give_back(id) {
+                Ok(true) => Returned,
+                Ok(false) => Kept,
+                Err(error) => Refused(error),
             },
-            LoanCall::IsOut(id) => LoanReply::Out(self.is_out(id)),
+            IsOut(id) => Out(self.is_out(id)),
         }
     }
 
@@ -65,19 +67,21 @@ impl<A: Allocator + Drop> Book for LoanBook<A> {
     }
 }
 
+/// A call is replied so.
+fn replies(rt: &impl Abort, book: &mut impl Book, call: LoanCall, wanted: LoanReply) {
+    check(rt, book.reply(call) == wanted);
+}
+
 /// The sample of this id is out, or isn't.
-fn check_out(rt: &impl Abort, book: &mut impl Book, id: u64, is_out: bool) {
-    check(
-        rt,
-        book.reply(LoanCall::IsOut(id)) == LoanReply::Out(is_out),
-    );
+fn is_out(rt: &impl Abort, book: &mut impl Book, id: u64, is_out: bool) {
+    replies(rt, book, IsOut(id), Out(is_out));
 }
 
 /// A loan that is refused for its record's memory.
-const NO_MEMORY: LoanReply = LoanReply::Refused(LoanError::Memory);
+const NO_MEMORY: LoanReply = Refused(LoanError::Memory);
 
 /// What a loan is refused with where its allocator is full.
-const FULL: LoanReply = LoanReply::Refused(LoanError::Allocation(AllocationError::OutOfMemory));
+const FULL: LoanReply = Refused(LoanError::Allocation(AllocationError::OutOfMemory));
 
 /// What is told of a loan, at a second trial where memory was refused. The refusal leaves just the samples below an id out.
 fn at_last(
@@ -87,15 +91,15 @@ fn at_last(
     size: usize,
     id: u64,
 ) -> LoanReply {
-    let told = book.reply(LoanCall::Loan(size));
+    let told = book.reply(Loan(size));
     if told != NO_MEMORY {
         return told;
     }
     check(rt, some_was_refused(alloc));
     for other in 0..17 {
-        check_out(rt, book, other, other < id);
+        is_out(rt, book, other, other < id);
     }
-    book.reply(LoanCall::Loan(size))
+    book.reply(Loan(size))
 }
 
 /// Row `loan-over-one-chunk`.
@@ -104,28 +108,22 @@ fn loan_over_one_chunk(rt: HostRuntime) {
     let whole = chunk(&rt, 4096, 64);
     let mut book = one_book(rt.alloc());
     let first = at_last(&rt, rt.alloc(), &mut book, 64, 0);
-    check(&rt, first == LoanReply::Loaned(0, whole));
+    check(&rt, first == Loaned(0, whole));
     check(&rt, at_last(&rt, rt.alloc(), &mut book, 1, 1) == FULL);
-    check(
-        &rt,
-        book.reply(LoanCall::GiveBack(0)) == LoanReply::Returned,
-    );
-    check(
-        &rt,
-        book.reply(LoanCall::Loan(1)) == LoanReply::Loaned(1, whole),
-    );
+    replies(&rt, &mut book, GiveBack(0), Returned);
+    replies(&rt, &mut book, Loan(1), Loaned(1, whole));
 }
 
 /// Whether a loan and its return, as one list, are made. None is where memory was refused: for the list of replies, or behind it
 /// for the record of the loan, which no id is used up for.
 fn is_made(alloc: Global, book: &mut impl Book, whole: Chunk) -> Option<bool> {
-    let calls = [LoanCall::Loan(1), LoanCall::GiveBack(0)];
+    let calls = [Loan(1), GiveBack(0)];
     let replies = book.replies(alloc, &calls).ok()?;
-    let unmade = [NO_MEMORY, LoanReply::Refused(LoanError::UnknownSample)];
+    let unmade = [NO_MEMORY, Refused(LoanError::UnknownSample)];
     if replies.as_slice() == unmade.as_slice() {
         return None;
     }
-    let made = [LoanReply::Loaned(0, whole), LoanReply::Returned];
+    let made = [Loaned(0, whole), Returned];
     Some(replies.as_slice() == made.as_slice())
 }
 
@@ -137,7 +135,7 @@ fn a_list_of_loans_keeps_the_book(rt: HostRuntime) {
         return check(&rt, is_made);
     }
     check(&rt, some_was_refused(rt.alloc()));
-    check_out(&rt, &mut book, 0, false);
+    is_out(&rt, &mut book, 0, false);
     check(&rt, is_made(rt.alloc(), &mut book, whole) == Some(true));
 }
 
@@ -155,27 +153,21 @@ fn sixteen_go_back(
     }
     leave(rt, book, &[7, 0, 15, 8, 1, 14]);
     for id in &[2, 3, 4, 5, 6, 9, 10, 11, 12, 13] {
-        check_out(rt, book, *id, true);
-        check(
-            rt,
-            book.reply(LoanCall::Publish(*id, 2)) == LoanReply::Published,
-        );
+        is_out(rt, book, *id, true);
+        replies(rt, book, Publish(*id, 2), Published);
     }
     for id in 16..22 {
-        check(rt, is_loan(book.reply(LoanCall::Loan(64)), id));
+        check(rt, is_loan(book.reply(Loan(64)), id));
     }
-    check(rt, book.reply(LoanCall::GiveBack(9)) == LoanReply::Kept);
+    replies(rt, book, GiveBack(9), Kept);
     leave(rt, book, &[9]);
 }
 
 /// Each of these samples leaves by one return.
 fn leave(rt: &impl Abort, book: &mut impl Book, ids: &[u64]) {
     for id in ids {
-        check(
-            rt,
-            book.reply(LoanCall::GiveBack(*id)) == LoanReply::Returned,
-        );
-        check_out(rt, book, *id, false);
+        replies(rt, book, GiveBack(*id), Returned);
+        is_out(rt, book, *id, false);
     }
 }
 
@@ -204,24 +196,21 @@ fn samples_go_back_in_any_order(rt: HostRuntime) {
 /// A book of which one sample is out keeps the table without a request for memory, and so is a book of its own made.
 pub(super) fn keeps_without_memory(rt: &impl Abort, alloc: Global) {
     let mut book = one_book(alloc);
-    if !is_loan(book.reply(LoanCall::Loan(64)), 0) {
+    if !is_loan(book.reply(Loan(64)), 0) {
         return ends_unmade(rt, alloc);
     }
     refuse_memory(alloc);
     for (call, wanted) in [
-        (
-            LoanCall::Publish(1, 2),
-            LoanReply::Refused(LoanError::UnknownSample),
-        ),
-        (LoanCall::Publish(0, 2), LoanReply::Published),
-        (LoanCall::GiveBack(0), LoanReply::Kept),
-        (LoanCall::IsOut(0), LoanReply::Out(true)),
-        (LoanCall::GiveBack(0), LoanReply::Returned),
-        (LoanCall::IsOut(0), LoanReply::Out(false)),
+        (Publish(1, 2), Refused(LoanError::UnknownSample)),
+        (Publish(0, 2), Published),
+        (GiveBack(0), Kept),
+        (IsOut(0), Out(true)),
+        (GiveBack(0), Returned),
+        (IsOut(0), Out(false)),
     ] {
-        check(rt, book.reply(call) == wanted);
+        replies(rt, &mut book, call, wanted);
     }
-    check_out(rt, &mut one_book(alloc), 0, false);
+    is_out(rt, &mut one_book(alloc), 0, false);
     check(rt, none_was_asked(alloc));
 }
 
@@ -232,20 +221,18 @@ pub(super) fn is_full<A: Allocator + Drop>(rt: &impl Abort, alloc: Global, alloc
 {
     let mut book = LoanBook::new(alloc, allocator);
     for id in 0..16 {
-        if !is_loan(book.reply(LoanCall::Loan(64)), id) {
+        if !is_loan(book.reply(Loan(64)), id) {
             return ends_unmade(rt, alloc);
         }
     }
     let refused = refuse_memory(alloc);
-    let told = book.reply(LoanCall::Loan(64));
+    let reply = book.reply(Loan(64));
     check(rt, none_was_asked(alloc) != refused);
-    check(
-        rt,
-        told == if some_was_refused(alloc) {
-            NO_MEMORY
-        } else {
-            FULL
-        },
-    );
-    check(rt, book.reply(LoanCall::Loan(64)) == FULL);
+    let wanted = if some_was_refused(alloc) {
+        NO_MEMORY
+    } else {
+        FULL
+    };
+    check(rt, reply == wanted);
+    replies(rt, &mut book, Loan(64), FULL);
 }

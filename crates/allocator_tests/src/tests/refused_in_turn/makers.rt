@@ -12,6 +12,12 @@ use bb_memory::shared_bump::{BumpParty, SharedBumpAllocator};
 use std::alloc::Global;
 use std::process::Abort;
 
+/// This is want of memory, which was refused.
+fn is_want(rt: &impl Abort, alloc: Global, error: AllocationError) {
+    check(rt, error == AllocationError::OutOfMemory);
+    check(rt, some_was_refused(alloc));
+}
+
 /// A pool over 1,024 bytes at 4097. Where memory was refused, the uninitialised one comes back, and is initialised once more.
 fn initialised(rt: &impl Abort, alloc: Global, bucket: Layout) -> Option<PoolAllocator<Global>> {
     if !PoolAllocator::can_make(bucket, 4097, 1024) {
@@ -20,10 +26,7 @@ fn initialised(rt: &impl Abort, alloc: Global, bucket: Layout) -> Option<PoolAll
     match PoolAllocator::new_uninit(bucket, 4097, 1024).init(alloc) {
         Ok(pool) => Some(pool),
         Err((handed_back, error)) => {
-            check(
-                rt,
-                error == AllocationError::OutOfMemory && some_was_refused(alloc),
-            );
+            is_want(rt, alloc, error);
             handed_back.init(alloc).ok()
         }
     }
@@ -49,7 +52,7 @@ fn used_by_last(
         Some(mut last) => {
             check(
                 rt,
-                (last.number(), shared.used_space(&mut last)) == (1, used),
+                last.number() == 1 && shared.used_space(&mut last) == used,
             );
         }
         None => panic!(rt; "there is no party"),
@@ -64,10 +67,7 @@ fn share_hands_the_bump_back(rt: HostRuntime) {
     let handed_back = match bump.share(rt.alloc(), 2) {
         Ok((shared, parties)) => return used_by_last(&rt, &shared, parties, 48),
         Err((bump, error)) => {
-            check(
-                &rt,
-                error == AllocationError::OutOfMemory && some_was_refused(rt.alloc()),
-            );
+            is_want(&rt, rt.alloc(), error);
             bump
         }
     };

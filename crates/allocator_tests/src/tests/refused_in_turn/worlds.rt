@@ -27,10 +27,8 @@ fn replayed_by_bump(
         return told;
     }
     check(rt, some_was_refused(alloc));
-    check(
-        rt,
-        world.step(BumpStep::Load { party: 0 }) == BumpOutcome::Loaded(0),
-    );
+    let loaded = world.step(BumpStep::Load { party: 0 });
+    check(rt, loaded == BumpOutcome::Loaded(0));
     world.replay(steps).expect(rt, "there is memory again")
 }
 

@@ -151,12 +151,9 @@ fn fixed_counts_what_it_holds(rt: HostRuntime) {
 fn by_one_read(rt: &impl Abort, pool: &mut PoolAllocator<Global>, place: Option<usize>) {
     let given = pool.allocate(layout(rt, 1, 1));
     check(rt, pool.last_reads() == 1);
-    match (given, place) {
-        (Ok(chunk), Some(place)) => check(rt, (chunk.place(), chunk.len()) == (place, 1)),
-        (given, _) => check(
-            rt,
-            place.is_none() && given == Err(AllocationError::OutOfMemory),
-        ),
+    match given {
+        Ok(chunk) => check(rt, chunk.len() == 1 && Some(chunk.place()) == place),
+        Err(error) => check(rt, error == AllocationError::OutOfMemory && place.is_none()),
     }
 }
 

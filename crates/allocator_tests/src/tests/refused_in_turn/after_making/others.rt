@@ -52,18 +52,14 @@ fn takes_a_chunk(rt: &impl Abort, world: &mut BumpWorld, parties: u32) {
 /// The same of a bucket.
 fn takes_a_bucket(rt: &impl Abort, world: &mut PoolWorld, parties: u32) {
     let party = parties.saturating_sub(1);
-    check(
-        rt,
-        world.step(PoolStep::Try { party: parties }) == PoolOutcome::Passed,
-    );
-    check(
-        rt,
-        world.step(PoolStep::Try { party }) == PoolOutcome::Takes(0),
-    );
-    check(
-        rt,
-        (world.holder(0), world.holder(1)) == (Some(party), None),
-    );
+    for (party, outcome) in [
+        (parties, PoolOutcome::Passed),
+        (party, PoolOutcome::Takes(0)),
+    ] {
+        check(rt, world.step(PoolStep::Try { party }) == outcome);
+    }
+    let holders = (world.holder(0), world.holder(1));
+    check(rt, holders == (Some(party), None));
 }
 
 /// Worlds of few parties, and of more than a script has.

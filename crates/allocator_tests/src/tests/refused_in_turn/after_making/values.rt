@@ -1,9 +1,9 @@
 //! Layouts, roundings, chunks, regions and what is known without an allocator, each row by its name; and the laws.
 use super::super::ends_unmade;
 use crate::marks::{none_was_asked, refuse_memory};
-use crate::tests::checks::{check, layout};
+use crate::tests::checks::{check, check_at};
 use crate::tests::owner::kinds::fixed_over;
-use crate::tests::rows::layout_of;
+use crate::tests::rows::{Words, alone, call_and_answer, field_and_rest, layout_of, yes_or_no};
 use bb_memory::bump_allocator::{BumpAllocator, bump_object_law};
 use bb_memory::heap_allocator::heap_law;
 use bb_memory::layout::{Chunk, Layout, given_law, layout_law, least_place_law, round_up};
@@ -16,65 +16,85 @@ use bb_memory::shared_bump::{shared_bump_law, shared_bump_meeting_law};
 use bb_memory::shared_pool::{shared_pool_law, shared_pool_meeting_law};
 use bb_memory::steps::{bump_log_theorem, bump_theorem, pool_log_theorem, pool_theorem};
 use loan_book::one_answer_law;
-use std::process::Abort;
 
-#[test]
-fn layouts_accepted_and_refused(rt: HostRuntime) {
-    refuse_memory(rt.alloc());
-    for (size, align, accepted) in &[
-        (0, 9223372036854775808, true),
-        (1, 9223372036854775808, false),
-        (8, 3, false),
-        (8, 0, false),
-        (9223372036854775807, 1, true),
-        (9223372036854775807, 2, false),
-    ] {
-        let figures = layout_of(*size, *align).map(|layout| (layout.size(), layout.align()));
-        let wanted = if *accepted {
-            Some((*size, *align))
-        } else {
-            None
-        };
-        check(&rt, figures == wanted);
+const ROWS: &str = "\
+layouts-accepted-and-refused | layout 0 9223372036854775808 = layout 0 9223372036854775808; \
+    layout 1 9223372036854775808 = none; layout 8 3 = none; layout 8 0 = none; \
+    layout 9223372036854775807 1 = layout 9223372036854775807 1; layout 9223372036854775807 2 = none
+round-up-three-answers | round-up 4097 8 = is 4104; round-up 0 8 = is 0; round-up 18446744073709551615 2 = none
+a chunk's place, length and end | chunk 4096 10 = chunk 4096 10 4106; chunk 0 10 = none; \
+    chunk 18446744073709551615 0 = chunk 18446744073709551615 0 18446744073709551615; chunk 18446744073709551615 1 = none
+memory-size-eight-buckets | memory-size 1024 0 128 8 = is 64
+memory-size-unrounded, also of pool-rounded-stride | memory-size 64 0 12 8 = is 40
+memory-size-below-one-bucket | memory-size 100 0 128 8 = is 0
+where a bump can be made | bump 1 18446744073709551614 = yes; bump 1 18446744073709551615 = no; bump 0 8 = no
+where a one chunk can be made | one 1 18446744073709551614 = yes; one 1 18446744073709551615 = no; one 0 8 = no
+where a region can be | region 1 18446744073709551614 = yes; region 1 18446744073709551615 = no; region 0 8 = no
+where pools can be made | pool 4096 1024 128 8 = yes; pool 0 8 128 8 = no; pool 4096 4294967295 1 1 = no; \
+    fixed 4096 1024 128 8 = yes; fixed 4096 18446744073709551615 128 8 = no";
+
+fn number_or_none(number: Option<usize>) -> Words<'static> {
+    match number {
+        Some(number) => ("is", [number, 0, 0, 0, 0, 0]),
+        None => alone("none"),
     }
-    check(&rt, none_was_asked(rt.alloc()));
 }
 
-#[test]
-fn round_up_three_answers(rt: HostRuntime) {
-    refuse_memory(rt.alloc());
-    for (number, align, rounded) in &[
-        (4097, 8, Some(4104)),
-        (0, 8, Some(0)),
-        (usize::MAX, 2, None),
-    ] {
-        check(
-            &rt,
-            round_up(*number, layout(&rt, 0, *align).align()) == *rounded,
-        );
+/// How many bytes are enough for a pool's index words, where the call's conditions hold.
+fn memory_size(bucket: Layout, size: usize) -> Option<usize> {
+    if bucket.size() == 0 || size / bucket.size() > u32::MAX as usize {
+        return None;
     }
-    check(&rt, none_was_asked(rt.alloc()));
+    Some(PoolAllocator::memory_size(bucket, size))
 }
 
-/// What a chunk tells: its place, its length and its end.
-fn numbers_of(place: usize, len: usize) -> Option<(usize, usize, usize)> {
-    let chunk = Chunk::new(place, len)?;
-    Some((chunk.place(), chunk.len(), chunk.end()))
+/// Whether a pool can be made. What it is made of takes no memory.
+fn is_made(bucket: Layout, start: usize, size: usize) -> bool {
+    if !PoolAllocator::can_make(bucket, start, size) {
+        return false;
+    }
+    let _ = PoolAllocator::new_uninit(bucket, start, size);
+    true
+}
+
+/// Makes a call of a start and a size, of a pool with its bucket's layout.
+fn answered(word: &str, start: usize, size: usize, bucket: Layout) -> Words<'static> {
+    match word {
+        "memory-size" => number_or_none(memory_size(bucket, start)),
+        "bump" => yes_or_no(BumpAllocator::can_make(start, size)),
+        "one" => yes_or_no(OneChunkAllocator::can_make(start, size)),
+        "region" => yes_or_no(Region::can_make(start, size)),
+        "pool" => yes_or_no(is_made(bucket, start, size)),
+        "fixed" => yes_or_no(fixed_over::<4>(bucket, start, size).is_some()),
+        _ => alone("passed"),
+    }
+}
+
+/// Makes a call.
+fn answer(call: Words<'_>) -> Words<'static> {
+    let [first, second, third, fourth, ..] = call.1;
+    let bucket = layout_of(third, fourth).unwrap_or(Layout::empty());
+    match (call.0, layout_of(first, second), layout_of(0, second)) {
+        ("layout", Some(layout), _) => ("layout", [layout.size(), layout.align(), 0, 0, 0, 0]),
+        ("layout", None, _) => alone("none"),
+        ("round-up", _, Some(layout)) => number_or_none(round_up(first, layout.align())),
+        ("chunk", _, _) => match Chunk::new(first, second) {
+            Some(chunk) => ("chunk", [chunk.place(), chunk.len(), chunk.end(), 0, 0, 0]),
+            None => alone("none"),
+        },
+        (word, _, _) => answered(word, first, second, bucket),
+    }
 }
 
 #[test]
-fn chunks(rt: HostRuntime) {
+fn values(rt: HostRuntime) {
     refuse_memory(rt.alloc());
-    for (place, len, end) in &[
-        (4096, 10, Some(4106)),
-        (0, 10, None),
-        (usize::MAX, 0, Some(usize::MAX)),
-        (usize::MAX, 1, None),
-    ] {
-        check(
-            &rt,
-            numbers_of(*place, *len) == end.map(|end| (*place, *len, end)),
-        );
+    for row in ROWS.split('\n') {
+        let (name, calls) = field_and_rest(row);
+        for (number, call) in calls.split("; ").enumerate() {
+            let (call, wanted) = call_and_answer(call);
+            check_at(&rt, answer(call) == wanted, name, number);
+        }
     }
     check(&rt, none_was_asked(rt.alloc()));
 }
@@ -96,51 +116,6 @@ fn a_region(rt: HostRuntime) {
     check(&rt, region.bytes() == [7, 7, 1, 5, 3, 7, 7, 7].as_slice());
     region.zero(chunk);
     check(&rt, region.bytes() == [7, 7, 0, 0, 0, 7, 7, 7].as_slice());
-    check(&rt, none_was_asked(rt.alloc()));
-}
-
-/// How many bytes are enough for a pool's index words, where the call's conditions hold.
-fn memory_size(bucket: Layout, size: usize) -> Option<usize> {
-    if bucket.size() == 0 || size / bucket.size() > u32::MAX as usize {
-        return None;
-    }
-    Some(PoolAllocator::memory_size(bucket, size))
-}
-
-/// Rows `memory-size-eight-buckets`, `memory-size-unrounded`, also of `pool-rounded-stride`, and `memory-size-below-one-bucket`:
-/// the last has no bucket.
-#[test]
-fn memory_sizes(rt: HostRuntime) {
-    refuse_memory(rt.alloc());
-    for (bucket, size, bytes) in &[(128, 1024, 64), (12, 64, 40), (128, 100, 0)] {
-        check(
-            &rt,
-            memory_size(layout(&rt, *bucket, 8), *size) == Some(*bytes),
-        );
-    }
-    check(&rt, none_was_asked(rt.alloc()));
-}
-
-/// Where allocators can be made. What they are made of takes no memory.
-#[test]
-fn where_allocators_can_be_made(rt: HostRuntime) {
-    refuse_memory(rt.alloc());
-    for (start, size, can) in &[
-        (1, usize::MAX - 1, true),
-        (1, usize::MAX, false),
-        (0, 8, false),
-    ] {
-        check(&rt, BumpAllocator::can_make(*start, *size) == *can);
-        check(&rt, OneChunkAllocator::can_make(*start, *size) == *can);
-        check(&rt, Region::can_make(*start, *size) == *can);
-    }
-    let bucket = layout(&rt, 128, 8);
-    check(&rt, !PoolAllocator::can_make(bucket, 0, 8));
-    if PoolAllocator::can_make(bucket, 4096, 1024) {
-        let _ = PoolAllocator::new_uninit(bucket, 4096, 1024);
-    }
-    check(&rt, fixed_over::<4>(bucket, 4096, usize::MAX).is_none());
-    check(&rt, fixed_over::<4>(bucket, 4096, 1024).is_some());
     check(&rt, none_was_asked(rt.alloc()));
 }
 
