@@ -6,12 +6,12 @@ mod table;
 
 use std::process::Abort;
 
-/// This has to be true.
+/// Checks a condition.
 fn check(rt: &impl Abort, found: bool) {
     assert!(rt; found);
 }
 
-/// This has to be true at a number, which a failure tells.
+/// Checks a condition. A failure names the number.
 fn check_at(rt: &impl Abort, found: bool, at: usize) {
     assert!(rt; found, "at {at}");
 }

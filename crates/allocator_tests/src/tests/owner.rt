@@ -1,5 +1,5 @@
-//! The owner of an allocator, who makes the calls of rows. Each call is behind a function that tells no more of it than its
-//! answer, so that a test's own proof carries none of the library's clauses.
+//! The driver of rows: an owner of an allocator and its region makes a row's calls. Each call stands in a function without
+//! a clause, so a test's own proof carries none of the library's.
 ghost use Rattle.std.specs.Prelude.{◌≡◌, [], ℕ, List, Some, IfOk, IfSome, slice_get, slice_set};
 ghost use Rattle.bb_memory_base.specs.Chunk.{Chunk};
 ghost use Rattle.bb_memory_base.specs.HeldBytes.{held_region};
@@ -22,7 +22,7 @@ use std::process::Abort;
 
 pub(super) mod kinds;
 
-/// The region of so many bytes at a place, each of which is a 7.
+/// Makes a region of `size` bytes at `start`, each a 7.
 fn sevens(alloc: Global, start: usize, size: usize) -> Option<Region>
     ensures { IfSome result (λ region. held_region region ≡ region_at start size) }
 {
@@ -35,13 +35,13 @@ fn sevens(alloc: Global, start: usize, size: usize) -> Option<Region>
     }
 }
 
-/// The owner of an allocator and of its region's bytes, with the chunks that are out.
+/// An allocator, its region and its live chunks.
 #[derive(Drop)]
 pub(super) struct Owner<A: BaseAllocator + Drop> {
     allocator: A,
     region: Region,
     live: Vec<Chunk>,
-    /// The place of the first chunk that was given, or 0.
+    /// The place of the first allocated chunk, or 0.
     first: usize,
 }
 
@@ -59,7 +59,7 @@ impl<A: BaseAllocator + Drop> Model for Owner<A> {
 }
 
 impl<A: BaseAllocator + Drop> Owner<A> {
-    /// The owner of an allocator that has nothing out, over the region of so many bytes at a place, with room for eight chunks.
+    /// Makes the owner of a fresh allocator, with room for eight live chunks.
     fn new(alloc: Global, allocator: A, start: usize, size: usize) -> Option<Owner<A>>
         requires fresh { A.stands_for allocator [] }
         requires region { A.region_of (A.geometry allocator) ≡ region_at start size }
@@ -74,7 +74,7 @@ impl<A: BaseAllocator + Drop> Owner<A> {
         })
     }
 
-    /// Whether the chunks that are out are at just so many places, each a stride behind the one before.
+    /// Returns whether just `count` chunks are live, at `start` and each `stride` bytes further on.
     fn are_at(&self, start: usize, stride: usize, count: usize) -> bool {
         let mut place = start;
         for _ in 0..count {
@@ -86,7 +86,7 @@ impl<A: BaseAllocator + Drop> Owner<A> {
         self.live.len() == count
     }
 
-    /// Whether so many bytes are zero, from this one behind the first chunk's place on, and every other byte is a 7.
+    /// Returns whether `count` bytes are zero, from `behind` bytes after the first chunk's place on, and every other byte is a 7.
     fn has_zeros(&self, behind: usize, count: usize) -> bool {
         let start = self.first.saturating_add(behind);
         let mut place = self.region.start_address();
@@ -134,7 +134,7 @@ impl<A: BaseAllocator + Drop> Owner<A> {
         alone("released")
     }
 
-    /// Makes a call that any allocator has.
+    /// Makes a call of a `BaseAllocator`.
     fn answer_base(&mut self, call: Words<'_>) -> Words<'static> {
         let [first, second, third, ..] = call.1;
         match (
@@ -152,14 +152,14 @@ impl<A: BaseAllocator + Drop> Owner<A> {
         }
     }
 
-    /// The replies of the run over any allocator, without resizes.
+    /// Runs commands by `run_base`.
     fn run_base(&mut self, commands: &[Command]) -> Result<Vec<Reply>, AllocError> {
         run_base(&mut self.allocator, &mut self.live, commands)
     }
 }
 
 impl<A: Allocator + Drop> Owner<A> {
-    /// Makes a call that allocators with resizes have.
+    /// Makes a call of an `Allocator`.
     fn answer_full(&mut self, call: Words<'_>) -> Words<'static> {
         let position = call.1[0];
         match (chunk_at(&self.live, position), layouts(call)) {
@@ -189,7 +189,7 @@ impl<A: Allocator + Drop> Owner<A> {
         }
     }
 
-    /// The replies of a run over any allocator, with resizes or without.
+    /// Runs commands by `run_full`, or by `run_base`.
     fn run_any(&mut self, run: Run, commands: &[Command]) -> Result<Vec<Reply>, AllocError> {
         if run.resizes {
             run_full(&mut self.allocator, &mut self.live, commands)
@@ -199,7 +199,7 @@ impl<A: Allocator + Drop> Owner<A> {
     }
 }
 
-/// Resizes the live chunk at a place, where the call's conditions hold.
+/// Resizes the live chunk at `place`, where the call's conditions hold.
 fn resize<A: Allocator>(
     allocator: &mut A,
     region: &mut Region,
@@ -236,7 +236,7 @@ fn resize<A: Allocator>(
     }
 }
 
-/// The two layouts of a resize.
+/// Returns the old and the new layout of a resize.
 pub(super) fn layouts(call: Words<'_>) -> Option<(Layout, Layout)> {
     let [_, old_size, old_align, new_size, new_align, _] = call.1;
     match call.0 {
@@ -248,14 +248,14 @@ pub(super) fn layouts(call: Words<'_>) -> Option<(Layout, Layout)> {
     }
 }
 
-/// The chunk at a position.
+/// Returns the live chunk at a position.
 fn chunk_at(live: &Vec<Chunk>, position: usize) -> Option<Chunk>
     ensures { IfSome result (λ chunk. slice_get live.now.items position ≡ Some chunk) }
 {
     live.get(position).copied()
 }
 
-/// A call as a command of a run.
+/// Returns a call as a command.
 fn command_of(call: Words<'_>) -> Option<Command> {
     let [first, second, ..] = call.1;
     match (call.0, layouts(call)) {
@@ -267,7 +267,7 @@ fn command_of(call: Words<'_>) -> Option<Command> {
     }
 }
 
-/// The calls as commands of a run, or none where memory was refused.
+/// Returns calls as commands, or `None` where memory was refused.
 fn commands_of(alloc: Global, calls: &str) -> Option<Vec<Command>> {
     let mut commands = Vec::new(alloc);
     for call in calls.split("; ") {
@@ -276,7 +276,7 @@ fn commands_of(alloc: Global, calls: &str) -> Option<Vec<Command>> {
     Some(commands)
 }
 
-/// Whether the calls are replied as they have to be by such a run. One without resizes passes over each.
+/// Returns whether a run replies what a row's calls want. A run without resizes passes over each resize.
 fn are_replies(run: Run, replies: &[Reply], calls: &str) -> bool {
     let mut first = 0;
     let mut left = replies.iter();
@@ -312,7 +312,7 @@ impl<A: Kind> Owner<A> {
         ("are", self.allocator.figures())
     }
 
-    /// Each of these calls, made in turn, is answered as it has to be.
+    /// Makes a row's calls, and checks each answer.
     fn keeps(&mut self, rt: &impl Abort, name: &str, calls: &str) {
         for (number, call) in calls.split("; ").enumerate() {
             let (call, wanted) = call_and_answer(call);
@@ -321,14 +321,14 @@ impl<A: Kind> Owner<A> {
         }
     }
 
-    /// The same, without a request for memory.
+    /// Makes a row's calls, and checks each answer and that no call asks for memory.
     fn keeps_without_memory(&mut self, rt: &impl Abort, alloc: Global, name: &str, calls: &str) {
         refuse_memory(alloc);
         self.keeps(rt, name, calls);
         check(rt, none_was_asked(alloc));
     }
 
-    /// The replies of a run. Where memory was refused at first, the owner has nothing out and the getters answer as before.
+    /// Runs commands, a second time where memory was refused: then nothing is live, and the getters answer as before.
     fn replies(
         &mut self,
         rt: &impl Abort,
@@ -346,7 +346,7 @@ impl<A: Kind> Owner<A> {
         A::run(self, run, commands)
     }
 
-    /// The calls are replied as they have to be by a run, and those behind it are answered so then.
+    /// Makes a row's calls by a run, and checks each reply; then makes the calls of the last field.
     fn keeps_by_run(&mut self, rt: &impl Abort, alloc: Global, run: Run, name: &str, rows: &str) {
         let (calls, then) = field_and_rest(rows);
         let Some(commands) = commands_of(alloc, calls) else {
@@ -360,7 +360,7 @@ impl<A: Kind> Owner<A> {
     }
 }
 
-/// An owner, where one could be made, keeps a row: by calls without a request for memory, or by a run.
+/// Makes a row's calls by a run, or one by one without memory. Ends the test where memory for the owner was refused.
 fn keeps<A: Kind>(
     rt: &impl Abort,
     alloc: Global,

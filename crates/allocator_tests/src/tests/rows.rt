@@ -1,23 +1,23 @@
-//! Rows as text: a row is data, what is called and what is answered. A table has a row on each line, with ` | ` between its
-//! fields: its name, what is made, and its calls, parted by `; `, each with ` = ` in front of its answer.
+//! Rows as text. Each line of a table is a row: `NAME | ALLOCATOR | CALL = ANSWER; CALL = ANSWER`. A call and an answer are
+//! a word and up to six numbers.
 use bb_memory::allocator::{AllocationError, AllocationGrowError, AllocationShrinkError, Reply};
 use bb_memory::layout::{Chunk, Layout};
 
-/// A word and the numbers behind it, and zeros behind these.
+/// A word and its numbers, then zeros.
 pub(super) type Words<'a> = (&'a str, [usize; 6]);
 
-/// The first of the fields of a row, and those behind it.
+/// Splits a row behind its first field.
 pub(super) fn field_and_rest(row: &str) -> (&str, &str) {
     row.split_once(" | ").unwrap_or((row, ""))
 }
 
-/// A call, and its answer.
+/// Parses `CALL = ANSWER`.
 pub(super) fn call_and_answer(call: &str) -> (Words<'_>, Words<'_>) {
     let (call, answer) = call.split_once(" = ").unwrap_or((call, ""));
     (words(call), words(answer))
 }
 
-/// The words of a text.
+/// Parses a word and its numbers.
 pub(super) fn words(text: &str) -> Words<'_> {
     let (word, rest) = text.split_once(' ').unwrap_or((text, ""));
     let mut numbers = [0; 6];
@@ -31,7 +31,7 @@ pub(super) fn words(text: &str) -> Words<'_> {
     (word, numbers)
 }
 
-/// A word alone.
+/// Returns a word without numbers.
 pub(super) fn alone(word: &str) -> Words<'_> {
     (word, [0; 6])
 }
@@ -80,8 +80,8 @@ pub(super) fn of_reply(reply: Reply) -> Words<'static> {
     }
 }
 
-/// Whether this may be told where a row has these words: `first` is a chunk of so many bytes at the place of the first one that was
-/// given, and `any` one at a place that is open.
+/// Returns whether an answer is what a row wants: `first LEN` is a chunk at the place of the first allocated one, `any LEN`
+/// a chunk at any place.
 pub(super) fn may_be_told(told: Words<'_>, wanted: Words<'_>, first: usize) -> bool {
     let len = wanted.1[0];
     match wanted.0 {
@@ -91,7 +91,7 @@ pub(super) fn may_be_told(told: Words<'_>, wanted: Words<'_>, first: usize) -> b
     }
 }
 
-/// The layout of this size and alignment, where there is one.
+/// Makes a layout, where there is one of this size and alignment.
 pub(super) fn layout_of(size: usize, align: usize) -> Option<Layout> {
     Layout::from_size_align(size, align).ok()
 }

@@ -10,7 +10,7 @@ use std::alloc::Global;
 use std::fmt::{Debug, Display};
 use std::process::Abort;
 
-/// What is displayed is this text.
+/// Checks a value's Display text.
 pub(super) fn has_text<D: Display>(rt: &impl Abort, alloc: Global, value: &D, text: &str) {
     match format!(in alloc; "{value}") {
         Ok(told) => check(rt, told.as_str() == text),
@@ -18,7 +18,7 @@ pub(super) fn has_text<D: Display>(rt: &impl Abort, alloc: Global, value: &D, te
     }
 }
 
-/// Each of these is displayed as the text beside it.
+/// Checks the Display text of each value of a table.
 fn have_texts<D: Display>(rt: &impl Abort, alloc: Global, table: &[(D, &str)]) {
     for (value, text) in table {
         has_text(rt, alloc, value, text);
@@ -91,12 +91,12 @@ fn bump_display(rt: HostRuntime) {
     has_text(&rt, rt.alloc(), &bump, text);
 }
 
-/// The text of derived Debug.
+/// Returns a value's Debug text.
 fn debug_text(rt: &impl Abort, alloc: Global, value: &impl Debug) -> String {
     format!(in alloc; "{value:?}").expect(rt, "there is memory for a text")
 }
 
-/// A request that a full pool refuses leaves the text of derived Debug as it was.
+/// A request that a full pool refuses doesn't change its Debug text.
 #[test]
 fn a_refusal_shows_nothing(rt: HostRuntime) {
     let bucket = layout(&rt, 8, 8);

@@ -20,7 +20,7 @@ OutOfMemory\n\
 BumpAllocator { start: 4096, size: 1024, current_position: 1024 }\n\
 used 1024 free 0 total 1024\n";
 
-/// A script that is done and one with an unreadable line: each with what it writes, in how many writes, and how it ends.
+/// Two scripts, each with its output, how many writes that takes, and its status.
 const SCRIPTS: [(&[u8], &[u8], usize, Status); 2] = [
     (FIRST_PATH, FIRST_PATH_LINES, 50, Status::Done),
     (
@@ -82,7 +82,7 @@ impl Write for CountingWriter<'_> {
     }
 }
 
-/// Reading the script of row `bump-first-path` fails so at one of its reads; then the run ends so, and these lines are written.
+/// Runs the script of row `bump-first-path` over a failing reader, and checks status and output.
 fn reads(
     rt: &impl Abort,
     alloc: Global,
@@ -116,8 +116,8 @@ fn reader_fails_in_turn(rt: HostRuntime) {
     reads(&rt, rt.alloc(), interrupted, Status::Done, FIRST_PATH_LINES);
 }
 
-/// A writer fails so at one of its writes or its flushes; then the run ends so, after so many writes and flushes. Before it flushes,
-/// it has written each byte once.
+/// Runs a script over a failing writer, and checks the status and the numbers of writes and flushes. The output begins `lines`,
+/// and is `lines` before the flush.
 fn writes(
     rt: &impl Abort,
     alloc: Global,
@@ -144,7 +144,7 @@ fn writes(
     check_at(rt, flushes == 0 || told.len() == lines.len(), fails_write.0);
 }
 
-/// A failed write is the last call, and an interrupted one is tried again. No write has number 0.
+/// A failed write is the last call, and an interrupted write is tried again. No write has number 0.
 #[test]
 fn writer_fails_in_turn(rt: HostRuntime) {
     let failed = Status::OutputFailed;
@@ -163,8 +163,8 @@ fn writer_fails_in_turn(rt: HostRuntime) {
     }
 }
 
-/// Whether the script of row `bump-first-path`, cut behind so many bytes, is answered so: done with so many bytes of the whole
-/// script's lines, or unreadable with this line.
+/// Returns whether the script of row `bump-first-path`, cut behind `cut` bytes, ends so: done with so many bytes of the whole
+/// script's output, or unreadable with this line.
 fn is_answered(alloc: Global, cut: usize, end: Result<usize, &[u8]>) -> bool {
     let Some(script) = FIRST_PATH.get(..cut) else {
         return false;

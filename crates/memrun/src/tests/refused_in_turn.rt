@@ -10,12 +10,12 @@ use std::process::Abort;
 /// A request of a size that no other has: `.ci/refuse-in-turn` refuses it exactly where it has refused another one before.
 const REFUSED_MARK: usize = 100_049;
 
-/// Whether a request for memory was refused since the test began.
+/// Returns whether a request for memory was refused since the test began.
 fn some_was_refused(alloc: Global) -> bool {
     Vec::<u8>::with_capacity(alloc, REFUSED_MARK).is_err()
 }
 
-/// Runs a script, which has to end so, with these lines, and runs it again where a request was refused.
+/// Runs a script, a second time where memory was refused, and checks its status and its output.
 fn ends_with_status_4(rt: &impl Abort, alloc: Global, ends: Status, script: &[u8], lines: &[u8]) {
     let mut told = Vec::new(alloc);
     if told.reserve(lines.len()).is_err() {
@@ -32,7 +32,7 @@ fn ends_with_status_4(rt: &impl Abort, alloc: Global, ends: Status, script: &[u8
     check(rt, told.as_slice() == lines);
 }
 
-/// The script of a row ends so. What the test makes for itself may be refused, too: then the row is passed over.
+/// Runs a row's script. Where memory for the test itself is refused, passes over the row.
 fn keeps(rt: &impl Abort, alloc: Global, ends: Status, row: &str) {
     let (script, wrote) = field_and_rest(row);
     if let (Ok(script), Ok(wrote)) = (lines(alloc, script), lines(alloc, wrote)) {
@@ -62,7 +62,7 @@ fn a_script_of_each_kind(rt: HostRuntime) {
     }
 }
 
-/// The line that is told of a first unreadable one takes memory, too.
+/// The line about the first unreadable one takes memory, too.
 #[test]
 fn an_unreadable_script(rt: HostRuntime) {
     keeps(

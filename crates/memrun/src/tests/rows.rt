@@ -165,7 +165,7 @@ fn unreadable_scripts(rt: HostRuntime) {
     check_rows(&rt, rt.alloc(), Status::Unreadable, UNREADABLE);
 }
 
-/// Whether the run of these bytes ends so, and writes just these lines.
+/// Returns whether a script ends with this status and writes just these lines.
 fn ends(alloc: Global, script: &[u8], status: Status, lines: &[u8]) -> bool {
     let (ended, told) = answer(alloc, script);
     ended == status && told.as_slice() == lines

@@ -1,6 +1,5 @@
-//! Tables of scripts, a row on each line: its name, its script and what that writes, parted by ` | `, where `; ` stands for a line
-//! feed. Where it is open which bucket a pool gives, the places that may be told come last; then `P` stands for the place that is
-//! told first, `Q` for the next other one, and so on.
+//! Tables of scripts. Each line is a row: `NAME | SCRIPT | OUTPUT`, where `; ` stands for a line feed. Where a pool may give any
+//! bucket, a fourth field has the places of all, and `P`, `Q` to `W` in the output stand for different ones of these.
 use script_runner::{Status, run};
 use std::alloc::{AllocError, Global};
 use std::process::Abort;
@@ -8,7 +7,7 @@ use std::process::Abort;
 /// The names of places, in order.
 const NAMES: [&str; 8] = ["P", "Q", "R", "S", "T", "U", "V", "W"];
 
-/// The text with a line feed for each semicolon and the space behind it, and one at the end.
+/// Returns a field as lines.
 pub(super) fn lines(alloc: Global, text: &str) -> Result<Vec<u8>, AllocError> {
     let mut bytes = Vec::new(alloc);
     if text.is_empty() {
@@ -21,20 +20,19 @@ pub(super) fn lines(alloc: Global, text: &str) -> Result<Vec<u8>, AllocError> {
     Ok(bytes)
 }
 
-/// How the run of a script ends, and what it writes.
+/// Runs a script. Returns its status and its output.
 pub(super) fn answer(alloc: Global, script: &[u8]) -> (Status, Vec<u8>) {
     let mut told = Vec::new(alloc);
     let status = run(alloc, script, &mut told);
     (status, told)
 }
 
-/// The first field of a row, and what is behind it.
+/// Splits a row behind its first field.
 pub(super) fn field_and_rest(row: &str) -> (&str, &str) {
     row.split_once(" | ").unwrap_or((row, ""))
 }
 
-/// Whether a word was told where this one is wanted. The name of a place stands for the place that was told by it first, which is
-/// one of these and has no other name.
+/// Returns whether a word of the output is `wanted`. A name's first place becomes its place: one of `places` without a name.
 fn is_word<'a>(
     named: &mut Vec<&'a str>,
     places: &str,
@@ -52,7 +50,7 @@ fn is_word<'a>(
     Ok(is_new && places.split(' ').any(|place| place == told))
 }
 
-/// Whether a text was told where this one is wanted.
+/// Returns whether the output is `wanted`.
 fn is_told(alloc: Global, places: &str, told: &str, wanted: &str) -> Result<bool, AllocError> {
     let mut named = Vec::new(alloc);
     let mut told = told.split(' ');
@@ -67,7 +65,7 @@ fn is_told(alloc: Global, places: &str, told: &str, wanted: &str) -> Result<bool
     Ok(told.next().is_none())
 }
 
-/// Whether the script of a row ends so, and writes just what the row says.
+/// Returns whether a row's script ends with this status and writes just the row's output.
 fn keeps_row(alloc: Global, ends: Status, row: &str) -> Result<bool, AllocError> {
     let (script, row) = field_and_rest(row);
     let (wrote, places) = field_and_rest(row);
@@ -80,7 +78,7 @@ fn keeps_row(alloc: Global, ends: Status, row: &str) -> Result<bool, AllocError>
     Ok(status == ends && is_told(alloc, places, told, wanted)?)
 }
 
-/// Runs the script of each row, which has to end so, and to write just what the row says.
+/// Runs the script of each row, and checks its status and its output.
 pub(super) fn check_rows(rt: &impl Abort, alloc: Global, ends: Status, table: &str) {
     for row in table.split("\n") {
         let (name, row) = field_and_rest(row);

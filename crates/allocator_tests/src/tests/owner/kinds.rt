@@ -1,4 +1,4 @@
-//! The kinds of allocators with one owner: how each is made, and what it has, or has by its own name.
+//! The allocators with one owner: how a row makes each, its getters and its runs.
 ghost use Rattle.std.specs.Prelude.{◌≡◌, [], IfSome};
 ghost use Rattle.bb_memory_base.specs.Region.{region_at};
 ghost use Rattle.bb_memory.specs.Pool.{StandsFor};
@@ -16,25 +16,24 @@ use bb_memory::pool_allocator::{
 use std::alloc::{AllocError, Global};
 use std::process::Abort;
 
-/// What the getters answer, in the order in which an allocator declares them, and zeros behind them.
+/// The getters' answers, in the order of the declarations, then zeros.
 pub(crate) type Figures = [usize; 6];
 
-/// The replies of a run, or none where memory was refused.
+/// A run's replies, or want of memory.
 pub(crate) type Replies = Result<Vec<Reply>, AllocError>;
 
-/// How commands are run: with resizes, or without them, where they are passed over; by the function of an allocator's name, or by
-/// that over any allocator.
+/// Which run: with resizes or without, and the allocator's own (`run_pool`) or the one over any allocator (`run_full`).
 #[derive(Debug, Clone, Copy)]
 pub(crate) struct Run {
     pub(crate) resizes: bool,
     pub(crate) by_name: bool,
 }
 
-/// A kind of allocator.
+/// An allocator that rows can name.
 pub(crate) trait Kind: BaseAllocator + Drop {
     fn figures(&self) -> Figures;
 
-    /// Makes a call. Where the kind lacks it, it is passed.
+    /// Makes a call. Answers `passed` where the allocator has no such call.
     fn answer(owner: &mut Owner<Self>, call: Words<'_>) -> Words<'static>;
 
     /// Runs commands.
@@ -61,7 +60,7 @@ impl Kind for BumpAllocator {
 }
 
 impl Kind for OneChunkAllocator {
-    /// The last figures are 1 where a chunk is available, and where one is held at 4100.
+    /// The third figure is 1 where a chunk is available, the fourth where one is held at 4100.
     fn figures(&self) -> Figures {
         let available = usize::from(self.has_chunk_available());
         let held = usize::from(self.holds(4100));
@@ -82,7 +81,7 @@ impl Kind for OneChunkAllocator {
 }
 
 impl Kind for PoolAllocator<Global> {
-    /// The last figure is how many index words the last request read.
+    /// The last figure is `last_reads`.
     fn figures(&self) -> Figures {
         let (buckets, reads) = (
             self.number_of_buckets() as usize,
@@ -131,7 +130,7 @@ impl<const N: usize> Kind for FixedSizePoolAllocator<N> {
     }
 }
 
-/// A pool over a region.
+/// Makes a pool of `size` bytes at `start`.
 pub(crate) fn pool_over(
     alloc: Global,
     bucket: Layout,
@@ -149,7 +148,7 @@ pub(crate) fn pool_over(
         .ok()
 }
 
-/// A fixed pool over a region.
+/// Makes a fixed pool of `size` bytes at `start`, of at most `N` buckets.
 pub(crate) fn fixed_over<const N: usize>(
     bucket: Layout,
     start: usize,
@@ -164,7 +163,7 @@ pub(crate) fn fixed_over<const N: usize>(
     Some(FixedSizePoolAllocator::new(bucket, start, size))
 }
 
-/// What is made: a kind's name, and the start and the size of the region, of a pool also the bucket's layout.
+/// A row's second field: the allocator's name with the region's start and size, and the layout of a pool's bucket.
 type Made<'a> = (Words<'a>, Option<Layout>);
 
 fn bump((made, _): Made<'_>, alloc: Global) -> Option<Owner<BumpAllocator>> {
@@ -196,8 +195,8 @@ fn fixed<const N: usize>(
     Owner::new(alloc, fixed_over::<N>(bucket?, start, size)?, start, size)
 }
 
-/// A fresh allocator of the kind that a row names keeps it, by calls or by such a run. A `fixed` pool has at most 512 buckets, and
-/// `four` is one of at most four.
+/// Makes the allocator that a row names, and the row's calls by a run or one by one. A `fixed` pool has at most 512 buckets, a
+/// `four` at most four.
 pub(crate) fn keeps_row(rt: &impl Abort, alloc: Global, run: Option<Run>, row: &str) {
     let (name, row) = field_and_rest(row);
     let (made, calls) = field_and_rest(row);

@@ -1,5 +1,5 @@
-//! Heap blocks, each row by its name. A refused block isn't made, and a refused growth hands its block back as it was. Behind
-//! `with` an answer has the bytes of the block then, where there is one.
+//! Heap blocks, each row by its name. Where memory is refused, no block is made, and a growth hands its block back unchanged. An
+//! answer's numbers behind `with` are the block's bytes after the call.
 use crate::marks::{none_was_asked, refuse_memory, some_was_freed, some_was_refused};
 use crate::tests::checks::{check, check_at};
 use crate::tests::owner::layouts;
@@ -11,10 +11,10 @@ use bb_memory::layout::Layout;
 use std::alloc::Global;
 use std::process::Abort;
 
-/// A block, where there is one, and what was answered.
+/// The block after a call, where there is one, and the call's answer.
 type Answered = (Option<HeapBlock>, Words<'static>);
 
-/// A block that was made.
+/// Returns a new block, or why there is none.
 fn made(answer: Result<HeapBlock, AllocationError>) -> Answered {
     match answer {
         Ok(block) => (Some(block), alone("block")),
@@ -22,7 +22,7 @@ fn made(answer: Result<HeapBlock, AllocationError>) -> Answered {
     }
 }
 
-/// The block whose bytes count from this one.
+/// Writes numbers into a block, counting from `first`.
 fn counted(mut block: HeapBlock, first: usize) -> HeapBlock {
     let mut number = u8::try_from(first).unwrap_or(0);
     for byte in block.as_mut_slice() {
@@ -32,7 +32,7 @@ fn counted(mut block: HeapBlock, first: usize) -> HeapBlock {
     block
 }
 
-/// Resizes a block of the old layout's size.
+/// Resizes a block, where the old size is its length.
 fn resized(
     heap: &HeapAllocator,
     block: HeapBlock,
@@ -57,7 +57,7 @@ fn resized(
     }
 }
 
-/// Makes a call, of the block where there is one.
+/// Makes a call.
 fn answered(heap: &HeapAllocator, block: Option<HeapBlock>, call: Words<'_>) -> Answered {
     match (
         block,
@@ -77,7 +77,7 @@ fn answered(heap: &HeapAllocator, block: Option<HeapBlock>, call: Words<'_>) -> 
     }
 }
 
-/// Whether there is a block that has just these bytes, or none where there are no bytes.
+/// Returns whether a block has just these bytes. No bytes stand for no block.
 fn has_bytes(block: &Option<HeapBlock>, bytes: &str) -> bool {
     let Some(block) = block else {
         return bytes.is_empty();
@@ -91,7 +91,7 @@ fn has_bytes(block: &Option<HeapBlock>, bytes: &str) -> bool {
     left.next().is_none()
 }
 
-/// Makes a call, for a second time where memory was refused at the first: then the block has the bytes that it had before.
+/// Makes a call, a second time where memory was refused: then the block has the same bytes as before.
 fn at_last(
     rt: &impl Abort,
     alloc: Global,
@@ -108,12 +108,12 @@ fn at_last(
     answered(&heap, block, call)
 }
 
-/// The bytes that a call leaves, or none.
+/// Returns the bytes behind `with`.
 fn bytes_behind(call: &str) -> &str {
     call.split_once(" with ").unwrap_or((call, "")).1
 }
 
-/// Makes the calls of a row in turn, each of which has to be answered as the row has it.
+/// Makes a row's calls, and checks each answer and the block's bytes.
 fn keeps(rt: &impl Abort, alloc: Global, start: Option<HeapBlock>, row: &str) -> Option<HeapBlock> {
     let (name, calls) = field_and_rest(row);
     let mut block = start;
@@ -148,7 +148,7 @@ fn heap_blocks(rt: HostRuntime) {
     }
 }
 
-/// A block has so many bytes, all zero.
+/// Returns whether a block has just `size` bytes, all zero.
 fn has_zeros(block: &Option<HeapBlock>, size: usize) -> bool {
     match block {
         Some(block) => block.len() == size && block.as_slice().iter().all(|byte| *byte == 0),
@@ -156,7 +156,7 @@ fn has_zeros(block: &Option<HeapBlock>, size: usize) -> bool {
     }
 }
 
-/// A block of this size is made, plainly and of zeros, and one of a byte grows to it by both calls. Alignments decide nothing.
+/// Makes a block of `size` bytes by both requests, and grows a byte to it by both growths. Alignments decide nothing.
 fn is_made(rt: &impl Abort, alloc: Global, size: usize) {
     for word in ["alloc", "alloc-zeroed"] {
         let (block, _) = at_last(rt, alloc, None, (word, [size, 4096, 0, 0, 0, 0]), "");
@@ -178,7 +178,7 @@ fn heap_of_many_sizes(rt: HostRuntime) {
     }
 }
 
-/// A block that was made before shrinks and goes back without a request for memory.
+/// Shrinks and deallocates a block without a request for memory.
 pub(super) fn shrinks_without_memory(rt: &impl Abort, alloc: Global) {
     let block = keeps(
         rt,

@@ -1,5 +1,4 @@
-//! Loan books over the allocators, each row by its name. A refused loan leaves the book as it was: each sample is out that was out
-//! before, and no other.
+//! Loan books, each row by its name. A refused loan leaves the book unchanged: just the samples of before are out.
 ghost use Rattle.std.specs.Prelude.{[]};
 
 use super::counted::Counted;
@@ -18,12 +17,12 @@ use std::cell::Cell;
 use std::process::Abort;
 use std::rc::Rc;
 
-/// A book over a one chunk of 64 bytes at 4096.
+/// Makes a book over a one chunk of 64 bytes at 4096.
 fn one_book(alloc: Global) -> LoanBook<OneChunkAllocator> {
     LoanBook::new(alloc, OneChunkAllocator::new(4096, 64))
 }
 
-/// Whether the sample of this id was loaned.
+/// Returns whether a reply loans the sample of this id.
 fn is_loan(reply: LoanReply, id: u64) -> bool {
     match reply {
         Loaned(loaned, _) => loaned == id,
@@ -31,12 +30,12 @@ fn is_loan(reply: LoanReply, id: u64) -> bool {
     }
 }
 
-/// A loan book as rows call it: over any allocator, and without a clause.
+/// A loan book over any allocator, without a clause.
 trait Book: Drop {
-    /// The reply to a call.
+    /// Makes a call.
     fn reply(&mut self, call: LoanCall) -> LoanReply;
 
-    /// The replies to a list of calls, by the run.
+    /// Makes a list of calls by `run_loans`.
     fn replies(&mut self, alloc: Global, calls: &[LoanCall]) -> Result<Vec<LoanReply>, AllocError>;
 }
 
@@ -67,23 +66,23 @@ impl<A: Allocator + Drop> Book for LoanBook<A> {
     }
 }
 
-/// A call is replied so.
+/// Makes a call, and checks its reply.
 fn replies(rt: &impl Abort, book: &mut impl Book, call: LoanCall, wanted: LoanReply) {
     check(rt, book.reply(call) == wanted);
 }
 
-/// The sample of this id is out, or isn't.
+/// Checks whether the sample of this id is out.
 fn is_out(rt: &impl Abort, book: &mut impl Book, id: u64, is_out: bool) {
     replies(rt, book, IsOut(id), Out(is_out));
 }
 
-/// A loan that is refused for its record's memory.
+/// The refusal for the record's memory.
 const NO_MEMORY: LoanReply = Refused(LoanError::Memory);
 
-/// What a loan is refused with where its allocator is full.
+/// The refusal by a full allocator.
 const FULL: LoanReply = Refused(LoanError::Allocation(AllocationError::OutOfMemory));
 
-/// What is told of a loan, at a second trial where memory was refused. The refusal leaves just the samples below an id out.
+/// Loans a sample, a second time where memory was refused: then just the samples below `id` are out.
 fn at_last(
     rt: &impl Abort,
     alloc: Global,
@@ -114,8 +113,8 @@ fn loan_over_one_chunk(rt: HostRuntime) {
     replies(&rt, &mut book, Loan(1), Loaned(1, whole));
 }
 
-/// Whether a loan and its return, as one list, are made. None is where memory was refused: for the list of replies, or behind it
-/// for the record of the loan, which no id is used up for.
+/// Returns whether a loan and its return are made as one list, or `None` where memory was refused: for the replies, or for the
+/// loan's record, which uses up no id.
 fn is_made(alloc: Global, book: &mut impl Book, whole: Chunk) -> Option<bool> {
     let calls = [Loan(1), GiveBack(0)];
     let replies = book.replies(alloc, &calls).ok()?;
@@ -127,7 +126,7 @@ fn is_made(alloc: Global, book: &mut impl Book, whole: Chunk) -> Option<bool> {
     Some(replies.as_slice() == made.as_slice())
 }
 
-/// The list is made, at a second trial where memory was refused.
+/// A list of calls is made, a second time where memory was refused.
 #[test]
 fn a_list_of_loans_keeps_the_book(rt: HostRuntime) {
     let (mut book, whole) = (one_book(rt.alloc()), chunk(&rt, 4096, 64));
@@ -139,8 +138,8 @@ fn a_list_of_loans_keeps_the_book(rt: HostRuntime) {
     check(&rt, is_made(rt.alloc(), &mut book, whole) == Some(true));
 }
 
-/// Sixteen samples are loaned, of which some go back, some are published, and others take their buckets. A loan that is refused
-/// for its record's memory hasn't asked the allocator, and one that is made has asked it once.
+/// Loans sixteen samples, gives some back, publishes the others and loans six more. A loan that is refused for its record's
+/// memory doesn't ask the allocator; a loan that is made asks it once.
 fn sixteen_go_back(
     rt: &impl Abort,
     alloc: Global,
@@ -163,7 +162,7 @@ fn sixteen_go_back(
     leave(rt, book, &[9]);
 }
 
-/// Each of these samples leaves by one return.
+/// Gives each of these samples back by one return.
 fn leave(rt: &impl Abort, book: &mut impl Book, ids: &[u64]) {
     for id in ids {
         replies(rt, book, GiveBack(*id), Returned);
@@ -171,7 +170,7 @@ fn leave(rt: &impl Abort, book: &mut impl Book, ids: &[u64]) {
     }
 }
 
-/// The same, over an allocator of sixteen chunks of 64 bytes, which has nothing out.
+/// Makes the book of `sixteen_go_back` over a fresh allocator of sixteen chunks of 64 bytes.
 fn sixteen_of<A: Allocator + Drop>(rt: &impl Abort, alloc: Global, inner: A)
     requires { A.stands_for inner [] }
 {
@@ -193,7 +192,7 @@ fn samples_go_back_in_any_order(rt: HostRuntime) {
     }
 }
 
-/// A book of which one sample is out keeps the table without a request for memory, and so is a book of its own made.
+/// Publishes and gives back a sample without a request for memory, and makes a book.
 pub(super) fn keeps_without_memory(rt: &impl Abort, alloc: Global) {
     let mut book = one_book(alloc);
     if !is_loan(book.reply(Loan(64)), 0) {
@@ -214,8 +213,8 @@ pub(super) fn keeps_without_memory(rt: &impl Abort, alloc: Global) {
     check(rt, none_was_asked(alloc));
 }
 
-/// All sixteen chunks of the allocator are out, and the book has room for no more samples than these. Without memory a further
-/// loan is refused for its record's, before the allocator is asked; with memory it is refused by the allocator.
+/// Fills an allocator of sixteen chunks and the book's room for records. Without memory a further loan is refused for its
+/// record's, before the allocator is asked; with memory the allocator refuses it.
 pub(super) fn is_full<A: Allocator + Drop>(rt: &impl Abort, alloc: Global, allocator: A)
     requires { A.stands_for allocator [] }
 {

@@ -1,4 +1,4 @@
-//! A refused `init` or `share` hands back what it was called on, as it was.
+//! A refused `init` or `share` hands its allocator back unchanged.
 ghost use Rattle.std.specs.Prelude.{◌≡◌, All};
 
 use crate::marks::some_was_refused;
@@ -12,13 +12,13 @@ use bb_memory::shared_bump::{BumpParty, SharedBumpAllocator};
 use std::alloc::Global;
 use std::process::Abort;
 
-/// This is want of memory, which was refused.
+/// Checks that a refusal is for memory, and that some was refused.
 fn is_want(rt: &impl Abort, alloc: Global, error: AllocationError) {
     check(rt, error == AllocationError::OutOfMemory);
     check(rt, some_was_refused(alloc));
 }
 
-/// A pool over 1,024 bytes at 4097. Where memory was refused, the uninitialised one comes back, and is initialised once more.
+/// Makes a pool over 1,024 bytes at 4097. Where memory was refused, `init` hands back what it was called on, and is called again.
 fn initialised(rt: &impl Abort, alloc: Global, bucket: Layout) -> Option<PoolAllocator<Global>> {
     if !PoolAllocator::can_make(bucket, 4097, 1024) {
         return None;
@@ -39,7 +39,7 @@ fn pool_odd_start_getters(rt: HostRuntime) {
     check(&rt, figures == Some([4104, 7, 1024, 128, 8, 0]));
 }
 
-/// The last of two parties has number 1, and finds so much used.
+/// Checks that the last of two parties has number 1, and reads `used`.
 fn used_by_last(
     rt: &impl Abort,
     shared: &SharedBumpAllocator,
@@ -59,7 +59,7 @@ fn used_by_last(
     }
 }
 
-/// A bump is shared by two. Where memory was refused it comes back as it was, with its text, and is shared once more.
+/// Shares a bump between two parties, a second time where memory was refused: then the bump comes back with the same text.
 #[test]
 fn share_hands_the_bump_back(rt: HostRuntime) {
     let mut bump = BumpAllocator::new(4096, 1024);

@@ -1,5 +1,5 @@
-//! Runs of commands, each row by its name, with resizes and without, over any allocator and by an allocator's name; then calls. A
-//! refused run has applied no command: the allocator and its live list are as before.
+//! Runs of commands, each row by its name: with resizes and without, by the allocator's own run and by that over any allocator.
+//! The last field has calls after the run. A refused run applies no command: the allocator and its live list are unchanged.
 use crate::tests::owner::kinds::{Run, keeps_row};
 
 const RUNS: &str = "\

@@ -1,4 +1,4 @@
-//! Worlds and their replays, each row by its name. A refused world isn't made, and a refused replay leaves its world as it was.
+//! Worlds and their replays, each row by its name. A refused replay leaves its world unchanged.
 use super::ends_unmade;
 use crate::marks::some_was_refused;
 use crate::tests::checks::{check, chunk, layout};
@@ -6,17 +6,17 @@ use bb_memory::steps::{BumpOutcome, BumpStep, BumpWorld, PoolOutcome, PoolStep, 
 use std::alloc::Global;
 use std::process::Abort;
 
-/// A world of a bump at 4096 of 64 bytes with so many parties, or none where memory was refused.
+/// Makes a world of a bump of 64 bytes at 4096, or `None` where memory was refused.
 pub(super) fn bump_world(alloc: Global, parties: u32) -> Option<BumpWorld> {
     BumpWorld::new(alloc, 4096, 64, parties).ok()
 }
 
-/// A world of a pool of two buckets with so many parties, or none where memory was refused.
+/// Makes a world of a pool of two buckets, or `None` where memory was refused.
 pub(super) fn pool_world(alloc: Global, parties: u32) -> Option<PoolWorld> {
     PoolWorld::new(alloc, 2, parties).ok()
 }
 
-/// What a replay tells, which leaves the bump fresh where memory was refused at first.
+/// Replays steps, a second time where memory was refused: then the bump is still fresh.
 fn replayed_by_bump(
     rt: &impl Abort,
     alloc: Global,
@@ -55,7 +55,7 @@ fn steps_bump_race(rt: HostRuntime) {
     check(&rt, world.used_space() == 40);
 }
 
-/// What a replay tells, which leaves the pool fresh where memory was refused at first.
+/// Replays steps, a second time where memory was refused: then the pool is still fresh.
 fn replayed_by_pool(
     rt: &impl Abort,
     alloc: Global,
@@ -71,7 +71,7 @@ fn replayed_by_pool(
     world.replay(steps).expect(rt, "there is memory again")
 }
 
-/// The return of bucket 0 by a party.
+/// Returns the step by which a party gives bucket 0 back.
 fn gives(party: u32) -> PoolStep {
     PoolStep::GiveBack { party, bucket: 0 }
 }

@@ -1,9 +1,10 @@
-//! Calls of the allocators with one owner, each row by its name. The region's bytes are all 7 at first. Of the bump the getters
-//! answer the start, how much is used, is free and is there; of the one chunk the start, the size, and 1 where a chunk is
-//! available, and where one is held at 4100; of a pool the first place, the number of buckets, the size, the bucket's size and
-//! alignment, and the reads of the last request; of a fixed pool the number of buckets, the size, and the bucket's two. `zeros`
-//! asks whether so many bytes are zero, from this one behind the first chunk's place on, and every other is a 7; `at` whether the
-//! chunks that are out are at a place and behind it, each so far behind the one before, and so many.
+//! Calls of the allocators with one owner, each row by its name. The region's bytes are all 7 at first.
+//!
+//! `figures` answers the getters. Of a bump: start, used, free, total. Of a one chunk: start, size, 1 where a chunk is
+//! available, 1 where a chunk is held at 4100. Of a pool: first place, buckets, size, bucket size, alignment, reads of the last
+//! request. Of a fixed pool: buckets, size, bucket size, alignment. `zeros BEHIND COUNT` asks whether just COUNT bytes are zero,
+//! from BEHIND bytes after the first chunk's place on. `at PLACE STRIDE COUNT` asks whether just COUNT chunks are live, at PLACE
+//! and each STRIDE further on.
 use crate::tests::owner::kinds::keeps_row;
 
 const CALLS: &str = "\

@@ -1,4 +1,4 @@
-//! How many buckets a pool holds, each bucket by its number, and by how few reads one is found.
+//! The count of held buckets, buckets by number, and the reads of a request.
 use super::super::ends_unmade;
 use crate::marks::{none_was_asked, refuse_memory};
 use crate::tests::checks::{check, layout};
@@ -10,15 +10,14 @@ use bb_memory::pool_allocator::{
 use std::alloc::Global;
 use std::process::Abort;
 
-/// What a pool tells of a number and of a place: how many buckets are held, whether there is room, the number's place, the
-/// place's number, and whether a bucket is held there.
+/// The answers of `held_buckets`, `has_room`, `place_at`, `number_at` and `holds`.
 type Told = (u32, bool, Option<usize>, Option<u32>, bool);
 
-/// What is asked of a pool here.
+/// A pool of either kind.
 trait Buckets: BaseAllocator + Drop {
     fn told(&self, number: u32, place: usize) -> Told;
 
-    /// Gives the bucket at a place back, where one is held.
+    /// Calls `deallocate_if_held`.
     fn give(&mut self, place: usize) -> bool;
 }
 
@@ -46,12 +45,12 @@ impl<const N: usize> Buckets for FixedSizePoolAllocator<N> {
     }
 }
 
-/// Where the bucket of a number begins.
+/// Returns where the bucket of a number begins.
 fn place_of(number: u32) -> usize {
     4096 + 16 * number as usize
 }
 
-/// At places where no bucket of 16 bytes begins, of so many from 4096 on, none is held, has a number, or is given back.
+/// Checks that at places where no bucket begins none is held, has a number or is given back.
 fn has_none_between(rt: &impl Abort, pool: &mut impl Buckets, buckets: u32, held: u32) {
     let (told, end) = ((held, held < buckets, None, None, false), place_of(buckets));
     for wild in &[0, 1, 4080, 4095, 4097, 4104, 4111, usize::MAX, end] {
@@ -60,7 +59,7 @@ fn has_none_between(rt: &impl Abort, pool: &mut impl Buckets, buckets: u32, held
     }
 }
 
-/// Each of so many buckets is known by its number, whether it is held or not; so many are.
+/// Checks the number and the place of each bucket, held or not, and the count of held ones.
 fn tells(rt: &impl Abort, pool: &impl Buckets, buckets: u32, held: u32) {
     for number in 0..buckets {
         let (count, room, place, told, _) = pool.told(number, place_of(number));
@@ -69,7 +68,7 @@ fn tells(rt: &impl Abort, pool: &impl Buckets, buckets: u32, held: u32) {
     }
 }
 
-/// Whether the bucket of a number wasn't taken before. Then it is.
+/// Marks a bucket as taken. Returns whether it wasn't.
 fn is_new(taken: &mut [bool], number: Option<u32>) -> bool {
     let Some(number) = number else {
         return false;
@@ -83,7 +82,7 @@ fn is_new(taken: &mut [bool], number: Option<u32>) -> bool {
     }
 }
 
-/// A bucket is taken that wasn't, and one more is held then.
+/// Allocates a bucket that wasn't taken, and checks the new count.
 fn takes(rt: &impl Abort, pool: &mut impl Buckets, bucket: Layout, taken: &mut [bool], held: u32) {
     let Ok(chunk) = pool.allocate(bucket) else {
         panic!(rt; "no bucket is free");
@@ -93,7 +92,7 @@ fn takes(rt: &impl Abort, pool: &mut impl Buckets, bucket: Layout, taken: &mut [
     check(rt, holds && is_new(taken, number));
 }
 
-/// The bucket of a number goes back once, and so many are held then. A second return changes nothing.
+/// Gives a bucket back, and checks the new count. A second return changes nothing.
 fn goes_back(rt: &impl Abort, pool: &mut impl Buckets, number: u32, held: u32) {
     let place = place_of(number);
     check(rt, pool.told(number, place).4 && pool.give(place));
@@ -102,8 +101,7 @@ fn goes_back(rt: &impl Abort, pool: &mut impl Buckets, number: u32, held: u32) {
     check(rt, !pool.give(place) && pool.told(number, place) == told);
 }
 
-/// A pool of so many buckets holds none at first, one more after each taking, as many after a refusal, and one less after each
-/// return. It has room but where it holds them all. A return of what isn't held changes nothing.
+/// Takes all buckets of a pool and gives them back. A refusal and a return of what isn't held change nothing.
 fn counts(rt: &impl Abort, alloc: Global, made: Option<impl Buckets>, buckets: u32) {
     let Some(mut pool) = made else {
         return ends_unmade(rt, alloc);
@@ -137,7 +135,7 @@ fn pools_count_what_they_hold(rt: HostRuntime) {
     }
 }
 
-/// The same of fixed ones, which have no more buckets than their constant.
+/// A fixed pool has no more buckets than its constant.
 #[test]
 fn fixed_counts_what_it_holds(rt: HostRuntime) {
     let sixteen = layout(&rt, 16, 8);
@@ -147,7 +145,7 @@ fn fixed_counts_what_it_holds(rt: HostRuntime) {
     }
 }
 
-/// A request for a byte is answered with the place of a bucket, or refused where this is none; one index word is read for it.
+/// Asks for a byte, which reads one index word. It is given at `place`, or refused where this is `None`.
 fn by_one_read(rt: &impl Abort, pool: &mut PoolAllocator<Global>, place: Option<usize>) {
     let given = pool.allocate(layout(rt, 1, 1));
     check(rt, pool.last_reads() == 1);
@@ -157,8 +155,8 @@ fn by_one_read(rt: &impl Abort, pool: &mut PoolAllocator<Global>, place: Option<
     }
 }
 
-/// All buckets of one byte from 4096 on, so many of them, are taken, each once; no further one is. Then the one at a place goes back,
-/// by the call for its place alone or not, and is the one that is given next.
+/// Takes all buckets of one byte from 4096 on, each once. Then the bucket at `place` goes back, by `deallocate_bucket` or
+/// `deallocate`, and is the one that is given next.
 fn fills(rt: &impl Abort, alloc: Global, buckets: u32, place: usize, by_place: bool) {
     let byte = layout(rt, 1, 1);
     let Some(mut pool) = pool_over(alloc, byte, 4096, buckets as usize) else {
@@ -196,7 +194,7 @@ fn pool_two_full_words(rt: HostRuntime) {
     fills(&rt, rt.alloc(), 128, 4100, false);
 }
 
-/// A pool whose buckets are all held is found so by one read, and so is a bucket that is given back.
+/// One read finds that all buckets are held, or finds the only free one.
 #[test]
 fn one_read_where_all_are_held(rt: HostRuntime) {
     fills(&rt, rt.alloc(), 320, 4300, true);

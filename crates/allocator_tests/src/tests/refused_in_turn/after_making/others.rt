@@ -27,7 +27,7 @@ fn a_loan_of_a_full_pool(rt: HostRuntime) {
     }
 }
 
-/// The last of so many parties takes a chunk, and there is none behind it.
+/// Takes a chunk as the last party. There is no party behind it.
 fn takes_a_chunk(rt: &impl Abort, world: &mut BumpWorld, parties: u32) {
     let (party, layout) = (parties.saturating_sub(1), layout(rt, 40, 1));
     for (step, outcome) in [
@@ -49,7 +49,7 @@ fn takes_a_chunk(rt: &impl Abort, world: &mut BumpWorld, parties: u32) {
     check(rt, world.used_space() == 40);
 }
 
-/// The same of a bucket.
+/// Takes a bucket as the last party.
 fn takes_a_bucket(rt: &impl Abort, world: &mut PoolWorld, parties: u32) {
     let party = parties.saturating_sub(1);
     for (party, outcome) in [

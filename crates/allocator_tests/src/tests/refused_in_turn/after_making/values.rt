@@ -1,4 +1,4 @@
-//! Layouts, roundings, chunks, regions and what is known without an allocator, each row by its name; and the laws.
+//! Layouts, roundings, chunks, a region, where allocators can be made, each row by its name; and the laws.
 use super::super::ends_unmade;
 use crate::marks::{none_was_asked, refuse_memory};
 use crate::tests::checks::{check, check_at};
@@ -40,7 +40,7 @@ fn number_or_none(number: Option<usize>) -> Words<'static> {
     }
 }
 
-/// How many bytes are enough for a pool's index words, where the call's conditions hold.
+/// Calls `memory_size`, where its conditions hold.
 fn memory_size(bucket: Layout, size: usize) -> Option<usize> {
     if bucket.size() == 0 || size / bucket.size() > u32::MAX as usize {
         return None;
@@ -48,7 +48,7 @@ fn memory_size(bucket: Layout, size: usize) -> Option<usize> {
     Some(PoolAllocator::memory_size(bucket, size))
 }
 
-/// Whether a pool can be made. What it is made of takes no memory.
+/// Returns whether a pool can be made, and makes it but for `init`.
 fn is_made(bucket: Layout, start: usize, size: usize) -> bool {
     if !PoolAllocator::can_make(bucket, start, size) {
         return false;
@@ -57,7 +57,7 @@ fn is_made(bucket: Layout, start: usize, size: usize) -> bool {
     true
 }
 
-/// Makes a call of a start and a size, of a pool with its bucket's layout.
+/// Makes a call that has a start and a size, and the layout of a pool's bucket.
 fn answered(word: &str, start: usize, size: usize, bucket: Layout) -> Words<'static> {
     match word {
         "memory-size" => number_or_none(memory_size(bucket, start)),
