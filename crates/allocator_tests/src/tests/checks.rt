@@ -1,20 +1,24 @@
-//! What a test compares and what it needs, proved once: a test carries no more of either than that it was called.
+//! Checks, proved once: a test's own proof carries no more of a check than its call.
+use super::rows::layout_of;
+use bb_memory::layout::{Chunk, Layout};
 use std::process::Abort;
 
-/// This has to be true.
+/// Checks a condition.
 pub(super) fn check(rt: &impl Abort, found: bool) {
     assert!(rt; found);
 }
 
-/// This has to be true at a number, which a failure tells.
-pub(super) fn check_at(rt: &impl Abort, found: bool, at: usize) {
-    assert!(rt; found, "at {at}");
+/// Checks a condition of a row's call. A failure names both.
+pub(super) fn check_at(rt: &impl Abort, found: bool, row: &str, at: usize) {
+    assert!(rt; found, "{row}: call {at}");
 }
 
-/// What was made, without which no test goes on.
-pub(super) fn made<T>(rt: &impl Abort, made: Result<T, &'static str>) -> T {
-    match made {
-        Ok(made) => made,
-        Err(cause) => panic!(rt; "{cause}"),
-    }
+/// Makes a layout, which has to be there.
+pub(super) fn layout(rt: &impl Abort, size: usize, align: usize) -> Layout {
+    layout_of(size, align).expect(rt, "there is such a layout")
+}
+
+/// Makes a chunk, which has to be there.
+pub(super) fn chunk(rt: &impl Abort, place: usize, len: usize) -> Chunk {
+    Chunk::new(place, len).expect(rt, "there is such a chunk")
 }

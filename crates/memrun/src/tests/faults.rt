@@ -1,88 +1,103 @@
-//! Readers and writers that fail at each of their calls in turn, and scripts that are cut at every byte.
-use super::checks::{check, check_at};
+//! Readers and writers that fail at each of their calls in turn, and a script that is cut at every byte.
+use super::check_at;
 use super::table::answer;
-use super::{FIRST_PATH, FIRST_PATH_LINES};
 use script_runner::{Status, run};
 use std::alloc::Global;
 use std::io;
 use std::io::{ErrorKind, Read, Write};
+use std::process::Abort;
+
+/// The script of row `bump-first-path`, and what it writes.
+const FIRST_PATH: &[u8] =
+    b"bump 4096 1024\nalloc 48 4\nshow\nalloc 10 32\nalloc 950 1\nalloc 1 1\nshow\n";
+
+const FIRST_PATH_LINES: &[u8] = b"chunk 4096 48\n\
+BumpAllocator { start: 4096, size: 1024, current_position: 48 }\n\
+used 48 free 976 total 1024\n\
+chunk 4160 10\n\
+chunk 4170 950\n\
+OutOfMemory\n\
+BumpAllocator { start: 4096, size: 1024, current_position: 1024 }\n\
+used 1024 free 0 total 1024\n";
+
+/// Two scripts, each with its output, how many writes that takes, and its status.
+const SCRIPTS: [(&[u8], &[u8], usize, Status); 2] = [
+    (FIRST_PATH, FIRST_PATH_LINES, 50, Status::Done),
+    (
+        b"bump 4096 8\nbad\n",
+        b"line 2: refused\n",
+        4,
+        Status::Unreadable,
+    ),
+];
 
 /// Gives its bytes seven at a time, and fails at one of its reads.
 #[derive(Drop)]
 struct FailingReader<'a> {
     left: &'a [u8],
     reads: usize,
-    fails_at: usize,
-    kind: ErrorKind,
+    /// The number of the read that is answered with this error, counted from 1.
+    fails_read: (usize, ErrorKind),
 }
 
 impl Read for FailingReader<'_> {
     fn read(&mut self, buf: &mut [u8]) -> io::Result<usize> {
         self.reads = self.reads.saturating_add(1);
-        if self.reads == self.fails_at {
-            return Err(io::Error::from(self.kind));
+        if self.reads == self.fails_read.0 {
+            return Err(io::Error::from(self.fails_read.1));
         }
         let most = buf.len().min(7);
         self.left.read(&mut buf[..most])
     }
 }
 
-/// Keeps what it is given, at most five bytes a write, and fails at one of its writes.
+/// Keeps what it is given, at most five bytes a write, and counts its calls. One of its writes may be answered with an error,
+/// and so may its flushes.
 #[derive(Drop)]
-struct FailingWriter<'a> {
+struct CountingWriter<'a> {
     kept: &'a mut Vec<u8>,
     writes: usize,
-    fails_at: usize,
+    flushes: usize,
+    /// The number of the write that is answered with this error, counted from 1.
+    fails_write: (usize, ErrorKind),
+    fails_flush: bool,
 }
 
-impl FailingWriter<'_> {
-    fn fails(&mut self) -> bool {
-        self.writes = self.writes.saturating_add(1);
-        self.writes == self.fails_at
-    }
-}
-
-impl Write for FailingWriter<'_> {
+impl Write for CountingWriter<'_> {
     fn write(&mut self, buf: &[u8]) -> io::Result<usize> {
-        if self.fails() {
-            return Err(io::Error::from(ErrorKind::Other));
+        self.writes = self.writes.saturating_add(1);
+        if self.writes == self.fails_write.0 {
+            return Err(io::Error::from(self.fails_write.1));
         }
         let most = buf.len().min(5);
         self.kept.write(&buf[..most])
     }
 
     fn flush(&mut self) -> io::Result<()> {
-        if self.fails() {
+        self.flushes = self.flushes.saturating_add(1);
+        if self.fails_flush {
             return Err(io::Error::from(ErrorKind::Other));
         }
         Ok(())
     }
 }
 
-/// How the run ends, and what it writes, where reading the script of row `bump-first-path` fails so at one of its reads.
-fn answer_to_failed_read(alloc: Global, fails_at: usize, kind: ErrorKind) -> (Status, Vec<u8>) {
+/// Runs the script of row `bump-first-path` over a failing reader, and checks status and output.
+fn reads(
+    rt: &impl Abort,
+    alloc: Global,
+    fails_read: (usize, ErrorKind),
+    ends: Status,
+    lines: &[u8],
+) {
     let mut told = Vec::new(alloc);
     let reader = FailingReader {
         left: FIRST_PATH,
         reads: 0,
-        fails_at,
-        kind,
+        fails_read,
     };
-    let status = run(alloc, reader, &mut told);
-    (status, told)
-}
-
-/// How the run of a script ends, and what is kept of what it writes, where one of its writes or its flush fails.
-fn answer_by_failed_write(alloc: Global, script: &[u8], fails_at: usize) -> (Status, Vec<u8>) {
-    let mut told = Vec::new(alloc);
-    let mut writer = FailingWriter {
-        kept: &mut told,
-        writes: 0,
-        fails_at,
-    };
-    let status = run(alloc, script, &mut writer);
-    drop(writer);
-    (status, told)
+    let ended = run(alloc, reader, &mut told);
+    check_at(rt, ended == ends && told.as_slice() == lines, fails_read.0);
 }
 
 #[test]
@@ -91,57 +106,65 @@ fn reader_fails_in_turn(rt: HostRuntime) {
         (ErrorKind::Other, Status::InputFailed),
         (ErrorKind::OutOfMemory, Status::OutOfMemory),
     ] {
-        let mut failed = 0;
-        for fails_at in 1..100 {
-            let (ended, told) = answer_to_failed_read(rt.alloc(), fails_at, kind);
-            if ended == Status::Done {
-                check(&rt, told.as_slice() == FIRST_PATH_LINES);
-                break;
-            }
-            check(&rt, ended == status);
-            check(&rt, told.len() == 0);
-            failed = fails_at;
-        }
         // The script has 70 bytes: ten reads, and one that finds its end.
-        check(&rt, failed == 11);
+        for at in 1..12 {
+            reads(&rt, rt.alloc(), (at, kind), status, b"");
+        }
+        reads(&rt, rt.alloc(), (12, kind), Status::Done, FIRST_PATH_LINES);
     }
+    let interrupted = (3, ErrorKind::Interrupted);
+    reads(&rt, rt.alloc(), interrupted, Status::Done, FIRST_PATH_LINES);
 }
 
-#[test]
-fn an_interrupted_read_is_tried_again(rt: HostRuntime) {
-    let (ended, told) = answer_to_failed_read(rt.alloc(), 3, ErrorKind::Interrupted);
-    check(&rt, ended == Status::Done);
-    check(&rt, told.as_slice() == FIRST_PATH_LINES);
+/// Runs a script over a failing writer, and checks the status and the numbers of writes and flushes. The output begins `lines`,
+/// and is `lines` before the flush.
+fn writes(
+    rt: &impl Abort,
+    alloc: Global,
+    (script, lines): (&[u8], &[u8]),
+    (fails_write, fails_flush): ((usize, ErrorKind), bool),
+    ends: (Status, usize, usize),
+) {
+    let mut told = Vec::new(alloc);
+    let mut writer = CountingWriter {
+        kept: &mut told,
+        writes: 0,
+        flushes: 0,
+        fails_write,
+        fails_flush,
+    };
+    let status = run(alloc, script, &mut writer);
+    let CountingWriter {
+        writes,
+        flushes,
+        ..
+    } = writer;
+    check_at(rt, (status, writes, flushes) == ends, fails_write.0);
+    check_at(rt, lines.starts_with(told.as_slice()), fails_write.0);
+    check_at(rt, flushes == 0 || told.len() == lines.len(), fails_write.0);
 }
 
+/// A failed write is the last call, and an interrupted write is tried again. No write has number 0.
 #[test]
 fn writer_fails_in_turn(rt: HostRuntime) {
-    for (script, lines, status) in [
-        (FIRST_PATH, FIRST_PATH_LINES, Status::Done),
-        (
-            b"bump 4096 8\nbad\n".as_slice(),
-            b"line 2: refused\n".as_slice(),
-            Status::Unreadable,
-        ),
-    ] {
-        let mut failed = 0;
-        for fails_at in 1..200 {
-            let (ended, told) = answer_by_failed_write(rt.alloc(), script, fails_at);
-            if ended == status {
-                check(&rt, told.as_slice() == lines);
-                break;
-            }
-            check(&rt, ended == Status::OutputFailed);
-            check(&rt, lines.starts_with(told.as_slice()));
-            failed = fails_at;
+    let failed = Status::OutputFailed;
+    for (script, lines, count, status) in SCRIPTS {
+        let texts = (script, lines);
+        for at in 1..count + 1 {
+            let fault = ((at, ErrorKind::Other), false);
+            writes(&rt, rt.alloc(), texts, fault, (failed, at, 0));
+            let fault = ((at, ErrorKind::Interrupted), false);
+            writes(&rt, rt.alloc(), texts, fault, (status, count + 1, 1));
         }
-        // At most five bytes go in a write, and the flush is the last call that can fail.
-        check_at(&rt, lines.len() / 5 < failed && failed < 199, failed);
+        for (fails_flush, ends) in [(false, status), (true, failed)] {
+            let fault = ((0, ErrorKind::Other), fails_flush);
+            writes(&rt, rt.alloc(), texts, fault, (ends, count, 1));
+        }
     }
 }
 
-/// Whether the script of row `bump-first-path`, cut behind so many bytes, is answered so: done with so many bytes of the whole
-/// script's lines, or unreadable with this line.
+/// Returns whether the script of row `bump-first-path`, cut behind `cut` bytes, ends so: done with so many bytes of the whole
+/// script's output, or unreadable with this line.
 fn is_answered(alloc: Global, cut: usize, end: Result<usize, &[u8]>) -> bool {
     let Some(script) = FIRST_PATH.get(..cut) else {
         return false;

@@ -1,118 +1,74 @@
 //! Scripts that hold with any one request for memory refused: the program ends with status 4, and what it wrote begins what
 //! it writes where none is refused. `.ci/refuse-in-turn` runs each test with its first request refused, then its second, and
-//! so on, until none is left to refuse. What a test makes for itself may be refused, too: then it ends.
-use super::checks::check;
-use super::table::run_script;
-use super::{FIRST_PATH, FIRST_PATH_LINES};
-use script_runner::Status;
+//! so on, until none is left to refuse.
+use super::check;
+use super::table::{field_and_rest, lines};
+use script_runner::{Status, run};
 use std::alloc::Global;
 use std::process::Abort;
 
 /// A request of a size that no other has: `.ci/refuse-in-turn` refuses it exactly where it has refused another one before.
 const REFUSED_MARK: usize = 100_049;
 
-/// Whether a request for memory was refused since the test began.
+/// Returns whether a request for memory was refused since the test began.
 fn some_was_refused(alloc: Global) -> bool {
     Vec::<u8>::with_capacity(alloc, REFUSED_MARK).is_err()
 }
 
-/// Runs a script, which has to end so, with these lines, and runs it again where a request was refused.
-fn ends_with_status_4(rt: &impl Abort, alloc: Global, script: &[u8], ends: Status, lines: &[u8]) {
+/// Runs a script, a second time where memory was refused, and checks its status and its output.
+fn ends_with_status_4(rt: &impl Abort, alloc: Global, ends: Status, script: &[u8], lines: &[u8]) {
     let mut told = Vec::new(alloc);
     if told.reserve(lines.len()).is_err() {
         return;
     }
-    let status = run_script(alloc, script, &mut told);
+    let status = run(alloc, script, &mut told);
     if status != ends {
         assert!(rt; some_was_refused(alloc), "{status:?} with ample memory");
-        check(rt, status == Status::OutOfMemory);
-        check(rt, status.code() == 4);
+        check(rt, status == Status::OutOfMemory && status.code() == 4);
         check(rt, lines.starts_with(told.as_slice()));
         told.clear();
-        check(rt, run_script(alloc, script, &mut told) == ends);
+        check(rt, run(alloc, script, &mut told) == ends);
     }
     check(rt, told.as_slice() == lines);
 }
 
-#[test]
-fn a_script_of_a_bump(rt: HostRuntime) {
-    ends_with_status_4(&rt, rt.alloc(), FIRST_PATH, Status::Done, FIRST_PATH_LINES);
+/// Runs a row's script. Where memory for the test itself is refused, passes over the row.
+fn keeps(rt: &impl Abort, alloc: Global, ends: Status, row: &str) {
+    let (script, wrote) = field_and_rest(row);
+    if let (Ok(script), Ok(wrote)) = (lines(alloc, script), lines(alloc, wrote)) {
+        ends_with_status_4(rt, alloc, ends, &script, &wrote);
+    }
 }
 
-#[test]
-fn a_script_of_a_one_chunk(rt: HostRuntime) {
-    ends_with_status_4(
-        &rt,
-        rt.alloc(),
-        b"one 4096 64\nalloc 8 8\nshow\nfree 0\nalloc 8 8\n",
-        Status::Done,
-        b"chunk 4096 64\none start 4096 size 64 available no\nreleased\nchunk 4096 64\n",
-    );
-}
+const SCRIPTS: &str = "\
+bump 4096 1024; alloc 48 4; show; alloc 10 32; alloc 950 1; alloc 1 1; show | \
+    chunk 4096 48; BumpAllocator { start: 4096, size: 1024, current_position: 48 }; used 48 free 976 total 1024; \
+    chunk 4160 10; chunk 4170 950; OutOfMemory; BumpAllocator { start: 4096, size: 1024, current_position: 1024 }; \
+    used 1024 free 0 total 1024
+one 4096 64; alloc 8 8; show; free 0; alloc 8 8 | chunk 4096 64; one start 4096 size 64 available no; released; chunk 4096 64
+pool 4096 128 128 8; alloc 48 4; alloc 1 1; show; free 0 | \
+    chunk 4096 48; OutOfMemory; pool start 4096 size 128 bucket 128 align 8 buckets 1 live 1 reads 1; released
+fixed 4096 128 128 8; alloc 48 4; alloc 1 1; show; free 0 | \
+    chunk 4096 48; OutOfMemory; fixed size 128 bucket 128 align 8 buckets 1 live 1; released
+steps-bump 4096 64; read 0 8 8; show; exchange 0; clear | sees 0; used 0; wins 4096 8; cleared
+steps-pool 2; try 0; try 1; show; try 1; give 0 0 | takes 0; loses 0; held 0 -; takes 1; gives 0
+loan-pool 4096 128 128 8; out 0; loan 48; loan 1; publish 0 2; back 0; back 0; loan 7 | \
+    no; loan 0 4096 48; OutOfMemory; published; kept; returned; loan 1 4096 7";
 
 #[test]
-fn a_script_of_a_pool(rt: HostRuntime) {
-    ends_with_status_4(
-        &rt,
-        rt.alloc(),
-        b"pool 4096 128 128 8\nalloc 48 4\nalloc 1 1\nshow\nfree 0\n",
-        Status::Done,
-        b"chunk 4096 48\nOutOfMemory\npool start 4096 size 128 bucket 128 align 8 buckets 1 live 1 reads 1\nreleased\n",
-    );
+fn a_script_of_each_kind(rt: HostRuntime) {
+    for row in SCRIPTS.split("\n") {
+        keeps(&rt, rt.alloc(), Status::Done, row);
+    }
 }
 
-#[test]
-fn a_script_of_kind_fixed(rt: HostRuntime) {
-    ends_with_status_4(
-        &rt,
-        rt.alloc(),
-        b"fixed 4096 128 128 8\nalloc 48 4\nalloc 1 1\nshow\nfree 0\n",
-        Status::Done,
-        b"chunk 4096 48\nOutOfMemory\nfixed size 128 bucket 128 align 8 buckets 1 live 1\nreleased\n",
-    );
-}
-
-#[test]
-fn a_script_of_bump_steps(rt: HostRuntime) {
-    ends_with_status_4(
-        &rt,
-        rt.alloc(),
-        b"steps-bump 4096 64\nread 0 8 8\nshow\nexchange 0\nclear\n",
-        Status::Done,
-        b"sees 0\nused 0\nwins 4096 8\ncleared\n",
-    );
-}
-
-#[test]
-fn a_script_of_pool_steps(rt: HostRuntime) {
-    ends_with_status_4(
-        &rt,
-        rt.alloc(),
-        b"steps-pool 2\ntry 0\ntry 1\nshow\ntry 1\ngive 0 0\n",
-        Status::Done,
-        b"takes 0\nloses 0\nheld 0 -\ntakes 1\ngives 0\n",
-    );
-}
-
-#[test]
-fn a_script_of_loans(rt: HostRuntime) {
-    ends_with_status_4(
-        &rt,
-        rt.alloc(),
-        b"loan-pool 4096 128 128 8\nout 0\nloan 48\nloan 1\npublish 0 2\nback 0\nback 0\nloan 7\n",
-        Status::Done,
-        b"no\nloan 0 4096 48\nOutOfMemory\npublished\nkept\nreturned\nloan 1 4096 7\n",
-    );
-}
-
-/// The line that is told of a first unreadable one takes memory, too.
+/// The line about the first unreadable one takes memory, too.
 #[test]
 fn an_unreadable_script(rt: HostRuntime) {
-    ends_with_status_4(
+    keeps(
         &rt,
         rt.alloc(),
-        b"bump 4096 8\nbad\n",
         Status::Unreadable,
-        b"line 2: refused\n",
+        "bump 4096 8; bad | line 2: refused",
     );
 }

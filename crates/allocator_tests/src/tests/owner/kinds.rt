@@ -1,241 +1,214 @@
-//! What one kind of allocator has, or has by its own name.
-ghost use Rattle.std.specs.Prelude.{◌≡◌, ℕ, List, Some, slice_get, remove};
-ghost use Rattle.bb_memory_base.specs.Chunk.{Chunk};
-ghost use Rattle.bb_memory.specs.Pool.{HoldsPlace, StandsFor};
+//! The allocators with one owner: how a row makes each, its getters and its runs.
+ghost use Rattle.std.specs.Prelude.{◌≡◌, [], IfSome};
+ghost use Rattle.bb_memory_base.specs.Region.{region_at};
+ghost use Rattle.bb_memory.specs.Pool.{StandsFor};
 
-use super::{Answer, Call, Owner, Step, chunk_at};
+use super::super::rows::{Words, field_and_rest, layout_of, words};
+use super::{Owner, keeps};
 use bb_memory::allocator::{BaseAllocator, Command, Reply};
 use bb_memory::bump_allocator::{BumpAllocator, run_bump};
-use bb_memory::layout::Chunk;
+use bb_memory::layout::Layout;
 use bb_memory::one_chunk_allocator::{OneChunkAllocator, run_base_one_chunk, run_one_chunk};
 use bb_memory::pool_allocator::{
     FixedSizePoolAllocator, PoolAllocator, run_base_fixed_pool, run_base_pool, run_fixed_pool,
     run_pool,
 };
 use std::alloc::{AllocError, Global};
+use std::process::Abort;
 
-/// What the getters answer, in the order in which an allocator declares them, and zeros behind them.
-pub(crate) type Figures = [usize; 5];
+/// The getters' answers, in the order of the declarations, then zeros.
+pub(crate) type Figures = [usize; 6];
 
-/// By which function commands are run: without resizes or with them, over any allocator or by an allocator's name.
-#[derive(Clone, Copy)]
-pub(crate) enum Run {
-    Base,
-    Full,
-    BaseByName,
-    FullByName,
+/// A run's replies, or want of memory.
+pub(crate) type Replies = Result<Vec<Reply>, AllocError>;
+
+/// Which run: with resizes or without, and the allocator's own (`run_pool`) or the one over any allocator (`run_full`).
+#[derive(Debug, Clone, Copy)]
+pub(crate) struct Run {
+    pub(crate) resizes: bool,
+    pub(crate) by_name: bool,
 }
 
-/// A kind of allocator. Where it lacks a call, what is answered is what no row wants.
+/// An allocator that rows can name.
 pub(crate) trait Kind: BaseAllocator + Drop {
     fn figures(&self) -> Figures;
 
-    /// Whether a chunk or a bucket is held at a place.
-    fn holds_at(&self, place: usize) -> bool;
+    /// Makes a call. Answers `passed` where the allocator has no such call.
+    fn answer(owner: &mut Owner<Self>, call: Words<'_>) -> Words<'static>;
 
-    /// How many index words the last request read.
-    fn reads(&self) -> Option<u32>;
-
-    /// Makes a call.
-    fn answer(owner: &mut Owner<Self>, call: Call) -> Answer;
-
-    /// The commands' replies.
-    fn run(
-        owner: &mut Owner<Self>,
-        run: Run,
-        commands: &[Command],
-    ) -> Result<Vec<Reply>, AllocError>;
+    /// Runs commands.
+    fn run(owner: &mut Owner<Self>, run: Run, commands: &[Command]) -> Replies;
 }
 
 impl Kind for BumpAllocator {
     fn figures(&self) -> Figures {
-        [
-            self.start_address(),
-            self.used_space(),
-            self.free_space(),
-            self.total_space(),
-            0,
-        ]
+        let (start, total) = (self.start_address(), self.total_space());
+        [start, self.used_space(), self.free_space(), total, 0, 0]
     }
 
-    fn holds_at(&self, _place: usize) -> bool {
-        false
-    }
-
-    fn reads(&self) -> Option<u32> {
-        None
-    }
-
-    fn answer(owner: &mut Owner<Self>, call: Call) -> Answer {
+    fn answer(owner: &mut Owner<Self>, call: Words<'_>) -> Words<'static> {
         owner.answer_base(call)
     }
 
-    fn run(
-        owner: &mut Owner<Self>,
-        run: Run,
-        commands: &[Command],
-    ) -> Result<Vec<Reply>, AllocError> {
-        match run {
-            Run::Base | Run::Full => owner.run_base(commands),
-            Run::BaseByName | Run::FullByName => {
-                run_bump(&mut owner.allocator, &mut owner.live, commands)
-            }
+    fn run(owner: &mut Owner<Self>, run: Run, commands: &[Command]) -> Replies {
+        if run.by_name {
+            run_bump(&mut owner.allocator, &mut owner.live, commands)
+        } else {
+            owner.run_base(commands)
         }
     }
 }
 
 impl Kind for OneChunkAllocator {
-    /// The last figure is 1 where a chunk is available.
+    /// The third figure is 1 where a chunk is available, the fourth where one is held at 4100.
     fn figures(&self) -> Figures {
         let available = usize::from(self.has_chunk_available());
-        [self.start_address(), self.size(), available, 0, 0]
+        let held = usize::from(self.holds(4100));
+        [self.start_address(), self.size(), available, held, 0, 0]
     }
 
-    fn holds_at(&self, place: usize) -> bool {
-        self.holds(place)
-    }
-
-    fn reads(&self) -> Option<u32> {
-        None
-    }
-
-    fn answer(owner: &mut Owner<Self>, call: Call) -> Answer {
+    fn answer(owner: &mut Owner<Self>, call: Words<'_>) -> Words<'static> {
         owner.answer_full(call)
     }
 
-    fn run(
-        owner: &mut Owner<Self>,
-        run: Run,
-        commands: &[Command],
-    ) -> Result<Vec<Reply>, AllocError> {
-        match run {
-            Run::Base | Run::Full => owner.run_any(run, commands),
-            Run::BaseByName => {
-                run_base_one_chunk(&mut owner.allocator, &mut owner.live, commands)
-            }
-            Run::FullByName => run_one_chunk(&mut owner.allocator, &mut owner.live, commands),
+    fn run(owner: &mut Owner<Self>, run: Run, commands: &[Command]) -> Replies {
+        match (run.by_name, run.resizes) {
+            (false, _) => owner.run_any(run, commands),
+            (true, false) => run_base_one_chunk(&mut owner.allocator, &mut owner.live, commands),
+            (true, true) => run_one_chunk(&mut owner.allocator, &mut owner.live, commands),
         }
     }
 }
 
 impl Kind for PoolAllocator<Global> {
+    /// The last figure is `last_reads`.
     fn figures(&self) -> Figures {
-        [
-            self.start_address(),
+        let (buckets, reads) = (
             self.number_of_buckets() as usize,
-            self.size(),
-            self.bucket_size(),
-            self.max_alignment(),
-        ]
+            self.last_reads() as usize,
+        );
+        let (first, size, bucket) = (self.start_address(), self.size(), self.bucket_size());
+        [first, buckets, size, bucket, self.max_alignment(), reads]
     }
 
-    fn holds_at(&self, place: usize) -> bool {
-        self.holds(place)
+    fn answer(owner: &mut Owner<Self>, call: Words<'_>) -> Words<'static> {
+        owner.answer_full(call)
     }
 
-    fn reads(&self) -> Option<u32> {
-        Some(self.last_reads())
-    }
-
-    fn answer(owner: &mut Owner<Self>, call: Call) -> Answer {
-        match call {
-            Call::DeallocateBucket(position) => owner.deallocate_bucket(position),
-            call => owner.answer_full(call),
-        }
-    }
-
-    fn run(
-        owner: &mut Owner<Self>,
-        run: Run,
-        commands: &[Command],
-    ) -> Result<Vec<Reply>, AllocError> {
-        match run {
-            Run::Base | Run::Full => owner.run_any(run, commands),
-            Run::BaseByName => run_base_pool(&mut owner.allocator, &mut owner.live, commands),
-            Run::FullByName => run_pool(&mut owner.allocator, &mut owner.live, commands),
+    fn run(owner: &mut Owner<Self>, run: Run, commands: &[Command]) -> Replies {
+        match (run.by_name, run.resizes) {
+            (false, _) => owner.run_any(run, commands),
+            (true, false) => run_base_pool(&mut owner.allocator, &mut owner.live, commands),
+            (true, true) => run_pool(&mut owner.allocator, &mut owner.live, commands),
         }
     }
 }
 
 impl<const N: usize> Kind for FixedSizePoolAllocator<N> {
     fn figures(&self) -> Figures {
+        let (buckets, size) = (self.number_of_buckets() as usize, self.size());
         [
-            self.number_of_buckets() as usize,
-            self.size(),
+            buckets,
+            size,
             self.bucket_size(),
             self.max_alignment(),
+            0,
             0,
         ]
     }
 
-    fn holds_at(&self, place: usize) -> bool {
-        self.holds(place)
-    }
-
-    fn reads(&self) -> Option<u32> {
-        None
-    }
-
-    fn answer(owner: &mut Owner<Self>, call: Call) -> Answer {
+    fn answer(owner: &mut Owner<Self>, call: Words<'_>) -> Words<'static> {
         owner.answer_full(call)
     }
 
-    fn run(
-        owner: &mut Owner<Self>,
-        run: Run,
-        commands: &[Command],
-    ) -> Result<Vec<Reply>, AllocError> {
-        match run {
-            Run::Base | Run::Full => owner.run_any(run, commands),
-            Run::BaseByName => {
-                run_base_fixed_pool(&mut owner.allocator, &mut owner.live, commands)
-            }
-            Run::FullByName => run_fixed_pool(&mut owner.allocator, &mut owner.live, commands),
+    fn run(owner: &mut Owner<Self>, run: Run, commands: &[Command]) -> Replies {
+        match (run.by_name, run.resizes) {
+            (false, _) => owner.run_any(run, commands),
+            (true, false) => run_base_fixed_pool(&mut owner.allocator, &mut owner.live, commands),
+            (true, true) => run_fixed_pool(&mut owner.allocator, &mut owner.live, commands),
         }
     }
 }
 
-impl Owner<PoolAllocator<Global>> {
-    /// Gives back the bucket at a position, by its place alone.
-    fn deallocate_bucket(&mut self, position: usize) -> Answer {
-        let Some(chunk) = chunk_at(&self.live, position) else {
-            return Answer::NotMade;
-        };
-        if !self.allocator.holds(chunk.place()) {
-            return Answer::NotMade;
-        }
-        give_back_bucket(&mut self.allocator, chunk.place());
-        self.live.remove(position);
-        Answer::Done
-    }
-}
-
-/// Gives back the bucket at a place.
-fn give_back_bucket(pool: &mut PoolAllocator<Global>, place: usize)
-    requires { HoldsPlace pool.old.pool place }
-    ensures released { (live : List Chunk) (position : ℕ) (chunk : Chunk)
-        → StandsFor pool.old.pool live → slice_get live position ≡ Some chunk
-        → chunk.place ≡ place → StandsFor pool.new.pool (remove live position) }
-    ensures geometry { pool.new.pool.geometry ≡ pool.old.pool.geometry }
+/// Makes a pool of `size` bytes at `start`.
+pub(crate) fn pool_over(
+    alloc: Global,
+    bucket: Layout,
+    start: usize,
+    size: usize,
+) -> Option<PoolAllocator<Global>>
+    ensures empty { IfSome result (λ pool. StandsFor pool.pool []) }
+    ensures region { IfSome result (λ pool. pool.pool.geometry.region ≡ region_at start size) }
 {
-    pool.deallocate_bucket(place);
+    if !PoolAllocator::can_make(bucket, start, size) {
+        return None;
+    }
+    PoolAllocator::new_uninit(bucket, start, size)
+        .init(alloc)
+        .ok()
 }
 
-/// These commands are replied so where resizes are carried out, and so where they are passed over: by the run over any allocator
-/// and by that of the allocator's name, one behind the other. Each leaves no chunk out.
-pub(crate) fn runs<'a>(
-    commands: &'a [Command],
-    full: &'a [Reply],
-    base: &'a [Reply],
-) -> [Step<'a>; 8] {
-    [
-        Step::Run(Run::Full, commands, full),
-        Step::Out(&[]),
-        Step::Run(Run::FullByName, commands, full),
-        Step::Out(&[]),
-        Step::Run(Run::Base, commands, base),
-        Step::Out(&[]),
-        Step::Run(Run::BaseByName, commands, base),
-        Step::Out(&[]),
-    ]
+/// Makes a fixed pool of `size` bytes at `start`, of at most `N` buckets.
+pub(crate) fn fixed_over<const N: usize>(
+    bucket: Layout,
+    start: usize,
+    size: usize,
+) -> Option<FixedSizePoolAllocator<N>>
+    ensures empty { IfSome result (λ pool. StandsFor pool []) }
+    ensures region { IfSome result (λ pool. pool.geometry.region ≡ region_at start size) }
+{
+    if !FixedSizePoolAllocator::<N>::can_make(bucket, start, size) {
+        return None;
+    }
+    Some(FixedSizePoolAllocator::new(bucket, start, size))
+}
+
+/// A row's second field: the allocator's name with the region's start and size, and the layout of a pool's bucket.
+type Made<'a> = (Words<'a>, Option<Layout>);
+
+fn bump((made, _): Made<'_>, alloc: Global) -> Option<Owner<BumpAllocator>> {
+    let [start, size, ..] = made.1;
+    if !BumpAllocator::can_make(start, size) {
+        return None;
+    }
+    Owner::new(alloc, BumpAllocator::new(start, size), start, size)
+}
+
+fn one((made, _): Made<'_>, alloc: Global) -> Option<Owner<OneChunkAllocator>> {
+    let [start, size, ..] = made.1;
+    if !OneChunkAllocator::can_make(start, size) {
+        return None;
+    }
+    Owner::new(alloc, OneChunkAllocator::new(start, size), start, size)
+}
+
+fn pool((made, bucket): Made<'_>, alloc: Global) -> Option<Owner<PoolAllocator<Global>>> {
+    let [start, size, ..] = made.1;
+    Owner::new(alloc, pool_over(alloc, bucket?, start, size)?, start, size)
+}
+
+fn fixed<const N: usize>(
+    (made, bucket): Made<'_>,
+    alloc: Global,
+) -> Option<Owner<FixedSizePoolAllocator<N>>> {
+    let [start, size, ..] = made.1;
+    Owner::new(alloc, fixed_over::<N>(bucket?, start, size)?, start, size)
+}
+
+/// Makes the allocator that a row names, and the row's calls by a run or one by one. A `fixed` pool has at most 512 buckets, a
+/// `four` at most four.
+pub(crate) fn keeps_row(rt: &impl Abort, alloc: Global, run: Option<Run>, row: &str) {
+    let (name, row) = field_and_rest(row);
+    let (made, calls) = field_and_rest(row);
+    let made = words(made);
+    let row = (name, calls);
+    let of = (made, layout_of(made.1[2], made.1[3]));
+    match made.0 {
+        "bump" => keeps(rt, alloc, bump(of, alloc), run, row),
+        "one" => keeps(rt, alloc, one(of, alloc), run, row),
+        "pool" => keeps(rt, alloc, pool(of, alloc), run, row),
+        "fixed" => keeps(rt, alloc, fixed::<512>(of, alloc), run, row),
+        "four" => keeps(rt, alloc, fixed::<4>(of, alloc), run, row),
+        _ => panic!(rt; "{name}: an unknown kind"),
+    }
 }

@@ -1,24 +1,22 @@
-//! A refused world isn't made, and a refused replay leaves its world as it was.
+//! Worlds and their replays, each row by its name. A refused replay leaves its world unchanged.
+use super::ends_unmade;
 use crate::marks::some_was_refused;
-use crate::tests::checks::check;
-use crate::tests::layouts::{chunk, layout};
-use crate::tests::worlds::{
-    bump_outcome, bump_world, holders, pool_outcome, pool_world, used_space,
-};
+use crate::tests::checks::{check, chunk, layout};
 use bb_memory::steps::{BumpOutcome, BumpStep, BumpWorld, PoolOutcome, PoolStep, PoolWorld};
 use std::alloc::Global;
 use std::process::Abort;
 
-/// A world of a bump with 64 parties, where memory was refused at a second trial.
-fn bump_at_last(rt: &impl Abort, alloc: Global) -> BumpWorld {
-    if let Some(world) = bump_world(alloc, 64) {
-        return world;
-    }
-    check(rt, some_was_refused(alloc));
-    bump_world(alloc, 64).expect(rt, "there is memory again")
+/// Makes a world of a bump of 64 bytes at 4096, or `None` where memory was refused.
+pub(super) fn bump_world(alloc: Global, parties: u32) -> Option<BumpWorld> {
+    BumpWorld::new(alloc, 4096, 64, parties).ok()
 }
 
-/// What a replay tells, which leaves the bump fresh where memory was refused at first.
+/// Makes a world of a pool of two buckets, or `None` where memory was refused.
+pub(super) fn pool_world(alloc: Global, parties: u32) -> Option<PoolWorld> {
+    PoolWorld::new(alloc, 2, parties).ok()
+}
+
+/// Replays steps, a second time where memory was refused: then the bump is still fresh.
 fn replayed_by_bump(
     rt: &impl Abort,
     alloc: Global,
@@ -29,8 +27,8 @@ fn replayed_by_bump(
         return told;
     }
     check(rt, some_was_refused(alloc));
-    let load = bump_outcome(world, BumpStep::Load { party: 0 });
-    check(rt, load == BumpOutcome::Loaded(0));
+    let loaded = world.step(BumpStep::Load { party: 0 });
+    check(rt, loaded == BumpOutcome::Loaded(0));
     world.replay(steps).expect(rt, "there is memory again")
 }
 
@@ -49,22 +47,15 @@ fn steps_bump_race(rt: HostRuntime) {
         BumpOutcome::Wins(chunk(&rt, 4096, 40)),
         BumpOutcome::RefusedAtLoss(40),
     ];
-    let mut world = bump_at_last(&rt, rt.alloc());
+    let Some(mut world) = bump_world(rt.alloc(), 64) else {
+        return ends_unmade(&rt, rt.alloc());
+    };
     let told = replayed_by_bump(&rt, rt.alloc(), &mut world, &steps);
     check(&rt, told.as_slice() == outcomes.as_slice());
-    check(&rt, used_space(&world) == 40);
+    check(&rt, world.used_space() == 40);
 }
 
-/// A world of a pool with 64 parties, where memory was refused at a second trial.
-fn pool_at_last(rt: &impl Abort, alloc: Global) -> PoolWorld {
-    if let Some(world) = pool_world(alloc, 64) {
-        return world;
-    }
-    check(rt, some_was_refused(alloc));
-    pool_world(alloc, 64).expect(rt, "there is memory again")
-}
-
-/// What a replay tells, which leaves the pool fresh where memory was refused at first.
+/// Replays steps, a second time where memory was refused: then the pool is still fresh.
 fn replayed_by_pool(
     rt: &impl Abort,
     alloc: Global,
@@ -75,15 +66,14 @@ fn replayed_by_pool(
         return told;
     }
     check(rt, some_was_refused(alloc));
-    let untimely = pool_outcome(
-        world,
-        PoolStep::GiveBack {
-            party: 0,
-            bucket: 0,
-        },
-    );
-    check(rt, untimely == PoolOutcome::Passed);
+    check(rt, (world.holder(0), world.holder(1)) == (None, None));
+    check(rt, world.step(gives(0)) == PoolOutcome::Passed);
     world.replay(steps).expect(rt, "there is memory again")
+}
+
+/// Returns the step by which a party gives bucket 0 back.
+fn gives(party: u32) -> PoolStep {
+    PoolStep::GiveBack { party, bucket: 0 }
 }
 
 #[test]
@@ -92,10 +82,7 @@ fn steps_pool_never_full(rt: HostRuntime) {
         PoolStep::Try { party: 0 },
         PoolStep::Try { party: 1 },
         PoolStep::Try { party: 2 },
-        PoolStep::GiveBack {
-            party: 0,
-            bucket: 0,
-        },
+        gives(0),
         PoolStep::Try { party: 1 },
         PoolStep::Try { party: 2 },
     ];
@@ -107,8 +94,10 @@ fn steps_pool_never_full(rt: HostRuntime) {
         PoolOutcome::Takes(1),
         PoolOutcome::RefusedAtLoss(1),
     ];
-    let mut world = pool_at_last(&rt, rt.alloc());
+    let Some(mut world) = pool_world(rt.alloc(), 64) else {
+        return ends_unmade(&rt, rt.alloc());
+    };
     let told = replayed_by_pool(&rt, rt.alloc(), &mut world, &steps);
     check(&rt, told.as_slice() == outcomes.as_slice());
-    check(&rt, holders(&world) == (None, Some(1)));
+    check(&rt, (world.holder(0), world.holder(1)) == (None, Some(1)));
 }

@@ -1,51 +1,16 @@
 //! An allocator that counts the requests that are made of it, where a test can read it.
-ghost use Rattle.std.specs.Prelude.{[]};
-
-use super::loans::{Told, reply_to};
 use bb_memory::allocator::{
     AllocationError, AllocationGrowError, AllocationShrinkError, Allocator, BaseAllocator,
 };
 use bb_memory::layout::{Chunk, Layout};
-use loan_book::{LoanBook, LoanCall};
-use std::alloc::Global;
 use std::cell::Cell;
-use std::marker::Model;
 use std::rc::Rc;
 
 /// Answers as the allocator that it has, and counts the requests for chunks in a cell.
 #[derive(Drop)]
 pub(super) struct Counted<A: Allocator + Drop> {
-    inner: A,
-    requests: Rc<Cell<usize>>,
-}
-
-/// A book over an allocator that counts, by a type of its own: who calls it carries no more than what its allocator is.
-#[derive(Drop)]
-pub(super) struct CountedBook<A: Allocator + Drop> {
-    book: LoanBook<Counted<A>>,
-}
-
-impl<A: Allocator + Drop> Model for CountedBook<A> {
-    // Nothing is told of it.
-    ghost Value = { Unit {0} };
-
-    ghost view = { λ _. tt };
-}
-
-impl<A: Allocator + Drop> CountedBook<A> {
-    /// A book over this allocator, which has nothing out. The cell counts the requests that are made of it.
-    pub(super) fn new(alloc: Global, inner: A, requests: Rc<Cell<usize>>) -> CountedBook<A>
-        requires { A.stands_for inner [] }
-    {
-        CountedBook {
-            book: LoanBook::new(alloc, Counted { inner, requests }),
-        }
-    }
-
-    /// What is told of a loan of so many bytes.
-    pub(super) fn loan(&mut self, size: usize) -> Told {
-        Told::of(reply_to(&mut self.book, LoanCall::Loan(size)))
-    }
+    pub(super) inner: A,
+    pub(super) requests: Rc<Cell<usize>>,
 }
 
 impl<A: Allocator + Drop> BaseAllocator for Counted<A> {
