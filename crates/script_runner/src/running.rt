@@ -1,8 +1,11 @@
 //! From the bytes of a script to the bytes that it is answered.
-ghost use Rattle.std.specs.Prelude.{◌≡◌, ◌≢◌, ◌⊎◌, ℕ, List};
+ghost use Rattle.std.specs.Prelude.{◌≡◌, ◌≢◌, ◌⊎◌, ℕ, List, true};
 ghost use Rattle.std.specs.Io.KnownBytes.{Keeps, Appends};
 ghost use Rattle.script_runner.specs.Status.{IsCutShort};
 ghost use Rattle.script_runner.specs.Inputs.{IsAnswered, IsUnreadable, BeginsOutput, IsLeft};
+ghost use Rattle.script_runner.specs.Inputs.{IsAnsweredBy, IsUnreadableAt, BeginsOutputOf};
+ghost use Rattle.script_runner.specs.engine.Lines.{lines_of};
+ghost use Rattle.script_runner.specs.engine.Rules.{SomeOf, are_apart};
 ghost use Rattle.script_runner.specs.engine.Transcript.{unreadable_text};
 
 use crate::engine::driving::tell_unreadable;
@@ -31,27 +34,30 @@ pub fn run<R: Read + Drop, W: Write>(alloc: Global, mut reader: R, writer: &mut 
 {
     let mut input = Vec::new(alloc);
     match reader.read_to_end(&mut input) {
-        Ok(_) => run_input(alloc, &input, writer),
+        Ok(_) => run_input::<AllKinds, W>(alloc, &input, writer),
         Err(e) if e.kind() == ErrorKind::OutOfMemory => Status::OutOfMemory,
         Err(_) => Status::InputFailed,
     }
 }
 
-/// Checks every line of an input, and then runs it.
-fn run_input<W: Write>(alloc: Global, input: &[u8], writer: &mut W) -> Status
-    ensures done { result ≡ Status.Done → (text : List ℕ) × IsAnswered input.now text
+/// Checks every line of an input, and then runs it, by a table of kinds.
+fn run_input<K: Kinds, W: Write>(alloc: Global, input: &[u8], writer: &mut W) -> Status
+    requires { are_apart K.table ≡ true }
+    ensures done { result ≡ Status.Done → (text : List ℕ)
+        × SomeOf K.table (IsAnsweredBy (lines_of input.now) text)
         × Appends (W.contents writer.old) (W.contents writer.new) text }
-    ensures unreadable { result ≡ Status.Unreadable → (number : ℕ) × IsUnreadable input.now number
+    ensures unreadable { result ≡ Status.Unreadable → (number : ℕ)
+        × IsUnreadableAt K.table (lines_of input.now) number
         × Appends (W.contents writer.old) (W.contents writer.new) (unreadable_text number) }
     ensures cut_short { IsCutShort result → Keeps (W.contents writer.old) (W.contents writer.new)
-        ⊎ ((sent : List ℕ) × BeginsOutput input.now sent
+        ⊎ ((sent : List ℕ) × BeginsOutputOf K.table (lines_of input.now) sent
         × Appends (W.contents writer.old) (W.contents writer.new) sent) }
     ensures input_read { result ≢ Status.InputFailed }
 {
     let Some((first, rest)) = first_line(input) else {
         return tell_unreadable(alloc, 1, writer);
     };
-    match AllKinds::run(alloc, first, rest, writer) {
+    match K::run(alloc, first, rest, writer) {
         Some(status) => status,
         None => tell_unreadable(alloc, 1, writer),
     }
