@@ -1,4 +1,4 @@
--- What a party held before a return, a detach or an attach: all that it holds behind it, but an attached bucket.
+-- What a party holds behind a return or a detach it held before.
 use Rattle.std.proofs.Common.{◌≡◌, ◌≢◌, ℕ, ◌++◌, Bool, true, false, sym, ap, ◌∙◌}
 use Rattle.std.specs.Prelude.{◌==◌, if◌then◌else◌}
 use Rattle.bb_memory_base.specs.PoolLogs.{IsHeldAfter}
@@ -22,11 +22,3 @@ pub was_held_too : (party : PoolParty) (bucket other : ℕ) →
 was_held_too party bucket other held =
     either_less (bucket == other) (held_through other false party.log)
     (sym (held-append other false party.log (detach_entry party.number bucket)) ∙ held)
-
-pub held_other : (party : PoolParty) (bucket other : ℕ) → other ≢ bucket →
-    IsHeldAfter (party.log ++ attach_entry party.number bucket) other → IsHeldAfter party.log other
-held_other party bucket other apart held =
-    let before : Bool = held_through other false party.log in
-    sym (held-append other false party.log (attach_entry party.number bucket)
-    ∙ ap (λ (b : Bool). if b then true else before) (test_apart bucket other (λ same. apart (sym same))))
-    ∙ held

@@ -43,11 +43,6 @@ module _ (pool : SharedPool) (table : TableId) (me : Me ℕ SeatView) (number : 
   same_number : number_of me.0 ≡ number
   same_number = ap (λ (m : Me ℕ SeatView). number_of m.0) is.seat.seat.is
 
-  pub idle_seat : IsSeatOfIdle pool.scene (number_of me.0) (view_log me.0) me
-  idle_seat =
-      subst (λ (s : PoolScene). IsSeatOfIdle s (number_of me.0) (view_log me.0) me) own_scene
-      (subst (λ (n : ℕ). IsSeatOfIdle me.0.scene n (view_log me.0) me) (sym same_number) is.seat)
-
   -- its party, once these entries are added
   pub party_then : (new_table : TableId) (new : Me ℕ SeatView) (added : PoolLog) → new_table ≡ table →
       HasEnded pool.scene (number_of me.0) (view_log me.0) added new →

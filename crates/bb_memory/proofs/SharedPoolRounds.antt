@@ -162,16 +162,6 @@ module _ (scene : PoolScene) (number : ℕ) (log : PoolLog) (first : ℕ) where
     held = λ one earlier below. absurd (omega arith);
   }
 
-  -- the seat goes on to stand for the idle party alone
-  pub round_seat : (me : Me ℕ SeatView) (turn : ℕ) → IsInRound scene number log first turn me →
-      IsSeatOfIdle scene (number_of me.0) (view_log me.0) me
-  round_seat me turn round =
-      subst (λ (m : Me ℕ SeatView). IsSeatOfIdle scene (number_of m.0) (view_log m.0) m) (sym round.ended.seat.is)
-      record {
-        seat = record { is = refl; interleaved = round.ended.seat.interleaved };
-        idle = round.ended.idle;
-      }
-
   module _ (me new : Me ℕ SeatView) (turn : ℕ) (round : IsInRound scene number log first turn me) where
     abbrev tried : ℕ
     tried = at_turn scene.geometry.buckets first turn

@@ -175,16 +175,3 @@ held_after_detach party bucket other log apart held =
     held-append other false log (detach_entry party bucket)
     ∙ ap (λ (b : Bool). if b then false else held_through other false log) differ
     ∙ held
-
-pub attached_is_held : (party bucket : ℕ) (log : PoolLog) → IsHeldAfter (log ++ attach_entry party bucket) bucket
-attached_is_held party bucket log =
-    let same : (bucket == bucket) ≡ true = grind (arith, nat_tests) in
-    held-append bucket false log (attach_entry party bucket)
-    ∙ ap (λ (b : Bool). if b then true else held_through bucket false log) same
-
-pub held_after_attach : (party bucket other : ℕ) (log : PoolLog) → IsHeldAfter log other →
-    IsHeldAfter (log ++ attach_entry party bucket) other
-held_after_attach party bucket other log held =
-    held-append other false log (attach_entry party bucket)
-    ∙ ap (λ (b : Bool). if bucket == other then true else b) held
-    ∙ either_true (bucket == other)

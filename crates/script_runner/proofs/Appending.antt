@@ -23,12 +23,7 @@ appends_kept (Some a) None new xs one two = absurd one
 appends_kept (Some a) (Some b) None xs one two = absurd two
 appends_kept (Some a) (Some b) (Some c) xs one two = two ∙ one
 
--- what holds anyway holds where a call succeeds
-pub on_ok : {A E P : Type 0} (r : Result A E) → P → OnOk r P
-on_ok (Ok a) p = p
-on_ok (Err e) p = tt
-
--- and where it fails
+-- what holds anyway holds where a call fails
 pub on_err : {A E P : Type 0} (r : Result A E) → P → OnErr r P
 on_err (Ok a) p = tt
 on_err (Err e) p = p

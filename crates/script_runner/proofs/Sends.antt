@@ -50,9 +50,3 @@ flat_map-more text_of items index item below is =
     ∙ (flat_map-append text_of (take index items) (get_or items index item ∷ [])
     ∙ ap (λ l. flat_map text_of (take index items) ++ l)
     (append-nil (text_of (get_or items index item)) ∙ ap text_of (sym is)))
-
--- what is all written is sent, also where the flush fails
-pub sends_all : {T E : Type 0} (old new : Option (List ℕ)) (text : List ℕ) (r : Result T E) → Appends old new text
-    → Sends old new text r
-sends_all old new text (Ok x) wrote = wrote
-sends_all old new text (Err e) wrote = (text, begins_all text, wrote)
