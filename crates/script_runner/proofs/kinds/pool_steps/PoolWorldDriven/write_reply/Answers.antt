@@ -17,3 +17,9 @@ returns-in-Passed g c = rw c.in-Passed.is c.write_all.ensures.bytes
 
 pub returns-in-Misses : goal.returns-in-Misses
 returns-in-Misses g c = rw c.in-Misses.is c.write_between-in-Misses.ensures
+
+pub returns-in-Detaches : goal.returns-in-Detaches
+returns-in-Detaches g c = rw c.in-Detaches.is c.write_between-in-Detaches.ensures
+
+pub returns-in-Attaches : goal.returns-in-Attaches
+returns-in-Attaches g c = rw c.in-Attaches.is c.write_between-in-Attaches.ensures
