@@ -1,4 +1,4 @@
-use Rattle.std.proofs.Common.{inl, inr, rules}
+use Rattle.std.proofs.Common.{inl, inr, refl, rules}
 use Rattle.script_runner.specs.Inputs.{IsLeft}
 use Rattle.script_runner.proofs.running.run.Goals as goal
 
@@ -21,3 +21,6 @@ returns-in-Ok-clause-cut_short g c short =
       | inl kept ↦ inl kept
       | inr (sent, begins, wrote) ↦ inr (c.read_to_end.new.buf.items, sent, left, begins, wrote)
     ]
+
+pub run_input-requires : goal.run_input-requires
+run_input-requires g c = refl
