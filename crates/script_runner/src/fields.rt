@@ -15,7 +15,7 @@ use std::io;
 use std::io::Write;
 use std::marker::Model;
 
-/// How many parties there are in scripts of steps.
+/// The number of parties in scripts of steps.
 pub const PARTIES: u32 = 64;
 
 /// Parses a number in decimal, without a sign or a leading zero.

@@ -1,4 +1,4 @@
-//! What holds of every input and every status. Nothing here does anything: each contract is a law.
+//! Laws of every input and every status. Nothing here does anything: each contract is a law.
 ghost use Rattle.std.specs.Prelude.{◌≡◌, ◌↔◌, List, ℕ, IsTrue};
 ghost use Rattle.script_runner.specs.declared.status.Status.{Status};
 ghost use Rattle.script_runner.specs.engine.Lines.{lines_of, AreLines};

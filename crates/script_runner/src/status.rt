@@ -1,10 +1,10 @@
-//! How a run ends.
+//! The status of a run.
 ghost use Rattle.std.specs.Prelude.{◌≡◌, ◌↔◌, MatchOption, None, Some};
 ghost use Rattle.script_runner.specs.Status.{code_of, message_of, IsCutShort};
 
 use std::alloc::AllocError;
 
-/// How a run ended, and what was written.
+/// The end of a run, and what was written.
 #[derive(Debug, Clone, Copy, PartialEq, Eq)]
 pub enum Status {
     /// The script was run to its end: a line for each reply, and what each `show` writes.
@@ -20,7 +20,7 @@ pub enum Status {
 }
 
 impl Status {
-    /// The exit status of a program that ran the script.
+    /// Returns the exit status of a program that ran the script.
     pub fn code(self) -> u8
         ensures { result ≡ code_of self }
     {
@@ -32,7 +32,7 @@ impl Status {
         }
     }
 
-    /// What a program tells of it on standard error, behind its own name.
+    /// Returns what a program writes on standard error, behind its own name.
     pub fn message(self) -> Option<&'static str>
         ensures { MatchOption result (message_of self ≡ None)
             (λ text. message_of self ≡ Some text.now) }
@@ -46,7 +46,7 @@ impl Status {
     }
 }
 
-/// What stops a script that is readable.
+/// A failure that stops a readable script.
 #[derive(Clone, Copy)]
 pub enum Failure {
     Output,

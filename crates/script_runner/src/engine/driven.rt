@@ -1,16 +1,16 @@
-//! What a script drives.
+//! The trait of the kinds of scripts.
 
 use std::alloc::{AllocError, Global};
 use std::io;
 use std::io::Write;
 
-/// What a kind of script drives: it takes commands and gives one reply to each.
+/// A kind of script: it is made by a header, takes commands, and gives one reply to each.
 pub trait Driven: Drop {
     ghost use Rattle.std.specs.Prelude.{◌≡◌, ℕ, Bool, List, OnOk, IfOk, IfSome, Some};
     ghost use Rattle.std.specs.Io.KnownBytes.{Appends};
     ghost use Rattle.script_runner.specs.engine.Rules.{Rules, header_line};
 
-    /// What a header says of it.
+    /// The value that a header names.
     type Header: Drop;
 
     type Command: Drop;

@@ -22,7 +22,7 @@ pub enum Line<C> {
 #[derive(Drop)]
 pub struct Script<C> {
     commands: Vec<C>,
-    /// How many commands stand before each `show`.
+    /// The number of commands before each `show`.
     shows: Vec<usize>,
 }
 

@@ -24,7 +24,7 @@ pub trait Scripted: BaseAllocator + Drop {
     ghost use Rattle.script_runner.specs.kinds.Allocators.{AllocatorRules, live_rules};
     ghost use Rattle.script_runner.specs.engine.Rules.{header_line};
 
-    /// What a header says of it.
+    /// The value that a header names.
     type Header: Drop;
 
     /// The rules of its scripts, but for what all allocators share.
