@@ -1,10 +1,9 @@
 -- What a party holds behind a return or a detach it held before.
-use Rattle.std.proofs.Common.{◌≡◌, ◌≢◌, ℕ, ◌++◌, Bool, true, false, sym, ap, ◌∙◌}
+use Rattle.std.proofs.Common.{◌≡◌, ℕ, ◌++◌, Bool, true, false, sym, ◌∙◌}
 use Rattle.std.specs.Prelude.{◌==◌, if◌then◌else◌}
 use Rattle.bb_memory_base.specs.PoolLogs.{IsHeldAfter}
 use Rattle.bb_memory_base.proofs.PoolHolders.{held_through}
-use Rattle.bb_memory_base.proofs.PoolSteps.{test_apart}
-use Rattle.bb_memory.specs.SharedPool.{PoolParty, detach_entry, return_entry, attach_entry}
+use Rattle.bb_memory.specs.SharedPool.{PoolParty, detach_entry, return_entry}
 use Rattle.bb_memory.proofs.SharedPoolTries.{held-append}
 
 either_less : (left held : Bool) → (if left then false else held) ≡ true → held ≡ true

@@ -31,9 +31,7 @@ pub use bucket_pool::{
 use buckets::Buckets;
 pub use fixed_size::FixedSizePoolAllocator;
 use geometry::{Geometry, may_be_cut};
-pub use laws::{
-    pool_count_law, pool_geometry_law, pool_held_law, pool_inside_law, pool_object_law,
-};
+pub use laws::{pool_count_law, pool_geometry_law, pool_held_law, pool_object_law};
 use std::alloc::{Allocator as LanguageAllocator, Global};
 use std::marker::Model;
 

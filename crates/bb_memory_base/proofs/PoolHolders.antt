@@ -13,9 +13,8 @@ use Rattle.bb_memory_base.specs.declared.steps.pool.Flag.{Flag}
 use Rattle.bb_memory_base.specs.declared.steps.pool.Flag.TheVariants.{Free, HeldBy, Detached}
 use Rattle.bb_memory_base.specs.declared.steps.pool.PoolStep.{PoolStep}
 use Rattle.bb_memory_base.proofs.SliceSets.{slice_get-same, slice_get-set_other, slice_get-set_same}
-use Rattle.bb_memory_base.proofs.PoolSteps.{StepKind, takes, takes_at, loses, is_refused, gives, misses, passes}
-use Rattle.bb_memory_base.proofs.PoolSteps.{detaches, attaches}
-use Rattle.bb_memory_base.proofs.PoolSteps.{kind_of, same_from_test, test_same, test_apart}
+use Rattle.bb_memory_base.proofs.PoolSteps.{StepKind, takes, takes_at, loses, is_refused, gives, misses, passes, detaches}
+use Rattle.bb_memory_base.proofs.PoolSteps.{attaches, kind_of, same_from_test, test_same, test_apart}
 
 abbrev is_holder : ℕ → Option Flag → Bool
 is_holder party (Some (HeldBy holder)) = holder == party

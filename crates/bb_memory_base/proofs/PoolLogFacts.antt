@@ -17,9 +17,8 @@ use Rattle.bb_memory_base.specs.declared.steps.pool.PoolStep.{PoolStep}
 use Rattle.bb_memory_base.specs.declared.steps.pool.PoolStep.TheVariants.{Try, TryAt}
 use Rattle.bb_memory_base.specs.declared.steps.pool.PoolOutcome.TheVariants.{Takes}
 use Rattle.bb_memory_base.proofs.SliceSets.{slice_get-same, slice_get-set_other, slice_get-set_same}
-use Rattle.bb_memory_base.proofs.PoolSteps.{IsNext, StepKind, takes, takes_at, loses, is_refused, gives, misses}
-use Rattle.bb_memory_base.proofs.PoolSteps.{detaches, attaches}
-use Rattle.bb_memory_base.proofs.PoolSteps.{passes, kind_of, length-left_by, next_of_idle, test_apart}
+use Rattle.bb_memory_base.proofs.PoolSteps.{IsNext, StepKind, takes, takes_at, loses, is_refused, gives, misses, detaches}
+use Rattle.bb_memory_base.proofs.PoolSteps.{attaches, passes, kind_of, length-left_by, next_of_idle, test_apart}
 use Rattle.bb_memory_base.proofs.PoolFlags.{free_from_flag, taken_from_flag, flag_from_taken}
 use Rattle.bb_memory_base.proofs.PoolHolders.{free_not_holder, holder_in_log, same_holder}
 use Rattle.bb_memory_base.proofs.PoolDetached.{none_detached_alone, none_detached_at_opening, none_held_at_opening, none_taken_at_opening}

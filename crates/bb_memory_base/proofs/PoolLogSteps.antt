@@ -5,10 +5,9 @@ use Rattle.std.specs.Prelude.{slice_get, slice_set, nat_lt, if◌then◌else◌,
 use Rattle.std.proofs.lemmas.Bool.{cases_eq}
 use Rattle.std.proofs.lemmas.Option.{same_Some, slice_get_within, get_or_from_slice_get}
 use Rattle.std.proofs.lemmas.List.Elements.{All-nil}
-use Rattle.bb_memory_base.specs.PoolMachine.{move_of, PoolScene, PoolState, PoolMove, IsFlag, IsHolder, IsTaken, with_pass, taking, loss, return_of}
-use Rattle.bb_memory_base.specs.PoolMachine.{passed, try_flag, try_next, give_flag, try_at, try_one}
-use Rattle.bb_memory_base.specs.PoolMachine.{IsDetached, detach_flag, detach, detaching}
-use Rattle.bb_memory_base.specs.PoolMachine.{attach_flag, attach, attaching}
+use Rattle.bb_memory_base.specs.PoolMachine.{move_of, PoolScene, PoolState, PoolMove, IsFlag, IsHolder, IsTaken, with_pass}
+use Rattle.bb_memory_base.specs.PoolMachine.{taking, loss, return_of, passed, try_flag, try_next, give_flag, try_at, try_one}
+use Rattle.bb_memory_base.specs.PoolMachine.{IsDetached, detach_flag, detach, detaching, attach_flag, attach, attaching}
 use Rattle.bb_memory_base.specs.PoolMachine.{pool_step, left_by}
 use Rattle.bb_memory_base.specs.PoolHistory.{entry_of, PoolLog, PoolEntry}
 use Rattle.bb_memory_base.specs.PoolLogs.{HasLog, held_after, pass_in, next_bucket, loss_at}
@@ -19,8 +18,7 @@ use Rattle.bb_memory_base.specs.declared.steps.pool.PoolStep.{PoolStep}
 use Rattle.bb_memory_base.specs.declared.steps.pool.PoolStep.TheVariants.{Try, GiveBack, TryAt, Detach, Attach}
 use Rattle.bb_memory_base.specs.declared.steps.pool.PoolOutcome.TheVariants.{Takes, Loses, RefusedAtLoss, Gives, Misses, Detaches, Attaches}
 use Rattle.bb_memory_base.proofs.SliceSets.{slice_get-set_other, slice_get-set_same}
-use Rattle.bb_memory_base.proofs.PoolSteps.{calls-left_by, test_below}
-use Rattle.bb_memory_base.proofs.PoolSteps.{length-left_by, test_same}
+use Rattle.bb_memory_base.proofs.PoolSteps.{calls-left_by, test_below, length-left_by, test_same}
 use Rattle.bb_memory_base.proofs.PoolHolders.{holder_in_log}
 use Rattle.bb_memory_base.proofs.PoolFlags.{free_from_flag, taken_from_flag, taken_flags-again, taken_flags-set}
 use Rattle.bb_memory_base.proofs.PoolLogFacts.{held_is_taken, logs_apart, detached_from_logs}

@@ -17,9 +17,8 @@ use Rattle.bb_memory_base.specs.declared.steps.pool.PoolStep.TheVariants.{Try, T
 use Rattle.bb_memory_base.specs.declared.steps.pool.PoolOutcome.{PoolOutcome}
 use Rattle.bb_memory_base.specs.declared.steps.pool.PoolOutcome.TheVariants.{Misses, RefusedAtLoss}
 use Rattle.bb_memory_base.proofs.SliceSets.{slice_get-same, slice_get-set_other, slice_get-set_same}
-use Rattle.bb_memory_base.proofs.PoolSteps.{IsNext, StepKind, takes, takes_at, loses, is_refused, gives, misses, passes}
-use Rattle.bb_memory_base.proofs.PoolSteps.{detaches, attaches}
-use Rattle.bb_memory_base.proofs.PoolSteps.{kind_of, length-left_by, length-step, next_of_idle}
+use Rattle.bb_memory_base.proofs.PoolSteps.{IsNext, StepKind, takes, takes_at, loses, is_refused, gives, misses, passes, detaches}
+use Rattle.bb_memory_base.proofs.PoolSteps.{attaches, kind_of, length-left_by, length-step, next_of_idle}
 use Rattle.bb_memory_base.proofs.PoolFlags.{taken_within}
 use Rattle.bb_memory_base.proofs.PoolRuns.{taken_is_held}
 

@@ -4,11 +4,10 @@ use Rattle.std.proofs.Common.{ap, ◌∙◌, arith, Bool, true, false, Option, S
 use Rattle.std.specs.Prelude.{slice_get, ◌==◌, nat_lt, if◌then◌else◌, unwrap_or}
 use Rattle.std.proofs.lemmas.Bool.Decides.{nat_tests}
 use Rattle.std.proofs.lemmas.List.{length-set, length-replicate}
-use Rattle.bb_memory_base.specs.PoolMachine.{PoolScene, opening_state, left_by, move_of, PoolState, PoolMove, with_pass}
-use Rattle.bb_memory_base.specs.PoolMachine.{IsFlag, IsHolder, IsDetached, IsTaken, detaching, detach, detach_flag}
-use Rattle.bb_memory_base.specs.PoolMachine.{attaching, attach_flag, attach}
-use Rattle.bb_memory_base.specs.PoolMachine.{taking, return_of, passed, try_flag, try_next, give_flag, try_at, try_one}
-use Rattle.bb_memory_base.specs.PoolMachine.{pool_step, pool_after}
+use Rattle.bb_memory_base.specs.PoolMachine.{PoolScene, opening_state, left_by, move_of, PoolState, PoolMove, with_pass, IsFlag}
+use Rattle.bb_memory_base.specs.PoolMachine.{IsHolder, IsDetached, IsTaken, detaching, detach, detach_flag, attaching}
+use Rattle.bb_memory_base.specs.PoolMachine.{attach_flag, attach, taking, return_of, passed, try_flag, try_next, give_flag}
+use Rattle.bb_memory_base.specs.PoolMachine.{try_at, try_one, pool_step, pool_after}
 use Rattle.bb_memory_base.specs.declared.steps.pool.Flag.{Flag}
 use Rattle.bb_memory_base.specs.declared.steps.pool.Flag.TheVariants.{Free, HeldBy, Detached}
 use Rattle.bb_memory_base.specs.declared.steps.pool.PoolStep.{PoolStep}

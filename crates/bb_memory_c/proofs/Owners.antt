@@ -1,10 +1,7 @@
 -- The handles are what is held, each under a name of its own.
 use Rattle.std.proofs.Common.{refl}
 use denote.RattleType.{RattleType}
-use Rattle.bb_memory_c.specs.Rows.{bump_row}
-use Rattle.bb_memory_c.specs.Rows.{one_chunk_row}
-use Rattle.bb_memory_c.specs.Rows.{pool_row}
-use Rattle.bb_memory_c.specs.Rows.{flags_pool_row}
+use Rattle.bb_memory_c.specs.Rows.{bump_row, one_chunk_row, pool_row, flags_pool_row}
 use Rattle.bb_memory_c.specs.contracts.bump_seat.BumpSeats.{the_row as shared_bump_row}
 use Rattle.bb_memory_c.specs.contracts.bump_seat.BumpSeat.{the_row as bump_seat_row}
 use Rattle.bb_memory_c.specs.contracts.pool_seat.PoolSeats.{the_row as shared_pool_row}

@@ -1,7 +1,6 @@
 -- Parties without a seat. A pool's hold nothing: so one begins its seat with no flag set.
-use Rattle.std.proofs.Common.{◌≡◌, ◌≢◌, ◌<◌, ◌∙◌, ◌+◌, ◌∷◌, ◌++◌, [], ℕ, Bool, true, false, List, length}
-use Rattle.std.proofs.Common.{Option, Ok, Err, Some, ◌≤◌}
-use Rattle.std.proofs.Common.{ap, arith, refl, subst, sym}
+use Rattle.std.proofs.Common.{◌≡◌, ◌≢◌, ◌<◌, ◌∙◌, ◌+◌, ◌∷◌, ◌++◌, [], ℕ, Bool, true, false, List, length, Option, Ok, Err, Some}
+use Rattle.std.proofs.Common.{◌≤◌, ap, arith, refl, subst, sym}
 use Rattle.std.specs.Prelude.{◌==◌, All, slice_get}
 use Rattle.std.specs.Option.{option_to_list}
 use Rattle.std.proofs.lemmas.Bool.{eqb-true, false≢true}

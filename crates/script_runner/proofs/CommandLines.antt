@@ -1,6 +1,5 @@
 -- The lines of commands, each as a name and what is behind it.
-use Rattle.std.proofs.Common.{arith, ◌≡◌, ◌≢◌, ◌∙◌, sym, ap, refl, ℕ, List, ◌∷◌, ◌++◌, get_or}
-use Rattle.std.proofs.Common.{codes, Option, Some}
+use Rattle.std.proofs.Common.{arith, ◌≡◌, ◌≢◌, ◌∙◌, sym, ap, refl, ℕ, List, ◌∷◌, ◌++◌, get_or, codes, Option, Some}
 use Rattle.std.specs.Fmt.{decimal}
 use Rattle.std.specs.Option.{option_map}
 use Rattle.bb_memory_base.specs.declared.allocator.Command.{Command}

@@ -4,8 +4,7 @@ use Rattle.std.proofs.Common.{refl, sym, ap, ap₂, ◌∙◌, arith, append_ass
 use Rattle.std.specs.Prelude.{slice_get, slice_index, slice_range}
 use Rattle.std.specs.List.{flat_map}
 use Rattle.std.proofs.lemmas.List.{drop-append-le, take-append-le, take_rest, drop_all, map_push, flat_map_more}
-use Rattle.script_runner.specs.engine.Script.{Batches, batches_from, last_end, AreInOrder}
-use Rattle.script_runner.specs.engine.Script.{script_lines, shown_lines}
+use Rattle.script_runner.specs.engine.Script.{Batches, batches_from, last_end, AreInOrder, script_lines, shown_lines}
 use Rattle.script_runner.specs.declared.engine.script.Line.TheVariants.{Command, Show}
 
 -- there is a batch for each end

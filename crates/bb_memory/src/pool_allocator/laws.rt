@@ -125,19 +125,6 @@ pub fn pool_held_law()
         → place ≡ bucket_place pool.geometry i → HoldsPlace pool place }
 {}
 
-/// Where a bucket lies, one that is given, and one that is held: inside the pool's region. It does nothing: its contract is the
-/// law.
-pub fn pool_inside_law()
-    ensures bucket_inside { (geometry : PoolGeometry) (i : ℕ) → IsPoolGeometry geometry
-        → i < geometry.buckets → bucket_place geometry i < region_end geometry.region }
-    ensures begins_inside { (geometry : PoolGeometry) (live : List Chunk) (layout : Layout)
-        (chunk : Chunk) → IsPoolGeometry geometry → MayAllocate geometry live layout (Ok chunk)
-        → chunk.place < region_end geometry.region }
-    ensures held_inside { (pool : Pool) (place : ℕ) → IsPool pool → HoldsPlace pool place
-        → IsInside pool.geometry.region
-        (record { place = place; len = pool.geometry.bucket.size }) }
-{}
-
 /// How many buckets a region is cut into, as a quotient, and so when it may be cut. It does nothing: its contract is the law.
 pub fn pool_count_law()
     ensures count { (region : Region) (bucket : Layout) (geometry : PoolGeometry) → 0 < bucket.size
