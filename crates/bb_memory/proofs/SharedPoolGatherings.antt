@@ -26,18 +26,18 @@ use Rattle.bb_memory.proofs.Seatings.{all_there, one_apart}
 -- GATHERING
 
 -- a party's seat stands for it alone
-pub parties_of : (table : TableId) (number : ℕ) (me : Me ℕ SeatView) (party : PoolParty) →
-    IsPartySeat number me → party_in table number me.0 ≡ party → me.0.parties ≡ numbered_of party ∷ []
-parties_of table number me party fields view_is =
+pub parties_of : (table : TableId) (number hint : ℕ) (me : Me ℕ SeatView) (party : PoolParty) →
+    IsPartySeat number hint me → party_in table number me.0 ≡ party → me.0.parties ≡ numbered_of party ∷ []
+parties_of table number hint me party fields view_is =
     ap (λ (m : Me ℕ SeatView). m.0.parties) fields.seat.seat.is ∙ ap (λ (p : PoolParty). numbered_of p ∷ []) view_is
 
 -- the last of a list comes to the seat
-pub all_gathered : (table : TableId) (number : ℕ) (me : Me ℕ SeatView) (party : PoolParty)
+pub all_gathered : (table : TableId) (number hint : ℕ) (me : Me ℕ SeatView) (party : PoolParty)
     (items rest : List PoolParty) →
-    IsPartySeat number me → party_in table number me.0 ≡ party → items ≡ rest ++ party ∷ [] →
+    IsPartySeat number hint me → party_in table number me.0 ≡ party → items ≡ rest ++ party ∷ [] →
     map numbered_of rest ++ me.0.parties ≡ map numbered_of items
-all_gathered table number me party items rest fields view_is is =
-    ap (λ (last : List NumberedLog). map numbered_of rest ++ last) (parties_of table number me party fields view_is)
+all_gathered table number hint me party items rest fields view_is is =
+    ap (λ (last : List NumberedLog). map numbered_of rest ++ last) (parties_of table number hint me party fields view_is)
     ∙ sym (map-append numbered_of rest (party ∷ [])) ∙ ap (map numbered_of) (sym is)
 
 -- WHAT A MEETING SAYS
@@ -159,8 +159,8 @@ met_party table was number me new party view_is same is =
     (λ i. party_in (same i) number (is i).0) ∙ view_is
 
 -- It is as it was where its seat stands for it alone again.
-module _ (pool : SharedPool) (table : TableId) (number : ℕ) (me new : Me ℕ SeatView) (party : PoolParty)
-    (is : IsPartySeat number me) (view_is : party_in table number me.0 ≡ party) (its : party.allocator ≡ pool)
+module _ (pool : SharedPool) (table : TableId) (number hint : ℕ) (me new : Me ℕ SeatView) (party : PoolParty)
+    (is : IsPartySeat number hint me) (view_is : party_in table number me.0 ≡ party) (its : party.allocator ≡ pool)
     (back : new ≡ (standing_for pool.scene (numbered_of party ∷ []), [])) where
   same_seat : new ≡ me
   same_seat =
@@ -168,8 +168,8 @@ module _ (pool : SharedPool) (table : TableId) (number : ℕ) (me new : Me ℕ S
       ap (λ (p : PoolParty). p.allocator.scene) view_is ∙ ap (λ (p : SharedPool). p.scene) its in
       back ∙ (λ i. (standing_for (sym scene i) (numbered_of (sym view_is i) ∷ []), [])) ∙ sym is.seat.seat.is
 
-  pub goes_back : IsPartySeat number new
-  goes_back = subst (IsPartySeat number) (sym same_seat) is
+  pub goes_back : IsPartySeat number hint new
+  goes_back = subst (IsPartySeat number hint) (sym same_seat) is
 
   pub as_it_was : (new_table : TableId) → new_table ≡ pool.table → party_in new_table number new.0 ≡ party
   as_it_was new_table same =
@@ -178,10 +178,10 @@ module _ (pool : SharedPool) (table : TableId) (number : ℕ) (me new : Me ℕ S
       met_party new_table table number me new party view_is (same ∙ sym own) same_seat
 
 -- the seat of parties to which one more comes
-pub comes : (scene : PoolScene) (seat guest there : Me ℕ SeatView) (table : TableId) (number : ℕ)
+pub comes : (scene : PoolScene) (seat guest there : Me ℕ SeatView) (table : TableId) (number hint : ℕ)
     (party : PoolParty) →
-    IsPartySeat number guest → party_in table number guest.0 ≡ party → seat ≡ (standing_for scene seat.0.parties, []) →
+    IsPartySeat number hint guest → party_in table number guest.0 ≡ party → seat ≡ (standing_for scene seat.0.parties, []) →
     there ≡ (both_of seat.0 guest.0, seat.1) → there ≡ (standing_for scene (numbered_of party ∷ seat.0.parties), [])
-comes scene seat guest there table number party is view_is here gathered =
-    let its = parties_of table number guest party is view_is in
+comes scene seat guest there table number hint party is view_is here gathered =
+    let its = parties_of table number hint guest party is view_is in
     gathered ∙ λ i. (standing_for (here i).0.scene (its i ++ seat.0.parties), (here i).1)

@@ -16,7 +16,7 @@ use Rattle.bb_memory.specs.SharedPoolRule.{IsSeatOfIdle, SeatView}
 use Rattle.bb_memory.specs.SharedPoolSteps.{HasEnded, HasMissedAt, HasRefusedFrom, HasTakenAt, HasTakenFrom}
 use Rattle.bb_memory_base.proofs.PoolHolders.{held_through}
 use Rattle.bb_memory_base.proofs.PoolSteps.{test_apart}
-use Rattle.bb_memory.proofs.SharedPoolTries.{held-append, test_below, test_not_below, either_true}
+use Rattle.bb_memory.proofs.SharedPoolTries.{held-append, hint-append, hint_through, test_below, test_not_below, either_true}
 
 -- TURNS
 
@@ -115,6 +115,19 @@ held_after_taking_at party taken bucket log held =
     held-taking_at party taken bucket log
     ∙ ap (λ (b : Bool). if taken == bucket then true else b) held
     ∙ either_true (taken == bucket)
+
+-- nor of a hint
+pub hint-misses : (buckets party first turn hint : ℕ) → hint ≡ hint_through hint (misses buckets party first turn)
+hint-misses buckets party first zero hint = refl
+hint-misses buckets party first (suc turn) hint =
+    hint-misses buckets party first turn hint
+    ∙ sym (hint-append hint (misses buckets party first turn) (miss_at party (at_turn buckets first turn)))
+
+pub hint-round : (buckets party first turn taken hint : ℕ) → at_turn buckets first turn ≡ taken →
+    taken + 1 ≡ hint_through hint (taking_round buckets party first turn)
+hint-round buckets party first turn taken hint there =
+    ap (λ (n : ℕ). n + 1) (sym there)
+    ∙ sym (hint-append hint (misses buckets party first turn) (taking_at party (at_turn buckets first turn)))
 
 -- a round's misses leave the log holding what it held, and so does its taking
 pub held_after_misses : (buckets party first turn bucket : ℕ) (log : PoolLog) → IsHeldAfter log bucket →

@@ -8,6 +8,7 @@ use Rattle.bb_memory_base.specs.PoolLogs.{held_after, IsHeldAfter, pass_after, p
 use Rattle.bb_memory_base.specs.declared.steps.pool.PoolStep.TheVariants.{Try}
 use Rattle.bb_memory_base.specs.declared.steps.pool.PoolOutcome.TheVariants.{Takes, Loses, RefusedAtLoss}
 use Rattle.bb_memory_base.proofs.PoolHolders.{held_through}
+use Rattle.bb_memory.specs.SharedPoolRounds.{hint_after}
 use Rattle.bb_memory.specs.SharedPool.{detach_entry, losses, taking_pass, refused_pass, return_entry}
 
 abbrev pass_through : Option ℕ → PoolLog → Option ℕ
@@ -22,6 +23,14 @@ pub held-append : (bucket : ℕ) (held : Bool) (log more : PoolLog) →
     held_through bucket held (log ++ more) ≡ held_through bucket (held_through bucket held log) more
 held-append bucket held [] more = refl
 held-append bucket held (entry ∷ log) more = held-append bucket (held_after bucket held entry.outcome) log more
+
+abbrev pub hint_through : ℕ → PoolLog → ℕ
+hint_through hint log = fold (λ hint entry. hint_after hint entry.outcome) hint log
+
+pub hint-append : (hint : ℕ) (log more : PoolLog) →
+    hint_through hint (log ++ more) ≡ hint_through (hint_through hint log) more
+hint-append hint [] more = refl
+hint-append hint (entry ∷ log) more = hint-append (hint_after hint entry.outcome) log more
 
 -- LOSSES
 
@@ -38,6 +47,23 @@ held-losses buckets party (suc lost) bucket held =
     held-append bucket held (losses buckets party lost) (entry_of (Try party) (loss_at buckets lost) ∷ [])
     ∙ held-loss bucket lost (held_through bucket held (losses buckets party lost)) (nat_lt (lost + 1) buckets)
     ∙ held-losses buckets party lost bucket held
+
+-- nor of a hint
+hint-loss : (lost hint : ℕ) (more : Bool) → hint_after hint (if more then Loses lost else RefusedAtLoss lost) ≡ hint
+hint-loss lost hint true = refl
+hint-loss lost hint false = refl
+
+pub hint-losses : (buckets party lost hint : ℕ) → hint ≡ hint_through hint (losses buckets party lost)
+hint-losses buckets party zero hint = refl
+hint-losses buckets party (suc lost) hint =
+    let before : ℕ = hint_through hint (losses buckets party lost) in
+    hint-losses buckets party lost hint
+    ∙ sym (hint-append hint (losses buckets party lost) (entry_of (Try party) (loss_at buckets lost) ∷ [])
+    ∙ hint-loss lost before (nat_lt (lost + 1) buckets))
+
+pub hint-taking : (buckets party taken hint : ℕ) → taken + 1 ≡ hint_through hint (taking_pass buckets party taken)
+hint-taking buckets party taken hint =
+    sym (hint-append hint (losses buckets party taken) (entry_of (Try party) (Takes taken) ∷ []))
 
 -- so a log holds what it held before them
 pub same_held : (buckets party lost bucket : ℕ) (log : PoolLog) →

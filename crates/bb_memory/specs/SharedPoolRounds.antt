@@ -1,8 +1,9 @@
 -- Requests of a shared pool's party that try each bucket from one on: what they add to the party's log, and what they may be
 -- answered.
-use Rattle.std.specs.Prelude.{◌≡◌, ℕ, zero, suc, ◌+◌, ◌%◌, ◌<◌, ◌≤◌, nat_lt, if◌then◌else◌, [], ◌∷◌, ◌++◌}
-use Rattle.std.specs.Prelude.{Result, Ok, Err, take}
+use Rattle.std.specs.Prelude.{◌≡◌, ℕ, zero, suc, ◌+◌, ◌*◌, ◌/◌, ◌%◌, ◌<◌, ◌≤◌, nat_lt, if◌then◌else◌, [], ◌∷◌, ◌++◌}
+use Rattle.std.specs.Prelude.{Result, Ok, Err, fold, take}
 use Rattle.bb_memory_base.specs.PoolObject.{IsWithin}
+use Rattle.bb_memory_base.specs.PoolMachine.{PoolScene}
 use Rattle.bb_memory_base.specs.PoolHistory.{PoolLog, entries_by, entry_of, history_of}
 use Rattle.bb_memory_base.specs.PoolCalls.{IsHeldInRun, MissesAt}
 use Rattle.bb_memory_base.specs.declared.layout.Layout.{Layout}
@@ -10,8 +11,29 @@ use Rattle.bb_memory_base.specs.declared.allocator.AllocationError.{AllocationEr
 use Rattle.bb_memory_base.specs.declared.allocator.AllocationError.TheVariants.{SizeIsZero, SizeTooLarge}
 use Rattle.bb_memory_base.specs.declared.allocator.AllocationError.TheVariants.{AlignmentFailure, OutOfMemory}
 use Rattle.bb_memory_base.specs.declared.steps.pool.PoolStep.TheVariants.{TryAt}
-use Rattle.bb_memory_base.specs.declared.steps.pool.PoolOutcome.TheVariants.{Takes, Misses}
+use Rattle.bb_memory_base.specs.declared.steps.pool.PoolOutcome.{PoolOutcome}
+use Rattle.bb_memory_base.specs.declared.steps.pool.PoolOutcome.TheVariants.{Takes, Misses, Gives}
 use Rattle.bb_memory.specs.SharedPool.{IsParty, MayTakeBucket, PoolParty, TakenBucket, taken_bucket, with_entries}
+
+-- WHERE A SEARCH BEGINS
+
+-- the first bucket of a party's own part of a pool, which is cut into as many parts as there are parties
+abbrev pub part_of : PoolScene → ℕ → ℕ
+part_of scene number = number * scene.geometry.buckets / scene.parties
+
+-- a hint after one more step: behind the bucket that the party took, or at the one that it gave back
+abbrev pub hint_after : ℕ → PoolOutcome → ℕ
+hint_after hint (Takes bucket) = bucket + 1
+hint_after hint (Gives bucket) = bucket
+hint_after hint _ = hint
+
+-- Next fit: the hint of a party with this log, the bucket at which its next search begins. Before the party has taken or given
+-- back a bucket, that is the first bucket of its own part.
+abbrev pub hint_in : PoolScene → ℕ → PoolLog → ℕ
+hint_in scene number log = fold (λ hint entry. hint_after hint entry.outcome) (part_of scene number) log
+
+abbrev pub hint_of : PoolParty → ℕ
+hint_of party = hint_in party.allocator.scene party.number party.log
 
 -- WHAT CALLS ADD TO A LOG
 

@@ -13,6 +13,7 @@ use Rattle.bb_memory_base.specs.PoolLogs.{Interleaving, IsHeldAfter, IsDetachedA
 use Rattle.bb_memory_base.specs.declared.layout.Layout.{Layout}
 use Rattle.bb_memory.specs.FlagWords.{HaveFlags, words_for}
 use Rattle.bb_memory.specs.SharedPool.{PoolParty, IsSharedScene, SharedPool, scene_at}
+use Rattle.bb_memory.specs.SharedPoolRounds.{hint_in}
 use Rattle.bb_memory.specs.Seats.{AreSeated, HasRoomFor, IsAt, Numbered, Seat, alone, carrying, fresh_from, number_of, numbered}
 use Rattle.bb_memory.specs.Seats.{standing_for, times_detached, view_log}
 
@@ -52,11 +53,12 @@ pub record IsSeatOfIdle (scene : PoolScene) (number : ℕ) (log : PoolLog) (me :
   pub seat : IsSeatOf scene number log me
   pub idle : pass_in log ≡ None
 
--- the seat of an idle party with this number
-pub record IsPartySeat (number : ℕ) (me : Me ℕ SeatView) : Type 0 where
+-- the seat of an idle party with this number and this hint
+pub record IsPartySeat (number hint : ℕ) (me : Me ℕ SeatView) : Type 0 where
   pub seat : IsSeatOfIdle me.0.scene number (view_log me.0) me
   pub below : number < me.0.scene.parties
   pub shared : IsSharedScene me.0.scene
+  pub next_fit : hint ≡ hint_in me.0.scene number (view_log me.0)
 
 -- the seat stands for no party, and this bucket is detached there, with a chunk of so many bytes
 pub record IsDetachedSeat (bucket len : ℕ) (me : Me ℕ SeatView) : Type 0 where

@@ -367,4 +367,10 @@ pub fn shared_bump_law()
     ensures apart { (a b : BumpParty)
         → IsParty a → AreInterleaved a b → a.number ≢ b.number
         → HaveChunksApart a.log b.log }
+
+    // So of each two of their chunks.
+    ensures each_apart { (log other_log : BumpLog) (i j : ℕ) (chunk other : Chunk)
+        → HaveChunksApart log other_log
+        → slice_get (chunks_won log) i ≡ Some chunk
+        → slice_get (chunks_won other_log) j ≡ Some other → AreApart chunk other }
 {}

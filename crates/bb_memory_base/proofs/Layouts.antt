@@ -1,5 +1,9 @@
 -- Which layouts there are.
-use Rattle.std.proofs.Common.{◌≡◌, ℕ, ◌^◌, ◌<◌, ◌↔◌, arith, refl}
+use Rattle.std.proofs.Common.{◌≡◌, ℕ, suc, ◌+◌, ◌-◌, ◌*◌, ◌/◌, ◌%◌, ◌^◌, ◌<◌, ◌≤◌, ◌↔◌, arith, refl, sym, ap, ◌∙◌, inl, inr}
+use Rattle.std.proofs.Common.{div-add-mod', pow_pos, pow_mono, pow-add, pow-suc}
+use Rattle.std.proofs.Math.Nat.{mul_assoc}
+use Rattle.std.proofs.lemmas.Bool.{cases_lt}
+use Rattle.std.proofs.lemmas.Nat.{mod-mul-add}
 use Rattle.std.proofs.Props.{props}
 use Rattle.std.specs.Align.{IsLayout}
 use Rattle.std.specs.Int.{IsPowerOfTwo}
@@ -19,6 +23,28 @@ layout-plain size align = (
     fits = fits;
   },
 )
+
+-- of two powers of two the lower one divides the higher one
+power-divides : (low high : ℕ) → IsPowerOfTwo low → IsPowerOfTwo high → low ≤ high → (k : ℕ) × (high ≡ k * low)
+power-divides low high p q le =
+    elim (cases_lt q.0 p.0) [
+      | inl below ↦ absurd (omega (arith, p.1, q.1, pow_pos q.0, pow-suc 2 q.0, pow_mono {i = suc q.0} {j = p.0} (omega arith)))
+      | inr above ↦
+          let parts : q.0 ≡ (q.0 - p.0) + p.0 = omega arith in
+          (2 ^ (q.0 - p.0), q.1 ∙ ap (λ j. 2 ^ j) parts ∙ pow-add 2 (q.0 - p.0) p.0 ∙ ap (λ m. 2 ^ (q.0 - p.0) * m) (sym p.1))
+    ]
+
+-- a multiple of an alignment is one of each smaller alignment
+pub multiple : (place : ℕ) (layout wider : Layout) → layout.align ≤ wider.align → place % wider.align ≡ 0 →
+    place % layout.align ≡ 0
+multiple place layout wider le is =
+    let low = layout-plain layout.size layout.align in
+    let high = layout-plain wider.size wider.align in
+    let divides = power-divides layout.align wider.align (low.0 layout.valid).0 (high.0 wider.valid).0 le in
+    let whole : place ≡ place / wider.align * divides.0 * layout.align + 0 =
+    omega (arith, div-add-mod' place wider.align, is, ap (λ h. place / wider.align * h) divides.1,
+    mul_assoc (place / wider.align) divides.0 layout.align) in
+    ap (λ m. m % layout.align) whole ∙ mod-mul-add (place / wider.align * divides.0) layout.align 0 layout.valid.positive
 
 -- no bytes have a layout
 pub empty-valid : IsLayout 0 1

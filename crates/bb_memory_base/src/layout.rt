@@ -77,10 +77,13 @@ impl Layout {
 }
 
 /// Which layouts there are, in plain words: the alignment is a power of two, and the size rounded up to a multiple of it
-/// is at most `isize::MAX`. It does nothing: its contract is the law.
+/// is at most `isize::MAX`. A multiple of an alignment is one of each smaller alignment. The function does nothing: its contract
+/// is the law.
 pub fn layout_law()
-    ensures { (size align : ℕ)
+    ensures valid { (size align : ℕ)
         → IsLayout size align ↔ (IsPowerOfTwo align × (least_place size align < 2 ^ 63)) }
+    ensures multiple { (place : ℕ) (layout wider : Layout) → layout.align ≤ wider.align
+        → place % wider.align ≡ 0 → place % layout.align ≡ 0 }
 {}
 
 /// The least multiple of `align` that isn't below `v`, or `None` where that exceeds `usize::MAX`. The alignment has to be

@@ -38,6 +38,9 @@ pub fn remove_law<T>()
         → slice_get (remove items position) other ≡ slice_get items (other + 1) }
     ensures length { (items : List T) (position : ℕ) → position < length items
         → length (remove items position) + 1 ≡ length items }
+    ensures found { (items : List T) (position : ℕ) (item : T)
+        → slice_get items position ≡ Some item
+        → length (remove items position) + 1 ≡ length items }
 {}
 
 /// The sum of a measure over the items: a size, or 1 for each that counts.

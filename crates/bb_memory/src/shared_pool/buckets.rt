@@ -15,7 +15,6 @@ ghost use Rattle.bb_memory.specs.SharedPoolSteps.{HasRefused, HasTaken};
 use super::bucket::Bucket;
 use super::flags::Flags;
 use super::party::PoolParty;
-use super::rounds::part_of;
 use super::rule::{Scene, View};
 use crate::allocator::{AllocationError, AllocationGrowError, AllocationShrinkError};
 use crate::layout::{Chunk, Layout};
@@ -77,8 +76,8 @@ impl<const CAPPED: usize, const MOST: usize> SharedBucketPool<CAPPED, MOST> {
     {
         for number in 0..parties {
             let seat = self.flags.deal(&mut rest);
-            let near = part_of(number, parties, self.number_of_buckets());
-            all.push_reserved(PoolParty { number, seat, near });
+            let hint = self.part_of(number);
+            all.push_reserved(PoolParty { number, seat, hint });
         }
     }
 
@@ -90,6 +89,7 @@ impl<const CAPPED: usize, const MOST: usize> SharedBucketPool<CAPPED, MOST> {
             seat.new.me)
             (HasTaken self.now.scene (number_of seat.old.me.0) (view_log seat.old.me.0)
             seat.new.me)) }
+        ensures fits { IfSome result (λ bucket. bucket + 1 < 2 ^ 32) }
     {
         for bucket in 0..self.number_of_buckets() {
             if self.flags.try_flag(seat, bucket) {
@@ -140,11 +140,14 @@ impl<const CAPPED: usize, const MOST: usize> SharedBucketPool<CAPPED, MOST> {
             return Err(AllocationError::AlignmentFailure);
         }
         match self.pass(&mut party.seat) {
-            Some(number) => Ok(Bucket {
-                flags: &self.flags,
-                number,
-                len: layout.size(),
-            }),
+            Some(number) => {
+                party.hint = number + 1;
+                Ok(Bucket {
+                    flags: &self.flags,
+                    number,
+                    len: layout.size(),
+                })
+            }
             None => Err(AllocationError::OutOfMemory),
         }
     }
@@ -166,7 +169,7 @@ impl<const CAPPED: usize, const MOST: usize> SharedBucketPool<CAPPED, MOST> {
             → IsHeldAfter party.old.log other }
     {
         self.flags.give_back(&mut party.seat, bucket.number);
-        party.near = bucket.number;
+        party.hint = bucket.number;
     }
 
     /// Two parties meet: no bucket is held by both. It loads a word four times, which is in no log, and changes nothing. The
@@ -205,10 +208,10 @@ impl<const CAPPED: usize, const MOST: usize> SharedBucketPool<CAPPED, MOST> {
             let PoolParty {
                 number,
                 mut seat,
-                near,
+                hint,
             } = party;
             flags.meet_rest(&mut seat, parties);
-            parties.push_reserved(PoolParty { number, seat, near });
+            parties.push_reserved(PoolParty { number, seat, hint });
         }
     }
 
@@ -268,7 +271,7 @@ impl<const CAPPED: usize, const MOST: usize> SharedBucketPool<CAPPED, MOST> {
         self.flags.geometry().count()
     }
 
-    /// How many parties the pool was made for. Where there are two at least, a party may hand a bucket over to another.
+    /// How many parties the pool was made for. Where there are two at least, a party may detach a bucket for another.
     pub fn number_of_parties(&self) -> u32
         ensures value { result ≡ self.now.scene.parties }
     {

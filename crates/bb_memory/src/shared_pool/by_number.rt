@@ -1,9 +1,9 @@
 //! Buckets by their numbers and places, for a user that keeps numbers where it can't keep a [`Bucket`], which borrows its pool.
-ghost use Rattle.std.specs.Prelude.{◌≡◌, ℕ, ◌<◌, ◌≤◌, IfSome, IfNone};
+ghost use Rattle.std.specs.Prelude.{◌≡◌, ℕ, ◌<◌, ◌≤◌, ◌%◌, IfSome, IfNone};
 ghost use Rattle.bb_memory_base.specs.PoolGeometry.{bucket_place};
 ghost use Rattle.bb_memory_base.specs.PoolLogs.{IsHeldAfter};
 ghost use Rattle.bb_memory.specs.Buckets.{IsPlaceOfBucket, TellsPlace};
-ghost use Rattle.bb_memory.specs.SharedPool.{taken_bucket};
+ghost use Rattle.bb_memory.specs.SharedPool.{chunk_of, taken_bucket};
 
 use super::bucket::Bucket;
 use super::buckets::SharedBucketPool;
@@ -52,6 +52,7 @@ pub fn bucket<'a, const CAPPED: usize, const MOST: usize>(
     requires held { IsHeldAfter party.now.log number }
     requires short { len ≤ pool.now.scene.geometry.bucket.size }
     ensures value { result ≡ taken_bucket pool.now number len }
+    ensures aligned { (chunk_of result).place % pool.now.scene.geometry.bucket.align ≡ 0 }
 {
     // What holds of the party is known from here on.
     let _ = party.number();

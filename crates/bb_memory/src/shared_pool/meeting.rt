@@ -25,7 +25,7 @@ impl Flags {
         let PoolParty {
             number,
             seat: guest,
-            near,
+            hint,
         } = party;
         self.gather(seat, guest);
         self.meet_rest(seat, rest);
@@ -33,7 +33,7 @@ impl Flags {
         rest.push_reserved(PoolParty {
             number,
             seat: back,
-            near,
+            hint,
         });
     }
 }

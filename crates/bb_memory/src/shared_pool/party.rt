@@ -12,9 +12,8 @@ use std::marker::Model;
 pub struct PoolParty {
     pub(super) number: u32,
     pub(super) seat: Seat<u8, View>,
-    /// Where the party's next round begins: at first in its own part of the pool, and then at the bucket that it gave back
-    /// last, or behind the one that its last round took.
-    pub(super) near: u32,
+    /// The bucket at which the party's next round begins.
+    pub(super) hint: u32,
 }
 
 impl Model for PoolParty {
@@ -25,7 +24,7 @@ impl Model for PoolParty {
 
     ghost view = { λ p. party_in p.seat.table_id p.number p.seat.me.0 };
 
-    ghost invariant = { λ p. IsPartySeat p.number p.seat.me };
+    ghost invariant = { λ p. IsPartySeat p.number p.hint p.seat.me };
 }
 
 impl PoolParty {

@@ -1,8 +1,8 @@
 //! Takings by a round, which needn't begin at bucket 0.
-ghost use Rattle.std.specs.Prelude.{◌≡◌, ℕ, ◌<◌, MatchOption};
+ghost use Rattle.std.specs.Prelude.{◌≡◌, ◌+◌, ◌<◌, ◌^◌, IfSome, MatchOption};
 ghost use Rattle.bb_memory.specs.Seats.{Stays, number_of, view_log};
 ghost use Rattle.bb_memory.specs.SharedPool.{ServesRound};
-ghost use Rattle.bb_memory.specs.SharedPoolRounds.{MayTakeFrom, at_turn};
+ghost use Rattle.bb_memory.specs.SharedPoolRounds.{MayTakeFrom, at_turn, hint_of, part_of};
 ghost use Rattle.bb_memory.specs.SharedPoolRule.{IsIdleAt};
 ghost use Rattle.bb_memory.specs.SharedPoolSteps.{HasRefusedFrom, HasTakenFrom};
 
@@ -13,14 +13,6 @@ use super::rule::View;
 use crate::allocator::AllocationError;
 use crate::layout::Layout;
 use atomic_table::Seat;
-
-/// The bucket at which a party's own part of a pool begins, where the pool is cut into as many parts as it has parties.
-pub(super) fn part_of(number: u32, parties: u32, buckets: u32) -> u32
-    requires { number < parties }
-{
-    let before = (number as u64).saturating_mul(buckets as u64) / parties as u64;
-    (before & 0xffff_ffff) as u32
-}
 
 /// The bucket that a round over so many buckets, which begins at bucket `first`, tries at a turn.
 fn at_turn(buckets: u32, first: u32, turn: u32) -> u32
@@ -38,6 +30,15 @@ fn at_turn(buckets: u32, first: u32, turn: u32) -> u32
 }
 
 impl<const CAPPED: usize, const MOST: usize> SharedBucketPool<CAPPED, MOST> {
+    /// The first bucket of a party's own part of the pool, which is cut into as many parts as it has parties.
+    pub(super) fn part_of(&self, number: u32) -> u32
+        requires { number < self.now.scene.parties }
+        ensures { result ≡ part_of self.now.scene number }
+    {
+        let before = number as u64 * self.number_of_buckets() as u64;
+        (before / self.number_of_parties() as u64) as u32
+    }
+
     /// One whole round: an exchange on each flag from bucket `first` up, and then on those below it, until one is taken.
     fn round(&self, seat: &mut Seat<u8, View>, first: u32) -> Option<u32>
         requires { IsIdleAt self.now seat.old.table_id seat.old.me }
@@ -46,6 +47,7 @@ impl<const CAPPED: usize, const MOST: usize> SharedBucketPool<CAPPED, MOST> {
             first seat.new.me)
             (HasTakenFrom self.now.scene (number_of seat.old.me.0) (view_log seat.old.me.0)
             first seat.new.me)) }
+        ensures fits { IfSome result (λ bucket. bucket + 1 < 2 ^ 32) }
     {
         let count = self.number_of_buckets();
         for turn in 0..count {
@@ -57,15 +59,19 @@ impl<const CAPPED: usize, const MOST: usize> SharedBucketPool<CAPPED, MOST> {
         None
     }
 
-    /// Takes a bucket by a round that begins at bucket `first`, or at bucket 0 where there is none of this number.
-    fn allocate_from(
+    /// Takes a bucket for the party, as `allocate` does, but tries the buckets in another order: after the same tests of size and
+    /// alignment it makes one round, one exchange on each flag, until one is taken. The round begins where the party has been
+    /// last: at the bucket that it gave back, or behind the one that it took; before both, in a part of the pool of its own. It
+    /// goes on to the last bucket, and then from bucket 0 up. It is refused with `OutOfMemory` where each bucket is missed.
+    /// Where other parties step meanwhile, that doesn't mean that all buckets were held at one moment. The party has to be this
+    /// pool's.
+    pub fn allocate_near(
         &self,
         party: &mut PoolParty,
         layout: Layout,
-        first: u32,
     ) -> Result<Bucket<'_>, AllocationError>
         requires party { party.old.allocator ≡ self.now }
-        ensures answer { MayTakeFrom first party.old layout result party.new }
+        ensures answer { MayTakeFrom (hint_of party.old) party.old layout result party.new }
         ensures party { party.new.allocator ≡ self.now }
         ensures serves { ServesRound self.now party.old layout result party.new }
     {
@@ -78,9 +84,9 @@ impl<const CAPPED: usize, const MOST: usize> SharedBucketPool<CAPPED, MOST> {
         if layout.align() > bucket.align() {
             return Err(AllocationError::AlignmentFailure);
         }
-        match self.round(&mut party.seat, first) {
+        match self.round(&mut party.seat, party.hint) {
             Some(number) => {
-                party.near = number.wrapping_add(1);
+                party.hint = number + 1;
                 Ok(Bucket {
                     flags: &self.flags,
                     number,
@@ -89,25 +95,5 @@ impl<const CAPPED: usize, const MOST: usize> SharedBucketPool<CAPPED, MOST> {
             }
             None => Err(AllocationError::OutOfMemory),
         }
-    }
-
-    /// Takes a bucket for the party, as `allocate` does, but tries the buckets in another order: after the same tests of size and
-    /// alignment it makes one round, one exchange on each flag, until one is taken. The round begins where the party has been
-    /// last: at the bucket that it gave back, or behind the one that its last round took; its first round begins in a part of
-    /// the pool of its own. It goes on to the last bucket, and then from bucket 0 up. It is refused with `OutOfMemory` where
-    /// each bucket is missed. Where other parties step meanwhile, that doesn't mean that all buckets were held at one moment.
-    /// The party has to be this pool's.
-    pub fn allocate_near(
-        &self,
-        party: &mut PoolParty,
-        layout: Layout,
-    ) -> Result<Bucket<'_>, AllocationError>
-        requires party { party.old.allocator ≡ self.now }
-        ensures answer { (first : ℕ) × MayTakeFrom first party.old layout result party.new }
-        ensures party { party.new.allocator ≡ self.now }
-        ensures serves { ServesRound self.now party.old layout result party.new }
-    {
-        let first = party.near;
-        self.allocate_from(party, layout, first)
     }
 }

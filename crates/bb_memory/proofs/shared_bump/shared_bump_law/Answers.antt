@@ -1,8 +1,12 @@
 use Rattle.std.proofs.Common.{arith}
+use Rattle.std.specs.Prelude.{All}
+use Rattle.bb_memory_base.specs.Chunk.{AreApart}
+use Rattle.bb_memory_base.specs.BumpHistory.{chunks_won}
 use Rattle.bb_memory_base.proofs.BumpMeetings.{common_apart}
 use Rattle.bb_memory_base.proofs.BumpPositions.{interleaving_stands}
 use Rattle.bb_memory_base.proofs.BumpRuns.{calls_run}
 use Rattle.bb_memory_base.proofs.BumpWholes.{ends_by}
+use Rattle.bb_memory_base.proofs.Positions.{All-at}
 use Rattle.bb_memory_base.proofs.OwnChunks.{interleaved_older, interleaved_own, interleaved_since}
 use Rattle.bb_memory.specs.SharedBump.{seen_by}
 use Rattle.bb_memory.proofs.SharedBumpHistories.{held_in_list}
@@ -50,3 +54,8 @@ returns-clause-apart c = λ a b is met.
 
 pub returns-clause-ends : goal.returns-clause-ends
 returns-clause-ends c = λ party. ends_by party.allocator.scene party.log (seen_by party) (omega arith)
+
+pub returns-clause-each_apart : goal.returns-clause-each_apart
+returns-clause-each_apart c = λ log other_log i j chunk other apart at there.
+    All-at (AreApart chunk) (chunks_won other_log)
+    (All-at (λ one. All (AreApart one) (chunks_won other_log)) (chunks_won log) apart i chunk at) j other there

@@ -1,4 +1,4 @@
-use Rattle.std.proofs.Common.{ℕ, ◌<◌, sym, ap, ◌∙◌, subst}
+use Rattle.std.proofs.Common.{ℕ, ◌<◌, refl, sym, ap, ◌∙◌, subst}
 use Rattle.bb_memory_base.specs.PoolLogs.{IsHeldAfter}
 use Rattle.bb_memory.specs.SharedPool.{PoolParty, SharedPool, TakenBucket, return_entry, with_entries}
 use Rattle.bb_memory.proofs.SharedPoolHolds.{was_held}
@@ -19,16 +19,16 @@ pub invariant_of-party : goal.invariant_of-party
 invariant_of-party g c =
     let party = c.party.inside in
     let own = ap (λ (p : PoolParty). p.allocator) c.party.view_is ∙ c.requires.party ∙ sym c.self.view_is in
-    seated_then c.self.inside.flags party.seat.table_id party.seat.me party.number c.party.invariant own
-    c.give_back.new.seat.me _
-    (returned c.self.inside.flags party.seat.table_id party.seat.me party.number c.party.invariant own
+    seated_then c.self.inside.flags party.seat.table_id party.seat.me party.number party.hint c.party.invariant own
+    c.give_back.new.seat.me _ c.bucket.inside.number refl
+    (returned c.self.inside.flags party.seat.table_id party.seat.me party.number party.hint c.party.invariant own
     c.bucket.inside.number c.give_back.new.seat.me c.give_back.ensures.step)
 
 pub returns-clause-logged : goal.returns-clause-logged
 returns-clause-logged g c =
     let party = c.party.inside in
     let own = ap (λ (p : PoolParty). p.allocator) c.party.view_is ∙ c.requires.party ∙ sym c.self.view_is in
-    party_returned c.self.inside.flags party.seat.table_id party.seat.me party.number c.party.invariant own
+    party_returned c.self.inside.flags party.seat.table_id party.seat.me party.number party.hint c.party.invariant own
     c.bucket.inside.number c.give_back.new.seat.table_id c.give_back.new.seat.me c.args.party.now c.party.view_is
     c.give_back.ensures.table c.give_back.ensures.step
     ∙ ap (λ (b : TakenBucket). with_entries c.args.party.now (return_entry c.args.party.now.number b.number)) c.bucket.view_is
@@ -39,7 +39,7 @@ returns-clause-party g c = ap (λ (p : PoolParty). p.allocator) (returns-clause-
 pub returns-clause-is_party : goal.returns-clause-is_party
 returns-clause-is_party g c = record {
   number = ap (λ (p : PoolParty). p.number) (returns-clause-logged g c);
-  is_party = is_party c.give_back.new.seat.table_id c.party.inside.number c.give_back.new.seat.me
+  is_party = is_party c.give_back.new.seat.table_id c.party.inside.number _ c.give_back.new.seat.me
       (invariant_of-party g c);
 }
 

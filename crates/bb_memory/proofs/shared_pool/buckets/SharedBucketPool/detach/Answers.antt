@@ -1,4 +1,4 @@
-use Rattle.std.proofs.Common.{ℕ, sym, ap, ◌∙◌, subst}
+use Rattle.std.proofs.Common.{ℕ, refl, sym, ap, ◌∙◌, subst}
 use Rattle.bb_memory_base.specs.PoolLogs.{IsHeldAfter}
 use Rattle.bb_memory.specs.SharedPool.{PoolParty, SharedPool, TakenBucket, detach_entry, taken_bucket, with_entries}
 use Rattle.bb_memory.proofs.SharedPoolHolds.{was_held_too}
@@ -10,9 +10,9 @@ pub invariant_of-party : goal.invariant_of-party
 invariant_of-party g c =
     let party = c.party.inside in
     let own = ap (λ (p : PoolParty). p.allocator) c.party.view_is ∙ c.requires.may.its_party ∙ sym c.self.view_is in
-    seated_then c.self.inside.flags party.seat.table_id party.seat.me party.number c.party.invariant own
-    c.detach-seat.new.seat.me _
-    (was_detached c.self.inside.flags party.seat.table_id party.seat.me party.number c.party.invariant own
+    seated_then c.self.inside.flags party.seat.table_id party.seat.me party.number party.hint c.party.invariant own
+    c.detach-seat.new.seat.me _ party.hint refl
+    (was_detached c.self.inside.flags party.seat.table_id party.seat.me party.number party.hint c.party.invariant own
     c.bucket.inside.number c.detach-seat.new.seat.me c.detach-seat.ensures.step.step)
 
 pub returns-clause-bucket : goal.returns-clause-bucket
@@ -31,10 +31,10 @@ returns-clause-party g c =
     let new = c.detach-seat.new.seat in
     let own = ap (λ (p : PoolParty). p.allocator) c.party.view_is ∙ c.requires.may.its_party ∙ sym c.self.view_is in
     let tells = c.detach-seat.ensures.step in
-    let logged = party_with c.self.inside.flags party.seat.table_id party.seat.me party.number
+    let logged = party_with c.self.inside.flags party.seat.table_id party.seat.me party.number party.hint
     c.party.invariant own (λ (n : ℕ). detach_entry n c.bucket.inside.number) new.table_id new.me old c.party.view_is
     (tells.table ∙ sym (ap (λ (p : SharedPool). p.table) own))
-    (was_detached c.self.inside.flags party.seat.table_id party.seat.me party.number c.party.invariant own
+    (was_detached c.self.inside.flags party.seat.table_id party.seat.me party.number party.hint c.party.invariant own
     c.bucket.inside.number new.me tells.step)
     ∙ ap (λ (b : TakenBucket). with_entries old (detach_entry old.number b.number)) c.bucket.view_is in
     record {
@@ -42,7 +42,7 @@ returns-clause-party g c =
       party = ap (λ (p : PoolParty). p.allocator) logged ∙ c.requires.may.its_party;
       is_party = record {
         number = ap (λ (p : PoolParty). p.number) logged;
-        is_party = is_party new.table_id party.number new.me (invariant_of-party g c);
+        is_party = is_party new.table_id party.number _ new.me (invariant_of-party g c);
       };
       was_detached = λ held. not_held_after_detach old.number bucket old.log
           (subst (λ (p : PoolParty). IsHeldAfter p.log bucket) logged held);

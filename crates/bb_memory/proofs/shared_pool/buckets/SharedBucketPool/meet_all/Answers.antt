@@ -16,7 +16,7 @@ returns-in-Some-clause-met g c =
     (ap (λ (b : SharedPool). b.scene) c.self.view_is) c.meet_rest.ensures.found.told in
     agrees scene c.args.parties.now.items
     (subst (λ (parties : List NumberedLog). TellsMeeting scene parties)
-    (all_gathered c.party.inside.seat.table_id c.party.inside.number c.party.inside.seat.me
+    (all_gathered c.party.inside.seat.table_id c.party.inside.number c.party.inside.hint c.party.inside.seat.me
     c.in-Some.party c.args.parties.now.items c.pop.new.self.items c.party.invariant c.party.view_is c.in-Some.ensures.items)
     told)
 
@@ -45,7 +45,7 @@ returns-in_default-clause-met g c =
 
 pub invariant_of-push_reserved : goal.invariant_of-push_reserved
 invariant_of-push_reserved g c =
-    subst (IsPartySeat c.party.inside.number) (sym c.meet_rest.ensures.found.seat) c.party.invariant
+    subst (IsPartySeat c.party.inside.number c.party.inside.hint) (sym c.meet_rest.ensures.found.seat) c.party.invariant
 
 pub returns-in-Some-clause-one_took : goal.returns-in-Some-clause-one_took
 returns-in-Some-clause-one_took g c all stepped =

@@ -24,8 +24,8 @@ invariant_of-push_reserved t c =
     let its = All-pop (λ (p : PoolParty). p.allocator ≡ pool) c.args.rest.now.items c.pop.new.self.items (Some party)
     c.in-Some.ensures.items c.requires.rest in
     let there = comes pool.scene c.args.seat.now.me guest.seat.me c.gather.new.seat.me guest.seat.table_id
-    guest.number party c.party.invariant c.party.view_is c.requires.seat.seat c.gather.ensures.step in
-    goes_back pool guest.seat.table_id guest.number guest.seat.me c.deal-back.result.me party c.party.invariant
+    guest.number guest.hint party c.party.invariant c.party.view_is c.requires.seat.seat c.gather.ensures.step in
+    goes_back pool guest.seat.table_id guest.number guest.hint guest.seat.me c.deal-back.result.me party c.party.invariant
     c.party.view_is its.1
     (c.deal-back.ensures.first
     ∙ ap (λ (m : Me ℕ SeatView). (first_of m.0, [])) (c.meet_rest.ensures.found.seat ∙ there))
@@ -37,7 +37,7 @@ returns-clause-found t c =
     let guest = c.party.inside in
     let party = c.in-Some.party in
     let there = comes scene c.args.seat.now.me guest.seat.me c.gather.new.seat.me guest.seat.table_id
-    guest.number party c.party.invariant c.party.view_is c.requires.seat.seat c.gather.ensures.step in
+    guest.number guest.hint party c.party.invariant c.party.view_is c.requires.seat.seat c.gather.ensures.step in
     let rest = c.pop.new.self.items in
     let all : map numbered_of rest ++ c.gather.new.seat.me.0.parties ≡ map numbered_of c.args.rest.now.items ++ parties =
     ap (λ (m : Me ℕ SeatView). map numbered_of rest ++ m.0.parties) there
@@ -60,8 +60,8 @@ returns-clause-rest t c =
     let its = All-pop (λ (p : PoolParty). p.allocator ≡ pool) c.args.rest.now.items c.pop.new.self.items (Some party)
     c.in-Some.ensures.items c.requires.rest in
     let there = comes pool.scene c.args.seat.now.me guest.seat.me c.gather.new.seat.me guest.seat.table_id
-    guest.number party c.party.invariant c.party.view_is c.requires.seat.seat c.gather.ensures.step in
-    let back = as_it_was pool guest.seat.table_id guest.number guest.seat.me c.deal-back.result.me party
+    guest.number guest.hint party c.party.invariant c.party.view_is c.requires.seat.seat c.gather.ensures.step in
+    let back = as_it_was pool guest.seat.table_id guest.number guest.hint guest.seat.me c.deal-back.result.me party
     c.party.invariant c.party.view_is its.1
     (c.deal-back.ensures.first
     ∙ ap (λ (m : Me ℕ SeatView). (first_of m.0, [])) (c.meet_rest.ensures.found.seat ∙ there))

@@ -1,4 +1,4 @@
-use Rattle.std.proofs.Common.{ℕ, Some, None, refl, sym, ap, ◌∙◌, arith, subst}
+use Rattle.std.proofs.Common.{ℕ, ◌+◌, Some, None, refl, sym, ap, ◌∙◌, arith, subst}
 use Rattle.bb_memory_base.specs.PoolGeometry.{PoolGeometry, IsPoolGeometry}
 use Rattle.bb_memory_base.specs.PoolMachine.{PoolScene}
 use Rattle.bb_memory_base.specs.PoolLogs.{IsHeldAfter}
@@ -9,22 +9,24 @@ use Rattle.bb_memory.specs.SharedPoolRounds.{refused_round, taking_round}
 use Rattle.bb_memory.proofs.Measures.{bucket-inside}
 use Rattle.bb_memory.proofs.PoolCalls.{bucket_place-multiple}
 use Rattle.bb_memory.proofs.SharedPoolParties.{is_party, party_with, seated_then}
-use Rattle.bb_memory.proofs.SharedPoolRounds.{others_held_from, round_is_held, still_held_from}
-use Rattle.bb_memory.proofs.shared_pool.buckets.SharedBucketPool.allocate_from.Goals as goal
+use Rattle.bb_memory.proofs.SharedPoolRounds.{hint-misses, hint-round, others_held_from, round_is_held, still_held_from}
+use Rattle.bb_memory.proofs.shared_pool.buckets.SharedBucketPool.allocate_near.Goals as goal
 
 pub invariant_of-party : goal.invariant_of-party
 invariant_of-party g c =
     let party = c.party.inside in
     let own = ap (λ (p : PoolParty). p.allocator) c.party.view_is ∙ c.requires.party in
-    seated_then c.args.self.now party.seat.table_id party.seat.me party.number c.party.invariant own
-    c.round.new.seat.me _ c.in-Some.ensures.step.ended
+    seated_then c.args.self.now party.seat.table_id party.seat.me party.number party.hint c.party.invariant own
+    c.round.new.seat.me _ (c.in-Some.number + 1)
+    (hint-round _ _ _ c.in-Some.ensures.step.turn c.in-Some.number party.hint c.in-Some.ensures.step.there)
+    c.in-Some.ensures.step.ended
 
 pub invariant_of-party-in-None : goal.invariant_of-party-in-None
 invariant_of-party-in-None g c =
     let party = c.party.inside in
     let own = ap (λ (p : PoolParty). p.allocator) c.party.view_is ∙ c.requires.party in
-    seated_then c.args.self.now party.seat.table_id party.seat.me party.number c.party.invariant own
-    c.round.new.seat.me _ c.in-None.ensures.step.ended
+    seated_then c.args.self.now party.seat.table_id party.seat.me party.number party.hint c.party.invariant own
+    c.round.new.seat.me _ party.hint (hint-misses _ _ party.hint _ party.hint) c.in-None.ensures.step.ended
 
 pub returns-in-Some-clause-party : goal.returns-in-Some-clause-party
 returns-in-Some-clause-party g c =
@@ -32,8 +34,8 @@ returns-in-Some-clause-party g c =
     let party = c.party.inside in
     let own = ap (λ (p : PoolParty). p.allocator) c.party.view_is ∙ c.requires.party in
     let took = c.in-Some.ensures.step in
-    let logged = party_with pool party.seat.table_id party.seat.me party.number c.party.invariant own
-    (λ (n : ℕ). taking_round pool.scene.geometry.buckets n c.args.first took.turn) c.round.new.seat.table_id c.round.new.seat.me
+    let logged = party_with pool party.seat.table_id party.seat.me party.number party.hint c.party.invariant own
+    (λ (n : ℕ). taking_round pool.scene.geometry.buckets n c.party.inside.hint took.turn) c.round.new.seat.table_id c.round.new.seat.me
     c.args.party.now c.party.view_is c.round.ensures.table took.ended in
     ap (λ (p : PoolParty). p.allocator) logged ∙ c.requires.party
 
@@ -42,8 +44,8 @@ returns-in-None-clause-party g c =
     let pool = c.args.self.now in
     let party = c.party.inside in
     let own = ap (λ (p : PoolParty). p.allocator) c.party.view_is ∙ c.requires.party in
-    let logged = party_with pool party.seat.table_id party.seat.me party.number c.party.invariant own
-    (λ (n : ℕ). refused_round pool.scene.geometry.buckets n c.args.first) c.round.new.seat.table_id c.round.new.seat.me
+    let logged = party_with pool party.seat.table_id party.seat.me party.number party.hint c.party.invariant own
+    (λ (n : ℕ). refused_round pool.scene.geometry.buckets n c.party.inside.hint) c.round.new.seat.table_id c.round.new.seat.me
     c.args.party.now c.party.view_is c.round.ensures.table c.in-None.ensures.step.ended in
     ap (λ (p : PoolParty). p.allocator) logged ∙ c.requires.party
 
@@ -58,8 +60,8 @@ returns-in-Some-clause-serves g c =
     let pool = c.args.self.now in
     let own = ap (λ (p : PoolParty). p.allocator) c.party.view_is ∙ c.requires.party in
     let buckets = pool.scene.geometry.buckets in
-    let logged = party_with pool party.seat.table_id me party.number c.party.invariant own
-    (λ (n : ℕ). taking_round buckets n c.args.first took.turn) new.table_id new.me old c.party.view_is c.round.ensures.table
+    let logged = party_with pool party.seat.table_id me party.number party.hint c.party.invariant own
+    (λ (n : ℕ). taking_round buckets n c.party.inside.hint took.turn) new.table_id new.me old c.party.view_is c.round.ensures.table
     took.ended in
     let geometry = subst (λ (p : SharedPool). IsPoolGeometry p.scene.geometry) own c.party.invariant.shared.geometry in
     let bucket = c.bucket-bucket.ensures ∙ ap (λ (x : PoolGeometry). x.bucket) c.geometry.ensures.value
@@ -70,16 +72,15 @@ returns-in-Some-clause-serves g c =
       serves = record {
         bucket = c.self.view_is;
         number = ap (λ (p : PoolParty). p.number) c.party.view_is;
-        is_party = is_party new.table_id party.number new.me (seated_then pool party.seat.table_id
-            me party.number c.party.invariant own new.me _ took.ended);
+        is_party = is_party new.table_id party.number _ new.me (invariant_of-party g c);
         held = subst (λ (p : PoolParty). IsHeldAfter p.log c.in-Some.number) (sym logged)
-            (round_is_held buckets old.number c.args.first took.turn c.in-Some.number old.log took.there);
+            (round_is_held buckets old.number c.party.inside.hint took.turn c.in-Some.number old.log took.there);
         still_held = λ other held.
-            still_held_from scene (number_of me.0) (view_log me.0) c.args.first new.me c.round.result other
+            still_held_from scene (number_of me.0) (view_log me.0) c.party.inside.hint new.me c.round.result other
             c.round.ensures.step (rw (← c.party.view_is) at held);
         others = λ other apart held.
             subst (λ (p : PoolParty). IsHeldAfter p.log other) c.party.view_is
-            (others_held_from scene (number_of me.0) (view_log me.0) c.args.first new.me (Some c.in-Some.number) other
+            (others_held_from scene (number_of me.0) (view_log me.0) c.party.inside.hint new.me (Some c.in-Some.number) other
             took apart held);
         inside = rw c.self.view_is
             (bucket-inside scene.geometry c.in-Some.number c.size-in-Some.result geometry took.below (omega arith));
@@ -104,15 +105,14 @@ returns-in-None-clause-serves g c =
       serves = record {
         bucket = tt;
         number = ap (λ (p : PoolParty). p.number) c.party.view_is;
-        is_party = is_party new.table_id party.number new.me (seated_then c.args.self.now
-            party.seat.table_id me party.number c.party.invariant own new.me _ lost.ended);
+        is_party = is_party new.table_id party.number _ new.me (invariant_of-party-in-None g c);
         held = tt;
         still_held = λ other held.
-            still_held_from c.args.self.now.scene (number_of me.0) (view_log me.0) c.args.first new.me c.round.result
+            still_held_from c.args.self.now.scene (number_of me.0) (view_log me.0) c.party.inside.hint new.me c.round.result
             other c.round.ensures.step (rw (← c.party.view_is) at held);
         others = λ other apart held.
             subst (λ (p : PoolParty). IsHeldAfter p.log other) c.party.view_is
-            (others_held_from c.args.self.now.scene (number_of me.0) (view_log me.0) c.args.first new.me None other
+            (others_held_from c.args.self.now.scene (number_of me.0) (view_log me.0) c.party.inside.hint new.me None other
             lost apart held);
         inside = tt;
         aligned = tt;
