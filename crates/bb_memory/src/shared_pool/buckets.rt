@@ -1,6 +1,6 @@
 //! What the shared pools are: buckets with a flag each, on which any number of threads step.
 ghost use Rattle.std.specs.Prelude.{◌≡◌, ◌≢◌, ℕ, ◌<◌, ◌≤◌, ◌↔◌, ◌%◌, ◌^◌, [], All, IsErr, IfErr, IfOk};
-ghost use Rattle.std.specs.Prelude.{MatchOption, Some, length, slice_get};
+ghost use Rattle.std.specs.Prelude.{◌+◌, IfSome, MatchOption, Some, length, slice_get};
 ghost use Rattle.bb_memory_base.specs.Region.{IsRegion};
 ghost use Rattle.bb_memory_base.specs.Chunk.{Chunk, IsInside};
 ghost use Rattle.bb_memory_base.specs.PoolObject.{IsWithin, MayGrow, MayShrink};
@@ -84,7 +84,7 @@ impl<const CAPPED: usize, const MOST: usize> SharedBucketPool<CAPPED, MOST> {
     /// One whole pass: an exchange on each flag from bucket 0 up, until one is taken.
     fn pass(&self, seat: &mut Seat<u8, View>) -> Option<u32>
         requires { IsIdleAt self.now seat.old.table_id seat.old.me }
-        ensures { Stays seat.old.table_id seat.new.table_id (MatchOption result
+        ensures told { Stays seat.old.table_id seat.new.table_id (MatchOption result
             (HasRefused self.now.scene (number_of seat.old.me.0) (view_log seat.old.me.0)
             seat.new.me)
             (HasTaken self.now.scene (number_of seat.old.me.0) (view_log seat.old.me.0)

@@ -42,7 +42,7 @@ impl<const CAPPED: usize, const MOST: usize> SharedBucketPool<CAPPED, MOST> {
     /// One whole round: an exchange on each flag from bucket `first` up, and then on those below it, until one is taken.
     fn round(&self, seat: &mut Seat<u8, View>, first: u32) -> Option<u32>
         requires { IsIdleAt self.now seat.old.table_id seat.old.me }
-        ensures { Stays seat.old.table_id seat.new.table_id (MatchOption result
+        ensures told { Stays seat.old.table_id seat.new.table_id (MatchOption result
             (HasRefusedFrom self.now.scene (number_of seat.old.me.0) (view_log seat.old.me.0)
             first seat.new.me)
             (HasTakenFrom self.now.scene (number_of seat.old.me.0) (view_log seat.old.me.0)

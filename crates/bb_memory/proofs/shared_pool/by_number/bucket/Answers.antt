@@ -1,4 +1,5 @@
 use Rattle.std.proofs.Common.{◌<◌, subst}
+use Rattle.bb_memory_base.proofs.PoolGeometries.{bucket_place-aligned}
 use Rattle.bb_memory.specs.SharedPool.{SharedPool}
 use Rattle.bb_memory.proofs.SharedPoolLaws.{held_below}
 use Rattle.bb_memory.proofs.shared_pool.by_number.bucket.Goals as goal
@@ -9,3 +10,6 @@ invariant_of-result g c = rw c.pool.view_is (
       (held_below c.args.party.now c.number.ensures.party c.args.number c.requires.held),
   c.requires.short,
 )
+
+pub returns-clause-aligned : goal.returns-clause-aligned
+returns-clause-aligned g c = rw c.pool.view_is (bucket_place-aligned c.args.pool.now.scene.geometry c.args.number)

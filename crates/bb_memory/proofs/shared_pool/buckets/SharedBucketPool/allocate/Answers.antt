@@ -18,15 +18,19 @@ pub invariant_of-party : goal.invariant_of-party
 invariant_of-party g c =
     let party = c.party.inside in
     let own = ap (λ (p : PoolParty). p.allocator) c.party.view_is ∙ c.requires.party in
-    seated_then c.args.self.now party.seat.table_id party.seat.me party.number party.hint c.party.invariant own
-    c.pass.new.seat.me _ (c.in-Some.number + 1) (hint-taking _ _ c.in-Some.number party.hint) c.in-Some.ensures.step.ended
+    let me = party.seat.me in
+    seated_then c.args.self.now party.seat.table_id me party.number party.hint c.party.invariant own
+    c.pass.new.seat.me _ (c.in-Some.number + 1)
+    (hint-taking c.args.self.now.scene.geometry.buckets (number_of me.0) c.in-Some.number party.hint) c.in-Some.ensures.told.step.ended
 
 pub invariant_of-party-in-None : goal.invariant_of-party-in-None
 invariant_of-party-in-None g c =
     let party = c.party.inside in
     let own = ap (λ (p : PoolParty). p.allocator) c.party.view_is ∙ c.requires.party in
-    seated_then c.args.self.now party.seat.table_id party.seat.me party.number party.hint c.party.invariant own
-    c.pass.new.seat.me _ party.hint (hint-losses _ _ _ party.hint) c.in-None.ensures.step.ended
+    let me = party.seat.me in
+    let buckets = c.args.self.now.scene.geometry.buckets in
+    seated_then c.args.self.now party.seat.table_id me party.number party.hint c.party.invariant own
+    c.pass.new.seat.me _ party.hint (hint-losses buckets (number_of me.0) buckets party.hint) c.in-None.ensures.told.step.ended
 
 pub returns-in-Some-clause-party : goal.returns-in-Some-clause-party
 returns-in-Some-clause-party g c =
@@ -35,7 +39,7 @@ returns-in-Some-clause-party g c =
     let own = ap (λ (p : PoolParty). p.allocator) c.party.view_is ∙ c.requires.party in
     let logged = party_with pool party.seat.table_id party.seat.me party.number party.hint c.party.invariant own
     (λ (n : ℕ). taking_pass pool.scene.geometry.buckets n c.in-Some.number) c.pass.new.seat.table_id c.pass.new.seat.me
-    c.args.party.now c.party.view_is c.pass.ensures.table c.in-Some.ensures.step.ended in
+    c.args.party.now c.party.view_is c.pass.ensures.told.table c.in-Some.ensures.told.step.ended in
     ap (λ (p : PoolParty). p.allocator) logged ∙ c.requires.party
 
 pub returns-in-None-clause-party : goal.returns-in-None-clause-party
@@ -45,7 +49,7 @@ returns-in-None-clause-party g c =
     let own = ap (λ (p : PoolParty). p.allocator) c.party.view_is ∙ c.requires.party in
     let logged = party_with pool party.seat.table_id party.seat.me party.number party.hint c.party.invariant own
     (refused_pass pool.scene.geometry.buckets) c.pass.new.seat.table_id c.pass.new.seat.me
-    c.args.party.now c.party.view_is c.pass.ensures.table c.in-None.ensures.step.ended in
+    c.args.party.now c.party.view_is c.pass.ensures.told.table c.in-None.ensures.told.step.ended in
     ap (λ (p : PoolParty). p.allocator) logged ∙ c.requires.party
 
 pub returns-in-Some-clause-is_party : goal.returns-in-Some-clause-is_party
@@ -64,34 +68,34 @@ pub returns-in-Some-clause-held : goal.returns-in-Some-clause-held
 returns-in-Some-clause-held g c =
     let me = c.party.inside.seat.me in
     let number = c.in-Some.number in
-    subst (λ (m : Me ℕ SeatView). IsHeldAfter (view_log m.0) number) (sym c.in-Some.ensures.step.ended.seat.is)
+    subst (λ (m : Me ℕ SeatView). IsHeldAfter (view_log m.0) number) (sym c.in-Some.ensures.told.step.ended.seat.is)
     (taken_is_held c.args.self.now.scene.geometry.buckets (number_of me.0) number (view_log me.0))
 
 pub returns-in-Some-clause-still_held : goal.returns-in-Some-clause-still_held
 returns-in-Some-clause-still_held g c other held =
     let me = c.party.inside.seat.me in
     still_held c.args.self.now.scene (number_of me.0) (view_log me.0) c.pass.new.seat.me c.pass.result other
-    c.pass.ensures.step (rw (← c.party.view_is) at held)
+    c.pass.ensures.told.step (rw (← c.party.view_is) at held)
 
 pub returns-in-None-clause-still_held : goal.returns-in-None-clause-still_held
 returns-in-None-clause-still_held g c other held =
     let me = c.party.inside.seat.me in
     still_held c.args.self.now.scene (number_of me.0) (view_log me.0) c.pass.new.seat.me c.pass.result other
-    c.pass.ensures.step (rw (← c.party.view_is) at held)
+    c.pass.ensures.told.step (rw (← c.party.view_is) at held)
 
 pub returns-in-Some-clause-others : goal.returns-in-Some-clause-others
 returns-in-Some-clause-others g c other apart held =
     let me = c.party.inside.seat.me in
     subst (λ (p : PoolParty). IsHeldAfter p.log other) c.party.view_is
     (others_held c.args.self.now.scene (number_of me.0) (view_log me.0) c.pass.new.seat.me (Some c.in-Some.number) other
-    c.in-Some.ensures.step apart held)
+    c.in-Some.ensures.told.step apart held)
 
 pub returns-in-None-clause-others : goal.returns-in-None-clause-others
 returns-in-None-clause-others g c other apart held =
     let me = c.party.inside.seat.me in
     subst (λ (p : PoolParty). IsHeldAfter p.log other) c.party.view_is
     (others_held c.args.self.now.scene (number_of me.0) (view_log me.0) c.pass.new.seat.me None other
-    c.in-None.ensures.step tt held)
+    c.in-None.ensures.told.step tt held)
 
 pub returns-in-Some-clause-inside : goal.returns-in-Some-clause-inside
 returns-in-Some-clause-inside g c =
@@ -102,7 +106,7 @@ returns-in-Some-clause-inside g c =
     ∙ ap (λ (p : SharedPool). p.scene.geometry.bucket) c.self.view_is in
     let size = ap (λ (l : Layout). l.size) bucket in
     rw c.self.view_is
-    (bucket-inside scene.geometry c.in-Some.number c.size-in-Some.result geometry c.in-Some.ensures.step.below (omega arith))
+    (bucket-inside scene.geometry c.in-Some.number c.size-in-Some.result geometry c.in-Some.ensures.told.step.below (omega arith))
 
 pub returns-in-Some-clause-aligned : goal.returns-in-Some-clause-aligned
 returns-in-Some-clause-aligned g c =
@@ -115,7 +119,7 @@ returns-in-Some-clause-aligned g c =
 pub returns-in-Some-clause-alone : goal.returns-in-Some-clause-alone
 returns-in-Some-clause-alone g c one within =
     let number = c.in-Some.number in
-    let took = c.in-Some.ensures.step in (
+    let took = c.in-Some.ensures.told.step in (
       λ refused. absurd (cc refused),
       λ all. absurd (took.free (subst (λ (p : PoolParty). IsHeldAfter p.log number) (sym c.party.view_is)
           (all number took.below))),
@@ -124,6 +128,6 @@ returns-in-Some-clause-alone g c one within =
 pub returns-in-None-clause-alone : goal.returns-in-None-clause-alone
 returns-in-None-clause-alone g c one within = (
   λ refused. subst (λ (p : PoolParty). AreAllHeldAfter p.log c.args.self.now.scene.geometry.buckets) c.party.view_is
-      (c.in-None.ensures.step.held one),
+      (c.in-None.ensures.told.step.held one),
   λ all. refl,
 )

@@ -16,27 +16,31 @@ pub invariant_of-party : goal.invariant_of-party
 invariant_of-party g c =
     let party = c.party.inside in
     let own = ap (λ (p : PoolParty). p.allocator) c.party.view_is ∙ c.requires.party in
-    seated_then c.args.self.now party.seat.table_id party.seat.me party.number party.hint c.party.invariant own
+    let me = party.seat.me in
+    seated_then c.args.self.now party.seat.table_id me party.number party.hint c.party.invariant own
     c.round.new.seat.me _ (c.in-Some.number + 1)
-    (hint-round _ _ _ c.in-Some.ensures.step.turn c.in-Some.number party.hint c.in-Some.ensures.step.there)
-    c.in-Some.ensures.step.ended
+    (hint-round c.args.self.now.scene.geometry.buckets (number_of me.0) party.hint c.in-Some.ensures.told.step.turn c.in-Some.number party.hint c.in-Some.ensures.told.step.there)
+    c.in-Some.ensures.told.step.ended
 
 pub invariant_of-party-in-None : goal.invariant_of-party-in-None
 invariant_of-party-in-None g c =
     let party = c.party.inside in
     let own = ap (λ (p : PoolParty). p.allocator) c.party.view_is ∙ c.requires.party in
-    seated_then c.args.self.now party.seat.table_id party.seat.me party.number party.hint c.party.invariant own
-    c.round.new.seat.me _ party.hint (hint-misses _ _ party.hint _ party.hint) c.in-None.ensures.step.ended
+    let me = party.seat.me in
+    let buckets = c.args.self.now.scene.geometry.buckets in
+    seated_then c.args.self.now party.seat.table_id me party.number party.hint c.party.invariant own
+    c.round.new.seat.me _ party.hint (hint-misses buckets (number_of me.0) party.hint buckets party.hint)
+    c.in-None.ensures.told.step.ended
 
 pub returns-in-Some-clause-party : goal.returns-in-Some-clause-party
 returns-in-Some-clause-party g c =
     let pool = c.args.self.now in
     let party = c.party.inside in
     let own = ap (λ (p : PoolParty). p.allocator) c.party.view_is ∙ c.requires.party in
-    let took = c.in-Some.ensures.step in
+    let took = c.in-Some.ensures.told.step in
     let logged = party_with pool party.seat.table_id party.seat.me party.number party.hint c.party.invariant own
     (λ (n : ℕ). taking_round pool.scene.geometry.buckets n c.party.inside.hint took.turn) c.round.new.seat.table_id c.round.new.seat.me
-    c.args.party.now c.party.view_is c.round.ensures.table took.ended in
+    c.args.party.now c.party.view_is c.round.ensures.told.table took.ended in
     ap (λ (p : PoolParty). p.allocator) logged ∙ c.requires.party
 
 pub returns-in-None-clause-party : goal.returns-in-None-clause-party
@@ -46,7 +50,7 @@ returns-in-None-clause-party g c =
     let own = ap (λ (p : PoolParty). p.allocator) c.party.view_is ∙ c.requires.party in
     let logged = party_with pool party.seat.table_id party.seat.me party.number party.hint c.party.invariant own
     (λ (n : ℕ). refused_round pool.scene.geometry.buckets n c.party.inside.hint) c.round.new.seat.table_id c.round.new.seat.me
-    c.args.party.now c.party.view_is c.round.ensures.table c.in-None.ensures.step.ended in
+    c.args.party.now c.party.view_is c.round.ensures.told.table c.in-None.ensures.told.step.ended in
     ap (λ (p : PoolParty). p.allocator) logged ∙ c.requires.party
 
 pub returns-in-Some-clause-serves : goal.returns-in-Some-clause-serves
@@ -56,12 +60,12 @@ returns-in-Some-clause-serves g c =
     let new = c.round.new.seat in
     let party = c.party.inside in
     let me = party.seat.me in
-    let took = c.in-Some.ensures.step in
+    let took = c.in-Some.ensures.told.step in
     let pool = c.args.self.now in
     let own = ap (λ (p : PoolParty). p.allocator) c.party.view_is ∙ c.requires.party in
     let buckets = pool.scene.geometry.buckets in
     let logged = party_with pool party.seat.table_id me party.number party.hint c.party.invariant own
-    (λ (n : ℕ). taking_round buckets n c.party.inside.hint took.turn) new.table_id new.me old c.party.view_is c.round.ensures.table
+    (λ (n : ℕ). taking_round buckets n c.party.inside.hint took.turn) new.table_id new.me old c.party.view_is c.round.ensures.told.table
     took.ended in
     let geometry = subst (λ (p : SharedPool). IsPoolGeometry p.scene.geometry) own c.party.invariant.shared.geometry in
     let bucket = c.bucket-bucket.ensures ∙ ap (λ (x : PoolGeometry). x.bucket) c.geometry.ensures.value
@@ -77,7 +81,7 @@ returns-in-Some-clause-serves g c =
             (round_is_held buckets old.number c.party.inside.hint took.turn c.in-Some.number old.log took.there);
         still_held = λ other held.
             still_held_from scene (number_of me.0) (view_log me.0) c.party.inside.hint new.me c.round.result other
-            c.round.ensures.step (rw (← c.party.view_is) at held);
+            c.round.ensures.told.step (rw (← c.party.view_is) at held);
         others = λ other apart held.
             subst (λ (p : PoolParty). IsHeldAfter p.log other) c.party.view_is
             (others_held_from scene (number_of me.0) (view_log me.0) c.party.inside.hint new.me (Some c.in-Some.number) other
@@ -99,7 +103,7 @@ returns-in-None-clause-serves g c =
     let new = c.round.new.seat in
     let party = c.party.inside in
     let me = party.seat.me in
-    let lost = c.in-None.ensures.step in
+    let lost = c.in-None.ensures.told.step in
     let own = ap (λ (p : PoolParty). p.allocator) c.party.view_is ∙ c.requires.party in
     record {
       serves = record {
@@ -109,7 +113,7 @@ returns-in-None-clause-serves g c =
         held = tt;
         still_held = λ other held.
             still_held_from c.args.self.now.scene (number_of me.0) (view_log me.0) c.party.inside.hint new.me c.round.result
-            other c.round.ensures.step (rw (← c.party.view_is) at held);
+            other c.round.ensures.told.step (rw (← c.party.view_is) at held);
         others = λ other apart held.
             subst (λ (p : PoolParty). IsHeldAfter p.log other) c.party.view_is
             (others_held_from c.args.self.now.scene (number_of me.0) (view_log me.0) c.party.inside.hint new.me None other

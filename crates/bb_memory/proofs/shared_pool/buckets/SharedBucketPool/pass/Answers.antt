@@ -29,8 +29,8 @@ try_flag-requires-clause-next g c =
       below = rw c.self.view_is (omega arith);
     }
 
-pub returns-then-try_flag : goal.returns-then-try_flag
-returns-then-try_flag g c =
+pub returns-then-try_flag-clause-told : goal.returns-then-try_flag-clause-told
+returns-then-try_flag-clause-told g c =
     let me = c.args.seat.now.me in record {
       table = c.try_flag.ensures.table ∙ c.loop-bucket.invariant.table;
       step = takes c.args.self.now.scene (number_of me.0) (view_log me.0) c.loop-bucket.seat.me c.try_flag.new.seat.me
@@ -48,8 +48,8 @@ loop-bucket-preserved g c =
           (rw c.if-try_flag.false at (rw c.self.view_is at c.try_flag.ensures.step));
     }
 
-pub returns : goal.returns
-returns g c =
+pub returns-clause-told : goal.returns-clause-told
+returns-clause-told g c =
     let scene = c.args.self.now.scene in
     let me = c.args.seat.now.me in
     let all : c.loop-bucket.bucket ≡ scene.geometry.buckets = omega arith in record {

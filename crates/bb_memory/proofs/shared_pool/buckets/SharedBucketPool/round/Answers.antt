@@ -13,8 +13,8 @@ loop-turn-init g c =
       round = round_begins c.args.self.now.scene (number_of me.0) (view_log me.0) c.args.first me c.requires.seat;
     }
 
-pub returns-then-try_at : goal.returns-then-try_at
-returns-then-try_at g c =
+pub returns-then-try_at-clause-told : goal.returns-then-try_at-clause-told
+returns-then-try_at-clause-told g c =
     let scene : PoolScene = c.args.self.now.scene in
     let me = c.args.seat.now.me in
     let is = c.at_turn-bucket.ensures.value ∙ ap (λ (n : ℕ). at_turn n c.args.first c.loop-turn.turn)
@@ -39,8 +39,8 @@ loop-turn-preserved g c =
           (rw c.if-try_at.false at (rw c.self.view_is at c.try_at.ensures.step));
     }
 
-pub returns : goal.returns
-returns g c =
+pub returns-clause-told : goal.returns-clause-told
+returns-clause-told g c =
     let scene : PoolScene = c.args.self.now.scene in
     let me = c.args.seat.now.me in
     let end : c.loop-turn.turn ≡ scene.geometry.buckets = omega arith in

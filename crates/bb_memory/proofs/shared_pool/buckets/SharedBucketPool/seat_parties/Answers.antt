@@ -19,9 +19,9 @@ invariant_of-push_reserved g c =
     let is = c.loop-number.invariant.rest
     ∙ ap (λ (parties : List NumberedLog). (standing_for scene parties, [])) (fresh_more number c.args.parties (omega arith)) in
     let seated = c.deal-seat.ensures.first ∙ ap (λ (m : Me ℕ SeatView). (first_of m.0, [])) is in
-    party_seat scene number c.part_of.result [] c.deal-seat.result.me (no_step scene number c.deal-seat.result.me seated)
+    party_seat scene number c.part_of-hint.result [] c.deal-seat.result.me (no_step scene number c.deal-seat.result.me seated)
     (let made = c.requires.parties in omega arith)
-    (subst (λ (p : SharedPool). IsSharedScene p.scene) c.self.view_is c.self.invariant.shared) c.part_of.ensures
+    (subst (λ (p : SharedPool). IsSharedScene p.scene) c.self.view_is c.self.invariant.shared) c.part_of-hint.ensures
 
 pub loop-number-preserved : goal.loop-number-preserved
 loop-number-preserved g c =
