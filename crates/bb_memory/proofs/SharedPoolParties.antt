@@ -66,7 +66,8 @@ module _ (pool : SharedPool) (table : TableId) (me : Me ℕ SeatView) (number hi
       (subst (λ (n : ℕ). IsSeatOfIdle pool.scene n (view_log me.0 ++ added) new) same_number ended)
       (subst (λ (s : PoolScene). number < s.parties) own_scene is.below)
       (subst IsSharedScene own_scene is.shared)
-      (next_fit ∙ ap (λ (h : ℕ). hint_through h added) (is.next_fit ∙ ap (λ (s : PoolScene). hint_in s number (view_log me.0)) own_scene)
+      (next_fit ∙ ap (λ (h : ℕ). hint_through h added)
+      (is.next_fit ∙ ap (λ (s : PoolScene). hint_in s number (view_log me.0)) own_scene)
       ∙ sym (hint-append (part_of pool.scene number) (view_log me.0) added))
 
   -- a detaching has ended with its load

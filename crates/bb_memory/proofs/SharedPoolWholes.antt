@@ -75,7 +75,8 @@ module _ (scene : PoolScene) (parties : List PoolParty) (met : HaveMet scene par
       let its = All-contains HasIts parties one met.1.theirs (contains_at parties i one at) in
       let its_other = All-contains HasIts parties other met.1.theirs (contains_at parties j other at_other) in
       met.1.differ i j one other at at_other apart
-      (logs_apart scene met.0 met.1.logs one.number one.log other.number other.log bucket met.1.agree its its_other held other_held)
+      (logs_apart scene met.0 met.1.logs one.number one.log other.number other.log bucket met.1.agree its its_other held
+      other_held)
 
   -- an entry whose step is that of a number stands in the log of the party with this number
   numbered : (entry : PoolEntry) (number : ℕ) → length parties ≡ scene.parties → Contains history entry →

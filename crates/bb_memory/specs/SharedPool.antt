@@ -9,7 +9,8 @@ use Rattle.bb_memory_base.specs.PoolObject.{IsWithin}
 use Rattle.bb_memory_base.specs.PoolMachine.{IsDetached, PoolScene, left_by}
 use Rattle.bb_memory_base.specs.PoolHistory.{PoolLog, entries_by, entry_of, history_of}
 use Rattle.bb_memory_base.specs.PoolCalls.{FoundHeld, IsPoolRun, IsRefusedAt}
-use Rattle.bb_memory_base.specs.PoolLogs.{CommonInterleaving, WasDetached, HasLog, Interleaving, IsHeldAfter, LogsAgree, loss_at, pass_in}
+use Rattle.bb_memory_base.specs.PoolLogs.{CommonInterleaving, WasDetached, HasLog, Interleaving, IsHeldAfter, LogsAgree}
+use Rattle.bb_memory_base.specs.PoolLogs.{loss_at, pass_in}
 use Rattle.bb_memory_base.specs.declared.layout.Layout.{Layout}
 use Rattle.bb_memory_base.specs.declared.allocator.AllocationError.{AllocationError}
 use Rattle.bb_memory_base.specs.declared.allocator.AllocationError.TheVariants.{SizeIsZero, SizeTooLarge}

@@ -161,7 +161,8 @@ holder_in_log scene steps party bucket =
     ((λ holder. same ∙ test_from_holder party found holder), (λ holds. holder_from_test party found (sym same ∙ holds)))
 
 -- a flag is one thing
-same_flag : (state : PoolState) (bucket : ℕ) (one other : Flag) → IsFlag state bucket one → IsFlag state bucket other → one ≡ other
+same_flag : (state : PoolState) (bucket : ℕ) (one other : Flag) → IsFlag state bucket one → IsFlag state bucket other →
+    one ≡ other
 same_flag state bucket one other is also = same_Some one other (sym is ∙ also)
 
 -- so it has one holder

@@ -169,7 +169,8 @@ logs-push logs party log step history entry at of same each other found there =
 pub agree_on : (scene : PoolScene) (flags : List Bool) (logs : List PoolLog) (party : ℕ) (log : PoolLog) (step : PoolStep)
     (agree : LogsAgree scene flags logs) → HasLog logs party log → IsStepOf party step →
     (move : PoolMove) → pool_step (left_by scene agree.steps) step ≡ move → IsAllowed move.outcome →
-    (new : List Bool) → taken_flags move.state ≡ new → LogsAgree scene new (with_entry logs party log (entry_of step move.outcome))
+    (new : List Bool) → taken_flags move.state ≡ new →
+    LogsAgree scene new (with_entry logs party log (entry_of step move.outcome))
 agree_on scene flags logs party log step agree at of move is allowed new leaves =
     let opening : PoolState = opening_state scene in
     let history : PoolLog = history_of scene agree.steps in

@@ -10,7 +10,8 @@ use Rattle.std.proofs.lemmas.List.Elements.{recursion_from_All}
 use Rattle.bb_memory_base.specs.PoolMachine.{PoolScene, PoolState, PoolMove, IsFlag, IsHolder, IsDetached}
 use Rattle.bb_memory_base.specs.PoolMachine.{pool_step, opening_state, left_by}
 use Rattle.bb_memory_base.specs.PoolHistory.{entry_of, PoolLog, PoolEntry, pool_history, is_by, entries_by, history_of, log_of}
-use Rattle.bb_memory_base.specs.PoolLogs.{AllAllowed, CommonInterleaving, HasLog, IsHeldAfter, Interleaving, IsAllowed, IsDetachedAfter, LogsAgree, is_taken}
+use Rattle.bb_memory_base.specs.PoolLogs.{AllAllowed, CommonInterleaving, HasLog, IsHeldAfter, Interleaving, IsAllowed}
+use Rattle.bb_memory_base.specs.PoolLogs.{IsDetachedAfter, LogsAgree, is_taken}
 use Rattle.bb_memory_base.specs.declared.steps.pool.Flag.{Flag}
 use Rattle.bb_memory_base.specs.declared.steps.pool.Flag.TheVariants.{Free, HeldBy, Detached}
 use Rattle.bb_memory_base.specs.declared.steps.pool.PoolStep.{PoolStep}
@@ -21,7 +22,8 @@ use Rattle.bb_memory_base.proofs.PoolSteps.{IsNext, StepKind, takes, takes_at, l
 use Rattle.bb_memory_base.proofs.PoolSteps.{attaches, passes, kind_of, length-left_by, next_of_idle, test_apart}
 use Rattle.bb_memory_base.proofs.PoolFlags.{free_from_flag, taken_from_flag, flag_from_taken}
 use Rattle.bb_memory_base.proofs.PoolHolders.{free_not_holder, holder_in_log, same_holder}
-use Rattle.bb_memory_base.proofs.PoolDetached.{none_detached_alone, none_detached_at_opening, none_held_at_opening, none_taken_at_opening}
+use Rattle.bb_memory_base.proofs.PoolDetached.{none_detached_alone, none_detached_at_opening, none_held_at_opening}
+use Rattle.bb_memory_base.proofs.PoolDetached.{none_taken_at_opening}
 
 -- WHO TAKES STEPS
 
@@ -221,7 +223,9 @@ held_is_taken scene flags logs party log bucket agree at holds =
     flag_from_taken (left_by scene agree.steps) flags bucket agree.leaves (inl (party, holder))
 
 -- the log of a bucket's holder holds it, and the holder was made
-holder_made : (scene : PoolScene) (flags : List Bool) (logs : List PoolLog) (bucket party : ℕ) (agree : LogsAgree scene flags logs) →
+
+holder_made : (scene : PoolScene) (flags : List Bool) (logs : List PoolLog) (bucket party : ℕ)
+    (agree : LogsAgree scene flags logs) →
     IsHolder (left_by scene agree.steps) bucket party →
     (party < scene.parties) × IsHeldAfter (log_of scene agree.steps party) bucket
 holder_made scene flags logs bucket party agree held =

@@ -16,13 +16,15 @@ use Rattle.bb_memory_base.specs.declared.steps.pool.Flag.{Flag}
 use Rattle.bb_memory_base.specs.declared.steps.pool.Flag.TheVariants.{Free, HeldBy, Detached}
 use Rattle.bb_memory_base.specs.declared.steps.pool.PoolStep.{PoolStep}
 use Rattle.bb_memory_base.specs.declared.steps.pool.PoolStep.TheVariants.{Try, GiveBack, TryAt, Detach, Attach}
-use Rattle.bb_memory_base.specs.declared.steps.pool.PoolOutcome.TheVariants.{Takes, Loses, RefusedAtLoss, Gives, Misses, Detaches, Attaches}
+use Rattle.bb_memory_base.specs.declared.steps.pool.PoolOutcome.TheVariants.{Takes, Loses, RefusedAtLoss, Gives, Misses}
+use Rattle.bb_memory_base.specs.declared.steps.pool.PoolOutcome.TheVariants.{Detaches, Attaches}
 use Rattle.bb_memory_base.proofs.SliceSets.{slice_get-set_other, slice_get-set_same}
 use Rattle.bb_memory_base.proofs.PoolSteps.{calls-left_by, test_below, length-left_by, test_same}
 use Rattle.bb_memory_base.proofs.PoolHolders.{holder_in_log}
 use Rattle.bb_memory_base.proofs.PoolFlags.{free_from_flag, taken_from_flag, taken_flags-again, taken_flags-set}
 use Rattle.bb_memory_base.proofs.PoolLogFacts.{held_is_taken, logs_apart, detached_from_logs}
-use Rattle.bb_memory_base.proofs.PoolLogEntries.{log_pass, try_is_of, try_at_is_of, give_is_of, detach_is_of, attach_is_of, agree_on}
+use Rattle.bb_memory_base.proofs.PoolLogEntries.{log_pass, try_is_of, try_at_is_of, give_is_of, detach_is_of, attach_is_of}
+use Rattle.bb_memory_base.proofs.PoolLogEntries.{agree_on}
 
 -- THE KINDS OF STEP
 
@@ -47,7 +49,8 @@ take_agrees scene flags logs party log bucket agree made at next free =
     let state : PoolState = left_by scene agree.steps in
     let found : IsFlag state bucket Free = free_from_flag state flags bucket agree.leaves free in
     let is = tries scene flags logs party log bucket agree made at next (Some Free) found in
-    let leaves = taken_flags-set state.flags bucket (HeldBy party) ∙ ap (λ (f : List Bool). slice_set f bucket true) agree.leaves in
+    let leaves = taken_flags-set state.flags bucket (HeldBy party)
+    ∙ ap (λ (f : List Bool). slice_set f bucket true) agree.leaves in
     let new : List Bool = slice_set flags bucket true in
     agree_on scene flags logs party log (Try party) agree at (try_is_of party) (taking state party bucket) is tt new leaves
 
@@ -116,7 +119,8 @@ take_at_agrees scene flags logs party log bucket agree made at idle free =
     let state : PoolState = left_by scene agree.steps in
     let found : IsFlag state bucket Free = free_from_flag state flags bucket agree.leaves free in
     let is = tries_one scene flags logs party log bucket agree made at idle (Some Free) found in
-    let leaves = taken_flags-set state.flags bucket (HeldBy party) ∙ ap (λ (f : List Bool). slice_set f bucket true) agree.leaves in
+    let leaves = taken_flags-set state.flags bucket (HeldBy party)
+    ∙ ap (λ (f : List Bool). slice_set f bucket true) agree.leaves in
     let step : PoolStep = TryAt party bucket in
     let new : List Bool = slice_set flags bucket true in
     agree_on scene flags logs party log step agree at (try_at_is_of party bucket) (taking state party bucket) is tt new leaves

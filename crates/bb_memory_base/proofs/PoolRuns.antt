@@ -71,7 +71,8 @@ module _ (geometry : PoolGeometry) (is : IsPoolGeometry geometry) where
   held_from_flag state live bucket matches taken =
       let within_flags = taken_within state bucket taken in
       let below : bucket < geometry.buckets = omega (arith, within_flags, matches.size) in
-      let one : count_at (bucket_place geometry bucket) live ≡ 1 = matches.flags bucket below ∙ weight_of_taken state bucket taken in
+      let one : count_at (bucket_place geometry bucket) live ≡ 1 = matches.flags bucket below
+      ∙ weight_of_taken state bucket taken in
       at_from_count (bucket_place geometry bucket) live (omega arith)
 
   flags-take : (state : PoolState) (live : List Chunk) (layout : Layout) (party bucket : ℕ) →

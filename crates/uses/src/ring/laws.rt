@@ -1,5 +1,6 @@
 //! Laws of a loan book's newest and oldest sample. Each function does nothing: its contract is the law.
-ghost use Rattle.std.specs.Prelude.{AllPairs, Ok, ◌≡◌, ◌∷◌, ◌++◌, ◌<◌, [], ℕ, List, Some, None, get_or, length, slice_get, slice_set};
+ghost use Rattle.std.specs.Prelude.{AllPairs, Ok, ◌≡◌, ◌∷◌, ◌++◌, ◌<◌, [], ℕ, List, Some, None, get_or, length, slice_get};
+ghost use Rattle.std.specs.Prelude.{slice_set};
 ghost use Rattle.bb_memory_base.specs.Chunk.{Chunk};
 ghost use Rattle.loan_book.specs.Book.{Book, IsBook, IsAt, IsOut, IsPublished, chunks_of};
 ghost use Rattle.loan_book.specs.Calls.{Publishes, GivesBack, with_sample, with_returns};

@@ -3,7 +3,8 @@ use Rattle.atomic_table.specs.Table.{Me}
 use Rattle.bb_memory_base.specs.BumpHistory.{chunks_won}
 use Rattle.bb_memory.specs.Seats.{number_of, view_log}
 use Rattle.bb_memory.specs.SharedBumpRule.{SeatView, met_by}
-use Rattle.bb_memory.proofs.SharedBumpAnswers.{alone_refused, alone_won, answers_refused, answers_won, behind_floor, ended_by, found_by}
+use Rattle.bb_memory.proofs.SharedBumpAnswers.{alone_refused, alone_won, answers_refused, answers_won, behind_floor, ended_by}
+use Rattle.bb_memory.proofs.SharedBumpAnswers.{found_by}
 use Rattle.bb_memory.proofs.SharedBumpAnswers.{lost_by, nothing_found, nothing_lost, won_by}
 use Rattle.bb_memory.proofs.shared_bump.SharedBumpAllocator.allocate.Goals.{in-Some, in-None}
 use Rattle.bb_memory.proofs.shared_bump.SharedBumpAllocator.allocate.Goals as goal

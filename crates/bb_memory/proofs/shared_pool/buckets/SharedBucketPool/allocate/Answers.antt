@@ -21,7 +21,8 @@ invariant_of-party g c =
     let me = party.seat.me in
     seated_then c.args.self.now party.seat.table_id me party.number party.hint c.party.invariant own
     c.pass.new.seat.me _ (c.in-Some.number + 1)
-    (hint-taking c.args.self.now.scene.geometry.buckets (number_of me.0) c.in-Some.number party.hint) c.in-Some.ensures.told.step.ended
+    (hint-taking c.args.self.now.scene.geometry.buckets (number_of me.0) c.in-Some.number party.hint)
+    c.in-Some.ensures.told.step.ended
 
 pub invariant_of-party-in-None : goal.invariant_of-party-in-None
 invariant_of-party-in-None g c =

@@ -19,7 +19,8 @@ invariant_of-party g c =
     let me = party.seat.me in
     seated_then c.args.self.now party.seat.table_id me party.number party.hint c.party.invariant own
     c.round.new.seat.me _ (c.in-Some.number + 1)
-    (hint-round c.args.self.now.scene.geometry.buckets (number_of me.0) party.hint c.in-Some.ensures.told.step.turn c.in-Some.number party.hint c.in-Some.ensures.told.step.there)
+    (hint-round c.args.self.now.scene.geometry.buckets (number_of me.0) party.hint c.in-Some.ensures.told.step.turn
+    c.in-Some.number party.hint c.in-Some.ensures.told.step.there)
     c.in-Some.ensures.told.step.ended
 
 pub invariant_of-party-in-None : goal.invariant_of-party-in-None
@@ -39,7 +40,8 @@ returns-in-Some-clause-party g c =
     let own = ap (λ (p : PoolParty). p.allocator) c.party.view_is ∙ c.requires.party in
     let took = c.in-Some.ensures.told.step in
     let logged = party_with pool party.seat.table_id party.seat.me party.number party.hint c.party.invariant own
-    (λ (n : ℕ). taking_round pool.scene.geometry.buckets n c.party.inside.hint took.turn) c.round.new.seat.table_id c.round.new.seat.me
+    (λ (n : ℕ). taking_round pool.scene.geometry.buckets n c.party.inside.hint took.turn) c.round.new.seat.table_id
+    c.round.new.seat.me
     c.args.party.now c.party.view_is c.round.ensures.told.table took.ended in
     ap (λ (p : PoolParty). p.allocator) logged ∙ c.requires.party
 
@@ -65,7 +67,8 @@ returns-in-Some-clause-serves g c =
     let own = ap (λ (p : PoolParty). p.allocator) c.party.view_is ∙ c.requires.party in
     let buckets = pool.scene.geometry.buckets in
     let logged = party_with pool party.seat.table_id me party.number party.hint c.party.invariant own
-    (λ (n : ℕ). taking_round buckets n c.party.inside.hint took.turn) new.table_id new.me old c.party.view_is c.round.ensures.told.table
+    (λ (n : ℕ). taking_round buckets n c.party.inside.hint took.turn) new.table_id new.me old c.party.view_is
+    c.round.ensures.told.table
     took.ended in
     let geometry = subst (λ (p : SharedPool). IsPoolGeometry p.scene.geometry) own c.party.invariant.shared.geometry in
     let bucket = c.bucket-bucket.ensures ∙ ap (λ (x : PoolGeometry). x.bucket) c.geometry.ensures.value

@@ -29,7 +29,8 @@ returns-clause-aligned g c =
     let place = ap (λ (k : Chunk). k.place) may.answer.2 ∙ c.place-place.ensures.value
     ∙ ap (λ (k : Chunk). k.place) c.chunk.ensures.value
     ∙ ap (λ (b : TakenBucket). (chunk_of b).place) (sym c.bucket.view_is) in
-    let within = subst (λ (x : PoolGeometry). align ≤ x.bucket.align) (geometry ∙ ap (λ (p : SharedPool). p.scene.geometry) (sym its))
+    let within = subst (λ (x : PoolGeometry). align ≤ x.bucket.align)
+    (geometry ∙ ap (λ (p : SharedPool). p.scene.geometry) (sym its))
     may.answer.1.align in
     ap (λ (n : ℕ). n % align) place
     ∙ bucket_place-multiple c.bucket.inside.flags.now.scene.geometry c.bucket.inside.number c.args.new
