@@ -140,10 +140,11 @@ pub record WordsAndLogsAgree (scene : PoolScene) (state : State ℕ SeatView) : 
 pub record HasWords (table : TableId) (scene : PoolScene) : Type 0 where
   pub words : table.words ≡ words_for scene.geometry.buckets
 
--- the buckets lie in a region
-pub record IsSharedPool (scene : PoolScene) : Type 0 where
+-- the buckets lie in a region, and are at most a constant where the type has one
+pub record IsSharedPool (capped most : ℕ) (scene : PoolScene) : Type 0 where
   pub is_region : IsRegion scene.geometry.region
   pub shared : IsSharedScene scene
+  pub within : capped ≡ 1 → scene.geometry.buckets ≤ most
 
 -- DEALING
 

@@ -43,7 +43,7 @@ impl<const CAPPED: usize, const MOST: usize> Model for SharedBucketPool<CAPPED, 
 
     ghost view = { λ b. b.flags };
 
-    ghost invariant = { λ b. IsSharedPool b.flags.scene };
+    ghost invariant = { λ b. IsSharedPool CAPPED MOST b.flags.scene };
 }
 
 impl<const CAPPED: usize, const MOST: usize> SharedBucketPool<CAPPED, MOST> {
@@ -54,6 +54,7 @@ impl<const CAPPED: usize, const MOST: usize> SharedBucketPool<CAPPED, MOST> {
         parties: u32,
     ) -> Result<(Self, Vec<PoolParty>), AllocationError>
         requires some { 1 ≤ parties }
+        requires within { CAPPED ≡ 1 → geometry.buckets ≤ MOST }
         ensures geometry { IfOk result (λ made. made.0.scene.geometry ≡ geometry) }
         ensures parties { IfOk result (λ made. AreFresh made.0 parties made.1.items) }
         ensures refused { IfErr result (λ error. error ≡ AllocationError.OutOfMemory) }
@@ -263,11 +264,12 @@ impl<const CAPPED: usize, const MOST: usize> SharedBucketPool<CAPPED, MOST> {
         Ok(shrunk)
     }
 
-    /// How many buckets there are. They lie in a region, and there is a party.
+    /// How many buckets there are: at most the constant of a fixed-size pool. They lie in a region, and there is a party.
     pub fn number_of_buckets(&self) -> u32
         ensures value { result ≡ self.now.scene.geometry.buckets }
         ensures region { IsRegion self.now.scene.geometry.region }
         ensures scene { IsSharedScene self.now.scene }
+        ensures within { CAPPED ≡ 1 → result ≤ MOST }
     {
         self.flags.geometry().count()
     }
