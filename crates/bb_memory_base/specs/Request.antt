@@ -1,6 +1,6 @@
 -- What calls promise that ask for a chunk, give one back or ask for a longer one: all that `allocate`, `deallocate` and `grow`
 -- say, for calls that do as these do and more.
-use Rattle.std.specs.Prelude.{◌≡◌, ℕ, ◌<◌, ◌≤◌, Bool, List, [], ◌∷◌, ◌++◌, Some, Result, IfOk, OnErr, slice_get, slice_set}
+use Rattle.std.specs.Prelude.{◌≡◌, ℕ, ◌%◌, ◌<◌, ◌≤◌, Bool, List, [], ◌∷◌, ◌++◌, Some, Result, IfOk, OnErr, slice_get, slice_set}
 use Rattle.bb_memory_base.specs.Region.{Region}
 use Rattle.bb_memory_base.specs.Chunk.{Chunk, IsInside}
 use Rattle.bb_memory_base.specs.Fitting.{Fits}
@@ -55,6 +55,7 @@ pub record Grown {Allocator : Type 0} (stands_for : Allocator → List Chunk →
       → slice_get live position ≡ Some chunk → chunk.place ≡ place → stands_for new (slice_set live position grown))
   -- of the chunk
   pub same_place : IfOk result (λ grown. grown.place ≡ place)
+  pub aligned : IfOk result (λ grown. grown.place % to.align ≡ 0)
   pub longer : IfOk result (λ grown. from.size < grown.len)
   pub long_enough : IfOk result (λ grown. to.size ≤ grown.len)
   pub within : IfOk result (λ grown. grown.len ≤ reserved)

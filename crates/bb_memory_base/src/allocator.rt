@@ -269,6 +269,7 @@ pub trait Allocator: BaseAllocator {
             → Self.stands_for self.old live → slice_get live position ≡ Some chunk
             → chunk.place ≡ place → Self.stands_for self.new (slice_set live position grown)) }
         ensures same_place { IfOk result (λ grown. grown.place ≡ place) }
+        ensures aligned { IfOk result (λ grown. grown.place % new.align ≡ 0) }
         ensures longer { IfOk result (λ grown. old.size < grown.len) }
         ensures long_enough { IfOk result (λ grown. new.size ≤ grown.len) }
         ensures within { IfOk result (λ grown. grown.len ≤ reserved_at (figures self.old) place) }
@@ -294,6 +295,7 @@ pub trait Allocator: BaseAllocator {
             → Self.stands_for self.old live → slice_get live position ≡ Some chunk
             → chunk.place ≡ place → Self.stands_for self.new (slice_set live position shrunk)) }
         ensures same_place { IfOk result (λ shrunk. shrunk.place ≡ place) }
+        ensures aligned { IfOk result (λ shrunk. shrunk.place % new.align ≡ 0) }
         ensures shorter { IfOk result (λ shrunk. shrunk.len < old.size) }
         ensures long_enough { IfOk result (λ shrunk. new.size ≤ shrunk.len) }
         ensures within { IfOk result (λ shrunk. shrunk.len ≤ reserved_at (figures self.old) place) }

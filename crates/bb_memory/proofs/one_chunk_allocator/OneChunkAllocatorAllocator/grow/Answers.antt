@@ -1,4 +1,6 @@
-use Rattle.std.proofs.Common.{ap, ◌∙◌, arith}
+use Rattle.std.proofs.Common.{◌%◌, ap, ◌∙◌, arith}
+use Rattle.bb_memory_base.specs.Chunk.{Chunk}
+use Rattle.bb_memory_base.proofs.Layouts.{multiple}
 use Rattle.bb_memory.specs.OneChunk.{OneChunk}
 use Rattle.bb_memory_base.specs.OneChunkObject.{reserved_at, rest_from}
 use Rattle.bb_memory.proofs.one_chunk_allocator.OneChunkAllocatorAllocator.grow.Goals as goal
@@ -14,3 +16,8 @@ returns-clause-value c =
 
 pub returns-clause-answer : goal.returns-clause-answer
 returns-clause-answer c live position chunk stands is there = returns-clause-value c
+
+pub returns-clause-aligned : goal.returns-clause-aligned
+returns-clause-aligned c =
+    ap (λ (chunk : Chunk). chunk.place % c.args.new.align) c.chunk_between.ensures
+    ∙ multiple c.args.place c.args.new c.args.old (omega arith) c.requires.aligned
