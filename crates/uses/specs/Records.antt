@@ -3,7 +3,7 @@ use Rattle.std.specs.Prelude.{◌≡◌, ◌∷◌, ◌++◌, [], ℕ, List, Res
 use Rattle.bb_memory_base.specs.Chunk.{Chunk}
 use Rattle.bb_memory_base.specs.HeldBytes.{HeldBytes, bytes_in, held_region}
 use Rattle.uses.specs.declared.slab.InsertError.{InsertError}
-use Rattle.uses.specs.Requests.{Answers, HasOneMore, IsWhyNotStored}
+use Rattle.uses.specs.Requests.{Answers, HasOneMore, IsUnasked, IsWhyNotStored}
 
 -- the bytes of each chunk, in order
 abbrev pub records_in : HeldBytes → List Chunk → List (List ℕ)
@@ -31,6 +31,7 @@ pub record Stores {A G Stored : Type 0} (geometry_of : A → G) (may_allocate : 
       (length bytes) old.chunks new.chunks)
   pub refused : IfErr result (IsWhyNotStored
       (may_allocate (geometry_of old.allocator) old.chunks) (length bytes))
+  pub unasked : IfErr result (λ error. IsUnasked error → new ≡ old)
   pub still : OnErr result (new ≡ record old { allocator = new.allocator })
   pub geometry : geometry_of new.allocator ≡ geometry_of old.allocator
 

@@ -35,6 +35,12 @@ IsWhyNotStored may_answer size (insert.List error) = IsLayout size 1
 IsWhyNotStored may_answer size (insert.Refused error) = MayAnswer may_answer size (Err error)
 IsWhyNotStored may_answer size insert.NoExactChunk = MayGiveLonger may_answer size
 
+-- the refusal is the layer's own: the allocator isn't asked
+abbrev pub IsUnasked : InsertError → Type 0
+IsUnasked (insert.Layout error) = Unit {0}
+IsUnasked (insert.List error) = Unit {0}
+IsUnasked _ = ⊥
+
 -- one chunk more is out, of exactly so many bytes, which the allocator may give
 pub record HasOneMore (may_answer : Answers) (size : ℕ) (old new : List Chunk) : Type 0 where
   pub chunk : Chunk

@@ -53,6 +53,11 @@ IsWhyNotSent may_answer sent size (send.Refused (Allocation error)) =
 -- for no other cause
 IsWhyNotSent may_answer sent size (send.Refused error) = ⊥
 
+-- the refusal is the ring's own: the loan book isn't asked
+abbrev pub IsUnasked : SendError → Type 0
+IsUnasked (send.List error) = Unit {0}
+IsUnasked _ = ⊥
+
 -- One reader is done with the oldest message, of which this tells whether it was the last one: then the message leaves, and its
 -- chunk with it.
 pub record Finishes {A G : Type 0} (geometry_of : A → G) (old : Ring A) (result : Bool)

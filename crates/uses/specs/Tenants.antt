@@ -86,3 +86,10 @@ IsWhyNotLeased may_answer old tenant layout (lease.Refused error) =
 IsWhyNotLeased may_answer old tenant layout lease.TooLong =
     HasLeft old tenant layout.size × ((chunk : Chunk) × may_answer layout (Ok chunk)
     × (limit_of old.limits tenant < used_by tenant old.leases + chunk.len))
+
+-- the refusal is the layer's own: the allocator isn't asked
+abbrev pub IsUnasked : LeaseError → Type 0
+IsUnasked lease.NoTenant = Unit {0}
+IsUnasked lease.OverLimit = Unit {0}
+IsUnasked (lease.List error) = Unit {0}
+IsUnasked _ = ⊥

@@ -4,7 +4,7 @@ use Rattle.bb_memory_base.specs.PoolLogs.{IsHeldAfter}
 use Rattle.bb_memory_base.specs.declared.allocator.AllocationError.{AllocationError}
 use Rattle.bb_memory_base.specs.declared.layout.Layout.{Layout}
 use Rattle.bb_memory.specs.SharedPool.{SharedPool, PoolParty, TakenBucket}
-use Rattle.bb_memory.specs.SharedPoolRounds.{MayTakeFrom}
+use Rattle.bb_memory.specs.SharedPoolRounds.{MayTakeFrom, hint_of}
 
 -- the party still holds each bucket that it held
 abbrev pub KeepsBuckets : PoolParty → PoolParty → Type 0
@@ -21,11 +21,9 @@ pub record Asks {P A : Type 0} (may_take : P → Layout → A → P → Type 0) 
   pub answer : A
   pub asked : may_take old layout answer new
 
--- the answer of a request near the bucket that the party had last, and the party then: a round from some bucket
-pub record MayTakeNear (old : PoolParty) (layout : Layout) (answer : Result TakenBucket AllocationError) (new : PoolParty)
-    : Type 0 where
-  pub first : ℕ
-  pub taken : MayTakeFrom first old layout answer new
+-- the answer of a request near the bucket that the party had last, and the party then
+abbrev pub MayTakeNear : PoolParty → Layout → Result TakenBucket AllocationError → PoolParty → Type 0
+MayTakeNear old = MayTakeFrom (hint_of old) old
 
 -- the party has asked so once
 abbrev pub AsksNear : Layout → PoolParty → PoolParty → Type 0

@@ -1,8 +1,9 @@
 //! Messages between threads, each in a bucket of one shared pool: the sender takes it, and the receiver gives it back.
-ghost use Rattle.std.specs.Prelude.{◌≡◌, ◌<◌, IfErr, IfOk};
+ghost use Rattle.std.specs.Prelude.{◌≡◌, ◌<◌, Err, IfErr, IfOk};
 ghost use Rattle.bb_memory_base.specs.PoolLogs.{IsHeldAfter};
 ghost use Rattle.bb_memory.specs.SharedPool.{MayTakeBucket, chunk_of};
-ghost use Rattle.uses.specs.Messages.{IsRefused, having_received};
+ghost use Rattle.bb_memory.specs.SharedPoolRounds.{MayTakeFrom, hint_of};
+ghost use Rattle.uses.specs.Messages.{HasSent, having_received};
 ghost use Rattle.uses.specs.Workers.{KeepsBuckets};
 
 use bb_memory::allocator::AllocationError;
@@ -25,7 +26,10 @@ pub fn send(
     ensures was_detached { IfOk result
         (λ message. ¬ IsHeldAfter sender.new.log message.number) }
     ensures keeps { KeepsBuckets sender.old sender.new }
-    ensures refused { IfErr result (IsRefused sender.old layout sender.new) }
+    ensures sent { IfOk result
+        (λ message. HasSent sender.old layout message sender.new) }
+    ensures refused { IfErr result
+        (λ error. MayTakeFrom (hint_of sender.old) sender.old layout (Err error) sender.new) }
 {
     let bucket = pool.allocate_near(sender, layout)?;
     Ok(pool.detach(sender, bucket))

@@ -41,6 +41,7 @@ pub fn four_workers<R: Threads + Sync>(
     layout: Layout,
 ) -> Result<(SharedPoolAllocator, Vec<PoolParty>), AllocError>
     ensures four { IfOk result (λ made. made.0.scene.parties ≡ 4) }
+    ensures buckets { IfOk result (λ made. made.0.scene.geometry.buckets ≡ 8) }
     ensures all { IfOk result (λ made. length made.1.items ≡ made.0.scene.parties) }
     ensures theirs { IfOk result (λ made. All (λ party. party.allocator ≡ made.0) made.1.items) }
     ensures met { IfOk result (λ made. HaveMet made.0.scene made.1.items) }
@@ -68,7 +69,8 @@ fn take_one_each<R: Threads + Sync>(
 /// A pool of four parties. It is refused only where memory was, since a pool may be made of this region and bucket.
 #[tactic(auto, unfolding(bb_memory_base::specs::LeastPlace::least_place))]
 fn pool_of_four(alloc: Global) -> Result<(SharedPoolAllocator, Vec<PoolParty>), AllocError>
-    ensures { IfOk result (λ made. AreFresh made.0 4 made.1.items) }
+    ensures parties { IfOk result (λ made. AreFresh made.0 4 made.1.items) }
+    ensures buckets { IfOk result (λ made. made.0.scene.geometry.buckets ≡ 8) }
 {
     pool_count_law();
     let bucket = Layout::from_size_align(128, 8).unwrap();

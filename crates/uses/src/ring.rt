@@ -7,7 +7,7 @@ ghost use Rattle.bb_memory_base.specs.HeldBytes.{held_region};
 ghost use Rattle.loan_book.specs.Book.{Book, IsBook, chunks_out};
 ghost use Rattle.loan_book.specs.Calls.{with_sample};
 ghost use Rattle.uses.specs.Requests.{HasOneMore, MayAnswer};
-ghost use Rattle.uses.specs.Rings.{Finishes, GivesExactly, IsWhyNotSent, ReturnsOldest, ids_of};
+ghost use Rattle.uses.specs.Rings.{Finishes, GivesExactly, IsUnasked, IsWhyNotSent, ReturnsOldest, ids_of};
 
 mod laws;
 
@@ -105,6 +105,7 @@ impl<A: Allocator + Drop> MessageRing<A> {
         ensures refused { IfErr result (IsWhyNotSent
             (A.may_allocate (A.geometry self.old.allocator) self.old.chunks)
             self.old.sent (length bytes.now)) }
+        ensures unasked { IfErr result (λ error. IsUnasked error → self.new ≡ self.old) }
         ensures still { OnErr result
             (self.new ≡ record self.old { allocator = self.new.allocator }) }
         ensures geometry { A.geometry self.new.allocator ≡ A.geometry self.old.allocator }

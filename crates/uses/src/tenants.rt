@@ -5,7 +5,7 @@ ghost use Rattle.std.specs.Prelude.{length, remove, slice_get, slice_index_or, s
 ghost use Rattle.bb_memory_base.specs.Chunk.{IsInside};
 ghost use Rattle.bb_memory_base.specs.LiveList.{IsSound};
 ghost use Rattle.uses.specs.declared.tenants.Lease.{Lease};
-ghost use Rattle.uses.specs.Tenants.{HasLeft, IsWhyNotAdmitted, IsWhyNotLeased};
+ghost use Rattle.uses.specs.Tenants.{HasLeft, IsUnasked, IsWhyNotAdmitted, IsWhyNotLeased};
 ghost use Rattle.uses.specs.Tenants.{bytes_for, bytes_out, chunks_of, lease_at};
 ghost use Rattle.uses.specs.Tenants.{limit_of, used_by, with_lease, with_tenant, without_lease};
 
@@ -222,6 +222,7 @@ impl<A: Allocator + Drop> Tenants<A> {
         ensures refused { IfErr result (IsWhyNotLeased
             (A.may_allocate (A.geometry self.old.allocator) (chunks_of self.old.leases))
             self.old tenant layout) }
+        ensures unasked { IfErr result (λ error. IsUnasked error → self.new ≡ self.old) }
         ensures still { OnErr result
             (self.new ≡ record self.old { allocator = self.new.allocator }) }
         ensures geometry { A.geometry self.new.allocator ≡ A.geometry self.old.allocator }

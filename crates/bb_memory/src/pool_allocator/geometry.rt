@@ -1,5 +1,5 @@
 //! Where the buckets of a region are.
-ghost use Rattle.std.specs.Prelude.{◌≡◌, ℕ, ◌<◌, ◌≤◌, ◌/◌, ◌↔◌, IfOk, IfSome, IfNone, IsTrue};
+ghost use Rattle.std.specs.Prelude.{◌≡◌, ℕ, ◌<◌, ◌≤◌, ◌/◌, ◌%◌, ◌↔◌, IfOk, IfSome, IfNone, IsTrue};
 ghost use Rattle.bb_memory_base.specs.Region.{IsRegion, region_at};
 ghost use Rattle.bb_memory_base.specs.Chunk.{Chunk, IsInside};
 ghost use Rattle.bb_memory_base.specs.FirstPlace.{first_place};
@@ -222,6 +222,7 @@ impl Geometry {
     pub fn grow(&self, place: usize, old: Layout, new: Layout) -> Result<Chunk, AllocationGrowError>
         requires { IsPlaceOfBucket self.now place }
         ensures answer { MayGrow self.now.bucket place old new result }
+        ensures aligned { IfOk result (λ grown. grown.place % new.align ≡ 0) }
         ensures inside { IfOk result (IsInside self.now.region) }
     {
         if old.size() >= new.size() {
@@ -247,6 +248,7 @@ impl Geometry {
         requires place { IsPlaceOfBucket self.now place }
         requires reserved { old.size ≤ self.now.bucket.size }
         ensures answer { MayShrink self.now.bucket place old new result }
+        ensures aligned { IfOk result (λ shrunk. shrunk.place % new.align ≡ 0) }
         ensures inside { IfOk result (IsInside self.now.region) }
     {
         if old.size() <= new.size() {

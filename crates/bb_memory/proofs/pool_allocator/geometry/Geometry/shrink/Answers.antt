@@ -1,7 +1,9 @@
-use Rattle.std.proofs.Common.{◌≤◌, arith, subst, sym}
-use Rattle.bb_memory_base.specs.Chunk.{IsInside}
+use Rattle.std.proofs.Common.{◌%◌, ◌≤◌, ℕ, ap, arith, subst, sym, ◌∙◌}
+use Rattle.bb_memory_base.specs.Chunk.{Chunk, IsInside}
 use Rattle.bb_memory_base.specs.Region.{region_at}
 use Rattle.bb_memory_base.specs.PoolGeometry.{PoolGeometry, pool_geometry}
+use Rattle.bb_memory_base.proofs.Layouts.{multiple}
+use Rattle.bb_memory_base.proofs.PoolGeometries.{bucket_place-aligned}
 use Rattle.bb_memory.proofs.Cuts.{some-if, some-value}
 use Rattle.bb_memory.proofs.Measures.{placed-chunk, placed-inside}
 use Rattle.bb_memory.proofs.pool_allocator.geometry.Geometry.shrink.Goals as goal
@@ -31,3 +33,14 @@ returns-clause-inside c =
     let value = some-value c.new.result _ _ c.unwrap.result c.new.ensures c.unwrap.ensures in
     subst (λ (g : PoolGeometry). IsInside g.region c.unwrap.result) c.self.view_is
     (subst (IsInside geometry.region) (sym value) lies)
+
+pub returns-clause-aligned : goal.returns-clause-aligned
+returns-clause-aligned c =
+    let inside = c.self.inside in
+    let geometry : PoolGeometry =
+    pool_geometry (region_at inside.region_start inside.region_size) inside.bucket inside.buckets in
+    let at = rw (← c.self.view_is) at c.requires.place in
+    let value = some-value c.new.result _ _ c.unwrap.result c.new.ensures c.unwrap.ensures in
+    ap (λ (k : Chunk). k.place % c.args.new.align) value
+    ∙ multiple c.args.place c.args.new inside.bucket (omega arith)
+    (ap (λ (n : ℕ). n % inside.bucket.align) at.2 ∙ bucket_place-aligned geometry at.0)

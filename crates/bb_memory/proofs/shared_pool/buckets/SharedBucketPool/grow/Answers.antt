@@ -1,8 +1,7 @@
-use Rattle.std.proofs.Common.{sym, ap, ◌∙◌, subst, ℕ, ◌≤◌, ◌%◌}
+use Rattle.std.proofs.Common.{sym, ap, ◌∙◌, subst}
 use Rattle.bb_memory_base.specs.Chunk.{Chunk, IsInside}
 use Rattle.bb_memory_base.specs.PoolGeometry.{PoolGeometry}
 use Rattle.bb_memory.specs.SharedPool.{SharedPool, TakenBucket, chunk_of, taken_bucket}
-use Rattle.bb_memory.proofs.PoolCalls.{bucket_place-multiple}
 use Rattle.bb_memory.proofs.shared_pool.buckets.SharedBucketPool.grow.Goals as goal
 
 pub returns-clause-resized : goal.returns-clause-resized
@@ -19,20 +18,3 @@ returns-clause-resized g c =
       inside = subst (λ (x : PoolGeometry). IsInside x.region grown) geometry may.inside;
       kept = tt;
     }
-
-pub returns-clause-aligned : goal.returns-clause-aligned
-returns-clause-aligned g c =
-    let may = c.in_ok-grown.ensures in
-    let align = c.args.new.align in
-    let geometry = c.geometry.ensures.value ∙ ap (λ (p : SharedPool). p.scene.geometry) c.self.view_is in
-    let its = c.requires.bucket.allocator in
-    let place = ap (λ (k : Chunk). k.place) may.answer.2 ∙ c.place-place.ensures.value
-    ∙ ap (λ (k : Chunk). k.place) c.chunk.ensures.value
-    ∙ ap (λ (b : TakenBucket). (chunk_of b).place) (sym c.bucket.view_is) in
-    let within = subst (λ (x : PoolGeometry). align ≤ x.bucket.align)
-    (geometry ∙ ap (λ (p : SharedPool). p.scene.geometry) (sym its))
-    may.answer.1.align in
-    ap (λ (n : ℕ). n % align) place
-    ∙ bucket_place-multiple c.bucket.inside.flags.now.scene.geometry c.bucket.inside.number c.args.new
-    (subst (λ (x : PoolGeometry). align ≤ x.bucket.align)
-    (sym (ap (λ (b : TakenBucket). b.allocator.scene.geometry) c.bucket.view_is)) within)
