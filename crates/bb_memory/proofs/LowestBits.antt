@@ -1,12 +1,13 @@
--- The lowest clear bit of a word, and the word with that bit set.
+-- The lowest clear bit of a word, the word with that bit set, and a set of numbers with that bit's number.
 use Rattle.std.proofs.Common.{◌≡◌, ℕ, zero, suc, ◌+◌, ◌*◌, ◌/◌, ◌%◌, ◌^◌, ◌<◌, true, false, eqb}
 use Rattle.std.proofs.Common.{List, length, get_or, set, sym, ◌∙◌, ap, inl, inr, arith, eq-eqb, w64}
 use Rattle.std.proofs.lemmas.Bool.{cases_lt}
 use Rattle.std.proofs.lemmas.Nat.Bits.{bit_at-trailing_ones, bit_at-suc, bit_at_lowest, bit_at_or, bit_at-lt}
 use Rattle.std.specs.Prelude.{bit_or}
 use Rattle.std.specs.Int.{bit_at, trailing_ones}
-use Rattle.bb_memory.specs.Words.{has_bit, SetsBit}
-use Rattle.bb_memory.proofs.NumberWords.{Changes, change}
+use Rattle.bb_memory.specs.NumberSet.{Lacks}
+use Rattle.bb_memory.specs.Words.{AreIndexWords, has_bit, numbers_of, SetsBit}
+use Rattle.bb_memory.proofs.NumberWords.{AreIndexWords-set, Changes, change, lacks, numbers_of-set}
 
 -- half of a number, and of the next
 half_even : (n : ℕ) → n % 2 ≡ 0 → (n + 1) / 2 ≡ n / 2
@@ -78,3 +79,19 @@ lowest_set words at word within read not_full =
     let sets : SetsBit words (at * 64 + bit) true (set words at (bit_or word (word + 1))) =
     rw e at (change words (at * 64 + bit) (bit_or word (word + 1)) true (rw e within) changes) in
     (low, clear, sets)
+
+-- A taking: the number of that bit wasn't in the set. With the bit set it is the set with the number.
+pub taken : (bound : ℕ) (words : List ℕ) (at word : ℕ) → AreIndexWords bound words → at < length words →
+    word ≡ get_or words at 0 → word + 1 < 2 ^ 64 →
+    let number = at * 64 + trailing_ones w64 word in
+    let new = set words at (bit_or word (word + 1)) in
+    Lacks (numbers_of bound words) number × AreIndexWords bound new
+    × (numbers_of bound new ≡ set (numbers_of bound words) number true)
+taken bound words at word are within read not_full =
+    let (low, clear, sets) = lowest_set words at word within read not_full in
+    let number : ℕ = at * 64 + trailing_ones w64 word in
+    let (below, free) = lacks bound words number are (omega (arith, low, within)) clear in (
+      free,
+      AreIndexWords-set bound words _ number true below sets are,
+      numbers_of-set bound words _ number true below sets,
+    )

@@ -75,7 +75,7 @@ cleared_is_open word bit low full =
 -- What a change of one number's bit does to a set that has the number below its bound.
 module _ (bound : ℕ) (words new : List ℕ) (number : ℕ) (flag : Bool) (below : number < bound)
     (sets : SetsBit words number flag new) where
-  numbers_of-set : numbers_of bound new ≡ set (numbers_of bound words) number flag
+  pub numbers_of-set : numbers_of bound new ≡ set (numbers_of bound words) number flag
   numbers_of-set =
       let inside : number < length (numbers_of bound words) = omega (arith, length-numbers_of bound words) in
       ext_get_or false _ _
@@ -91,7 +91,7 @@ module _ (bound : ℕ) (words new : List ℕ) (number : ℕ) (flag : Bool) (belo
       ]))
 
   -- they are words of the bound again
-  AreIndexWords-set : AreIndexWords bound words → AreIndexWords bound new
+  pub AreIndexWords-set : AreIndexWords bound words → AreIndexWords bound new
   AreIndexWords-set are = record {
     count = sets.len ∙ are.count;
     past = λ n past h. sets.others n (omega arith) ∙ are.past n past (omega (arith, sets.len));
@@ -151,18 +151,6 @@ lacks bound words number are within clear =
       | inl is ↦ is
       | inr past ↦ absurd (false≢true (sym clear ∙ are.past number past (omega (arith, within))))
     ] in (below, slice_get-numbers_of bound words number below ∙ ap Some clear)
-
--- A taking: such a number wasn't in the set. With its bit set it is the set with the number.
-pub taken : (bound : ℕ) (words new : List ℕ) (number : ℕ) → AreIndexWords bound words → number / 64 < length words →
-    has_bit words number ≡ false → SetsBit words number true new →
-    Lacks (numbers_of bound words) number × AreIndexWords bound new
-    × (numbers_of bound new ≡ set (numbers_of bound words) number true)
-taken bound words new number are within clear sets =
-    let free = lacks bound words number are within clear in (
-      free.1,
-      AreIndexWords-set bound words new number true free.0 sets are,
-      numbers_of-set bound words new number true free.0 sets,
-    )
 
 -- no bit below the bound is set, and each from the bound on is
 record AreFresh (bound : ℕ) (words : List ℕ) : Type 0 where

@@ -5,7 +5,7 @@ use Rattle.std.specs.Option.{ForSome}
 use Rattle.std.proofs.lemmas.Bool.{cases_lt}
 use Rattle.bb_memory_base.specs.Region.{Region, region_end}
 use Rattle.bb_memory_base.specs.Chunk.{Chunk, chunk_end, IsInside}
-use Rattle.bb_memory_base.specs.Run.{IsRun}
+use Rattle.bb_memory_base.specs.Run.{IsRun, Step}
 use Rattle.bb_memory_base.specs.ResizableObject.{ResizableStep}
 use Rattle.bb_memory_base.specs.declared.layout.Layout.{Layout}
 use Rattle.bb_memory_base.specs.declared.allocator.AllocationError.{AllocationError}
@@ -226,19 +226,30 @@ removed (Some place) live position (one, is, same) within =
     let first : position ≡ 0 = omega arith in
     ap (λ n. remove live n) first ∙ ap (λ (l : List Chunk). remove l 0) is
 
--- each step from such a list leads to such a list
-step-keeps : (region : Region) (old new : List Chunk) (command : Command) (answer : Reply) →
-    IsOneChunkList region old → ResizableStep (one_chunk_object region) old command answer new → IsOneChunkList region new
-step-keeps region old new (Allocate layout) (reply.Chunk chunk) is step =
+-- each step without resizes leads from such a list to such a list
+base_step-keeps : (region : Region) (old new : List Chunk) (command : Command) (answer : Reply) →
+    IsOneChunkList region old → Step (one_chunk_object region).base old command answer new → IsOneChunkList region new
+base_step-keeps region old new (Allocate layout) (reply.Chunk chunk) is step =
     let told = step.answers in
     let left : new ≡ chunk ∷ [] = step.leaves ∙ ap (λ (l : List Chunk). l ++ chunk ∷ []) told.0 in
     let byte = answer-byte region old layout chunk told in
     let whole = answer-whole region old layout chunk told in
     same_list region (chunk ∷ []) new left (one_list region chunk byte (omega (arith, whole.1)))
-step-keeps region old new (Allocate layout) (reply.Refused error) is step = same_list region old new step.leaves is
-step-keeps region old new (Release position) reply.Released is step =
+base_step-keeps region old new (Allocate layout) (reply.Refused error) is step = same_list region old new step.leaves is
+base_step-keeps region old new (Release position) reply.Released is step =
     same_list region [] new (step.leaves ∙ removed is.kept old position is.stands.keeps step.within) (none_list region)
-step-keeps region old new (Release position) reply.Passed is step = same_list region old new step.1 is
+base_step-keeps region old new (Release position) reply.Passed is step = same_list region old new step.1 is
+base_step-keeps region old new (Grow position from to) reply.Passed is step = same_list region old new step is
+base_step-keeps region old new (Shrink position from to) reply.Passed is step = same_list region old new step is
+base_step-keeps region old new command other is step = absurd step
+
+-- so does each step
+step-keeps : (region : Region) (old new : List Chunk) (command : Command) (answer : Reply) →
+    IsOneChunkList region old → ResizableStep (one_chunk_object region) old command answer new → IsOneChunkList region new
+step-keeps region old new (Allocate layout) answer is step =
+    base_step-keeps region old new (Allocate layout) answer is step
+step-keeps region old new (Release position) answer is step =
+    base_step-keeps region old new (Release position) answer is step
 step-keeps region old new (Grow position from to) (reply.Chunk resized) is (chunk, may, told, resizes) =
     let byte = (only region old position chunk is may.at).2 in
     let end = ap (λ (k : Chunk). chunk_end k) told.3 in
@@ -259,13 +270,26 @@ step-keeps region old new (Shrink position from to) (reply.ShrinkRefused error) 
 step-keeps region old new (Shrink position from to) reply.Passed is step = same_list region old new step.1 is
 step-keeps region old new command other is step = absurd step
 
+-- where each step leads from such a list to such a list, so does each run
+keeps_from_steps : (step : List Chunk → Command → Reply → List Chunk → Type 0) (one : OneChunk) →
+    ((old new : List Chunk) (command : Command) (answer : Reply) → IsOneChunkList one.region old →
+    step old command answer new → IsOneChunkList one.region new) → (live new : List Chunk) (commands : List Command)
+    (replies : List Reply) → IsOneChunk one → StandsFor one live → IsRun step live commands replies new →
+    (left : OneChunk) × IsOneChunk left × (left.region ≡ one.region) × StandsFor left new
+keeps_from_steps step one keeps live new commands replies is stands run =
+    let region = one.region in
+    let from : IsOneChunkList region live = record { kept = one.kept; within = is.kept; stands = stands } in
+    let to = IsRun-keeps step (IsOneChunkList region) keeps live new commands replies from run in
+    (one_of region to.kept, record { region = is.region; kept = to.within }, refl, to.stands)
+
 -- each run from a list that a one chunk stands for leads to such a list
 pub run-keeps : (one : OneChunk) (live new : List Chunk) (commands : List Command) (replies : List Reply) →
     IsOneChunk one → StandsFor one live → IsRun (ResizableStep (one_chunk_object one.region)) live commands replies new →
     (left : OneChunk) × IsOneChunk left × (left.region ≡ one.region) × StandsFor left new
-run-keeps one live new commands replies is stands run =
-    let region = one.region in
-    let from : IsOneChunkList region live = record { kept = one.kept; within = is.kept; stands = stands } in
-    let step = ResizableStep (one_chunk_object region) in
-    let to = IsRun-keeps step (IsOneChunkList region) (step-keeps region) live new commands replies from run in
-    (one_of region to.kept, record { region = is.region; kept = to.within }, refl, to.stands)
+run-keeps one = keeps_from_steps (ResizableStep (one_chunk_object one.region)) one (step-keeps one.region)
+
+-- so does each run without resizes
+pub base_run-keeps : (one : OneChunk) (live new : List Chunk) (commands : List Command) (replies : List Reply) →
+    IsOneChunk one → StandsFor one live → IsRun (Step (one_chunk_object one.region).base) live commands replies new →
+    (left : OneChunk) × IsOneChunk left × (left.region ≡ one.region) × StandsFor left new
+base_run-keeps one = keeps_from_steps (Step (one_chunk_object one.region).base) one (base_step-keeps one.region)

@@ -1,6 +1,6 @@
 -- The words that aren't full, the one in hand and the listed ones: after a taking and after a release.
 use Rattle.std.proofs.Common.{◌≡◌, ◌≢◌, ℕ, ◌+◌, ◌-◌, ◌^◌, ◌<◌, ◌≤◌, List, length, map, get_or, set, sym, ◌∙◌}
-use Rattle.std.proofs.Common.{ap, if◌then◌else◌, inl, inr, arith, eq-eqb, get_or-set_same, get_or-set_other}
+use Rattle.std.proofs.Common.{ap, if◌then◌else◌, inl, inr, arith, eq-eqb, get_or-set_same, get_or-set_other, length-set}
 use Rattle.std.specs.List.{range_with_len}
 use Rattle.std.proofs.lemmas.Bool.{cases_eq, cases_lt, ne_eqb}
 use Rattle.std.proofs.lemmas.List.FromFn.{length-map-range_with_len, get_or-map-range_with_len}
@@ -70,7 +70,7 @@ hand_full words listed hand top is full = elim (cases_lt 0 top) [
 ]
 
 -- where it isn't full, it is one of the open words
-pub some_open : (words listed : List ℕ) (hand top : ℕ) → IsListing words listed hand top → hand < length words →
+some_open : (words listed : List ℕ) (hand top : ℕ) → IsListing words listed hand top → hand < length words →
     get_or words hand 0 ≢ 2 ^ 64 - 1 → 0 < top
 some_open words listed hand top is within not = let there = is.all hand within not in omega (arith, there.1)
 
@@ -82,40 +82,46 @@ hand_named words listed hand top is some =
     let last : top - 1 + 1 ≡ top = omega (arith, some) in
     name_at listed hand top (length words) (top - 1) (omega (arith, some, fits)) ∙ top_word listed hand top (top - 1) last
 
+-- another word in place of one
+put_word : (words : List ℕ) (at word : ℕ) → PutsAt words at (set words at word)
+put_word words at word =
+    record { len = length-set words at word; others = λ other apart. get_or-set_other words at other word 0 apart }
+
 -- a taking from the word in hand, which isn't full yet
-pub set_left : (bound : ℕ) (words listed new named : List ℕ) (hand top : ℕ) → IsWordSet bound words listed hand top →
-    AreIndexWords bound new → PutsAt words hand new → 0 < length words → get_or words hand 0 ≢ 2 ^ 64 - 1 →
-    get_or new hand 0 ≢ 2 ^ 64 - 1 → named ≡ listed → IsWordSet bound new named hand top
-set_left bound words listed new named hand top is are puts filled_words was_open not name =
+pub set_left : (bound : ℕ) (words listed : List ℕ) (hand top left : ℕ) → IsWordSet bound words listed hand top →
+    AreIndexWords bound (set words hand left) → hand < length words → get_or words hand 0 ≢ 2 ^ 64 - 1 →
+    left ≢ 2 ^ 64 - 1 → IsWordSet bound (set words hand left) listed hand top
+set_left bound words listed hand top left is are within was_open not =
     let listing = is.listing in
-    let within = is.in_hand filled_words in
+    let puts = put_word words hand left in
     let some = some_open words listed hand top listing within was_open in
     let stack = names listed hand top (length words) in
     let fits = listing.fits in
     record {
       are = are;
-      room = ap length name ∙ omega (arith, is.room, puts.len);
+      room = omega (arith, is.room, puts.len);
       in_hand = λ any. omega (arith, within, puts.len);
-      listing = rw name (listing_of new stack listed hand top
-          (still_open words new stack top hand (top - 1) (stack_of words listed hand top listing) puts (omega (arith, some))
-          (hand_named words listed hand top listing some) not)
-          (λ k h. sym (name_at listed hand top (length words) k (omega (arith, h, fits)))));
+      listing = listing_of (set words hand left) stack listed hand top
+          (still_open words (set words hand left) stack top hand (top - 1) (stack_of words listed hand top listing) puts
+          (omega (arith, some)) (hand_named words listed hand top listing some)
+          (λ full. not (sym (get_or-set_same words hand left 0 within) ∙ full)))
+          (λ k h. sym (name_at listed hand top (length words) k (omega (arith, h, fits))));
     }
 
 -- the same, and it is full then: the word that is listed last is in hand, if one is listed
-pub set_filled : (bound : ℕ) (words listed new named : List ℕ) (hand top next : ℕ) → IsWordSet bound words listed hand top →
-    AreIndexWords bound new → PutsAt words hand new → 0 < length words → get_or words hand 0 ≢ 2 ^ 64 - 1 →
-    get_or new hand 0 ≡ 2 ^ 64 - 1 → named ≡ listed → (0 < top - 1 → next ≡ get_or listed (top - 1 - 1) 0) →
-    (top - 1 ≡ 0 → next ≡ hand) → IsWordSet bound new named next (top - 1)
-set_filled bound words listed new named hand top next is are puts filled_words was_open full name last_listed none_listed =
+pub set_filled : (bound : ℕ) (words listed : List ℕ) (hand top left next : ℕ) → IsWordSet bound words listed hand top →
+    AreIndexWords bound (set words hand left) → hand < length words → get_or words hand 0 ≢ 2 ^ 64 - 1 →
+    left ≡ 2 ^ 64 - 1 → (0 < top - 1 → next ≡ get_or listed (top - 1 - 1) 0) →
+    (top - 1 ≡ 0 → next ≡ hand) → IsWordSet bound (set words hand left) listed next (top - 1)
+set_filled bound words listed hand top left next is are within was_open full last_listed none_listed =
     let listing = is.listing in
-    let within = is.in_hand filled_words in
+    let puts = put_word words hand left in
     let some = some_open words listed hand top listing within was_open in
     let stack = names listed hand top (length words) in
     let fits = listing.fits in
     record {
       are = are;
-      room = ap length name ∙ omega (arith, is.room, puts.len);
+      room = omega (arith, is.room, puts.len);
       in_hand = λ any. elim (cases_lt 0 (top - 1)) [
         | inl more ↦
             let below = listing.below (top - 1 - 1) (omega (arith, more)) in
@@ -123,9 +129,9 @@ set_filled bound words listed new named hand top next is are puts filled_words w
             omega (arith, below, under, last_listed more, puts.len)
         | inr none ↦ omega (arith, none_listed (omega (arith, none)), within, puts.len)
       ];
-      listing = rw name (listing_of new stack listed next (top - 1)
-          (filled words new stack top hand (stack_of words listed hand top listing) puts some
-          (sym (hand_named words listed hand top listing some)) full)
+      listing = listing_of (set words hand left) stack listed next (top - 1)
+          (filled words (set words hand left) stack top hand (stack_of words listed hand top listing) puts some
+          (sym (hand_named words listed hand top listing some)) (get_or-set_same words hand left 0 within ∙ full))
           (λ k h.
           let under : get_or stack k 0 ≡ get_or listed k 0 =
           name_at listed hand top (length words) k (omega (arith, h, fits)) ∙ under_word listed hand top k (omega (arith, h)) in
@@ -135,7 +141,7 @@ set_filled bound words listed new named hand top next is are puts filled_words w
                 top_word listed next (top - 1) k e ∙ last_listed (omega (arith, e)) ∙ ap (λ x. get_or listed x 0) place
                 ∙ sym under
             | inr other ↦ under_word listed next (top - 1) k other ∙ sym under
-          ]));
+          ]);
     }
 
 -- with a full word the open ones are fewer than all

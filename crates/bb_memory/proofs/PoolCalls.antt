@@ -1,14 +1,16 @@
 -- What a pool's requests and releases make of each live list that it stands for.
 use Rattle.std.proofs.Common.{◌≡◌, ◌≢◌, ℕ, suc, ◌+◌, ◌-◌, ◌*◌, ◌/◌, ◌%◌, ◌^◌, ◌<◌, ◌≤◌, ◌↔◌, Bool, true, false, List, [], ◌∷◌, ◌++◌}
 use Rattle.std.proofs.Common.{Result, Ok, Err, refl, sym, ap, subst, ◌∙◌, arith, Some, inl, inr, div-add-mod', pow_pos, pow_mono}
-use Rattle.std.proofs.Common.{pow-add, pow-suc}
+use Rattle.std.proofs.Common.{pow-add, pow-suc, cond, leb, min, ◌&&◌}
+use Rattle.std.proofs.lemmas.Bool.{le-leb}
 use Rattle.std.specs.Prelude.{slice_get, slice_set, remove, IsOk, IfOk, OnErr}
 use Rattle.std.specs.Int.{IsPowerOfTwo}
 use Rattle.std.proofs.Math.Nat.{mul_assoc}
 use Rattle.std.proofs.lemmas.Bool.{cases_lt}
 use Rattle.std.proofs.lemmas.Nat.{mod-mul-add}
 use Rattle.bb_memory_base.specs.Chunk.{Chunk, IsInside}
-use Rattle.bb_memory_base.specs.PoolGeometry.{PoolGeometry, bucket_place}
+use Rattle.bb_memory_base.specs.FirstPlace.{first_place}
+use Rattle.bb_memory_base.specs.PoolGeometry.{PoolGeometry, bucket_place, stride}
 use Rattle.bb_memory_base.specs.PoolObject.{IsWithin, chunk_in, MayAllocate, MayGrow, MayShrink}
 use Rattle.bb_memory_base.specs.declared.layout.Layout.{Layout}
 use Rattle.bb_memory_base.specs.declared.allocator.AllocationError.{AllocationError}
@@ -20,9 +22,10 @@ use Rattle.bb_memory_base.proofs.Layouts.{layout-plain}
 use Rattle.bb_memory_base.proofs.PoolGeometries.{bucket_place-aligned, bucket_place-after}
 use Rattle.bb_memory_base.proofs.SliceGets.{slice_get-set_other, slice_get-set_same}
 use Rattle.bb_memory.specs.NumberSet.{Has, Lacks}
-use Rattle.bb_memory.specs.Pool.{Pool, IsPool, StandsFor, HoldsPlace, AreAStrideApart, Takes, Frees, with_flag}
-use Rattle.bb_memory.specs.Pool.{TakesBucket, FreesBucket, FreesIfHeld}
+use Rattle.bb_memory.specs.Pool.{Pool, IsPool, StandsFor, HoldsPlace, AreAStrideApart, Takes, with_flag}
+use Rattle.bb_memory.specs.Pool.{CountedPool, TakesBucket, FreesBucket, counted, reads_of}
 use Rattle.bb_memory.specs.PoolLaws.{bucket_held_at, held_at_bucket}
+use Rattle.bb_memory.proofs.Cuts.{number-at}
 use Rattle.bb_memory.proofs.Pools.{Has-set_true, IsPool-with_flag, bucket-below, filled-at, held-inside}
 use Rattle.bb_memory.proofs.Pools.{lacked-free, one_bucket, stands-given, stands-freed, stands-resized}
 
@@ -180,121 +183,97 @@ Takes-still pool layout (Err AlignmentFailure) new takes = takes.2
 Takes-still pool layout (Err OutOfMemory) new takes = takes.2
 Takes-still pool layout (Err SizeIsZero) new takes = absurd takes
 
+few_if : (b : Bool) (words : ℕ) → cond b (min words 1) 0 ≤ words
+few_if true words = omega arith
+few_if false words = omega arith
+
+-- a request reads at most as many words as there are
+pub reads_few : (bucket : Layout) (words : ℕ) (layout : Layout) → reads_of bucket words layout ≤ words
+reads_few bucket words layout = few_if _ words
+
+-- and one, where it is within a bucket and there are words
+reads_one : (bucket : Layout) (words : ℕ) (layout : Layout) → IsWithin bucket layout → 0 < words →
+    reads_of bucket words layout ≡ 1
+reads_one bucket words layout within some =
+    ap (λ b. cond (b && leb layout.align bucket.align) (min words 1) 0) (le-leb layout.size bucket.size within.size)
+    ∙ ap (λ b. cond b (min words 1) 0) (le-leb layout.align bucket.align within.align)
+    ∙ omega (arith, some)
+
+same_counted : (old new : CountedPool) (answer : Result Chunk AllocationError) → OnErr answer (new.pool ≡ old.pool) →
+    new.reads ≡ old.reads → OnErr answer (new ≡ old)
+same_counted old new (Ok chunk) still reads = tt
+same_counted old new (Err error) still reads = ap (λ p. counted p new.reads) still ∙ ap (counted old.pool) reads
+
 -- all that a request says by the value
-pub TakesBucket-is : (pool : Pool) (layout : Layout) (answer : Result Chunk AllocationError) (new : Pool) (reads one : ℕ) →
-    IsPool pool → Takes pool layout answer new →
-    (IsWithin pool.geometry.bucket layout → 0 < pool.geometry.buckets → reads ≡ one) →
-    TakesBucket pool layout answer new reads one
-TakesBucket-is pool layout answer new reads one is takes one_read = record {
-  taken = takes;
-  accepted = Takes-accepted pool layout answer new is takes;
-  still = Takes-still pool layout answer new takes;
-  was_free = Takes-was_free pool layout answer new is takes;
-  apart = Takes-apart pool layout answer new takes;
-  still_held = Takes-still_held pool layout answer new takes;
-  bucket_aligned = Takes-bucket_aligned pool layout answer new takes;
-  one_read = one_read;
-}
+pub TakesBucket-is : (old : CountedPool) (layout : Layout) (answer : Result Chunk AllocationError) (new : CountedPool)
+    (words : ℕ) → IsPool old.pool → old.reads ≤ words → Takes old.pool layout answer new.pool →
+    new.reads ≡ reads_of old.pool.geometry.bucket words layout → TakesBucket old layout answer new words
+TakesBucket-is old layout answer new words is most takes reads =
+    let none : words ≡ 0 → new.reads ≡ old.reads =
+    λ zero. omega (arith, zero, reads, reads_few old.pool.geometry.bucket words layout, most) in
+    let still = Takes-still old.pool layout answer new.pool takes in
+    record {
+      taken = takes;
+      accepted = Takes-accepted old.pool layout answer new.pool is takes;
+      still = still;
+      was_free = Takes-was_free old.pool layout answer new.pool is takes;
+      apart = Takes-apart old.pool layout answer new.pool takes;
+      still_held = Takes-still_held old.pool layout answer new.pool takes;
+      bucket_aligned = Takes-bucket_aligned old.pool layout answer new.pool takes;
+      one_read = λ within some. reads ∙ reads_one old.pool.geometry.bucket words layout within some;
+      uncounted = none;
+      unchanged = λ zero. same_counted old new answer still (none zero);
+    }
 
 -- RELEASES
 
-pub Frees-released : (pool : Pool) (place : ℕ) (new : Pool) → IsPool pool → Frees pool place new →
-    (live : List Chunk) (position : ℕ) (chunk : Chunk) → StandsFor pool live → slice_get live position ≡ Some chunk →
-    chunk.place ≡ place → StandsFor new (remove live position)
-Frees-released pool place new is frees live position chunk stands at there =
-    let fills = filled-at pool live stands position chunk at in
-    let after = frees fills.0 fills.1.held (sym there ∙ fills.1.placed) in
-    subst (λ (p : Pool). StandsFor p (remove live position)) (sym after)
-    (stands-freed pool live position fills.0 chunk is stands at fills.1)
-
--- each other bucket that was held still is
-pub Frees-still_held : (pool : Pool) (place : ℕ) (new : Pool) → HoldsPlace pool place → Frees pool place new →
-    (other : ℕ) → HoldsPlace pool other → other ≢ place → HoldsPlace new other
-Frees-still_held pool place new holds frees other other_holds differ =
-    let freed = bucket_held_at pool place holds in
-    let at = bucket_held_at pool other other_holds in
-    let apart : at.0 ≢ freed.0 = λ same. differ (at.2 ∙ (ap (bucket_place pool.geometry) same ∙ sym freed.2)) in
-    subst (λ (p : Pool). HoldsPlace p other) (sym (frees freed.0 freed.1 freed.2))
-    (held_at_bucket (with_flag pool freed.0 false) other at.0 (slice_get-set_other pool.held freed.0 at.0 false apart ∙ at.1)
-    at.2)
-
--- the bucket at the place isn't held any more
-pub Frees-given_back : (pool : Pool) (place : ℕ) (new : Pool) → IsPool pool → HoldsPlace pool place →
-    Frees pool place new → ¬ HoldsPlace new place
-Frees-given_back pool place new is was frees holds =
-    let freed = bucket_held_at pool place was in
-    let left : Pool = with_flag pool freed.0 false in
-    let still = bucket_held_at left place
-    (subst (λ (p : Pool). HoldsPlace p place) (frees freed.0 freed.1 freed.2) holds) in
-    let same : still.0 ≡ freed.0 = one_bucket pool.geometry is.geometry still.0 freed.0 (sym still.2 ∙ freed.2) in
-    let gone = slice_get-set_same pool.held freed.0 false true freed.1 in
-    absurd (let e : Some true ≡ Some false = sym still.1 ∙ (ap (slice_get left.held) same ∙ gone) in cc)
-
--- and so there is a bucket that isn't held
-pub Frees-room : (pool : Pool) (place : ℕ) (new : Pool) → HoldsPlace pool place → Frees pool place new →
-    (i : ℕ) × Lacks new.held i
-Frees-room pool place new holds frees =
-    let freed = bucket_held_at pool place holds in (
-      freed.0,
-      subst (λ (p : Pool). Lacks p.held freed.0) (sym (frees freed.0 freed.1 freed.2))
-          (slice_get-set_same pool.held freed.0 false true freed.1),
-    )
-
--- all that a release says by the value
-pub FreesBucket-is : (pool : Pool) (place : ℕ) (new : Pool) → IsPool pool → HoldsPlace pool place → Frees pool place new →
-    FreesBucket pool place new
-FreesBucket-is pool place new is holds frees = record {
-  freed = frees;
-  still_held = Frees-still_held pool place new holds frees;
-  given_back = Frees-given_back pool place new is holds frees;
-  room = Frees-room pool place new holds frees;
-}
-
--- the pool is a pool then
-pub Frees-is_pool : (pool : Pool) (place : ℕ) (new : Pool) → IsPool pool → HoldsPlace pool place → Frees pool place new →
-    IsPool new
-Frees-is_pool pool place new is holds frees =
+-- the number of a held bucket's place, as it is computed, is that of the bucket
+pub number-held : (pool : Pool) (place first number : ℕ) → HoldsPlace pool place →
+    first ≡ first_place pool.geometry.region pool.geometry.bucket →
+    number ≡ (place - first) / stride pool.geometry.bucket → 0 < stride pool.geometry.bucket →
+    Has pool.held number × (place ≡ bucket_place pool.geometry number)
+number-held pool place first number holds begins divided some =
     let (i, has, there) = bucket_held_at pool place holds in
-    subst IsPool (sym (frees i has there)) (IsPool-with_flag pool is i false)
+    let same : i ≡ number = sym (divided ∙ ap (λ n. (place - n) / stride pool.geometry.bucket) begins
+    ∙ number-at pool.geometry i place some there) in
+    (subst (Has pool.held) same has, there ∙ ap (bucket_place pool.geometry) same)
 
--- and after a return that looks first whether a bucket is held there, whatever it finds
-pub FreesIfHeld-is_pool : (pool : Pool) (place : ℕ) (found : Bool) (new : Pool) → IsPool pool →
-    FreesIfHeld pool place found new → IsPool new
-FreesIfHeld-is_pool pool place true new is frees =
-    Frees-is_pool pool place new is (frees.held.0 refl) (frees.freed refl)
-FreesIfHeld-is_pool pool place false new is frees = subst IsPool (sym (frees.still refl)) is
+-- of bucket i, which is held and begins at the place
+module _ (pool : Pool) (place i : ℕ) (is : IsPool pool) (has : Has pool.held i)
+    (there : place ≡ bucket_place pool.geometry i) where
+  still_held : (other : ℕ) → HoldsPlace pool other → other ≢ place → HoldsPlace (with_flag pool i false) other
+  still_held other holds differ =
+      let (j, other_has, at) = bucket_held_at pool other holds in
+      let apart : j ≢ i = λ same. differ (at ∙ ap (bucket_place pool.geometry) same ∙ sym there) in
+      held_at_bucket (with_flag pool i false) other j (slice_get-set_other pool.held i j false apart ∙ other_has) at
 
--- So no bucket is held at the place after a return that looks first whether one is, whatever it finds.
-pub none-held-there : (found : Bool) (pool : Pool) (place : ℕ) (new : Pool) → (found ≡ true ↔ HoldsPlace pool place) →
-    (found ≡ true → FreesBucket pool place new) → (found ≡ false → new ≡ pool) → ¬ HoldsPlace new place
-none-held-there true pool place new is freed still = (freed refl).given_back
-none-held-there false pool place new is freed still = λ holds.
-    let found : false ≡ true = is.1 (subst (λ (p : Pool). HoldsPlace p place) (still refl) holds) in
-    absurd (cc)
+  given_back : ¬ HoldsPlace (with_flag pool i false) place
+  given_back holds =
+      let (j, still, at) = bucket_held_at (with_flag pool i false) place holds in
+      let same = one_bucket pool.geometry is.geometry j i (sym at ∙ there) in
+      let gone = slice_get-set_same pool.held i false true has in
+      absurd (let e : Some true ≡ Some false = sym still ∙ ap (slice_get (slice_set pool.held i false)) same ∙ gone in cc)
 
--- and each other one still is
-pub others-held-then : (found : Bool) (pool : Pool) (place : ℕ) (new : Pool) →
-    (found ≡ true → FreesBucket pool place new) → (found ≡ false → new ≡ pool) →
-    (other : ℕ) → HoldsPlace pool other → other ≢ place → HoldsPlace new other
-others-held-then true pool place new freed still = (freed refl).still_held
-others-held-then false pool place new freed still = λ other holds differ.
-    subst (λ (p : Pool). HoldsPlace p other) (sym (still refl)) holds
+  -- all that a release says by the value
+  pub FreesBucket-is : FreesBucket pool place (with_flag pool i false)
+  FreesBucket-is = record {
+    freed = λ j other at.
+        ap (λ n. with_flag pool n false) (one_bucket pool.geometry is.geometry i j (sym there ∙ at));
+    still_held = still_held;
+    given_back = given_back;
+    room = (i, slice_get-set_same pool.held i false true has);
+  }
+
+  -- the chunk at the place is out of each list that the pool stands for
+  pub released-stands : (live : List Chunk) (position : ℕ) (chunk : Chunk) → StandsFor pool live →
+      slice_get live position ≡ Some chunk → chunk.place ≡ place → StandsFor (with_flag pool i false) (remove live position)
+  released-stands live position chunk stands at same =
+      let fills = filled-at pool live stands position chunk at in
+      let bucket = one_bucket pool.geometry is.geometry fills.0 i (sym fills.1.placed ∙ same ∙ there) in
+      subst (λ n. StandsFor (with_flag pool n false) (remove live position)) bucket
+      (stands-freed pool live position fills.0 chunk is stands at fills.1)
 
 -- RESIZES
-
--- a resized chunk that keeps its place, and isn't longer than a bucket, is inside
-resized-inside : (pool : Pool) (place : ℕ) (resized : Chunk) → IsPool pool → HoldsPlace pool place → resized.place ≡ place →
-    resized.len ≤ pool.geometry.bucket.size → IsInside pool.geometry.region resized
-resized-inside pool place resized is holds same short =
-    held-inside pool is resized (subst (HoldsPlace pool) (sym same) holds) short
-
-pub MayGrow-inside : (pool : Pool) (place : ℕ) (old new : Layout) (answer : Result Chunk AllocationGrowError) → IsPool pool →
-    HoldsPlace pool place → MayGrow pool.geometry.bucket place old new answer →
-    IfOk answer (IsInside pool.geometry.region)
-MayGrow-inside pool place old new (Ok grown) is holds (longer, within, given) =
-    resized-inside pool place grown is holds (ap (λ (c : Chunk). c.place) given)
-    (let small = within.size in omega (arith, ap (λ (c : Chunk). c.len) given))
-MayGrow-inside pool place old new (Err error) is holds may = tt
 
 pub MayGrow-resized : (pool : Pool) (place : ℕ) (old new : Layout) (answer : Result Chunk AllocationGrowError) → IsPool pool →
     MayGrow pool.geometry.bucket place old new answer →
@@ -304,14 +283,6 @@ MayGrow-resized pool place old new (Ok grown) is (longer, within, given) = λ li
     stands-resized pool live position chunk grown is stands at (ap (λ (c : Chunk). c.place) given ∙ sym there)
     (let small = within.size in omega (arith, ap (λ (c : Chunk). c.len) given))
 MayGrow-resized pool place old new (Err error) is may = tt
-
-pub MayShrink-inside : (pool : Pool) (place : ℕ) (old new : Layout) (answer : Result Chunk AllocationShrinkError) →
-    IsPool pool → HoldsPlace pool place → old.size ≤ pool.geometry.bucket.size →
-    MayShrink pool.geometry.bucket place old new answer → IfOk answer (IsInside pool.geometry.region)
-MayShrink-inside pool place old new (Ok shrunk) is holds within (shorter, aligned, given) =
-    resized-inside pool place shrunk is holds (ap (λ (c : Chunk). c.place) given)
-    (omega (arith, ap (λ (c : Chunk). c.len) given))
-MayShrink-inside pool place old new (Err error) is holds within may = tt
 
 pub MayShrink-resized : (pool : Pool) (place : ℕ) (old new : Layout) (answer : Result Chunk AllocationShrinkError) →
     IsPool pool → old.size ≤ pool.geometry.bucket.size → MayShrink pool.geometry.bucket place old new answer →

@@ -2,7 +2,7 @@
 use Rattle.std.specs.Prelude.{◌≡◌, ◌≢◌, ℕ, ◌-◌, ◌+◌, ◌%◌, ◌≤◌, ◌<◌, ◌^◌, ◌⊎◌, ◌↔◌, Bool, true, false}
 use Rattle.std.specs.Prelude.{◌&&◌, if◌then◌else◌, get_or, nat_eq, nat_le}
 use Rattle.std.specs.List.{list_any, range_with_len}
-use Rattle.std.specs.Prelude.{List, All, length, min, replicate, slice_set, Result, Ok, Err, IsOk, IfOk, OnErr, IsTrue}
+use Rattle.std.specs.Prelude.{List, All, length, min, replicate, slice_set, Result, Ok, Err, IsOk, IfOk, OnErr}
 use Rattle.bb_memory_base.specs.Region.{Region, IsRegion}
 use Rattle.bb_memory_base.specs.Chunk.{Chunk}
 use Rattle.bb_memory_base.specs.LiveList.{IsSound}
@@ -16,7 +16,6 @@ use Rattle.bb_memory_base.specs.declared.allocator.Command.{Command}
 use Rattle.bb_memory_base.specs.declared.allocator.AllocationError.{AllocationError}
 use Rattle.bb_memory_base.specs.declared.allocator.AllocationError.TheVariants.{SizeIsZero, SizeTooLarge}
 use Rattle.bb_memory_base.specs.declared.allocator.AllocationError.TheVariants.{AlignmentFailure, OutOfMemory}
-use Rattle.bb_memory.specs.IndexWords.{index_words}
 use Rattle.bb_memory.specs.NumberSet.{Has, Lacks, IsFull}
 
 -- where its buckets are, and the set of those that are held
@@ -108,27 +107,31 @@ abbrev pub Frees : Pool → ℕ → Pool → Type 0
 Frees pool place new =
     (i : ℕ) → Has pool.held i → place ≡ bucket_place pool.geometry i → new ≡ with_flag pool i false
 
--- It is told whether a held bucket begins at the place. That one is then free, and no other; else nothing has changed.
-pub record FreesIfHeld (old : Pool) (place : ℕ) (answer : Bool) (new : Pool) : Type 0 where
-  pub held : IsTrue answer ↔ HoldsPlace old place
-  pub freed : answer ≡ true → Frees old place new
-  pub still : answer ≡ false → new ≡ old
-  pub geometry : new.geometry ≡ old.geometry
+-- a pool, and how many index words its last request read
+pub record CountedPool : Type 0 where
+  pub pool : Pool
+  pub reads : ℕ
 
--- What a request is answered by the value alone, what the pool is then, and how many words it read.
-pub record TakesBucket (old : Pool) (layout : Layout) (answer : Result Chunk AllocationError)
-    (new : Pool) (reads one_search : ℕ) : Type 0 where
+abbrev pub counted : Pool → ℕ → CountedPool
+counted pool reads = record { pool = pool; reads = reads }
+
+-- What a request is answered by the value alone, what the pool is then, and how many of its words it read.
+pub record TakesBucket (old : CountedPool) (layout : Layout) (answer : Result Chunk AllocationError)
+    (new : CountedPool) (words : ℕ) : Type 0 where
   -- which bucket is held then, each refusal by its cause, and that there is no other
-  pub taken : Takes old layout answer new
-  pub accepted : IsOk answer ↔ (IsWithin old.geometry.bucket layout × ((i : ℕ) × Lacks old.held i))
-  pub still : OnErr answer (new ≡ old)
-  pub was_free : IfOk answer (λ chunk. ¬ HoldsPlace old chunk.place)
-  pub apart : IfOk answer (λ chunk. (place : ℕ) → HoldsPlace old place
-      → AreAStrideApart old.geometry.bucket place chunk.place)
-  pub still_held : (place : ℕ) → HoldsPlace old place → HoldsPlace new place
-  pub bucket_aligned : IfOk answer (λ chunk. chunk.place % old.geometry.bucket.align ≡ 0)
-  pub one_read : IsWithin old.geometry.bucket layout → 0 < old.geometry.buckets
-      → reads ≡ one_search
+  pub taken : Takes old.pool layout answer new.pool
+  pub accepted : IsOk answer
+      ↔ (IsWithin old.pool.geometry.bucket layout × ((i : ℕ) × Lacks old.pool.held i))
+  pub still : OnErr answer (new.pool ≡ old.pool)
+  pub was_free : IfOk answer (λ chunk. ¬ HoldsPlace old.pool chunk.place)
+  pub apart : IfOk answer (λ chunk. (place : ℕ) → HoldsPlace old.pool place
+      → AreAStrideApart old.pool.geometry.bucket place chunk.place)
+  pub still_held : (place : ℕ) → HoldsPlace old.pool place → HoldsPlace new.pool place
+  pub bucket_aligned : IfOk answer (λ chunk. chunk.place % old.pool.geometry.bucket.align ≡ 0)
+  pub one_read : IsWithin old.pool.geometry.bucket layout → 0 < words → new.reads ≡ 1
+  -- where no reads are counted, a refusal leaves all as it was
+  pub uncounted : words ≡ 0 → new.reads ≡ old.reads
+  pub unchanged : words ≡ 0 → OnErr answer (new ≡ old)
 
 -- What a pool is after a release by the value alone: that bucket is free, and each other one as it was.
 pub record FreesBucket (old : Pool) (place : ℕ) (new : Pool) : Type 0 where
@@ -138,19 +141,6 @@ pub record FreesBucket (old : Pool) (place : ℕ) (new : Pool) : Type 0 where
   pub room : (i : ℕ) × Lacks new.held i
 
 -- INDEX WORDS
-
--- a pool, and how many index words its last request read
-pub record CountedPool : Type 0 where
-  pub pool : Pool
-  pub reads : ℕ
-
-abbrev pub counted : Pool → ℕ → CountedPool
-counted pool reads = record { pool = pool; reads = reads }
-
--- the pool is one, and its last request read at most as many index words as it has
-pub record IsCountedPool (counted : CountedPool) : Type 0 where
-  pub is_pool : IsPool counted.pool
-  pub most : counted.reads ≤ index_words counted.pool.geometry.buckets
 
 -- how many words a request for the layout reads, of so many: one if there is one, and none where its size or its alignment is
 -- refused

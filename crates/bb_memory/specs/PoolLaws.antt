@@ -1,5 +1,5 @@
 -- What holds of every live list that a pool stands for.
-use Rattle.std.specs.Prelude.{◌≡◌, ◌&&◌, ◌<◌, ◌≤◌, ℕ, Bool, true, false, List, Some, get_or, length, min, nat_eq, slice_get}
+use Rattle.std.specs.Prelude.{◌≡◌, ◌&&◌, ◌<◌, ◌≤◌, ℕ, Bool, true, false, List, Some, get_or, length, nat_eq, slice_get}
 use Rattle.std.specs.List.{range_with_len}
 use Rattle.std.specs.Cmp.Derive.{both_true}
 use Rattle.std.proofs.Common.{refl, sym, ◌∙◌, ap, arith, subst}
@@ -9,7 +9,6 @@ use Rattle.std.proofs.lemmas.List.FromFn.{get_or-range_with_len, length-range_wi
 use Rattle.std.proofs.lemmas.Option.{slice_get-get_or, slice_get_within, get_or_from_slice_get}
 use Rattle.bb_memory_base.specs.Chunk.{Chunk}
 use Rattle.bb_memory_base.specs.PoolGeometry.{bucket_place}
-use Rattle.bb_memory.specs.IndexWords.{index_words}
 use Rattle.bb_memory.specs.NumberSet.{Has}
 use Rattle.bb_memory.specs.Pool.{Pool, StandsFor, HoldsPlace, begins_held, holds_place}
 
@@ -83,7 +82,3 @@ held_is_live pool live place stands holds =
     let at = bucket_held_at pool place holds in
     let held = stands.held at.0 at.1 in
     (held.0, held.1.chunk, held.1.there, held.1.placed ∙ sym at.2)
-
--- where there is a bucket, there is a word to read
-pub one_word : (count : ℕ) → 0 < count → min (index_words count) 1 ≡ 1
-one_word count some = omega (arith, some)

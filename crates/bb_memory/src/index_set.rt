@@ -5,7 +5,6 @@
 //! one place.
 pub mod flags;
 pub mod index_words;
-pub mod search;
 pub mod words;
 
 pub use crate::index_set::index_words::Counter;

@@ -7,10 +7,9 @@
 //! - `one_chunk_allocator`: one chunk at a time, all of the region from its place on.
 //! - `index_set`: a set of numbers, in which a pool keeps its held buckets.
 //!   - `flags`: a flag for each number, and the numbers that aren't in the set.
-//!   - `words`: a bit for each number, in the words of `index_words`, which `search` reads through a counter alone.
+//!   - `words`: a bit for each number, in the words of `index_words`, which a search reads through a counter alone.
 //! - `pool_allocator`: pools with one owner, and the makers of the pool on words.
-//!   - `geometry`: where the buckets of a region are. `buckets`: these, with the set of those that are held.
-//!   - `bucket_pool`: the pool over any such set. `held_set`: what the sets differ in.
+//!   - `geometry`: where the buckets of a region are. `bucket_pool`: these, with the set of those that are held.
 //!   - `fixed_size`: the pool with an array of its own. `laws`: what the definitions come to.
 //! - `heap_allocator`: blocks of bytes from the language's allocator.
 //! - `shared_bump`: the bump that threads share.

@@ -12,25 +12,23 @@ ghost use Rattle.bb_memory.specs.Pool.{Frees, HoldsPlace, MayBeCut};
 ghost use Rattle.bb_memory.specs.Pool.{StandsFor, counted, fresh_pool};
 
 mod bucket_pool;
-mod buckets;
 mod fixed_size;
 pub(crate) mod geometry;
-mod held_set;
 mod laws;
 
 pub use crate::allocator::{
     AllocationError, AllocationGrowError, AllocationShrinkError, Allocator, BaseAllocator,
 };
+use crate::index_set::Counter;
 use crate::index_set::words::Words;
-use crate::index_set::{Counter, IndexSet};
 pub use crate::layout::Layout;
+use crate::layout::round_up;
 use bucket_pool::BucketPool;
 pub use bucket_pool::{
     run_base_pool, run_base_pool as run_base_fixed_pool, run_pool, run_pool as run_fixed_pool,
 };
-use buckets::Buckets;
 pub use fixed_size::FixedSizePoolAllocator;
-use geometry::{Geometry, may_be_cut};
+use geometry::{Geometry, stride};
 pub use laws::{pool_count_law, pool_geometry_law, pool_held_law, pool_object_law};
 use std::alloc::{Allocator as LanguageAllocator, Global};
 use std::marker::Model;
@@ -53,15 +51,6 @@ impl Model for UninitPoolAllocator {
 }
 
 impl UninitPoolAllocator {
-    /// The buckets, over the empty set of their numbers.
-    fn with_none_held<S: IndexSet>(self, held: S) -> Buckets<S>
-        requires { S.numbers held ≡ replicate self.buckets false }
-        ensures value { result ≡ fresh_pool self }
-        ensures empty { StandsFor result [] }
-    {
-        Buckets::new(self.geometry, held)
-    }
-
     /// Takes memory for the index words, and makes a pool with no bucket held. Its only refusal is `OutOfMemory`, where a
     /// request for memory was refused, and it hands the uninitialised pool back unchanged.
     pub fn init<A: LanguageAllocator>(
@@ -74,7 +63,8 @@ impl UninitPoolAllocator {
     {
         match Words::new(alloc, self.geometry.count()) {
             Ok(held) => Ok(BucketPool {
-                buckets: self.with_none_held(held),
+                geometry: self.geometry,
+                held,
                 last_search: Counter::new(),
             }),
             Err(_) => Err((self, AllocationError::OutOfMemory)),
@@ -119,7 +109,16 @@ impl PoolAllocator<Global> {
     pub fn can_make(bucket_layout: Layout, start: usize, size: usize) -> bool
         ensures { IsTrue result ↔ MayBeCut (region_at start size) bucket_layout }
     {
-        may_be_cut(bucket_layout, start, size)
+        if start == 0 || bucket_layout.size() == 0 {
+            return false;
+        }
+        let Some(end) = start.checked_add(size) else {
+            return false;
+        };
+        let Some(first) = round_up(start, bucket_layout.align()) else {
+            return false;
+        };
+        end.saturating_sub(first) / stride(bucket_layout) < u32::MAX as usize
     }
 
     /// How many bytes are enough for the index words of a pool over a region of `size` bytes, wherever it starts, and for their
@@ -143,7 +142,7 @@ impl<A: LanguageAllocator> PoolAllocator<A> {
     pub fn start_address(&self) -> usize
         ensures { result ≡ first_place self.now.pool.geometry.region self.now.pool.geometry.bucket }
     {
-        self.buckets.geometry().first()
+        self.geometry.first()
     }
 
     /// How many index words the last `allocate` or `allocate_zeroed` read: one where it looked for a free bucket in a pool that

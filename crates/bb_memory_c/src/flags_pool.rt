@@ -80,7 +80,7 @@ pub extern "C" fn bb_fixed_pool_allocate(
     align: usize,
 ) -> Answer
     ensures { AnswersRequest handle.old.value handle.new.value size align result
-        (λ pool layout answer after. Takes pool layout answer after) }
+        (λ pool layout answer after. Takes pool.pool layout answer after.pool) }
 {
     request(handle, alloc, size, align)
 }
@@ -96,7 +96,7 @@ pub extern "C" fn bb_fixed_pool_deallocate(
     place: usize,
 ) -> u32
     ensures { AnswersReturn handle.old.value handle.new.value result
-        (λ pool. HoldsPlace pool place) (λ pool after. Frees pool place after) }
+        (λ pool. HoldsPlace pool.pool place) (λ pool after. Frees pool.pool place after.pool) }
 {
     give_back(handle, alloc, place)
 }
@@ -111,7 +111,7 @@ pub extern "C" fn bb_fixed_pool_holds(
     place: usize,
 ) -> Figure
     ensures { TellsWhether handle.old.value handle.new.value result
-        (λ pool. HoldsPlace pool place) }
+        (λ pool. HoldsPlace pool.pool place) }
 {
     holds(handle, alloc, place)
 }
@@ -124,7 +124,8 @@ pub extern "C" fn bb_fixed_pool_number_of_buckets(
     alloc: Global,
     handle: &mut FlagsPoolHandle,
 ) -> Figure
-    ensures { TellsFigure handle.old.value handle.new.value result (λ pool. pool.geometry.buckets) }
+    ensures { TellsFigure handle.old.value handle.new.value result
+        (λ pool. pool.pool.geometry.buckets) }
 {
     tell(handle, alloc, PoolFigure::NumberOfBuckets)
 }
@@ -134,7 +135,8 @@ pub extern "C" fn bb_fixed_pool_number_of_buckets(
 /// C guarantees of the handle what the crate's page says.
 #[unsafe(no_mangle)]
 pub extern "C" fn bb_fixed_pool_held_buckets(alloc: Global, handle: &mut FlagsPoolHandle) -> Figure
-    ensures { TellsFigure handle.old.value handle.new.value result held_count }
+    ensures { TellsFigure handle.old.value handle.new.value result
+        (λ pool. held_count pool.pool) }
 {
     tell(handle, alloc, PoolFigure::HeldBuckets)
 }
@@ -145,7 +147,7 @@ pub extern "C" fn bb_fixed_pool_held_buckets(alloc: Global, handle: &mut FlagsPo
 #[unsafe(no_mangle)]
 pub extern "C" fn bb_fixed_pool_bucket_size(alloc: Global, handle: &mut FlagsPoolHandle) -> Figure
     ensures { TellsFigure handle.old.value handle.new.value result
-        (λ pool. pool.geometry.bucket.size) }
+        (λ pool. pool.pool.geometry.bucket.size) }
 {
     tell(handle, alloc, PoolFigure::BucketSize)
 }
@@ -156,7 +158,7 @@ pub extern "C" fn bb_fixed_pool_bucket_size(alloc: Global, handle: &mut FlagsPoo
 #[unsafe(no_mangle)]
 pub extern "C" fn bb_fixed_pool_max_alignment(alloc: Global, handle: &mut FlagsPoolHandle) -> Figure
     ensures { TellsFigure handle.old.value handle.new.value result
-        (λ pool. pool.geometry.bucket.align) }
+        (λ pool. pool.pool.geometry.bucket.align) }
 {
     tell(handle, alloc, PoolFigure::MaxAlignment)
 }
@@ -167,7 +169,7 @@ pub extern "C" fn bb_fixed_pool_max_alignment(alloc: Global, handle: &mut FlagsP
 #[unsafe(no_mangle)]
 pub extern "C" fn bb_fixed_pool_size(alloc: Global, handle: &mut FlagsPoolHandle) -> Figure
     ensures { TellsFigure handle.old.value handle.new.value result
-        (λ pool. pool.geometry.region.size) }
+        (λ pool. pool.pool.geometry.region.size) }
 {
     tell(handle, alloc, PoolFigure::Size)
 }
@@ -187,8 +189,8 @@ pub extern "C" fn bb_fixed_pool_grow(
 ) -> Answer
     ensures { AnswersGrow handle.old.value handle.new.value place
         (resize old_size old_align new_size new_align) result
-        (λ pool. HoldsPlace pool place)
-        (λ pool. MayGrow pool.geometry.bucket place) }
+        (λ pool. HoldsPlace pool.pool place)
+        (λ pool. MayGrow pool.pool.geometry.bucket place) }
 {
     grow(
         handle, alloc, place, old_size, old_align, new_size, new_align,
@@ -210,9 +212,9 @@ pub extern "C" fn bb_fixed_pool_shrink(
 ) -> Answer
     ensures { AnswersShrink handle.old.value handle.new.value place
         (resize old_size old_align new_size new_align) result
-        (λ pool. HoldsPlace pool place)
-        (λ pool. pool.geometry.bucket.size)
-        (λ pool. MayShrink pool.geometry.bucket place) }
+        (λ pool. HoldsPlace pool.pool place)
+        (λ pool. pool.pool.geometry.bucket.size)
+        (λ pool. MayShrink pool.pool.geometry.bucket place) }
 {
     shrink(
         handle, alloc, place, old_size, old_align, new_size, new_align,
@@ -229,7 +231,7 @@ pub extern "C" fn bb_fixed_pool_reserved(
     place: usize,
 ) -> Figure
     ensures { TellsOfHeld handle.old.value handle.new.value result
-        (λ pool. HoldsPlace pool place) (λ pool. pool.geometry.bucket.size) }
+        (λ pool. HoldsPlace pool.pool place) (λ pool. pool.pool.geometry.bucket.size) }
 {
     reserved(handle, alloc, place)
 }
@@ -240,7 +242,7 @@ pub extern "C" fn bb_fixed_pool_reserved(
 #[unsafe(no_mangle)]
 pub extern "C" fn bb_fixed_pool_place_at(handle: &mut FlagsPoolHandle, number: u32) -> Figure
     ensures { TellsPlaceAt handle.old.value handle.new.value result number
-        (λ pool. pool.geometry) }
+        (λ pool. pool.pool.geometry) }
 {
     place(handle, number)
 }
@@ -251,13 +253,13 @@ pub extern "C" fn bb_fixed_pool_place_at(handle: &mut FlagsPoolHandle, number: u
 #[unsafe(no_mangle)]
 pub extern "C" fn bb_fixed_pool_number_at(handle: &mut FlagsPoolHandle, place: usize) -> Figure
     ensures { TellsNumberAt handle.old.value handle.new.value result place
-        (λ pool. pool.geometry) }
+        (λ pool. pool.pool.geometry) }
 {
     number(handle, place)
 }
 
 impl Tells<PoolFigure> for FlagsPool<512> {
-    ghost figure = { λ pool. pool_figure pool.geometry (held_count pool) };
+    ghost figure = { λ pool. pool_figure pool.pool.geometry (held_count pool.pool) };
 
     fn tell(&self, name: PoolFigure) -> usize {
         match name {
@@ -271,7 +273,7 @@ impl Tells<PoolFigure> for FlagsPool<512> {
 }
 
 impl Gives for FlagsPool<512> {
-    ghost may_give = { Takes };
+    ghost may_give = { λ pool layout answer after. Takes pool.pool layout answer after.pool };
 
     fn give(&mut self, layout: Layout) -> Result<Chunk, AllocationError> {
         self.allocate(layout)
@@ -279,15 +281,15 @@ impl Gives for FlagsPool<512> {
 }
 
 impl Keeps for FlagsPool<512> {
-    ghost holds = { λ pool place. HoldsPlace pool place };
+    ghost holds = { λ pool place. HoldsPlace pool.pool place };
 
-    ghost frees = { λ pool place after. Frees pool place after };
+    ghost frees = { λ pool place after. Frees pool.pool place after.pool };
 
-    ghost bytes = { λ pool place. pool.geometry.bucket.size };
+    ghost bytes = { λ pool place. pool.pool.geometry.bucket.size };
 
-    ghost may_grow = { λ pool. MayGrow pool.geometry.bucket };
+    ghost may_grow = { λ pool. MayGrow pool.pool.geometry.bucket };
 
-    ghost may_shrink = { λ pool. MayShrink pool.geometry.bucket };
+    ghost may_shrink = { λ pool. MayShrink pool.pool.geometry.bucket };
 
     fn is_held(&self, place: usize) -> bool {
         self.holds(place)
@@ -321,7 +323,7 @@ impl Keeps for FlagsPool<512> {
 }
 
 impl Cut for FlagsPool<512> {
-    ghost geometry = { λ pool. pool.geometry };
+    ghost geometry = { λ pool. pool.pool.geometry };
 
     fn place_of(&self, number: u32) -> Option<usize> {
         self.place_at(number)

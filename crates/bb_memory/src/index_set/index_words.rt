@@ -10,7 +10,7 @@ use std::alloc::{AllocError, Allocator};
 use std::marker::Model;
 
 /// Counts the words that a search reads: it begins at 0, and each read adds one.
-#[derive(Debug, Drop)]
+#[derive(Drop)]
 pub struct Counter {
     count: u32,
 }
@@ -39,46 +39,12 @@ impl Counter {
     {
         self.count
     }
-
-    #[inline(always)]
-    fn increment(&mut self)
-        requires { self.old + 1 < 2 ^ 32 }
-        ensures { self.new ≡ self.old + 1 }
-    {
-        self.count += 1;
-    }
 }
 
-/// What a search may do with index words: read one through its counter, and replace one. Number n is bit n % 64 of word n / 64,
+/// Words, and behind them, in the same memory, a list with an entry for each word but one. Number n is bit n % 64 of word n / 64,
 /// counted from the lowest.
-pub trait Searched {
-    ghost use Rattle.bb_memory.specs.Words.{Slots};
-
-    /// The words, and the list behind them.
-    ghost slots: { Self → Slots };
-
-    /// How many words there are. No word is read.
-    fn len(&self) -> usize
-        ensures { result ≡ length (slots self.now).words };
-
-    /// Reads word i, and counts the read.
-    fn word(&self, i: usize, counter: &mut Counter) -> u64
-        requires index { i < length (slots self.now).words }
-        requires room { counter.old + 1 < 2 ^ 32 }
-        ensures value { result ≡ slice_index (slots self.now).words i }
-        ensures counted { counter.new ≡ counter.old + 1 };
-
-    /// Replaces word i.
-    fn put(&mut self, i: usize, word: u64)
-        requires { i < length (slots self.old).words }
-        ensures words { (slots self.new).words ≡ slice_set (slots self.old).words i word }
-        ensures listed { (slots self.new).listed ≡ (slots self.old).listed };
-}
-
-/// Words, and behind them, in the same memory, a list with an entry for each word but one.
 ///
-/// A search is a function of any [`Searched`]: so it reads a word by [`Searched::word`] alone. A release changes a bit in place,
-/// and `has` tells one.
+/// A search reads a word by [`IndexWords::word`] alone. A release changes a bit in place, and `has` reads one.
 #[derive(Drop)]
 pub struct IndexWords<A: Allocator> {
     slots: Vec<u64, A>,
@@ -105,6 +71,28 @@ impl<A: Allocator> IndexWords<A> {
     {
         let slots = Vec::from_elem(alloc, 0u64, len + len.saturating_sub(1))?;
         Ok(IndexWords { slots, count: len })
+    }
+
+    /// Reads word i, and counts the read.
+    #[inline(always)]
+    pub fn word(&self, i: usize, counter: &mut Counter) -> u64
+        requires index { i < length self.now.words }
+        requires room { counter.old + 1 < 2 ^ 32 }
+        ensures value { result ≡ slice_index self.now.words i }
+        ensures counted { counter.new ≡ counter.old + 1 }
+    {
+        counter.count += 1;
+        self.slots[i]
+    }
+
+    /// Replaces word i.
+    #[inline(always)]
+    pub fn put(&mut self, i: usize, word: u64)
+        requires { i < length self.old.words }
+        ensures words { self.new.words ≡ slice_set self.old.words i word }
+        ensures listed { self.new.listed ≡ self.old.listed }
+    {
+        self.slots[i] = word;
     }
 
     /// Whether the bit of a number is set. It is read in place, and isn't counted.
@@ -160,25 +148,5 @@ impl<A: Allocator> IndexWords<A> {
         ensures listed { self.new.listed ≡ slice_set self.old.listed k at }
     {
         self.slots[self.count + k] = at as u64;
-    }
-}
-
-impl<A: Allocator> Searched for IndexWords<A> {
-    ghost slots = { λ words. words };
-
-    #[inline(always)]
-    fn len(&self) -> usize {
-        self.count
-    }
-
-    #[inline(always)]
-    fn word(&self, i: usize, counter: &mut Counter) -> u64 {
-        counter.increment();
-        self.slots[i]
-    }
-
-    #[inline(always)]
-    fn put(&mut self, i: usize, word: u64) {
-        self.slots[i] = word;
     }
 }

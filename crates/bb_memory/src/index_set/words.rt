@@ -1,8 +1,7 @@
 //! A set of numbers as words of 64 bits.
 ghost use Rattle.std.specs.Prelude.{◌≡◌, false, replicate, IfOk};
 
-use crate::index_set::index_words::{IndexWords, Searched};
-use crate::index_set::search::search;
+use crate::index_set::index_words::IndexWords;
 use crate::index_set::{Counter, IndexSet};
 use std::alloc::{AllocError, Allocator};
 use std::marker::Model;
@@ -63,17 +62,27 @@ impl<A: Allocator> IndexSet for Words<A> {
 
     ghost words = { index_words };
 
-    /// Where that fills the word in hand, the one that is listed last is in hand from then on.
+    /// Sets the lowest clear bit of the word in hand. Where that fills the word, the one that is listed last is in hand from then
+    /// on.
     #[inline(always)]
     fn take(&mut self, counter: &mut Counter) -> Option<usize> {
-        let found = search(&mut self.words, self.hand, counter)?;
-        if found.full {
+        if self.bound == 0 {
+            return None;
+        }
+        let hand = self.hand;
+        let word = self.words.word(hand, counter);
+        if word == u64::MAX {
+            return None;
+        }
+        let left = word | (word + 1);
+        if left == u64::MAX {
             self.top -= 1;
             if self.top > 0 {
                 self.hand = self.words.listed(self.top - 1);
             }
         }
-        Some(found.number)
+        self.words.put(hand, left);
+        Some(hand * 64 + word.trailing_ones() as usize)
     }
 
     /// Takes the number's word in hand, where it was full, and lists the one that was in hand.
@@ -96,6 +105,6 @@ impl<A: Allocator> IndexSet for Words<A> {
 
     #[inline(always)]
     fn has_room(&self) -> bool {
-        self.words.len() > 0 && self.words.is_open(self.hand)
+        self.bound > 0 && self.words.is_open(self.hand)
     }
 }

@@ -1,99 +1,106 @@
 //! Pools over a set of held buckets: what the pools of this crate have in common.
-ghost use Rattle.std.specs.Prelude.{◌≡◌, ◌≢◌, ◌↔◌, ℕ, false, true, List, OnOk, Some, IsTrue, remove, slice_get};
+ghost use Rattle.std.specs.Prelude.{◌≡◌, ◌≢◌, ◌↔◌, ◌≤◌, ℕ, false, true, List, OnOk, Some, IfSome, IsSome, IsTrue, length, remove, slice_get};
 ghost use Rattle.bb_memory_base.specs.Chunk.{Chunk};
 ghost use Rattle.bb_memory_base.specs.Run.{AnswersRun, Step};
 ghost use Rattle.bb_memory_base.specs.ResizableObject.{ResizableStep};
+ghost use Rattle.bb_memory_base.specs.PoolGeometry.{bucket_place};
 ghost use Rattle.bb_memory_base.specs.PoolObject.{pool_object};
 ghost use Rattle.bb_memory.specs.Buckets.{TellsNumber, TellsPlace};
 ghost use Rattle.bb_memory.specs.HeldBuckets.{held_count};
-ghost use Rattle.bb_memory.specs.NumberSet.{Lacks};
-ghost use Rattle.bb_memory.specs.Pool.{FreesBucket, HoldsPlace, IsPool, StandsFor, reads_after};
+ghost use Rattle.bb_memory.specs.NumberSet.{Has, Lacks};
+ghost use Rattle.bb_memory.specs.Pool.{FreesBucket, HoldsPlace, IsPool, StandsFor};
+ghost use Rattle.bb_memory.specs.Pool.{Takes, pool_of, reads_after, reads_of};
 
-use super::buckets::Buckets;
-use super::held_set::HeldSet;
+use super::geometry::Geometry;
 use crate::allocator::{
     AllocationError, AllocationGrowError, AllocationShrinkError, Allocator, BaseAllocator, Command,
     Reply, run_base, run_full,
 };
-use crate::index_set::Counter;
+use crate::index_set::{Counter, IndexSet};
 use crate::layout::{Chunk, Layout};
 use std::alloc::AllocError;
 use std::marker::Model;
 
-/// Buckets, with what is kept of the last search for a free one.
+/// The buckets of a region, the set of those that are held, and how many words the last search for a free one read: none, where
+/// the set counts no reads.
 #[derive(Drop)]
-pub struct BucketPool<S: HeldSet> {
-    pub(super) buckets: Buckets<S>,
-    pub(super) last_search: S::LastSearch,
+pub struct BucketPool<S: IndexSet> {
+    pub(super) geometry: Geometry,
+    pub(super) held: S,
+    pub(super) last_search: Counter,
 }
 
-impl<S: HeldSet> Model for BucketPool<S> {
+impl<S: IndexSet> Model for BucketPool<S> {
     ghost use Rattle.std.specs.Prelude.{◌≤◌};
-    ghost use Rattle.bb_memory.specs.Pool.{IsPool};
+    ghost use Rattle.bb_memory.specs.Pool.{CountedPool, IsPool, counted, pool_of};
 
-    ghost Value = { S.Seen };
+    ghost Value = { CountedPool };
 
-    ghost coded = { S.Seen.code };
+    ghost view = { λ a. counted (pool_of a.geometry (S.numbers a.held)) a.last_search };
 
-    ghost view = { λ a. S.seen a.buckets a.last_search };
-
-    ghost invariant = { λ a. IsPool a.buckets
-        × (S.last_reads a.last_search ≤ S.words a.buckets.geometry.buckets) };
+    ghost invariant = { λ a. IsPool (pool_of a.geometry (S.numbers a.held))
+        × (a.last_search ≤ S.words a.geometry.buckets) };
 }
 
-impl<S: HeldSet> BucketPool<S> {
+impl<S: IndexSet> BucketPool<S> {
     /// How many buckets there are. Beside it, what holds of every pool is told.
     #[inline]
     pub fn number_of_buckets(&self) -> u32
-        ensures value { result ≡ (S.pool self.now).geometry.buckets }
-        ensures is_pool { IsPool (S.pool self.now) }
+        ensures value { result ≡ self.now.pool.geometry.buckets }
+        ensures is_pool { IsPool self.now.pool }
     {
-        self.buckets.geometry().count()
+        self.geometry.count()
     }
 
     /// The size of a bucket in bytes, as it was asked for. The buckets are at least that far apart.
     #[inline]
     pub fn bucket_size(&self) -> usize
-        ensures { result ≡ (S.pool self.now).geometry.bucket.size }
+        ensures { result ≡ self.now.pool.geometry.bucket.size }
     {
-        self.buckets.geometry().bucket().size()
+        self.geometry.bucket().size()
     }
 
     /// The greatest alignment that a request may have, of which each bucket's place is a multiple.
     #[inline]
     pub fn max_alignment(&self) -> usize
-        ensures { result ≡ (S.pool self.now).geometry.bucket.align }
+        ensures { result ≡ self.now.pool.geometry.bucket.align }
     {
-        self.buckets.geometry().bucket().align()
+        self.geometry.bucket().align()
     }
 
     /// How many bytes the region has, as it was handed in.
     #[inline]
     pub fn size(&self) -> usize
-        ensures { result ≡ (S.pool self.now).geometry.region.size }
+        ensures { result ≡ self.now.pool.geometry.region.size }
     {
-        self.buckets.geometry().region_size()
+        self.geometry.region_size()
     }
 
     /// Where the bucket of this number begins, held or not, or `None` where there is no such bucket.
     pub fn place_at(&self, number: u32) -> Option<usize>
-        ensures { TellsPlace (S.pool self.now).geometry number result }
+        ensures { TellsPlace self.now.pool.geometry number result }
     {
-        self.buckets.geometry().place_at(number)
+        self.geometry.place_at(number)
     }
 
     /// The number of the bucket that begins at this place, held or not, or `None` where none does.
     pub fn number_at(&self, place: usize) -> Option<u32>
-        ensures { TellsNumber (S.pool self.now).geometry place result }
+        ensures { TellsNumber self.now.pool.geometry place result }
     {
-        self.buckets.geometry().number_at(place)
+        self.geometry.number_at(place)
     }
 
     /// How many buckets are held: as many as were given and not given back. Each bucket is looked at, and no read is counted.
     pub fn held_buckets(&self) -> u32
-        ensures { result ≡ held_count (S.pool self.now) }
+        ensures { result ≡ held_count self.now.pool }
     {
-        self.buckets.held_count()
+        let mut held = 0;
+        for number in 0..self.geometry.count() {
+            if self.held.has(number as usize) {
+                held += 1;
+            }
+        }
+        held
     }
 
     /// Whether a bucket is free, so that a request that is no greater than a bucket, in size and alignment, is accepted. Nothing
@@ -107,9 +114,9 @@ impl<S: HeldSet> BucketPool<S> {
     /// ```
     #[inline(always)]
     pub fn has_room(&self) -> bool
-        ensures { IsTrue result ↔ ((i : ℕ) × Lacks (S.pool self.now).held i) }
+        ensures { IsTrue result ↔ ((i : ℕ) × Lacks self.now.pool.held i) }
     {
-        self.buckets.has_room()
+        self.held.has_room()
     }
 
     /// Whether this is the place of a held bucket, which may be given back: true exactly where `deallocate` may be called with
@@ -122,11 +129,11 @@ impl<S: HeldSet> BucketPool<S> {
     /// ```
     #[inline(always)]
     pub fn holds(&self, place: usize) -> bool
-        ensures value { IsTrue result ↔ HoldsPlace (S.pool self.now) place }
+        ensures value { IsTrue result ↔ HoldsPlace self.now.pool place }
         ensures may_release { IsTrue result
             ↔ ⟦<BucketPool<S> as BaseAllocator>⟧.may_release self.now place }
     {
-        self.buckets.holds(place)
+        self.held_number(place).is_some()
     }
 
     /// Gives back the bucket at this place where a held one begins there, and answers whether one did. Else it changes nothing.
@@ -142,24 +149,70 @@ impl<S: HeldSet> BucketPool<S> {
     /// ```
     #[inline(always)]
     pub fn deallocate_if_held(&mut self, place: usize) -> bool
-        ensures held { IsTrue result ↔ HoldsPlace (S.pool self.old) place }
+        ensures held { IsTrue result ↔ HoldsPlace self.old.pool place }
         ensures freed { result ≡ true
-            → FreesBucket (S.pool self.old) place (S.pool self.new) }
+            → FreesBucket self.old.pool place self.new.pool }
         ensures released { (live : List Chunk) (position : ℕ) (chunk : Chunk)
-            → StandsFor (S.pool self.old) live → slice_get live position ≡ Some chunk
-            → chunk.place ≡ place → StandsFor (S.pool self.new) (remove live position) }
-        ensures given_back { ¬ HoldsPlace (S.pool self.new) place }
-        ensures still_held { (other : ℕ) → HoldsPlace (S.pool self.old) other → other ≢ place
-            → HoldsPlace (S.pool self.new) other }
+            → StandsFor self.old.pool live → slice_get live position ≡ Some chunk
+            → chunk.place ≡ place → StandsFor self.new.pool (remove live position) }
+        ensures given_back { ¬ HoldsPlace self.new.pool place }
+        ensures still_held { (other : ℕ) → HoldsPlace self.old.pool other → other ≢ place
+            → HoldsPlace self.new.pool other }
         ensures still { result ≡ false → self.new ≡ self.old }
-        ensures geometry { (S.pool self.new).geometry ≡ (S.pool self.old).geometry }
-        ensures reads { S.reads self.new ≡ S.reads self.old }
+        ensures geometry { self.new.pool.geometry ≡ self.old.pool.geometry }
+        ensures reads { self.new.reads ≡ self.old.reads }
     {
-        self.buckets.free_if_held(place)
+        let Some(number) = self.held_number(place) else {
+            return false;
+        };
+        self.held.release(number);
+        true
+    }
+
+    /// The number of the held bucket at this place, or `None` where no held one begins there.
+    #[inline(always)]
+    fn held_number(&self, place: usize) -> Option<usize>
+        ensures held { IsSome result ↔ HoldsPlace self.now.pool place }
+        ensures has { IfSome result (Has self.now.pool.held) }
+        ensures there { IfSome result
+            (λ number. place ≡ bucket_place self.now.pool.geometry number) }
+    {
+        let number = self.geometry.number_at(place)? as usize;
+        if !self.held.has(number) {
+            return None;
+        }
+        Some(number)
     }
 }
 
-impl<S: HeldSet> BaseAllocator for BucketPool<S> {
+/// Takes a bucket that isn't held.
+#[inline(always)]
+fn take<S: IndexSet>(
+    geometry: &Geometry,
+    held: &mut S,
+    layout: Layout,
+    counter: &mut Counter,
+) -> Result<Chunk, AllocationError>
+    requires as_many { length (S.numbers held.old) ≡ geometry.now.buckets }
+    requires uncounted { counter.old ≡ 0 }
+    ensures taken { Takes (pool_of geometry.now (S.numbers held.old)) layout result
+        (pool_of geometry.now (S.numbers held.new)) }
+    ensures reads { counter.new
+        ≡ reads_of geometry.now.bucket (S.words geometry.now.buckets) layout }
+{
+    if layout.size() > geometry.bucket().size() {
+        return Err(AllocationError::SizeTooLarge);
+    }
+    if layout.align() > geometry.bucket().align() {
+        return Err(AllocationError::AlignmentFailure);
+    }
+    let Some(i) = held.take(counter) else {
+        return Err(AllocationError::OutOfMemory);
+    };
+    Ok(geometry.chunk(i, layout.size()))
+}
+
+impl<S: IndexSet> BaseAllocator for BucketPool<S> {
     ghost use Rattle.std.specs.Prelude.{ℕ, false};
     ghost use Rattle.bb_memory_base.specs.PoolGeometry.{PoolGeometry};
     ghost use Rattle.bb_memory_base.specs.PoolObject.{MayAllocate};
@@ -172,27 +225,27 @@ impl<S: HeldSet> BaseAllocator for BucketPool<S> {
 
     ghost Geometry = { PoolGeometry };
 
-    ghost geometry = { λ pool. (S.pool pool).geometry };
+    ghost geometry = { λ pool. pool.pool.geometry };
 
     ghost region_of = { λ geometry. geometry.region };
 
     ghost may_allocate = { MayAllocate };
 
-    ghost stands_for = { λ pool. StandsFor (S.pool pool) };
+    ghost stands_for = { λ pool. StandsFor pool.pool };
 
-    ghost may_release = { λ pool. HoldsPlace (S.pool pool) };
+    ghost may_release = { λ pool. HoldsPlace pool.pool };
 
     ghost Note = { ℕ };
 
-    ghost note = { S.reads };
+    ghost note = { λ pool. pool.reads };
 
     ghost note_after = { λ geometry layout before.
         reads_of geometry.bucket (S.words geometry.buckets) layout };
 
     ghost takes = { λ old layout answer new.
-        TakesBucket (S.pool old) layout answer (S.pool new) (S.reads new) S.one_search };
+        TakesBucket old layout answer new (S.words old.pool.geometry.buckets) };
 
-    ghost frees = { λ old place _ new. FreesBucket (S.pool old) place (S.pool new) };
+    ghost frees = { λ old place _ new. FreesBucket old.pool place new.pool };
 
     /// A chunk of `layout.size()` bytes in a bucket that isn't held; which one is left open. It is refused in this order: with
     /// `SizeTooLarge` where the size is greater than the bucket's, with `AlignmentFailure` where the alignment is greater than
@@ -201,33 +254,34 @@ impl<S: HeldSet> BaseAllocator for BucketPool<S> {
     #[inline(always)]
     fn allocate(&mut self, layout: Layout) -> Result<Chunk, AllocationError> {
         let mut counter = Counter::new();
-        let answer = self.buckets.take(layout, &mut counter);
-        self.last_search = S::kept(counter);
+        let answer = take(&self.geometry, &mut self.held, layout, &mut counter);
+        self.last_search = counter;
         answer
     }
 
     /// Gives back the bucket at this place, which has to be held. The layout decides nothing.
     #[inline(always)]
     fn deallocate(&mut self, place: usize, _layout: Layout) {
-        self.buckets.free(place);
+        let number = self.geometry.strides(place - self.geometry.first());
+        self.held.release(number);
     }
 
     fn stands_for_some_list(&self) {
         // What the type promises is known from here on.
-        let _ = &self.buckets;
+        let _ = &self.geometry;
     }
 
     fn answers_fit(&self) {
         // What the type promises is known from here on.
-        let _ = &self.buckets;
+        let _ = &self.geometry;
     }
 
-    ghost releases = { λ pool. held_place (S.pool pool) };
+    ghost releases = { λ pool. held_place pool.pool };
 
     ghost sound = { λ pool live stands. stands.sound };
 }
 
-impl<S: HeldSet> Allocator for BucketPool<S> {
+impl<S: IndexSet> Allocator for BucketPool<S> {
     ghost use Rattle.bb_memory.specs.PoolLaws.{covered, held_is_live};
     ghost use Rattle.std.specs.Prelude.{refl};
     ghost use Rattle.bb_memory_base.specs.PoolGeometry.{PoolGeometry};
@@ -235,7 +289,7 @@ impl<S: HeldSet> Allocator for BucketPool<S> {
 
     ghost Figures = { PoolGeometry };
 
-    ghost figures = { λ pool. (S.pool pool).geometry };
+    ghost figures = { λ pool. pool.pool.geometry };
 
     ghost reserved_at = { λ geometry place. geometry.bucket.size };
 
@@ -244,10 +298,10 @@ impl<S: HeldSet> Allocator for BucketPool<S> {
     ghost may_shrink = { λ geometry live. MayShrink geometry.bucket };
 
     ghost grows = { λ pool place old new answer _.
-        MayGrow (S.pool pool).geometry.bucket place old new answer };
+        MayGrow pool.pool.geometry.bucket place old new answer };
 
     ghost shrinks = { λ pool place old new answer _.
-        MayShrink (S.pool pool).geometry.bucket place old new answer };
+        MayShrink pool.pool.geometry.bucket place old new answer };
 
     /// How many bytes are reserved for the chunk at this place, which has to be a held bucket's: the bucket's size.
     #[inline]
@@ -266,7 +320,7 @@ impl<S: HeldSet> Allocator for BucketPool<S> {
         old: Layout,
         new: Layout,
     ) -> Result<Chunk, AllocationGrowError> {
-        self.buckets.geometry().grow(place, old, new)
+        self.geometry.grow(place, old, new)
     }
 
     /// Gives the chunk exactly the new size. It is refused in this order: with `ShrinkWouldGrow` where the new size isn't
@@ -280,7 +334,7 @@ impl<S: HeldSet> Allocator for BucketPool<S> {
         old: Layout,
         new: Layout,
     ) -> Result<Chunk, AllocationShrinkError> {
-        self.buckets.geometry().shrink(place, old, new)
+        self.geometry.shrink(place, old, new)
     }
 
     ghost fixed = { λ one other same. same };
@@ -289,46 +343,46 @@ impl<S: HeldSet> Allocator for BucketPool<S> {
 
     ghost distinct = { λ pool live stands. stands.differ };
 
-    ghost covered = { λ pool. covered (S.pool pool) };
+    ghost covered = { λ pool. covered pool.pool };
 
-    ghost only_live = { λ pool. held_is_live (S.pool pool) };
+    ghost only_live = { λ pool. held_is_live pool.pool };
 }
 
 /// Applies the commands in order, as [`run_full`] does: the replies and the live list are a run of the pool object over the
 /// pool's geometry, and the list is sound afterwards. The pool has to stand for the live list. `AllocError` comes only where
 /// memory was refused, and then the pool and the list are as before.
-pub fn run_pool<S: HeldSet>(
+pub fn run_pool<S: IndexSet>(
     allocator: &mut BucketPool<S>,
     live: &mut Vec<Chunk>,
     commands: &[Command],
 ) -> Result<Vec<Reply>, AllocError>
-    requires { StandsFor (S.pool allocator.old) live.old.items }
-    ensures run { AnswersRun (λ pool. StandsFor (S.pool pool))
-        (λ pool. (S.pool pool).geometry)
-        (λ geometry. geometry.region) (ResizableStep (pool_object (S.pool allocator.old).geometry))
+    requires { StandsFor allocator.old.pool live.old.items }
+    ensures run { AnswersRun (λ pool. StandsFor pool.pool)
+        (λ pool. pool.pool.geometry)
+        (λ geometry. geometry.region) (ResizableStep (pool_object allocator.old.pool.geometry))
         commands.now result allocator.old allocator.new live.old.items live.new.items }
-    ensures reads { OnOk result (S.reads allocator.new ≡ reads_after
-        (S.pool allocator.old).geometry.bucket (S.words (S.pool allocator.old).geometry.buckets)
-        (S.reads allocator.old) commands.now) }
+    ensures reads { OnOk result (allocator.new.reads ≡ reads_after
+        allocator.old.pool.geometry.bucket (S.words allocator.old.pool.geometry.buckets)
+        allocator.old.reads commands.now) }
 {
     run_full(allocator, live, commands)
 }
 
 /// The same without resizes, which are passed over, as [`run_base`] does. The pool has to stand for the live list.
 /// `AllocError` comes only where memory was refused, and then the pool and the list are as before.
-pub fn run_base_pool<S: HeldSet>(
+pub fn run_base_pool<S: IndexSet>(
     allocator: &mut BucketPool<S>,
     live: &mut Vec<Chunk>,
     commands: &[Command],
 ) -> Result<Vec<Reply>, AllocError>
-    requires { StandsFor (S.pool allocator.old) live.old.items }
-    ensures run { AnswersRun (λ pool. StandsFor (S.pool pool))
-        (λ pool. (S.pool pool).geometry)
-        (λ geometry. geometry.region) (Step (pool_object (S.pool allocator.old).geometry).base)
+    requires { StandsFor allocator.old.pool live.old.items }
+    ensures run { AnswersRun (λ pool. StandsFor pool.pool)
+        (λ pool. pool.pool.geometry)
+        (λ geometry. geometry.region) (Step (pool_object allocator.old.pool.geometry).base)
         commands.now result allocator.old allocator.new live.old.items live.new.items }
-    ensures reads { OnOk result (S.reads allocator.new ≡ reads_after
-        (S.pool allocator.old).geometry.bucket (S.words (S.pool allocator.old).geometry.buckets)
-        (S.reads allocator.old) commands.now) }
+    ensures reads { OnOk result (allocator.new.reads ≡ reads_after
+        allocator.old.pool.geometry.bucket (S.words allocator.old.pool.geometry.buckets)
+        allocator.old.reads commands.now) }
 {
     run_base(allocator, live, commands)
 }

@@ -3,13 +3,14 @@ ghost use Rattle.std.specs.Prelude.{◌≡◌, [], ◌-◌, ◌<◌, ◌^◌, �
 ghost use Rattle.std.specs.Prelude.{IsTrue};
 ghost use Rattle.bb_memory_base.specs.Region.{region_at};
 ghost use Rattle.bb_memory_base.specs.PoolGeometry.{PoolGeometry, IsCut, at_most};
-ghost use Rattle.bb_memory.specs.Pool.{MayBeCut, StandsFor, fresh_pool};
+ghost use Rattle.bb_memory.specs.Pool.{MayBeCut, StandsFor, counted, fresh_pool};
 
+use crate::index_set::Counter;
 use crate::index_set::flags::Flags;
 use crate::layout::Layout;
+use crate::pool_allocator::PoolAllocator;
 use crate::pool_allocator::bucket_pool::BucketPool;
-use crate::pool_allocator::buckets::Buckets;
-use crate::pool_allocator::geometry::{Geometry, may_be_cut};
+use crate::pool_allocator::geometry::Geometry;
 use std::fmt;
 
 /// Gives buckets of one layout, at most `MAX_NUMBER_OF_BUCKETS` of them. Which are held is kept in an array of its own: it
@@ -40,16 +41,16 @@ impl<const MAX_NUMBER_OF_BUCKETS: usize> FixedSizePoolAllocator<MAX_NUMBER_OF_BU
         requires cut { MayBeCut (region_at start size) bucket_layout }
         requires most { MAX_NUMBER_OF_BUCKETS < 2 ^ 32 - 1 }
         ensures value { (whole : PoolGeometry) × IsCut (region_at start size) bucket_layout whole
-            × (result ≡ fresh_pool (at_most MAX_NUMBER_OF_BUCKETS whole)) }
-        ensures empty { StandsFor result [] }
+            × (result ≡ counted (fresh_pool (at_most MAX_NUMBER_OF_BUCKETS whole)) 0) }
+        ensures empty { StandsFor result.pool [] }
     {
-        let geometry = Geometry::new(bucket_layout, start, size).at_most(
-            MAX_NUMBER_OF_BUCKETS as u32,
-        );
+        let most = MAX_NUMBER_OF_BUCKETS as u32;
+        let geometry = Geometry::cut_at_most(bucket_layout, start, size, most);
         let held = Flags::new(geometry.count());
         BucketPool {
-            buckets: Buckets::new(geometry, held),
-            last_search: (),
+            geometry,
+            held,
+            last_search: Counter::new(),
         }
     }
 
@@ -58,7 +59,8 @@ impl<const MAX_NUMBER_OF_BUCKETS: usize> FixedSizePoolAllocator<MAX_NUMBER_OF_BU
         ensures { IsTrue result ↔ (MayBeCut (region_at start size) bucket_layout
             × (MAX_NUMBER_OF_BUCKETS < 2 ^ 32 - 1)) }
     {
-        MAX_NUMBER_OF_BUCKETS < u32::MAX as usize && may_be_cut(bucket_layout, start, size)
+        MAX_NUMBER_OF_BUCKETS < u32::MAX as usize
+            && PoolAllocator::can_make(bucket_layout, start, size)
     }
 }
 
@@ -66,7 +68,8 @@ impl<const MAX_NUMBER_OF_BUCKETS: usize> fmt::Debug
     for FixedSizePoolAllocator<MAX_NUMBER_OF_BUCKETS> {
     fn fmt<W: fmt::Write>(&self, f: &mut fmt::Formatter<W>) -> fmt::Result {
         f.debug_struct("FixedSizePoolAllocator")
-            .field("buckets", &self.buckets)
+            .field("geometry", &self.geometry)
+            .field("held", &self.held)
             .finish()
     }
 }

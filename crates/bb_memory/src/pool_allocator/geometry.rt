@@ -13,35 +13,8 @@ use crate::allocator::{AllocationGrowError, AllocationShrinkError};
 use crate::layout::{Chunk, Layout, round_up};
 use std::marker::Model;
 
-/// Whether a pool may be made of this region and these buckets.
-pub fn may_be_cut(bucket_layout: Layout, start: usize, size: usize) -> bool
-    ensures { IsTrue result ↔ MayBeCut (region_at start size) bucket_layout }
-{
-    if start == 0 || bucket_layout.size() == 0 {
-        return false;
-    }
-    let Some(end) = start.checked_add(size) else {
-        return false;
-    };
-    let Some(first) = round_up(start, bucket_layout.align()) else {
-        return false;
-    };
-    end.saturating_sub(first) / stride(bucket_layout) < u32::MAX as usize
-}
-
-/// How many buckets of this layout the region has room for.
-fn count_buckets(bucket_layout: Layout, start: usize, size: usize) -> u32
-    requires { MayBeCut (region_at start size) bucket_layout }
-    ensures { IsCut (region_at start size) bucket_layout
-        (pool_geometry (region_at start size) bucket_layout result) }
-{
-    let end = start + size;
-    let first = round_up(start, bucket_layout.align()).unwrap();
-    (end.saturating_sub(first) / stride(bucket_layout)) as u32
-}
-
 /// How far each bucket is from the next.
-fn stride(bucket_layout: Layout) -> usize
+pub fn stride(bucket_layout: Layout) -> usize
     ensures { result ≡ stride bucket_layout }
 {
     round_up(bucket_layout.size(), bucket_layout.align()).unwrap()
@@ -90,15 +63,17 @@ impl Geometry {
         requires { MayBeCut (region_at start size) bucket_layout }
         ensures { IsCut (region_at start size) bucket_layout result }
     {
+        let first = round_up(start, bucket_layout.align()).unwrap();
         let stride = stride(bucket_layout);
+        let room = (start + size).saturating_sub(first);
         Geometry {
             region_start: start,
             region_size: size,
             bucket: bucket_layout,
-            first: round_up(start, bucket_layout.align()).unwrap(),
+            first,
             stride,
             shift: shift_of(stride),
-            buckets: count_buckets(bucket_layout, start, size),
+            buckets: (room / stride) as u32,
         }
     }
 
@@ -107,22 +82,9 @@ impl Geometry {
         requires { MayBeCut (region_at start size) bucket_layout }
         ensures { IsCutAtMost most (region_at start size) bucket_layout result }
     {
-        Self::new(bucket_layout, start, size).at_most(most)
-    }
-
-    /// The first of these buckets, at most so many.
-    pub fn at_most(self, constant: u32) -> Self
-        ensures { result ≡ at_most constant self }
-    {
-        Geometry {
-            region_start: self.region_start,
-            region_size: self.region_size,
-            bucket: self.bucket,
-            first: self.first,
-            stride: self.stride,
-            shift: self.shift,
-            buckets: self.buckets.min(constant),
-        }
+        let mut geometry = Self::new(bucket_layout, start, size);
+        geometry.buckets = geometry.buckets.min(most);
+        geometry
     }
 
     /// How many buckets there are.
@@ -217,7 +179,7 @@ impl Geometry {
         Chunk::new(place, len).unwrap()
     }
 
-    /// What the chunk at a bucket's place is answered that is to grow.
+    /// Answers a `grow` of the chunk at `place`. The pool doesn't change.
     #[inline]
     pub fn grow(&self, place: usize, old: Layout, new: Layout) -> Result<Chunk, AllocationGrowError>
         requires { IsPlaceOfBucket self.now place }
@@ -237,7 +199,7 @@ impl Geometry {
         Ok(Chunk::new(place, new.size()).unwrap())
     }
 
-    /// What the chunk at a bucket's place is answered that is to shrink.
+    /// Answers a `shrink` of the chunk at `place`. The pool doesn't change.
     #[inline]
     pub fn shrink(
         &self,

@@ -1,7 +1,7 @@
 //! The handles of the pools with one owner: which buckets are held is kept in words of their own, or in the pool itself.
 ghost use Rattle.std.specs.Prelude.{◌≡◌, Option};
 ghost use Rattle.std.specs.declared.alloc.Global.{Global as Heap};
-ghost use Rattle.bb_memory.specs.Pool.{CountedPool, Pool as PoolValue};
+ghost use Rattle.bb_memory.specs.Pool.{CountedPool};
 
 use crate::flags_pool::FlagsPool;
 use crate::handle::Handle;
@@ -66,7 +66,7 @@ pub struct FlagsPoolHandle {
     at: *mut u8,
     made: bool,
     pub ghost heap: { Heap },
-    pub ghost value: { Option PoolValue },
+    pub ghost value: { Option CountedPool },
 }
 
 impl Model for FlagsPoolHandle {

@@ -15,9 +15,9 @@ pub(super) type TestPool = FixedSizePoolAllocator<16>;
 /// A pool of 8 buckets of 128 bytes, of which none is out.
 #[tactic(auto, unfolding(bb_memory_base::specs::LeastPlace::least_place))]
 pub(super) fn eight_buckets() -> TestPool
-    ensures fresh { StandsFor result [] }
-    ensures start { result.geometry.region.start ≡ 4096 }
-    ensures size { result.geometry.region.size ≡ 1024 }
+    ensures fresh { StandsFor result.pool [] }
+    ensures start { result.pool.geometry.region.start ≡ 4096 }
+    ensures size { result.pool.geometry.region.size ≡ 1024 }
 {
     pool_count_law();
     TestPool::new(Layout::from_size_align(128, 8).unwrap(), 4096, 1024)
@@ -26,8 +26,8 @@ pub(super) fn eight_buckets() -> TestPool
 /// A pool of buckets of four bytes.
 #[tactic(auto, unfolding(bb_memory_base::specs::LeastPlace::least_place))]
 pub(super) fn buckets_of_four() -> TestPool
-    ensures start { result.geometry.region.start ≡ 4096 }
-    ensures size { result.geometry.region.size ≡ 1024 }
+    ensures start { result.pool.geometry.region.start ≡ 4096 }
+    ensures size { result.pool.geometry.region.size ≡ 1024 }
 {
     pool_count_law();
     TestPool::new(Layout::from_size_align(4, 1).unwrap(), 4096, 1024)

@@ -82,22 +82,22 @@ pool_rules = record {
 }
 
 -- the pool's region is cut into the buckets that it has room for, but into at most 512; none is held
-abbrev pub BeginsFixed : PoolPlan → Pool → Type 0
+abbrev pub BeginsFixed : PoolPlan → CountedPool → Type 0
 BeginsFixed plan pool =
     (whole : PoolGeometry) × IsCut plan.region plan.bucket whole
-    × (pool ≡ fresh_pool (at_most 512 whole))
+    × (pool ≡ counted (fresh_pool (at_most 512 whole)) 0)
 
 -- what `show` writes of it
-abbrev pub fixed_state : Pool → ℕ → List ℕ
-fixed_state pool live = codes "fixed" ++ pool_figures pool.geometry live (codes "\n")
+abbrev pub fixed_state : CountedPool → ℕ → List ℕ
+fixed_state pool live = codes "fixed" ++ pool_figures pool.pool.geometry live (codes "\n")
 
 -- a fixed pool that a script drives: it begins with no bucket held
-abbrev pub fixed_rules : AllocatorRules Pool PoolPlan
+abbrev pub fixed_rules : AllocatorRules CountedPool PoolPlan
 fixed_rules = record {
   name = codes "fixed";
   is_header = IsPoolPlan;
   header_text = pool_plan_text;
   starts = BeginsFixed;
-  runs = PoolRuns;
+  runs = λ old live commands replies new left. PoolRuns old.pool live commands replies new.pool left;
   state_text = fixed_state;
 }

@@ -154,8 +154,8 @@ pub(crate) fn fixed_over<const N: usize>(
     start: usize,
     size: usize,
 ) -> Option<FixedSizePoolAllocator<N>>
-    ensures empty { IfSome result (λ pool. StandsFor pool []) }
-    ensures region { IfSome result (λ pool. pool.geometry.region ≡ region_at start size) }
+    ensures empty { IfSome result (λ pool. StandsFor pool.pool []) }
+    ensures region { IfSome result (λ pool. pool.pool.geometry.region ≡ region_at start size) }
 {
     if !FixedSizePoolAllocator::<N>::can_make(bucket, start, size) {
         return None;

@@ -1,5 +1,5 @@
 use Rattle.bb_memory.proofs.OneChunks.{some_answer, one_answer, some_grow, one_grow, some_shrink, one_shrink}
-use Rattle.bb_memory.proofs.OneChunks.{answer-aligned, answer-inside, answer-long, answer-whole, run-keeps}
+use Rattle.bb_memory.proofs.OneChunks.{answer-aligned, answer-inside, answer-long, answer-whole, run-keeps, base_run-keeps}
 use Rattle.bb_memory.proofs.one_chunk_allocator.one_chunk_object_law.Goals as goal
 
 pub returns-clause-some_answer : goal.returns-clause-some_answer
@@ -31,6 +31,9 @@ returns-clause-whole_rest c = answer-whole
 
 pub returns-clause-keeps_sound : goal.returns-clause-keeps_sound
 returns-clause-keeps_sound c = run-keeps
+
+pub returns-clause-keeps_sound_base : goal.returns-clause-keeps_sound_base
+returns-clause-keeps_sound_base c = base_run-keeps
 
 pub returns-clause-inside : goal.returns-clause-inside
 returns-clause-inside c = answer-inside

@@ -6,12 +6,12 @@ use Rattle.bb_memory.proofs.NumberWords.{full_words, has_bound, lacks}
 use Rattle.bb_memory.proofs.OpenWords.{hand_full}
 use Rattle.bb_memory.proofs.index_set.words.WordsIndexSet.has_room.Goals as goal
 
-pub returns-then-len-gt0 : goal.returns-then-len-gt0
-returns-then-len-gt0 g c =
+pub returns-then-self-gt0 : goal.returns-then-self-gt0
+returns-then-self-gt0 g c =
     let inside = c.self.inside in
     let words = inside.words.words in
     let is = c.self.invariant in
-    let within : inside.hand < length words = is.in_hand (omega (arith, c.if-len-gt0.true, c.len.ensures)) in (
+    let within : inside.hand < length words = is.in_hand (omega (arith, c.if-self-gt0.true, is.are.count)) in (
       λ told.
           let found = c.is_open.ensures.clear told in
           let at : found.0 / 64 < length words = omega (arith, found.1, within) in
@@ -23,12 +23,12 @@ returns-then-len-gt0 g c =
       ],
     )
 
-pub returns-else-len-gt0 : goal.returns-else-len-gt0
-returns-else-len-gt0 g c =
+pub returns-else-self-gt0 : goal.returns-else-self-gt0
+returns-else-self-gt0 g c =
     let inside = c.self.inside in (
-      λ told. absurd (omega (arith, ltb-true 0 c.len.result told, c.if-len-gt0.false)),
+      λ told. absurd (omega (arith, ltb-true 0 inside.bound told, c.if-self-gt0.false)),
       λ free.
           let within = slice_get_within c.args.self.now free.0 false free.1 in
-          let at = (has_bound inside.bound inside.words.words free.0 c.args.self.now c.self.invariant.are c.self.view_is within).1 in
-          lt-ltb 0 c.len.result (omega (arith, at, c.len.ensures)),
+          let at = (has_bound inside.bound inside.words.words free.0 c.args.self.now c.self.invariant.are c.self.view_is within).0 in
+          lt-ltb 0 inside.bound (omega (arith, at)),
     )

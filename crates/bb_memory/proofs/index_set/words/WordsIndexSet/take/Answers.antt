@@ -1,159 +1,89 @@
-use Rattle.std.proofs.Common.{◌≡◌, ◌-◌, ◌/◌, ◌<◌, ◌∙◌, ap, refl, get_or, arith, length, ℕ, List}
-use Rattle.bb_memory.specs.IndexWords.{index_words}
-use Rattle.bb_memory.proofs.NumberWords.{full_words, taken, word_count}
+use Rattle.std.proofs.Common.{◌≢◌, ◌+◌, ◌-◌, ◌^◌, ◌<◌, ◌∙◌, sym, refl, get_or, arith, length}
+use Rattle.bb_memory.proofs.LowestBits.{taken}
+use Rattle.bb_memory.proofs.NumberWords.{full_words, has_bound, word_count}
 use Rattle.bb_memory.proofs.OpenWords.{hand_full, set_left, set_filled}
 use Rattle.bb_memory.proofs.index_set.words.WordsIndexSet.take.Goals as goal
+use Rattle.bb_memory.proofs.index_set.words.WordsIndexSet.take.Goals.{then-left+then-self-gt0, then-left+else-self-gt0, else-left}
 
-pub returns-in_err-found-clause-full : goal.returns-in_err-found-clause-full
-returns-in_err-found-clause-full g c =
+pub returns-then-self-eq0-clause-full : goal.returns-then-self-eq0-clause-full
+returns-then-self-eq0-clause-full g c = λ number within.
+    let at = (has_bound c.self.inside.bound c.self.inside.words.words number c.args.self.now c.self.invariant.are
+    c.self.view_is within).0 in
+    absurd (omega (arith, at, c.if-self-eq0.true))
+
+pub returns-then-self-eq0-clause-counted : goal.returns-then-self-eq0-clause-counted
+returns-then-self-eq0-clause-counted g c =
+    let count = word_count c.self.inside.bound c.self.inside.words.words _ c.self.invariant.are c.self.view_is in
+    omega (arith, count, c.self.invariant.are.count, c.if-self-eq0.true, c.requires)
+
+pub returns-then-word-clause-full : goal.returns-then-word-clause-full
+returns-then-word-clause-full g c =
+    let inside = c.self.inside in
+    let is = c.self.invariant in
+    rw (← c.self.view_is) (full_words inside.bound inside.words.words is.are
+    (hand_full inside.words.words inside.words.listed inside.hand inside.top is.listing
+    (sym c.word-word.ensures.value ∙ c.if-word.true)))
+
+pub returns-then-word-clause-counted : goal.returns-then-word-clause-counted
+returns-then-word-clause-counted g c =
+    let count = word_count c.self.inside.bound c.self.inside.words.words _ c.self.invariant.are c.self.view_is in
+    omega (arith, count, c.self.invariant.are.count, c.if-self-eq0.false, c.requires, c.word-word.ensures.counted)
+
+pub returns-clause-counted : goal.returns-clause-counted
+returns-clause-counted g c =
+    let count = word_count c.self.inside.bound c.self.inside.words.words _ c.self.invariant.are c.self.view_is in
+    omega (arith, count, c.self.invariant.are.count, c.if-self-eq0.false, c.requires, c.word-word.ensures.counted)
+
+pub invariant_of-self : goal.invariant_of-self
+invariant_of-self g c =
     let inside = c.self.inside in
     let words = inside.words.words in
+    let listed = inside.words.listed in
     let is = c.self.invariant in
-    rw (c.from_residual.ensures, ← c.self.view_is)
-    (full_words inside.bound words is.are
-    (λ at from within. hand_full words inside.words.listed inside.hand inside.top is.listing
-    (c.in_err-found.ensures.was_full (omega (arith, within))) at from within))
+    let word = c.word-word.result in
+    let within : inside.hand < length words = is.in_hand (omega (arith, is.are.count, c.if-self-eq0.false)) in
+    let small : word + 1 < 2 ^ 64 = omega (arith, c.if-word.false, c.word-word.type_inv) in
+    let are = (taken inside.bound words inside.hand word is.are within c.word-word.ensures.value small).1 in
+    let was_open : get_or words inside.hand 0 ≢ 2 ^ 64 - 1 = λ full. c.if-word.false (c.word-word.ensures.value ∙ full) in
+    elim c.if-left.branch [
+      | then-left+then-self-gt0 w ↦
+          rw (c.put.ensures.words, c.put.ensures.listed, w.self-inside-is)
+          (set_filled inside.bound words listed inside.hand inside.top _ w.listed-self-inside.result is are within was_open
+          w.if-left.true (λ more. w.listed-self-inside.ensures)
+          (λ none. absurd (omega (arith, none, w.if-self-gt0.true))))
+      | then-left+else-self-gt0 w ↦
+          rw (c.put.ensures.words, c.put.ensures.listed, w.self-inside-is)
+          (set_filled inside.bound words listed inside.hand inside.top _ inside.hand is are within was_open w.if-left.true
+          (λ more. absurd (omega (arith, more, w.if-self-gt0.false))) (λ none. refl))
+      | else-left w ↦
+          rw (c.put.ensures.words, c.put.ensures.listed, w.self-inside-is)
+          (set_left inside.bound words listed inside.hand inside.top _ is are within was_open w.if-left.false)
+    ]
 
-pub returns-in_err-found-clause-counted : goal.returns-in_err-found-clause-counted
-returns-in_err-found-clause-counted g c =
+pub returns-clause-lacked : goal.returns-clause-lacked
+returns-clause-lacked g c =
     let inside = c.self.inside in
-    let count : length inside.words.words ≡ index_words (length c.args.self.now) =
-    word_count inside.bound inside.words.words _ c.self.invariant.are c.self.view_is in
-    rw (← count) c.search.ensures.counted
-
-pub invariant_of-self-then-self-gt0 : goal.invariant_of-self-then-self-gt0
-invariant_of-self-then-self-gt0 g c =
-    let inside = c.self.inside in
-    let words = inside.words.words in
     let is = c.self.invariant in
-    let told = c.in_ok-found.ensures in
-    let hand = is.in_hand told.some in
-    let within : c.in_ok-found.found.number / 64 < length words = omega (arith, told.in_hand, hand) in
-    let taking = taken inside.bound words c.search.new.words.words c.in_ok-found.found.number is.are within told.lacked
-    told.set in
-    set_filled inside.bound words inside.words.listed c.search.new.words.words c.search.new.words.listed inside.hand
-    inside.top _ is taking.1 c.search.ensures.others told.some told.was_open
-    (told.is_full c.if-found.true) c.search.ensures.listed
-    (λ more. c.listed-self-inside.ensures ∙ ap (λ (l : List ℕ). get_or l (inside.top - 1 - 1) 0) c.search.ensures.listed)
-    (λ none. absurd (omega (arith, none, c.if-self-gt0.true)))
+    let word = c.word-word.result in
+    let within : inside.hand < length inside.words.words =
+    is.in_hand (omega (arith, is.are.count, c.if-self-eq0.false)) in
+    let small : word + 1 < 2 ^ 64 = omega (arith, c.if-word.false, c.word-word.type_inv) in
+    rw (← c.self.view_is, c.trailing_ones.ensures)
+    (taken inside.bound inside.words.words inside.hand word is.are within c.word-word.ensures.value small).0
 
-pub invariant_of-self-else-self-gt0 : goal.invariant_of-self-else-self-gt0
-invariant_of-self-else-self-gt0 g c =
+pub returns-clause-taken : goal.returns-clause-taken
+returns-clause-taken g c =
     let inside = c.self.inside in
-    let words = inside.words.words in
     let is = c.self.invariant in
-    let told = c.in_ok-found.ensures in
-    let hand = is.in_hand told.some in
-    let within : c.in_ok-found.found.number / 64 < length words = omega (arith, told.in_hand, hand) in
-    let taking = taken inside.bound words c.search.new.words.words c.in_ok-found.found.number is.are within told.lacked
-    told.set in
-    set_filled inside.bound words inside.words.listed c.search.new.words.words c.search.new.words.listed inside.hand
-    inside.top _ is taking.1 c.search.ensures.others told.some told.was_open
-    (told.is_full c.if-found.true) c.search.ensures.listed
-    (λ more. absurd (omega (arith, more, c.if-self-gt0.false))) (λ none. refl)
-
-pub invariant_of-self-else-found : goal.invariant_of-self-else-found
-invariant_of-self-else-found g c =
-    let inside = c.self.inside in
-    let words = inside.words.words in
-    let is = c.self.invariant in
-    let told = c.in_ok-found.ensures in
-    let hand = is.in_hand told.some in
-    let within : c.in_ok-found.found.number / 64 < length words = omega (arith, told.in_hand, hand) in
-    let taking = taken inside.bound words c.search.new.words.words c.in_ok-found.found.number is.are within told.lacked
-    told.set in
-    set_left inside.bound words inside.words.listed c.search.new.words.words c.search.new.words.listed inside.hand
-    inside.top is taking.1 c.search.ensures.others told.some told.was_open (told.is_open c.if-found.false) c.search.ensures.listed
-
-pub returns-then-self-gt0-clause-lacked : goal.returns-then-self-gt0-clause-lacked
-returns-then-self-gt0-clause-lacked g c =
-    let inside = c.self.inside in
-    let words = inside.words.words in
-    let is = c.self.invariant in
-    let told = c.in_ok-found.ensures in
-    let hand = is.in_hand told.some in
-    let within : c.in_ok-found.found.number / 64 < length words = omega (arith, told.in_hand, hand) in
-    let taking = taken inside.bound words c.search.new.words.words c.in_ok-found.found.number is.are within told.lacked
-    told.set in
-    rw (← c.self.view_is) taking.0
-
-pub returns-then-self-gt0-clause-taken : goal.returns-then-self-gt0-clause-taken
-returns-then-self-gt0-clause-taken g c =
-    let inside = c.self.inside in
-    let words = inside.words.words in
-    let is = c.self.invariant in
-    let told = c.in_ok-found.ensures in
-    let hand = is.in_hand told.some in
-    let within : c.in_ok-found.found.number / 64 < length words = omega (arith, told.in_hand, hand) in
-    let taking = taken inside.bound words c.search.new.words.words c.in_ok-found.found.number is.are within told.lacked
-    told.set in
-    rw (← c.self.view_is) taking.2
-
-pub returns-then-self-gt0-clause-counted : goal.returns-then-self-gt0-clause-counted
-returns-then-self-gt0-clause-counted g c =
-    let inside = c.self.inside in
-    let count : length inside.words.words ≡ index_words (length c.args.self.now) =
-    word_count inside.bound inside.words.words _ c.self.invariant.are c.self.view_is in
-    rw (← count) c.search.ensures.counted
-
-pub returns-else-self-gt0-clause-lacked : goal.returns-else-self-gt0-clause-lacked
-returns-else-self-gt0-clause-lacked g c =
-    let inside = c.self.inside in
-    let words = inside.words.words in
-    let is = c.self.invariant in
-    let told = c.in_ok-found.ensures in
-    let hand = is.in_hand told.some in
-    let within : c.in_ok-found.found.number / 64 < length words = omega (arith, told.in_hand, hand) in
-    let taking = taken inside.bound words c.search.new.words.words c.in_ok-found.found.number is.are within told.lacked
-    told.set in
-    rw (← c.self.view_is) taking.0
-
-pub returns-else-self-gt0-clause-taken : goal.returns-else-self-gt0-clause-taken
-returns-else-self-gt0-clause-taken g c =
-    let inside = c.self.inside in
-    let words = inside.words.words in
-    let is = c.self.invariant in
-    let told = c.in_ok-found.ensures in
-    let hand = is.in_hand told.some in
-    let within : c.in_ok-found.found.number / 64 < length words = omega (arith, told.in_hand, hand) in
-    let taking = taken inside.bound words c.search.new.words.words c.in_ok-found.found.number is.are within told.lacked
-    told.set in
-    rw (← c.self.view_is) taking.2
-
-pub returns-else-self-gt0-clause-counted : goal.returns-else-self-gt0-clause-counted
-returns-else-self-gt0-clause-counted g c =
-    let inside = c.self.inside in
-    let count : length inside.words.words ≡ index_words (length c.args.self.now) =
-    word_count inside.bound inside.words.words _ c.self.invariant.are c.self.view_is in
-    rw (← count) c.search.ensures.counted
-
-pub returns-else-found-clause-lacked : goal.returns-else-found-clause-lacked
-returns-else-found-clause-lacked g c =
-    let inside = c.self.inside in
-    let words = inside.words.words in
-    let is = c.self.invariant in
-    let told = c.in_ok-found.ensures in
-    let hand = is.in_hand told.some in
-    let within : c.in_ok-found.found.number / 64 < length words = omega (arith, told.in_hand, hand) in
-    let taking = taken inside.bound words c.search.new.words.words c.in_ok-found.found.number is.are within told.lacked
-    told.set in
-    rw (← c.self.view_is) taking.0
-
-pub returns-else-found-clause-taken : goal.returns-else-found-clause-taken
-returns-else-found-clause-taken g c =
-    let inside = c.self.inside in
-    let words = inside.words.words in
-    let is = c.self.invariant in
-    let told = c.in_ok-found.ensures in
-    let hand = is.in_hand told.some in
-    let within : c.in_ok-found.found.number / 64 < length words = omega (arith, told.in_hand, hand) in
-    let taking = taken inside.bound words c.search.new.words.words c.in_ok-found.found.number is.are within told.lacked
-    told.set in
-    rw (← c.self.view_is) taking.2
-
-pub returns-else-found-clause-counted : goal.returns-else-found-clause-counted
-returns-else-found-clause-counted g c =
-    let inside = c.self.inside in
-    let count : length inside.words.words ≡ index_words (length c.args.self.now) =
-    word_count inside.bound inside.words.words _ c.self.invariant.are c.self.view_is in
-    rw (← count) c.search.ensures.counted
+    let word = c.word-word.result in
+    let within : inside.hand < length inside.words.words =
+    is.in_hand (omega (arith, is.are.count, c.if-self-eq0.false)) in
+    let small : word + 1 < 2 ^ 64 = omega (arith, c.if-word.false, c.word-word.type_inv) in
+    let set = (taken inside.bound inside.words.words inside.hand word is.are within c.word-word.ensures.value small).2 in
+    elim c.if-left.branch [
+      | then-left+then-self-gt0 w ↦
+          rw (← c.self.view_is, c.trailing_ones.ensures, c.put.ensures.words, w.self-inside-is) set
+      | then-left+else-self-gt0 w ↦
+          rw (← c.self.view_is, c.trailing_ones.ensures, c.put.ensures.words, w.self-inside-is) set
+      | else-left w ↦ rw (← c.self.view_is, c.trailing_ones.ensures, c.put.ensures.words, w.self-inside-is) set
+    ]

@@ -1,51 +1,27 @@
-use Rattle.std.proofs.Common.{◌≡◌, ℕ, ◌≤◌, Result, Ok, Err, refl, subst, sym, ap, ◌∙◌, arith}
+use Rattle.std.proofs.Common.{◌≡◌, ℕ, ◌≤◌, Result, Ok, Err, ap, arith}
 use Rattle.std.specs.Prelude.{IfOk}
 use Rattle.bb_memory_base.specs.Chunk.{Chunk}
 use Rattle.bb_memory_base.specs.PoolObject.{MayGrow}
 use Rattle.bb_memory_base.specs.declared.layout.Layout.{Layout}
 use Rattle.bb_memory_base.specs.declared.allocator.AllocationGrowError.{AllocationGrowError}
-use Rattle.bb_memory_base.specs.PoolGeometry.{PoolGeometry}
-use Rattle.bb_memory.specs.Buckets.{IsPlaceOfBucket}
-use Rattle.bb_memory.specs.Pool.{Pool, IsPool, HoldsPlace}
 use Rattle.bb_memory.specs.PoolLaws.{held_bucket_below}
-use Rattle.bb_memory.proofs.PoolCalls.{MayGrow-inside, MayGrow-resized}
+use Rattle.bb_memory.proofs.PoolCalls.{MayGrow-resized}
 use Rattle.bb_memory.proofs.pool_allocator.bucket_pool.BucketPoolAllocator.grow.Goals as goal
 
 pub returns-clause-value : goal.returns-clause-value
-returns-clause-value g c =
-    let same = sym (g.met.S.HeldSet.pool_seen c.self.inside.buckets c.self.inside.last_search)
-    ∙ ap g.S.HeldSet.pool c.self.view_is in
-    let told = subst (λ (geometry : PoolGeometry). MayGrow geometry.bucket c.args.place c.args.old c.args.new c.grow.result)
-    c.geometry.ensures c.grow.ensures.answer in
-    subst (λ (p : Pool). MayGrow p.geometry.bucket c.args.place c.args.old c.args.new c.grow.result) same told
+returns-clause-value g c = rw (← c.self.view_is) c.grow.ensures.answer
 
 pub returns-clause-resized : goal.returns-clause-resized
 returns-clause-resized g c =
-    let same = sym (g.met.S.HeldSet.pool_seen c.self.inside.buckets c.self.inside.last_search)
-    ∙ ap g.S.HeldSet.pool c.self.view_is in
-    MayGrow-resized (g.S.HeldSet.pool c.args.self.now) c.args.place c.args.old c.args.new c.grow.result
-    (subst IsPool same c.self.invariant.0) (returns-clause-value g c)
-
-pub returns-clause-inside : goal.returns-clause-inside
-returns-clause-inside g c =
-    let same = sym (g.met.S.HeldSet.pool_seen c.self.inside.buckets c.self.inside.last_search)
-    ∙ ap g.S.HeldSet.pool c.self.view_is in
-    MayGrow-inside (g.S.HeldSet.pool c.args.self.now) c.args.place c.args.old c.args.new c.grow.result
-    (subst IsPool same c.self.invariant.0) c.requires.live (returns-clause-value g c)
+    MayGrow-resized c.args.self.now.pool c.args.place c.args.old c.args.new c.grow.result
+    (rw (← c.self.view_is) c.self.invariant.0) (returns-clause-value g c)
 
 pub grow-requires : goal.grow-requires
 grow-requires g c =
-    let same = sym (g.met.S.HeldSet.pool_seen c.self.inside.buckets c.self.inside.last_search)
-    ∙ ap g.S.HeldSet.pool c.self.view_is in
-    subst (λ (geometry : PoolGeometry). IsPlaceOfBucket geometry c.args.place) (sym c.geometry.ensures)
-    (held_bucket_below c.self.inside.buckets c.args.place c.self.invariant.0.flags
-    (subst (λ (p : Pool). HoldsPlace p c.args.place) (sym same) c.requires.live))
+    held_bucket_below _ c.args.place c.self.invariant.0.flags (rw (← c.self.view_is) at c.requires.live)
 
 pub returns-clause-answer : goal.returns-clause-answer
 returns-clause-answer g c = λ live position chunk stands at there. returns-clause-value g c
-
-pub returns-clause-still : goal.returns-clause-still
-returns-clause-still g c = refl
 
 same_place : (bucket : Layout) (place : ℕ) (old new : Layout) (answer : Result Chunk AllocationGrowError) →
     MayGrow bucket place old new answer → IfOk answer (λ grown. grown.place ≡ place)
@@ -54,7 +30,7 @@ same_place bucket place old new (Err error) may = tt
 
 pub returns-clause-same_place : goal.returns-clause-same_place
 returns-clause-same_place g c =
-    same_place c.geometry.result.now.bucket c.args.place c.args.old c.args.new c.grow.result c.grow.ensures.answer
+    same_place c.self.inside.geometry.bucket c.args.place c.args.old c.args.new c.grow.result c.grow.ensures.answer
 
 long_enough : (bucket : Layout) (place : ℕ) (old new : Layout) (answer : Result Chunk AllocationGrowError) →
     MayGrow bucket place old new answer → IfOk answer (λ grown. new.size ≤ grown.len)
@@ -63,7 +39,7 @@ long_enough bucket place old new (Err error) may = tt
 
 pub returns-clause-long_enough : goal.returns-clause-long_enough
 returns-clause-long_enough g c =
-    long_enough c.geometry.result.now.bucket c.args.place c.args.old c.args.new c.grow.result c.grow.ensures.answer
+    long_enough c.self.inside.geometry.bucket c.args.place c.args.old c.args.new c.grow.result c.grow.ensures.answer
 
 within_bucket : (bucket : Layout) (place : ℕ) (old new : Layout) (answer : Result Chunk AllocationGrowError) →
     MayGrow bucket place old new answer → IfOk answer (λ grown. grown.len ≤ bucket.size)
@@ -73,5 +49,5 @@ within_bucket bucket place old new (Err error) may = tt
 
 pub returns-clause-within : goal.returns-clause-within
 returns-clause-within g c =
-    within_bucket (g.S.HeldSet.pool c.args.self.now).geometry.bucket c.args.place c.args.old c.args.new c.grow.result
+    within_bucket c.args.self.now.pool.geometry.bucket c.args.place c.args.old c.args.new c.grow.result
     (returns-clause-value g c)

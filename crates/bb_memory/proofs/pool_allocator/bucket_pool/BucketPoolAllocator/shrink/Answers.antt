@@ -1,58 +1,30 @@
-use Rattle.std.proofs.Common.{◌≡◌, ℕ, ◌≤◌, Result, Ok, Err, refl, subst, sym, ap, ◌∙◌, arith}
+use Rattle.std.proofs.Common.{◌≡◌, ℕ, ◌≤◌, Result, Ok, Err, ap, arith}
 use Rattle.std.specs.Prelude.{IfOk}
 use Rattle.bb_memory_base.specs.Chunk.{Chunk}
 use Rattle.bb_memory_base.specs.PoolObject.{MayShrink}
 use Rattle.bb_memory_base.specs.declared.layout.Layout.{Layout}
 use Rattle.bb_memory_base.specs.declared.allocator.AllocationShrinkError.{AllocationShrinkError}
-use Rattle.bb_memory_base.specs.PoolGeometry.{PoolGeometry}
-use Rattle.bb_memory.specs.Buckets.{IsPlaceOfBucket}
-use Rattle.bb_memory.specs.Pool.{Pool, IsPool, HoldsPlace}
 use Rattle.bb_memory.specs.PoolLaws.{held_bucket_below}
-use Rattle.bb_memory.proofs.PoolCalls.{MayShrink-inside, MayShrink-resized}
+use Rattle.bb_memory.proofs.PoolCalls.{MayShrink-resized}
 use Rattle.bb_memory.proofs.pool_allocator.bucket_pool.BucketPoolAllocator.shrink.Goals as goal
 
 pub returns-clause-value : goal.returns-clause-value
-returns-clause-value g c =
-    let same = sym (g.met.S.HeldSet.pool_seen c.self.inside.buckets c.self.inside.last_search)
-    ∙ ap g.S.HeldSet.pool c.self.view_is in
-    let told = subst (λ (geometry : PoolGeometry). MayShrink geometry.bucket c.args.place c.args.old c.args.new c.shrink.result)
-    c.geometry.ensures c.shrink.ensures.answer in
-    subst (λ (p : Pool). MayShrink p.geometry.bucket c.args.place c.args.old c.args.new c.shrink.result) same told
+returns-clause-value g c = rw (← c.self.view_is) c.shrink.ensures.answer
 
 pub returns-clause-resized : goal.returns-clause-resized
 returns-clause-resized g c =
-    let same = sym (g.met.S.HeldSet.pool_seen c.self.inside.buckets c.self.inside.last_search)
-    ∙ ap g.S.HeldSet.pool c.self.view_is in
-    MayShrink-resized (g.S.HeldSet.pool c.args.self.now) c.args.place c.args.old c.args.new c.shrink.result
-    (subst IsPool same c.self.invariant.0) c.requires.reserved (returns-clause-value g c)
-
-pub returns-clause-inside : goal.returns-clause-inside
-returns-clause-inside g c =
-    let same = sym (g.met.S.HeldSet.pool_seen c.self.inside.buckets c.self.inside.last_search)
-    ∙ ap g.S.HeldSet.pool c.self.view_is in
-    MayShrink-inside (g.S.HeldSet.pool c.args.self.now) c.args.place c.args.old c.args.new c.shrink.result
-    (subst IsPool same c.self.invariant.0) c.requires.live c.requires.reserved (returns-clause-value g c)
+    MayShrink-resized c.args.self.now.pool c.args.place c.args.old c.args.new c.shrink.result
+    (rw (← c.self.view_is) c.self.invariant.0) c.requires.reserved (returns-clause-value g c)
 
 pub shrink-requires-clause-place : goal.shrink-requires-clause-place
 shrink-requires-clause-place g c =
-    let same = sym (g.met.S.HeldSet.pool_seen c.self.inside.buckets c.self.inside.last_search)
-    ∙ ap g.S.HeldSet.pool c.self.view_is in
-    subst (λ (geometry : PoolGeometry). IsPlaceOfBucket geometry c.args.place) (sym c.geometry.ensures)
-    (held_bucket_below c.self.inside.buckets c.args.place c.self.invariant.0.flags
-    (subst (λ (p : Pool). HoldsPlace p c.args.place) (sym same) c.requires.live))
+    held_bucket_below _ c.args.place c.self.invariant.0.flags (rw (← c.self.view_is) at c.requires.live)
 
 pub shrink-requires-clause-reserved : goal.shrink-requires-clause-reserved
-shrink-requires-clause-reserved g c =
-    let same = sym (g.met.S.HeldSet.pool_seen c.self.inside.buckets c.self.inside.last_search)
-    ∙ ap g.S.HeldSet.pool c.self.view_is in
-    subst (λ (geometry : PoolGeometry). c.args.old.size ≤ geometry.bucket.size) (sym c.geometry.ensures)
-    (subst (λ (p : Pool). c.args.old.size ≤ p.geometry.bucket.size) (sym same) c.requires.reserved)
+shrink-requires-clause-reserved g c = rw (← c.self.view_is) at c.requires.reserved
 
 pub returns-clause-answer : goal.returns-clause-answer
 returns-clause-answer g c = λ live position chunk stands at there. returns-clause-value g c
-
-pub returns-clause-still : goal.returns-clause-still
-returns-clause-still g c = refl
 
 same_place : (bucket : Layout) (place : ℕ) (old new : Layout) (answer : Result Chunk AllocationShrinkError) →
     MayShrink bucket place old new answer → IfOk answer (λ shrunk. shrunk.place ≡ place)
@@ -61,7 +33,7 @@ same_place bucket place old new (Err error) may = tt
 
 pub returns-clause-same_place : goal.returns-clause-same_place
 returns-clause-same_place g c =
-    same_place c.geometry.result.now.bucket c.args.place c.args.old c.args.new c.shrink.result c.shrink.ensures.answer
+    same_place c.self.inside.geometry.bucket c.args.place c.args.old c.args.new c.shrink.result c.shrink.ensures.answer
 
 long_enough : (bucket : Layout) (place : ℕ) (old new : Layout) (answer : Result Chunk AllocationShrinkError) →
     MayShrink bucket place old new answer → IfOk answer (λ shrunk. new.size ≤ shrunk.len)
@@ -70,7 +42,7 @@ long_enough bucket place old new (Err error) may = tt
 
 pub returns-clause-long_enough : goal.returns-clause-long_enough
 returns-clause-long_enough g c =
-    long_enough c.geometry.result.now.bucket c.args.place c.args.old c.args.new c.shrink.result c.shrink.ensures.answer
+    long_enough c.self.inside.geometry.bucket c.args.place c.args.old c.args.new c.shrink.result c.shrink.ensures.answer
 
 within_bucket : (bucket : Layout) (place : ℕ) (old new : Layout) (answer : Result Chunk AllocationShrinkError) →
     old.size ≤ bucket.size → MayShrink bucket place old new answer → IfOk answer (λ shrunk. shrunk.len ≤ bucket.size)
@@ -79,5 +51,5 @@ within_bucket bucket place old new (Err error) fits may = tt
 
 pub returns-clause-within : goal.returns-clause-within
 returns-clause-within g c =
-    within_bucket (g.S.HeldSet.pool c.args.self.now).geometry.bucket c.args.place c.args.old c.args.new c.shrink.result
+    within_bucket c.args.self.now.pool.geometry.bucket c.args.place c.args.old c.args.new c.shrink.result
     c.requires.reserved (returns-clause-value g c)

@@ -1,21 +1,21 @@
 use Rattle.std.proofs.Common.{◌≡◌, ◌∙◌, ◌+◌, ◌<◌, ℕ, ap, arith, length, subst, sym, List, Bool}
 use Rattle.std.proofs.lemmas.Bool.{false≢true}
 use Rattle.bb_memory.specs.NumberSet.{Has}
-use Rattle.bb_memory.specs.Pool.{Pool}
+use Rattle.bb_memory.specs.Pool.{CountedPool}
 use Rattle.bb_memory.proofs.HeldBuckets.{none-more, one-more}
-use Rattle.bb_memory.proofs.pool_allocator.buckets.Buckets.held_count.Goals as goal
-use Rattle.bb_memory.proofs.pool_allocator.buckets.Buckets.held_count.Goals.{then-has, else-has}
+use Rattle.bb_memory.proofs.pool_allocator.bucket_pool.BucketPool.held_buckets.Goals as goal
+use Rattle.bb_memory.proofs.pool_allocator.bucket_pool.BucketPool.held_buckets.Goals.{then-has, else-has}
 
 pub loop-number-preserved : goal.loop-number-preserved
 loop-number-preserved g c =
-    let pool = c.args.self.now in
+    let pool = c.args.self.now.pool in
     let number = c.loop-number.number in
     let before = c.loop-number.invariant in
-    let same = ap (λ (p : Pool). p.held) c.self.view_is in
+    let same = ap (λ (p : CountedPool). p.pool.held) c.self.view_is in
     let as_many : length pool.held ≡ pool.geometry.buckets =
-    ap length (sym same) ∙ c.self.invariant ∙ ap (λ (p : Pool). p.geometry.buckets) c.self.view_is in
+    ap length (sym same) ∙ c.self.invariant.0.flags ∙ ap (λ (p : CountedPool). p.pool.geometry.buckets) c.self.view_is in
     let below : number < length pool.held =
-    omega (arith, as_many, c.count-number-end.ensures.value, ap (λ (p : Pool). p.geometry.buckets) c.self.view_is, c.loop-number-test.true) in
+    omega (arith, as_many, c.count-number-end.ensures.value, ap (λ (p : CountedPool). p.pool.geometry.buckets) c.self.view_is, c.loop-number-test.true) in
     elim c.if-has.branch [
       | then-has w ↦ record {
         counted = w.held-is ∙ ap (λ (n : ℕ). n + 1) before.counted

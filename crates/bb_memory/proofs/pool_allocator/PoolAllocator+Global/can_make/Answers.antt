@@ -3,7 +3,7 @@ use Rattle.std.proofs.lemmas.Bool.{ltb-true, lt-ltb}
 use Rattle.bb_memory_base.specs.Region.{Region, IsRegion, region_at}
 use Rattle.bb_memory_base.specs.FirstPlace.{first_place}
 use Rattle.bb_memory.proofs.Cuts.{stride-positive, room_for, may-be-cut, may-be-cut-few}
-use Rattle.bb_memory.proofs.pool_allocator.geometry.may_be_cut.Goals as goal
+use Rattle.bb_memory.proofs.pool_allocator.PoolAllocator+Global.can_make.Goals as goal
 
 pub nonzero_div-result : goal.nonzero_div-result
 nonzero_div-result c = omega (arith, stride-positive c.args.bucket_layout)
