@@ -3,14 +3,19 @@ use crate::error::{AllocationError, AllocationGrowError, AllocationShrinkError};
 use core::alloc::Layout;
 use core::ptr::NonNull;
 
-/// What gives chunks of its region, and takes them back.
+/// Gives chunks of its region, and takes them back.
 pub trait BaseAllocator {
-    /// A chunk of at least `layout.size()` bytes at a multiple of `layout.align()`, which overlaps none that is out. Its bytes
-    /// are as they were in the region.
+    /// Returns a chunk of at least `layout.size()` bytes at a multiple of `layout.align()`, which overlaps none that is out. Its
+    /// bytes are as they were in the region.
     fn allocate(&self, layout: Layout) -> Result<NonNull<[u8]>, AllocationError>;
 
-    /// The same, with each byte zero.
-    fn allocate_zeroed(&self, layout: Layout) -> Result<NonNull<[u8]>, AllocationError>;
+    /// Returns a chunk as [`allocate`](BaseAllocator::allocate) does, with each byte zero.
+    fn allocate_zeroed(&self, layout: Layout) -> Result<NonNull<[u8]>, AllocationError> {
+        let chunk = self.allocate(layout)?;
+        // SAFETY: the chunk lies in the region, whose bytes may be written, and was given to nobody else.
+        unsafe { chunk.cast::<u8>().write_bytes(0, chunk.len()) };
+        Ok(chunk)
+    }
 
     /// Gives back the chunk that begins here; a bump takes all of its chunks back. Where none that is out begins here, nothing
     /// is done. The layout decides nothing.
@@ -21,9 +26,9 @@ pub trait BaseAllocator {
     unsafe fn deallocate(&self, ptr: NonNull<u8>, layout: Layout);
 }
 
-/// What also resizes chunks, where they are.
+/// Resizes chunks, where they are.
 pub trait Allocator: BaseAllocator {
-    /// The chunk that begins here gets the new size, or more, where as much is reserved for it. Its bytes stay.
+    /// Gives the chunk that begins here the new size, or more, where as much is reserved for it. Its bytes stay.
     ///
     /// # Safety
     ///
@@ -35,7 +40,7 @@ pub trait Allocator: BaseAllocator {
         new_layout: Layout,
     ) -> Result<NonNull<[u8]>, AllocationGrowError>;
 
-    /// The same, with each byte zero that the chunk didn't have.
+    /// Grows as [`grow`](Allocator::grow) does, with each byte zero that the chunk didn't have.
     ///
     /// # Safety
     ///
@@ -48,18 +53,13 @@ pub trait Allocator: BaseAllocator {
     ) -> Result<NonNull<[u8]>, AllocationGrowError> {
         // SAFETY: the caller keeps what `grow` asks.
         let chunk = unsafe { self.grow(ptr, old_layout, new_layout)? };
-        let added = chunk.len() - old_layout.size();
+        let (old, added) = (old_layout.size(), chunk.len() - old_layout.size());
         // SAFETY: the chunk is the caller's, and is longer than it was: a growing to no more is refused.
-        unsafe {
-            chunk
-                .cast::<u8>()
-                .add(old_layout.size())
-                .write_bytes(0, added)
-        };
+        unsafe { chunk.cast::<u8>().add(old).write_bytes(0, added) };
         Ok(chunk)
     }
 
-    /// The chunk that begins here gets exactly the new size. Its first bytes stay.
+    /// Gives the chunk that begins here exactly the new size. Its first bytes stay.
     ///
     /// # Safety
     ///
@@ -72,46 +72,23 @@ pub trait Allocator: BaseAllocator {
     ) -> Result<NonNull<[u8]>, AllocationShrinkError>;
 }
 
-/// Both traits, of a type whose `owned` is of a kind that keeps its chunks.
-macro_rules! keeps {
-    ([$($parameters:tt)*] $name:ty) => {
-        impl<$($parameters)*> $crate::BaseAllocator for $name {
-            fn allocate(&self, layout: Layout) -> Result<NonNull<[u8]>, $crate::AllocationError> {
-                self.owned.allocate(layout)
-            }
-
-            fn allocate_zeroed(
-                &self,
-                layout: Layout,
-            ) -> Result<NonNull<[u8]>, $crate::AllocationError> {
-                self.owned.allocate_zeroed(layout)
-            }
-
-            unsafe fn deallocate(&self, ptr: NonNull<u8>, _layout: Layout) {
-                let _ = self.owned.deallocate(ptr);
-            }
+/// Writes `info`, and a getter of each figure.
+macro_rules! figures {
+    ($info:ident by $call:ident: $($(#[$about:meta])* $figure:ident: $type:ty,)*) => {
+        /// Returns all figures.
+        pub fn info(&self) -> $crate::$info {
+            let mut info = $crate::$info::default();
+            // SAFETY: the function is of this kind, and no other call has the handle.
+            $crate::owned::expect_ok(unsafe { $crate::ffi::$call(self.owned.handle(), &mut info) });
+            info
         }
-
-        impl<$($parameters)*> $crate::Allocator for $name {
-            unsafe fn grow(
-                &self,
-                ptr: NonNull<u8>,
-                old_layout: Layout,
-                new_layout: Layout,
-            ) -> Result<NonNull<[u8]>, $crate::AllocationGrowError> {
-                self.owned.grow(ptr, old_layout, new_layout)
+        $(
+            $(#[$about])*
+            pub fn $figure(&self) -> $type {
+                self.info().$figure
             }
-
-            unsafe fn shrink(
-                &self,
-                ptr: NonNull<u8>,
-                old_layout: Layout,
-                new_layout: Layout,
-            ) -> Result<NonNull<[u8]>, $crate::AllocationShrinkError> {
-                self.owned.shrink(ptr, old_layout, new_layout)
-            }
-        }
+        )*
     };
 }
 
-pub(crate) use keeps;
+pub(crate) use figures;

@@ -1,25 +1,11 @@
-//! A bump with one owner.
-use crate::BaseAllocator;
-use crate::error::{AllocationError, MakeError};
-use crate::ffi;
-use crate::owned::{Gives, Kind, Owned};
+//! A bump with one owner, and a party of one that threads share.
+use crate::allocator::figures;
+use crate::error::{AllocationError, InitError};
+use crate::owned::{Owned, expect_ok};
+use crate::{BaseAllocator, ffi};
 use core::alloc::Layout;
-use core::marker::PhantomData;
 use core::mem::MaybeUninit;
 use core::ptr::NonNull;
-
-/// The kind of [`BumpAllocator`].
-pub(crate) enum Bump {}
-
-// SAFETY: all are functions of `bb_bump`.
-unsafe impl Kind for Bump {
-    const FREE: ffi::Free = ffi::bb_bump_free;
-}
-
-// SAFETY: as above.
-unsafe impl Gives for Bump {
-    const ALLOCATE: ffi::Allocate = ffi::bb_bump_allocate;
-}
 
 /// Gives one chunk after another, and takes all of them back at once. It refuses size 0.
 ///
@@ -58,77 +44,80 @@ unsafe impl Gives for Bump {
 /// ```
 #[derive(Debug)]
 pub struct BumpAllocator<'region> {
-    owned: Owned<Bump>,
-    region: PhantomData<&'region mut [MaybeUninit<u8>]>,
+    owned: Owned<'region>,
 }
 
 impl<'region> BumpAllocator<'region> {
-    /// A bump over this region, which is its own as long as it lives.
-    pub fn over(region: &'region mut [MaybeUninit<u8>]) -> Result<Self, MakeError> {
+    /// Makes a bump over this region, which is its own as long as it lives.
+    pub fn over(region: &'region mut [MaybeUninit<u8>]) -> Result<Self, InitError> {
         let region = NonNull::from(region);
         // SAFETY: the region is lent for as long as the bump lives.
         unsafe { Self::new(region.cast(), region.len()) }
     }
 
-    /// A bump over the `size` bytes at `ptr`.
+    /// Makes a bump over the `size` bytes at `ptr`.
     ///
     /// # Safety
     ///
     /// The bytes may be written through `ptr` for all of `'region`, and meanwhile nothing else uses them but through chunks
     /// that this bump gave.
-    pub unsafe fn new(ptr: NonNull<u8>, size: usize) -> Result<Self, MakeError> {
-        // SAFETY: the maker is of this kind.
-        let made = unsafe { Owned::made(ptr, |it, start| ffi::bb_bump_make(it, start, size)) };
-        Ok(BumpAllocator {
-            owned: made.map_err(MakeError::of)?,
-            region: PhantomData,
-        })
+    pub unsafe fn new(ptr: NonNull<u8>, size: usize) -> Result<Self, InitError> {
+        // SAFETY: both functions are of this kind.
+        let owned = unsafe {
+            Owned::init(ptr, ffi::bb_bump_destroy, |it, start| {
+                ffi::bb_bump_init(it, start, size)
+            })?
+        };
+        Ok(BumpAllocator { owned })
     }
 
-    /// What was made of a region that is lent for as long.
-    pub(crate) fn of(owned: Owned<Bump>) -> Self {
-        BumpAllocator {
-            owned,
-            region: PhantomData,
-        }
-    }
-
-    /// Where the region starts.
-    pub fn start_address(&self) -> usize {
-        // SAFETY: the function is of this kind, as those below are.
-        unsafe { self.owned.figure(ffi::bb_bump_start_address) }
-    }
-
-    /// How many bytes are used, the padding between chunks among them.
-    pub fn used_space(&self) -> usize {
-        // SAFETY: as above.
-        unsafe { self.owned.figure(ffi::bb_bump_used_space) }
-    }
-
-    /// How many bytes lie behind the last chunk.
-    pub fn free_space(&self) -> usize {
-        // SAFETY: as above.
-        unsafe { self.owned.figure(ffi::bb_bump_free_space) }
-    }
-
-    /// How many bytes the region has.
-    pub fn total_space(&self) -> usize {
-        // SAFETY: as above.
-        unsafe { self.owned.figure(ffi::bb_bump_total_space) }
+    figures! {
+        BumpInfo by bb_bump_info:
+        /// Returns the address of the region's start.
+        start_address: usize,
+        /// Returns how many bytes are used, the padding between chunks among them.
+        used_space: usize,
+        /// Returns how many bytes lie behind the last chunk.
+        free_space: usize,
+        /// Returns how many bytes the region has.
+        total_space: usize,
     }
 }
 
 impl BaseAllocator for BumpAllocator<'_> {
     fn allocate(&self, layout: Layout) -> Result<NonNull<[u8]>, AllocationError> {
-        self.owned.allocate(layout)
-    }
-
-    fn allocate_zeroed(&self, layout: Layout) -> Result<NonNull<[u8]>, AllocationError> {
-        self.owned.allocate_zeroed(layout)
+        // SAFETY: the function is of this kind.
+        unsafe { self.owned.allocate(ffi::bb_bump_allocate, layout) }
     }
 
     unsafe fn deallocate(&self, _ptr: NonNull<u8>, _layout: Layout) {
-        // SAFETY: the function is of this kind. It answers that it is done, since the handle isn't empty.
-        unsafe { ffi::bb_bump_deallocate(self.owned.handle()) };
+        // SAFETY: the function is of this kind, and no other call has the handle.
+        expect_ok(unsafe { ffi::bb_bump_deallocate(self.owned.handle()) });
+    }
+}
+
+/// A party of a [`SharedBumpAllocator`](crate::SharedBumpAllocator), for one thread at a time. It refuses size 0.
+#[derive(Debug)]
+pub struct BumpParty<'region> {
+    pub(crate) owned: Owned<'region>,
+}
+
+impl BumpParty<'_> {
+    /// Returns a chunk of exactly `layout.size()` bytes at the least multiple of `layout.align()` behind what is used.
+    pub fn allocate(&self, layout: Layout) -> Result<NonNull<[u8]>, AllocationError> {
+        // SAFETY: the function is of this kind.
+        unsafe { self.owned.allocate(ffi::bb_bump_party_allocate, layout) }
+    }
+
+    figures! {
+        BumpInfo by bb_bump_party_info:
+        /// Returns the address of the region's start.
+        start_address: usize,
+        /// Returns how many bytes one look found to be used, the padding between chunks among them.
+        used_space: usize,
+        /// Returns how many bytes one look found behind the last chunk.
+        free_space: usize,
+        /// Returns how many bytes the region has.
+        total_space: usize,
     }
 }

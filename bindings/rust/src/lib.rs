@@ -10,17 +10,16 @@ mod ffi;
 mod one_chunk;
 mod owned;
 mod pool;
-mod shared_bump;
-mod shared_pool;
+mod shared;
 
 pub use allocator::{Allocator, BaseAllocator};
-pub use bump::BumpAllocator;
+pub use bump::{BumpAllocator, BumpParty};
 pub use detached::DetachedBucket;
 pub use error::{
-    AllocationError, AllocationGrowError, AllocationShrinkError, BeginError, DeallocationError,
-    DetachError, MakeError, SeatError,
+    AllocationError, AllocationGrowError, AllocationShrinkError, DeallocationError, DetachError,
+    InitError, JoinError, ResetError,
 };
+pub use ffi::{BumpInfo, OneChunkInfo, PoolInfo};
 pub use one_chunk::OneChunkAllocator;
-pub use pool::{BucketPool, FixedSizePoolAllocator, PoolAllocator};
-pub use shared_bump::{BumpSeat, SharedBumpAllocator};
-pub use shared_pool::{PoolSeat, SharedPoolAllocator};
+pub use pool::{PoolAllocator, PoolParty};
+pub use shared::{SharedBumpAllocator, SharedPoolAllocator};

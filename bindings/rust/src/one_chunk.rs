@@ -1,33 +1,13 @@
 //! One chunk at a time.
-use crate::allocator::keeps;
-use crate::error::{DeallocationError, MakeError};
-use crate::ffi;
-use crate::owned::{Gives, Keeps, Kind, Owned};
+use crate::allocator::{Allocator, figures};
+use crate::error::{
+    AllocationError, AllocationGrowError, AllocationShrinkError, DeallocationError, InitError,
+};
+use crate::owned::{Owned, is_so};
+use crate::{BaseAllocator, ffi};
 use core::alloc::Layout;
-use core::marker::PhantomData;
 use core::mem::MaybeUninit;
 use core::ptr::NonNull;
-
-enum OneChunk {}
-
-// SAFETY: all are functions of `bb_one_chunk`.
-unsafe impl Kind for OneChunk {
-    const FREE: ffi::Free = ffi::bb_one_chunk_free;
-}
-
-// SAFETY: as above.
-unsafe impl Gives for OneChunk {
-    const ALLOCATE: ffi::Allocate = ffi::bb_one_chunk_allocate;
-}
-
-// SAFETY: as above.
-unsafe impl Keeps for OneChunk {
-    const DEALLOCATE: ffi::Deallocate = ffi::bb_one_chunk_deallocate;
-    const GROW: ffi::Resize = ffi::bb_one_chunk_grow;
-    const SHRINK: ffi::Resize = ffi::bb_one_chunk_shrink;
-    const RESERVED: ffi::TellAt = ffi::bb_one_chunk_reserved;
-    const HOLDS: ffi::TellAt = ffi::bb_one_chunk_holds;
-}
 
 /// Gives all of its region, from the first multiple of the asked alignment on, to one request at a time.
 ///
@@ -47,58 +27,46 @@ unsafe impl Keeps for OneChunk {
 /// ```
 #[derive(Debug)]
 pub struct OneChunkAllocator<'region> {
-    owned: Owned<OneChunk>,
-    region: PhantomData<&'region mut [MaybeUninit<u8>]>,
+    owned: Owned<'region>,
 }
 
 impl<'region> OneChunkAllocator<'region> {
-    /// One chunk over this region, which is its own as long as it lives.
-    pub fn over(region: &'region mut [MaybeUninit<u8>]) -> Result<Self, MakeError> {
+    /// Makes one chunk over this region, which is its own as long as it lives.
+    pub fn over(region: &'region mut [MaybeUninit<u8>]) -> Result<Self, InitError> {
         let region = NonNull::from(region);
         // SAFETY: the region is lent for as long as the allocator lives.
         unsafe { Self::new(region.cast(), region.len()) }
     }
 
-    /// One chunk over the `size` bytes at `ptr`.
+    /// Makes one chunk over the `size` bytes at `ptr`.
     ///
     /// # Safety
     ///
     /// As of [`BumpAllocator::new`](crate::BumpAllocator::new).
-    pub unsafe fn new(ptr: NonNull<u8>, size: usize) -> Result<Self, MakeError> {
-        // SAFETY: the maker is of this kind.
-        let made = unsafe { Owned::made(ptr, |it, start| ffi::bb_one_chunk_make(it, start, size)) };
-        Ok(OneChunkAllocator {
-            owned: made.map_err(MakeError::of)?,
-            region: PhantomData,
-        })
+    pub unsafe fn new(ptr: NonNull<u8>, size: usize) -> Result<Self, InitError> {
+        // SAFETY: both functions are of this kind.
+        let owned = unsafe {
+            Owned::init(ptr, ffi::bb_one_chunk_destroy, |it, start| {
+                ffi::bb_one_chunk_init(it, start, size)
+            })?
+        };
+        Ok(OneChunkAllocator { owned })
     }
 
-    /// Whether no chunk is out.
-    pub fn has_chunk_available(&self) -> bool {
-        // SAFETY: the function is of this kind, as those below are.
-        unsafe { self.owned.figure(ffi::bb_one_chunk_has_chunk_available) == 1 }
+    figures! {
+        OneChunkInfo by bb_one_chunk_info:
+        /// Returns the address of the region's start.
+        start_address: usize,
+        /// Returns how many bytes the region has.
+        size: usize,
+        /// Returns whether no chunk is out.
+        has_chunk_available: bool,
     }
 
-    /// Where the region starts.
-    pub fn start_address(&self) -> usize {
-        // SAFETY: as above.
-        unsafe { self.owned.figure(ffi::bb_one_chunk_start_address) }
-    }
-
-    /// How many bytes the region has.
-    pub fn size(&self) -> usize {
-        // SAFETY: as above.
-        unsafe { self.owned.figure(ffi::bb_one_chunk_size) }
-    }
-
-    /// Whether the chunk that is out begins here.
+    /// Returns whether the chunk that is out begins here.
     pub fn holds(&self, ptr: NonNull<u8>) -> bool {
-        self.owned.holds(ptr)
-    }
-
-    /// How many bytes are reserved for the chunk that begins here: all of the region from it on.
-    pub fn reserved(&self, ptr: NonNull<u8>) -> Option<usize> {
-        self.owned.reserved(ptr)
+        // SAFETY: the function is of this kind, and no other call has the handle.
+        is_so(unsafe { ffi::bb_one_chunk_holds(self.owned.handle(), ptr.as_ptr().cast()) })
     }
 
     /// Gives back the chunk that begins here, and tells where none does.
@@ -107,8 +75,64 @@ impl<'region> OneChunkAllocator<'region> {
     ///
     /// Nothing reads or writes its bytes from now on.
     pub unsafe fn try_deallocate(&self, ptr: NonNull<u8>) -> Result<(), DeallocationError> {
-        self.owned.deallocate(ptr)
+        // SAFETY: as of `holds`.
+        let code =
+            unsafe { ffi::bb_one_chunk_deallocate(self.owned.handle(), ptr.as_ptr().cast()) };
+        DeallocationError::unless_ok(code)
+    }
+
+    fn resize(
+        &self,
+        resize: ffi::Resize,
+        place: NonNull<u8>,
+        old: Layout,
+        new: Layout,
+    ) -> Result<NonNull<[u8]>, u32> {
+        let (handle, place) = (self.owned.handle(), place.as_ptr().cast());
+        // SAFETY: as of `holds`: `grow` and `shrink` hand in functions of this kind.
+        self.owned.chunk(unsafe {
+            resize(
+                handle,
+                place,
+                old.size(),
+                old.align(),
+                new.size(),
+                new.align(),
+            )
+        })
     }
 }
 
-keeps!([] OneChunkAllocator<'_>);
+impl BaseAllocator for OneChunkAllocator<'_> {
+    fn allocate(&self, layout: Layout) -> Result<NonNull<[u8]>, AllocationError> {
+        // SAFETY: the function is of this kind.
+        unsafe { self.owned.allocate(ffi::bb_one_chunk_allocate, layout) }
+    }
+
+    unsafe fn deallocate(&self, ptr: NonNull<u8>, _layout: Layout) {
+        // SAFETY: the caller keeps what `try_deallocate` asks.
+        let _ = unsafe { self.try_deallocate(ptr) };
+    }
+}
+
+impl Allocator for OneChunkAllocator<'_> {
+    unsafe fn grow(
+        &self,
+        ptr: NonNull<u8>,
+        old_layout: Layout,
+        new_layout: Layout,
+    ) -> Result<NonNull<[u8]>, AllocationGrowError> {
+        self.resize(ffi::bb_one_chunk_grow, ptr, old_layout, new_layout)
+            .map_err(AllocationGrowError::of)
+    }
+
+    unsafe fn shrink(
+        &self,
+        ptr: NonNull<u8>,
+        old_layout: Layout,
+        new_layout: Layout,
+    ) -> Result<NonNull<[u8]>, AllocationShrinkError> {
+        self.resize(ffi::bb_one_chunk_shrink, ptr, old_layout, new_layout)
+            .map_err(AllocationShrinkError::of)
+    }
+}

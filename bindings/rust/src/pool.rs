@@ -1,175 +1,113 @@
-//! Pools of buckets: with one owner, and what a seat at a shared one has in common with them.
-use crate::allocator::keeps;
-use crate::error::{DeallocationError, MakeError};
-use crate::ffi::{self, Handle};
-use crate::owned::{Gives, Keeps, Kind, Owned};
+//! Pools of buckets: one with one owner, and a party of one that threads share.
+use crate::allocator::figures;
+use crate::error::{AllocationError, DeallocationError, InitError};
+use crate::owned::{Owned, is_so, number_if};
+use crate::{BaseAllocator, ffi};
 use core::alloc::Layout;
-use core::ffi::c_void;
-use core::marker::PhantomData;
 use core::mem::MaybeUninit;
 use core::ptr::NonNull;
 
-/// A kind that cuts its region into buckets.
-///
-/// # Safety
-///
-/// As of [`Gives`].
-pub unsafe trait PoolKind: Keeps {
-    const NUMBER_OF_BUCKETS: ffi::Tell;
-    const HELD_BUCKETS: ffi::Tell;
-    const BUCKET_SIZE: ffi::Tell;
-    const MAX_ALIGNMENT: ffi::Tell;
-    const SIZE: ffi::Tell;
-    const PLACE_AT: ffi::TellOf;
-    const NUMBER_AT: ffi::TellAt;
+/// Writes what a pool and a party of one have in common.
+macro_rules! buckets {
+    ($name:ident: $allocate:ident $deallocate:ident $holds:ident $info:ident $place_at:ident $number_at:ident) => {
+        impl $name<'_> {
+            figures! {
+                PoolInfo by $info:
+                /// Returns the address of bucket 0: the region's start, rounded up to the bucket's alignment.
+                start_address: usize,
+                /// Returns how many bytes the region has, padding in front included.
+                size: usize,
+                /// Returns the size of a bucket, as it was asked for.
+                bucket_size: usize,
+                /// Returns the greatest alignment that a request may have, which is the bucket's.
+                max_alignment: usize,
+                /// Returns how many buckets there are.
+                number_of_buckets: usize,
+                /// Returns how many buckets are held; of a party, how many it holds. Each bucket is looked at.
+                held_buckets: usize,
+            }
+
+            /// Returns where the bucket of this number begins, from 0 on, held or not; `None` where there is no such bucket.
+            pub fn place_at(&self, number: u32) -> Option<NonNull<u8>> {
+                // SAFETY: the function is of this kind, and no other call has the handle, here and below.
+                let told = unsafe { ffi::$place_at(self.owned.handle(), number) };
+                number_if(ffi::NOT_A_BUCKET, told).map(|place| self.owned.at(place))
+            }
+
+            /// Returns the number of the bucket that begins here, held or not; `None` where none does.
+            pub fn number_at(&self, ptr: NonNull<u8>) -> Option<u32> {
+                // SAFETY: as above. A bucket's number is a `u32`.
+                let told = unsafe { ffi::$number_at(self.owned.handle(), ptr.as_ptr().cast()) };
+                number_if(ffi::NOT_A_BUCKET, told).map(|number| number as u32)
+            }
+
+            /// Returns whether a held bucket begins here; of a party, one that it holds.
+            pub fn holds(&self, ptr: NonNull<u8>) -> bool {
+                // SAFETY: as above.
+                is_so(unsafe { ffi::$holds(self.owned.handle(), ptr.as_ptr().cast()) })
+            }
+
+            /// Gives back the bucket that begins here, and tells where no held one does.
+            ///
+            /// # Safety
+            ///
+            /// Nothing reads or writes its bytes from now on.
+            pub unsafe fn try_deallocate(&self, ptr: NonNull<u8>) -> Result<(), DeallocationError> {
+                // SAFETY: as above.
+                let code = unsafe { ffi::$deallocate(self.owned.handle(), ptr.as_ptr().cast()) };
+                DeallocationError::unless_ok(code)
+            }
+        }
+
+        impl BaseAllocator for $name<'_> {
+            fn allocate(&self, layout: Layout) -> Result<NonNull<[u8]>, AllocationError> {
+                // SAFETY: the function is of this kind.
+                unsafe { self.owned.allocate(ffi::$allocate, layout) }
+            }
+
+            unsafe fn deallocate(&self, ptr: NonNull<u8>, _layout: Layout) {
+                // SAFETY: the caller keeps what `try_deallocate` asks.
+                let _ = unsafe { self.try_deallocate(ptr) };
+            }
+        }
+    };
 }
 
-/// Makes a pool of buckets of this size and alignment, over the region of so many bytes that starts here.
-type MakePool = unsafe extern "C" fn(*mut Handle, usize, usize, start: *const c_void, usize) -> u32;
-
-/// A kind that is made without parties.
-///
-/// # Safety
-///
-/// As of [`Gives`].
-pub unsafe trait OwnPoolKind: PoolKind {
-    const MAKE: MakePool;
-}
-
-/// The kind of [`PoolAllocator`].
-#[derive(Debug)]
-pub enum Pool {}
-
-/// The kind of [`FixedSizePoolAllocator`].
-#[derive(Debug)]
-pub enum FixedPool {}
-
-// SAFETY: all are functions of `bb_pool`.
-unsafe impl Kind for Pool {
-    const FREE: ffi::Free = ffi::bb_pool_free;
-}
-
-// SAFETY: as above.
-unsafe impl Gives for Pool {
-    const ALLOCATE: ffi::Allocate = ffi::bb_pool_allocate;
-}
-
-// SAFETY: as above.
-unsafe impl Keeps for Pool {
-    const DEALLOCATE: ffi::Deallocate = ffi::bb_pool_deallocate;
-    const GROW: ffi::Resize = ffi::bb_pool_grow;
-    const SHRINK: ffi::Resize = ffi::bb_pool_shrink;
-    const RESERVED: ffi::TellAt = ffi::bb_pool_reserved;
-    const HOLDS: ffi::TellAt = ffi::bb_pool_holds;
-}
-
-// SAFETY: as above.
-unsafe impl PoolKind for Pool {
-    const NUMBER_OF_BUCKETS: ffi::Tell = ffi::bb_pool_number_of_buckets;
-    const HELD_BUCKETS: ffi::Tell = ffi::bb_pool_held_buckets;
-    const BUCKET_SIZE: ffi::Tell = ffi::bb_pool_bucket_size;
-    const MAX_ALIGNMENT: ffi::Tell = ffi::bb_pool_max_alignment;
-    const SIZE: ffi::Tell = ffi::bb_pool_size;
-    const PLACE_AT: ffi::TellOf = ffi::bb_pool_place_at;
-    const NUMBER_AT: ffi::TellAt = ffi::bb_pool_number_at;
-}
-
-// SAFETY: as above.
-unsafe impl OwnPoolKind for Pool {
-    const MAKE: MakePool = ffi::bb_pool_make;
-}
-
-// SAFETY: all are functions of `bb_fixed_pool`.
-unsafe impl Kind for FixedPool {
-    const FREE: ffi::Free = ffi::bb_fixed_pool_free;
-}
-
-// SAFETY: as above.
-unsafe impl Gives for FixedPool {
-    const ALLOCATE: ffi::Allocate = ffi::bb_fixed_pool_allocate;
-}
-
-// SAFETY: as above.
-unsafe impl Keeps for FixedPool {
-    const DEALLOCATE: ffi::Deallocate = ffi::bb_fixed_pool_deallocate;
-    const GROW: ffi::Resize = ffi::bb_fixed_pool_grow;
-    const SHRINK: ffi::Resize = ffi::bb_fixed_pool_shrink;
-    const RESERVED: ffi::TellAt = ffi::bb_fixed_pool_reserved;
-    const HOLDS: ffi::TellAt = ffi::bb_fixed_pool_holds;
-}
-
-// SAFETY: as above.
-unsafe impl PoolKind for FixedPool {
-    const NUMBER_OF_BUCKETS: ffi::Tell = ffi::bb_fixed_pool_number_of_buckets;
-    const HELD_BUCKETS: ffi::Tell = ffi::bb_fixed_pool_held_buckets;
-    const BUCKET_SIZE: ffi::Tell = ffi::bb_fixed_pool_bucket_size;
-    const MAX_ALIGNMENT: ffi::Tell = ffi::bb_fixed_pool_max_alignment;
-    const SIZE: ffi::Tell = ffi::bb_fixed_pool_size;
-    const PLACE_AT: ffi::TellOf = ffi::bb_fixed_pool_place_at;
-    const NUMBER_AT: ffi::TellAt = ffi::bb_fixed_pool_number_at;
-}
-
-// SAFETY: as above.
-unsafe impl OwnPoolKind for FixedPool {
-    const MAKE: MakePool = ffi::bb_fixed_pool_make;
-}
-
-/// Buckets of one layout over a region, or a seat at some: a bucket serves a request.
-#[derive(Debug)]
-pub struct BucketPool<'region, K: PoolKind> {
-    pub(crate) owned: Owned<K>,
-    pub(crate) region: PhantomData<&'region mut [MaybeUninit<u8>]>,
-}
-
-/// Gives buckets of one layout. What it knows of its buckets is in memory of `malloc`, which the maker takes.
+/// Gives buckets of one layout. What it knows of its buckets is in memory of `malloc`.
 ///
 /// ```
 /// use bb_memory::{BaseAllocator, PoolAllocator};
 /// use core::alloc::Layout;
 ///
 /// let mut region = Box::new_uninit_slice(1024);
-/// let bucket = Layout::from_size_align(128, 8)?;
+/// let bucket = Layout::from_size_align(128, 1)?;
 /// let pool = PoolAllocator::over(bucket, &mut region)?;
-/// let chunk = pool.allocate(Layout::new::<[u32; 12]>())?;
+/// let chunk = pool.allocate(Layout::new::<[u8; 48]>())?;
 /// assert_eq!(chunk.len(), 48);
+/// let number = pool.number_at(chunk.cast()).unwrap();
+/// assert_eq!(pool.place_at(number), Some(chunk.cast()));
 /// // The chunk isn't used again.
 /// unsafe { pool.deallocate(chunk.cast(), bucket) };
 /// assert!(!pool.holds(chunk.cast()));
 /// # Ok::<(), Box<dyn std::error::Error>>(())
 /// ```
-pub type PoolAllocator<'region> = BucketPool<'region, Pool>;
-
-/// The same of at most [`MAX_NUMBER_OF_BUCKETS`](FixedSizePoolAllocator::MAX_NUMBER_OF_BUCKETS) buckets, which keeps what it
-/// knows of them in one block. Of a larger region it uses the first ones alone.
-///
-/// ```
-/// use bb_memory::FixedSizePoolAllocator;
-/// use core::alloc::Layout;
-///
-/// let mut region = Box::new_uninit_slice(1024);
-/// let pool = FixedSizePoolAllocator::over(Layout::from_size_align(1, 1)?, &mut region)?;
-/// assert_eq!(pool.number_of_buckets(), FixedSizePoolAllocator::MAX_NUMBER_OF_BUCKETS);
-/// # Ok::<(), Box<dyn std::error::Error>>(())
-/// ```
-pub type FixedSizePoolAllocator<'region> = BucketPool<'region, FixedPool>;
-
-impl FixedSizePoolAllocator<'_> {
-    /// How many buckets it has at most.
-    pub const MAX_NUMBER_OF_BUCKETS: u32 = 512;
+#[derive(Debug)]
+pub struct PoolAllocator<'region> {
+    owned: Owned<'region>,
 }
 
-impl<'region, K: OwnPoolKind> BucketPool<'region, K> {
-    /// A pool over this region, which is its own as long as it lives. It is cut into buckets of this layout.
+impl<'region> PoolAllocator<'region> {
+    /// Makes a pool over this region, which is its own as long as it lives. It is cut into buckets of this layout.
     pub fn over(
         bucket_layout: Layout,
         region: &'region mut [MaybeUninit<u8>],
-    ) -> Result<Self, MakeError> {
+    ) -> Result<Self, InitError> {
         let region = NonNull::from(region);
         // SAFETY: the region is lent for as long as the pool lives.
         unsafe { Self::new(bucket_layout, region.cast(), region.len()) }
     }
 
-    /// A pool over the `size` bytes at `ptr`.
+    /// Makes a pool over the `size` bytes at `ptr`.
     ///
     /// # Safety
     ///
@@ -178,110 +116,41 @@ impl<'region, K: OwnPoolKind> BucketPool<'region, K> {
         bucket_layout: Layout,
         ptr: NonNull<u8>,
         size: usize,
-    ) -> Result<Self, MakeError> {
+    ) -> Result<Self, InitError> {
         let (bucket_size, align) = (bucket_layout.size(), bucket_layout.align());
-        // SAFETY: the maker is of this kind.
-        let made = unsafe {
-            Owned::made(ptr, |it, start| {
-                K::MAKE(it, bucket_size, align, start, size)
-            })
+        // SAFETY: both functions are of this kind.
+        let owned = unsafe {
+            Owned::init(ptr, ffi::bb_pool_destroy, |it, start| {
+                ffi::bb_pool_init(it, bucket_size, align, start, size)
+            })?
         };
-        Ok(BucketPool {
-            owned: made.map_err(MakeError::of)?,
-            region: PhantomData,
-        })
+        Ok(PoolAllocator { owned })
     }
 }
 
-impl<K: PoolKind> BucketPool<'_, K> {
-    /// How many buckets there are.
-    pub fn number_of_buckets(&self) -> u32 {
-        // SAFETY: the function is of this kind, as those below are. There are less than `u32::MAX` buckets.
-        unsafe { self.owned.figure(K::NUMBER_OF_BUCKETS) as u32 }
-    }
-
-    /// How many buckets are held; of a seat at a shared pool, by this seat. Each bucket is looked at.
-    pub fn held_buckets(&self) -> u32 {
-        // SAFETY: as above.
-        unsafe { self.owned.figure(K::HELD_BUCKETS) as u32 }
-    }
-
-    /// The size of a bucket, as it was asked for.
-    pub fn bucket_size(&self) -> usize {
-        // SAFETY: as above.
-        unsafe { self.owned.figure(K::BUCKET_SIZE) }
-    }
-
-    /// The greatest alignment that a request may have, which is the bucket's.
-    pub fn max_alignment(&self) -> usize {
-        // SAFETY: as above.
-        unsafe { self.owned.figure(K::MAX_ALIGNMENT) }
-    }
-
-    /// How many bytes the region has, padding in front included.
-    pub fn size(&self) -> usize {
-        // SAFETY: as above.
-        unsafe { self.owned.figure(K::SIZE) }
-    }
-
-    /// Where bucket 0 is: the region's start, rounded up to the bucket's alignment.
-    pub fn start_address(&self) -> usize {
-        let start = self.owned.start().addr().get();
-        start.next_multiple_of(self.max_alignment())
-    }
-
-    /// Where the bucket of this number begins, from 0 on, held or not; `None` where there is no such bucket.
-    ///
-    /// ```
-    /// use bb_memory::{BaseAllocator, PoolAllocator};
-    /// use core::alloc::Layout;
-    ///
-    /// let mut region = Box::new_uninit_slice(1024);
-    /// let pool = PoolAllocator::over(Layout::from_size_align(128, 1)?, &mut region)?;
-    /// let chunk = pool.allocate(Layout::new::<u8>())?.cast();
-    /// let number = pool.number_at(chunk).unwrap();
-    /// assert_eq!(pool.place_at(number), Some(chunk));
-    /// assert_eq!(pool.place_at(pool.number_of_buckets()), None);
-    /// # Ok::<(), Box<dyn std::error::Error>>(())
-    /// ```
-    pub fn place_at(&self, number: u32) -> Option<NonNull<u8>> {
-        // SAFETY: as above.
-        let told = unsafe {
-            self.owned
-                .figure_if(ffi::NOT_A_BUCKET, |it| K::PLACE_AT(it, number))
-        };
-        told.map(|place| self.owned.at(place))
-    }
-
-    /// The number of the bucket that begins here, held or not; `None` where none does.
-    pub fn number_at(&self, ptr: NonNull<u8>) -> Option<u32> {
-        let place = ptr.as_ptr().cast();
-        // SAFETY: as above. A bucket's number is a `u32`.
-        let told = unsafe {
-            self.owned
-                .figure_if(ffi::NOT_A_BUCKET, |it| K::NUMBER_AT(it, place))
-        };
-        told.map(|number| number as u32)
-    }
-
-    /// Whether a held bucket begins here; of a seat, one that this seat holds.
-    pub fn holds(&self, ptr: NonNull<u8>) -> bool {
-        self.owned.holds(ptr)
-    }
-
-    /// How many bytes are reserved for the chunk that begins here: the bucket's size.
-    pub fn reserved(&self, ptr: NonNull<u8>) -> Option<usize> {
-        self.owned.reserved(ptr)
-    }
-
-    /// Gives back the bucket that begins here, and tells where no held one does.
-    ///
-    /// # Safety
-    ///
-    /// Nothing reads or writes its bytes from now on.
-    pub unsafe fn try_deallocate(&self, ptr: NonNull<u8>) -> Result<(), DeallocationError> {
-        self.owned.deallocate(ptr)
-    }
+buckets! {
+    PoolAllocator: bb_pool_allocate bb_pool_deallocate bb_pool_holds bb_pool_info bb_pool_place_at bb_pool_number_at
 }
 
-keeps!([K: PoolKind] BucketPool<'_, K>);
+/// A party of a [`SharedPoolAllocator`](crate::SharedPoolAllocator), for one thread at a time. A bucket is given back through the
+/// party that holds it: the one that took it, or one that attached it. What a dropped party holds stays held for good.
+///
+/// ```compile_fail,E0277
+/// # use bb_memory::SharedPoolAllocator;
+/// # use core::alloc::Layout;
+/// let mut region = Box::new_uninit_slice(1024);
+/// let pool = SharedPoolAllocator::over(Layout::new::<u64>(), &mut region, 2).unwrap();
+/// let party = pool.join().unwrap();
+/// std::thread::scope(|scope| {
+///     scope.spawn(|| party.number_of_buckets());
+/// });
+/// ```
+#[derive(Debug)]
+pub struct PoolParty<'region> {
+    pub(crate) owned: Owned<'region>,
+}
+
+buckets! {
+    PoolParty: bb_pool_party_allocate bb_pool_party_deallocate bb_pool_party_holds bb_pool_party_info bb_pool_party_place_at
+    bb_pool_party_number_at
+}

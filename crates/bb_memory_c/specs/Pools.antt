@@ -1,16 +1,11 @@
 -- A pool behind a handle, and what its requests are answered.
 use Rattle.std.specs.Prelude.{◌≡◌, Option, Some}
 use Rattle.bb_memory_base.specs.Region.{Region}
-use Rattle.bb_memory_base.specs.PoolGeometry.{PoolGeometry, IsCut, at_most}
+use Rattle.bb_memory_base.specs.PoolGeometry.{PoolGeometry, IsCut}
 use Rattle.bb_memory_base.specs.declared.layout.Layout.{Layout}
-use Rattle.bb_memory.specs.Pool.{CountedPool, Pool, counted, fresh_pool}
+use Rattle.bb_memory.specs.Pool.{CountedPool, counted, fresh_pool}
 
 -- a fresh pool over the region, cut into buckets of the layout
 abbrev pub MakesPool : Region → Layout → Option CountedPool → Type 0
 MakesPool region bucket new = (geometry : PoolGeometry)
     × IsCut region bucket geometry × (new ≡ Some (counted (fresh_pool geometry) 0))
-
--- the same of at most 512 buckets, in a pool that keeps its flags in itself
-abbrev pub MakesFlagsPool : Region → Layout → Option Pool → Type 0
-MakesFlagsPool region bucket new = (whole : PoolGeometry)
-    × IsCut region bucket whole × (new ≡ Some (fresh_pool (at_most 512 whole)))

@@ -1,14 +1,7 @@
 -- The types of what is made behind a handle.
 use denote.RattleType.{RattleType}
-use denote.Builtin.{unit}
-use denote.Param.{number}
 use Rattle.bb_memory.specs.contracts.bump_allocator.BumpAllocator as bump
 use Rattle.bb_memory.specs.contracts.one_chunk_allocator.OneChunkAllocator as one_chunk
-use Rattle.bb_memory.specs.contracts.index_set.flags.Flags as flags
-use Rattle.bb_memory.specs.contracts.index_set.flags.FlagsIndexSet.TheImpl as flags_set
-use Rattle.bb_memory.specs.contracts.pool_allocator.bucket_pool.BucketPool as pool
-use Rattle.bb_memory.specs.contracts.pool_allocator.held_set.PoolView as view
-use Rattle.bb_memory.specs.contracts.pool_allocator.held_set.FlagsHeldSet.TheImpl as held_flags
 use Rattle.bb_memory_c.specs.contracts.pool.Pool as counted_pool
 
 abbrev pub bump_row : RattleType
@@ -19,7 +12,3 @@ one_chunk_row = one_chunk.the_row
 
 abbrev pub pool_row : RattleType
 pool_row = counted_pool.the_row
-
-abbrev pub flags_pool_row : RattleType
-flags_pool_row = pool.the_row (flags.the_row (number 512)) view.the_row unit (held_flags.ghosts (number 512))
-    (flags_set.ghosts (number 512))
