@@ -1,24 +1,28 @@
 // Allocators over a region of the host's own, for C (C99 or later) and C++ (C++11 or later), on Linux with an x86-64-v2
 // processor. The contract of each function is proved, for every caller that keeps the rules below.
 //
+//     #include <stdio.h>
+//     #include <string.h>
 //     #include "bb_memory.h"
 //
-//     static _Alignas(8) unsigned char buffer[BB_BYTES_FOR(128, 8, 64)];   // room for 64 buckets of 128 bytes
+//     static uint64_t region[BB_BYTES_FOR(128, 8, 64) / 8];               // room for 64 buckets of 128 bytes
 //
 //     int main(void) {
 //         bb_pool pool = BB_EMPTY;                                         // a handle; it is passed by its address
-//         uint32_t code = bb_pool_init(&pool, 128, 8, buffer, sizeof buffer);
+//         uint32_t code = bb_pool_init(&pool, 128, 8, region, sizeof region);
 //         if (code != BB_OK) {
 //             fprintf(stderr, "no pool: %s\n", bb_text(code));
 //             return 1;
 //         }
 //         bb_answer chunk = bb_pool_allocate(&pool, 48, 8);                // 48 bytes at a multiple of 8
-//         if (chunk.code == BB_OK) memset(chunk.place, 0, chunk.len);
+//         if (chunk.code != BB_OK) return 1;
+//         memset(chunk.place, 0, chunk.len);
 //         struct bb_pool_info info;
-//         bb_pool_info(&pool, &info);
-//         printf("%zu of %zu buckets are held\n", info.held_buckets, info.number_of_buckets);
-//         if (bb_pool_deallocate(&pool, chunk.place) != BB_OK) return 1;   // a wild or a second return is a code
+//         if (bb_pool_info(&pool, &info) != BB_OK || info.held_buckets != 1) return 1;
+//         if (bb_pool_deallocate(&pool, chunk.place) != BB_OK) return 1;
+//         if (bb_pool_deallocate(&pool, chunk.place) == BB_OK) return 1;   // a second or a wild return is refused by a code
 //         bb_pool_destroy(&pool);
+//         return 0;
 //     }
 //
 // | Handle                                 | Gives                                               | Takes back              |

@@ -72,23 +72,136 @@ pub trait Allocator: BaseAllocator {
     ) -> Result<NonNull<[u8]>, AllocationShrinkError>;
 }
 
-/// Writes `info`, and a getter of each figure.
-macro_rules! figures {
-    ($info:ident by $call:ident: $($(#[$about:meta])* $figure:ident: $type:ty,)*) => {
-        /// Returns all figures.
-        pub fn info(&self) -> $crate::$info {
-            let mut info = $crate::$info::default();
-            // SAFETY: the function is of this kind, and no other call has the handle.
-            $crate::owned::expect_ok(unsafe { $crate::ffi::$call(self.owned.handle(), &mut info) });
-            info
+/// Defines an allocator over a region. In brackets stand the parameters in front of the region and behind it.
+macro_rules! allocator {
+    (
+        $(#[$about:meta])*
+        $name:ident [$($front:ident: $front_type:ty)?] [$($last:ident: $last_type:ty)?]
+        by $init:ident[$($layout:expr),*], $destroy:ident
+    ) => {
+        $(#[$about])*
+        #[derive(Debug)]
+        pub struct $name<'region> {
+            owned: Owned<'region>,
         }
-        $(
-            $(#[$about])*
-            pub fn $figure(&self) -> $type {
-                self.info().$figure
+
+        impl<'region> $name<'region> {
+            /// Makes it over this region, which is its own and its parties' as long as one of them lives.
+            pub fn over(
+                $($front: $front_type,)?
+                region: &'region mut [MaybeUninit<u8>],
+                $($last: $last_type,)?
+            ) -> Result<Self, InitError> {
+                let region = NonNull::from(region);
+                // SAFETY: the region is lent for all of `'region`.
+                unsafe { Self::new($($front,)? region.cast(), region.len() $(, $last)?) }
             }
-        )*
+
+            /// Makes it over the `size` bytes at `ptr`.
+            ///
+            /// # Safety
+            ///
+            /// The bytes may be written through `ptr` for all of `'region`, and meanwhile nothing else uses them but through
+            /// chunks that this allocator or its parties gave.
+            pub unsafe fn new(
+                $($front: $front_type,)?
+                ptr: NonNull<u8>,
+                size: usize,
+                $($last: $last_type,)?
+            ) -> Result<Self, InitError> {
+                // SAFETY: both functions are of this kind.
+                let owned = unsafe {
+                    Owned::init(ptr, ffi::$destroy, |handle, start| {
+                        ffi::$init(handle, $($layout,)* start, size $(, $last)?)
+                    })?
+                };
+                Ok($name { owned })
+            }
+        }
     };
 }
 
-pub(crate) use figures;
+/// Writes `info`, and a getter of each figure.
+macro_rules! figures {
+    ($name:ident: $info:ident by $call:ident: $($figure:ident: $type:ty),*) => {
+        impl $name<'_> {
+            /// Returns all figures.
+            pub fn info(&self) -> ffi::$info {
+                let mut info = ffi::$info::default();
+                // SAFETY: the function is of this kind, and no other call has the handle.
+                expect_ok(unsafe { ffi::$call(self.owned.handle(), &mut info) });
+                info
+            }
+            $(
+                #[doc = concat!("Returns `", stringify!($figure), "` of [`info`](Self::info).")]
+                pub fn $figure(&self) -> $type {
+                    self.info().$figure
+                }
+            )*
+        }
+    };
+}
+
+/// Writes the calls of what knows its chunks by their places.
+macro_rules! keeps {
+    ($name:ident: $allocate:ident $deallocate:ident $holds:ident) => {
+        impl $name<'_> {
+            /// Returns whether a chunk that is out begins here; of a party of a pool, one that it holds.
+            pub fn holds(&self, ptr: NonNull<u8>) -> bool {
+                // SAFETY: the function is of this kind, and no other call has the handle, here and below.
+                is_so(unsafe { ffi::$holds(self.owned.handle(), ptr.as_ptr().cast()) })
+            }
+
+            /// Gives back the chunk that begins here, and tells where none does.
+            ///
+            /// # Safety
+            ///
+            /// Nothing reads or writes its bytes from now on.
+            pub unsafe fn try_deallocate(&self, ptr: NonNull<u8>) -> Result<(), DeallocationError> {
+                // SAFETY: as above.
+                let code = unsafe { ffi::$deallocate(self.owned.handle(), ptr.as_ptr().cast()) };
+                DeallocationError::unless_ok(code)
+            }
+        }
+
+        impl BaseAllocator for $name<'_> {
+            fn allocate(&self, layout: Layout) -> Result<NonNull<[u8]>, AllocationError> {
+                // SAFETY: the function is of this kind.
+                unsafe { self.owned.allocate(ffi::$allocate, layout) }
+            }
+
+            unsafe fn deallocate(&self, ptr: NonNull<u8>, _layout: Layout) {
+                // SAFETY: the caller keeps what `try_deallocate` asks.
+                let _ = unsafe { self.try_deallocate(ptr) };
+            }
+        }
+    };
+}
+
+/// Writes the calls of what is cut into buckets.
+macro_rules! buckets {
+    ($name:ident: $info:ident $place_at:ident $number_at:ident) => {
+        figures! {
+            $name: PoolInfo by $info: start_address: usize, size: usize, bucket_size: usize, max_alignment: usize,
+            number_of_buckets: usize, held_buckets: usize
+        }
+
+        impl $name<'_> {
+            /// Returns where the bucket of this number begins, from 0 on, held or not; `None` where there is no such bucket.
+            pub fn place_at(&self, number: u32) -> Option<NonNull<u8>> {
+                // SAFETY: the function is of this kind, and no other call has the handle, here and below.
+                let told = unsafe { ffi::$place_at(self.owned.handle(), number) };
+                number_if(ffi::NOT_A_BUCKET, told).map(|place| self.owned.at(place))
+            }
+
+            /// Returns the number of the bucket that begins here, held or not; `None` where none does.
+            pub fn number_at(&self, ptr: NonNull<u8>) -> Option<u32> {
+                // SAFETY: as above. A bucket's number is a `u32`.
+                let told = unsafe { ffi::$number_at(self.owned.handle(), ptr.as_ptr().cast()) };
+                number_if(ffi::NOT_A_BUCKET, told).map(|number| number as u32)
+            }
+        }
+    };
+}
+
+pub(crate) use {allocator, buckets, figures, keeps};

@@ -33,10 +33,8 @@ fn use_pool(party: &PoolParty<'_>, number: u32) {
             chunk.write(pattern);
             assert_eq!(chunk.read(), pattern);
             assert_eq!(party.try_deallocate(chunk.cast()), Ok(()));
-            assert_eq!(
-                party.try_deallocate(chunk.cast()),
-                Err(DeallocationError::NotHeld)
-            );
+            let again = party.try_deallocate(chunk.cast());
+            assert_eq!(again, Err(DeallocationError::NotHeld));
         }
         taken += 1;
     }
@@ -48,10 +46,7 @@ fn no_bucket_has_two_holders() {
     let pool = SharedPoolAllocator::over(bucket(), &mut region, THREADS).unwrap();
     let parties: Vec<PoolParty<'_>> = (0..THREADS).map(|_| pool.join().unwrap()).collect();
     assert_eq!(pool.join().err(), Some(JoinError::NoParty));
-    assert_eq!(
-        (parties[0].number_of_buckets(), parties[0].bucket_size()),
-        (3, 64)
-    );
+    assert_eq!(parties[0].number_of_buckets(), 3);
     drop(pool);
     thread::scope(|scope| {
         for (number, party) in (0..).zip(parties) {
@@ -60,21 +55,7 @@ fn no_bucket_has_two_holders() {
     });
 }
 
-#[test]
-fn one_party_does_not_return_the_bucket_of_another() {
-    let mut region = Box::new_uninit_slice(64 * 4);
-    let pool = SharedPoolAllocator::over(bucket(), &mut region, 2).unwrap();
-    let (mine, other) = (pool.join().unwrap(), pool.join().unwrap());
-    let chunk = mine.allocate(bucket()).unwrap().cast::<u8>();
-    assert_eq!((mine.holds(chunk), other.holds(chunk)), (true, false));
-    // SAFETY: the bucket isn't used.
-    unsafe {
-        assert_eq!(other.try_deallocate(chunk), Err(DeallocationError::NotHeld));
-        assert_eq!(mine.try_deallocate(chunk), Ok(()));
-    }
-}
-
-/// Takes as many chunks of 8 bytes as there are, and answers how many. Each has what this party wrote at the end.
+/// Takes as many chunks of 8 bytes as there are, and returns how many. Each has what this party wrote at the end.
 fn use_bump(party: &BumpParty<'_>, number: u64) -> usize {
     let mut chunks: Vec<NonNull<u64>> = Vec::new();
     while let Ok(chunk) = party.allocate(Layout::new::<u64>()) {
@@ -83,7 +64,8 @@ fn use_bump(party: &BumpParty<'_>, number: u64) -> usize {
         chunks.push(chunk.cast());
     }
     // SAFETY: as above.
-    assert!(chunks.iter().all(|chunk| unsafe { chunk.read() } == number));
+    let kept = |chunk: &NonNull<u64>| unsafe { chunk.read() } == number;
+    assert!(chunks.iter().all(kept));
     chunks.len()
 }
 
@@ -96,15 +78,10 @@ fn every_byte_of_a_shared_bump_is_given_once() {
     let parties: Vec<BumpParty<'_>> = (0..THREADS).map(|_| bump.join().unwrap()).collect();
     assert_eq!(bump.join().err(), Some(JoinError::NoParty));
     let given: usize = thread::scope(|scope| {
-        let threads: Vec<_> = parties
-            .into_iter()
-            .zip(1..)
-            .map(|(party, number)| scope.spawn(move || use_bump(&party, number)))
-            .collect();
-        threads
-            .into_iter()
-            .map(|thread| thread.join().unwrap())
-            .sum()
+        let started = (1..).zip(parties);
+        let started = started.map(|(number, party)| scope.spawn(move || use_bump(&party, number)));
+        let threads: Vec<_> = started.collect();
+        threads.into_iter().map(|it| it.join().unwrap()).sum()
     });
     assert_eq!(given, 80_000);
 }
@@ -115,62 +92,48 @@ fn a_shared_bump_is_reset_when_each_party_has_left() {
     let bump = SharedBumpAllocator::over(&mut region, 2).unwrap();
     let (one, other) = (bump.join().unwrap(), bump.join().unwrap());
     assert!(one.allocate(Layout::new::<[u8; 64]>()).is_ok());
-    assert_eq!(other.free_space(), 0);
+    assert_eq!(other.info().free_space, 0);
     // SAFETY: no chunk is used, here and below.
-    assert_eq!(unsafe { bump.reset() }, Err(ResetError::PartiesJoined));
+    let reset = || unsafe { bump.reset() };
+    assert_eq!(reset(), Err(ResetError::PartiesJoined));
     bump.leave(other);
-    assert_eq!(unsafe { bump.reset() }, Err(ResetError::PartiesJoined));
+    assert_eq!(reset(), Err(ResetError::PartiesJoined));
     bump.leave(one);
-    assert_eq!(unsafe { bump.reset() }, Ok(()));
+    assert_eq!(reset(), Ok(()));
     let party = bump.join().unwrap();
-    assert_eq!(party.used_space(), 0);
-    assert!(party.allocate(Layout::new::<[u8; 64]>()).is_ok());
+    assert_eq!((party.used_space(), party.total_space()), (0, 64));
     // A dropped party doesn't come back.
     drop(party);
-    assert_eq!(unsafe { bump.reset() }, Err(ResetError::PartiesJoined));
-}
-
-#[test]
-fn a_party_of_a_pool_leaves_when_it_holds_nothing() {
-    let mut region = Box::new_uninit_slice(64 * 2);
-    let pool = SharedPoolAllocator::over(bucket(), &mut region, 1).unwrap();
-    let party = pool.join().unwrap();
-    let chunk = party.allocate(bucket()).unwrap().cast::<u8>();
-    let party = pool.leave(party).unwrap_err();
-    assert!(party.holds(chunk) && party.held_buckets() == 1);
-    // SAFETY: the bucket isn't used.
-    assert_eq!(unsafe { party.try_deallocate(chunk) }, Ok(()));
-    assert_eq!(party.held_buckets(), 0);
-    assert!(pool.leave(party).is_ok());
-    drop(pool.join().unwrap());
-    assert_eq!(pool.join().err(), Some(JoinError::NoParty));
+    assert_eq!(reset(), Err(ResetError::PartiesJoined));
 }
 
 #[test]
 fn a_party_leaves_with_what_it_holds() {
     let mut region = Box::new_uninit_slice(64 * 3);
-    let pool = SharedPoolAllocator::over(bucket(), &mut region, 4).unwrap();
+    let pool = SharedPoolAllocator::over(bucket(), &mut region, 2).unwrap();
     let kept = pool.join().unwrap();
     let chunk = kept.allocate(bucket()).unwrap().cast::<u8>();
     for _ in 0..1_000 {
-        let workers = [pool.join().unwrap(), pool.join().unwrap()];
-        let workers = thread::scope(|scope| {
-            workers
-                .map(|worker| {
-                    scope.spawn(move || {
-                        assert!(worker.allocate(bucket()).is_ok());
-                        worker
-                    })
-                })
-                .map(|thread| thread.join().unwrap())
+        let worker = pool.join().unwrap();
+        let worker = thread::scope(|scope| {
+            let working = scope.spawn(move || {
+                assert!(worker.allocate(bucket()).is_ok());
+                worker
+            });
+            working.join().unwrap()
         });
-        for worker in workers {
-            assert_eq!(worker.held_buckets(), 1);
-            // SAFETY: the bucket isn't used.
-            unsafe { pool.leave_with_buckets(worker) };
-        }
+        // What holds a bucket leaves by the other call alone.
+        let worker = pool.leave(worker).unwrap_err();
+        assert_eq!(worker.held_buckets(), 1);
+        // SAFETY: the bucket isn't used.
+        unsafe { pool.leave_with_buckets(worker) };
     }
     assert!(kept.holds(chunk) && kept.held_buckets() == 1);
+    // SAFETY: as above.
+    assert_eq!(unsafe { kept.try_deallocate(chunk) }, Ok(()));
+    assert!(pool.leave(kept).is_ok());
+    let _parties = (pool.join().unwrap(), pool.join().unwrap());
+    assert_eq!(pool.join().err(), Some(JoinError::NoParty));
 }
 
 #[test]
@@ -227,56 +190,42 @@ fn a_receiver_gives_back_what_it_was_sent() {
         (sending.join().unwrap(), receiving.join().unwrap())
     });
     assert_eq!((sender.held_buckets(), receiver.held_buckets()), (0, 0));
-    for _ in 0..3 {
-        assert!(sender.allocate(bucket()).is_ok());
-    }
 }
 
 #[test]
-fn a_bucket_is_detached_only_where_it_can_be() {
-    let mut region = Box::new_uninit_slice(64 * 2);
-    let mut small = Box::new_uninit_slice(64);
+fn what_one_party_holds_is_not_anothers() {
+    let (mut region, mut small) = (Box::new_uninit_slice(64 * 2), Box::new_uninit_slice(64));
     let pool = SharedPoolAllocator::over(bucket(), &mut region, 2).unwrap();
     let (mine, other) = (pool.join().unwrap(), pool.join().unwrap());
     let mut detached = DetachedBucket::new().unwrap();
     assert!(!detached.is_full() && mine.attach(&mut detached).is_none());
     let chunk = mine.allocate(bucket()).unwrap().cast::<u8>();
     let kept = mine.allocate(bucket()).unwrap().cast::<u8>();
+    assert_eq!((mine.holds(chunk), other.holds(chunk)), (true, false));
+    let number = mine.number_at(chunk).unwrap();
+    assert_eq!(
+        (other.place_at(number), other.place_at(2)),
+        (Some(chunk), None)
+    );
     let alone = SharedPoolAllocator::over(bucket(), &mut small, 1).unwrap();
     let elsewhere = alone.join().unwrap();
     let there = elsewhere.allocate(bucket()).unwrap().cast::<u8>();
-    // SAFETY: no chunk is used, here and below.
+    // SAFETY: no chunk is used.
     unsafe {
-        assert_eq!(
-            elsewhere.detach(there, 64, &mut detached),
-            Err(DetachError::OneParty)
-        );
-        assert_eq!(
-            other.detach(chunk, 64, &mut detached),
-            Err(DetachError::NotHeld)
-        );
-        assert_eq!(
-            mine.detach(chunk, 65, &mut detached),
-            Err(DetachError::SizeTooLarge)
-        );
+        let refused = elsewhere.detach(there, 64, &mut detached);
+        assert_eq!(refused, Err(DetachError::OneParty));
+        let refused = other.detach(chunk, 64, &mut detached);
+        assert_eq!(refused, Err(DetachError::NotHeld));
+        let refused = mine.detach(chunk, 65, &mut detached);
+        assert_eq!(refused, Err(DetachError::SizeTooLarge));
         assert_eq!(mine.detach(chunk, 64, &mut detached), Ok(()));
-        assert_eq!(
-            mine.detach(kept, 64, &mut detached),
-            Err(DetachError::DetachedFull)
-        );
+        let refused = mine.detach(kept, 64, &mut detached);
+        assert_eq!(refused, Err(DetachError::DetachedFull));
         assert_eq!(mine.try_deallocate(chunk), Err(DeallocationError::NotHeld));
-    }
-    assert_eq!(
-        other.allocate(bucket()).err(),
-        Some(AllocationError::OutOfMemory)
-    );
-    let taken = other.attach(&mut detached).unwrap();
-    assert_eq!(
-        (taken.cast(), taken.len(), other.holds(chunk)),
-        (chunk, 64, true)
-    );
-    // SAFETY: as above.
-    unsafe {
+        let refused = other.allocate(bucket());
+        assert_eq!(refused, Err(AllocationError::OutOfMemory));
+        let taken = other.attach(&mut detached).unwrap();
+        assert_eq!((taken.cast(), taken.len()), (chunk, 64));
         assert_eq!(mine.try_deallocate(chunk), Err(DeallocationError::NotHeld));
         assert_eq!(other.try_deallocate(chunk), Ok(()));
     }
@@ -302,16 +251,4 @@ fn nothing_is_made_for_no_party() {
     assert_eq!(made.err(), Some(InitError::InvalidArgument));
     let made = SharedPoolAllocator::over(bucket(), &mut region, 0);
     assert_eq!(made.err(), Some(InitError::InvalidArgument));
-}
-
-#[test]
-fn a_party_tells_places_of_buckets_that_another_holds() {
-    let mut region = Box::new_uninit_slice(64 * 3);
-    let pool = SharedPoolAllocator::over(bucket(), &mut region, 2).unwrap();
-    let (one, other) = (pool.join().unwrap(), pool.join().unwrap());
-    let chunk = one.allocate(bucket()).unwrap().cast::<u8>();
-    let number = one.number_at(chunk).unwrap();
-    assert_eq!(other.place_at(number), Some(chunk));
-    assert_eq!(other.number_at(chunk), Some(number));
-    assert_eq!(other.place_at(other.number_of_buckets() as u32), None);
 }

@@ -1,4 +1,5 @@
--- The flags of a party that has joined, and what a round, a return, a detached or an attached bucket makes of the log that they tell of.
+-- The flags of a party that has joined, and what a round, a return, a detached or an attached bucket makes of the log of which
+-- they tell.
 use Rattle.std.proofs.Common.{◌≡◌, ℕ, ◌<◌, Bool, true, false, List, ◌++◌, length, sym, ap, ◌∙◌, subst, inl, inr}
 use Rattle.std.specs.Prelude.{Some, Ok, Err, ◌==◌, if◌then◌else◌, slice_get, slice_set}
 use Rattle.std.proofs.lemmas.Bool.{cases_eq}

@@ -85,7 +85,8 @@ last-at-bump its front all last joined is same count capacity are = record {
   out = omega (arith, are.so_many, are.at_most, ap length is, length-append front (last ∷ []));
 }
 
-module _ {S P : Type 0} (its : S) (front all : List P) (last joined : P) (is : all ≡ front ++ last ∷ []) (same : joined ≡ last) where
+module _ {S P : Type 0} (its : S) (front all : List P) (last joined : P) (is : all ≡ front ++ last ∷ [])
+    (same : joined ≡ last) where
   -- they are those in front of the last one, and that one
   pub with_party-last : record { shared = its; parties = all } ≡ with_party record { shared = its; parties = front } joined
   with_party-last = ap (λ (ps : List P). record { shared = its; parties = ps })

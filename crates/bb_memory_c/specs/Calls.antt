@@ -14,8 +14,8 @@ use Rattle.bb_memory_c.specs.Codes.{already_initialized, invalid_argument, ok, m
 use Rattle.bb_memory_c.specs.Codes.{not_a_bucket, not_held, uninitialized, no_bucket, no_party}
 use Rattle.bb_memory_c.specs.Layouts.{FailsOf, IsOf, LacksRoomOf}
 
--- Where something is made behind the handle, the call answers so, and what is there becomes another. An empty handle is refused so,
--- and all stays.
+-- Where something is made behind the handle, the call answers so, and what is there becomes another. An empty handle is refused
+-- so, and all stays.
 pub record Answers {X : Type 0} (old new : Option X) (refused_so : Type 0) (tells : X → X → Type 0) : Type 0 where
   pub made : IfSome old (λ made. (after : X) × (new ≡ Some after) × tells made after)
   pub empty : old ≡ None → refused_so × (new ≡ old)
@@ -34,7 +34,8 @@ pub record Tells (so : Type 0) (told : Figure) : Type 0 where
 
 -- C is told whether this is so, and all stays
 abbrev pub AnswersWhether : {X : Type 0} → Option X → Option X → Figure → (X → Type 0) → Type 0
-AnswersWhether old new told is = Answers old new (told ≡ no_figure uninitialized) (λ made after. Tells (is made) told × (after ≡ made))
+AnswersWhether old new told is =
+    Answers old new (told ≡ no_figure uninitialized) (λ made after. Tells (is made) told × (after ≡ made))
 
 -- C is told the place of the bucket of this number, or that there is no such bucket
 pub record TellsPlaceOf (geometry : PoolGeometry) (number : ℕ) (told : Figure) : Type 0 where
@@ -127,7 +128,7 @@ pub record AnswersFree {X : Type 0} (old new : Option X) (code : ℕ) : Type 0 w
   pub was_empty : old ≡ None → code ≡ uninitialized
   pub empty : new ≡ None
 
--- WHAT THREADS SHARE: `with_party` is it with one more party that hasn't joined, and `at` says of a party that it is its own
+-- WHAT THREADS SHARE: `with_party` is it with one more party that hasn't joined, and `at` says of a party that it has joined it
 
 -- The last party that hasn't joined joins, behind another handle that is empty, where one is left and memory isn't refused.
 pub record AnswersJoin {X Y : Type 0} (old new : Option X) (old_party new_party : Option Y) (code : ℕ) (left : X → ℕ)
@@ -141,8 +142,8 @@ pub record AnswersJoin {X Y : Type 0} (old new : Option X) (old_party new_party 
   pub still : code ≢ ok → (new ≡ old) × (new_party ≡ old_party)
 
 -- The last party that hasn't joined joins, if one is left and memory isn't refused.
-pub record TakesParty {X Y : Type 0} (old new : X) (told : Result Y ℕ) (left : X → ℕ) (with_party : X → Y → X) (at : X → Y → Type 0)
-    : Type 0 where
+pub record TakesParty {X Y : Type 0} (old new : X) (told : Result Y ℕ) (left : X → ℕ) (with_party : X → Y → X)
+    (at : X → Y → Type 0) : Type 0 where
   pub joins : IfOk told (λ party. (old ≡ with_party new party) × at new party)
   pub none_left : (told ≡ Err no_party) ↔ (left old ≡ 0)
   pub else_memory : IfErr told (λ code. code ≢ no_party → code ≡ malloc_refused)

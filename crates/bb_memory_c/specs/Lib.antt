@@ -8,7 +8,6 @@ pub mod Infos
 pub mod Layouts
 pub mod OneChunks
 pub mod Pools
-pub mod Rows
 pub mod Parties
 pub mod SharedBumpHandles
 pub mod SharedBumps

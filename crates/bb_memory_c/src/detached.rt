@@ -1,5 +1,5 @@
-//! Detached buckets, which go from party to party of a shared pool: what a handle owns, what a party does with it, and the exported
-//! functions.
+//! Detached buckets, which go from party to party of a shared pool: what a handle owns, what a party does with it, and the
+//! exported functions.
 ghost use Rattle.std.specs.Prelude.{◌≡◌, ◌↔◌, ◌≢◌, IfErr, IfOk, IsTrue, None, Some};
 ghost use Rattle.bb_memory.specs.SharedPool.{chunk_of};
 ghost use Rattle.bb_memory_c.specs.Answers.{refused};
@@ -176,8 +176,8 @@ pub extern "C" fn bb_pool_party_detach(
     joined.detach(place, len, inside)
 }
 
-/// Attaches the bucket that is in the `bb_detached`, which has none then: this party holds it, with the chunk that is answered. It
-/// takes no memory, and waits for nothing.
+/// Attaches the bucket that is in the `bb_detached`, which has none then: this party holds it, with the chunk that is
+/// returned. It takes no memory, and waits for nothing.
 #[unsafe(no_mangle)]
 pub extern "C" fn bb_pool_party_attach(
     handle: &mut PoolPartyHandle,

@@ -11,6 +11,15 @@ ghost use Rattle.bb_memory.specs.Pool.{CountedPool};
 ghost use Rattle.bb_memory.specs.SharedBump.{BumpParty};
 ghost use Rattle.bb_memory.specs.SharedPool.{PoolParty};
 ghost use Rattle.bb_memory_c.specs.Detached.{Detached as Inside};
+ghost use Rattle.bb_memory_c.specs.Handles.{owns_if};
+ghost use Rattle.bb_memory.specs.contracts.bump_allocator.BumpAllocator.{the_row as bump_row};
+ghost use Rattle.bb_memory.specs.contracts.one_chunk_allocator.OneChunkAllocator.{the_row as one_chunk_row};
+ghost use Rattle.bb_memory_c.specs.contracts.detached.Detached.{the_row as detached_row};
+ghost use Rattle.bb_memory_c.specs.contracts.pool.Pool.{the_row as pool_row};
+ghost use Rattle.bb_memory_c.specs.contracts.shared_bump.BumpParties.{the_row as shared_bump_row};
+ghost use Rattle.bb_memory_c.specs.contracts.shared_bump.JoinedBump.{the_row as bump_party_row};
+ghost use Rattle.bb_memory_c.specs.contracts.shared_pool.JoinedPool.{the_row as pool_party_row};
+ghost use Rattle.bb_memory_c.specs.contracts.shared_pool.PoolParties.{the_row as shared_pool_row};
 ghost use Rattle.bb_memory_c.specs.SharedBumps.{BumpParties as SharedBump};
 ghost use Rattle.bb_memory_c.specs.SharedPools.{PoolParties as SharedPool};
 
@@ -99,10 +108,7 @@ pub struct BumpHandle {
 }
 
 impl Model for BumpHandle {
-    ghost use Rattle.bb_memory_c.specs.Handles.{owns_if};
-    ghost use Rattle.bb_memory_c.specs.Rows.{bump_row as the_row};
-
-    ghost also_owns = { λ h. owns_if the_row h.heap h.made h.at h.value };
+    ghost also_owns = { λ h. owns_if bump_row h.heap h.made h.at h.value };
 }
 
 impl Handle for BumpHandle {
@@ -125,8 +131,6 @@ impl Handle for BumpHandle {
     }
 }
 
-unsafe impl Send for BumpHandle {}
-
 /// Empty, or the owner of a one-chunk allocator.
 #[repr(C)]
 #[derive(Drop)]
@@ -138,10 +142,7 @@ pub struct OneChunkHandle {
 }
 
 impl Model for OneChunkHandle {
-    ghost use Rattle.bb_memory_c.specs.Handles.{owns_if};
-    ghost use Rattle.bb_memory_c.specs.Rows.{one_chunk_row as the_row};
-
-    ghost also_owns = { λ h. owns_if the_row h.heap h.made h.at h.value };
+    ghost also_owns = { λ h. owns_if one_chunk_row h.heap h.made h.at h.value };
 }
 
 impl Handle for OneChunkHandle {
@@ -164,8 +165,6 @@ impl Handle for OneChunkHandle {
     }
 }
 
-unsafe impl Send for OneChunkHandle {}
-
 /// Empty, or the owner of a pool.
 #[repr(C)]
 #[derive(Drop)]
@@ -177,10 +176,7 @@ pub struct PoolHandle {
 }
 
 impl Model for PoolHandle {
-    ghost use Rattle.bb_memory_c.specs.Handles.{owns_if};
-    ghost use Rattle.bb_memory_c.specs.Rows.{pool_row as the_row};
-
-    ghost also_owns = { λ h. owns_if the_row h.heap h.made h.at h.value };
+    ghost also_owns = { λ h. owns_if pool_row h.heap h.made h.at h.value };
 }
 
 impl Handle for PoolHandle {
@@ -203,8 +199,6 @@ impl Handle for PoolHandle {
     }
 }
 
-unsafe impl Send for PoolHandle {}
-
 /// Empty, or the owner of a shared bump.
 #[repr(C)]
 #[derive(Drop)]
@@ -216,10 +210,7 @@ pub struct SharedBumpHandle {
 }
 
 impl Model for SharedBumpHandle {
-    ghost use Rattle.bb_memory_c.specs.Handles.{owns_if};
-    ghost use Rattle.bb_memory_c.specs.contracts.shared_bump.BumpParties.{the_row};
-
-    ghost also_owns = { λ h. owns_if the_row h.heap h.made h.at h.value };
+    ghost also_owns = { λ h. owns_if shared_bump_row h.heap h.made h.at h.value };
 }
 
 impl Handle for SharedBumpHandle {
@@ -242,8 +233,6 @@ impl Handle for SharedBumpHandle {
     }
 }
 
-unsafe impl Send for SharedBumpHandle {}
-
 /// Empty, or the owner of a party of a shared bump.
 #[repr(C)]
 #[derive(Drop)]
@@ -255,10 +244,7 @@ pub struct BumpPartyHandle {
 }
 
 impl Model for BumpPartyHandle {
-    ghost use Rattle.bb_memory_c.specs.Handles.{owns_if};
-    ghost use Rattle.bb_memory_c.specs.contracts.shared_bump.JoinedBump.{the_row};
-
-    ghost also_owns = { λ h. owns_if the_row h.heap h.made h.at h.value };
+    ghost also_owns = { λ h. owns_if bump_party_row h.heap h.made h.at h.value };
 }
 
 impl Handle for BumpPartyHandle {
@@ -281,8 +267,6 @@ impl Handle for BumpPartyHandle {
     }
 }
 
-unsafe impl Send for BumpPartyHandle {}
-
 /// Empty, or the owner of a shared pool.
 #[repr(C)]
 #[derive(Drop)]
@@ -294,10 +278,7 @@ pub struct SharedPoolHandle {
 }
 
 impl Model for SharedPoolHandle {
-    ghost use Rattle.bb_memory_c.specs.Handles.{owns_if};
-    ghost use Rattle.bb_memory_c.specs.contracts.shared_pool.PoolParties.{the_row};
-
-    ghost also_owns = { λ h. owns_if the_row h.heap h.made h.at h.value };
+    ghost also_owns = { λ h. owns_if shared_pool_row h.heap h.made h.at h.value };
 }
 
 impl Handle for SharedPoolHandle {
@@ -320,8 +301,6 @@ impl Handle for SharedPoolHandle {
     }
 }
 
-unsafe impl Send for SharedPoolHandle {}
-
 /// Empty, or the owner of a party of a shared pool.
 #[repr(C)]
 #[derive(Drop)]
@@ -333,10 +312,7 @@ pub struct PoolPartyHandle {
 }
 
 impl Model for PoolPartyHandle {
-    ghost use Rattle.bb_memory_c.specs.Handles.{owns_if};
-    ghost use Rattle.bb_memory_c.specs.contracts.shared_pool.JoinedPool.{the_row};
-
-    ghost also_owns = { λ h. owns_if the_row h.heap h.made h.at h.value };
+    ghost also_owns = { λ h. owns_if pool_party_row h.heap h.made h.at h.value };
 }
 
 impl Handle for PoolPartyHandle {
@@ -359,8 +335,6 @@ impl Handle for PoolPartyHandle {
     }
 }
 
-unsafe impl Send for PoolPartyHandle {}
-
 /// Empty, or the owner of a `Detached`.
 #[repr(C)]
 #[derive(Drop)]
@@ -372,10 +346,7 @@ pub struct DetachedHandle {
 }
 
 impl Model for DetachedHandle {
-    ghost use Rattle.bb_memory_c.specs.Handles.{owns_if};
-    ghost use Rattle.bb_memory_c.specs.contracts.detached.Detached.{the_row};
-
-    ghost also_owns = { λ h. owns_if the_row h.heap h.made h.at h.value };
+    ghost also_owns = { λ h. owns_if detached_row h.heap h.made h.at h.value };
 }
 
 impl Handle for DetachedHandle {
@@ -397,5 +368,19 @@ impl Handle for DetachedHandle {
         lent! { self, Detached }
     }
 }
+
+unsafe impl Send for BumpHandle {}
+
+unsafe impl Send for OneChunkHandle {}
+
+unsafe impl Send for PoolHandle {}
+
+unsafe impl Send for SharedBumpHandle {}
+
+unsafe impl Send for BumpPartyHandle {}
+
+unsafe impl Send for SharedPoolHandle {}
+
+unsafe impl Send for PoolPartyHandle {}
 
 unsafe impl Send for DetachedHandle {}

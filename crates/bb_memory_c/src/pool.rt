@@ -82,8 +82,7 @@ pub extern "C" fn bb_pool_allocate(handle: &mut PoolHandle, size: usize, align: 
     request(handle, size, align)
 }
 
-/// Gives back the bucket at this place. A place that isn't a held bucket's is refused and changes nothing: a wild place, and a
-/// second return as long as the bucket was not given anew. A return after that takes it from its new holder.
+/// Gives back the bucket at this place. A place that isn't a held bucket's is refused and changes nothing.
 #[unsafe(no_mangle)]
 pub extern "C" fn bb_pool_deallocate(handle: &mut PoolHandle, place: usize) -> u32
     ensures { AnswersReturn handle.old.value handle.new.value result

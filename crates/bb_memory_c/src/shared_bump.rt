@@ -1,8 +1,9 @@
-//! A shared bump behind handles: one for the bump and the parties that haven't with_party, and one for each party that has.
+//! A shared bump behind handles: one for the bump and the parties that haven't joined, and one for each party that has.
 ghost use Rattle.std.specs.Prelude.{◌≡◌, ◌<◌, ◌↔◌, IfSome, IsTrue, Some};
 ghost use Rattle.bb_memory_base.specs.Region.{region_at};
 ghost use Rattle.bb_memory.specs.SharedBump.{MayTake};
-ghost use Rattle.bb_memory_c.specs.Calls.{AnswersFree, AnswersInfo, AnswersMake, AnswersRequest, AnswersLeave, AnswersJoin, IfBoth};
+ghost use Rattle.bb_memory_c.specs.Calls.{AnswersFree, AnswersInfo, AnswersJoin, AnswersLeave, AnswersMake};
+ghost use Rattle.bb_memory_c.specs.Calls.{AnswersRequest, IfBoth};
 ghost use Rattle.bb_memory_c.specs.Parties.{with_party, left_at};
 ghost use Rattle.bb_memory_c.specs.SharedBumpHandles.{AnswersReset, IsShareable, MakesSharedBump, ShowsLoad};
 ghost use Rattle.bb_memory_c.specs.SharedBumps.{AreFreshOver, IsAt};
@@ -199,8 +200,7 @@ pub extern "C" fn bb_shared_bump_init(
     keep(handle, alloc, all)
 }
 
-/// Frees the handle of a shared bump, which is empty then. The bump stays as long as one of its
-/// parties does.
+/// Frees the handle of a shared bump, which is empty then. The bump stays as long as one of its parties does.
 #[unsafe(no_mangle)]
 pub extern "C" fn bb_shared_bump_destroy(alloc: Global, handle: &mut SharedBumpHandle) -> u32
     ensures { AnswersFree handle.old.value handle.new.value result }

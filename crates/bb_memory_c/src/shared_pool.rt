@@ -1,4 +1,4 @@
-//! A shared pool behind handles: one for the pool and the parties that haven't with_party, and one for each party that has, with the
+//! A shared pool behind handles: one for the pool and the parties that haven't joined, and one for each party that has, with the
 //! buckets that it holds.
 ghost use Rattle.std.specs.Prelude.{◌≡◌, ◌<◌, IfSome, IfNone, count_by};
 ghost use Rattle.bb_memory_base.specs.Region.{region_at};
@@ -104,13 +104,6 @@ impl JoinedPool {
             self.give_back_if_held(number);
         }
     }
-
-    /// Returns the party's pool.
-    pub(crate) fn pool(&self) -> &SharedPoolAllocator
-        ensures { result.now ≡ self.now.allocator }
-    {
-        &self.pool
-    }
 }
 
 impl Shows<PoolInfo> for JoinedPool {
@@ -162,7 +155,7 @@ impl Bucketed for JoinedPool {
     ghost geometry = { λ party. party.allocator.scene.geometry };
 
     fn place_of(&self, number: u32) -> Option<usize> {
-        self.pool().place_at(number)
+        self.pool.place_at(number)
     }
 
     fn number_of(&self, place: usize) -> Option<u32> {
@@ -297,8 +290,7 @@ pub extern "C" fn bb_shared_pool_init(
     keep(handle, alloc, all)
 }
 
-/// Frees the handle of a shared pool, which is empty then. The pool stays as long as one of its
-/// parties does.
+/// Frees the handle of a shared pool, which is empty then. The pool stays as long as one of its parties does.
 #[unsafe(no_mangle)]
 pub extern "C" fn bb_shared_pool_destroy(alloc: Global, handle: &mut SharedPoolHandle) -> u32
     ensures { AnswersFree handle.old.value handle.new.value result }
@@ -356,8 +348,7 @@ pub extern "C" fn bb_pool_party_allocate(
 }
 
 /// Gives back the bucket at this place. A place that isn't that of a bucket which this party holds is refused and changes
-/// nothing: a wild place, another party's bucket, and a second return as long as this party was not given the bucket anew. A return
-/// after that takes it from its new holder.
+/// nothing.
 #[unsafe(no_mangle)]
 pub extern "C" fn bb_pool_party_deallocate(handle: &mut PoolPartyHandle, place: usize) -> u32
     ensures { AnswersReturn handle.old.value handle.new.value result

@@ -15,6 +15,6 @@ returns-else-is_held c =
     let joined = c.self.inside in
     let below = rw (← c.self.view_is) at c.requires in
     let same = none-returned joined.party c.args.number
-    (unset-flag (arc_value joined.pool) joined.party joined.held.items c.args.number c.self.invariant below c.index-is_held.result.now
-    c.index-is_held.ensures c.if-is_held.false) in
+    (unset-flag (arc_value joined.pool) joined.party joined.held.items c.args.number c.self.invariant below
+    c.index-is_held.result.now c.index-is_held.ensures c.if-is_held.false) in
     rw c.self.view_is at same
