@@ -171,7 +171,7 @@ static void time_pools(void) {
             }
 }
 
-// The pools that C has, each by its calls themselves and by those through C: half of the buckets are held, and one is given back
+// The pool that C has, by its calls themselves and by those through C: half of the buckets are held, and one is given back
 // and one taken.
 static const struct {
     const char *name;

@@ -35,12 +35,11 @@ typedef uint64_t follow(const task *, const uint32_t *script, size_t calls);
 #define DECLARE_POOL(name, loop) extern follow loop;
 POOL_ROWS(DECLARE_POOL)
 
-// The pools that C has, too: the loop of the calls themselves, and that of the calls through C.
+// The pool that C has, too: the loop of the calls themselves, and that of the calls through C.
 #define BORDER_ROWS(ROW) \
-    ROW("pool", bench_words, c_pool) \
-    ROW("fixed pool", bench_fixed, c_fixed_pool)
+    ROW("pool", bench_words, c_pool)
 
-extern follow c_pool, c_fixed_pool;
+extern follow c_pool;
 
 void bench_reads(const task *, const uint32_t *script, size_t calls, reads *);
 

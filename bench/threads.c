@@ -1,5 +1,5 @@
-// A bump and a list of free buckets in C, and seats of the C library at a shared pool, by several threads at once, as shared_bench
-// times the shared forms, and a queue between two threads whose receiver gives each message's memory back. Its arguments are the
+// A bump and a list of free buckets in C, and parties of a shared pool of the C library, by several threads at once, as
+// shared_bench times the shared forms, and a queue between two threads whose receiver gives each message's memory back. Its arguments are the
 // number of rounds and the number of calls of each thread in a round.
 #define BB_PLACES_ARE_NUMBERS
 #include <bb_memory.h>
@@ -73,23 +73,23 @@ static size_t heap_call(void) {
     return 1;
 }
 
-// The seats at a shared pool of as many buckets, made one after the other, each with the handle of the next behind its own.
-static bb_pool_seat seats[MOST_THREADS];
-static _Thread_local bb_pool_seat *seat;
+// The parties of a shared pool of as many buckets, which join one after the other, their handles side by side.
+static bb_pool_party parties[MOST_THREADS];
+static _Thread_local bb_pool_party *party;
 
-static size_t seat_call(void) {
-    bb_answer given = bb_pool_seat_allocate(seat, 48, 8);
-    return given.code == BB_DONE && bb_pool_seat_deallocate(seat, given.place) == BB_DONE ? given.place : 0;
+static size_t party_call(void) {
+    bb_answer given = bb_pool_party_allocate(party, 48, 8);
+    return given.code == BB_OK && bb_pool_party_deallocate(party, given.place) == BB_OK ? given.place : 0;
 }
 
-static void make_seats(void) {
+static void join_all(void) {
     bb_shared_pool pool = BB_EMPTY;
-    if (bb_shared_pool_make(&pool, 128, 8, START, BUCKETS * 128, threads) != BB_DONE)
+    if (bb_shared_pool_init(&pool, 128, 8, START, BUCKETS * 128, threads) != BB_OK)
         abort();
     for (unsigned i = 0; i < threads; i++)
-        if (bb_shared_pool_seat(&pool, &seats[i]) != BB_DONE)
+        if (bb_shared_pool_join(&pool, &parties[i]) != BB_OK)
             abort();
-    bb_shared_pool_free(&pool);
+    bb_shared_pool_destroy(&pool);
 }
 
 static inline size_t none_take(void) { return 1; }
@@ -141,15 +141,15 @@ QUEUE(list)
 QUEUE(heap)
 QUEUE(none)
 
-static size_t (*const kinds[])(void) = {bump_call, list_call, heap_call, seat_call};
+static size_t (*const kinds[])(void) = {bump_call, list_call, heap_call, party_call};
 static const char *const names[] = {"bump,%u,0,in C", "pool,%u,0,lock-free list", "pool,%u,0,malloc and free",
-                                    "pool,%u,0,seat in C"};
+                                    "pool,%u,0,party in C"};
 enum { KINDS = 4 };
 
-// What a thread calls, and its seat.
+// What a thread calls, and its party.
 typedef struct {
     size_t (*call)(void);
-    bb_pool_seat *seat;
+    bb_pool_party *party;
 } job;
 
 struct ends { void (*send)(void), (*receive)(void); };
@@ -169,7 +169,7 @@ static double nanos(struct timespec start, struct timespec end) {
 
 static void *work(void *arg) {
     size_t (*call)(void) = ((job *)arg)->call;
-    seat = ((job *)arg)->seat;
+    party = ((job *)arg)->party;
     struct timespec start, end;
     volatile size_t kept = 0;
     pass_gate();
@@ -222,10 +222,10 @@ static double timed(int kind) {
     pthread_t all[MOST_THREADS];
     job jobs[MOST_THREADS];
     double sum = 0;
-    make_seats();
+    join_all();
     open_all();
     for (unsigned i = 0; i < threads; i++) {
-        jobs[i] = (job){kinds[kind], &seats[i]};
+        jobs[i] = (job){kinds[kind], &parties[i]};
         if (pthread_create(&all[i], NULL, work, &jobs[i]))
             abort();
     }
@@ -234,7 +234,7 @@ static double timed(int kind) {
         pthread_join(all[i], &spent);
         sum += *(double *)spent;
         free(spent);
-        bb_pool_seat_free(&seats[i]);
+        bb_pool_party_destroy(&parties[i]);
     }
     return sum / ((double)threads * calls);
 }

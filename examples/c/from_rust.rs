@@ -13,13 +13,13 @@ pub struct Answer {
 }
 
 unsafe extern "C" {
-    fn bb_pool_make(pool: *mut Pool, bucket_size: usize, bucket_align: usize, start: usize, size: usize) -> u32;
+    fn bb_pool_init(pool: *mut Pool, bucket_size: usize, bucket_align: usize, start: usize, size: usize) -> u32;
     fn bb_pool_allocate(pool: *mut Pool, size: usize, align: usize) -> Answer;
     fn bb_pool_deallocate(pool: *mut Pool, place: usize) -> u32;
-    fn bb_pool_free(pool: *mut Pool) -> u32;
+    fn bb_pool_destroy(pool: *mut Pool) -> u32;
 }
 
-const BB_DONE: u32 = 0;
+const BB_OK: u32 = 0;
 const BB_NOT_HELD: u32 = 9;
 
 fn main() {
@@ -28,13 +28,13 @@ fn main() {
     let mut pool = Pool { at: core::ptr::null_mut(), made: false };
     // The handle is this function's own and passed by its address; the buffer outlives the pool.
     unsafe {
-        assert_eq!(bb_pool_make(&mut pool, 128, 8, start, 1024), BB_DONE);
+        assert_eq!(bb_pool_init(&mut pool, 128, 8, start, 1024), BB_OK);
         let given = bb_pool_allocate(&mut pool, 48, 4);
-        assert_eq!((given.code, given.len), (BB_DONE, 48));
+        assert_eq!((given.code, given.len), (BB_OK, 48));
         assert!(start <= given.place && given.place + given.len <= start + 1024);
-        assert_eq!(bb_pool_deallocate(&mut pool, given.place), BB_DONE);
+        assert_eq!(bb_pool_deallocate(&mut pool, given.place), BB_OK);
         assert_eq!(bb_pool_deallocate(&mut pool, given.place), BB_NOT_HELD);
-        assert_eq!(bb_pool_free(&mut pool), BB_DONE);
+        assert_eq!(bb_pool_destroy(&mut pool), BB_OK);
     }
     println!("from_rust: a pool was made, used and freed");
 }

@@ -46,7 +46,7 @@ static void *send_all(void *argument) {
         bb_answer given;
         while ((given = bb_pool_allocate(&shared.pool, len, 8)).code == BB_OUT_OF_MEMORY)
             pthread_cond_wait(&shared.changed, &shared.lock);
-        expect(given.code == BB_DONE, "a bucket is given");
+        expect(given.code == BB_OK, "a bucket is given");
         pthread_mutex_unlock(&shared.lock);
 
         slot next = {(unsigned char *)given.place, given.len};
@@ -76,21 +76,22 @@ static void receive_all(void) {
 
         pthread_mutex_lock(&shared.lock);
         expect(bb_pool_deallocate(&shared.pool, next.message + 1) == BB_NOT_HELD, "a wild return is refused");
-        expect(bb_pool_deallocate(&shared.pool, next.message) == BB_DONE, "a bucket is given back");
+        expect(bb_pool_deallocate(&shared.pool, next.message) == BB_OK, "a bucket is given back");
         pthread_cond_broadcast(&shared.changed);
         pthread_mutex_unlock(&shared.lock);
     }
 }
 
 static void run_queue(void) {
-    expect(bb_pool_make(&shared.pool, BUCKET_SIZE, 8, buffer, POOL_SIZE) == BB_DONE, "a pool is made");
-    expect(bb_pool_make(&shared.pool, BUCKET_SIZE, 8, buffer, 64) == BB_ALREADY_MADE, "a handle holds one");
-    expect(bb_pool_number_of_buckets(&shared.pool).number == BUCKETS, "the buffer has room for the buckets");
+    expect(bb_pool_init(&shared.pool, BUCKET_SIZE, 8, buffer, POOL_SIZE) == BB_OK, "a pool is made");
+    expect(bb_pool_init(&shared.pool, BUCKET_SIZE, 8, buffer, 64) == BB_ALREADY_INITIALIZED, "a handle holds one");
+    struct bb_pool_info info;
+    expect(bb_pool_info(&shared.pool, &info) == BB_OK && info.number_of_buckets == BUCKETS, "the buffer has room for all");
 
     bb_bump bump = BB_EMPTY;
-    expect(bb_bump_make(&bump, (unsigned char *)buffer + POOL_SIZE, SLOTS_SIZE) == BB_DONE, "a bump is made");
+    expect(bb_bump_init(&bump, (unsigned char *)buffer + POOL_SIZE, SLOTS_SIZE) == BB_OK, "a bump is made");
     bb_answer slots = bb_bump_allocate(&bump, BUCKETS * sizeof(slot), sizeof(size_t));
-    expect(slots.code == BB_DONE && slots.len == BUCKETS * sizeof(slot), "the slots have room");
+    expect(slots.code == BB_OK && slots.len == BUCKETS * sizeof(slot), "the slots have room");
     shared.slots = (slot *)slots.place;
 
     pthread_t threads[SENDERS];
@@ -100,31 +101,32 @@ static void run_queue(void) {
     for (size_t sender = 0; sender < SENDERS; sender++)
         pthread_join(threads[sender], NULL);
 
-    expect(bb_pool_free(&shared.pool) == BB_DONE && bb_pool_free(&shared.pool) == BB_NOT_MADE, "a pool is freed once");
-    expect(bb_bump_free(&bump) == BB_DONE, "a bump is freed");
+    expect(bb_pool_destroy(&shared.pool) == BB_OK && bb_pool_destroy(&shared.pool) == BB_UNINITIALIZED, "a pool is freed once");
+    expect(bb_bump_destroy(&bump) == BB_OK, "a bump is freed");
 }
 
-// Some refusals of a fixed pool, which lies in a chunk of a bump.
+// Some refusals of a pool that lies in a chunk of a bump.
 static void run_refusals(void) {
     bb_bump bump = BB_EMPTY;
-    expect(bb_bump_make(&bump, buffer, sizeof buffer) == BB_DONE, "a bump is made");
+    expect(bb_bump_init(&bump, buffer, sizeof buffer) == BB_OK, "a bump is made");
     bb_answer region = bb_bump_allocate(&bump, 1024, 8);
-    expect(region.code == BB_DONE, "the bump has room");
+    expect(region.code == BB_OK, "the bump has room");
 
-    bb_fixed_pool pool = BB_EMPTY;
-    expect(bb_fixed_pool_allocate(&pool, 1, 1).code == BB_NOT_MADE, "nothing is made");
-    expect(bb_fixed_pool_make(&pool, 128, 3, region.place, 1024) == BB_NOT_A_LAYOUT, "3 is no power of two");
-    expect(bb_fixed_pool_make(&pool, 128, 8, NULL, 1024) == BB_CANNOT_MAKE, "a region doesn't start at 0");
-    expect(bb_fixed_pool_make(&pool, 128, 8, region.place, region.len) == BB_DONE, "eight buckets");
-    expect(bb_fixed_pool_number_of_buckets(&pool).number == 8, "eight buckets");
-    expect(bb_fixed_pool_allocate(&pool, 129, 8).code == BB_SIZE_TOO_LARGE, "129 bytes are too many");
-    expect(bb_fixed_pool_allocate(&pool, 128, 16).code == BB_ALIGNMENT_FAILURE, "16 is too wide");
-    bb_answer given = bb_fixed_pool_allocate(&pool, 48, 4);
-    expect(given.code == BB_DONE && given.len == 48 && (size_t)given.place % 8 == 0, "48 bytes are given");
-    expect(bb_fixed_pool_holds(&pool, given.place).number == 1, "the bucket is held");
-    expect(bb_fixed_pool_deallocate(&pool, given.place) == BB_DONE, "the bucket is given back");
-    expect(bb_fixed_pool_deallocate(&pool, given.place) == BB_NOT_HELD, "a second return is refused");
-    expect(bb_fixed_pool_free(&pool) == BB_DONE && bb_bump_free(&bump) == BB_DONE, "both are freed");
+    bb_pool pool = BB_EMPTY;
+    expect(bb_pool_allocate(&pool, 1, 1).code == BB_UNINITIALIZED, "nothing is made");
+    expect(bb_pool_init(&pool, 128, 3, region.place, 1024) == BB_INVALID_LAYOUT, "3 is no power of two");
+    expect(bb_pool_init(&pool, 128, 8, NULL, 1024) == BB_INVALID_ARGUMENT, "a region doesn't start at 0");
+    expect(bb_pool_init(&pool, 128, 8, region.place, region.len) == BB_OK, "eight buckets");
+    struct bb_pool_info info;
+    expect(bb_pool_info(&pool, &info) == BB_OK && info.number_of_buckets == 8, "eight buckets");
+    expect(bb_pool_allocate(&pool, 129, 8).code == BB_SIZE_TOO_LARGE, "129 bytes are too many");
+    expect(bb_pool_allocate(&pool, 128, 16).code == BB_ALIGNMENT_FAILURE, "16 is too wide");
+    bb_answer given = bb_pool_allocate(&pool, 48, 4);
+    expect(given.code == BB_OK && given.len == 48 && (size_t)given.place % 8 == 0, "48 bytes are given");
+    expect(bb_pool_holds(&pool, given.place).number == 1, "the bucket is held");
+    expect(bb_pool_deallocate(&pool, given.place) == BB_OK, "the bucket is given back");
+    expect(bb_pool_deallocate(&pool, given.place) == BB_NOT_HELD, "a second return is refused");
+    expect(bb_pool_destroy(&pool) == BB_OK && bb_bump_destroy(&bump) == BB_OK, "both are freed");
 }
 
 int main(void) {

@@ -1,9 +1,9 @@
-// A queue whose receivers return what they received: two threads send, two receive, and all share one pool, each by a seat of
+// A queue whose receivers return what they received: two threads send, two receive, and all share one pool, each by a party of
 // its own. A sender takes a bucket, fills it, and detaches it into a `bb_detached`. The receiver that gets the `bb_detached`
-// attaches the bucket, reads the message, and gives the bucket back by its own seat, with no word to the sender.
+// attaches the bucket, reads the message, and gives the bucket back by its own party, with no word to the sender.
 //
 // Each slot of the queue has a `bb_detached`, which is made with the queue. A sender puts its full one into a slot, and takes the
-// slot's empty one in its place. So no message takes memory, and no call of a seat is made under the lock.
+// slot's empty one in its place. So no message takes memory, and no call of a party is made under the lock.
 #define _POSIX_C_SOURCE 200809L
 #include <pthread.h>
 #include <sched.h>
@@ -31,10 +31,10 @@ typedef struct {
 
 static queue shared = {PTHREAD_MUTEX_INITIALIZER, PTHREAD_COND_INITIALIZER, {BB_EMPTY}, 0, 0, 0};
 
-// A thread: its seat, and the one `bb_detached` that it has in hand.
+// A thread: its party, and the one `bb_detached` that it has in hand.
 typedef struct {
     size_t number;
-    bb_pool_seat seat;
+    bb_pool_party party;
     bb_detached detached;
     unsigned char seen[SENDERS][MESSAGES];  // of a receiver: how often it received each message
 } worker;
@@ -121,15 +121,15 @@ static void *send_all(void *argument) {
     for (size_t number = 0; number < MESSAGES; number++) {
         size_t len = length_of(self->number, number);
         bb_answer given;
-        while ((given = bb_pool_seat_allocate(&self->seat, len, 8)).code == BB_OUT_OF_MEMORY)
+        while ((given = bb_pool_party_allocate(&self->party, len, 8)).code == BB_OUT_OF_MEMORY)
             sched_yield();
-        expect(given.code == BB_DONE && given.len == len, "a bucket is given");
+        expect(given.code == BB_OK && given.len == len, "a bucket is given");
         tell_taking(given.place);
         head begins = {self->number, number};
         memcpy(given.place, &begins, sizeof begins);
         memset((unsigned char *)given.place + sizeof begins, byte_of(self->number, number), len - sizeof begins);
-        expect(bb_pool_seat_detach(&self->seat, given.place, len, &self->detached) == BB_DONE, "a bucket is detached");
-        expect(bb_pool_seat_deallocate(&self->seat, given.place) == BB_NOT_HELD, "its sender doesn't hold it any more");
+        expect(bb_pool_party_detach(&self->party, given.place, len, &self->detached) == BB_OK, "a bucket is detached");
+        expect(bb_pool_party_deallocate(&self->party, given.place) == BB_NOT_HELD, "its sender doesn't hold it any more");
         put(&self->detached);
     }
     return NULL;
@@ -138,8 +138,8 @@ static void *send_all(void *argument) {
 static void *receive_all(void *argument) {
     worker *self = (worker *)argument;
     while (get(&self->detached)) {
-        bb_answer taken = bb_pool_seat_attach(&self->seat, &self->detached);
-        expect(taken.code == BB_DONE && taken.len >= sizeof(head), "a bucket is attached");
+        bb_answer taken = bb_pool_party_attach(&self->party, &self->detached);
+        expect(taken.code == BB_OK && taken.len >= sizeof(head), "a bucket is attached");
         head begins;
         memcpy(&begins, taken.place, sizeof begins);
         expect(begins.sender < SENDERS && begins.number < MESSAGES, "a message begins as its sender wrote it");
@@ -149,7 +149,7 @@ static void *receive_all(void *argument) {
             expect(bytes[at] == byte_of(begins.sender, begins.number), "it has what its sender wrote");
         self->seen[begins.sender][begins.number]++;
         tell_return(taken.place);
-        expect(bb_pool_seat_deallocate(&self->seat, taken.place) == BB_DONE, "its receiver gives it back");
+        expect(bb_pool_party_deallocate(&self->party, taken.place) == BB_OK, "its receiver gives it back");
     }
     return NULL;
 }
@@ -157,17 +157,18 @@ static void *receive_all(void *argument) {
 static void make(worker *workers, size_t count, bb_shared_pool *pool) {
     for (size_t number = 0; number < count; number++) {
         workers[number].number = number;
-        expect(bb_shared_pool_seat(pool, &workers[number].seat) == BB_DONE, "a party has a seat");
-        expect(bb_detached_make(&workers[number].detached) == BB_DONE, "a thread has a bb_detached");
+        expect(bb_shared_pool_join(pool, &workers[number].party) == BB_OK, "a party joins");
+        expect(bb_detached_init(&workers[number].detached) == BB_OK, "a thread has a bb_detached");
     }
 }
 
 static void take_back(worker *workers, size_t count, bb_shared_pool *pool) {
     for (size_t number = 0; number < count; number++) {
-        expect(bb_pool_seat_held_buckets(&workers[number].seat).number == 0, "no seat holds a bucket");
-        expect(bb_shared_pool_leave(pool, &workers[number].seat) == BB_DONE, "a seat comes back");
+        struct bb_pool_info info;
+        expect(bb_pool_party_info(&workers[number].party, &info) == BB_OK && info.held_buckets == 0, "no party holds a bucket");
+        expect(bb_shared_pool_leave(pool, &workers[number].party) == BB_OK, "a party leaves");
         expect(bb_detached_is_full(&workers[number].detached).number == 0, "no bucket is detached");
-        expect(bb_detached_free(&workers[number].detached) == BB_DONE, "a thread's bb_detached is freed");
+        expect(bb_detached_destroy(&workers[number].detached) == BB_OK, "a thread's bb_detached is freed");
     }
 }
 
@@ -180,21 +181,21 @@ static void expect_all(bb_shared_pool *pool) {
                 times += receivers[receiver].seen[sender][number];
             expect(times == 1, "each message is received once");
         }
-    bb_pool_seat seat = BB_EMPTY;
-    expect(bb_shared_pool_seat(pool, &seat) == BB_DONE, "a seat is given anew");
+    bb_pool_party party = BB_EMPTY;
+    expect(bb_shared_pool_join(pool, &party) == BB_OK, "a party joins again");
     for (size_t bucket = 0; bucket < BUCKETS; bucket++)
-        expect(bb_pool_seat_allocate(&seat, BUCKET_SIZE, 8).code == BB_DONE, "each bucket is free again");
-    expect(bb_shared_pool_leave(pool, &seat) == BB_DONE, "the seat comes back");
+        expect(bb_pool_party_allocate(&party, BUCKET_SIZE, 8).code == BB_OK, "each bucket is free again");
+    expect(bb_shared_pool_leave(pool, &party) == BB_OK, "the party leaves");
 }
 
 int main(void) {
     bb_shared_pool pool = BB_EMPTY;
-    expect(bb_shared_pool_make(&pool, BUCKET_SIZE, 8, pool_words, sizeof pool_words, SENDERS + RECEIVERS) == BB_DONE,
+    expect(bb_shared_pool_init(&pool, BUCKET_SIZE, 8, pool_words, sizeof pool_words, SENDERS + RECEIVERS) == BB_OK,
            "a pool is made");
     make(senders, SENDERS, &pool);
     make(receivers, RECEIVERS, &pool);
     for (size_t slot = 0; slot < SLOTS; slot++)
-        expect(bb_detached_make(&shared.slots[slot]) == BB_DONE, "a slot has a bb_detached");
+        expect(bb_detached_init(&shared.slots[slot]) == BB_OK, "a slot has a bb_detached");
 
     pthread_t sending[SENDERS], receiving[RECEIVERS];
     for (size_t number = 0; number < RECEIVERS; number++)
@@ -210,8 +211,8 @@ int main(void) {
     take_back(receivers, RECEIVERS, &pool);
     expect_all(&pool);
     for (size_t slot = 0; slot < SLOTS; slot++)
-        expect(bb_detached_free(&shared.slots[slot]) == BB_DONE, "a slot's bb_detached is freed");
-    expect(bb_shared_pool_free(&pool) == BB_DONE, "the pool is freed");
+        expect(bb_detached_destroy(&shared.slots[slot]) == BB_OK, "a slot's bb_detached is freed");
+    expect(bb_shared_pool_destroy(&pool) == BB_OK, "the pool is freed");
     puts("returns: every message came once, and its receiver returned it");
     return 0;
 }

@@ -1,4 +1,4 @@
-// Four threads over one shared pool and one shared bump. Each thread has a seat at both, fills each chunk with a pattern of its
+// Four threads over one shared pool and one shared bump. Each thread has a party of both, fills each chunk with a pattern of its
 // own, checks that nobody else wrote there, and gives the bucket back. What one thread holds, another can't return.
 //
 // A return of a bucket comes before its next taking, by steps in the library. ThreadSanitizer doesn't see these, since the
@@ -19,8 +19,8 @@ static uint64_t bump_words[THREADS * CHUNKS * CHUNK / 8];
 
 typedef struct {
     size_t number;
-    bb_pool_seat pool;
-    bb_bump_seat bump;
+    bb_pool_party pool;
+    bb_bump_party bump;
     size_t taken;
     void *places[CHUNKS];
 } worker;
@@ -83,11 +83,11 @@ static void use_pool(worker *self) {
     size_t held = 0;
     uint64_t patterns[HELD];
     while (self->taken < ROUNDS) {
-        bb_answer given = bb_pool_seat_allocate(&self->pool, SHARE, 8);
-        expect(given.code == BB_DONE || given.code == BB_OUT_OF_MEMORY, "a bucket is given, or none is free");
-        if (given.code == BB_DONE) {
+        bb_answer given = bb_pool_party_allocate(&self->pool, SHARE, 8);
+        expect(given.code == BB_OK || given.code == BB_OUT_OF_MEMORY, "a bucket is given, or none is free");
+        if (given.code == BB_OK) {
             expect(given.len == SHARE && (size_t)given.place % 8 == 0, "a chunk is as it was asked for");
-            expect(bb_pool_seat_holds(&self->pool, given.place).number == 1, "a seat holds what it took");
+            expect(bb_pool_party_holds(&self->pool, given.place).number == 1, "a party holds what it took");
             tell_taking(given.place);
             places[held] = given.place;
             patterns[held] = pattern_of(self, self->taken);
@@ -100,30 +100,31 @@ static void use_pool(worker *self) {
         if (held == HELD || (given.code == BB_OUT_OF_MEMORY && held > 0)) {
             held--;
             expect_filled(places[held], SHARE, patterns[held]);
-            expect(bb_pool_seat_deallocate(&self->pool, (char *)places[held] + 1) == BB_NOT_HELD, "a wild return is refused");
+            expect(bb_pool_party_deallocate(&self->pool, (char *)places[held] + 1) == BB_NOT_HELD, "a wild return is refused");
             tell_return(places[held]);
-            expect(bb_pool_seat_deallocate(&self->pool, places[held]) == BB_DONE, "a bucket is given back");
-            expect(bb_pool_seat_deallocate(&self->pool, places[held]) == BB_NOT_HELD, "a second return is refused");
+            expect(bb_pool_party_deallocate(&self->pool, places[held]) == BB_OK, "a bucket is given back");
+            expect(bb_pool_party_deallocate(&self->pool, places[held]) == BB_NOT_HELD, "a second return is refused");
         }
     }
     while (held > 0) {
         held--;
         expect_filled(places[held], SHARE, patterns[held]);
         tell_return(places[held]);
-        expect(bb_pool_seat_deallocate(&self->pool, places[held]) == BB_DONE, "a bucket is given back");
+        expect(bb_pool_party_deallocate(&self->pool, places[held]) == BB_OK, "a bucket is given back");
     }
 }
 
 static void use_bump(worker *self) {
     size_t seen = 0;
     for (size_t chunk = 0; chunk < CHUNKS; chunk++) {
-        bb_answer given = bb_bump_seat_allocate(&self->bump, CHUNK, 8);
-        expect(given.code == BB_DONE && given.len == CHUNK && (size_t)given.place % 8 == 0, "the bump has room for all");
+        bb_answer given = bb_bump_party_allocate(&self->bump, CHUNK, 8);
+        expect(given.code == BB_OK && given.len == CHUNK && (size_t)given.place % 8 == 0, "the bump has room for all");
         self->places[chunk] = given.place;
         fill(given.place, CHUNK, pattern_of(self, chunk));
-        bb_figure used = bb_bump_seat_used_space(&self->bump);
-        expect(used.code == BB_DONE && used.number >= seen + CHUNK && used.number <= sizeof bump_words, "what is used grows");
-        seen = used.number;
+        struct bb_bump_info info;
+        expect(bb_bump_party_info(&self->bump, &info) == BB_OK && info.used_space >= seen + CHUNK, "what is used grows");
+        expect(info.used_space + info.free_space == sizeof bump_words, "what isn't used is free");
+        seen = info.used_space;
     }
 }
 
@@ -140,64 +141,59 @@ static void *work(void *argument) {
 }
 
 static void make(bb_shared_pool *pool, bb_shared_bump *bump) {
-    expect(bb_shared_pool_make(pool, BUCKET_SIZE, 8, pool_words, sizeof pool_words, 0) == BB_CANNOT_MAKE, "a party is there");
-    expect(bb_shared_pool_make(pool, BUCKET_SIZE, 3, pool_words, 64, 1) == BB_NOT_A_LAYOUT, "3 is no power of two");
-    expect(bb_shared_pool_make(pool, 0, 8, pool_words, 64, 1) == BB_CANNOT_MAKE, "a bucket has a byte");
-    expect(bb_shared_pool_make(pool, BUCKET_SIZE, 8, pool_words, sizeof pool_words, THREADS) == BB_DONE, "a pool is made");
-    expect(bb_shared_pool_make(pool, BUCKET_SIZE, 8, pool_words, 64, 1) == BB_ALREADY_MADE, "a handle holds one");
-    expect(bb_shared_bump_make(bump, NULL, 64, 1) == BB_CANNOT_MAKE, "a region doesn't start at 0");
-    expect(bb_shared_bump_make(bump, bump_words, sizeof bump_words, THREADS) == BB_DONE, "a bump is made");
+    expect(bb_shared_pool_init(pool, BUCKET_SIZE, 8, pool_words, 64, 0) == BB_INVALID_ARGUMENT, "a party is there");
+    expect(bb_shared_pool_init(pool, BUCKET_SIZE, 3, pool_words, 64, 1) == BB_INVALID_LAYOUT, "3 is no power of two");
+    expect(bb_shared_pool_init(pool, 0, 8, pool_words, 64, 1) == BB_INVALID_ARGUMENT, "a bucket has a byte");
+    expect(bb_shared_pool_init(pool, BUCKET_SIZE, 8, pool_words, sizeof pool_words, THREADS) == BB_OK, "a pool is made");
+    expect(bb_shared_pool_init(pool, BUCKET_SIZE, 8, pool_words, 64, 1) == BB_ALREADY_INITIALIZED, "a handle holds one");
+    expect(bb_shared_bump_init(bump, NULL, 64, 1) == BB_INVALID_ARGUMENT, "a region doesn't start at 0");
+    expect(bb_shared_bump_init(bump, bump_words, sizeof bump_words, THREADS) == BB_OK, "a bump is made");
 
-    unsigned seats = 0;
     for (size_t number = 0; number < THREADS; number++) {
         workers[number].number = number;
-        expect(bb_shared_pool_seat(pool, &workers[number].pool) == BB_DONE, "a party has a seat");
-        expect(bb_shared_pool_seat(pool, &workers[number].pool) == BB_ALREADY_MADE, "a handle holds one seat");
-        expect(bb_shared_bump_seat(bump, &workers[number].bump) == BB_DONE, "a party has a seat");
-        seats |= 1u << bb_pool_seat_party(&workers[number].pool).number;
+        expect(bb_shared_pool_join(pool, &workers[number].pool) == BB_OK, "a party joins");
+        expect(bb_shared_pool_join(pool, &workers[number].pool) == BB_ALREADY_INITIALIZED, "a handle holds one party");
+        expect(bb_shared_bump_join(bump, &workers[number].bump) == BB_OK, "a party joins");
     }
-    expect(seats == 15, "each party has one seat");
-    bb_pool_seat none = BB_EMPTY;
-    expect(bb_shared_pool_seat(pool, &none) == BB_NO_SEAT, "no party is left");
+    bb_pool_party none = BB_EMPTY;
+    expect(bb_shared_pool_join(pool, &none) == BB_NO_PARTY, "no party is left");
     bb_shared_pool no_pool = BB_EMPTY;
-    expect(bb_shared_pool_seat(&no_pool, &none) == BB_NOT_MADE, "an empty handle has no seats");
-    expect(bb_pool_seat_allocate(&none, 8, 8).code == BB_NOT_MADE, "an empty handle has no seat");
-    bb_bump_seat no_seat = BB_EMPTY;
-    expect(bb_bump_seat_allocate(&no_seat, 8, 8).code == BB_NOT_MADE, "an empty handle has no seat");
+    expect(bb_shared_pool_join(&no_pool, &none) == BB_UNINITIALIZED, "an empty handle has no parties");
+    expect(bb_pool_party_allocate(&none, 8, 8).code == BB_UNINITIALIZED, "an empty handle has no party");
+    bb_bump_party no_party = BB_EMPTY;
+    expect(bb_bump_party_allocate(&no_party, 8, 8).code == BB_UNINITIALIZED, "an empty handle has no party");
 }
 
-// What one seat holds is not another's.
+// What one party holds is not another's.
 static void one_by_one(void) {
-    bb_pool_seat *mine = &workers[0].pool, *other = &workers[1].pool;
-    expect(bb_pool_seat_number_of_buckets(mine).number == BUCKETS, "eight buckets");
-    expect(bb_pool_seat_bucket_size(mine).number == BUCKET_SIZE, "of 64 bytes");
-    expect(bb_pool_seat_max_alignment(mine).number == 8, "at multiples of 8");
-    expect(bb_pool_seat_size(mine).number == sizeof pool_words, "over the region");
-    expect(bb_pool_seat_start_address(mine).number == (size_t)(uintptr_t)pool_words, "from its start");
-    expect(bb_pool_seat_allocate(mine, BUCKET_SIZE + 1, 16).code == BB_SIZE_TOO_LARGE, "65 bytes are too many");
-    expect(bb_pool_seat_allocate(mine, 1, 16).code == BB_ALIGNMENT_FAILURE, "16 is too wide");
-    expect(bb_pool_seat_allocate(mine, 1, 3).code == BB_NOT_A_LAYOUT, "3 is no power of two");
+    bb_pool_party *mine = &workers[0].pool, *other = &workers[1].pool;
+    struct bb_pool_info info;
+    expect(bb_pool_party_info(mine, &info) == BB_OK && info.number_of_buckets == BUCKETS, "eight buckets");
+    expect(info.bucket_size == BUCKET_SIZE && info.max_alignment == 8, "of 64 bytes at multiples of 8");
+    expect(info.size == sizeof pool_words && info.start_address == (size_t)(uintptr_t)pool_words, "over the region");
+    expect(bb_pool_party_allocate(mine, BUCKET_SIZE + 1, 16).code == BB_SIZE_TOO_LARGE, "65 bytes are too many");
+    expect(bb_pool_party_allocate(mine, 1, 16).code == BB_ALIGNMENT_FAILURE, "16 is too wide");
+    expect(bb_pool_party_allocate(mine, 1, 3).code == BB_INVALID_LAYOUT, "3 is no power of two");
     void *places[BUCKETS];
     for (size_t bucket = 0; bucket < BUCKETS; bucket++) {
-        bb_answer given = bb_pool_seat_allocate(mine, SHARE, 8);
-        expect(given.code == BB_DONE && given.len == SHARE, "a bucket is given");
+        bb_answer given = bb_pool_party_allocate(mine, SHARE, 8);
+        expect(given.code == BB_OK && given.len == SHARE, "a bucket is given");
         places[bucket] = given.place;
         for (size_t before = 0; before < bucket; before++)
             expect(places[before] != given.place, "each bucket is given once");
     }
-    expect(bb_pool_seat_allocate(other, 1, 1).code == BB_OUT_OF_MEMORY, "no bucket is free");
-    expect(bb_pool_seat_deallocate(other, places[0]) == BB_NOT_HELD, "another seat's bucket isn't given back");
-    expect(bb_pool_seat_holds(other, places[0]).number == 0, "another seat's bucket isn't held");
+    expect(bb_pool_party_allocate(other, 1, 1).code == BB_OUT_OF_MEMORY, "no bucket is free");
+    expect(bb_pool_party_deallocate(other, places[0]) == BB_NOT_HELD, "another party's bucket isn't given back");
+    expect(bb_pool_party_holds(other, places[0]).number == 0, "another party's bucket isn't held");
     for (size_t bucket = 0; bucket < BUCKETS; bucket++)
-        expect(bb_pool_seat_deallocate(mine, places[bucket]) == BB_DONE, "a bucket is given back");
-    bb_bump_seat *bump = &workers[0].bump;
-    expect(bb_bump_seat_allocate(bump, 0, 1).code == BB_SIZE_IS_ZERO, "no chunk has no byte");
-    expect(bb_bump_seat_used_space(bump).number == 0, "nothing is used");
-    expect(bb_bump_seat_free_space(bump).number == sizeof bump_words, "all is free");
-    expect(bb_bump_seat_total_space(bump).number == sizeof bump_words, "all of the region");
-    expect(bb_bump_seat_start_address(bump).number == (size_t)(uintptr_t)bump_words, "from its start");
-    expect(bb_bump_seat_party(bump).number < THREADS, "a party has a number");
-    expect(bb_bump_seat_allocate(bump, sizeof bump_words + 1, 1).code == BB_OUT_OF_MEMORY, "it has no room for more");
+        expect(bb_pool_party_deallocate(mine, places[bucket]) == BB_OK, "a bucket is given back");
+    bb_bump_party *bump = &workers[0].bump;
+    expect(bb_bump_party_allocate(bump, 0, 1).code == BB_SIZE_IS_ZERO, "no chunk has no byte");
+    struct bb_bump_info bytes;
+    expect(bb_bump_party_info(bump, &bytes) == BB_OK && bytes.used_space == 0, "nothing is used");
+    expect(bytes.free_space == sizeof bump_words && bytes.total_space == sizeof bump_words, "all of the region is free");
+    expect(bytes.start_address == (size_t)(uintptr_t)bump_words, "from its start");
+    expect(bb_bump_party_allocate(bump, sizeof bump_words + 1, 1).code == BB_OUT_OF_MEMORY, "it has no room for more");
 }
 
 int main(void) {
@@ -205,8 +201,9 @@ int main(void) {
     bb_shared_bump bump = BB_EMPTY;
     make(&pool, &bump);
     one_by_one();
-    // The seats keep the pool and the bump.
-    expect(bb_shared_pool_free(&pool) == BB_DONE && bb_shared_pool_free(&pool) == BB_NOT_MADE, "a pool's handle is freed once");
+    // The parties keep the pool and the bump.
+    expect(bb_shared_pool_destroy(&pool) == BB_OK, "a pool's handle is destroyed");
+    expect(bb_shared_pool_destroy(&pool) == BB_UNINITIALIZED, "and only once");
 
     pthread_t threads[THREADS];
     expect(pthread_barrier_init(&start, NULL, THREADS) == 0, "threads can wait for one another");
@@ -220,13 +217,14 @@ int main(void) {
         for (size_t chunk = 0; chunk < CHUNKS; chunk++)
             expect_filled(workers[number].places[chunk], CHUNK, pattern_of(&workers[number], chunk));
     }
-    expect(bb_bump_seat_free_space(&workers[0].bump).number == 0, "all of the bump is used");
-    expect(bb_bump_seat_allocate(&workers[0].bump, 1, 1).code == BB_OUT_OF_MEMORY, "the bump is full");
+    struct bb_bump_info bytes;
+    expect(bb_bump_party_info(&workers[0].bump, &bytes) == BB_OK && bytes.free_space == 0, "all of the bump is used");
+    expect(bb_bump_party_allocate(&workers[0].bump, 1, 1).code == BB_OUT_OF_MEMORY, "the bump is full");
     for (size_t number = 0; number < THREADS; number++) {
-        expect(bb_pool_seat_free(&workers[number].pool) == BB_DONE, "a seat is freed");
-        expect(bb_bump_seat_free(&workers[number].bump) == BB_DONE, "a seat is freed");
+        expect(bb_pool_party_destroy(&workers[number].pool) == BB_OK, "a party is destroyed");
+        expect(bb_bump_party_destroy(&workers[number].bump) == BB_OK, "a party is destroyed");
     }
-    expect(bb_shared_bump_free(&bump) == BB_DONE, "a bump's handle is freed");
+    expect(bb_shared_bump_destroy(&bump) == BB_OK, "a bump's handle is freed");
     puts("threads: every chunk kept what its thread wrote");
     return 0;
 }

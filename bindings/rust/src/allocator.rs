@@ -3,14 +3,19 @@ use crate::error::{AllocationError, AllocationGrowError, AllocationShrinkError};
 use core::alloc::Layout;
 use core::ptr::NonNull;
 
-/// What gives chunks of its region, and takes them back.
+/// Gives chunks of its region, and takes them back.
 pub trait BaseAllocator {
-    /// A chunk of at least `layout.size()` bytes at a multiple of `layout.align()`, which overlaps none that is out. Its bytes
-    /// are as they were in the region.
+    /// Returns a chunk of at least `layout.size()` bytes at a multiple of `layout.align()`, which overlaps none that is out. Its
+    /// bytes are as they were in the region.
     fn allocate(&self, layout: Layout) -> Result<NonNull<[u8]>, AllocationError>;
 
-    /// The same, with each byte zero.
-    fn allocate_zeroed(&self, layout: Layout) -> Result<NonNull<[u8]>, AllocationError>;
+    /// Returns a chunk as [`allocate`](BaseAllocator::allocate) does, with each byte zero.
+    fn allocate_zeroed(&self, layout: Layout) -> Result<NonNull<[u8]>, AllocationError> {
+        let chunk = self.allocate(layout)?;
+        // SAFETY: the chunk lies in the region, whose bytes may be written, and was given to nobody else.
+        unsafe { chunk.cast::<u8>().write_bytes(0, chunk.len()) };
+        Ok(chunk)
+    }
 
     /// Gives back the chunk that begins here; a bump takes all of its chunks back. Where none that is out begins here, nothing
     /// is done. The layout decides nothing.
@@ -21,9 +26,9 @@ pub trait BaseAllocator {
     unsafe fn deallocate(&self, ptr: NonNull<u8>, layout: Layout);
 }
 
-/// What also resizes chunks, where they are.
+/// Resizes chunks, where they are.
 pub trait Allocator: BaseAllocator {
-    /// The chunk that begins here gets the new size, or more, where as much is reserved for it. Its bytes stay.
+    /// Gives the chunk that begins here the new size, or more, where as much is reserved for it. Its bytes stay.
     ///
     /// # Safety
     ///
@@ -35,7 +40,7 @@ pub trait Allocator: BaseAllocator {
         new_layout: Layout,
     ) -> Result<NonNull<[u8]>, AllocationGrowError>;
 
-    /// The same, with each byte zero that the chunk didn't have.
+    /// Grows as [`grow`](Allocator::grow) does, with each byte zero that the chunk didn't have.
     ///
     /// # Safety
     ///
@@ -48,18 +53,13 @@ pub trait Allocator: BaseAllocator {
     ) -> Result<NonNull<[u8]>, AllocationGrowError> {
         // SAFETY: the caller keeps what `grow` asks.
         let chunk = unsafe { self.grow(ptr, old_layout, new_layout)? };
-        let added = chunk.len() - old_layout.size();
+        let (old, added) = (old_layout.size(), chunk.len() - old_layout.size());
         // SAFETY: the chunk is the caller's, and is longer than it was: a growing to no more is refused.
-        unsafe {
-            chunk
-                .cast::<u8>()
-                .add(old_layout.size())
-                .write_bytes(0, added)
-        };
+        unsafe { chunk.cast::<u8>().add(old).write_bytes(0, added) };
         Ok(chunk)
     }
 
-    /// The chunk that begins here gets exactly the new size. Its first bytes stay.
+    /// Gives the chunk that begins here exactly the new size. Its first bytes stay.
     ///
     /// # Safety
     ///
@@ -72,46 +72,136 @@ pub trait Allocator: BaseAllocator {
     ) -> Result<NonNull<[u8]>, AllocationShrinkError>;
 }
 
-/// Both traits, of a type whose `owned` is of a kind that keeps its chunks.
-macro_rules! keeps {
-    ([$($parameters:tt)*] $name:ty) => {
-        impl<$($parameters)*> $crate::BaseAllocator for $name {
-            fn allocate(&self, layout: Layout) -> Result<NonNull<[u8]>, $crate::AllocationError> {
-                self.owned.allocate(layout)
-            }
-
-            fn allocate_zeroed(
-                &self,
-                layout: Layout,
-            ) -> Result<NonNull<[u8]>, $crate::AllocationError> {
-                self.owned.allocate_zeroed(layout)
-            }
-
-            unsafe fn deallocate(&self, ptr: NonNull<u8>, _layout: Layout) {
-                let _ = self.owned.deallocate(ptr);
-            }
+/// Defines an allocator over a region. In brackets stand the parameters in front of the region and behind it.
+macro_rules! allocator {
+    (
+        $(#[$about:meta])*
+        $name:ident [$($front:ident: $front_type:ty)?] [$($last:ident: $last_type:ty)?]
+        by $init:ident[$($layout:expr),*], $destroy:ident
+    ) => {
+        $(#[$about])*
+        #[derive(Debug)]
+        pub struct $name<'region> {
+            owned: Owned<'region>,
         }
 
-        impl<$($parameters)*> $crate::Allocator for $name {
-            unsafe fn grow(
-                &self,
-                ptr: NonNull<u8>,
-                old_layout: Layout,
-                new_layout: Layout,
-            ) -> Result<NonNull<[u8]>, $crate::AllocationGrowError> {
-                self.owned.grow(ptr, old_layout, new_layout)
+        impl<'region> $name<'region> {
+            /// Makes it over this region, which is its own and its parties' as long as one of them lives.
+            pub fn over(
+                $($front: $front_type,)?
+                region: &'region mut [MaybeUninit<u8>],
+                $($last: $last_type,)?
+            ) -> Result<Self, InitError> {
+                let region = NonNull::from(region);
+                // SAFETY: the region is lent for all of `'region`.
+                unsafe { Self::new($($front,)? region.cast(), region.len() $(, $last)?) }
             }
 
-            unsafe fn shrink(
-                &self,
+            /// Makes it over the `size` bytes at `ptr`.
+            ///
+            /// # Safety
+            ///
+            /// The bytes may be written through `ptr` for all of `'region`, and meanwhile nothing else uses them but through
+            /// chunks that this allocator or its parties gave.
+            pub unsafe fn new(
+                $($front: $front_type,)?
                 ptr: NonNull<u8>,
-                old_layout: Layout,
-                new_layout: Layout,
-            ) -> Result<NonNull<[u8]>, $crate::AllocationShrinkError> {
-                self.owned.shrink(ptr, old_layout, new_layout)
+                size: usize,
+                $($last: $last_type,)?
+            ) -> Result<Self, InitError> {
+                // SAFETY: both functions are of this kind.
+                let owned = unsafe {
+                    Owned::init(ptr, ffi::$destroy, |handle, start| {
+                        ffi::$init(handle, $($layout,)* start, size $(, $last)?)
+                    })?
+                };
+                Ok($name { owned })
             }
         }
     };
 }
 
-pub(crate) use keeps;
+/// Writes `info`, and a getter of each figure.
+macro_rules! figures {
+    ($name:ident: $info:ident by $call:ident: $($figure:ident: $type:ty),*) => {
+        impl $name<'_> {
+            /// Returns all figures.
+            pub fn info(&self) -> ffi::$info {
+                let mut info = ffi::$info::default();
+                // SAFETY: the function is of this kind, and no other call has the handle.
+                expect_ok(unsafe { ffi::$call(self.owned.handle(), &mut info) });
+                info
+            }
+            $(
+                #[doc = concat!("Returns `", stringify!($figure), "` of [`info`](Self::info).")]
+                pub fn $figure(&self) -> $type {
+                    self.info().$figure
+                }
+            )*
+        }
+    };
+}
+
+/// Writes the calls of what knows its chunks by their places.
+macro_rules! keeps {
+    ($name:ident: $allocate:ident $deallocate:ident $holds:ident) => {
+        impl $name<'_> {
+            /// Returns whether a chunk that is out begins here; of a party of a pool, one that it holds.
+            pub fn holds(&self, ptr: NonNull<u8>) -> bool {
+                // SAFETY: the function is of this kind, and no other call has the handle, here and below.
+                is_so(unsafe { ffi::$holds(self.owned.handle(), ptr.as_ptr().cast()) })
+            }
+
+            /// Gives back the chunk that begins here, and tells where none does.
+            ///
+            /// # Safety
+            ///
+            /// Nothing reads or writes its bytes from now on.
+            pub unsafe fn try_deallocate(&self, ptr: NonNull<u8>) -> Result<(), DeallocationError> {
+                // SAFETY: as above.
+                let code = unsafe { ffi::$deallocate(self.owned.handle(), ptr.as_ptr().cast()) };
+                DeallocationError::unless_ok(code)
+            }
+        }
+
+        impl BaseAllocator for $name<'_> {
+            fn allocate(&self, layout: Layout) -> Result<NonNull<[u8]>, AllocationError> {
+                // SAFETY: the function is of this kind.
+                unsafe { self.owned.allocate(ffi::$allocate, layout) }
+            }
+
+            unsafe fn deallocate(&self, ptr: NonNull<u8>, _layout: Layout) {
+                // SAFETY: the caller keeps what `try_deallocate` asks.
+                let _ = unsafe { self.try_deallocate(ptr) };
+            }
+        }
+    };
+}
+
+/// Writes the calls of what is cut into buckets.
+macro_rules! buckets {
+    ($name:ident: $info:ident $place_at:ident $number_at:ident) => {
+        figures! {
+            $name: PoolInfo by $info: start_address: usize, size: usize, bucket_size: usize, max_alignment: usize,
+            number_of_buckets: usize, held_buckets: usize
+        }
+
+        impl $name<'_> {
+            /// Returns where the bucket of this number begins, from 0 on, held or not; `None` where there is no such bucket.
+            pub fn place_at(&self, number: u32) -> Option<NonNull<u8>> {
+                // SAFETY: the function is of this kind, and no other call has the handle, here and below.
+                let told = unsafe { ffi::$place_at(self.owned.handle(), number) };
+                number_if(ffi::NOT_A_BUCKET, told).map(|place| self.owned.at(place))
+            }
+
+            /// Returns the number of the bucket that begins here, held or not; `None` where none does.
+            pub fn number_at(&self, ptr: NonNull<u8>) -> Option<u32> {
+                // SAFETY: as above. A bucket's number is a `u32`.
+                let told = unsafe { ffi::$number_at(self.owned.handle(), ptr.as_ptr().cast()) };
+                number_if(ffi::NOT_A_BUCKET, told).map(|number| number as u32)
+            }
+        }
+    };
+}
+
+pub(crate) use {allocator, buckets, figures, keeps};

@@ -19,6 +19,14 @@ macro_rules! error {
                     _ => no_such_answer(code),
                 }
             }
+
+            #[allow(dead_code)]
+            pub(crate) fn unless_ok(code: u32) -> Result<(), $name> {
+                match code {
+                    ffi::OK => Ok(()),
+                    _ => Err($name::of(code)),
+                }
+            }
         }
 
         impl fmt::Display for $name {
@@ -65,7 +73,7 @@ error! {
         /// No chunk that is out begins at the place.
         NotHeld = NOT_HELD: "nothing is held at the place",
         /// The place isn't a multiple of the old alignment.
-        NotTheOld = NOT_THE_OLD: "the chunk cannot have the old layout",
+        LayoutMismatch = LAYOUT_MISMATCH: "the chunk cannot have the old layout",
     }
 }
 
@@ -79,23 +87,23 @@ error! {
         /// No chunk that is out begins at the place.
         NotHeld = NOT_HELD: "nothing is held at the place",
         /// The place isn't a multiple of the old alignment, or the old size is greater than what is reserved.
-        NotTheOld = NOT_THE_OLD: "the chunk cannot have the old layout",
+        LayoutMismatch = LAYOUT_MISMATCH: "the chunk cannot have the old layout",
     }
 }
 
 error! {
     /// Why nothing was given back.
     DeallocationError {
-        /// No chunk that is out begins at the place; of a seat, no bucket that this seat holds.
+        /// No chunk that is out begins at the place; of a party, no bucket that it holds.
         NotHeld = NOT_HELD: "nothing is held at the place",
     }
 }
 
 error! {
     /// Why nothing was made.
-    MakeError {
+    InitError {
         /// The region ends behind the last address, a bucket has no byte, there are `u32::MAX` buckets or more, or no party.
-        CannotMake = CANNOT_MAKE: "the region, the buckets or the parties cannot be",
+        InvalidArgument = INVALID_ARGUMENT: "the region, the buckets or the parties cannot be",
         /// The region has no room for one bucket.
         NoBucket = NO_BUCKET: "the region has no room for one bucket",
         /// `malloc` refused.
@@ -104,21 +112,21 @@ error! {
 }
 
 error! {
-    /// Why no seat was given.
-    SeatError {
-        /// Each party has its seat, or had one that was dropped: that of a dropped seat gets no other.
-        NoSeat = NO_SEAT: "no party is without a seat",
+    /// Why no party joined.
+    JoinError {
+        /// Each party has joined, or was dropped: a dropped one can't join again.
+        NoParty = NO_PARTY: "no party is left to join",
         /// `malloc` refused.
         MallocRefused = MALLOC_REFUSED: "malloc refused",
     }
 }
 
 error! {
-    /// Why a bucket wasn't detached. Its seat holds it still, if it did.
+    /// Why a bucket wasn't detached. Its party holds it still, if it did.
     DetachError {
-        /// The seat's pool has no other party.
+        /// The pool has no other party.
         OneParty = ONE_PARTY: "the pool has no other party",
-        /// The place isn't that of a bucket which this seat holds.
+        /// The place isn't that of a bucket which this party holds.
         NotHeld = NOT_HELD: "nothing is held at the place",
         /// The length is greater than the bucket's size.
         SizeTooLarge = SIZE_TOO_LARGE: "the size is greater than a bucket's",
@@ -128,10 +136,10 @@ error! {
 }
 
 error! {
-    /// Why a bump that threads share didn't begin anew, or got no owner. It is as it was.
-    BeginError {
-        /// Not each party's seat has come back; for good where one was dropped.
-        SeatsOut = SEATS_OUT: "not each party's seat has come back",
+    /// Why a bump that threads share wasn't reset. It is as it was.
+    ResetError {
+        /// Not each party has left; for good where one was dropped.
+        PartiesJoined = PARTIES_JOINED: "not each party has left",
         /// `malloc` refused.
         MallocRefused = MALLOC_REFUSED: "malloc refused",
     }

@@ -1,8 +1,8 @@
-//! The functions of `bb_memory.h` that this crate calls. What it asks of a caller is kept by [`crate::owned`].
+//! The functions of `bb_memory.h` that this crate calls. [`crate::owned`] keeps what the header asks of a caller.
 use core::ffi::c_void;
 use core::ptr;
 
-/// What the header calls a handle: of each kind the fields are the same.
+/// A handle: the kinds have the same fields.
 #[repr(C)]
 pub struct Handle {
     at: *mut c_void,
@@ -16,7 +16,7 @@ impl Handle {
     };
 }
 
-/// A code, and with [`DONE`] the chunk that was given.
+/// A code, and with [`OK`] the chunk that was given.
 #[repr(C)]
 pub struct Answer {
     pub code: u32,
@@ -24,14 +24,58 @@ pub struct Answer {
     pub len: usize,
 }
 
-/// A code, and with [`DONE`] the number that was asked for.
+/// A code, and with [`OK`] the number that was asked for.
 #[repr(C)]
 pub struct Figure {
     pub code: u32,
     pub number: usize,
 }
 
-pub const DONE: u32 = 0;
+/// The figures of a bump, in bytes. One look finds those of a bump that threads share.
+#[repr(C)]
+#[derive(Clone, Copy, Debug, Default, PartialEq, Eq)]
+pub struct BumpInfo {
+    /// The address of the region's start.
+    pub start_address: usize,
+    /// The bytes that are used, the padding between chunks among them.
+    pub used_space: usize,
+    /// The bytes behind the last chunk.
+    pub free_space: usize,
+    /// The bytes of the region.
+    pub total_space: usize,
+}
+
+/// The figures of one chunk.
+#[repr(C)]
+#[derive(Clone, Copy, Debug, Default, PartialEq, Eq)]
+pub struct OneChunkInfo {
+    /// The address of the region's start.
+    pub start_address: usize,
+    /// The bytes of the region.
+    pub size: usize,
+    /// Whether no chunk is out.
+    pub has_chunk_available: bool,
+}
+
+/// The figures of a pool.
+#[repr(C)]
+#[derive(Clone, Copy, Debug, Default, PartialEq, Eq)]
+pub struct PoolInfo {
+    /// The address of bucket 0: the region's start, rounded up to the bucket's alignment.
+    pub start_address: usize,
+    /// The bytes of the region, padding in front included.
+    pub size: usize,
+    /// The bytes of a bucket, as they were asked for.
+    pub bucket_size: usize,
+    /// The greatest alignment that a request may have, which is the bucket's.
+    pub max_alignment: usize,
+    /// The number of buckets.
+    pub number_of_buckets: usize,
+    /// The number of buckets that are held; of a party, that it holds.
+    pub held_buckets: usize,
+}
+
+pub const OK: u32 = 0;
 pub const SIZE_IS_ZERO: u32 = 1;
 pub const SIZE_TOO_LARGE: u32 = 2;
 pub const ALIGNMENT_FAILURE: u32 = 3;
@@ -39,223 +83,85 @@ pub const OUT_OF_MEMORY: u32 = 4;
 pub const GROW_WOULD_SHRINK: u32 = 5;
 pub const SHRINK_WOULD_GROW: u32 = 6;
 pub const NOT_HELD: u32 = 9;
-pub const CANNOT_MAKE: u32 = 11;
-pub const NO_SEAT: u32 = 12;
-pub const NOT_THE_OLD: u32 = 13;
+pub const INVALID_ARGUMENT: u32 = 11;
+pub const NO_PARTY: u32 = 12;
+pub const LAYOUT_MISMATCH: u32 = 13;
 pub const MALLOC_REFUSED: u32 = 14;
 pub const MORE_THAN_RESERVED: u32 = 15;
 pub const NO_BUCKET: u32 = 16;
-pub const SEATS_OUT: u32 = 18;
+pub const PARTIES_JOINED: u32 = 18;
 pub const ONE_PARTY: u32 = 19;
 pub const DETACHED_FULL: u32 = 20;
 pub const NOT_A_BUCKET: u32 = 22;
 
-/// Frees what is behind a handle.
-pub type Free = unsafe extern "C" fn(*mut Handle) -> u32;
+/// Destroys what is behind a handle.
+pub type Destroy = unsafe extern "C" fn(*mut Handle) -> u32;
 /// Asks for a chunk of this size at a multiple of this alignment.
 pub type Allocate = unsafe extern "C" fn(*mut Handle, usize, usize) -> Answer;
-/// Gives back the chunk at this place.
-pub type Deallocate = unsafe extern "C" fn(*mut Handle, *const c_void) -> u32;
 /// Resizes the chunk at this place, of this old size and alignment, to these new ones.
 pub type Resize =
     unsafe extern "C" fn(*mut Handle, *const c_void, usize, usize, usize, usize) -> Answer;
-/// Gives a seat of what threads share, behind the second handle, or takes it back.
-pub type Seats = unsafe extern "C" fn(*mut Handle, *mut Handle) -> u32;
-/// Tells a number.
-pub type Tell = unsafe extern "C" fn(*mut Handle) -> Figure;
-/// Tells the place of the bucket of this number.
-pub type TellOf = unsafe extern "C" fn(*mut Handle, u32) -> Figure;
-/// Tells a number of the chunk at this place.
-pub type TellAt = unsafe extern "C" fn(*mut Handle, *const c_void) -> Figure;
+/// Makes the party behind the second handle join, or leave.
+pub type Parties = unsafe extern "C" fn(*mut Handle, *mut Handle) -> u32;
 
-unsafe extern "C" {
-    pub fn bb_bump_make(handle: *mut Handle, start: *const c_void, size: usize) -> u32;
-    pub fn bb_bump_free(handle: *mut Handle) -> u32;
-    pub fn bb_bump_allocate(handle: *mut Handle, size: usize, align: usize) -> Answer;
-    pub fn bb_bump_deallocate(handle: *mut Handle) -> u32;
-    pub fn bb_bump_used_space(handle: *mut Handle) -> Figure;
-    pub fn bb_bump_free_space(handle: *mut Handle) -> Figure;
-    pub fn bb_bump_total_space(handle: *mut Handle) -> Figure;
-    pub fn bb_bump_start_address(handle: *mut Handle) -> Figure;
+/// Declares the functions, whose parameters need no names.
+macro_rules! functions {
+    ($($name:ident($($type:ty),*) -> $result:ty;)*) => {
+        unsafe extern "C" {
+            $(pub fn $name(handle: *mut Handle $(, _: $type)*) -> $result;)*
+        }
+    };
+}
 
-    pub fn bb_one_chunk_make(handle: *mut Handle, start: *const c_void, size: usize) -> u32;
-    pub fn bb_one_chunk_free(handle: *mut Handle) -> u32;
-    pub fn bb_one_chunk_allocate(handle: *mut Handle, size: usize, align: usize) -> Answer;
-    pub fn bb_one_chunk_deallocate(handle: *mut Handle, place: *const c_void) -> u32;
-    pub fn bb_one_chunk_grow(
-        handle: *mut Handle,
-        place: *const c_void,
-        old_size: usize,
-        old_align: usize,
-        new_size: usize,
-        new_align: usize,
-    ) -> Answer;
-    pub fn bb_one_chunk_shrink(
-        handle: *mut Handle,
-        place: *const c_void,
-        old_size: usize,
-        old_align: usize,
-        new_size: usize,
-        new_align: usize,
-    ) -> Answer;
-    pub fn bb_one_chunk_reserved(handle: *mut Handle, place: *const c_void) -> Figure;
-    pub fn bb_one_chunk_holds(handle: *mut Handle, place: *const c_void) -> Figure;
-    pub fn bb_one_chunk_has_chunk_available(handle: *mut Handle) -> Figure;
-    pub fn bb_one_chunk_start_address(handle: *mut Handle) -> Figure;
-    pub fn bb_one_chunk_size(handle: *mut Handle) -> Figure;
+functions! {
+    bb_bump_init(*const c_void, usize) -> u32;
+    bb_bump_destroy() -> u32;
+    bb_bump_allocate(usize, usize) -> Answer;
+    bb_bump_deallocate() -> u32;
+    bb_bump_info(*mut BumpInfo) -> u32;
 
-    pub fn bb_shared_bump_make(
-        handle: *mut Handle,
-        start: *const c_void,
-        size: usize,
-        parties: u32,
-    ) -> u32;
-    pub fn bb_shared_bump_free(handle: *mut Handle) -> u32;
-    pub fn bb_shared_bump_seat(handle: *mut Handle, seat: *mut Handle) -> u32;
-    pub fn bb_shared_bump_leave(handle: *mut Handle, seat: *mut Handle) -> u32;
-    pub fn bb_shared_bump_begin_anew(handle: *mut Handle) -> u32;
-    pub fn bb_shared_bump_into_owner(handle: *mut Handle, bump: *mut Handle) -> u32;
-    pub fn bb_bump_seat_free(handle: *mut Handle) -> u32;
-    pub fn bb_bump_seat_allocate(handle: *mut Handle, size: usize, align: usize) -> Answer;
-    pub fn bb_bump_seat_used_space(handle: *mut Handle) -> Figure;
-    pub fn bb_bump_seat_free_space(handle: *mut Handle) -> Figure;
-    pub fn bb_bump_seat_total_space(handle: *mut Handle) -> Figure;
-    pub fn bb_bump_seat_start_address(handle: *mut Handle) -> Figure;
-    pub fn bb_bump_seat_party(handle: *mut Handle) -> Figure;
-    pub fn bb_bump_seat_meet(handle: *mut Handle, other: *mut Handle) -> u32;
+    bb_one_chunk_init(*const c_void, usize) -> u32;
+    bb_one_chunk_destroy() -> u32;
+    bb_one_chunk_allocate(usize, usize) -> Answer;
+    bb_one_chunk_deallocate(*const c_void) -> u32;
+    bb_one_chunk_grow(*const c_void, usize, usize, usize, usize) -> Answer;
+    bb_one_chunk_shrink(*const c_void, usize, usize, usize, usize) -> Answer;
+    bb_one_chunk_holds(*const c_void) -> Figure;
+    bb_one_chunk_info(*mut OneChunkInfo) -> u32;
 
-    pub fn bb_shared_pool_make(
-        handle: *mut Handle,
-        bucket_size: usize,
-        bucket_align: usize,
-        start: *const c_void,
-        size: usize,
-        parties: u32,
-    ) -> u32;
-    pub fn bb_shared_pool_make_at_most(
-        handle: *mut Handle,
-        bucket_size: usize,
-        bucket_align: usize,
-        start: *const c_void,
-        size: usize,
-        parties: u32,
-        most: u32,
-    ) -> u32;
-    pub fn bb_shared_pool_free(handle: *mut Handle) -> u32;
-    pub fn bb_shared_pool_seat(handle: *mut Handle, seat: *mut Handle) -> u32;
-    pub fn bb_shared_pool_leave(handle: *mut Handle, seat: *mut Handle) -> u32;
-    pub fn bb_pool_seat_held_buckets(handle: *mut Handle) -> Figure;
-    pub fn bb_pool_seat_party(handle: *mut Handle) -> Figure;
+    bb_pool_init(usize, usize, *const c_void, usize) -> u32;
+    bb_pool_destroy() -> u32;
+    bb_pool_allocate(usize, usize) -> Answer;
+    bb_pool_deallocate(*const c_void) -> u32;
+    bb_pool_holds(*const c_void) -> Figure;
+    bb_pool_info(*mut PoolInfo) -> u32;
+    bb_pool_place_at(u32) -> Figure;
+    bb_pool_number_at(*const c_void) -> Figure;
 
-    pub fn bb_pool_make(
-        handle: *mut Handle,
-        bucket_size: usize,
-        bucket_align: usize,
-        start: *const c_void,
-        size: usize,
-    ) -> u32;
-    pub fn bb_pool_free(handle: *mut Handle) -> u32;
-    pub fn bb_pool_allocate(handle: *mut Handle, size: usize, align: usize) -> Answer;
-    pub fn bb_pool_deallocate(handle: *mut Handle, place: *const c_void) -> u32;
-    pub fn bb_pool_grow(
-        handle: *mut Handle,
-        place: *const c_void,
-        old_size: usize,
-        old_align: usize,
-        new_size: usize,
-        new_align: usize,
-    ) -> Answer;
-    pub fn bb_pool_shrink(
-        handle: *mut Handle,
-        place: *const c_void,
-        old_size: usize,
-        old_align: usize,
-        new_size: usize,
-        new_align: usize,
-    ) -> Answer;
-    pub fn bb_pool_reserved(handle: *mut Handle, place: *const c_void) -> Figure;
-    pub fn bb_pool_holds(handle: *mut Handle, place: *const c_void) -> Figure;
-    pub fn bb_pool_number_of_buckets(handle: *mut Handle) -> Figure;
-    pub fn bb_pool_held_buckets(handle: *mut Handle) -> Figure;
-    pub fn bb_pool_bucket_size(handle: *mut Handle) -> Figure;
-    pub fn bb_pool_max_alignment(handle: *mut Handle) -> Figure;
-    pub fn bb_pool_size(handle: *mut Handle) -> Figure;
-    pub fn bb_pool_place_at(handle: *mut Handle, number: u32) -> Figure;
-    pub fn bb_pool_number_at(handle: *mut Handle, place: *const c_void) -> Figure;
+    bb_shared_bump_init(*const c_void, usize, u32) -> u32;
+    bb_shared_bump_destroy() -> u32;
+    bb_shared_bump_join(*mut Handle) -> u32;
+    bb_shared_bump_leave(*mut Handle) -> u32;
+    bb_shared_bump_reset() -> u32;
+    bb_bump_party_destroy() -> u32;
+    bb_bump_party_allocate(usize, usize) -> Answer;
+    bb_bump_party_info(*mut BumpInfo) -> u32;
 
-    pub fn bb_fixed_pool_make(
-        handle: *mut Handle,
-        bucket_size: usize,
-        bucket_align: usize,
-        start: *const c_void,
-        size: usize,
-    ) -> u32;
-    pub fn bb_fixed_pool_free(handle: *mut Handle) -> u32;
-    pub fn bb_fixed_pool_allocate(handle: *mut Handle, size: usize, align: usize) -> Answer;
-    pub fn bb_fixed_pool_deallocate(handle: *mut Handle, place: *const c_void) -> u32;
-    pub fn bb_fixed_pool_grow(
-        handle: *mut Handle,
-        place: *const c_void,
-        old_size: usize,
-        old_align: usize,
-        new_size: usize,
-        new_align: usize,
-    ) -> Answer;
-    pub fn bb_fixed_pool_shrink(
-        handle: *mut Handle,
-        place: *const c_void,
-        old_size: usize,
-        old_align: usize,
-        new_size: usize,
-        new_align: usize,
-    ) -> Answer;
-    pub fn bb_fixed_pool_reserved(handle: *mut Handle, place: *const c_void) -> Figure;
-    pub fn bb_fixed_pool_holds(handle: *mut Handle, place: *const c_void) -> Figure;
-    pub fn bb_fixed_pool_number_of_buckets(handle: *mut Handle) -> Figure;
-    pub fn bb_fixed_pool_held_buckets(handle: *mut Handle) -> Figure;
-    pub fn bb_fixed_pool_bucket_size(handle: *mut Handle) -> Figure;
-    pub fn bb_fixed_pool_max_alignment(handle: *mut Handle) -> Figure;
-    pub fn bb_fixed_pool_size(handle: *mut Handle) -> Figure;
-    pub fn bb_fixed_pool_place_at(handle: *mut Handle, number: u32) -> Figure;
-    pub fn bb_fixed_pool_number_at(handle: *mut Handle, place: *const c_void) -> Figure;
+    bb_shared_pool_init(usize, usize, *const c_void, usize, u32) -> u32;
+    bb_shared_pool_destroy() -> u32;
+    bb_shared_pool_join(*mut Handle) -> u32;
+    bb_shared_pool_leave(*mut Handle) -> u32;
+    bb_pool_party_destroy() -> u32;
+    bb_pool_party_allocate(usize, usize) -> Answer;
+    bb_pool_party_deallocate(*const c_void) -> u32;
+    bb_pool_party_holds(*const c_void) -> Figure;
+    bb_pool_party_info(*mut PoolInfo) -> u32;
+    bb_pool_party_place_at(u32) -> Figure;
+    bb_pool_party_number_at(*const c_void) -> Figure;
 
-    pub fn bb_detached_make(handle: *mut Handle) -> u32;
-    pub fn bb_detached_free(handle: *mut Handle) -> u32;
-    pub fn bb_detached_is_full(handle: *mut Handle) -> Figure;
-    pub fn bb_pool_seat_detach(
-        handle: *mut Handle,
-        place: *const c_void,
-        len: usize,
-        detached: *mut Handle,
-    ) -> u32;
-    pub fn bb_pool_seat_attach(handle: *mut Handle, detached: *mut Handle) -> Answer;
-
-    pub fn bb_pool_seat_free(handle: *mut Handle) -> u32;
-    pub fn bb_pool_seat_allocate(handle: *mut Handle, size: usize, align: usize) -> Answer;
-    pub fn bb_pool_seat_deallocate(handle: *mut Handle, place: *const c_void) -> u32;
-    pub fn bb_pool_seat_grow(
-        handle: *mut Handle,
-        place: *const c_void,
-        old_size: usize,
-        old_align: usize,
-        new_size: usize,
-        new_align: usize,
-    ) -> Answer;
-    pub fn bb_pool_seat_shrink(
-        handle: *mut Handle,
-        place: *const c_void,
-        old_size: usize,
-        old_align: usize,
-        new_size: usize,
-        new_align: usize,
-    ) -> Answer;
-    pub fn bb_pool_seat_reserved(handle: *mut Handle, place: *const c_void) -> Figure;
-    pub fn bb_pool_seat_holds(handle: *mut Handle, place: *const c_void) -> Figure;
-    pub fn bb_pool_seat_number_of_buckets(handle: *mut Handle) -> Figure;
-    pub fn bb_pool_seat_bucket_size(handle: *mut Handle) -> Figure;
-    pub fn bb_pool_seat_max_alignment(handle: *mut Handle) -> Figure;
-    pub fn bb_pool_seat_size(handle: *mut Handle) -> Figure;
-    pub fn bb_pool_seat_place_at(handle: *mut Handle, number: u32) -> Figure;
-    pub fn bb_pool_seat_number_at(handle: *mut Handle, place: *const c_void) -> Figure;
-    pub fn bb_pool_seat_meet(handle: *mut Handle, other: *mut Handle) -> u32;
+    bb_detached_init() -> u32;
+    bb_detached_destroy() -> u32;
+    bb_detached_is_full() -> Figure;
+    bb_pool_party_detach(*const c_void, usize, *mut Handle) -> u32;
+    bb_pool_party_attach(*mut Handle) -> Answer;
 }

@@ -3,24 +3,17 @@
 #![deny(missing_docs)]
 
 mod allocator;
-mod bump;
-mod detached;
 mod error;
 mod ffi;
-mod one_chunk;
 mod owned;
-mod pool;
-mod shared_bump;
-mod shared_pool;
+mod owners;
+mod shared;
 
 pub use allocator::{Allocator, BaseAllocator};
-pub use bump::BumpAllocator;
-pub use detached::DetachedBucket;
 pub use error::{
-    AllocationError, AllocationGrowError, AllocationShrinkError, BeginError, DeallocationError,
-    DetachError, MakeError, SeatError,
+    AllocationError, AllocationGrowError, AllocationShrinkError, DeallocationError, DetachError,
+    InitError, JoinError, ResetError,
 };
-pub use one_chunk::OneChunkAllocator;
-pub use pool::{BucketPool, FixedSizePoolAllocator, PoolAllocator};
-pub use shared_bump::{BumpSeat, SharedBumpAllocator};
-pub use shared_pool::{PoolSeat, SharedPoolAllocator};
+pub use ffi::{BumpInfo, OneChunkInfo, PoolInfo};
+pub use owners::{BumpAllocator, OneChunkAllocator, PoolAllocator};
+pub use shared::{BumpParty, DetachedBucket, PoolParty, SharedBumpAllocator, SharedPoolAllocator};

@@ -1,7 +1,7 @@
-//! What threads share: each has a seat, which it takes along.
+//! What threads share: each thread is a party, which it takes along.
 use bb_memory::{
-    AllocationError, BaseAllocator, BeginError, BumpSeat, DeallocationError, DetachError,
-    DetachedBucket, MakeError, PoolSeat, SeatError, SharedBumpAllocator, SharedPoolAllocator,
+    AllocationError, BaseAllocator, BumpParty, DeallocationError, DetachError, DetachedBucket,
+    InitError, JoinError, PoolParty, ResetError, SharedBumpAllocator, SharedPoolAllocator,
 };
 use std::alloc::Layout;
 use std::ptr::NonNull;
@@ -16,10 +16,10 @@ fn bucket() -> Layout {
 }
 
 /// Takes buckets, and writes into each what no other thread writes.
-fn use_pool(seat: &PoolSeat<'_>) {
+fn use_pool(party: &PoolParty<'_>, number: u32) {
     let mut taken = 0;
     while taken < ROUNDS {
-        let chunk = match seat.allocate(bucket()) {
+        let chunk = match party.allocate(bucket()) {
             Ok(chunk) => chunk.cast::<u64>(),
             Err(error) => {
                 assert_eq!(error, AllocationError::OutOfMemory);
@@ -27,16 +27,14 @@ fn use_pool(seat: &PoolSeat<'_>) {
                 continue;
             }
         };
-        let pattern = taken * u64::from(THREADS) + u64::from(seat.party());
+        let pattern = taken * u64::from(THREADS) + u64::from(number);
         // SAFETY: the bucket is this thread's until it is given back.
         unsafe {
             chunk.write(pattern);
             assert_eq!(chunk.read(), pattern);
-            assert_eq!(seat.try_deallocate(chunk.cast()), Ok(()));
-            assert_eq!(
-                seat.try_deallocate(chunk.cast()),
-                Err(DeallocationError::NotHeld)
-            );
+            assert_eq!(party.try_deallocate(chunk.cast()), Ok(()));
+            let again = party.try_deallocate(chunk.cast());
+            assert_eq!(again, Err(DeallocationError::NotHeld));
         }
         taken += 1;
     }
@@ -46,48 +44,28 @@ fn use_pool(seat: &PoolSeat<'_>) {
 fn no_bucket_has_two_holders() {
     let mut region = Box::new_uninit_slice(64 * 3 + 7);
     let pool = SharedPoolAllocator::over(bucket(), &mut region, THREADS).unwrap();
-    let seats: Vec<PoolSeat<'_>> = (0..THREADS).map(|_| pool.seat().unwrap()).collect();
-    assert_eq!(pool.seat().err(), Some(SeatError::NoSeat));
-    assert_eq!(
-        (seats[0].number_of_buckets(), seats[0].bucket_size()),
-        (3, 64)
-    );
+    let parties: Vec<PoolParty<'_>> = (0..THREADS).map(|_| pool.join().unwrap()).collect();
+    assert_eq!(pool.join().err(), Some(JoinError::NoParty));
+    assert_eq!(parties[0].number_of_buckets(), 3);
     drop(pool);
     thread::scope(|scope| {
-        for seat in seats {
-            scope.spawn(move || use_pool(&seat));
+        for (number, party) in (0..).zip(parties) {
+            scope.spawn(move || use_pool(&party, number));
         }
     });
 }
 
-#[test]
-fn one_seat_does_not_return_the_bucket_of_another() {
-    let mut region = Box::new_uninit_slice(64 * 4);
-    let pool = SharedPoolAllocator::over(bucket(), &mut region, 2).unwrap();
-    let (mine, other) = (pool.seat().unwrap(), pool.seat().unwrap());
-    let chunk = mine.allocate(bucket()).unwrap().cast::<u8>();
-    assert_eq!((mine.holds(chunk), other.holds(chunk)), (true, false));
-    // SAFETY: the bucket isn't used.
-    unsafe {
-        assert_eq!(other.try_deallocate(chunk), Err(DeallocationError::NotHeld));
-        assert_eq!(mine.try_deallocate(chunk), Ok(()));
-    }
-}
-
-/// Takes as many chunks of 8 bytes as there are, and answers how many. Each has what this seat wrote at the end.
-fn use_bump(seat: &BumpSeat<'_>) -> usize {
+/// Takes as many chunks of 8 bytes as there are, and returns how many. Each has what this party wrote at the end.
+fn use_bump(party: &BumpParty<'_>, number: u64) -> usize {
     let mut chunks: Vec<NonNull<u64>> = Vec::new();
-    while let Ok(chunk) = seat.allocate(Layout::new::<u64>()) {
+    while let Ok(chunk) = party.allocate(Layout::new::<u64>()) {
         // SAFETY: the chunk is this thread's for good.
-        unsafe { chunk.cast::<u64>().write(u64::from(seat.party())) };
+        unsafe { chunk.cast::<u64>().write(number) };
         chunks.push(chunk.cast());
     }
     // SAFETY: as above.
-    assert!(
-        chunks
-            .iter()
-            .all(|chunk| unsafe { chunk.read() } == u64::from(seat.party()))
-    );
+    let kept = |chunk: &NonNull<u64>| unsafe { chunk.read() } == number;
+    assert!(chunks.iter().all(kept));
     chunks.len()
 }
 
@@ -97,110 +75,81 @@ fn every_byte_of_a_shared_bump_is_given_once() {
     let start = NonNull::from(&mut *region).cast::<u8>();
     // SAFETY: the region is this function's, and used through chunks alone.
     let bump = unsafe { SharedBumpAllocator::new(start, 640_000, THREADS) }.unwrap();
-    let seats: Vec<BumpSeat<'_>> = (0..THREADS).map(|_| bump.seat().unwrap()).collect();
-    assert_eq!(bump.seat().err(), Some(SeatError::NoSeat));
+    let parties: Vec<BumpParty<'_>> = (0..THREADS).map(|_| bump.join().unwrap()).collect();
+    assert_eq!(bump.join().err(), Some(JoinError::NoParty));
     let given: usize = thread::scope(|scope| {
-        let threads: Vec<_> = seats
-            .into_iter()
-            .map(|seat| scope.spawn(move || use_bump(&seat)))
-            .collect();
-        threads
-            .into_iter()
-            .map(|thread| thread.join().unwrap())
-            .sum()
+        let started = (1..).zip(parties);
+        let started = started.map(|(number, party)| scope.spawn(move || use_bump(&party, number)));
+        let threads: Vec<_> = started.collect();
+        threads.into_iter().map(|it| it.join().unwrap()).sum()
     });
     assert_eq!(given, 80_000);
 }
 
 #[test]
-fn a_shared_bump_begins_anew_when_each_seat_has_come_back() {
+fn a_shared_bump_is_reset_when_each_party_has_left() {
     let mut region = Box::new_uninit_slice(64);
     let bump = SharedBumpAllocator::over(&mut region, 2).unwrap();
-    let (one, other) = (bump.seat().unwrap(), bump.seat().unwrap());
+    let (one, other) = (bump.join().unwrap(), bump.join().unwrap());
     assert!(one.allocate(Layout::new::<[u8; 64]>()).is_ok());
-    assert_eq!(other.free_space(), 0);
+    assert_eq!(other.info().free_space, 0);
     // SAFETY: no chunk is used, here and below.
-    assert_eq!(unsafe { bump.begin_anew() }, Err(BeginError::SeatsOut));
+    let reset = || unsafe { bump.reset() };
+    assert_eq!(reset(), Err(ResetError::PartiesJoined));
     bump.leave(other);
-    assert_eq!(unsafe { bump.begin_anew() }, Err(BeginError::SeatsOut));
+    assert_eq!(reset(), Err(ResetError::PartiesJoined));
     bump.leave(one);
-    assert_eq!(unsafe { bump.begin_anew() }, Ok(()));
-    let seat = bump.seat().unwrap();
-    assert_eq!((seat.party(), seat.used_space()), (1, 0));
-    assert!(seat.allocate(Layout::new::<[u8; 64]>()).is_ok());
-    // A dropped seat doesn't come back.
-    drop(seat);
-    assert_eq!(unsafe { bump.begin_anew() }, Err(BeginError::SeatsOut));
+    assert_eq!(reset(), Ok(()));
+    let party = bump.join().unwrap();
+    assert_eq!((party.used_space(), party.total_space()), (0, 64));
+    // A dropped party doesn't come back.
+    drop(party);
+    assert_eq!(reset(), Err(ResetError::PartiesJoined));
 }
 
 #[test]
-fn a_seat_at_a_pool_comes_back_when_it_holds_nothing() {
-    let mut region = Box::new_uninit_slice(64 * 2);
-    let pool = SharedPoolAllocator::over(bucket(), &mut region, 1).unwrap();
-    let seat = pool.seat().unwrap();
-    let chunk = seat.allocate(bucket()).unwrap().cast::<u8>();
-    let seat = pool.leave(seat).unwrap_err();
-    assert!(seat.holds(chunk) && seat.held_buckets() == 1);
-    // SAFETY: the bucket isn't used.
-    assert_eq!(unsafe { seat.try_deallocate(chunk) }, Ok(()));
-    assert_eq!(seat.held_buckets(), 0);
-    assert!(pool.leave(seat).is_ok());
-    assert_eq!(pool.seat().unwrap().party(), 0);
-    assert_eq!(pool.seat().err(), Some(SeatError::NoSeat));
-}
-
-#[test]
-fn a_seat_comes_back_with_what_it_holds() {
+fn a_party_leaves_with_what_it_holds() {
     let mut region = Box::new_uninit_slice(64 * 3);
-    let pool = SharedPoolAllocator::over(bucket(), &mut region, 4).unwrap();
-    let kept = pool.seat().unwrap();
+    let pool = SharedPoolAllocator::over(bucket(), &mut region, 2).unwrap();
+    let kept = pool.join().unwrap();
     let chunk = kept.allocate(bucket()).unwrap().cast::<u8>();
     for _ in 0..1_000 {
-        let workers = [pool.seat().unwrap(), pool.seat().unwrap()];
-        let workers = thread::scope(|scope| {
-            workers
-                .map(|worker| {
-                    scope.spawn(move || {
-                        assert!(worker.allocate(bucket()).is_ok());
-                        worker
-                    })
-                })
-                .map(|thread| thread.join().unwrap())
+        let worker = pool.join().unwrap();
+        let worker = thread::scope(|scope| {
+            let working = scope.spawn(move || {
+                assert!(worker.allocate(bucket()).is_ok());
+                worker
+            });
+            working.join().unwrap()
         });
-        for worker in workers {
-            assert_eq!(worker.held_buckets(), 1);
-            // SAFETY: the bucket isn't used.
-            unsafe { pool.leave_with_buckets(worker) };
-        }
+        // What holds a bucket leaves by the other call alone.
+        let worker = pool.leave(worker).unwrap_err();
+        assert_eq!(worker.held_buckets(), 1);
+        // SAFETY: the bucket isn't used.
+        unsafe { pool.leave_with_buckets(worker) };
     }
     assert!(kept.holds(chunk) && kept.held_buckets() == 1);
+    // SAFETY: as above.
+    assert_eq!(unsafe { kept.try_deallocate(chunk) }, Ok(()));
+    assert!(pool.leave(kept).is_ok());
+    let _parties = (pool.join().unwrap(), pool.join().unwrap());
+    assert_eq!(pool.join().err(), Some(JoinError::NoParty));
 }
 
 #[test]
-#[should_panic(expected = "the seat is at another allocator")]
-fn a_seat_does_not_go_back_to_another_pool() {
+#[should_panic(expected = "the party is another allocator's")]
+fn a_party_does_not_leave_another_pool() {
     let (mut mine, mut other) = (Box::new_uninit_slice(64), Box::new_uninit_slice(64));
     let mine = SharedPoolAllocator::over(bucket(), &mut mine, 1).unwrap();
     let other = SharedPoolAllocator::over(bucket(), &mut other, 1).unwrap();
-    let _ = mine.leave(other.seat().unwrap());
-}
-
-#[test]
-fn a_shared_pool_has_at_most_so_many_buckets() {
-    let mut region = Box::new_uninit_slice(64 * 8);
-    for (most, buckets) in [(1, 1), (4, 4), (8, 8), (9, 8)] {
-        let pool = SharedPoolAllocator::over_at_most(bucket(), &mut region, 1, most).unwrap();
-        assert_eq!(pool.seat().unwrap().number_of_buckets(), buckets);
-    }
-    let made = SharedPoolAllocator::over_at_most(bucket(), &mut region, 1, 0);
-    assert_eq!(made.err(), Some(MakeError::CannotMake));
+    let _ = mine.leave(other.join().unwrap());
 }
 
 #[test]
 fn a_receiver_gives_back_what_it_was_sent() {
     let mut region = Box::new_uninit_slice(64 * 3);
     let pool = SharedPoolAllocator::over(bucket(), &mut region, 2).unwrap();
-    let (sender, receiver) = (pool.seat().unwrap(), pool.seat().unwrap());
+    let (sender, receiver) = (pool.join().unwrap(), pool.join().unwrap());
     let (full, sent) = mpsc::sync_channel::<DetachedBucket>(1);
     let (empty, returned) = mpsc::channel::<DetachedBucket>();
     for _ in 0..2 {
@@ -241,56 +190,42 @@ fn a_receiver_gives_back_what_it_was_sent() {
         (sending.join().unwrap(), receiving.join().unwrap())
     });
     assert_eq!((sender.held_buckets(), receiver.held_buckets()), (0, 0));
-    for _ in 0..3 {
-        assert!(sender.allocate(bucket()).is_ok());
-    }
 }
 
 #[test]
-fn a_bucket_is_detached_only_where_it_can_be() {
-    let mut region = Box::new_uninit_slice(64 * 2);
-    let mut small = Box::new_uninit_slice(64);
+fn what_one_party_holds_is_not_anothers() {
+    let (mut region, mut small) = (Box::new_uninit_slice(64 * 2), Box::new_uninit_slice(64));
     let pool = SharedPoolAllocator::over(bucket(), &mut region, 2).unwrap();
-    let (mine, other) = (pool.seat().unwrap(), pool.seat().unwrap());
+    let (mine, other) = (pool.join().unwrap(), pool.join().unwrap());
     let mut detached = DetachedBucket::new().unwrap();
     assert!(!detached.is_full() && mine.attach(&mut detached).is_none());
     let chunk = mine.allocate(bucket()).unwrap().cast::<u8>();
     let kept = mine.allocate(bucket()).unwrap().cast::<u8>();
+    assert_eq!((mine.holds(chunk), other.holds(chunk)), (true, false));
+    let number = mine.number_at(chunk).unwrap();
+    assert_eq!(
+        (other.place_at(number), other.place_at(2)),
+        (Some(chunk), None)
+    );
     let alone = SharedPoolAllocator::over(bucket(), &mut small, 1).unwrap();
-    let elsewhere = alone.seat().unwrap();
+    let elsewhere = alone.join().unwrap();
     let there = elsewhere.allocate(bucket()).unwrap().cast::<u8>();
-    // SAFETY: no chunk is used, here and below.
+    // SAFETY: no chunk is used.
     unsafe {
-        assert_eq!(
-            elsewhere.detach(there, 64, &mut detached),
-            Err(DetachError::OneParty)
-        );
-        assert_eq!(
-            other.detach(chunk, 64, &mut detached),
-            Err(DetachError::NotHeld)
-        );
-        assert_eq!(
-            mine.detach(chunk, 65, &mut detached),
-            Err(DetachError::SizeTooLarge)
-        );
+        let refused = elsewhere.detach(there, 64, &mut detached);
+        assert_eq!(refused, Err(DetachError::OneParty));
+        let refused = other.detach(chunk, 64, &mut detached);
+        assert_eq!(refused, Err(DetachError::NotHeld));
+        let refused = mine.detach(chunk, 65, &mut detached);
+        assert_eq!(refused, Err(DetachError::SizeTooLarge));
         assert_eq!(mine.detach(chunk, 64, &mut detached), Ok(()));
-        assert_eq!(
-            mine.detach(kept, 64, &mut detached),
-            Err(DetachError::DetachedFull)
-        );
+        let refused = mine.detach(kept, 64, &mut detached);
+        assert_eq!(refused, Err(DetachError::DetachedFull));
         assert_eq!(mine.try_deallocate(chunk), Err(DeallocationError::NotHeld));
-    }
-    assert_eq!(
-        other.allocate(bucket()).err(),
-        Some(AllocationError::OutOfMemory)
-    );
-    let taken = other.attach(&mut detached).unwrap();
-    assert_eq!(
-        (taken.cast(), taken.len(), other.holds(chunk)),
-        (chunk, 64, true)
-    );
-    // SAFETY: as above.
-    unsafe {
+        let refused = other.allocate(bucket());
+        assert_eq!(refused, Err(AllocationError::OutOfMemory));
+        let taken = other.attach(&mut detached).unwrap();
+        assert_eq!((taken.cast(), taken.len()), (chunk, 64));
         assert_eq!(mine.try_deallocate(chunk), Err(DeallocationError::NotHeld));
         assert_eq!(other.try_deallocate(chunk), Ok(()));
     }
@@ -302,94 +237,18 @@ fn a_bucket_is_not_attached_at_another_pool() {
     let (mut mine, mut other) = (Box::new_uninit_slice(64), Box::new_uninit_slice(64));
     let mine = SharedPoolAllocator::over(bucket(), &mut mine, 2).unwrap();
     let other = SharedPoolAllocator::over(bucket(), &mut other, 2).unwrap();
-    let (seat, mut detached) = (mine.seat().unwrap(), DetachedBucket::new().unwrap());
-    let chunk = seat.allocate(bucket()).unwrap().cast::<u8>();
+    let (party, mut detached) = (mine.join().unwrap(), DetachedBucket::new().unwrap());
+    let chunk = party.allocate(bucket()).unwrap().cast::<u8>();
     // SAFETY: the chunk isn't used.
-    unsafe { seat.detach(chunk, 64, &mut detached).unwrap() };
-    other.seat().unwrap().attach(&mut detached);
+    unsafe { party.detach(chunk, 64, &mut detached).unwrap() };
+    other.join().unwrap().attach(&mut detached);
 }
 
 #[test]
 fn nothing_is_made_for_no_party() {
     let mut region = Box::new_uninit_slice(64);
     let made = SharedBumpAllocator::over(&mut region, 0);
-    assert_eq!(made.err(), Some(MakeError::CannotMake));
+    assert_eq!(made.err(), Some(InitError::InvalidArgument));
     let made = SharedPoolAllocator::over(bucket(), &mut region, 0);
-    assert_eq!(made.err(), Some(MakeError::CannotMake));
-}
-
-#[test]
-fn a_shared_bump_becomes_one_with_an_owner() {
-    let mut region: Box<[std::mem::MaybeUninit<u64>]> = Box::new_uninit_slice(8);
-    let start = NonNull::from(&mut *region).cast::<u8>();
-    // SAFETY: the region is this function's, and used through chunks alone.
-    let shared = unsafe { SharedBumpAllocator::new(start, 64, 2) }.unwrap();
-    let (one, other) = (shared.seat().unwrap(), shared.seat().unwrap());
-    let first = one.allocate(Layout::new::<[u8; 10]>()).unwrap();
-    // SAFETY: the chunk is ours.
-    unsafe { first.cast::<u8>().write(7) };
-    assert!(other.allocate(Layout::new::<u64>()).is_ok());
-    shared.leave(one);
-    let (shared, error) = shared.into_owner().unwrap_err();
-    assert_eq!(error, BeginError::SeatsOut);
-    shared.leave(other);
-    let bump = shared.into_owner().unwrap();
-    assert_eq!((bump.used_space(), bump.free_space()), (24, 40));
-    assert_eq!(bump.start_address(), start.addr().get());
-    let last = bump.allocate(Layout::new::<[u64; 5]>()).unwrap();
-    assert_eq!(last.cast::<u8>().addr().get(), start.addr().get() + 24);
-    assert_eq!(
-        bump.allocate(Layout::new::<u8>()),
-        Err(AllocationError::OutOfMemory)
-    );
-    // SAFETY: the chunk is ours still.
-    assert_eq!(unsafe { first.cast::<u8>().read() }, 7);
-}
-
-#[test]
-fn a_dropped_seat_leaves_a_bump_shared() {
-    let mut region = Box::new_uninit_slice(64);
-    let shared = SharedBumpAllocator::over(&mut region, 2).unwrap();
-    drop(shared.seat().unwrap());
-    let (shared, error) = shared.into_owner().unwrap_err();
-    assert_eq!(error, BeginError::SeatsOut);
-    assert_eq!(shared.seat().unwrap().party(), 0);
-}
-
-#[test]
-fn seats_meet() {
-    let (mut region, mut buckets) = (Box::new_uninit_slice(64), Box::new_uninit_slice(64 * 2));
-    let bump = SharedBumpAllocator::over(&mut region, 2).unwrap();
-    let (mut one, mut other) = (bump.seat().unwrap(), bump.seat().unwrap());
-    assert!(one.allocate(Layout::new::<[u8; 40]>()).is_ok());
-    one.meet(&mut other);
-    other.meet(&mut one);
-    assert_eq!((other.used_space(), other.party()), (40, 0));
-    let pool = SharedPoolAllocator::over(bucket(), &mut buckets, 2).unwrap();
-    let (mut one, mut other) = (pool.seat().unwrap(), pool.seat().unwrap());
-    let chunk = one.allocate(bucket()).unwrap().cast::<u8>();
-    one.meet(&mut other);
-    assert!(one.holds(chunk) && !other.holds(chunk));
-    assert_eq!((one.held_buckets(), other.held_buckets()), (1, 0));
-}
-
-#[test]
-#[should_panic(expected = "the seats are at two allocators")]
-fn seats_at_two_pools_do_not_meet() {
-    let (mut mine, mut other) = (Box::new_uninit_slice(64), Box::new_uninit_slice(64));
-    let mine = SharedPoolAllocator::over(bucket(), &mut mine, 1).unwrap();
-    let other = SharedPoolAllocator::over(bucket(), &mut other, 1).unwrap();
-    mine.seat().unwrap().meet(&mut other.seat().unwrap());
-}
-
-#[test]
-fn a_seat_tells_places_of_buckets_that_another_holds() {
-    let mut region = Box::new_uninit_slice(64 * 3);
-    let pool = SharedPoolAllocator::over(bucket(), &mut region, 2).unwrap();
-    let (one, other) = (pool.seat().unwrap(), pool.seat().unwrap());
-    let chunk = one.allocate(bucket()).unwrap().cast::<u8>();
-    let number = one.number_at(chunk).unwrap();
-    assert_eq!(other.place_at(number), Some(chunk));
-    assert_eq!(other.number_at(chunk), Some(number));
-    assert_eq!(other.place_at(other.number_of_buckets()), None);
+    assert_eq!(made.err(), Some(InitError::InvalidArgument));
 }

@@ -1,4 +1,5 @@
--- A seat's flags, and what a round, a return, a detached or an attached bucket makes of the log that they tell of.
+-- The flags of a party that has joined, and what a round, a return, a detached or an attached bucket makes of the log of which
+-- they tell.
 use Rattle.std.proofs.Common.{◌≡◌, ℕ, ◌<◌, Bool, true, false, List, ◌++◌, length, sym, ap, ◌∙◌, subst, inl, inr}
 use Rattle.std.specs.Prelude.{Some, Ok, Err, ◌==◌, if◌then◌else◌, slice_get, slice_set}
 use Rattle.std.proofs.lemmas.Bool.{cases_eq}
@@ -16,7 +17,7 @@ use Rattle.bb_memory.specs.SharedPool.{PoolParty, SharedPool, TakenBucket, attac
 use Rattle.bb_memory.specs.SharedPoolRounds.{MayTakeFrom, taking_round}
 use Rattle.bb_memory.proofs.SharedPoolRounds.{held-round, missed_same}
 use Rattle.bb_memory.proofs.SharedPoolTries.{held-append}
-use Rattle.bb_memory_c.specs.SharedPools.{AreHeldFlags, IsSeatAt}
+use Rattle.bb_memory_c.specs.SharedPools.{AreHeldFlags, IsJoinedAt}
 
 -- LOGS
 
@@ -63,38 +64,38 @@ pub flag-of-held : (flags : List Bool) (log : PoolLog) (number len : ℕ) → Ar
 flag-of-held flags log number len exact held as_long =
     subst (λ n. number < n) (sym as_long) (slice_get_within flags number true ((exact number).1 held))
 
--- SEATS
+-- FLAGS
 
 -- a request that took no bucket leaves the flags
-pub refused-seat : (pool : SharedPool) (party new : PoolParty) (flags : List Bool) (first : ℕ) (layout : Layout)
+pub refused-flags : (pool : SharedPool) (party new : PoolParty) (flags : List Bool) (first : ℕ) (layout : Layout)
     (error : AllocationError) →
-    IsSeatAt pool party flags → MayTakeFrom first party layout (Err error) new → IsSeatAt pool new flags
-refused-seat pool party new flags first layout SizeIsZero is told = absurd told
-refused-seat pool party new flags first layout SizeTooLarge is told =
-    subst (λ (p : PoolParty). IsSeatAt pool p flags) (sym told.1) is
-refused-seat pool party new flags first layout AlignmentFailure is told =
-    subst (λ (p : PoolParty). IsSeatAt pool p flags) (sym told.2) is
-refused-seat pool party new flags first layout OutOfMemory is told =
+    IsJoinedAt pool party flags → MayTakeFrom first party layout (Err error) new → IsJoinedAt pool new flags
+refused-flags pool party new flags first layout SizeIsZero is told = absurd told
+refused-flags pool party new flags first layout SizeTooLarge is told =
+    subst (λ (p : PoolParty). IsJoinedAt pool p flags) (sym told.1) is
+refused-flags pool party new flags first layout AlignmentFailure is told =
+    subst (λ (p : PoolParty). IsJoinedAt pool p flags) (sym told.2) is
+refused-flags pool party new flags first layout OutOfMemory is told =
     let buckets = party.allocator.scene.geometry.buckets in
     let same = λ (bucket : ℕ). missed_same buckets party.number first buckets bucket party.log in
-    subst (λ (p : PoolParty). IsSeatAt pool p flags) (sym told.1) record {
+    subst (λ (p : PoolParty). IsJoinedAt pool p flags) (sym told.1) record {
       theirs = is.theirs;
       as_many = is.as_many;
       exact = λ bucket. (λ has. same bucket ∙ (is.exact bucket).0 has, λ held. (is.exact bucket).1 (sym (same bucket) ∙ held));
     }
 
 -- one that took a bucket sets its flag
-pub taking-seat : (pool : SharedPool) (party new : PoolParty) (flags : List Bool) (first : ℕ) (layout : Layout)
+pub taking-flags : (pool : SharedPool) (party new : PoolParty) (flags : List Bool) (first : ℕ) (layout : Layout)
     (taken : TakenBucket) →
-    IsSeatAt pool party flags → MayTakeFrom first party layout (Ok taken) new →
-    IsSeatAt pool new (slice_set flags taken.number true)
-taking-seat pool party new flags first layout taken is told =
+    IsJoinedAt pool party flags → MayTakeFrom first party layout (Ok taken) new →
+    IsJoinedAt pool new (slice_set flags taken.number true)
+taking-flags pool party new flags first layout taken is told =
     let buckets = party.allocator.scene.geometry.buckets in
     let round = told.2 in
     let below : taken.number < length flags =
     subst (λ n. taken.number < n) (sym (is.as_many ∙ ap (λ (p : SharedPool). p.scene.geometry.buckets) (sym is.theirs)))
     told.0.below in
-    subst (λ (p : PoolParty). IsSeatAt pool p (slice_set flags taken.number true)) (sym round.adds) record {
+    subst (λ (p : PoolParty). IsJoinedAt pool p (slice_set flags taken.number true)) (sym round.adds) record {
       theirs = is.theirs;
       as_many = length-set_at flags taken.number true ∙ is.as_many;
       exact = flags-set flags taken.number true party.log (party.log ++ taking_round buckets party.number first round.turn) below
@@ -103,13 +104,13 @@ taking-seat pool party new flags first layout taken is told =
     }
 
 -- a return unsets it
-pub returned-seat : (pool : SharedPool) (party new : PoolParty) (flags : List Bool) (number : ℕ) →
-    IsSeatAt pool party flags → IsHeldAfter party.log number →
+pub returned-flags : (pool : SharedPool) (party new : PoolParty) (flags : List Bool) (number : ℕ) →
+    IsJoinedAt pool party flags → IsHeldAfter party.log number →
     new ≡ with_entries party (return_entry party.number number) →
-    IsSeatAt pool new (slice_set flags number false)
-returned-seat pool party new flags number is held told =
+    IsJoinedAt pool new (slice_set flags number false)
+returned-flags pool party new flags number is held told =
     let below : number < length flags = slice_get_within flags number true ((is.exact number).1 held) in
-    subst (λ (p : PoolParty). IsSeatAt pool p (slice_set flags number false)) (sym told) record {
+    subst (λ (p : PoolParty). IsJoinedAt pool p (slice_set flags number false)) (sym told) record {
       theirs = is.theirs;
       as_many = length-set_at flags number false ∙ is.as_many;
       exact = flags-set flags number false party.log (party.log ++ return_entry party.number number) below is.exact
@@ -117,13 +118,13 @@ returned-seat pool party new flags number is held told =
     }
 
 -- so does detaching one
-pub detached-seat : (pool : SharedPool) (party new : PoolParty) (flags : List Bool) (number : ℕ) →
-    IsSeatAt pool party flags → IsHeldAfter party.log number →
+pub detached-joined : (pool : SharedPool) (party new : PoolParty) (flags : List Bool) (number : ℕ) →
+    IsJoinedAt pool party flags → IsHeldAfter party.log number →
     new ≡ with_entries party (detach_entry party.number number) →
-    IsSeatAt pool new (slice_set flags number false)
-detached-seat pool party new flags number is held told =
+    IsJoinedAt pool new (slice_set flags number false)
+detached-joined pool party new flags number is held told =
     let below : number < length flags = slice_get_within flags number true ((is.exact number).1 held) in
-    subst (λ (p : PoolParty). IsSeatAt pool p (slice_set flags number false)) (sym told) record {
+    subst (λ (p : PoolParty). IsJoinedAt pool p (slice_set flags number false)) (sym told) record {
       theirs = is.theirs;
       as_many = length-set_at flags number false ∙ is.as_many;
       exact = flags-set flags number false party.log (party.log ++ detach_entry party.number number) below is.exact
@@ -131,13 +132,13 @@ detached-seat pool party new flags number is held told =
     }
 
 -- attaching one bucket sets it
-pub attached-seat : (pool : SharedPool) (party new : PoolParty) (flags : List Bool) (number : ℕ) →
-    IsSeatAt pool party flags → number < pool.scene.geometry.buckets →
+pub attached-joined : (pool : SharedPool) (party new : PoolParty) (flags : List Bool) (number : ℕ) →
+    IsJoinedAt pool party flags → number < pool.scene.geometry.buckets →
     new ≡ with_entries party (attach_entry party.number number) →
-    IsSeatAt pool new (slice_set flags number true)
-attached-seat pool party new flags number is below told =
+    IsJoinedAt pool new (slice_set flags number true)
+attached-joined pool party new flags number is below told =
     let there : number < length flags = subst (λ n. number < n) (sym is.as_many) below in
-    subst (λ (p : PoolParty). IsSeatAt pool p (slice_set flags number true)) (sym told) record {
+    subst (λ (p : PoolParty). IsJoinedAt pool p (slice_set flags number true)) (sym told) record {
       theirs = is.theirs;
       as_many = length-set_at flags number true ∙ is.as_many;
       exact = flags-set flags number true party.log (party.log ++ attach_entry party.number number) there is.exact

@@ -1,4 +1,4 @@
--- All that a party holds: how many buckets that are; and when it leaves its seat, each of them is given back, one after another,
+-- All that a party holds: how many buckets that are; and when it leaves, each of them is given back, one after another,
 -- and then it holds nothing.
 use Rattle.std.proofs.Common.{◌≡◌, ℕ, zero, suc, ◌+◌, ◌<◌, ◌≤◌, Bool, true, false, List, [], ◌++◌, length, refl, sym, ap}
 use Rattle.std.proofs.Common.{◌∙◌, inl, inr, arith, append-nil, append_assoc}
@@ -12,12 +12,12 @@ use Rattle.bb_memory_base.proofs.PoolHolders.{held_through}
 use Rattle.bb_memory_base.proofs.PoolSteps.{test_same, test_apart}
 use Rattle.bb_memory.specs.SharedPool.{PoolParty, SharedPool, return_entry, with_entries}
 use Rattle.bb_memory.proofs.SharedPoolTries.{held-append}
-use Rattle.bb_memory_c.specs.SharedPools.{GivesAllBack, IsSeatAt, held_among, held_by, holds_bucket, return_of, returns_of}
+use Rattle.bb_memory_c.specs.SharedPools.{GivesAllBack, IsJoinedAt, held_among, held_by, holds_bucket, return_of, returns_of}
 
 -- HOW MANY
 
 -- a flag is set exactly where its bucket is held
-flag-is : (pool : SharedPool) (party : PoolParty) (flags : List Bool) (number : ℕ) → IsSeatAt pool party flags →
+flag-is : (pool : SharedPool) (party : PoolParty) (flags : List Bool) (number : ℕ) → IsJoinedAt pool party flags →
     number < length flags → get_or flags number false ≡ holds_bucket party number
 flag-is pool party flags number is below =
     let there = slice_get-get_or flags number false below in
@@ -29,7 +29,7 @@ flag-is pool party flags number is below =
       ]
     ]
 
-held-among : (pool : SharedPool) (party : PoolParty) (flags : List Bool) (number : ℕ) → IsSeatAt pool party flags →
+held-among : (pool : SharedPool) (party : PoolParty) (flags : List Bool) (number : ℕ) → IsJoinedAt pool party flags →
     number ≤ length flags → count_by (λ flag. flag) (take number flags) ≡ held_among party number
 held-among pool party flags zero is within = refl
 held-among pool party flags (suc number) is within =
@@ -48,7 +48,7 @@ held-among pool party flags (suc number) is within =
     ]
 
 -- as many buckets are held as flags are set
-pub held-flags : (pool : SharedPool) (party : PoolParty) (flags : List Bool) → IsSeatAt pool party flags →
+pub held-flags : (pool : SharedPool) (party : PoolParty) (flags : List Bool) → IsJoinedAt pool party flags →
     count_by (λ flag. flag) flags ≡ held_by party
 held-flags pool party flags is =
     let as_many : length flags ≡ party.allocator.scene.geometry.buckets =
@@ -119,7 +119,7 @@ among-returns party (suc number) bucket below = elim (cases_eq number bucket) [
 -- THE PARTY
 
 -- a bucket whose flag isn't set isn't held
-pub unset-flag : (pool : SharedPool) (party : PoolParty) (flags : List Bool) (number : ℕ) → IsSeatAt pool party flags →
+pub unset-flag : (pool : SharedPool) (party : PoolParty) (flags : List Bool) (number : ℕ) → IsJoinedAt pool party flags →
     number < party.allocator.scene.geometry.buckets → (flag : Bool) → flag ≡ get_or flags number flag → flag ≡ false →
     holds_bucket party number ≡ false
 unset-flag pool party flags number is below flag reads unset =
@@ -160,7 +160,7 @@ next-returned party number =
     ∙ ap (λ (n : ℕ). with_entries party (returns_of party n)) next
 
 -- with all returned, nothing is held
-pub all-returned : (pool : SharedPool) (party : PoolParty) (flags : List Bool) → IsSeatAt pool party flags →
+pub all-returned : (pool : SharedPool) (party : PoolParty) (flags : List Bool) → IsJoinedAt pool party flags →
     GivesAllBack party (with_entries party (returns_of party party.allocator.scene.geometry.buckets))
 all-returned pool party flags is =
     let buckets = party.allocator.scene.geometry.buckets in

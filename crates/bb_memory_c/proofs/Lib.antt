@@ -6,9 +6,8 @@ pub mod Owners
 pub mod Crossing
 pub mod HeldFlags
 pub mod Leaving
-pub mod Unseated
+pub mod Unjoined
 pub mod Layouts
 pub mod Made
 pub mod Makers
-pub mod Seating
-pub mod Nothing
+pub mod Joining

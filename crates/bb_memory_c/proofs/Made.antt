@@ -4,7 +4,8 @@ use Rattle.std.specs.Option.{OnSome}
 use Rattle.bb_memory_base.specs.declared.layout.Layout.{Layout}
 use Rattle.bb_memory_c.specs.declared.answer.Answer.{Answer}
 use Rattle.bb_memory_c.specs.Answers.{TellsOfLayouts, refused}
-use Rattle.bb_memory_c.specs.Codes.{not_a_layout}
+use Rattle.bb_memory_c.specs.Calls.{Answers}
+use Rattle.bb_memory_c.specs.Codes.{invalid_layout}
 
 -- what holds of what is there
 pub at_made : {X : Type 0} (P : X → Type 0) (old : Option X) (made : X) → old ≡ Some made → P made → IfSome old P
@@ -17,7 +18,7 @@ is_told layouts told tells two is tell = subst (λ l. TellsOfLayouts l told tell
 
 -- and of none
 pub is_told_none : (layouts : Option (Layout × Layout)) (told : Answer) (tells : Layout → Layout → Type 0) →
-    layouts ≡ None → TellsOfLayouts layouts told tells → told ≡ refused not_a_layout
+    layouts ≡ None → TellsOfLayouts layouts told tells → told ≡ refused invalid_layout
 is_told_none layouts told tells is tell = subst (λ l. TellsOfLayouts l told tells) is tell
 
 -- what holds where something was lent
@@ -35,3 +36,16 @@ of_made P old made is holds = subst (λ o. IfSome o P) is holds
 -- it isn't there and not there
 pub not_both : {X : Type 0} (old : Option X) (made : X) → old ≡ Some made → old ≡ None → ⊥
 not_both old made is none = of_made (λ _. ⊥) old made is (at_none (λ _. ⊥) old none)
+
+-- what is answered where something is behind the handle
+pub answers : {X : Type 0} {old new : Option X} {refused : Type 0} {tells : X → X → Type 0} (made : X) → old ≡ Some made
+    → (after : X) → new ≡ Some after → tells made after → Answers old new refused tells
+answers made is after becomes told = record {
+  made = at_made _ _ made is (after, becomes, told);
+  empty = λ none. absurd (not_both _ made is none);
+}
+
+-- and where nothing is
+pub answers-none : {X : Type 0} {old new : Option X} {refused : Type 0} {tells : X → X → Type 0} → old ≡ None → refused
+    → new ≡ old → Answers old new refused tells
+answers-none none so still = record { made = at_none _ _ none; empty = λ _. (so, still) }

@@ -7,7 +7,7 @@ use Rattle.bb_memory_base.specs.Region.{Region}
 use Rattle.bb_memory_base.specs.declared.layout.Layout.{Layout}
 use Rattle.bb_memory.specs.Pool.{MayBeCut}
 use Rattle.bb_memory_c.specs.Calls.{AnswersPoolMake}
-use Rattle.bb_memory_c.specs.Codes.{already_made, cannot_make, done, malloc_refused, no_bucket, not_a_layout}
+use Rattle.bb_memory_c.specs.Codes.{already_initialized, invalid_argument, ok, malloc_refused, no_bucket, invalid_layout}
 use Rattle.bb_memory_c.specs.Layouts.{CannotCut, IsOf}
 use Rattle.bb_memory_c.proofs.Layouts.{cut-or-not, is_layout, same_of}
 
@@ -24,7 +24,7 @@ neither code third either not_one not_two is = absurd (not_two (sym is ∙ eithe
 -- there is one already
 pub made-already : {X : Type 0} {old new : Option X} {size align : ℕ} {may room : Layout → Type 0}
     {fresh : Layout → Option X → Type 0} → old ≢ None → new ≡ old →
-    AnswersPoolMake old new size align already_made may room fresh
+    AnswersPoolMake old new size align already_initialized may room fresh
 made-already some still = record {
   made = λ wrong. absurd (cc);
   held_one = (λ _. some, λ _. refl);
@@ -39,8 +39,8 @@ module _ {X : Type 0} {old new : Option X} {size align : ℕ} {may room : Layout
     (none : old ≡ None) where
   -- the numbers make no layout, or none by which the region may be cut
   pub not-cut : (region : Region) (cut : Result Layout ℕ) (code : ℕ) → new ≡ old → cut ≡ Err code
-      → ((cut ≡ Err not_a_layout) ↔ (¬ IsLayout size align)) → ((cut ≡ Err cannot_make) ↔ CannotCut size align region)
-      → (code ≢ not_a_layout → code ≡ cannot_make) → ((bucket : Layout) → may bucket → MayBeCut region bucket)
+      → ((cut ≡ Err invalid_layout) ↔ (¬ IsLayout size align)) → ((cut ≡ Err invalid_argument) ↔ CannotCut size align region)
+      → (code ≢ invalid_layout → code ≡ invalid_argument) → ((bucket : Layout) → may bucket → MayBeCut region bucket)
       → AnswersPoolMake old new size align code may room fresh
   not-cut region cut code still is no_layout cannot either cuts =
       let fails : IsLayout size align → CannotCut size align region =
@@ -63,7 +63,7 @@ module _ {X : Type 0} {old new : Option X} {size align : ℕ} {may room : Layout
 
   module _ (bucket : Layout) (of : IsOf size align bucket) where
     -- by the layout of the numbers it may not be made
-    pub not-may : new ≡ old → ¬ may bucket → AnswersPoolMake old new size align cannot_make may room fresh
+    pub not-may : new ≡ old → ¬ may bucket → AnswersPoolMake old new size align invalid_argument may room fresh
     not-may still not = record {
       made = λ wrong. absurd (cc);
       held_one = (λ wrong. absurd (cc), λ some. absurd (some none));
@@ -94,8 +94,8 @@ module _ {X : Type 0} {old new : Option X} {size align : ℕ} {may room : Layout
       }
 
       -- it is made, or memory for it was refused
-      pub tried : (code : ℕ) → room bucket → (code ≡ done → fresh bucket new) → (code ≢ done → code ≡ malloc_refused)
-          → (code ≢ done → new ≡ old) → AnswersPoolMake old new size align code may room fresh
+      pub tried : (code : ℕ) → room bucket → (code ≡ ok → fresh bucket new) → (code ≢ ok → code ≡ malloc_refused)
+          → (code ≢ ok → new ≡ old) → AnswersPoolMake old new size align code may room fresh
       tried code has made either still = record {
         made = λ is. (bucket, of, may_be, has, made is);
         held_one = (neither code _ either (λ wrong. cc) (λ wrong. cc), λ some. absurd (some none));

@@ -1,21 +1,22 @@
 -- The handles are what is held, each under a name of its own.
 use Rattle.std.proofs.Common.{refl}
 use denote.RattleType.{RattleType}
-use Rattle.bb_memory_c.specs.Rows.{bump_row, one_chunk_row, pool_row, flags_pool_row}
-use Rattle.bb_memory_c.specs.contracts.bump_seat.BumpSeats.{the_row as shared_bump_row}
-use Rattle.bb_memory_c.specs.contracts.bump_seat.BumpSeat.{the_row as bump_seat_row}
-use Rattle.bb_memory_c.specs.contracts.pool_seat.PoolSeats.{the_row as shared_pool_row}
-use Rattle.bb_memory_c.specs.contracts.pool_seat.PoolSeat.{the_row as pool_seat_row}
+use Rattle.bb_memory.specs.contracts.bump_allocator.BumpAllocator.{the_row as bump_row}
+use Rattle.bb_memory.specs.contracts.one_chunk_allocator.OneChunkAllocator.{the_row as one_chunk_row}
+use Rattle.bb_memory_c.specs.contracts.pool.Pool.{the_row as pool_row}
+use Rattle.bb_memory_c.specs.contracts.shared_bump.BumpParties.{the_row as shared_bump_row}
+use Rattle.bb_memory_c.specs.contracts.shared_bump.JoinedBump.{the_row as bump_party_row}
+use Rattle.bb_memory_c.specs.contracts.shared_pool.PoolParties.{the_row as shared_pool_row}
+use Rattle.bb_memory_c.specs.contracts.shared_pool.JoinedPool.{the_row as pool_party_row}
 use Rattle.bb_memory_c.specs.contracts.detached.Detached.{the_row as detached_row}
-use Rattle.bb_memory_c.specs.contracts.handle.bump.BumpHandle as bump_handle
-use Rattle.bb_memory_c.specs.contracts.handle.one_chunk.OneChunkHandle as one_chunk_handle
-use Rattle.bb_memory_c.specs.contracts.handle.pool.PoolHandle as pool_handle
-use Rattle.bb_memory_c.specs.contracts.handle.pool.FlagsPoolHandle as flags_pool_handle
-use Rattle.bb_memory_c.specs.contracts.handle.shared_bump.SharedBumpHandle as shared_bump_handle
-use Rattle.bb_memory_c.specs.contracts.handle.bump_seat.BumpSeatHandle as bump_seat_handle
-use Rattle.bb_memory_c.specs.contracts.handle.shared_pool.SharedPoolHandle as shared_pool_handle
-use Rattle.bb_memory_c.specs.contracts.handle.pool_seat.PoolSeatHandle as pool_seat_handle
-use Rattle.bb_memory_c.specs.contracts.handle.detached.DetachedHandle as detached_handle
+use Rattle.bb_memory_c.specs.contracts.handle.BumpHandle as bump_handle
+use Rattle.bb_memory_c.specs.contracts.handle.OneChunkHandle as one_chunk_handle
+use Rattle.bb_memory_c.specs.contracts.handle.PoolHandle as pool_handle
+use Rattle.bb_memory_c.specs.contracts.handle.SharedBumpHandle as shared_bump_handle
+use Rattle.bb_memory_c.specs.contracts.handle.BumpPartyHandle as bump_party_handle
+use Rattle.bb_memory_c.specs.contracts.handle.SharedPoolHandle as shared_pool_handle
+use Rattle.bb_memory_c.specs.contracts.handle.PoolPartyHandle as pool_party_handle
+use Rattle.bb_memory_c.specs.contracts.handle.DetachedHandle as detached_handle
 use Rattle.bb_memory_c.proofs.Holds.{Held}
 use Rattle.bb_memory_c.proofs.Passing.{Owner}
 
@@ -63,17 +64,6 @@ pool = record {
   blanks = λ d f. tt;
 }
 
-abbrev pub flags_pool : Owner flags_pool_row flags_pool_handle.the_row
-flags_pool = record {
-  held = λ d. record { at = d.at; made = d.made; heap = d.heap; value = d.value };
-  back = λ d. record { at = d.at; made = d.made; heap = d.heap; value = d.value };
-  again = λ d. refl;
-  owns = λ d vs. refl;
-  owned = λ d vs. refl;
-  last = λ d. tt;
-  blanks = λ d f. tt;
-}
-
 abbrev pub shared_bump : Owner shared_bump_row shared_bump_handle.the_row
 shared_bump = record {
   held = λ d. record { at = d.at; made = d.made; heap = d.heap; value = d.value };
@@ -85,8 +75,8 @@ shared_bump = record {
   blanks = λ d f. tt;
 }
 
-abbrev pub bump_seat : Owner bump_seat_row bump_seat_handle.the_row
-bump_seat = record {
+abbrev pub bump_party : Owner bump_party_row bump_party_handle.the_row
+bump_party = record {
   held = λ d. record { at = d.at; made = d.made; heap = d.heap; value = d.value };
   back = λ d. record { at = d.at; made = d.made; heap = d.heap; value = d.value };
   again = λ d. refl;
@@ -107,8 +97,8 @@ shared_pool = record {
   blanks = λ d f. tt;
 }
 
-abbrev pub pool_seat : Owner pool_seat_row pool_seat_handle.the_row
-pool_seat = record {
+abbrev pub pool_party : Owner pool_party_row pool_party_handle.the_row
+pool_party = record {
   held = λ d. record { at = d.at; made = d.made; heap = d.heap; value = d.value };
   back = λ d. record { at = d.at; made = d.made; heap = d.heap; value = d.value };
   again = λ d. refl;

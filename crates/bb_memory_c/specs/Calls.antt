@@ -1,59 +1,82 @@
 -- What a call of a handle promises. `old` and `new` are what is behind the handle before and after the call, and `told` is what
 -- C is told; behind an empty handle is `None`.
-use Rattle.std.specs.Prelude.{◌≡◌, ◌≢◌, ◌↔◌, ◌⊎◌, ℕ, Option, Some, None, Result, Err, IfSome, IfOk, IfErr, OnErr}
+use Rattle.std.specs.Prelude.{◌≡◌, ◌≢◌, ◌↔◌, ◌⊎◌, ◌<◌, ◌≤◌, ℕ, Option, Some, None, Result, Err, IfSome, IfOk, IfErr, OnErr}
 use Rattle.std.specs.Align.{IsLayout}
 use Rattle.bb_memory_base.specs.Chunk.{Chunk}
 use Rattle.bb_memory_base.specs.declared.layout.Layout.{Layout}
 use Rattle.bb_memory_base.specs.declared.allocator.AllocationError.{AllocationError}
-use Rattle.bb_memory_base.specs.declared.allocator.AllocationGrowError.{AllocationGrowError}
-use Rattle.bb_memory_base.specs.declared.allocator.AllocationShrinkError.{AllocationShrinkError}
+use Rattle.bb_memory_base.specs.PoolGeometry.{PoolGeometry, bucket_place}
+use Rattle.bb_memory.specs.Buckets.{IsPlaceOfBucket}
 use Rattle.bb_memory_c.specs.declared.answer.Answer.{Answer}
 use Rattle.bb_memory_c.specs.declared.answer.Figure.{Figure}
-use Rattle.bb_memory_c.specs.Answers.{TellsGrow, TellsShrink, answer_of, figure_of, no_figure, refused}
-use Rattle.bb_memory_c.specs.Codes.{already_made, cannot_make, done, malloc_refused, not_a_layout}
-use Rattle.bb_memory_c.specs.Codes.{not_held, not_made, no_bucket, no_seat}
+use Rattle.bb_memory_c.specs.Answers.{answer_of, figure_of, no_figure, refused}
+use Rattle.bb_memory_c.specs.Codes.{already_initialized, invalid_argument, ok, malloc_refused, invalid_layout}
+use Rattle.bb_memory_c.specs.Codes.{not_a_bucket, not_held, uninitialized, no_bucket, no_party}
 use Rattle.bb_memory_c.specs.Layouts.{FailsOf, IsOf, LacksRoomOf}
+
+-- Where something is made behind the handle, the call answers so, and what is there becomes another. An empty handle is refused
+-- so, and all stays.
+pub record Answers {X : Type 0} (old new : Option X) (refused_so : Type 0) (tells : X → X → Type 0) : Type 0 where
+  pub made : IfSome old (λ made. (after : X) × (new ≡ Some after) × tells made after)
+  pub empty : old ≡ None → refused_so × (new ≡ old)
 
 -- FIGURES
 
--- C is told this figure, and all stays; of an empty handle there is none
-pub record TellsFigure {X : Type 0} (old new : Option X) (told : Figure) (figure : X → ℕ) : Type 0 where
-  pub number : IfSome old (λ made. told ≡ figure_of (figure made))
-  pub empty : old ≡ None → told ≡ no_figure not_made
-  pub still : new ≡ old
+-- C's struct is filled as may be shown of what is made, and of an empty handle it stays
+abbrev pub AnswersInfo : {X I : Type 0} → Option X → Option X → I → I → ℕ → (X → I → X → Type 0) → Type 0
+AnswersInfo old new before info code may =
+    Answers old new ((code ≡ uninitialized) × (info ≡ before)) (λ made after. (code ≡ ok) × may made info after)
 
--- C is told whether this is so, by 1 or 0, and all stays; of an empty handle there is no figure
-pub record TellsWhether {X : Type 0} (old new : Option X) (told : Figure) (is : X → Type 0) : Type 0 where
-  pub yes : IfSome old (λ made. is made → told ≡ figure_of 1)
-  pub no : IfSome old (λ made. ¬ is made → told ≡ figure_of 0)
-  pub empty : old ≡ None → told ≡ no_figure not_made
-  pub still : new ≡ old
+-- C is told whether this is so, by 1 or 0
+pub record Tells (so : Type 0) (told : Figure) : Type 0 where
+  pub yes : so → told ≡ figure_of 1
+  pub no : ¬ so → told ≡ figure_of 0
 
--- C is told this figure where a place is held, and all stays
-pub record TellsOfHeld {X : Type 0} (old new : Option X) (told : Figure) (holds : X → Type 0) (figure : X → ℕ) : Type 0 where
-  pub number : IfSome old (λ made. holds made → told ≡ figure_of (figure made))
-  pub nothing : IfSome old (λ made. ¬ holds made → told ≡ no_figure not_held)
-  pub empty : old ≡ None → told ≡ no_figure not_made
-  pub still : new ≡ old
+-- C is told whether this is so, and all stays
+abbrev pub AnswersWhether : {X : Type 0} → Option X → Option X → Figure → (X → Type 0) → Type 0
+AnswersWhether old new told is =
+    Answers old new (told ≡ no_figure uninitialized) (λ made after. Tells (is made) told × (after ≡ made))
+
+-- C is told the place of the bucket of this number, or that there is no such bucket
+pub record TellsPlaceOf (geometry : PoolGeometry) (number : ℕ) (told : Figure) : Type 0 where
+  pub there : number < geometry.buckets → told ≡ figure_of (bucket_place geometry number)
+  pub none : geometry.buckets ≤ number → told ≡ no_figure not_a_bucket
+
+abbrev pub AnswersPlace : {X : Type 0} → Option X → Option X → Figure → ℕ → (X → PoolGeometry) → Type 0
+AnswersPlace old new told number geometry =
+    Answers old new (told ≡ no_figure uninitialized) (λ made after. TellsPlaceOf (geometry made) number told × (after ≡ made))
+
+-- C is told the number of the bucket at this place, or that no bucket begins there
+pub record TellsNumberOf (geometry : PoolGeometry) (place : ℕ) (told : Figure) : Type 0 where
+  pub there : (number : ℕ) → number < geometry.buckets → place ≡ bucket_place geometry number → told ≡ figure_of number
+  pub none : ¬ IsPlaceOfBucket geometry place → told ≡ no_figure not_a_bucket
+
+abbrev pub AnswersNumber : {X : Type 0} → Option X → Option X → Figure → ℕ → (X → PoolGeometry) → Type 0
+AnswersNumber old new told place geometry =
+    Answers old new (told ≡ no_figure uninitialized) (λ made after. TellsNumberOf (geometry made) place told × (after ≡ made))
 
 -- REQUESTS AND RETURNS
 
--- A request of these numbers is answered what may be answered to their layout, by which what is made becomes another. Numbers
--- of no layout are refused, and an empty handle is, and then all stays.
-pub record AnswersRequest {X : Type 0} (old new : Option X) (size align : ℕ) (told : Answer)
+-- A request of these numbers is answered what may be answered to their layout. Numbers of no layout are refused, and all stays.
+pub record TellsRequest {X : Type 0} (made after : X) (size align : ℕ) (told : Answer)
     (may : X → Layout → Result Chunk AllocationError → X → Type 0) : Type 0 where
-  pub answered : IfSome old (λ made. (layout : Layout) → IsOf size align layout
-      → (answer : Result Chunk AllocationError) × (after : X)
-      × (told ≡ answer_of answer) × (new ≡ Some after) × may made layout answer after)
-  pub no_layout : IfSome old (λ made. ¬ IsLayout size align → (told ≡ refused not_a_layout) × (new ≡ old))
-  pub empty : old ≡ None → (told ≡ refused not_made) × (new ≡ old)
+  pub answered : (layout : Layout) → IsOf size align layout
+      → (answer : Result Chunk AllocationError) × (told ≡ answer_of answer) × may made layout answer after
+  pub no_layout : ¬ IsLayout size align → (told ≡ refused invalid_layout) × (after ≡ made)
 
--- What is held at a place is given back, by which what is made becomes another. Where nothing is held, it is refused, and an
--- empty handle is, and then all stays.
-pub record AnswersReturn {X : Type 0} (old new : Option X) (code : ℕ) (holds : X → Type 0) (frees : X → X → Type 0) : Type 0 where
-  pub freed : IfSome old (λ made. holds made → (code ≡ done) × (after : X) × (new ≡ Some after) × frees made after)
-  pub nothing : IfSome old (λ made. ¬ holds made → (code ≡ not_held) × (new ≡ old))
-  pub empty : old ≡ None → (code ≡ not_made) × (new ≡ old)
+abbrev pub AnswersRequest : {X : Type 0} → Option X → Option X → ℕ → ℕ → Answer
+    → (X → Layout → Result Chunk AllocationError → X → Type 0) → Type 0
+AnswersRequest old new size align told may =
+    Answers old new (told ≡ refused uninitialized) (λ made after. TellsRequest made after size align told may)
+
+-- What is held at a place is given back. Where nothing is held, it is refused, and all stays.
+pub record TellsReturn (held gone stays : Type 0) (code : ℕ) : Type 0 where
+  pub freed : held → (code ≡ ok) × gone
+  pub nothing : ¬ held → (code ≡ not_held) × stays
+
+abbrev pub AnswersReturn : {X : Type 0} → Option X → Option X → ℕ → (X → Type 0) → (X → X → Type 0) → Type 0
+AnswersReturn old new code holds frees =
+    Answers old new (code ≡ uninitialized) (λ made after. TellsReturn (holds made) (frees made after) (after ≡ made) code)
 
 -- RESIZES: all stays
 
@@ -68,79 +91,62 @@ abbrev pub resize : ℕ → ℕ → ℕ → ℕ → Resize
 resize old_size old_align new_size new_align =
     record { old_size = old_size; old_align = old_align; new_size = new_size; new_align = new_align }
 
--- the layouts of these numbers
-abbrev pub AreOf : Resize → Layout → Layout → Type 0
-AreOf by from to = IsOf by.old_size by.old_align from × IsOf by.new_size by.new_align to
+-- C is told so of the layouts of these numbers, and else that they make none
+pub record TellsResize (by : Resize) (told : Answer) (tells : Layout → Layout → Type 0) : Type 0 where
+  pub answered : (from to : Layout) → IsOf by.old_size by.old_align from × IsOf by.new_size by.new_align to → tells from to
+  pub no_layout : ¬ (IsLayout by.old_size by.old_align × IsLayout by.new_size by.new_align) → told ≡ refused invalid_layout
 
--- both are layouts
-abbrev pub AreLayouts : Resize → Type 0
-AreLayouts by = IsLayout by.old_size by.old_align × IsLayout by.new_size by.new_align
-
--- What is held at a place grows as may be answered to the layouts of these numbers.
-pub record AnswersGrow {X : Type 0} (old new : Option X) (place : ℕ) (by : Resize) (told : Answer) (holds : X → Type 0)
-    (may : X → Layout → Layout → Result Chunk AllocationGrowError → Type 0) : Type 0 where
-  pub answered : IfSome old (λ made. (from to : Layout) → AreOf by from to
-      → TellsGrow (holds made) place from (may made from to) told)
-  pub no_layout : IfSome old (λ made. ¬ AreLayouts by → told ≡ refused not_a_layout)
-  pub empty : old ≡ None → told ≡ refused not_made
-  pub still : new ≡ old
-
--- It shrinks so, where the old size is at most what is reserved for it.
-pub record AnswersShrink {X : Type 0} (old new : Option X) (place : ℕ) (by : Resize) (told : Answer) (holds : X → Type 0)
-    (reserved : X → ℕ) (may : X → Layout → Layout → Result Chunk AllocationShrinkError → Type 0) : Type 0 where
-  pub answered : IfSome old (λ made. (from to : Layout) → AreOf by from to
-      → TellsShrink (holds made) place (reserved made) from (may made from to) told)
-  pub no_layout : IfSome old (λ made. ¬ AreLayouts by → told ≡ refused not_a_layout)
-  pub empty : old ≡ None → told ≡ refused not_made
-  pub still : new ≡ old
+abbrev pub AnswersResize : {X : Type 0} → Option X → Option X → Resize → Answer → (X → Layout → Layout → Type 0) → Type 0
+AnswersResize old new by told tells =
+    Answers old new (told ≡ refused uninitialized) (λ made after. TellsResize by told (tells made) × (after ≡ made))
 
 -- MAKING AND FREEING
 
 -- One is made behind an empty handle, where it may be made of its numbers and memory isn't refused.
 pub record AnswersMake {X : Type 0} (old new : Option X) (code : ℕ) (may : Type 0) (fresh : Option X → Type 0) : Type 0 where
-  pub made : code ≡ done → may × fresh new
-  pub held_one : (code ≡ already_made) ↔ (old ≢ None)
-  pub cannot : (code ≡ cannot_make) ↔ ((old ≡ None) × (¬ may))
-  pub else_memory : code ≢ done → code ≢ already_made → code ≢ cannot_make → code ≡ malloc_refused
-  pub still : code ≢ done → new ≡ old
+  pub made : code ≡ ok → may × fresh new
+  pub held_one : (code ≡ already_initialized) ↔ (old ≢ None)
+  pub cannot : (code ≡ invalid_argument) ↔ ((old ≡ None) × (¬ may))
+  pub else_memory : code ≢ ok → code ≢ already_initialized → code ≢ invalid_argument → code ≡ malloc_refused
+  pub still : code ≢ ok → new ≡ old
 
 -- The same of one that is cut into buckets, whose layout is made of two of its numbers, where there is room for one.
 pub record AnswersPoolMake {X : Type 0} (old new : Option X) (size align : ℕ) (code : ℕ) (may room : Layout → Type 0)
     (fresh : Layout → Option X → Type 0) : Type 0 where
-  pub made : code ≡ done → (bucket : Layout) × IsOf size align bucket × may bucket × room bucket × fresh bucket new
-  pub held_one : (code ≡ already_made) ↔ (old ≢ None)
-  pub no_layout : (code ≡ not_a_layout) ↔ ((old ≡ None) × (¬ IsLayout size align))
-  pub cannot : (code ≡ cannot_make) ↔ ((old ≡ None) × FailsOf size align may)
+  pub made : code ≡ ok → (bucket : Layout) × IsOf size align bucket × may bucket × room bucket × fresh bucket new
+  pub held_one : (code ≡ already_initialized) ↔ (old ≢ None)
+  pub no_layout : (code ≡ invalid_layout) ↔ ((old ≡ None) × (¬ IsLayout size align))
+  pub cannot : (code ≡ invalid_argument) ↔ ((old ≡ None) × FailsOf size align may)
   pub no_room : (code ≡ no_bucket) ↔ ((old ≡ None) × LacksRoomOf size align may room)
-  pub else_memory : code ≢ done → code ≢ already_made → code ≢ not_a_layout → code ≢ cannot_make → code ≢ no_bucket
+  pub else_memory : code ≢ ok → code ≢ already_initialized → code ≢ invalid_layout → code ≢ invalid_argument → code ≢ no_bucket
       → code ≡ malloc_refused
-  pub still : code ≢ done → new ≡ old
+  pub still : code ≢ ok → new ≡ old
 
 -- the handle is empty then, and C is told whether it was
 pub record AnswersFree {X : Type 0} (old new : Option X) (code : ℕ) : Type 0 where
-  pub freed : old ≢ None → code ≡ done
-  pub was_empty : old ≡ None → code ≡ not_made
+  pub freed : old ≢ None → code ≡ ok
+  pub was_empty : old ≡ None → code ≡ uninitialized
   pub empty : new ≡ None
 
--- WHAT THREADS SHARE: `joined` is it with one more of its parties that has no seat, and `at` says of a party that it is its own
+-- WHAT THREADS SHARE: `with_party` is it with one more party that hasn't joined, and `at` says of a party that it has joined it
 
--- The last party without a seat gets one behind another handle that is empty, where one has none and memory isn't refused.
-pub record GivesSeat {X Y : Type 0} (old new : Option X) (old_seat new_seat : Option Y) (code : ℕ) (left : X → ℕ)
-    (joined : X → Y → X) (at : X → Y → Type 0) : Type 0 where
-  pub seated : IfSome old (λ made. code ≡ done → (after : X) × (party : Y)
-      × (made ≡ joined after party) × at after party × (new ≡ Some after) × (new_seat ≡ Some party))
-  pub held_one : (code ≡ already_made) ↔ (old_seat ≢ None)
-  pub empty : (code ≡ not_made) ↔ ((old_seat ≡ None) × (old ≡ None))
-  pub none_left : IfSome old (λ made. (code ≡ no_seat) ↔ ((old_seat ≡ None) × (left made ≡ 0)))
-  pub else_memory : code ≢ done → code ≢ already_made → code ≢ not_made → code ≢ no_seat → code ≡ malloc_refused
-  pub still : code ≢ done → (new ≡ old) × (new_seat ≡ old_seat)
+-- The last party that hasn't joined joins, behind another handle that is empty, where one is left and memory isn't refused.
+pub record AnswersJoin {X Y : Type 0} (old new : Option X) (old_party new_party : Option Y) (code : ℕ) (left : X → ℕ)
+    (with_party : X → Y → X) (at : X → Y → Type 0) : Type 0 where
+  pub joins : IfSome old (λ made. code ≡ ok → (after : X) × (party : Y)
+      × (made ≡ with_party after party) × at after party × (new ≡ Some after) × (new_party ≡ Some party))
+  pub held_one : (code ≡ already_initialized) ↔ (old_party ≢ None)
+  pub empty : (code ≡ uninitialized) ↔ ((old_party ≡ None) × (old ≡ None))
+  pub none_left : IfSome old (λ made. (code ≡ no_party) ↔ ((old_party ≡ None) × (left made ≡ 0)))
+  pub else_memory : code ≢ ok → code ≢ already_initialized → code ≢ uninitialized → code ≢ no_party → code ≡ malloc_refused
+  pub still : code ≢ ok → (new ≡ old) × (new_party ≡ old_party)
 
--- A seat is made for the last party that has none, if one is left and memory isn't refused.
-pub record TakesSeat {X Y : Type 0} (old new : X) (told : Result Y ℕ) (left : X → ℕ) (joined : X → Y → X) (at : X → Y → Type 0)
-    : Type 0 where
-  pub seated : IfOk told (λ party. (old ≡ joined new party) × at new party)
-  pub none_left : (told ≡ Err no_seat) ↔ (left old ≡ 0)
-  pub else_memory : IfErr told (λ code. code ≢ no_seat → code ≡ malloc_refused)
+-- The last party that hasn't joined joins, if one is left and memory isn't refused.
+pub record TakesParty {X Y : Type 0} (old new : X) (told : Result Y ℕ) (left : X → ℕ) (with_party : X → Y → X)
+    (at : X → Y → Type 0) : Type 0 where
+  pub joins : IfOk told (λ party. (old ≡ with_party new party) × at new party)
+  pub none_left : (told ≡ Err no_party) ↔ (left old ≡ 0)
+  pub else_memory : IfErr told (λ code. code ≢ no_party → code ≡ malloc_refused)
   pub still : OnErr told (new ≡ old)
 
 -- where there are both, they are so
@@ -155,11 +161,11 @@ pub record AnswersOfBoth {X Y : Type 0} (old new : Option X) (old_other new_othe
       × (new ≡ Some after) × (new_other ≡ Some other_after) × tells made other after other_after)
   pub empty : (old ≡ None) ⊎ (old_other ≡ None) → refused_so × (new ≡ old) × (new_other ≡ old_other)
 
--- A seat's party comes back as the last one without a seat, as what it is when it has left the seat, whose handle is empty then.
+-- A party leaves, as what it is then, and its handle is empty. It is the last one of those that haven't joined.
 -- Where one of the handles is empty, it is refused, and then all stays.
-pub record GetsSeatBack {X Y : Type 0} (old new : Option X) (old_seat new_seat : Option Y) (code : ℕ) (leaves : Y → Y → Type 0)
-    (joined : X → Y → X) : Type 0 where
-  pub returned : IfBoth old old_seat (λ made party. (after : Y) × leaves party after
-      × (code ≡ done) × (new ≡ Some (joined made after)) × (new_seat ≡ None))
-  pub empty : (old ≡ None) ⊎ (old_seat ≡ None) → code ≡ not_made
-  pub still : code ≢ done → (new ≡ old) × (new_seat ≡ old_seat)
+pub record AnswersLeave {X Y : Type 0} (old new : Option X) (old_party new_party : Option Y) (code : ℕ) (leaves : Y → Y → Type 0)
+    (with_party : X → Y → X) : Type 0 where
+  pub returned : IfBoth old old_party (λ made party. (after : Y) × leaves party after
+      × (code ≡ ok) × (new ≡ Some (with_party made after)) × (new_party ≡ None))
+  pub empty : (old ≡ None) ⊎ (old_party ≡ None) → code ≡ uninitialized
+  pub still : code ≢ ok → (new ≡ old) × (new_party ≡ old_party)

@@ -1,10 +1,10 @@
--- Detached buckets, which go from seat to seat of a shared pool, and what their calls are answered.
+-- Detached buckets, which go from party to party of a shared pool, and what their calls are answered.
 use Rattle.std.specs.Prelude.{◌≡◌, ◌≢◌, ◌<◌, ◌≤◌, ℕ, Option, None, Ok, IfSome, MatchOption}
 use Rattle.bb_memory_base.specs.Chunk.{IsInside}
 use Rattle.bb_memory_base.specs.PoolLogs.{IsHeldAfter}
 use Rattle.bb_memory_c.specs.declared.answer.Answer.{Answer}
 use Rattle.bb_memory_c.specs.Answers.{answer_of, refused}
-use Rattle.bb_memory_c.specs.Codes.{detached_empty, detached_full, done, not_held, one_party, size_too_large}
+use Rattle.bb_memory_c.specs.Codes.{detached_empty, detached_full, ok, not_held, one_party, size_too_large}
 use Rattle.bb_memory_c.specs.SharedPools.{HoldsAt, HoldsPlace}
 use Rattle.bb_memory.specs.SharedPool.{PoolParty, TakenBucket, attach_entry, chunk_of, detach_entry, taken_bucket, with_entries}
 
@@ -52,8 +52,8 @@ pub record TellsDetach (party : PoolParty) (inside : Detached) (place len code :
   pub too_large : MayDetachAt party place → party.allocator.scene.geometry.bucket.size < len → code ≡ size_too_large
   pub full : MayDetachChunk party place len → inside ≢ None → code ≡ detached_full
   pub detached : MayDetachChunk party place len → inside ≡ None →
-      (code ≡ done) × HasFilled party place len after filled
-  pub still : code ≢ done → (after ≡ party) × (filled ≡ inside)
+      (code ≡ ok) × HasFilled party place len after filled
+  pub still : code ≢ ok → (after ≡ party) × (filled ≡ inside)
 
 -- ATTACHING
 

@@ -1,5 +1,5 @@
 -- Layouts of two numbers that C hands in.
-use Rattle.std.specs.Prelude.{◌≡◌, ◌≤◌, ℕ, Option, Some, None, min}
+use Rattle.std.specs.Prelude.{◌≡◌, ◌≤◌, ℕ}
 use Rattle.bb_memory_base.specs.Region.{Region}
 use Rattle.bb_memory_base.specs.PoolGeometry.{HasBucket}
 use Rattle.bb_memory_base.specs.declared.layout.Layout.{Layout}
@@ -33,12 +33,3 @@ LacksRoomOf size align may room = (bucket : Layout) × IsOf size align bucket ×
 -- there is at least one party, and the region may be cut so
 abbrev pub MayBeShared : Region → ℕ → Layout → Type 0
 MayBeShared region parties bucket = (1 ≤ parties) × MayBeCut region bucket
-
--- the parties, or the most buckets, if there are fewer of these
-abbrev pub least_of : ℕ → Option ℕ → ℕ
-least_of parties None = parties
-least_of parties (Some most) = min parties most
-
--- there is at least one party, the buckets may be at least one, and the region may be cut so
-abbrev pub MayBeSharedAmong : Region → ℕ → Option ℕ → Layout → Type 0
-MayBeSharedAmong region parties most bucket = MayBeShared region (least_of parties most) bucket

@@ -1,7 +1,7 @@
 -- A pool behind a handle, and what its requests are answered.
 use Rattle.std.specs.Prelude.{◌≡◌, Option, Some}
 use Rattle.bb_memory_base.specs.Region.{Region}
-use Rattle.bb_memory_base.specs.PoolGeometry.{PoolGeometry, IsCut, at_most}
+use Rattle.bb_memory_base.specs.PoolGeometry.{PoolGeometry, IsCut}
 use Rattle.bb_memory_base.specs.declared.layout.Layout.{Layout}
 use Rattle.bb_memory.specs.Pool.{CountedPool, counted, fresh_pool}
 
@@ -9,8 +9,3 @@ use Rattle.bb_memory.specs.Pool.{CountedPool, counted, fresh_pool}
 abbrev pub MakesPool : Region → Layout → Option CountedPool → Type 0
 MakesPool region bucket new = (geometry : PoolGeometry)
     × IsCut region bucket geometry × (new ≡ Some (counted (fresh_pool geometry) 0))
-
--- the same of at most 512 buckets, in a pool that keeps its flags in itself
-abbrev pub MakesFlagsPool : Region → Layout → Option CountedPool → Type 0
-MakesFlagsPool region bucket new = (whole : PoolGeometry)
-    × IsCut region bucket whole × (new ≡ Some (counted (fresh_pool (at_most 512 whole)) 0))

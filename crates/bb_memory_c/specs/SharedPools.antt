@@ -1,25 +1,24 @@
--- A shared pool, the seats of its parties, and what a seat's calls are answered.
+-- A shared pool, its parties, and what their calls are answered.
 use Rattle.std.specs.Prelude.{◌≡◌, ◌+◌, ◌≤◌, ◌↔◌, ℕ, zero, suc, All, Bool, false, List, [], ◌++◌, Result, Ok, Err, length}
-use Rattle.std.specs.Prelude.{Option, Some, None, fold, if◌then◌else◌}
+use Rattle.std.specs.Prelude.{Option, Some, fold, if◌then◌else◌}
 use Rattle.bb_memory_base.specs.Region.{Region}
 use Rattle.bb_memory_base.specs.Chunk.{Chunk}
-use Rattle.bb_memory_base.specs.PoolGeometry.{IsCut, PoolGeometry, bucket_place}
+use Rattle.bb_memory_base.specs.PoolGeometry.{IsCut, bucket_place}
 use Rattle.bb_memory_base.specs.PoolHistory.{PoolLog}
 use Rattle.bb_memory_base.specs.PoolLogs.{IsHeldAfter, held_after}
 use Rattle.bb_memory_base.specs.declared.layout.Layout.{Layout}
 use Rattle.bb_memory_base.specs.declared.allocator.AllocationError.{AllocationError}
-use Rattle.bb_memory_c.specs.Seats.{IsOneOf, Seats}
-use Rattle.bb_memory.specs.HeldBuckets.{IsCutAtMost}
+use Rattle.bb_memory_c.specs.Parties.{IsOneOf, Parties}
 use Rattle.bb_memory.specs.NumberSet.{Has}
 use Rattle.bb_memory.specs.SharedPool.{AreFresh, PoolParty, SharedPool, TakenBucket, chunk_of, return_entry, with_entries}
 use Rattle.bb_memory.specs.SharedPoolRounds.{MayTakeFrom}
 
-abbrev pub PoolSeats : Type 0
-PoolSeats = Seats SharedPool PoolParty
+abbrev pub PoolParties : Type 0
+PoolParties = Parties SharedPool PoolParty
 
--- the party is this pool's, and not all parties of it are without a seat
-abbrev pub IsAt : PoolSeats → PoolParty → Type 0
-IsAt seats party = IsOneOf seats party.allocator seats.shared.scene.parties
+-- the party is this pool's, and one of its parties has joined
+abbrev pub IsAt : PoolParties → PoolParty → Type 0
+IsAt all party = IsOneOf all party.allocator all.shared.scene.parties
 
 -- the party holds some bucket
 abbrev pub HoldsSome : PoolParty → Type 0
@@ -31,7 +30,7 @@ pub record IsIdleAt (pool : SharedPool) (party : PoolParty) : Type 0 where
   pub idle : ¬ HoldsSome party
 
 -- parties of this pool, which hold nothing, with room for all of its parties
-pub record AreUnseated (pool : SharedPool) (capacity : ℕ) (parties : List PoolParty) : Type 0 where
+pub record AreUnjoined (pool : SharedPool) (capacity : ℕ) (parties : List PoolParty) : Type 0 where
   pub at_most : length parties ≤ pool.scene.parties
   pub room : pool.scene.parties ≤ capacity
   pub idle : All (IsIdleAt pool) parties
@@ -41,20 +40,19 @@ abbrev pub AreHeldFlags : List Bool → PoolLog → Type 0
 AreHeldFlags flags log = (bucket : ℕ) → Has flags bucket ↔ IsHeldAfter log bucket
 
 -- the party is this pool's, and the flags say which buckets it holds
-pub record IsSeatAt (pool : SharedPool) (party : PoolParty) (flags : List Bool) : Type 0 where
+pub record IsJoinedAt (pool : SharedPool) (party : PoolParty) (flags : List Bool) : Type 0 where
   pub theirs : party.allocator ≡ pool
   pub as_many : length flags ≡ pool.scene.geometry.buckets
   pub exact : AreHeldFlags flags party.log
 
--- the buckets are those that the region has room for, or of these the first ones, at most so many
-abbrev pub IsCutInto : Option ℕ → Region → Layout → PoolGeometry → Type 0
-IsCutInto None region bucket geometry = IsCut region bucket geometry
-IsCutInto (Some most) region bucket geometry = IsCutAtMost most region bucket geometry
+-- a pool over the region, cut into buckets of the layout, of so many parties, none of which has joined or made a step
+pub record AreFreshOver (region : Region) (bucket : Layout) (count : ℕ) (all : PoolParties) : Type 0 where
+  pub cut : IsCut region bucket all.shared.scene.geometry
+  pub parties : AreFresh all.shared count all.parties
 
--- a pool over the region, cut so into buckets of the layout, of so many parties, which all have no seat and have made no step
-pub record AreFreshOver (most : Option ℕ) (region : Region) (bucket : Layout) (count : ℕ) (seats : PoolSeats) : Type 0 where
-  pub cut : IsCutInto most region bucket seats.shared.scene.geometry
-  pub parties : AreFresh seats.shared count seats.parties
+-- such a pool is behind the handle
+abbrev pub MakesSharedPool : Region → Layout → ℕ → Option PoolParties → Type 0
+MakesSharedPool region bucket parties new = (all : PoolParties) × (new ≡ Some all) × AreFreshOver region bucket parties all
 
 -- the party holds the bucket of this number, which is at this place
 pub record HoldsAt (party : PoolParty) (place number : ℕ) : Type 0 where

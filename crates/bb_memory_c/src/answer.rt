@@ -23,6 +23,37 @@ pub struct Figure {
     pub number: usize,
 }
 
+/// The figures of a bump, in bytes.
+#[repr(C)]
+#[derive(Clone, Copy)]
+pub struct BumpInfo {
+    pub start_address: usize,
+    pub used_space: usize,
+    pub free_space: usize,
+    pub total_space: usize,
+}
+
+/// The figures of a one-chunk allocator.
+#[repr(C)]
+#[derive(Clone, Copy)]
+pub struct OneChunkInfo {
+    pub start_address: usize,
+    pub size: usize,
+    pub has_chunk_available: bool,
+}
+
+/// The figures of a pool. The start is that of bucket 0; of a party, the held buckets are its own.
+#[repr(C)]
+#[derive(Clone, Copy)]
+pub struct PoolInfo {
+    pub start_address: usize,
+    pub size: usize,
+    pub bucket_size: usize,
+    pub max_alignment: usize,
+    pub number_of_buckets: usize,
+    pub held_buckets: usize,
+}
+
 impl Answer {
     /// Nothing was given, for the cause of this code.
     pub(crate) fn refusal(code: u32) -> Answer
@@ -41,7 +72,7 @@ impl Answer {
     {
         match answer {
             Ok(chunk) => Answer {
-                code: code::DONE,
+                code: code::OK,
                 place: chunk.place(),
                 len: chunk.len(),
             },
@@ -51,16 +82,14 @@ impl Answer {
             Err(AllocationError::OutOfMemory) => Answer::refusal(code::OUT_OF_MEMORY),
         }
     }
-}
 
-impl Answer {
     /// What a grow was answered.
     pub(crate) fn of_grow(answer: Result<Chunk, AllocationGrowError>) -> Answer
         ensures { result ≡ grow_answer answer }
     {
         match answer {
             Ok(chunk) => Answer {
-                code: code::DONE,
+                code: code::OK,
                 place: chunk.place(),
                 len: chunk.len(),
             },
@@ -78,7 +107,7 @@ impl Answer {
     {
         match answer {
             Ok(chunk) => Answer {
-                code: code::DONE,
+                code: code::OK,
                 place: chunk.place(),
                 len: chunk.len(),
             },
@@ -97,7 +126,7 @@ impl Figure {
         ensures { result ≡ figure_of number }
     {
         Figure {
-            code: code::DONE,
+            code: code::OK,
             number,
         }
     }

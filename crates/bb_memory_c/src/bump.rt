@@ -1,28 +1,25 @@
 //! A bump behind a handle.
-ghost use Rattle.std.specs.Prelude.{◌≡◌, ◌-◌, None, Some, IfSome};
+ghost use Rattle.std.specs.Prelude.{◌≡◌, None, Some};
 ghost use Rattle.bb_memory_base.specs.Region.{IsRegion, region_at};
 ghost use Rattle.bb_memory.specs.Bump.{bump_of};
 ghost use Rattle.bb_memory_c.specs.Bumps.{Allocates};
-ghost use Rattle.bb_memory_c.specs.Calls.{AnswersFree, AnswersMake, AnswersRequest, TellsFigure};
-ghost use Rattle.bb_memory_c.specs.Codes.{done, not_made};
-ghost use Rattle.bb_memory_c.specs.Figures.{bump_figure};
+ghost use Rattle.bb_memory_c.specs.Calls.{Answers, AnswersFree, AnswersInfo, AnswersMake, AnswersRequest};
+ghost use Rattle.bb_memory_c.specs.Codes.{ok, uninitialized};
+ghost use Rattle.bb_memory_c.specs.Infos.{ShowsBump};
 
-use crate::answer::{Answer, Figure};
-use crate::call::{free, is_made, keep, request, tell};
+use crate::answer::{Answer, BumpInfo};
+use crate::call::{free, info, is_made, keep, request};
 use crate::code;
-use crate::figures::{BumpFigure, Tells};
 use crate::handle::{BumpHandle, Handle};
-use crate::kind::Gives;
+use crate::kind::{Gives, Shows};
 use bb_memory::bump_allocator::{AllocationError, BaseAllocator, BumpAllocator};
 use bb_memory::layout::{Chunk, Layout};
 use std::alloc::Global;
 
 /// Makes a bump over the region of `size` bytes at `start`, behind a handle that has to be empty. The start has to be greater
 /// than 0, and start plus size at most `SIZE_MAX`.
-///
-/// C guarantees of the handle what the crate's page says.
 #[unsafe(no_mangle)]
-pub extern "C" fn bb_bump_make(
+pub extern "C" fn bb_bump_init(
     alloc: Global,
     handle: &mut BumpHandle,
     start: usize,
@@ -31,110 +28,63 @@ pub extern "C" fn bb_bump_make(
     ensures { AnswersMake handle.old.value handle.new.value result
         (IsRegion (region_at start size)) (λ new. new ≡ Some (bump_of start size 0)) }
 {
-    if is_made(handle, alloc) {
-        return code::ALREADY_MADE;
+    if is_made(handle) {
+        return code::ALREADY_INITIALIZED;
     }
     if !BumpAllocator::can_make(start, size) {
-        return code::CANNOT_MAKE;
+        return code::INVALID_ARGUMENT;
     }
     keep(handle, alloc, BumpAllocator::new(start, size))
 }
 
-/// Frees the bump, whose handle is empty then. The answer is 0, or `BB_NOT_MADE` where it was empty already.
-///
-/// C guarantees of the handle what the crate's page says.
+/// Frees the bump, whose handle is empty then.
 #[unsafe(no_mangle)]
-pub extern "C" fn bb_bump_free(alloc: Global, handle: &mut BumpHandle) -> u32
+pub extern "C" fn bb_bump_destroy(alloc: Global, handle: &mut BumpHandle) -> u32
     ensures { AnswersFree handle.old.value handle.new.value result }
 {
     free(handle, alloc)
 }
 
 /// Asks for a chunk of exactly `size` bytes at a multiple of `align`.
-///
-/// C guarantees of the handle what the crate's page says.
 #[unsafe(no_mangle)]
-pub extern "C" fn bb_bump_allocate(
-    alloc: Global,
-    handle: &mut BumpHandle,
-    size: usize,
-    align: usize,
-) -> Answer
-    ensures { AnswersRequest handle.old.value handle.new.value size align result
-        Allocates }
+pub extern "C" fn bb_bump_allocate(handle: &mut BumpHandle, size: usize, align: usize) -> Answer
+    ensures { AnswersRequest handle.old.value handle.new.value size align result Allocates }
 {
-    request(handle, alloc, size, align)
+    request(handle, size, align)
 }
 
 /// Gives back all chunks.
-///
-/// C guarantees of the handle what the crate's page says.
 #[unsafe(no_mangle)]
-pub extern "C" fn bb_bump_deallocate(_alloc: Global, handle: &mut BumpHandle) -> u32
-    ensures emptied { IfSome handle.old.value (λ bump. (result ≡ done)
-        × (handle.new.value ≡ Some (bump_of bump.region.start bump.region.size 0))) }
-    ensures not_made { handle.old.value ≡ None
-        → (result ≡ not_made) × (handle.new.value ≡ handle.old.value) }
+pub extern "C" fn bb_bump_deallocate(handle: &mut BumpHandle) -> u32
+    ensures { Answers handle.old.value handle.new.value (result ≡ uninitialized) (λ bump after.
+        (result ≡ ok) × (after ≡ bump_of bump.region.start bump.region.size 0)) }
 {
     match handle.made_mut() {
         Some(bump) => {
             bump.deallocate(0, Layout::empty());
-            code::DONE
+            code::OK
         }
-        None => code::NOT_MADE,
+        None => code::UNINITIALIZED,
     }
 }
 
-/// How many bytes are used: those from the region's start to the end of the last chunk, padding included.
-///
-/// C guarantees of the handle what the crate's page says.
+/// Fills the struct with the bump's figures. The used space has the padding between chunks in it.
 #[unsafe(no_mangle)]
-pub extern "C" fn bb_bump_used_space(alloc: Global, handle: &mut BumpHandle) -> Figure
-    ensures { TellsFigure handle.old.value handle.new.value result (λ bump. bump.used) }
+pub extern "C" fn bb_bump_info(handle: &mut BumpHandle, to: &mut BumpInfo) -> u32
+    ensures { AnswersInfo handle.old.value handle.new.value to.old to.new result ShowsBump }
 {
-    tell(handle, alloc, BumpFigure::UsedSpace)
+    info(handle, to)
 }
 
-/// How many bytes are behind the last chunk.
-///
-/// C guarantees of the handle what the crate's page says.
-#[unsafe(no_mangle)]
-pub extern "C" fn bb_bump_free_space(alloc: Global, handle: &mut BumpHandle) -> Figure
-    ensures { TellsFigure handle.old.value handle.new.value result
-        (λ bump. bump.region.size - bump.used) }
-{
-    tell(handle, alloc, BumpFigure::FreeSpace)
-}
+impl Shows<BumpInfo> for BumpAllocator {
+    ghost may_show = { ShowsBump };
 
-/// How many bytes the region has.
-///
-/// C guarantees of the handle what the crate's page says.
-#[unsafe(no_mangle)]
-pub extern "C" fn bb_bump_total_space(alloc: Global, handle: &mut BumpHandle) -> Figure
-    ensures { TellsFigure handle.old.value handle.new.value result (λ bump. bump.region.size) }
-{
-    tell(handle, alloc, BumpFigure::TotalSpace)
-}
-
-/// Where the region starts.
-///
-/// C guarantees of the handle what the crate's page says.
-#[unsafe(no_mangle)]
-pub extern "C" fn bb_bump_start_address(alloc: Global, handle: &mut BumpHandle) -> Figure
-    ensures { TellsFigure handle.old.value handle.new.value result (λ bump. bump.region.start) }
-{
-    tell(handle, alloc, BumpFigure::StartAddress)
-}
-
-impl Tells<BumpFigure> for BumpAllocator {
-    ghost figure = { bump_figure };
-
-    fn tell(&self, name: BumpFigure) -> usize {
-        match name {
-            BumpFigure::UsedSpace => self.used_space(),
-            BumpFigure::FreeSpace => self.free_space(),
-            BumpFigure::TotalSpace => self.total_space(),
-            BumpFigure::StartAddress => self.start_address(),
+    fn show(&mut self) -> BumpInfo {
+        BumpInfo {
+            start_address: self.start_address(),
+            used_space: self.used_space(),
+            free_space: self.free_space(),
+            total_space: self.total_space(),
         }
     }
 }

@@ -1,27 +1,19 @@
 //! The calls of C, each written once over any handle.
-ghost use Rattle.std.specs.Prelude.{◌≡◌, ◌≢◌, ◌↔◌, ℕ, None, Some, Result, IfSome, IsTrue};
-ghost use Rattle.std.specs.Align.{IsLayout};
-ghost use Rattle.bb_memory_base.specs.Chunk.{Chunk};
-ghost use Rattle.bb_memory_base.specs.declared.layout.Layout.{Layout as Asked};
-ghost use Rattle.bb_memory_base.specs.declared.allocator.AllocationError.{AllocationError};
-ghost use Rattle.bb_memory_c.specs.Answers.{AnswersStill, TellsGrow, TellsOfLayouts, TellsShrink};
-ghost use Rattle.bb_memory_c.specs.Answers.{answer_of, refused};
-ghost use Rattle.bb_memory_c.specs.Calls.{AnswersFree, AnswersGrow, AnswersRequest, AnswersReturn, AnswersShrink};
-ghost use Rattle.bb_memory_c.specs.Calls.{GetsSeatBack, GivesSeat, IfBoth, TellsFigure, TellsOfHeld, TellsWhether, resize};
-ghost use Rattle.bb_memory_c.specs.Codes.{done, malloc_refused, not_a_layout, not_held, not_made};
-ghost use Rattle.bb_memory_c.specs.Layouts.{IsOf};
+ghost use Rattle.std.specs.Prelude.{◌≡◌, ◌≢◌, ◌↔◌, None, Some, IsTrue};
+ghost use Rattle.bb_memory_c.specs.Calls.{AnswersFree, AnswersInfo, AnswersNumber, AnswersPlace, AnswersRequest};
+ghost use Rattle.bb_memory_c.specs.Calls.{AnswersReturn, AnswersWhether, AnswersLeave, AnswersJoin, IfBoth};
+ghost use Rattle.bb_memory_c.specs.Calls.{TellsRequest, TellsReturn};
+ghost use Rattle.bb_memory_c.specs.Codes.{ok, malloc_refused};
 
 use crate::answer::{Answer, Figure};
 use crate::code;
-use crate::figures::Tells;
 use crate::handle::Handle;
-use crate::kind::{Gives, Keeps, Shares};
-use crate::layout::{layout_of, layouts_of};
-use bb_memory::layout::Layout;
+use crate::kind::{Bucketed, Gives, Keeps, Shares, Shows};
+use crate::layout::layout_of;
 use std::alloc::Global;
 
-/// Whether something is made behind the handle, which stays.
-pub(crate) fn is_made<H: Handle>(handle: &mut H, _alloc: Global) -> bool
+/// Returns whether something is made behind the handle, which stays.
+pub(crate) fn is_made<H: Handle>(handle: &mut H) -> bool
     ensures value { IsTrue result ↔ (H.made handle.old ≢ None) }
     ensures still { H.made handle.new ≡ H.made handle.old }
 {
@@ -35,14 +27,14 @@ pub(crate) fn is_made<H: Handle>(handle: &mut H, _alloc: Global) -> bool
 /// stays empty.
 pub(crate) fn keep<H: Handle>(handle: &mut H, alloc: Global, made: H::Made) -> u32
     requires { H.made handle.old ≡ None }
-    ensures done { result ≡ done → H.made handle.new ≡ Some made }
-    ensures refused { result ≢ done → (result ≡ malloc_refused) × (H.made handle.new ≡ None) }
+    ensures ok { result ≡ ok → H.made handle.new ≡ Some made }
+    ensures refused { result ≢ ok → (result ≡ malloc_refused) × (H.made handle.new ≡ None) }
 {
     let Ok(made) = Box::new(alloc, made) else {
         return code::MALLOC_REFUSED;
     };
     handle.put(made);
-    code::DONE
+    code::OK
 }
 
 /// Frees what is behind the handle, which is empty then.
@@ -52,54 +44,40 @@ pub(crate) fn free<H: Handle>(handle: &mut H, alloc: Global) -> u32
     match handle.take(alloc) {
         Some(made) => {
             drop(made);
-            code::DONE
+            code::OK
         }
-        None => code::NOT_MADE,
+        None => code::UNINITIALIZED,
     }
 }
 
-/// The figure of this name of what was made, which stays.
-pub(crate) fn tell<H: Handle, N: Copy>(handle: &mut H, _alloc: Global, name: N) -> Figure
+/// Fills C's struct with the figures of what is made.
+pub(crate) fn info<H: Handle, I: Copy>(handle: &mut H, to: &mut I) -> u32
 where
-    H::Made: Tells<N>,
-    ensures { TellsFigure (H.made handle.old) (H.made handle.new) result
-        (λ made. H.Made.figure made name) }
+    H::Made: Shows<I>,
+    ensures { AnswersInfo (H.made handle.old) (H.made handle.new) to.old to.new result
+        H.Made.may_show }
 {
     match handle.made_mut() {
-        Some(made) => Figure::of(made.tell(name)),
-        None => Figure::refusal(code::NOT_MADE),
-    }
-}
-
-/// What is answered to a request for a chunk of this layout.
-fn give<M: Gives>(made: &mut M, layout: Layout) -> Answer
-    ensures { (answer : Result Chunk AllocationError) × (result ≡ answer_of answer)
-        × M.may_give made.old layout answer made.new }
-{
-    Answer::of(made.give(layout))
-}
-
-/// What is answered to a request for a chunk of so many bytes at a multiple of `align`.
-fn ask<M: Gives>(made: &mut M, size: usize, align: usize) -> Answer
-    ensures answer { (layout : Asked) → IsOf size align layout
-        → (answer : Result Chunk AllocationError) × (result ≡ answer_of answer)
-        × M.may_give made.old layout answer made.new }
-    ensures not_a_layout { ¬ IsLayout size align
-        → (result ≡ refused not_a_layout) × (made.new ≡ made.old) }
-{
-    match layout_of(size, align) {
-        Some(layout) => give(made, layout),
-        None => Answer::refusal(code::NOT_A_LAYOUT),
+        Some(made) => {
+            *to = made.show();
+            code::OK
+        }
+        None => code::UNINITIALIZED,
     }
 }
 
 /// Asks for a chunk of so many bytes at a multiple of `align`.
-pub(crate) fn request<H: Handle>(
-    handle: &mut H,
-    _alloc: Global,
-    size: usize,
-    align: usize,
-) -> Answer
+fn ask<M: Gives>(made: &mut M, size: usize, align: usize) -> Answer
+    ensures { TellsRequest made.old made.new size align result M.may_give }
+{
+    match layout_of(size, align) {
+        Some(layout) => Answer::of(made.give(layout)),
+        None => Answer::refusal(code::INVALID_LAYOUT),
+    }
+}
+
+/// Asks for a chunk of so many bytes at a multiple of `align`.
+pub(crate) fn request<H: Handle>(handle: &mut H, size: usize, align: usize) -> Answer
 where
     H::Made: Gives,
     ensures { AnswersRequest (H.made handle.old) (H.made handle.new) size align result
@@ -107,180 +85,114 @@ where
 {
     match handle.made_mut() {
         Some(made) => ask(made, size, align),
-        None => Answer::refusal(code::NOT_MADE),
+        None => Answer::refusal(code::UNINITIALIZED),
     }
 }
 
 /// Gives back the chunk at this place, if one is held there.
 fn release<M: Keeps>(made: &mut M, place: usize) -> u32
-    ensures freed { M.holds made.old place → (result ≡ done) × M.frees made.old place made.new }
-    ensures not_held { ¬ M.holds made.old place → (result ≡ not_held) × (made.new ≡ made.old) }
+    ensures { TellsReturn (M.holds made.old place) (M.frees made.old place made.new)
+        (made.new ≡ made.old) result }
 {
     if made.give_back(place) {
-        code::DONE
+        code::OK
     } else {
         code::NOT_HELD
     }
 }
 
 /// Gives back the chunk at this place, if one is held there.
-pub(crate) fn give_back<H: Handle>(handle: &mut H, _alloc: Global, place: usize) -> u32
+pub(crate) fn give_back<H: Handle>(handle: &mut H, place: usize) -> u32
 where
     H::Made: Keeps,
     ensures { AnswersReturn (H.made handle.old) (H.made handle.new) result
         (λ made. H.Made.holds made place) (λ made after. H.Made.frees made place after) }
 {
-    let Some(made) = handle.made_mut() else {
-        return code::NOT_MADE;
-    };
-    release(made, place)
+    match handle.made_mut() {
+        Some(made) => release(made, place),
+        None => code::UNINITIALIZED,
+    }
 }
 
-/// Whether a chunk is held at this place: 1 or 0.
-pub(crate) fn holds<H: Handle>(handle: &mut H, _alloc: Global, place: usize) -> Figure
+/// Tells whether a chunk is held at this place: 1 or 0.
+pub(crate) fn holds<H: Handle>(handle: &mut H, place: usize) -> Figure
 where
     H::Made: Keeps,
-    ensures { TellsWhether (H.made handle.old) (H.made handle.new) result
+    ensures { AnswersWhether (H.made handle.old) (H.made handle.new) result
         (λ made. H.Made.holds made place) }
 {
     match handle.made_mut() {
         Some(made) => Figure::whether(made.is_held(place)),
-        None => Figure::refusal(code::NOT_MADE),
+        None => Figure::refusal(code::UNINITIALIZED),
     }
 }
 
-/// How many bytes are reserved for the chunk at this place, if one is held there.
-pub(crate) fn reserved<H: Handle>(handle: &mut H, _alloc: Global, place: usize) -> Figure
+/// Tells where the bucket of this number begins.
+pub(crate) fn place<H: Handle>(handle: &mut H, number: u32) -> Figure
 where
-    H::Made: Keeps,
-    ensures { TellsOfHeld (H.made handle.old) (H.made handle.new) result
-        (λ made. H.Made.holds made place) (λ made. H.Made.bytes made place) }
+    H::Made: Bucketed,
+    ensures { AnswersPlace (H.made handle.old) (H.made handle.new) result number H.Made.geometry }
 {
-    match handle.made_mut() {
-        Some(made) if made.is_held(place) => Figure::of(made.reserved_at(place)),
-        Some(_) => Figure::refusal(code::NOT_HELD),
-        None => Figure::refusal(code::NOT_MADE),
-    }
-}
-
-/// Whether the chunk at this place may have the old layout, and what it is then answered that is to grow.
-fn grow_one<M: Keeps>(made: &mut M, place: usize, layouts: Option<(Layout, Layout)>) -> Answer
-    ensures { AnswersStill made.old made.new (TellsOfLayouts layouts result (λ from to.
-        TellsGrow (M.holds made.old place) place from (M.may_grow made.old place from to) result)) }
-{
-    let Some((from, to)) = layouts else {
-        return Answer::refusal(code::NOT_A_LAYOUT);
+    let Some(made) = handle.made_mut() else {
+        return Figure::refusal(code::UNINITIALIZED);
     };
-    if !made.is_held(place) {
-        return Answer::refusal(code::NOT_HELD);
+    match made.place_of(number) {
+        Some(place) => Figure::of(place),
+        None => Figure::refusal(code::NOT_A_BUCKET),
     }
-    if place % from.align() != 0 {
-        return Answer::refusal(code::NOT_THE_OLD);
-    }
-    Answer::of_grow(made.grow_at(place, from, to))
 }
 
-/// Gives the chunk at this place the new size or more.
-pub(crate) fn grow<H: Handle>(
-    handle: &mut H,
-    _alloc: Global,
-    place: usize,
-    old_size: usize,
-    old_align: usize,
-    new_size: usize,
-    new_align: usize,
-) -> Answer
+/// Tells the number of the bucket at this place.
+pub(crate) fn number<H: Handle>(handle: &mut H, place: usize) -> Figure
 where
-    H::Made: Keeps,
-    ensures { AnswersGrow (H.made handle.old) (H.made handle.new) place
-        (resize old_size old_align new_size new_align) result
-        (λ made. H.Made.holds made place) (λ made. H.Made.may_grow made place) }
+    H::Made: Bucketed,
+    ensures { AnswersNumber (H.made handle.old) (H.made handle.new) result place H.Made.geometry }
 {
-    let layouts = layouts_of(old_size, old_align, new_size, new_align);
-    match handle.made_mut() {
-        Some(made) => grow_one(made, place, layouts),
-        None => Answer::refusal(code::NOT_MADE),
-    }
-}
-
-/// Whether the chunk at this place may have the old layout, and what it is then answered that is to shrink.
-fn shrink_one<M: Keeps>(made: &mut M, place: usize, layouts: Option<(Layout, Layout)>) -> Answer
-    ensures { AnswersStill made.old made.new (TellsOfLayouts layouts result (λ from to.
-        TellsShrink (M.holds made.old place) place (M.bytes made.old place) from
-        (M.may_shrink made.old place from to) result)) }
-{
-    let Some((from, to)) = layouts else {
-        return Answer::refusal(code::NOT_A_LAYOUT);
+    let Some(made) = handle.made_mut() else {
+        return Figure::refusal(code::UNINITIALIZED);
     };
-    if !made.is_held(place) {
-        return Answer::refusal(code::NOT_HELD);
-    }
-    if place % from.align() != 0 || from.size() > made.reserved_at(place) {
-        return Answer::refusal(code::NOT_THE_OLD);
-    }
-    Answer::of_shrink(made.shrink_at(place, from, to))
-}
-
-/// Gives the chunk at this place exactly the new size.
-pub(crate) fn shrink<H: Handle>(
-    handle: &mut H,
-    _alloc: Global,
-    place: usize,
-    old_size: usize,
-    old_align: usize,
-    new_size: usize,
-    new_align: usize,
-) -> Answer
-where
-    H::Made: Keeps,
-    ensures { AnswersShrink (H.made handle.old) (H.made handle.new) place
-        (resize old_size old_align new_size new_align) result
-        (λ made. H.Made.holds made place) (λ made. H.Made.bytes made place)
-        (λ made. H.Made.may_shrink made place) }
-{
-    let layouts = layouts_of(old_size, old_align, new_size, new_align);
-    match handle.made_mut() {
-        Some(made) => shrink_one(made, place, layouts),
-        None => Answer::refusal(code::NOT_MADE),
+    match made.number_of(place) {
+        Some(number) => Figure::of(number as usize),
+        None => Figure::refusal(code::NOT_A_BUCKET),
     }
 }
 
-/// Gives a seat to the last party that has none, behind a handle that has to be empty.
-pub(crate) fn seat<H: Handle, S: Handle>(handle: &mut H, alloc: Global, seat: &mut S) -> u32
+/// Makes a party that hasn't joined join, behind a handle that has to be empty.
+pub(crate) fn join<H: Handle, S: Handle>(handle: &mut H, alloc: Global, joined: &mut S) -> u32
 where
     H::Made: Shares<S::Made>,
-    ensures { GivesSeat (H.made handle.old) (H.made handle.new) (S.made seat.old) (S.made seat.new)
-        result H.Made.left H.Made.joined H.Made.is_at }
+    ensures { AnswersJoin (H.made handle.old) (H.made handle.new) (S.made joined.old) (S.made joined.new)
+        result H.Made.left H.Made.with_party H.Made.is_at }
 {
-    if is_made(seat, alloc) {
-        return code::ALREADY_MADE;
+    if is_made(joined) {
+        return code::ALREADY_INITIALIZED;
     }
     let Some(shared) = handle.made_mut() else {
-        return code::NOT_MADE;
+        return code::UNINITIALIZED;
     };
     match shared.deal(alloc) {
         Ok(dealt) => {
-            seat.put(dealt);
-            code::DONE
+            joined.put(dealt);
+            code::OK
         }
         Err(code) => code,
     }
 }
 
-/// Takes the seat's party back as the last one without a seat, and the seat's handle is empty then.
-pub(crate) fn leave<H: Handle, S: Handle>(handle: &mut H, alloc: Global, seat: &mut S) -> u32
+/// Ends a party, whose handle is empty then. It may join again.
+pub(crate) fn leave<H: Handle, S: Handle>(handle: &mut H, alloc: Global, joined: &mut S) -> u32
 where
     H::Made: Shares<S::Made>,
-    requires { IfBoth (H.made handle.old) (S.made seat.old) H.Made.is_at }
-    ensures { GetsSeatBack (H.made handle.old) (H.made handle.new) (S.made seat.old)
-        (S.made seat.new) result H.Made.leaves H.Made.joined }
+    requires { IfBoth (H.made handle.old) (S.made joined.old) H.Made.is_at }
+    ensures { AnswersLeave (H.made handle.old) (H.made handle.new) (S.made joined.old)
+        (S.made joined.new) result H.Made.leaves H.Made.with_party }
 {
     let Some(shared) = handle.made_mut() else {
-        return code::NOT_MADE;
+        return code::UNINITIALIZED;
     };
-    let Some(leaving) = seat.take(alloc) else {
-        return code::NOT_MADE;
+    let Some(leaving) = joined.take(alloc) else {
+        return code::UNINITIALIZED;
     };
     shared.take_back(Box::into_inner(leaving));
-    code::DONE
+    code::OK
 }

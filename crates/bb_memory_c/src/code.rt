@@ -1,5 +1,5 @@
 //! What the functions answer. 0 is for what was done, and each other number for one cause why nothing was.
-pub(crate) const DONE: u32 = 0;
+pub(crate) const OK: u32 = 0;
 
 pub(crate) const SIZE_IS_ZERO: u32 = 1;
 
@@ -12,48 +12,33 @@ pub(crate) const OUT_OF_MEMORY: u32 = 4;
 pub(crate) const GROW_WOULD_SHRINK: u32 = 5;
 
 pub(crate) const SHRINK_WOULD_GROW: u32 = 6;
-
 /// The size and the alignment make no layout.
-pub(crate) const NOT_A_LAYOUT: u32 = 7;
-
+pub(crate) const INVALID_LAYOUT: u32 = 7;
 /// The handle is empty.
-pub(crate) const NOT_MADE: u32 = 8;
-
+pub(crate) const UNINITIALIZED: u32 = 8;
 /// The place isn't that of a held bucket, or of the chunk that is out.
 pub(crate) const NOT_HELD: u32 = 9;
-
 /// The handle isn't empty, where one was to be made.
-pub(crate) const ALREADY_MADE: u32 = 10;
-
+pub(crate) const ALREADY_INITIALIZED: u32 = 10;
 /// The numbers describe nothing that could be made.
-pub(crate) const CANNOT_MAKE: u32 = 11;
-
-/// Each party has a seat already.
-pub(crate) const NO_SEAT: u32 = 12;
-
+pub(crate) const INVALID_ARGUMENT: u32 = 11;
+/// Each party has joined.
+pub(crate) const NO_PARTY: u32 = 12;
 /// The chunk can't have the old layout: its place isn't a multiple of the alignment, or the size is more than is reserved.
-pub(crate) const NOT_THE_OLD: u32 = 13;
-
+pub(crate) const LAYOUT_MISMATCH: u32 = 13;
 /// `malloc` refused.
 pub(crate) const MALLOC_REFUSED: u32 = 14;
-
 /// The new size is greater than what is reserved.
 pub(crate) const MORE_THAN_RESERVED: u32 = 15;
-
 /// The region has no room for one bucket.
 pub(crate) const NO_BUCKET: u32 = 16;
-
-/// Not each party's seat has come back.
-pub(crate) const SEATS_OUT: u32 = 18;
-
+/// Not each party has left.
+pub(crate) const PARTIES_JOINED: u32 = 18;
 /// The pool has no other party.
 pub(crate) const ONE_PARTY: u32 = 19;
-
 /// A detached bucket is there already.
 pub(crate) const DETACHED_FULL: u32 = 20;
-
 /// No detached bucket is there.
 pub(crate) const DETACHED_EMPTY: u32 = 21;
-
 /// No bucket has the number, or begins at the place.
 pub(crate) const NOT_A_BUCKET: u32 = 22;

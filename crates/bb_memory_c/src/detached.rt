@@ -1,18 +1,18 @@
-//! Detached buckets, which go from seat to seat of a shared pool: what a handle owns, what a seat does with it, and the exported
-//! functions.
+//! Detached buckets, which go from party to party of a shared pool: what a handle owns, what a party does with it, and the
+//! exported functions.
 ghost use Rattle.std.specs.Prelude.{◌≡◌, ◌↔◌, ◌≢◌, IfErr, IfOk, IsTrue, None, Some};
 ghost use Rattle.bb_memory.specs.SharedPool.{chunk_of};
 ghost use Rattle.bb_memory_c.specs.Answers.{refused};
-ghost use Rattle.bb_memory_c.specs.Calls.{AnswersFree, AnswersMake, AnswersOfBoth, IfBoth, TellsWhether};
-ghost use Rattle.bb_memory_c.specs.Codes.{done, not_made};
+ghost use Rattle.bb_memory_c.specs.Calls.{AnswersFree, AnswersMake, AnswersOfBoth, IfBoth, AnswersWhether};
+ghost use Rattle.bb_memory_c.specs.Codes.{ok, uninitialized};
 ghost use Rattle.bb_memory_c.specs.Detached.{HasAttached, HasDetached, IsForPool, MayDetachBucket, TellsAttach, TellsDetach};
 ghost use Rattle.bb_memory_c.specs.SharedPools.{HoldsAt};
 
 use crate::answer::{Answer, Figure};
 use crate::call::{free, is_made, keep};
 use crate::code;
-use crate::handle::{DetachedHandle, Handle, PoolSeatHandle};
-use crate::pool_seat::PoolSeat;
+use crate::handle::{DetachedHandle, Handle, PoolPartyHandle};
+use crate::shared_pool::JoinedPool;
 use bb_memory::layout::Chunk;
 use bb_memory::shared_pool::{DetachedBucket, by_number};
 use std::alloc::Global;
@@ -48,7 +48,7 @@ impl Detached {
     }
 }
 
-impl PoolSeat {
+impl JoinedPool {
     /// Detaches the bucket of this number, which the party holds, with a chunk of `len` bytes.
     fn detach_bucket(&mut self, number: u32, len: usize) -> DetachedBucket
         requires { MayDetachBucket self.old number len }
@@ -78,7 +78,7 @@ impl PoolSeat {
         ensures placed { IfOk result (HoldsAt self.now place) }
         ensures may { IfOk result (λ number. MayDetachBucket self.now number len) }
         ensures empty { IfOk result (λ number. detached.now ≡ None) }
-        ensures refused { IfErr result (λ code. (code ≢ done)
+        ensures refused { IfErr result (λ code. (code ≢ ok)
             × TellsDetach self.now detached.now place len code self.now detached.now) }
     {
         if self.pool.number_of_parties() < 2 {
@@ -103,7 +103,7 @@ impl PoolSeat {
         match self.may_detach(place, len, detached) {
             Ok(number) => {
                 detached.inside = Some(self.detach_bucket(number, len));
-                code::DONE
+                code::OK
             }
             Err(code) => code,
         }
@@ -122,89 +122,77 @@ impl PoolSeat {
 }
 
 /// Makes a `bb_detached` with no bucket in it, behind a handle that has to be empty.
-///
-/// C guarantees of the handle what the crate's page says.
 #[unsafe(no_mangle)]
-pub extern "C" fn bb_detached_make(alloc: Global, detached: &mut DetachedHandle) -> u32
+pub extern "C" fn bb_detached_init(alloc: Global, detached: &mut DetachedHandle) -> u32
     ensures { AnswersMake detached.old.value detached.new.value result (Unit {0})
         (λ new. new ≡ Some None) }
 {
-    if is_made(detached, alloc) {
-        return code::ALREADY_MADE;
+    if is_made(detached) {
+        return code::ALREADY_INITIALIZED;
     }
     keep(detached, alloc, Detached::new())
 }
 
 /// Frees a `bb_detached`, whose handle is empty then. A bucket that is in it stays detached for good. The answer is 0, or
-/// `BB_NOT_MADE` where the handle was empty already.
-///
-/// C guarantees of the handle what the crate's page says.
+/// `BB_UNINITIALIZED` where the handle was empty already.
 #[unsafe(no_mangle)]
-pub extern "C" fn bb_detached_free(alloc: Global, detached: &mut DetachedHandle) -> u32
+pub extern "C" fn bb_detached_destroy(alloc: Global, detached: &mut DetachedHandle) -> u32
     ensures { AnswersFree detached.old.value detached.new.value result }
 {
     free(detached, alloc)
 }
 
 /// Whether a bucket is in it: 1 or 0.
-///
-/// C guarantees of the handle what the crate's page says.
 #[unsafe(no_mangle)]
-pub extern "C" fn bb_detached_is_full(_alloc: Global, detached: &mut DetachedHandle) -> Figure
-    ensures { TellsWhether detached.old.value detached.new.value result
+pub extern "C" fn bb_detached_is_full(detached: &mut DetachedHandle) -> Figure
+    ensures { AnswersWhether detached.old.value detached.new.value result
         (λ inside. inside ≢ None) }
 {
     match detached.made_mut() {
         Some(inside) => Figure::whether(inside.is_full()),
-        None => Figure::refusal(code::NOT_MADE),
+        None => Figure::refusal(code::UNINITIALIZED),
     }
 }
 
-/// Detaches the bucket at this place, which this seat holds, with a chunk of `len` bytes. The bucket goes into a `bb_detached`
-/// that has none, and the seat doesn't hold it then. It takes no memory, and waits for nothing.
-///
-/// C guarantees of both handles what the crate's page says.
+/// Detaches the bucket at this place, which this party holds, with a chunk of `len` bytes. The bucket goes into a `bb_detached`
+/// that has none, and the party doesn't hold it then. It takes no memory, and waits for nothing.
 #[unsafe(no_mangle)]
-pub extern "C" fn bb_pool_seat_detach(
-    _alloc: Global,
-    handle: &mut PoolSeatHandle,
+pub extern "C" fn bb_pool_party_detach(
+    handle: &mut PoolPartyHandle,
     place: usize,
     len: usize,
     detached: &mut DetachedHandle,
 ) -> u32
     ensures { AnswersOfBoth handle.old.value handle.new.value
-        detached.old.value detached.new.value (result ≡ not_made)
+        detached.old.value detached.new.value (result ≡ uninitialized)
         (λ party inside. TellsDetach party inside place len result) }
 {
-    let Some(seat) = handle.made_mut() else {
-        return code::NOT_MADE;
+    let Some(joined) = handle.made_mut() else {
+        return code::UNINITIALIZED;
     };
     let Some(inside) = detached.made_mut() else {
-        return code::NOT_MADE;
+        return code::UNINITIALIZED;
     };
-    seat.detach(place, len, inside)
+    joined.detach(place, len, inside)
 }
 
-/// Attaches the bucket that is in the `bb_detached`, which has none then: this seat holds it, with the chunk that is answered. It
-/// takes no memory, and waits for nothing.
-///
-/// C guarantees of both handles what the crate's page says, and that the bucket is of this seat's pool.
+/// Attaches the bucket that is in the `bb_detached`, which has none then: this party holds it, with the chunk that is
+/// returned. It takes no memory, and waits for nothing.
 #[unsafe(no_mangle)]
-pub extern "C" fn bb_pool_seat_attach(
-    _alloc: Global,
-    handle: &mut PoolSeatHandle,
+pub extern "C" fn bb_pool_party_attach(
+    handle: &mut PoolPartyHandle,
     detached: &mut DetachedHandle,
 ) -> Answer
     requires { IfBoth handle.old.value detached.old.value IsForPool }
     ensures { AnswersOfBoth handle.old.value handle.new.value
-        detached.old.value detached.new.value (result ≡ refused not_made)
+        detached.old.value detached.new.value (result ≡ refused uninitialized)
         (λ party inside. TellsAttach party inside result) }
 {
-    let Some(seat) = handle.made_mut() else {
-        return Answer::refusal(code::NOT_MADE);
+    let Some(joined) = handle.made_mut() else {
+        return Answer::refusal(code::UNINITIALIZED);
     };
     let Some(inside) = detached.made_mut() else {
-        return Answer::refusal(code::NOT_MADE);
+        return Answer::refusal(code::UNINITIALIZED);
     };
-    seat.attach(inside)
+    joined.attach(inside)
 }

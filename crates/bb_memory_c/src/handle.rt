@@ -4,27 +4,56 @@
 ghost use Rattle.std.specs.Prelude.{◌≡◌, Option, Some, None, MatchOption};
 ghost use Rattle.std.specs.Option.{OnSome};
 ghost use Rattle.std.specs.Borrow.{sem, LendsSo};
+ghost use Rattle.std.specs.declared.alloc.Global.{Global as Heap};
+ghost use Rattle.bb_memory.specs.Bump.{Bump};
+ghost use Rattle.bb_memory.specs.OneChunk.{OneChunk};
+ghost use Rattle.bb_memory.specs.Pool.{CountedPool};
+ghost use Rattle.bb_memory.specs.SharedBump.{BumpParty};
+ghost use Rattle.bb_memory.specs.SharedPool.{PoolParty};
+ghost use Rattle.bb_memory_c.specs.Detached.{Detached as Inside};
+ghost use Rattle.bb_memory_c.specs.Handles.{owns_if};
+ghost use Rattle.bb_memory.specs.contracts.bump_allocator.BumpAllocator.{the_row as bump_row};
+ghost use Rattle.bb_memory.specs.contracts.one_chunk_allocator.OneChunkAllocator.{the_row as one_chunk_row};
+ghost use Rattle.bb_memory_c.specs.contracts.detached.Detached.{the_row as detached_row};
+ghost use Rattle.bb_memory_c.specs.contracts.pool.Pool.{the_row as pool_row};
+ghost use Rattle.bb_memory_c.specs.contracts.shared_bump.BumpParties.{the_row as shared_bump_row};
+ghost use Rattle.bb_memory_c.specs.contracts.shared_bump.JoinedBump.{the_row as bump_party_row};
+ghost use Rattle.bb_memory_c.specs.contracts.shared_pool.JoinedPool.{the_row as pool_party_row};
+ghost use Rattle.bb_memory_c.specs.contracts.shared_pool.PoolParties.{the_row as shared_pool_row};
+ghost use Rattle.bb_memory_c.specs.SharedBumps.{BumpParties as SharedBump};
+ghost use Rattle.bb_memory_c.specs.SharedPools.{PoolParties as SharedPool};
 
-mod bump;
-mod bump_seat;
-mod detached;
-mod one_chunk;
-mod pool;
-mod pool_seat;
-mod shared_bump;
-mod shared_pool;
-
+use crate::detached::Detached;
 use crate::held::Held;
-pub use bump::BumpHandle;
-pub use bump_seat::BumpSeatHandle;
-pub use detached::DetachedHandle;
-pub use one_chunk::OneChunkHandle;
-pub use pool::{FlagsPoolHandle, PoolHandle};
-pub use pool_seat::PoolSeatHandle;
-pub use shared_bump::SharedBumpHandle;
-pub use shared_pool::SharedPoolHandle;
+use crate::pool::Pool;
+use crate::shared_bump::{BumpParties, JoinedBump};
+use crate::shared_pool::{JoinedPool, PoolParties};
+use bb_memory::bump_allocator::BumpAllocator;
+use bb_memory::one_chunk_allocator::OneChunkAllocator;
 use std::alloc::Global;
+use std::marker::Model;
 use std::mem;
+
+/// Copies the fields of an owner into one of another type.
+macro_rules! renamed {
+    ($owner:expr, $from:ident, $to:ident, $behind:ty) => {
+        let $from { at, made } = $owner;
+        $to {
+            at: at as *mut $behind,
+            made,
+        }
+    };
+}
+
+/// Lends what the handle owns, where it lies.
+macro_rules! lent {
+    ($handle:expr, $behind:ty) => {
+        if !$handle.made {
+            return None;
+        }
+        Some(unsafe { &mut *($handle.at as *mut $behind) })
+    };
+}
 
 /// What the host holds.
 pub(crate) trait Handle: Drop {
@@ -67,3 +96,291 @@ pub(crate) trait Handle: Drop {
             .into_box(alloc)
     }
 }
+
+/// Empty, or the owner of a bump.
+#[repr(C)]
+#[derive(Drop)]
+pub struct BumpHandle {
+    at: *mut u8,
+    made: bool,
+    pub ghost heap: { Heap },
+    pub ghost value: { Option Bump },
+}
+
+impl Model for BumpHandle {
+    ghost also_owns = { λ h. owns_if bump_row h.heap h.made h.at h.value };
+}
+
+impl Handle for BumpHandle {
+    type Made = BumpAllocator;
+
+    ghost made = { λ h. h.value };
+
+    fn of(held: Held<BumpAllocator>) -> BumpHandle
+        ensures { result.value ≡ held.value }
+    {
+        renamed! { held, Held, BumpHandle, u8 }
+    }
+
+    fn into_held(self) -> Held<BumpAllocator> {
+        renamed! { self, BumpHandle, Held, BumpAllocator }
+    }
+
+    fn made_mut(&mut self) -> Option<&mut BumpAllocator> {
+        lent! { self, BumpAllocator }
+    }
+}
+
+/// Empty, or the owner of a one-chunk allocator.
+#[repr(C)]
+#[derive(Drop)]
+pub struct OneChunkHandle {
+    at: *mut u8,
+    made: bool,
+    pub ghost heap: { Heap },
+    pub ghost value: { Option OneChunk },
+}
+
+impl Model for OneChunkHandle {
+    ghost also_owns = { λ h. owns_if one_chunk_row h.heap h.made h.at h.value };
+}
+
+impl Handle for OneChunkHandle {
+    type Made = OneChunkAllocator;
+
+    ghost made = { λ h. h.value };
+
+    fn of(held: Held<OneChunkAllocator>) -> OneChunkHandle
+        ensures { result.value ≡ held.value }
+    {
+        renamed! { held, Held, OneChunkHandle, u8 }
+    }
+
+    fn into_held(self) -> Held<OneChunkAllocator> {
+        renamed! { self, OneChunkHandle, Held, OneChunkAllocator }
+    }
+
+    fn made_mut(&mut self) -> Option<&mut OneChunkAllocator> {
+        lent! { self, OneChunkAllocator }
+    }
+}
+
+/// Empty, or the owner of a pool.
+#[repr(C)]
+#[derive(Drop)]
+pub struct PoolHandle {
+    at: *mut u8,
+    made: bool,
+    pub ghost heap: { Heap },
+    pub ghost value: { Option CountedPool },
+}
+
+impl Model for PoolHandle {
+    ghost also_owns = { λ h. owns_if pool_row h.heap h.made h.at h.value };
+}
+
+impl Handle for PoolHandle {
+    type Made = Pool;
+
+    ghost made = { λ h. h.value };
+
+    fn of(held: Held<Pool>) -> PoolHandle
+        ensures { result.value ≡ held.value }
+    {
+        renamed! { held, Held, PoolHandle, u8 }
+    }
+
+    fn into_held(self) -> Held<Pool> {
+        renamed! { self, PoolHandle, Held, Pool }
+    }
+
+    fn made_mut(&mut self) -> Option<&mut Pool> {
+        lent! { self, Pool }
+    }
+}
+
+/// Empty, or the owner of a shared bump.
+#[repr(C)]
+#[derive(Drop)]
+pub struct SharedBumpHandle {
+    at: *mut u8,
+    made: bool,
+    pub ghost heap: { Heap },
+    pub ghost value: { Option SharedBump },
+}
+
+impl Model for SharedBumpHandle {
+    ghost also_owns = { λ h. owns_if shared_bump_row h.heap h.made h.at h.value };
+}
+
+impl Handle for SharedBumpHandle {
+    type Made = BumpParties;
+
+    ghost made = { λ h. h.value };
+
+    fn of(held: Held<BumpParties>) -> SharedBumpHandle
+        ensures { result.value ≡ held.value }
+    {
+        renamed! { held, Held, SharedBumpHandle, u8 }
+    }
+
+    fn into_held(self) -> Held<BumpParties> {
+        renamed! { self, SharedBumpHandle, Held, BumpParties }
+    }
+
+    fn made_mut(&mut self) -> Option<&mut BumpParties> {
+        lent! { self, BumpParties }
+    }
+}
+
+/// Empty, or the owner of a party of a shared bump.
+#[repr(C)]
+#[derive(Drop)]
+pub struct BumpPartyHandle {
+    at: *mut u8,
+    made: bool,
+    pub ghost heap: { Heap },
+    pub ghost value: { Option BumpParty },
+}
+
+impl Model for BumpPartyHandle {
+    ghost also_owns = { λ h. owns_if bump_party_row h.heap h.made h.at h.value };
+}
+
+impl Handle for BumpPartyHandle {
+    type Made = JoinedBump;
+
+    ghost made = { λ h. h.value };
+
+    fn of(held: Held<JoinedBump>) -> BumpPartyHandle
+        ensures { result.value ≡ held.value }
+    {
+        renamed! { held, Held, BumpPartyHandle, u8 }
+    }
+
+    fn into_held(self) -> Held<JoinedBump> {
+        renamed! { self, BumpPartyHandle, Held, JoinedBump }
+    }
+
+    fn made_mut(&mut self) -> Option<&mut JoinedBump> {
+        lent! { self, JoinedBump }
+    }
+}
+
+/// Empty, or the owner of a shared pool.
+#[repr(C)]
+#[derive(Drop)]
+pub struct SharedPoolHandle {
+    at: *mut u8,
+    made: bool,
+    pub ghost heap: { Heap },
+    pub ghost value: { Option SharedPool },
+}
+
+impl Model for SharedPoolHandle {
+    ghost also_owns = { λ h. owns_if shared_pool_row h.heap h.made h.at h.value };
+}
+
+impl Handle for SharedPoolHandle {
+    type Made = PoolParties;
+
+    ghost made = { λ h. h.value };
+
+    fn of(held: Held<PoolParties>) -> SharedPoolHandle
+        ensures { result.value ≡ held.value }
+    {
+        renamed! { held, Held, SharedPoolHandle, u8 }
+    }
+
+    fn into_held(self) -> Held<PoolParties> {
+        renamed! { self, SharedPoolHandle, Held, PoolParties }
+    }
+
+    fn made_mut(&mut self) -> Option<&mut PoolParties> {
+        lent! { self, PoolParties }
+    }
+}
+
+/// Empty, or the owner of a party of a shared pool.
+#[repr(C)]
+#[derive(Drop)]
+pub struct PoolPartyHandle {
+    at: *mut u8,
+    made: bool,
+    pub ghost heap: { Heap },
+    pub ghost value: { Option PoolParty },
+}
+
+impl Model for PoolPartyHandle {
+    ghost also_owns = { λ h. owns_if pool_party_row h.heap h.made h.at h.value };
+}
+
+impl Handle for PoolPartyHandle {
+    type Made = JoinedPool;
+
+    ghost made = { λ h. h.value };
+
+    fn of(held: Held<JoinedPool>) -> PoolPartyHandle
+        ensures { result.value ≡ held.value }
+    {
+        renamed! { held, Held, PoolPartyHandle, u8 }
+    }
+
+    fn into_held(self) -> Held<JoinedPool> {
+        renamed! { self, PoolPartyHandle, Held, JoinedPool }
+    }
+
+    fn made_mut(&mut self) -> Option<&mut JoinedPool> {
+        lent! { self, JoinedPool }
+    }
+}
+
+/// Empty, or the owner of a `Detached`.
+#[repr(C)]
+#[derive(Drop)]
+pub struct DetachedHandle {
+    at: *mut u8,
+    made: bool,
+    pub ghost heap: { Heap },
+    pub ghost value: { Option Inside },
+}
+
+impl Model for DetachedHandle {
+    ghost also_owns = { λ h. owns_if detached_row h.heap h.made h.at h.value };
+}
+
+impl Handle for DetachedHandle {
+    type Made = Detached;
+
+    ghost made = { λ h. h.value };
+
+    fn of(held: Held<Detached>) -> DetachedHandle
+        ensures { result.value ≡ held.value }
+    {
+        renamed! { held, Held, DetachedHandle, u8 }
+    }
+
+    fn into_held(self) -> Held<Detached> {
+        renamed! { self, DetachedHandle, Held, Detached }
+    }
+
+    fn made_mut(&mut self) -> Option<&mut Detached> {
+        lent! { self, Detached }
+    }
+}
+
+unsafe impl Send for BumpHandle {}
+
+unsafe impl Send for OneChunkHandle {}
+
+unsafe impl Send for PoolHandle {}
+
+unsafe impl Send for SharedBumpHandle {}
+
+unsafe impl Send for BumpPartyHandle {}
+
+unsafe impl Send for SharedPoolHandle {}
+
+unsafe impl Send for PoolPartyHandle {}
+
+unsafe impl Send for DetachedHandle {}

@@ -1,18 +1,27 @@
-//! What is made behind handles: what each kind has to do for a call that is written once over all of them.
+//! What a call that is written once asks of each kind that it serves.
 ghost use Rattle.std.specs.Prelude.{◌≡◌, ◌↔◌, ℕ, IsFalse, IsTrue, Result};
 ghost use Rattle.bb_memory_base.specs.Chunk.{Chunk};
+ghost use Rattle.bb_memory_base.specs.PoolGeometry.{PoolGeometry};
 ghost use Rattle.bb_memory_base.specs.declared.layout.Layout.{Layout as Asked};
 ghost use Rattle.bb_memory_base.specs.declared.allocator.AllocationError.{AllocationError};
-ghost use Rattle.bb_memory_base.specs.declared.allocator.AllocationGrowError.{AllocationGrowError};
-ghost use Rattle.bb_memory_base.specs.declared.allocator.AllocationShrinkError.{AllocationShrinkError};
-ghost use Rattle.bb_memory_c.specs.Answers.{AnswersStill, MayGrowAt, MayShrinkAt};
-ghost use Rattle.bb_memory_c.specs.Calls.{TakesSeat};
+ghost use Rattle.bb_memory.specs.Buckets.{TellsNumber, TellsPlace};
+ghost use Rattle.bb_memory_c.specs.Calls.{TakesParty};
 
-use bb_memory::allocator::{AllocationError, AllocationGrowError, AllocationShrinkError};
+use bb_memory::allocator::AllocationError;
 use bb_memory::layout::{Chunk, Layout};
 use std::alloc::Global;
 
-/// What gives chunks.
+/// Fills a C struct of type `I` with its figures.
+pub(crate) trait Shows<I>: Drop {
+    /// The struct may be filled so, and what is there then.
+    ghost may_show: { Self → I → Self → Type 0 };
+
+    /// Returns the filled struct.
+    fn show(&mut self) -> I
+        ensures { may_show self.old result self.new };
+}
+
+/// Gives chunks.
 pub(crate) trait Gives: Drop {
     /// What may be answered to a request, and what is there then.
     ghost may_give: { Self → Asked → Result Chunk AllocationError → Self → Type 0 };
@@ -22,7 +31,7 @@ pub(crate) trait Gives: Drop {
         ensures { may_give self.old layout result self.new };
 }
 
-/// What gives chunks, and knows them by their places.
+/// Knows its chunks by their places.
 pub(crate) trait Keeps: Gives {
     /// A chunk is held at this place.
     ghost holds: { Self → ℕ → Type 0 };
@@ -30,72 +39,52 @@ pub(crate) trait Keeps: Gives {
     /// What is there when the chunk at a place was given back.
     ghost frees: { Self → ℕ → Self → Type 0 };
 
-    /// How many bytes are reserved for the chunk at a place.
-    ghost bytes: { Self → ℕ → ℕ };
-
-    /// What may be answered where the chunk at a place is to grow.
-    ghost may_grow: { Self → ℕ → Asked → Asked → Result Chunk AllocationGrowError → Type 0 };
-
-    /// What may be answered where it is to shrink.
-    ghost may_shrink: { Self → ℕ → Asked → Asked → Result Chunk AllocationShrinkError → Type 0 };
-
-    /// Whether a chunk is held at this place.
+    /// Returns whether a chunk is held at this place.
     fn is_held(&self, place: usize) -> bool
         ensures { IsTrue result ↔ holds self.now place };
 
-    /// Gives back the chunk at this place where one is held there, and answers whether one was. Else it changes nothing.
+    /// Gives back the chunk at this place where one is held there, and returns whether one was. Else it changes nothing.
     fn give_back(&mut self, place: usize) -> bool
         ensures held { IsTrue result ↔ holds self.old place }
         ensures freed { IsTrue result → frees self.old place self.new }
         ensures still { IsFalse result → self.new ≡ self.old };
-
-    /// How many bytes are reserved for the chunk at this place.
-    fn reserved_at(&self, place: usize) -> usize
-        requires { holds self.now place }
-        ensures { result ≡ bytes self.now place };
-
-    /// Grows the chunk at this place.
-    fn grow_at(
-        &mut self,
-        place: usize,
-        old: Layout,
-        new: Layout,
-    ) -> Result<Chunk, AllocationGrowError>
-        requires { MayGrowAt (holds self.old place) place old }
-        ensures { AnswersStill self.old self.new (may_grow self.old place old new result) };
-
-    /// Shrinks the chunk at this place.
-    fn shrink_at(
-        &mut self,
-        place: usize,
-        old: Layout,
-        new: Layout,
-    ) -> Result<Chunk, AllocationShrinkError>
-        requires { MayShrinkAt (holds self.old place) place (bytes self.old place) old }
-        ensures { AnswersStill self.old self.new (may_shrink self.old place old new result) };
 }
 
-/// What threads share through seats of this type, and its parties that have none.
+/// Is cut into buckets.
+pub(crate) trait Bucketed: Drop {
+    /// How its region is cut.
+    ghost geometry: { Self → PoolGeometry };
+
+    /// Returns where the bucket of this number begins, if there is one.
+    fn place_of(&self, number: u32) -> Option<usize>
+        ensures { TellsPlace (geometry self.now) number result };
+
+    /// Returns the number of the bucket at this place, if one begins there.
+    fn number_of(&self, place: usize) -> Option<u32>
+        ensures { TellsNumber (geometry self.now) place result };
+}
+
+/// Is shared by threads: `S` is a party that has joined, and the others are here.
 pub(crate) trait Shares<S: Drop>: Drop {
-    /// How many parties have no seat.
+    /// How many parties haven't joined.
     ghost left: { Self → ℕ };
 
-    /// It with one more party that has no seat, behind the others.
-    ghost joined: { Self → S → Self };
+    /// What is shared with one more party that hasn't joined, behind the others.
+    ghost with_party: { Self → S → Self };
 
-    /// The party is one of its own, and isn't among those that have no seat.
+    /// The party is one of its own that has joined.
     ghost is_at: { Self → S → Type 0 };
 
-    /// What a party is when it has left its seat.
+    /// What a party is when it has left.
     ghost leaves: { S → S → Type 0 };
 
-    /// A seat for the last party that has none, in memory of its own.
+    /// Makes the last party that hasn't joined join, in memory of its own.
     fn deal(&mut self, alloc: Global) -> Result<Box<S>, u32>
-        ensures { TakesSeat self.old self.new result left (λ shared seat. joined shared seat.value)
-            (λ shared seat. is_at shared seat.value) };
+        ensures { TakesParty self.old self.new result left (λ shared joined. with_party shared joined.value)
+            (λ shared joined. is_at shared joined.value) };
 
-    /// Takes the seat's party back, behind those that have no seat, when it has left the seat.
-    fn take_back(&mut self, seat: S)
-        requires { is_at self.old seat }
-        ensures { (after : S) × leaves seat after × (self.new ≡ joined self.old after) };
+    /// Takes the party back, behind those that haven't joined.
+    fn take_back(&mut self, joined: S)
+        requires { is_at self.old joined }
+        ensures { (after : S) × leaves joined after × (self.new ≡ with_party self.old after) };
 }

@@ -3,14 +3,13 @@ ghost use Rattle.std.specs.Prelude.{◌≡◌, ◌≢◌, ◌↔◌, IfOk, IfErr
 ghost use Rattle.std.specs.Align.{IsLayout};
 ghost use Rattle.bb_memory_base.specs.declared.layout.Layout.{Layout as Asked};
 ghost use Rattle.bb_memory_base.specs.Region.{region_at};
-ghost use Rattle.bb_memory_c.specs.Codes.{cannot_make, not_a_layout};
+ghost use Rattle.bb_memory_c.specs.Codes.{invalid_argument, invalid_layout};
 ghost use Rattle.bb_memory.specs.Pool.{MayBeCut};
 ghost use Rattle.bb_memory_c.specs.Layouts.{CannotCut, HasRoom, IsCuttable, IsOf};
 
 use crate::code;
-use crate::flags_pool::FlagsPool;
 use bb_memory::layout::Layout;
-use bb_memory::pool_allocator::PoolAllocator;
+use bb_memory::pool_allocator::{FixedSizePoolAllocator, PoolAllocator};
 use std::alloc::Global;
 
 /// The layout of this size and this alignment, if they make one.
@@ -53,16 +52,16 @@ pub(crate) fn cut_into(
     size: usize,
 ) -> Result<Layout, u32>
     ensures cut { IfOk result (IsCuttable bucket_size bucket_align (region_at start size)) }
-    ensures not_a_layout { (result ≡ Err not_a_layout) ↔ (¬ IsLayout bucket_size bucket_align) }
-    ensures cannot_make { (result ≡ Err cannot_make)
+    ensures invalid_layout { (result ≡ Err invalid_layout) ↔ (¬ IsLayout bucket_size bucket_align) }
+    ensures invalid_argument { (result ≡ Err invalid_argument)
         ↔ CannotCut bucket_size bucket_align (region_at start size) }
-    ensures others { IfErr result (λ code. code ≢ not_a_layout → code ≡ cannot_make) }
+    ensures others { IfErr result (λ code. code ≢ invalid_layout → code ≡ invalid_argument) }
 {
     let Some(bucket) = layout_of(bucket_size, bucket_align) else {
-        return Err(code::NOT_A_LAYOUT);
+        return Err(code::INVALID_LAYOUT);
     };
     if !PoolAllocator::<Global>::can_make(bucket, start, size) {
-        return Err(code::CANNOT_MAKE);
+        return Err(code::INVALID_ARGUMENT);
     }
     Ok(bucket)
 }
@@ -72,5 +71,5 @@ pub(crate) fn has_room(layout: Layout, start: usize, size: usize) -> bool
     requires { MayBeCut (region_at start size) layout }
     ensures { IsTrue result ↔ HasRoom (region_at start size) layout }
 {
-    FlagsPool::<1>::new(layout, start, size).number_of_buckets() > 0
+    FixedSizePoolAllocator::<1>::new(layout, start, size).number_of_buckets() > 0
 }

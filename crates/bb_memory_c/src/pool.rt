@@ -1,30 +1,22 @@
 //! A pool behind a handle.
 ghost use Rattle.std.specs.Prelude.{◌≡◌};
-ghost use Rattle.bb_memory_base.specs.FirstPlace.{first_place};
-ghost use Rattle.bb_memory_base.specs.PoolObject.{MayGrow, MayShrink};
 ghost use Rattle.bb_memory_base.specs.Region.{region_at};
 ghost use Rattle.bb_memory.specs.HeldBuckets.{held_count};
 ghost use Rattle.bb_memory.specs.Pool.{Frees, HoldsPlace, MayBeCut, Takes};
-ghost use Rattle.bb_memory_c.specs.ByNumber.{TellsNumberAt, TellsPlaceAt};
-ghost use Rattle.bb_memory_c.specs.Calls.{AnswersFree, AnswersGrow, AnswersPoolMake, AnswersRequest, AnswersReturn};
-ghost use Rattle.bb_memory_c.specs.Calls.{AnswersShrink, TellsFigure, TellsOfHeld, TellsWhether, resize};
+ghost use Rattle.bb_memory_c.specs.Calls.{AnswersFree, AnswersInfo, AnswersNumber, AnswersPlace, AnswersPoolMake};
+ghost use Rattle.bb_memory_c.specs.Calls.{AnswersRequest, AnswersReturn, AnswersWhether};
+ghost use Rattle.bb_memory_c.specs.Infos.{pool_info};
 ghost use Rattle.bb_memory_c.specs.Layouts.{HasRoom};
 ghost use Rattle.bb_memory_c.specs.Pools.{MakesPool};
-ghost use Rattle.bb_memory_c.specs.Figures.{pool_figure};
 
-use crate::answer::{Answer, Figure};
-use crate::by_number::{Cut, number, place};
-use crate::call::{free, give_back, grow, holds, is_made, keep, request, reserved, shrink, tell};
+use crate::answer::{Answer, Figure, PoolInfo};
+use crate::call::{free, give_back, holds, info, is_made, keep, number, place, request};
 use crate::code;
-use crate::figures::{FirstPlace, PoolFigure, Tells};
 use crate::handle::PoolHandle;
-use crate::kind::{Gives, Keeps};
+use crate::kind::{Bucketed, Gives, Keeps, Shows};
 use crate::layout::{cut_into, has_room};
 use bb_memory::layout::{Chunk, Layout};
-use bb_memory::pool_allocator::{
-    AllocationError, AllocationGrowError, AllocationShrinkError, Allocator, BaseAllocator,
-    PoolAllocator,
-};
+use bb_memory::pool_allocator::{AllocationError, BaseAllocator, PoolAllocator};
 use std::alloc::Global;
 use std::marker::Model;
 
@@ -44,10 +36,8 @@ impl Model for Pool {
 
 /// Makes a pool over the region of `size` bytes at `start`, behind a handle that has to be empty. The region is cut into
 /// buckets of `bucket_size` bytes at multiples of `bucket_align`, and has to have room for one.
-///
-/// C guarantees of the handle what the crate's page says.
 #[unsafe(no_mangle)]
-pub extern "C" fn bb_pool_make(
+pub extern "C" fn bb_pool_init(
     alloc: Global,
     handle: &mut PoolHandle,
     bucket_size: usize,
@@ -59,8 +49,8 @@ pub extern "C" fn bb_pool_make(
         (MayBeCut (region_at start size)) (HasRoom (region_at start size))
         (MakesPool (region_at start size)) }
 {
-    if is_made(handle, alloc) {
-        return code::ALREADY_MADE;
+    if is_made(handle) {
+        return code::ALREADY_INITIALIZED;
     }
     let bucket = match cut_into(bucket_size, bucket_align, start, size) {
         Ok(bucket) => bucket,
@@ -75,219 +65,82 @@ pub extern "C" fn bb_pool_make(
     keep(handle, alloc, Pool { pool })
 }
 
-/// Frees the pool, whose handle is empty then. The answer is 0, or `BB_NOT_MADE` where it was empty already.
-///
-/// C guarantees of the handle what the crate's page says.
+/// Frees the pool, whose handle is empty then. The answer is 0, or `BB_UNINITIALIZED` where it was empty already.
 #[unsafe(no_mangle)]
-pub extern "C" fn bb_pool_free(alloc: Global, handle: &mut PoolHandle) -> u32
+pub extern "C" fn bb_pool_destroy(alloc: Global, handle: &mut PoolHandle) -> u32
     ensures { AnswersFree handle.old.value handle.new.value result }
 {
     free(handle, alloc)
 }
 
 /// Asks for a chunk of `size` bytes at a multiple of `align`, in a bucket that isn't held.
-///
-/// C guarantees of the handle what the crate's page says.
 #[unsafe(no_mangle)]
-pub extern "C" fn bb_pool_allocate(
-    alloc: Global,
-    handle: &mut PoolHandle,
-    size: usize,
-    align: usize,
-) -> Answer
+pub extern "C" fn bb_pool_allocate(handle: &mut PoolHandle, size: usize, align: usize) -> Answer
     ensures { AnswersRequest handle.old.value handle.new.value size align result
         (λ pool layout answer after. Takes pool.pool layout answer after.pool) }
 {
-    request(handle, alloc, size, align)
+    request(handle, size, align)
 }
 
-/// Gives back the bucket at this place. A place that isn't a held bucket's is refused and changes nothing: a wild place, and a
-/// second return as long as the bucket was not given anew. A return after that takes it from its new holder.
-///
-/// C guarantees of the handle what the crate's page says.
+/// Gives back the bucket at this place. A place that isn't a held bucket's is refused and changes nothing.
 #[unsafe(no_mangle)]
-pub extern "C" fn bb_pool_deallocate(alloc: Global, handle: &mut PoolHandle, place: usize) -> u32
+pub extern "C" fn bb_pool_deallocate(handle: &mut PoolHandle, place: usize) -> u32
     ensures { AnswersReturn handle.old.value handle.new.value result
         (λ pool. HoldsPlace pool.pool place) (λ pool after. Frees pool.pool place after.pool) }
 {
-    give_back(handle, alloc, place)
+    give_back(handle, place)
 }
 
 /// Whether this is the place of a held bucket: 1 or 0.
-///
-/// C guarantees of the handle what the crate's page says.
 #[unsafe(no_mangle)]
-pub extern "C" fn bb_pool_holds(alloc: Global, handle: &mut PoolHandle, place: usize) -> Figure
-    ensures { TellsWhether handle.old.value handle.new.value result
+pub extern "C" fn bb_pool_holds(handle: &mut PoolHandle, place: usize) -> Figure
+    ensures { AnswersWhether handle.old.value handle.new.value result
         (λ pool. HoldsPlace pool.pool place) }
 {
-    holds(handle, alloc, place)
+    holds(handle, place)
 }
 
-/// How many buckets there are.
-///
-/// C guarantees of the handle what the crate's page says.
+/// Fills the struct with the pool's figures. Each bucket is looked at, to count those that are held.
 #[unsafe(no_mangle)]
-pub extern "C" fn bb_pool_number_of_buckets(alloc: Global, handle: &mut PoolHandle) -> Figure
-    ensures { TellsFigure handle.old.value handle.new.value result
-        (λ pool. pool.pool.geometry.buckets) }
+pub extern "C" fn bb_pool_info(handle: &mut PoolHandle, to: &mut PoolInfo) -> u32
+    ensures { AnswersInfo handle.old.value handle.new.value to.old to.new result
+        (λ pool info after. (info ≡ pool_info pool.pool.geometry (held_count pool.pool))
+        × (after ≡ pool)) }
 {
-    tell(handle, alloc, PoolFigure::NumberOfBuckets)
-}
-
-/// How many buckets are held.
-///
-/// C guarantees of the handle what the crate's page says.
-#[unsafe(no_mangle)]
-pub extern "C" fn bb_pool_held_buckets(alloc: Global, handle: &mut PoolHandle) -> Figure
-    ensures { TellsFigure handle.old.value handle.new.value result (λ pool. held_count pool.pool) }
-{
-    tell(handle, alloc, PoolFigure::HeldBuckets)
-}
-
-/// The size of a bucket in bytes, as it was asked for.
-///
-/// C guarantees of the handle what the crate's page says.
-#[unsafe(no_mangle)]
-pub extern "C" fn bb_pool_bucket_size(alloc: Global, handle: &mut PoolHandle) -> Figure
-    ensures { TellsFigure handle.old.value handle.new.value result
-        (λ pool. pool.pool.geometry.bucket.size) }
-{
-    tell(handle, alloc, PoolFigure::BucketSize)
-}
-
-/// The greatest alignment that a request may have.
-///
-/// C guarantees of the handle what the crate's page says.
-#[unsafe(no_mangle)]
-pub extern "C" fn bb_pool_max_alignment(alloc: Global, handle: &mut PoolHandle) -> Figure
-    ensures { TellsFigure handle.old.value handle.new.value result
-        (λ pool. pool.pool.geometry.bucket.align) }
-{
-    tell(handle, alloc, PoolFigure::MaxAlignment)
-}
-
-/// How many bytes the region has, as it was handed in.
-///
-/// C guarantees of the handle what the crate's page says.
-#[unsafe(no_mangle)]
-pub extern "C" fn bb_pool_size(alloc: Global, handle: &mut PoolHandle) -> Figure
-    ensures { TellsFigure handle.old.value handle.new.value result
-        (λ pool. pool.pool.geometry.region.size) }
-{
-    tell(handle, alloc, PoolFigure::Size)
-}
-
-/// Where the first bucket is: the region's start, rounded up to the bucket's alignment.
-///
-/// C guarantees of the handle what the crate's page says.
-#[unsafe(no_mangle)]
-pub extern "C" fn bb_pool_start_address(alloc: Global, handle: &mut PoolHandle) -> Figure
-    ensures { TellsFigure handle.old.value handle.new.value result
-        (λ pool. first_place pool.pool.geometry.region pool.pool.geometry.bucket) }
-{
-    tell(handle, alloc, FirstPlace)
-}
-
-/// Gives the chunk at this place the new size, in its bucket.
-///
-/// C guarantees of the handle what the crate's page says.
-#[unsafe(no_mangle)]
-pub extern "C" fn bb_pool_grow(
-    alloc: Global,
-    handle: &mut PoolHandle,
-    place: usize,
-    old_size: usize,
-    old_align: usize,
-    new_size: usize,
-    new_align: usize,
-) -> Answer
-    ensures { AnswersGrow handle.old.value handle.new.value place
-        (resize old_size old_align new_size new_align) result
-        (λ pool. HoldsPlace pool.pool place)
-        (λ pool. MayGrow pool.pool.geometry.bucket place) }
-{
-    grow(
-        handle, alloc, place, old_size, old_align, new_size, new_align,
-    )
-}
-
-/// Gives the chunk at this place exactly the new size.
-///
-/// C guarantees of the handle what the crate's page says.
-#[unsafe(no_mangle)]
-pub extern "C" fn bb_pool_shrink(
-    alloc: Global,
-    handle: &mut PoolHandle,
-    place: usize,
-    old_size: usize,
-    old_align: usize,
-    new_size: usize,
-    new_align: usize,
-) -> Answer
-    ensures { AnswersShrink handle.old.value handle.new.value place
-        (resize old_size old_align new_size new_align) result
-        (λ pool. HoldsPlace pool.pool place)
-        (λ pool. pool.pool.geometry.bucket.size)
-        (λ pool. MayShrink pool.pool.geometry.bucket place) }
-{
-    shrink(
-        handle, alloc, place, old_size, old_align, new_size, new_align,
-    )
-}
-
-/// How many bytes are reserved for the chunk at this place: the bucket's size.
-///
-/// C guarantees of the handle what the crate's page says.
-#[unsafe(no_mangle)]
-pub extern "C" fn bb_pool_reserved(alloc: Global, handle: &mut PoolHandle, place: usize) -> Figure
-    ensures { TellsOfHeld handle.old.value handle.new.value result
-        (λ pool. HoldsPlace pool.pool place) (λ pool. pool.pool.geometry.bucket.size) }
-{
-    reserved(handle, alloc, place)
+    info(handle, to)
 }
 
 /// Where the bucket of this number begins, held or not, or `BB_NOT_A_BUCKET` where there is no such bucket.
-///
-/// C guarantees of the handle what the crate's page says.
 #[unsafe(no_mangle)]
 pub extern "C" fn bb_pool_place_at(handle: &mut PoolHandle, number: u32) -> Figure
-    ensures { TellsPlaceAt handle.old.value handle.new.value result number
+    ensures { AnswersPlace handle.old.value handle.new.value result number
         (λ pool. pool.pool.geometry) }
 {
     place(handle, number)
 }
 
 /// The number of the bucket at this place, held or not, or `BB_NOT_A_BUCKET` where no bucket begins there.
-///
-/// C guarantees of the handle what the crate's page says.
 #[unsafe(no_mangle)]
 pub extern "C" fn bb_pool_number_at(handle: &mut PoolHandle, place: usize) -> Figure
-    ensures { TellsNumberAt handle.old.value handle.new.value result place
+    ensures { AnswersNumber handle.old.value handle.new.value result place
         (λ pool. pool.pool.geometry) }
 {
     number(handle, place)
 }
 
-impl Tells<PoolFigure> for Pool {
-    ghost figure = { λ pool. pool_figure pool.pool.geometry (held_count pool.pool) };
+impl Shows<PoolInfo> for Pool {
+    ghost may_show = { λ pool info after. (info ≡ pool_info pool.pool.geometry (held_count pool.pool))
+        × (after ≡ pool) };
 
-    fn tell(&self, name: PoolFigure) -> usize {
-        match name {
-            PoolFigure::NumberOfBuckets => self.pool.number_of_buckets() as usize,
-            PoolFigure::HeldBuckets => self.pool.held_buckets() as usize,
-            PoolFigure::BucketSize => self.pool.bucket_size(),
-            PoolFigure::MaxAlignment => self.pool.max_alignment(),
-            PoolFigure::Size => self.pool.size(),
+    fn show(&mut self) -> PoolInfo {
+        PoolInfo {
+            start_address: self.pool.start_address(),
+            size: self.pool.size(),
+            bucket_size: self.pool.bucket_size(),
+            max_alignment: self.pool.max_alignment(),
+            number_of_buckets: self.pool.number_of_buckets() as usize,
+            held_buckets: self.pool.held_buckets() as usize,
         }
-    }
-}
-
-impl Tells<FirstPlace> for Pool {
-    ghost figure = { λ pool name. first_place pool.pool.geometry.region pool.pool.geometry.bucket };
-
-    fn tell(&self, _name: FirstPlace) -> usize {
-        self.pool.start_address()
     }
 }
 
@@ -304,12 +157,6 @@ impl Keeps for Pool {
 
     ghost frees = { λ pool place after. Frees pool.pool place after.pool };
 
-    ghost bytes = { λ pool place. pool.pool.geometry.bucket.size };
-
-    ghost may_grow = { λ pool. MayGrow pool.pool.geometry.bucket };
-
-    ghost may_shrink = { λ pool. MayShrink pool.pool.geometry.bucket };
-
     fn is_held(&self, place: usize) -> bool {
         self.pool.holds(place)
     }
@@ -317,31 +164,9 @@ impl Keeps for Pool {
     fn give_back(&mut self, place: usize) -> bool {
         self.pool.deallocate_if_held(place)
     }
-
-    fn reserved_at(&self, place: usize) -> usize {
-        self.pool.reserved(place)
-    }
-
-    fn grow_at(
-        &mut self,
-        place: usize,
-        old: Layout,
-        new: Layout,
-    ) -> Result<Chunk, AllocationGrowError> {
-        self.pool.grow(place, old, new)
-    }
-
-    fn shrink_at(
-        &mut self,
-        place: usize,
-        old: Layout,
-        new: Layout,
-    ) -> Result<Chunk, AllocationShrinkError> {
-        self.pool.shrink(place, old, new)
-    }
 }
 
-impl Cut for Pool {
+impl Bucketed for Pool {
     ghost geometry = { λ pool. pool.pool.geometry };
 
     fn place_of(&self, number: u32) -> Option<usize> {

@@ -1,41 +1,183 @@
-//! A shared bump behind handles: one for the bump, and one for the seat of each party.
-ghost use Rattle.std.specs.Prelude.{◌≡◌, ◌-◌, IfSome, Some};
+//! A shared bump behind handles: one for the bump and the parties that haven't joined, and one for each party that has.
+ghost use Rattle.std.specs.Prelude.{◌≡◌, ◌<◌, ◌↔◌, IfSome, IsTrue, Some};
 ghost use Rattle.bb_memory_base.specs.Region.{region_at};
-ghost use Rattle.bb_memory.specs.SharedBump.{IsParty as IsBumpParty, MayTake};
-ghost use Rattle.bb_memory_c.specs.Calls.{AnswersFree, AnswersMake, AnswersRequest, GetsSeatBack, GivesSeat, IfBoth, TellsFigure};
-ghost use Rattle.bb_memory_c.specs.Seats.{joined, left_at};
-ghost use Rattle.bb_memory_c.specs.SharedBumpHandles.{BeginsAnew, IsShareable, MakesSharedBump, TellsLoad};
-ghost use Rattle.bb_memory_c.specs.SharedBumps.{IsAt};
+ghost use Rattle.bb_memory.specs.SharedBump.{MayTake};
+ghost use Rattle.bb_memory_c.specs.Calls.{AnswersFree, AnswersInfo, AnswersJoin, AnswersLeave, AnswersMake};
+ghost use Rattle.bb_memory_c.specs.Calls.{AnswersRequest, IfBoth};
+ghost use Rattle.bb_memory_c.specs.Parties.{with_party, left_at};
+ghost use Rattle.bb_memory_c.specs.SharedBumpHandles.{AnswersReset, IsShareable, MakesSharedBump, ShowsLoad};
+ghost use Rattle.bb_memory_c.specs.SharedBumps.{AreFreshOver, IsAt};
 
-use crate::answer::{Answer, Figure};
-use crate::bump_seat::BumpSeats;
-use crate::call::{free, is_made, keep, leave, request, seat as seat_at, tell};
+use crate::answer::{Answer, BumpInfo};
+use crate::call::{free, info, is_made, join, keep, leave, request};
 use crate::code;
-use crate::figures::RegionFigure;
-use crate::handle::{BumpSeatHandle, Handle, SharedBumpHandle};
-use bb_memory::bump_allocator::BumpAllocator;
+use crate::handle::{BumpPartyHandle, Handle, SharedBumpHandle};
+use crate::kind::{Gives, Shares, Shows};
+use bb_memory::bump_allocator::{AllocationError, BumpAllocator};
+use bb_memory::layout::{Chunk, Layout};
+use bb_memory::shared_bump::{BumpParty, SharedBumpAllocator};
 use std::alloc::Global;
+use std::marker::Model;
+use std::sync::Arc;
 
-/// Begins anew, where each party has no seat.
-fn begin_anew(seats: &mut BumpSeats, alloc: Global) -> u32
-    ensures { BeginsAnew (Some seats.old) (Some seats.new) result }
-{
-    if !seats.are_all_back() {
-        return code::SEATS_OUT;
+/// One party of a shared bump.
+#[derive(Drop)]
+pub struct JoinedBump {
+    pub(crate) bump: Arc<SharedBumpAllocator, Global>,
+    pub(crate) party: BumpParty,
+}
+
+impl Model for JoinedBump {
+    ghost use Rattle.std.specs.Prelude.{◌≡◌};
+    ghost use Rattle.std.specs.Arc.{arc_value};
+    ghost use Rattle.bb_memory.specs.SharedBump.{BumpParty};
+
+    ghost Value = { BumpParty };
+
+    ghost view = { λ s. s.party };
+
+    ghost invariant = { λ s. s.party.allocator ≡ arc_value s.bump };
+}
+
+impl Shows<BumpInfo> for JoinedBump {
+    ghost may_show = { ShowsLoad };
+
+    fn show(&mut self) -> BumpInfo {
+        let used_space = self.bump.used_space(&mut self.party);
+        let total_space = self.bump.total_space();
+        BumpInfo {
+            start_address: self.bump.start_address(),
+            used_space,
+            free_space: total_space.saturating_sub(used_space),
+            total_space,
+        }
     }
-    let Some(fresh) = seats.anew(alloc) else {
+}
+
+impl Gives for JoinedBump {
+    ghost may_give = { MayTake };
+
+    fn give(&mut self, layout: Layout) -> Result<Chunk, AllocationError> {
+        self.bump.allocate(&mut self.party, layout)
+    }
+}
+
+/// A shared bump, how many parties it has, and those of them that haven't joined.
+#[derive(Drop)]
+pub struct BumpParties {
+    pub(crate) bump: Arc<SharedBumpAllocator, Global>,
+    pub(crate) count: u32,
+    pub(crate) parties: Vec<BumpParty>,
+}
+
+impl Model for BumpParties {
+    ghost use Rattle.std.specs.Prelude.{vec_capacity};
+    ghost use Rattle.std.specs.Arc.{arc_value};
+    ghost use Rattle.bb_memory_c.specs.SharedBumps.{AreUnjoined, BumpParties};
+
+    ghost Value = { BumpParties };
+
+    ghost view = { λ s. record { shared = arc_value s.bump; parties = s.parties.items } };
+
+    ghost invariant = { λ s. AreUnjoined (arc_value s.bump) s.count (vec_capacity s.parties)
+        s.parties.items };
+}
+
+impl BumpParties {
+    /// A shared bump over the region of `size` bytes at `start`, none of whose parties has joined. It is `None` where a
+    /// request for memory was refused.
+    pub(crate) fn new(alloc: Global, start: usize, size: usize, count: u32) -> Option<BumpParties>
+        requires { IsShareable (region_at start size) count }
+        ensures { IfSome result (AreFreshOver (region_at start size) count) }
+    {
+        let Ok((bump, mut parties)) = BumpAllocator::new(start, size).share(alloc, count) else {
+            return None;
+        };
+        parties.reserve(0).ok()?;
+        let Ok(bump) = Arc::new(alloc, bump) else {
+            return None;
+        };
+        Some(BumpParties {
+            bump,
+            count,
+            parties,
+        })
+    }
+
+    /// Returns whether each party has left.
+    pub(crate) fn are_all_back(&self) -> bool
+        ensures { IsTrue result ↔ ¬ (left_at self.now < self.now.shared.scene.parties) }
+    {
+        self.parties.len() >= self.count as usize
+    }
+
+    /// A fresh bump over the same region, of as many parties. It is `None` where a request for memory was refused.
+    pub(crate) fn anew(&self, alloc: Global) -> Option<BumpParties>
+        ensures { IfSome result (AreFreshOver self.now.shared.scene.region
+            self.now.shared.scene.parties) }
+    {
+        BumpParties::new(
+            alloc,
+            self.bump.start_address(),
+            self.bump.total_space(),
+            self.count,
+        )
+    }
+}
+
+impl Shares<JoinedBump> for BumpParties {
+    ghost left = { left_at };
+
+    ghost with_party = { with_party };
+
+    ghost is_at = { IsAt };
+
+    ghost leaves = { λ party after. after ≡ party };
+
+    fn deal(&mut self, alloc: Global) -> Result<Box<JoinedBump>, u32> {
+        if self.parties.is_empty() {
+            return Err(code::NO_PARTY);
+        }
+        let Ok(bump) = Arc::try_clone(&self.bump) else {
+            return Err(code::MALLOC_REFUSED);
+        };
+        let Some(party) = self.parties.pop() else {
+            return Err(code::NO_PARTY);
+        };
+        match Box::new(alloc, JoinedBump { bump, party }) {
+            Ok(joined) => Ok(joined),
+            Err(refused) => {
+                let JoinedBump { bump: _bump, party } = refused.value;
+                self.parties.push_reserved(party);
+                Err(code::MALLOC_REFUSED)
+            }
+        }
+    }
+
+    fn take_back(&mut self, joined: JoinedBump) {
+        let JoinedBump { bump: _bump, party } = joined;
+        self.parties.push_reserved(party);
+    }
+}
+
+/// Starts again, where each party has left.
+fn reset(all: &mut BumpParties, alloc: Global) -> u32
+    ensures { AnswersReset (Some all.old) (Some all.new) result }
+{
+    if !all.are_all_back() {
+        return code::PARTIES_JOINED;
+    }
+    let Some(fresh) = all.anew(alloc) else {
         return code::MALLOC_REFUSED;
     };
-    *seats = fresh;
-    code::DONE
+    *all = fresh;
+    code::OK
 }
 
 /// Makes a shared bump over the region of `size` bytes at `start`, behind a handle that has to be empty. The start has to be
-/// greater than 0, and start plus size at most `SIZE_MAX`. Each of the parties, at least one, can be given a seat.
-///
-/// C guarantees of the handle what the crate's page says.
+/// greater than 0, and start plus size at most `SIZE_MAX`. Each of the parties, at least one, can join.
 #[unsafe(no_mangle)]
-pub extern "C" fn bb_shared_bump_make(
+pub extern "C" fn bb_shared_bump_init(
     alloc: Global,
     handle: &mut SharedBumpHandle,
     start: usize,
@@ -46,165 +188,90 @@ pub extern "C" fn bb_shared_bump_make(
         (IsShareable (region_at start size) parties)
         (MakesSharedBump (region_at start size) parties) }
 {
-    if is_made(handle, alloc) {
-        return code::ALREADY_MADE;
+    if is_made(handle) {
+        return code::ALREADY_INITIALIZED;
     }
     if parties == 0 || !BumpAllocator::can_make(start, size) {
-        return code::CANNOT_MAKE;
+        return code::INVALID_ARGUMENT;
     }
-    let Some(seats) = BumpSeats::new(alloc, start, size, parties) else {
+    let Some(all) = BumpParties::new(alloc, start, size, parties) else {
         return code::MALLOC_REFUSED;
     };
-    keep(handle, alloc, seats)
+    keep(handle, alloc, all)
 }
 
-/// Frees the handle of a shared bump, which is empty then. The bump stays as long as a seat at it does. The
-/// answer is 0, or `BB_NOT_MADE` where the handle was empty already.
-///
-/// C guarantees of the handle what the crate's page says.
+/// Frees the handle of a shared bump, which is empty then. The bump stays as long as one of its parties does.
 #[unsafe(no_mangle)]
-pub extern "C" fn bb_shared_bump_free(alloc: Global, handle: &mut SharedBumpHandle) -> u32
+pub extern "C" fn bb_shared_bump_destroy(alloc: Global, handle: &mut SharedBumpHandle) -> u32
     ensures { AnswersFree handle.old.value handle.new.value result }
 {
     free(handle, alloc)
 }
 
-/// Gives a seat to the last party that has none, behind a handle that has to be empty.
-///
-/// C guarantees of both handles what the crate's page says, and that they are two.
+/// Makes a party that hasn't joined join, behind a handle that has to be empty.
 #[unsafe(no_mangle)]
-pub extern "C" fn bb_shared_bump_seat(
+pub extern "C" fn bb_shared_bump_join(
     alloc: Global,
     handle: &mut SharedBumpHandle,
-    seat: &mut BumpSeatHandle,
+    party: &mut BumpPartyHandle,
 ) -> u32
-    ensures { GivesSeat handle.old.value handle.new.value seat.old.value seat.new.value result
-        left_at joined IsAt }
+    ensures { AnswersJoin handle.old.value handle.new.value party.old.value party.new.value result
+        left_at with_party IsAt }
 {
-    seat_at(handle, alloc, seat)
+    join(handle, alloc, party)
 }
 
-/// Takes back a seat of this bump, whose handle is empty then: its party is the last one without a seat. The answer is 0, or
-/// `BB_NOT_MADE` where one of both handles is empty.
-///
-/// C guarantees of both handles what the crate's page says, that they are two, and that the seat is at this bump.
+/// Ends a party of this bump, whose handle is empty then. It may join again.
 #[unsafe(no_mangle)]
 pub extern "C" fn bb_shared_bump_leave(
     alloc: Global,
     handle: &mut SharedBumpHandle,
-    seat: &mut BumpSeatHandle,
+    party: &mut BumpPartyHandle,
 ) -> u32
-    requires { IfBoth handle.old.value seat.old.value IsAt }
-    ensures { GetsSeatBack handle.old.value handle.new.value seat.old.value seat.new.value result
-        (λ party after. after ≡ party) joined }
+    requires { IfBoth handle.old.value party.old.value IsAt }
+    ensures { AnswersLeave handle.old.value handle.new.value party.old.value party.new.value result
+        (λ party after. after ≡ party) with_party }
 {
-    leave(handle, alloc, seat)
+    leave(handle, alloc, party)
 }
 
-/// Begins anew over the same region, with as many parties: nothing of it is used, and each party can be given a seat. All of its
-/// seats have to have been taken back.
-///
-/// C guarantees of the handle what the crate's page says.
+/// Starts again over the same region, with as many parties: nothing is used, and each party can join. Each party has to have
+/// left.
 #[unsafe(no_mangle)]
-pub extern "C" fn bb_shared_bump_begin_anew(alloc: Global, handle: &mut SharedBumpHandle) -> u32
-    ensures { BeginsAnew handle.old.value handle.new.value result }
+pub extern "C" fn bb_shared_bump_reset(alloc: Global, handle: &mut SharedBumpHandle) -> u32
+    ensures { AnswersReset handle.old.value handle.new.value result }
 {
     match handle.made_mut() {
-        Some(seats) => begin_anew(seats, alloc),
-        None => code::NOT_MADE,
+        Some(all) => reset(all, alloc),
+        None => code::UNINITIALIZED,
     }
 }
 
-/// Frees the seat, whose handle is empty then. Its party gets no other, so the bump can't begin anew. The answer is 0, or
-/// `BB_NOT_MADE` where the handle was empty already.
-///
-/// C guarantees of the handle what the crate's page says.
+/// Frees a party that hasn't left, whose handle is empty then. It can't join again, so the bump can't be reset.
 #[unsafe(no_mangle)]
-pub extern "C" fn bb_bump_seat_free(alloc: Global, handle: &mut BumpSeatHandle) -> u32
+pub extern "C" fn bb_bump_party_destroy(alloc: Global, handle: &mut BumpPartyHandle) -> u32
     ensures { AnswersFree handle.old.value handle.new.value result }
 {
     free(handle, alloc)
 }
 
 /// Asks for a chunk of exactly `size` bytes at a multiple of `align`.
-///
-/// C guarantees of the handle what the crate's page says.
 #[unsafe(no_mangle)]
-pub extern "C" fn bb_bump_seat_allocate(
-    alloc: Global,
-    handle: &mut BumpSeatHandle,
+pub extern "C" fn bb_bump_party_allocate(
+    handle: &mut BumpPartyHandle,
     size: usize,
     align: usize,
 ) -> Answer
     ensures { AnswersRequest handle.old.value handle.new.value size align result
         MayTake }
 {
-    request(handle, alloc, size, align)
+    request(handle, size, align)
 }
 
-/// How many bytes are used, as one load found: those from the region's start to the end of the last chunk, padding
-/// included.
-///
-/// C guarantees of the handle what the crate's page says.
+/// Fills the struct with the bump's figures. One load finds what is used.
 #[unsafe(no_mangle)]
-pub extern "C" fn bb_bump_seat_used_space(_alloc: Global, handle: &mut BumpSeatHandle) -> Figure
-    ensures { TellsLoad handle.old.value handle.new.value result
-        (λ party used. used) }
+pub extern "C" fn bb_bump_party_info(handle: &mut BumpPartyHandle, to: &mut BumpInfo) -> u32
+    ensures { AnswersInfo handle.old.value handle.new.value to.old to.new result ShowsLoad }
 {
-    match handle.made_mut() {
-        Some(seat) => Figure::of(seat.bump.used_space(&mut seat.party)),
-        None => Figure::refusal(code::NOT_MADE),
-    }
-}
-
-/// How many bytes are behind the last chunk, as one load found.
-///
-/// C guarantees of the handle what the crate's page says.
-#[unsafe(no_mangle)]
-pub extern "C" fn bb_bump_seat_free_space(_alloc: Global, handle: &mut BumpSeatHandle) -> Figure
-    ensures { TellsLoad handle.old.value handle.new.value result
-        (λ party used. party.allocator.scene.region.size - used) }
-{
-    match handle.made_mut() {
-        Some(seat) => Figure::of(seat.bump.free_space(&mut seat.party)),
-        None => Figure::refusal(code::NOT_MADE),
-    }
-}
-
-/// The number of this seat's party, from 0.
-///
-/// C guarantees of the handle what the crate's page says.
-#[unsafe(no_mangle)]
-pub extern "C" fn bb_bump_seat_party(_alloc: Global, handle: &mut BumpSeatHandle) -> Figure
-    ensures figure { TellsFigure handle.old.value handle.new.value result (λ party. party.number) }
-
-    // The party is in no call, and some interleaving has its log.
-    ensures is_party { IfSome handle.old.value IsBumpParty }
-{
-    match handle.made_mut() {
-        Some(seat) => Figure::of(seat.party.number() as usize),
-        None => Figure::refusal(code::NOT_MADE),
-    }
-}
-
-/// How many bytes the region has.
-///
-/// C guarantees of the handle what the crate's page says.
-#[unsafe(no_mangle)]
-pub extern "C" fn bb_bump_seat_total_space(alloc: Global, handle: &mut BumpSeatHandle) -> Figure
-    ensures { TellsFigure handle.old.value handle.new.value result
-        (λ party. party.allocator.scene.region.size) }
-{
-    tell(handle, alloc, RegionFigure::Size)
-}
-
-/// Where the region starts.
-///
-/// C guarantees of the handle what the crate's page says.
-#[unsafe(no_mangle)]
-pub extern "C" fn bb_bump_seat_start_address(alloc: Global, handle: &mut BumpSeatHandle) -> Figure
-    ensures { TellsFigure handle.old.value handle.new.value result
-        (λ party. party.allocator.scene.region.start) }
-{
-    tell(handle, alloc, RegionFigure::StartAddress)
+    info(handle, to)
 }

@@ -1,83 +1,264 @@
-//! A shared pool behind handles: one for the pool, and one for the seat of each party.
-ghost use Rattle.std.specs.Prelude.{◌≡◌, IfSome, Some, None};
-ghost use Rattle.bb_memory_base.specs.FirstPlace.{first_place};
-ghost use Rattle.bb_memory_base.specs.PoolObject.{MayGrow, MayShrink};
+//! A shared pool behind handles: one for the pool and the parties that haven't joined, and one for each party that has, with the
+//! buckets that it holds.
+ghost use Rattle.std.specs.Prelude.{◌≡◌, ◌<◌, IfSome, IfNone, count_by};
 ghost use Rattle.bb_memory_base.specs.Region.{region_at};
-ghost use Rattle.bb_memory.specs.SharedPool.{IsParty};
-ghost use Rattle.bb_memory_c.specs.ByNumber.{TellsNumberAt, TellsPlaceAt};
-ghost use Rattle.bb_memory_c.specs.Calls.{AnswersFree, AnswersGrow, AnswersPoolMake, AnswersRequest, AnswersReturn};
-ghost use Rattle.bb_memory_c.specs.Calls.{AnswersShrink, GetsSeatBack, GivesSeat, IfBoth, TellsFigure, TellsOfHeld};
-ghost use Rattle.bb_memory_c.specs.Calls.{TellsWhether, resize};
-ghost use Rattle.bb_memory_c.specs.Layouts.{HasRoom, MayBeShared, MayBeSharedAmong, least_of};
-ghost use Rattle.bb_memory_c.specs.Seats.{joined, left_at};
-ghost use Rattle.bb_memory_c.specs.SharedPools.{GivesAllBack, GivesBack, GivesChunk, HoldsPlace, IsAt, held_by};
-ghost use Rattle.bb_memory_c.specs.SharedPoolHandles.{MakesSharedPool};
+ghost use Rattle.bb_memory_base.specs.PoolLogs.{IsHeldAfter};
+ghost use Rattle.bb_memory.specs.SharedPool.{return_entry, with_entries};
+ghost use Rattle.bb_memory_c.specs.Calls.{AnswersFree, AnswersInfo, AnswersNumber, AnswersPlace, AnswersPoolMake};
+ghost use Rattle.bb_memory_c.specs.Calls.{AnswersRequest, AnswersReturn, AnswersWhether, AnswersLeave, AnswersJoin, IfBoth};
+ghost use Rattle.bb_memory_c.specs.Infos.{pool_info};
+ghost use Rattle.bb_memory_c.specs.Layouts.{HasRoom, MayBeShared};
+ghost use Rattle.bb_memory_c.specs.Parties.{with_party, left_at};
+ghost use Rattle.bb_memory_c.specs.SharedPools.{AreFreshOver, GivesAllBack, GivesBack, GivesChunk, HoldsAt, HoldsPlace, IsAt};
+ghost use Rattle.bb_memory_c.specs.SharedPools.{MakesSharedPool, held_by, return_of};
 
-use crate::answer::{Answer, Figure};
-use crate::by_number::{number, place};
+use crate::answer::{Answer, Figure, PoolInfo};
 use crate::call::{
-    free, give_back, grow, holds, is_made, keep, leave, request, reserved, seat as seat_at, shrink,
-    tell,
+    free, give_back, holds, info, is_made, join, keep, leave, number, place, request,
 };
 use crate::code;
-use crate::figures::{FirstPlace, PoolFigure};
-use crate::handle::{Handle, PoolSeatHandle, SharedPoolHandle};
+use crate::handle::{PoolPartyHandle, SharedPoolHandle};
+use crate::kind::{Bucketed, Gives, Keeps, Shares, Shows};
 use crate::layout::{cut_into, has_room};
-use crate::pool_seat::PoolSeats;
+use bb_memory::layout::{Chunk, Layout};
+use bb_memory::pool_allocator::AllocationError;
+use bb_memory::shared_pool::{PoolParty, SharedPoolAllocator, by_number};
 use std::alloc::Global;
+use std::marker::Model;
+use std::sync::Arc;
 
-/// The parties, or the most buckets, if there are fewer of these.
-fn least_of(parties: u32, most: Option<u32>) -> u32
-    ensures { result ≡ least_of parties most }
+/// One party of a shared pool, and for each bucket whether the party holds it.
+#[derive(Drop)]
+pub struct JoinedPool {
+    pub(crate) pool: Arc<SharedPoolAllocator, Global>,
+    pub(crate) party: PoolParty,
+    pub(crate) held: Vec<bool>,
+}
+
+impl Model for JoinedPool {
+    ghost use Rattle.std.specs.Arc.{arc_value};
+    ghost use Rattle.bb_memory.specs.SharedPool.{PoolParty};
+    ghost use Rattle.bb_memory_c.specs.SharedPools.{IsJoinedAt};
+
+    ghost Value = { PoolParty };
+
+    ghost view = { λ s. s.party };
+
+    ghost invariant = { λ s. IsJoinedAt (arc_value s.pool) s.party s.held.items };
+}
+
+/// How many of the flags are set.
+fn count_set(flags: &[bool]) -> usize
+    ensures { result ≡ count_by (λ flag. flag) flags.now }
 {
-    match most {
-        None => parties,
-        Some(most) => parties.min(most),
+    flags.iter().filter(|flag| **flag).count()
+}
+
+impl JoinedPool {
+    /// The number of the bucket at this place, if the party holds it.
+    pub(crate) fn held_at(&self, place: usize) -> Option<u32>
+        ensures held { IfSome result (HoldsAt self.now place) }
+        ensures none { IfNone result (¬ HoldsPlace self.now place) }
+    {
+        let number = self.pool.number_at(place)?;
+        if self.held[number as usize] {
+            Some(number)
+        } else {
+            None
+        }
+    }
+
+    /// How many buckets the party holds.
+    pub(crate) fn held_buckets(&self) -> usize
+        ensures { result ≡ held_by self.now }
+    {
+        count_set(&self.held)
+    }
+
+    /// Gives back the bucket of this number, which the party holds.
+    fn give_back_bucket(&mut self, number: u32)
+        requires { IsHeldAfter self.old.log number }
+        ensures { self.new ≡ with_entries self.old (return_entry self.old.number number) }
+    {
+        let bucket = by_number::bucket(&*self.pool, &self.party, number, 0);
+        self.pool.deallocate_bucket(&mut self.party, bucket);
+        self.held[number as usize] = false;
+    }
+
+    /// Gives back the bucket of this number, if the party holds it.
+    fn give_back_if_held(&mut self, number: u32)
+        requires { number < self.old.allocator.scene.geometry.buckets }
+        ensures { self.new ≡ with_entries self.old (return_of self.old number) }
+    {
+        let is_held = self.held[number as usize];
+        if is_held {
+            self.give_back_bucket(number);
+        }
+    }
+
+    /// Gives back each bucket that the party holds.
+    fn give_all_back(&mut self)
+        ensures { GivesAllBack self.old self.new }
+    {
+        for number in 0..self.pool.number_of_buckets() {
+            self.give_back_if_held(number);
+        }
     }
 }
 
-/// Makes a shared pool of all buckets that the region has room for, or of at most so many.
-fn make(
-    alloc: Global,
-    handle: &mut SharedPoolHandle,
-    bucket_size: usize,
-    bucket_align: usize,
-    start: usize,
-    size: usize,
-    parties: u32,
-    most: Option<u32>,
-) -> u32
-    ensures { AnswersPoolMake handle.old.value handle.new.value bucket_size bucket_align result
-        (MayBeSharedAmong (region_at start size) parties most) (HasRoom (region_at start size))
-        (λ bucket. MakesSharedPool most (region_at start size) bucket parties) }
-{
-    if is_made(handle, alloc) {
-        return code::ALREADY_MADE;
+impl Shows<PoolInfo> for JoinedPool {
+    ghost may_show = { λ party info after.
+        (info ≡ pool_info party.allocator.scene.geometry (held_by party)) × (after ≡ party) };
+
+    fn show(&mut self) -> PoolInfo {
+        PoolInfo {
+            start_address: self.pool.start_address(),
+            size: self.pool.size(),
+            bucket_size: self.pool.bucket_size(),
+            max_alignment: self.pool.max_alignment(),
+            number_of_buckets: self.pool.number_of_buckets() as usize,
+            held_buckets: self.held_buckets(),
+        }
     }
-    let bucket = match cut_into(bucket_size, bucket_align, start, size) {
-        Ok(bucket) => bucket,
-        Err(code) => return code,
-    };
-    let least = least_of(parties, most);
-    if least == 0 {
-        return code::CANNOT_MAKE;
+}
+
+impl Gives for JoinedPool {
+    ghost may_give = { GivesChunk };
+
+    fn give(&mut self, layout: Layout) -> Result<Chunk, AllocationError> {
+        let bucket = self.pool.allocate_near(&mut self.party, layout)?;
+        let (number, chunk) = (bucket.number(), bucket.chunk());
+        self.held[number as usize] = true;
+        Ok(chunk)
     }
-    if !has_room(bucket, start, size) {
-        return code::NO_BUCKET;
+}
+
+impl Keeps for JoinedPool {
+    ghost holds = { HoldsPlace };
+
+    ghost frees = { GivesBack };
+
+    fn is_held(&self, place: usize) -> bool {
+        self.held_at(place).is_some()
     }
-    let Some(seats) = PoolSeats::new(alloc, bucket, start, size, parties, most) else {
-        return code::MALLOC_REFUSED;
-    };
-    keep(handle, alloc, seats)
+
+    fn give_back(&mut self, place: usize) -> bool {
+        let Some(number) = self.held_at(place) else {
+            return false;
+        };
+        self.give_back_bucket(number);
+        true
+    }
+}
+
+impl Bucketed for JoinedPool {
+    ghost geometry = { λ party. party.allocator.scene.geometry };
+
+    fn place_of(&self, number: u32) -> Option<usize> {
+        self.pool.place_at(number)
+    }
+
+    fn number_of(&self, place: usize) -> Option<u32> {
+        self.pool.number_at(place)
+    }
+}
+
+/// A shared pool, and those of its parties that haven't joined, which hold nothing.
+#[derive(Drop)]
+pub struct PoolParties {
+    pub(crate) pool: Arc<SharedPoolAllocator, Global>,
+    pub(crate) parties: Vec<PoolParty>,
+}
+
+impl Model for PoolParties {
+    ghost use Rattle.std.specs.Prelude.{vec_capacity};
+    ghost use Rattle.std.specs.Arc.{arc_value};
+    ghost use Rattle.bb_memory_c.specs.SharedPools.{AreUnjoined, PoolParties};
+
+    ghost Value = { PoolParties };
+
+    ghost view = { λ s. record { shared = arc_value s.pool; parties = s.parties.items } };
+
+    ghost invariant = { λ s. AreUnjoined (arc_value s.pool) (vec_capacity s.parties) s.parties.items };
+}
+
+impl PoolParties {
+    /// A shared pool over the region of `size` bytes at `start`, cut into buckets of this layout, none of whose parties has
+    /// joined. It is `None` where a request for memory was refused.
+    pub(crate) fn new(
+        alloc: Global,
+        bucket: Layout,
+        start: usize,
+        size: usize,
+        count: u32,
+    ) -> Option<PoolParties>
+        requires { MayBeShared (region_at start size) count bucket }
+        ensures { IfSome result (AreFreshOver (region_at start size) bucket count) }
+    {
+        let Ok((pool, mut parties)) = SharedPoolAllocator::new(alloc, bucket, start, size, count)
+        else {
+            return None;
+        };
+        parties.reserve(0).ok()?;
+        let Ok(pool) = Arc::new(alloc, pool) else {
+            return None;
+        };
+        Some(PoolParties { pool, parties })
+    }
+}
+
+impl Shares<JoinedPool> for PoolParties {
+    ghost left = { left_at };
+
+    ghost with_party = { with_party };
+
+    ghost is_at = { IsAt };
+
+    ghost leaves = { GivesAllBack };
+
+    fn deal(&mut self, alloc: Global) -> Result<Box<JoinedPool>, u32> {
+        if self.parties.is_empty() {
+            return Err(code::NO_PARTY);
+        }
+        let Ok(pool) = Arc::try_clone(&self.pool) else {
+            return Err(code::MALLOC_REFUSED);
+        };
+        let Ok(held) = Vec::from_elem(alloc, false, pool.number_of_buckets() as usize) else {
+            return Err(code::MALLOC_REFUSED);
+        };
+        let Some(party) = self.parties.pop() else {
+            return Err(code::NO_PARTY);
+        };
+        match Box::new(alloc, JoinedPool { pool, party, held }) {
+            Ok(joined) => Ok(joined),
+            Err(refused) => {
+                let JoinedPool {
+                    pool: _pool,
+                    party,
+                    held: _held,
+                } = refused.value;
+                self.parties.push_reserved(party);
+                Err(code::MALLOC_REFUSED)
+            }
+        }
+    }
+
+    fn take_back(&mut self, mut joined: JoinedPool) {
+        joined.give_all_back();
+        let JoinedPool {
+            pool: _pool,
+            party,
+            held: _held,
+        } = joined;
+        self.parties.push_reserved(party);
+    }
 }
 
 /// Makes a shared pool over the region of `size` bytes at `start`, behind a handle that has to be empty. The region is cut into
 /// buckets of `bucket_size` bytes at multiples of `bucket_align`, and has to have room for one. Each of the parties, at least
-/// one, can be given a seat.
-///
-/// C guarantees of the handle what the crate's page says.
+/// one, can join.
 #[unsafe(no_mangle)]
-pub extern "C" fn bb_shared_pool_make(
+pub extern "C" fn bb_shared_pool_init(
     alloc: Global,
     handle: &mut SharedPoolHandle,
     bucket_size: usize,
@@ -88,318 +269,126 @@ pub extern "C" fn bb_shared_pool_make(
 ) -> u32
     ensures { AnswersPoolMake handle.old.value handle.new.value bucket_size bucket_align result
         (MayBeShared (region_at start size) parties) (HasRoom (region_at start size))
-        (λ bucket. MakesSharedPool None (region_at start size) bucket parties) }
+        (λ bucket. MakesSharedPool (region_at start size) bucket parties) }
 {
-    make(
-        alloc,
-        handle,
-        bucket_size,
-        bucket_align,
-        start,
-        size,
-        parties,
-        None,
-    )
+    if is_made(handle) {
+        return code::ALREADY_INITIALIZED;
+    }
+    let bucket = match cut_into(bucket_size, bucket_align, start, size) {
+        Ok(bucket) => bucket,
+        Err(code) => return code,
+    };
+    if parties == 0 {
+        return code::INVALID_ARGUMENT;
+    }
+    if !has_room(bucket, start, size) {
+        return code::NO_BUCKET;
+    }
+    let Some(all) = PoolParties::new(alloc, bucket, start, size, parties) else {
+        return code::MALLOC_REFUSED;
+    };
+    keep(handle, alloc, all)
 }
 
-/// The same of at most `most` buckets, at least one: of a region that has room for more the first ones alone are used.
-///
-/// C guarantees of the handle what the crate's page says.
+/// Frees the handle of a shared pool, which is empty then. The pool stays as long as one of its parties does.
 #[unsafe(no_mangle)]
-pub extern "C" fn bb_shared_pool_make_at_most(
-    alloc: Global,
-    handle: &mut SharedPoolHandle,
-    bucket_size: usize,
-    bucket_align: usize,
-    start: usize,
-    size: usize,
-    parties: u32,
-    most: u32,
-) -> u32
-    ensures { AnswersPoolMake handle.old.value handle.new.value bucket_size bucket_align result
-        (MayBeSharedAmong (region_at start size) parties (Some most))
-        (HasRoom (region_at start size))
-        (λ bucket. MakesSharedPool (Some most) (region_at start size) bucket parties) }
-{
-    make(
-        alloc,
-        handle,
-        bucket_size,
-        bucket_align,
-        start,
-        size,
-        parties,
-        Some(most),
-    )
-}
-
-/// Frees the handle of a shared pool, which is empty then. The pool stays as long as a seat at it does. The
-/// answer is 0, or `BB_NOT_MADE` where the handle was empty already.
-///
-/// C guarantees of the handle what the crate's page says.
-#[unsafe(no_mangle)]
-pub extern "C" fn bb_shared_pool_free(alloc: Global, handle: &mut SharedPoolHandle) -> u32
+pub extern "C" fn bb_shared_pool_destroy(alloc: Global, handle: &mut SharedPoolHandle) -> u32
     ensures { AnswersFree handle.old.value handle.new.value result }
 {
     free(handle, alloc)
 }
 
-/// Gives a seat to the last party that has none, behind a handle that has to be empty.
-///
-/// C guarantees of both handles what the crate's page says, and that they are two.
+/// Makes a party that hasn't joined join, behind a handle that has to be empty.
 #[unsafe(no_mangle)]
-pub extern "C" fn bb_shared_pool_seat(
+pub extern "C" fn bb_shared_pool_join(
     alloc: Global,
     handle: &mut SharedPoolHandle,
-    seat: &mut PoolSeatHandle,
+    party: &mut PoolPartyHandle,
 ) -> u32
-    ensures { GivesSeat handle.old.value handle.new.value seat.old.value seat.new.value result
-        left_at joined IsAt }
+    ensures { AnswersJoin handle.old.value handle.new.value party.old.value party.new.value result
+        left_at with_party IsAt }
 {
-    seat_at(handle, alloc, seat)
+    join(handle, alloc, party)
 }
 
-/// Takes back a seat of this pool, whose handle is empty then: each bucket that the seat holds is given back, and its party is
-/// the last one without a seat. The answer is 0, or `BB_NOT_MADE` where one of both handles is empty.
-///
-/// C guarantees of both handles what the crate's page says, that they are two, and that the seat is at this pool.
+/// Ends a party of this pool, whose handle is empty then: each bucket that it holds is given back. It may join again.
 #[unsafe(no_mangle)]
 pub extern "C" fn bb_shared_pool_leave(
     alloc: Global,
     handle: &mut SharedPoolHandle,
-    seat: &mut PoolSeatHandle,
+    party: &mut PoolPartyHandle,
 ) -> u32
-    requires { IfBoth handle.old.value seat.old.value IsAt }
-    ensures { GetsSeatBack handle.old.value handle.new.value seat.old.value seat.new.value result
-        GivesAllBack joined }
+    requires { IfBoth handle.old.value party.old.value IsAt }
+    ensures { AnswersLeave handle.old.value handle.new.value party.old.value party.new.value result
+        GivesAllBack with_party }
 {
-    leave(handle, alloc, seat)
+    leave(handle, alloc, party)
 }
 
-/// Frees the seat, whose handle is empty then. Its party gets no other. The answer is 0, or `BB_NOT_MADE` where it
-/// was empty already.
-///
-/// C guarantees of the handle what the crate's page says.
+/// Frees a party that hasn't left, whose handle is empty then. It can't join again, and what it holds stays held.
 #[unsafe(no_mangle)]
-pub extern "C" fn bb_pool_seat_free(alloc: Global, handle: &mut PoolSeatHandle) -> u32
+pub extern "C" fn bb_pool_party_destroy(alloc: Global, handle: &mut PoolPartyHandle) -> u32
     ensures { AnswersFree handle.old.value handle.new.value result }
 {
     free(handle, alloc)
 }
 
 /// Asks for a chunk of `size` bytes at a multiple of `align`, in a bucket that isn't held, by one round over the buckets that
-/// begins near the one that the seat had last.
-///
-/// C guarantees of the handle what the crate's page says.
+/// begins near the one that the party had last.
 #[unsafe(no_mangle)]
-pub extern "C" fn bb_pool_seat_allocate(
-    alloc: Global,
-    handle: &mut PoolSeatHandle,
+pub extern "C" fn bb_pool_party_allocate(
+    handle: &mut PoolPartyHandle,
     size: usize,
     align: usize,
 ) -> Answer
     ensures { AnswersRequest handle.old.value handle.new.value size align result
         GivesChunk }
 {
-    request(handle, alloc, size, align)
+    request(handle, size, align)
 }
 
-/// Gives back the bucket at this place. A place that isn't that of a bucket which this seat holds is refused and changes
-/// nothing: a wild place, another seat's bucket, and a second return as long as this seat was not given the bucket anew. A return
-/// after that takes it from its new holder.
-///
-/// C guarantees of the handle what the crate's page says.
+/// Gives back the bucket at this place. A place that isn't that of a bucket which this party holds is refused and changes
+/// nothing.
 #[unsafe(no_mangle)]
-pub extern "C" fn bb_pool_seat_deallocate(
-    alloc: Global,
-    handle: &mut PoolSeatHandle,
-    place: usize,
-) -> u32
+pub extern "C" fn bb_pool_party_deallocate(handle: &mut PoolPartyHandle, place: usize) -> u32
     ensures { AnswersReturn handle.old.value handle.new.value result
         (λ party. HoldsPlace party place) (λ party. GivesBack party place) }
 {
-    give_back(handle, alloc, place)
+    give_back(handle, place)
 }
 
-/// Whether this is the place of a bucket that this seat holds: 1 or 0.
-///
-/// C guarantees of the handle what the crate's page says.
+/// Tells whether this is the place of a bucket that this party holds: 1 or 0.
 #[unsafe(no_mangle)]
-pub extern "C" fn bb_pool_seat_holds(
-    alloc: Global,
-    handle: &mut PoolSeatHandle,
-    place: usize,
-) -> Figure
-    ensures { TellsWhether handle.old.value handle.new.value result
+pub extern "C" fn bb_pool_party_holds(handle: &mut PoolPartyHandle, place: usize) -> Figure
+    ensures { AnswersWhether handle.old.value handle.new.value result
         (λ party. HoldsPlace party place) }
 {
-    holds(handle, alloc, place)
+    holds(handle, place)
 }
 
-/// How many buckets this seat holds: as many as it gives back when it comes back.
-///
-/// C guarantees of the handle what the crate's page says.
+/// Fills the struct with the pool's figures, and with how many buckets this party holds: as many as it gives back by leaving.
 #[unsafe(no_mangle)]
-pub extern "C" fn bb_pool_seat_held_buckets(alloc: Global, handle: &mut PoolSeatHandle) -> Figure
-    ensures { TellsFigure handle.old.value handle.new.value result held_by }
+pub extern "C" fn bb_pool_party_info(handle: &mut PoolPartyHandle, to: &mut PoolInfo) -> u32
+    ensures { AnswersInfo handle.old.value handle.new.value to.old to.new result
+        (λ party info after. (info ≡ pool_info party.allocator.scene.geometry (held_by party))
+        × (after ≡ party)) }
 {
-    tell(handle, alloc, PoolFigure::HeldBuckets)
-}
-
-/// The number of this seat's party, from 0.
-///
-/// C guarantees of the handle what the crate's page says.
-#[unsafe(no_mangle)]
-pub extern "C" fn bb_pool_seat_party(_alloc: Global, handle: &mut PoolSeatHandle) -> Figure
-    ensures figure { TellsFigure handle.old.value handle.new.value result (λ party. party.number) }
-
-    // The party is in no pass, and some interleaving has its log.
-    ensures is_party { IfSome handle.old.value IsParty }
-{
-    match handle.made_mut() {
-        Some(seat) => Figure::of(seat.party.number() as usize),
-        None => Figure::refusal(code::NOT_MADE),
-    }
-}
-
-/// How many buckets the pool has.
-///
-/// C guarantees of the handle what the crate's page says.
-#[unsafe(no_mangle)]
-pub extern "C" fn bb_pool_seat_number_of_buckets(
-    alloc: Global,
-    handle: &mut PoolSeatHandle,
-) -> Figure
-    ensures { TellsFigure handle.old.value handle.new.value result
-        (λ party. party.allocator.scene.geometry.buckets) }
-{
-    tell(handle, alloc, PoolFigure::NumberOfBuckets)
-}
-
-/// The size of a bucket in bytes, as it was asked for.
-///
-/// C guarantees of the handle what the crate's page says.
-#[unsafe(no_mangle)]
-pub extern "C" fn bb_pool_seat_bucket_size(alloc: Global, handle: &mut PoolSeatHandle) -> Figure
-    ensures { TellsFigure handle.old.value handle.new.value result
-        (λ party. party.allocator.scene.geometry.bucket.size) }
-{
-    tell(handle, alloc, PoolFigure::BucketSize)
-}
-
-/// The greatest alignment that a request may have.
-///
-/// C guarantees of the handle what the crate's page says.
-#[unsafe(no_mangle)]
-pub extern "C" fn bb_pool_seat_max_alignment(alloc: Global, handle: &mut PoolSeatHandle) -> Figure
-    ensures { TellsFigure handle.old.value handle.new.value result
-        (λ party. party.allocator.scene.geometry.bucket.align) }
-{
-    tell(handle, alloc, PoolFigure::MaxAlignment)
-}
-
-/// How many bytes the region has, as it was handed in.
-///
-/// C guarantees of the handle what the crate's page says.
-#[unsafe(no_mangle)]
-pub extern "C" fn bb_pool_seat_size(alloc: Global, handle: &mut PoolSeatHandle) -> Figure
-    ensures { TellsFigure handle.old.value handle.new.value result
-        (λ party. party.allocator.scene.geometry.region.size) }
-{
-    tell(handle, alloc, PoolFigure::Size)
-}
-
-/// Where the first bucket is: the region's start, rounded up to the bucket's alignment.
-///
-/// C guarantees of the handle what the crate's page says.
-#[unsafe(no_mangle)]
-pub extern "C" fn bb_pool_seat_start_address(alloc: Global, handle: &mut PoolSeatHandle) -> Figure
-    ensures { TellsFigure handle.old.value handle.new.value result
-        (λ party. first_place party.allocator.scene.geometry.region
-        party.allocator.scene.geometry.bucket) }
-{
-    tell(handle, alloc, FirstPlace)
-}
-
-/// Gives the chunk at this place the new size, in its bucket, which this seat has to hold.
-///
-/// C guarantees of the handle what the crate's page says.
-#[unsafe(no_mangle)]
-pub extern "C" fn bb_pool_seat_grow(
-    alloc: Global,
-    handle: &mut PoolSeatHandle,
-    place: usize,
-    old_size: usize,
-    old_align: usize,
-    new_size: usize,
-    new_align: usize,
-) -> Answer
-    ensures { AnswersGrow handle.old.value handle.new.value place
-        (resize old_size old_align new_size new_align) result
-        (λ party. HoldsPlace party place)
-        (λ party. MayGrow party.allocator.scene.geometry.bucket place) }
-{
-    grow(
-        handle, alloc, place, old_size, old_align, new_size, new_align,
-    )
-}
-
-/// Gives the chunk at this place exactly the new size. This seat has to hold its bucket.
-///
-/// C guarantees of the handle what the crate's page says.
-#[unsafe(no_mangle)]
-pub extern "C" fn bb_pool_seat_shrink(
-    alloc: Global,
-    handle: &mut PoolSeatHandle,
-    place: usize,
-    old_size: usize,
-    old_align: usize,
-    new_size: usize,
-    new_align: usize,
-) -> Answer
-    ensures { AnswersShrink handle.old.value handle.new.value place
-        (resize old_size old_align new_size new_align) result
-        (λ party. HoldsPlace party place)
-        (λ party. party.allocator.scene.geometry.bucket.size)
-        (λ party. MayShrink party.allocator.scene.geometry.bucket place) }
-{
-    shrink(
-        handle, alloc, place, old_size, old_align, new_size, new_align,
-    )
-}
-
-/// How many bytes are reserved for the chunk at this place, whose bucket this seat has to hold: the bucket's size.
-///
-/// C guarantees of the handle what the crate's page says.
-#[unsafe(no_mangle)]
-pub extern "C" fn bb_pool_seat_reserved(
-    alloc: Global,
-    handle: &mut PoolSeatHandle,
-    place: usize,
-) -> Figure
-    ensures { TellsOfHeld handle.old.value handle.new.value result
-        (λ party. HoldsPlace party place) (λ party. party.allocator.scene.geometry.bucket.size) }
-{
-    reserved(handle, alloc, place)
+    info(handle, to)
 }
 
 /// Where the bucket of this number begins, held or not, or `BB_NOT_A_BUCKET` where there is no such bucket.
-///
-/// C guarantees of the handle what the crate's page says.
 #[unsafe(no_mangle)]
-pub extern "C" fn bb_pool_seat_place_at(handle: &mut PoolSeatHandle, number: u32) -> Figure
-    ensures { TellsPlaceAt handle.old.value handle.new.value result number
+pub extern "C" fn bb_pool_party_place_at(handle: &mut PoolPartyHandle, number: u32) -> Figure
+    ensures { AnswersPlace handle.old.value handle.new.value result number
         (λ party. party.allocator.scene.geometry) }
 {
     place(handle, number)
 }
 
 /// The number of the bucket at this place, held or not, or `BB_NOT_A_BUCKET` where no bucket begins there.
-///
-/// C guarantees of the handle what the crate's page says.
 #[unsafe(no_mangle)]
-pub extern "C" fn bb_pool_seat_number_at(handle: &mut PoolSeatHandle, place: usize) -> Figure
-    ensures { TellsNumberAt handle.old.value handle.new.value result place
+pub extern "C" fn bb_pool_party_number_at(handle: &mut PoolPartyHandle, place: usize) -> Figure
+    ensures { AnswersNumber handle.old.value handle.new.value result place
         (λ party. party.allocator.scene.geometry) }
 {
     number(handle, place)

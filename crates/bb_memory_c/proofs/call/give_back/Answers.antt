@@ -1,15 +1,11 @@
-use Rattle.std.proofs.Common.{refl, ◌∙◌, Some, ap, sym}
-use Rattle.bb_memory_c.proofs.Made.{at_made, at_lent, not_both}
-use Rattle.bb_memory_c.proofs.Nothing.{none-returned}
+use Rattle.std.proofs.Common.{refl}
+use Rattle.bb_memory_c.proofs.Made.{at_lent, answers, answers-none}
 use Rattle.bb_memory_c.proofs.call.give_back.Goals as goal
 
-pub returns : goal.returns
-returns g c = let is = c.in-Some.ensures.value in
-    let new = at_lent _ _ c.in-Some.is (c.made_mut.follows.holds c.release.new.made) in record {
-      freed = at_made _ _ _ is (λ held. let told = c.release.ensures.freed held in (told.0, c.release.new.made, new, told.1));
-      nothing = at_made _ _ _ is (λ none. let told = c.release.ensures.not_held none in (told.0, new ∙ ap Some told.1 ∙ sym is));
-      empty = λ none. absurd (not_both _ _ is none);
-    }
+pub returns-in-Some : goal.returns-in-Some
+returns-in-Some g c =
+    answers _ c.in-Some.ensures.value _ (at_lent _ _ c.in-Some.is (c.made_mut.follows.holds c.release.new.made))
+    c.release.ensures
 
-pub returns-in_default : goal.returns-in_default
-returns-in_default g c = none-returned _ _ c.in_default.ensures.value c.made_mut.follows.holds-at-none _ refl _ _
+pub returns-in-None : goal.returns-in-None
+returns-in-None g c = answers-none c.in-None.ensures.value refl c.made_mut.follows.holds-at-none

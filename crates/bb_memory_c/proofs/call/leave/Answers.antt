@@ -16,10 +16,10 @@ take_back-requires g c =
     (of_made _ _ _ c.in-Some-take.ensures.value (of_made _ _ _ c.in-Some.ensures.value c.requires))
 
 pub returns : goal.returns
-returns g c = let is = c.in-Some.ensures.value in let seat_is = c.in-Some-take.ensures.value in
+returns g c = let is = c.in-Some.ensures.value in let party_is = c.in-Some-take.ensures.value in
     let back = c.take_back.ensures in
     let new = at_lent _ _ c.in-Some.is (c.made_mut.follows.holds c.take_back.new.self) in record {
-      returned = at_made _ _ _ is (at_made _ _ _ seat_is (
+      returned = at_made _ _ _ is (at_made _ _ _ party_is (
         back.0,
         subst (λ party. g.H.Made.Shares.leaves party back.0) c.into_inner.ensures back.1,
         refl,

@@ -3,12 +3,12 @@ use Rattle.bb_memory_base.specs.Region.{region_at}
 use Rattle.bb_memory_c.proofs.Layouts.{cut-or-not}
 use Rattle.bb_memory_c.proofs.layout.cut_into.Goals as goal
 
-pub returns-then-not-can_make-clause-cannot_make : goal.returns-then-not-can_make-clause-cannot_make
-returns-then-not-can_make-clause-cannot_make c =
+pub returns-then-not-can_make-clause-invalid_argument : goal.returns-then-not-can_make-clause-invalid_argument
+returns-then-not-can_make-clause-invalid_argument c =
     (λ _. (c.in-Some.bucket, c.in-Some.ensures.of, search rules), λ _. refl)
 
-pub returns-clause-cannot_make : goal.returns-clause-cannot_make
-returns-clause-cannot_make c = (
+pub returns-clause-invalid_argument : goal.returns-clause-invalid_argument
+returns-clause-invalid_argument c = (
   λ wrong. absurd (cc),
   λ not.
       cut-or-not c.args.bucket_size c.args.bucket_align (region_at c.args.start c.args.size) c.in-Some.bucket

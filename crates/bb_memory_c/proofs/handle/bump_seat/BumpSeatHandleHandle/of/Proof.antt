@@ -1,9 +1,0 @@
--- What is owned is passed on.
-use Rattle.bb_memory_c.proofs.Owners.{held, bump_seat}
-use Rattle.bb_memory_c.proofs.Passing.{passes}
-use Rattle.bb_memory_c.specs.contracts.handle.bump_seat.BumpSeatHandleHandle.of.Key.{name as #self}
-use Rattle.bb_memory_c.proofs.handle.bump_seat.BumpSeatHandleHandle.of.Statement.{statement}
-use Rattle.bb_memory_c.proofs.handle.bump_seat.BumpSeatHandleHandle.of.Code as code
-
-pub of_spec : {M : Type 1} → statement M
-of_spec 𝓤 𝓛 𝓜 𝓡 wired = passes held bump_seat 𝓤 𝓛 𝓜 𝓡 #self _ _ (code.unfolded 𝓤 𝓛.H 𝓜 𝓡 wired)
