@@ -11,7 +11,7 @@ use Rattle.bb_memory_base.specs.declared.allocator.AllocationError.{AllocationEr
 use Rattle.bb_memory_c.specs.Parties.{IsOneOf, Parties}
 use Rattle.bb_memory.specs.NumberSet.{Has}
 use Rattle.bb_memory.specs.SharedPool.{AreFresh, PoolParty, SharedPool, TakenBucket, chunk_of, return_entry, with_entries}
-use Rattle.bb_memory.specs.SharedPoolRounds.{MayTakeFrom}
+use Rattle.bb_memory.specs.SharedPoolRounds.{MayTakeFrom, hint_of}
 
 abbrev pub PoolParties : Type 0
 PoolParties = Parties SharedPool PoolParty
@@ -68,11 +68,11 @@ abbrev pub chunk_in : Result TakenBucket AllocationError → Result Chunk Alloca
 chunk_in (Ok bucket) = Ok (chunk_of bucket)
 chunk_in (Err error) = Err error
 
--- a request is answered the chunk in the bucket that the party took by a round from some bucket, or why it took none
+-- a request is answered the chunk in the bucket that the party took by a round from its hint, or why it took none
 abbrev pub GivesChunk : PoolParty → Layout → Result Chunk AllocationError → PoolParty → Type 0
 GivesChunk party layout answer after =
     (taken : Result TakenBucket AllocationError) × (answer ≡ chunk_in taken)
-    × (first : ℕ) × MayTakeFrom first party layout taken after
+    × MayTakeFrom (hint_of party) party layout taken after
 
 -- the bucket at the place was given back, by one step
 abbrev pub GivesBack : PoolParty → ℕ → PoolParty → Type 0

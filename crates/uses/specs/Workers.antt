@@ -22,8 +22,9 @@ pub record Asks {P A : Type 0} (may_take : P → Layout → A → P → Type 0) 
   pub asked : may_take old layout answer new
 
 -- the answer of a request near the bucket that the party had last, and the party then
-abbrev pub MayTakeNear : PoolParty → Layout → Result TakenBucket AllocationError → PoolParty → Type 0
-MayTakeNear old = MayTakeFrom (hint_of old) old
+pub record MayTakeNear (old : PoolParty) (layout : Layout) (answer : Result TakenBucket AllocationError) (new : PoolParty)
+    : Type 0 where
+  pub taken : MayTakeFrom (hint_of old) old layout answer new
 
 -- the party has asked so once
 abbrev pub AsksNear : Layout → PoolParty → PoolParty → Type 0

@@ -2,9 +2,8 @@
 ghost use Rattle.std.specs.Prelude.{◌≡◌, ◌<◌, Err, IfErr, IfOk};
 ghost use Rattle.bb_memory_base.specs.PoolLogs.{IsHeldAfter};
 ghost use Rattle.bb_memory.specs.SharedPool.{MayTakeBucket, chunk_of};
-ghost use Rattle.bb_memory.specs.SharedPoolRounds.{MayTakeFrom, hint_of};
 ghost use Rattle.uses.specs.Messages.{HasSent, having_received};
-ghost use Rattle.uses.specs.Workers.{KeepsBuckets};
+ghost use Rattle.uses.specs.Workers.{KeepsBuckets, MayTakeNear};
 
 use bb_memory::allocator::AllocationError;
 use bb_memory::layout::{Chunk, Layout};
@@ -29,7 +28,7 @@ pub fn send(
     ensures sent { IfOk result
         (λ message. HasSent sender.old layout message sender.new) }
     ensures refused { IfErr result
-        (λ error. MayTakeFrom (hint_of sender.old) sender.old layout (Err error) sender.new) }
+        (λ error. MayTakeNear sender.old layout (Err error) sender.new) }
 {
     let bucket = pool.allocate_near(sender, layout)?;
     Ok(pool.detach(sender, bucket))

@@ -74,5 +74,8 @@ fn pool_of_four(alloc: Global) -> Result<(SharedPoolAllocator, Vec<PoolParty>), 
 {
     pool_count_law();
     let bucket = Layout::from_size_align(128, 8).unwrap();
-    SharedPoolAllocator::new(alloc, bucket, 4096, 1024, 4).or(Err(AllocError))
+    let Ok(made) = SharedPoolAllocator::new(alloc, bucket, 4096, 1024, 4) else {
+        return Err(AllocError);
+    };
+    Ok(made)
 }
