@@ -2,7 +2,7 @@
 ghost use Rattle.std.specs.Prelude.{◌≡◌, ◌<◌, Err, IfErr, IfOk};
 ghost use Rattle.bb_memory_base.specs.PoolLogs.{IsHeldAfter};
 ghost use Rattle.bb_memory.specs.SharedPool.{MayTakeBucket, chunk_of};
-ghost use Rattle.uses.specs.Messages.{HasSent, having_received};
+ghost use Rattle.uses.specs.Messages.{having_received};
 ghost use Rattle.uses.specs.Workers.{KeepsBuckets, MayTakeNear};
 
 use bb_memory::allocator::AllocationError;
@@ -25,8 +25,6 @@ pub fn send(
     ensures was_detached { IfOk result
         (λ message. ¬ IsHeldAfter sender.new.log message.number) }
     ensures keeps { KeepsBuckets sender.old sender.new }
-    ensures sent { IfOk result
-        (λ message. HasSent sender.old layout message sender.new) }
     ensures refused { IfErr result
         (λ error. MayTakeNear sender.old layout (Err error) sender.new) }
 {
