@@ -1,19 +1,19 @@
 -- The numbers that aren't in a set, as the first entries of an array.
-use Rattle.std.proofs.Common.{◌≡◌, ◌≢◌, ℕ, ◌+◌, ◌-◌, ◌≤◌, ◌<◌, Bool, true, false, eqb, List, [], ◌∷◌, ◌++◌, length, get_or, set}
+use Rattle.std.proofs.Common.{◌≡◌, ◌≢◌, ℕ, ◌+◌, ◌-◌, ◌≤◌, ◌<◌, Bool, true, false, eqb, List, length, get_or, set}
 use Rattle.std.proofs.Common.{take, replicate, refl, ap, sym, ◌∙◌, arith, inl, inr, ext_get_or, length-set, get_or-set_same}
 use Rattle.std.proofs.Common.{get_or-set_other, eq-eqb}
 use Rattle.std.specs.Prelude.{Some, slice_get, not, ◌||◌, IsTrue, ◌↔◌}
 use Rattle.std.specs.List.{list_any}
 use Rattle.std.proofs.lemmas.Bool.{cases_eq, ne_eqb, false≢true}
 use Rattle.std.proofs.lemmas.List.{length-take-le, length-replicate, get_or-take, get_or-replicate, get_or_default}
-use Rattle.std.proofs.lemmas.List.{take-set, take-replicate, get_or_append_left, get_or_push, length_push}
+use Rattle.std.proofs.lemmas.List.{take-set, take-replicate}
 use Rattle.std.proofs.lemmas.List.FromFn.{length-map-range_with_len, get_or-map-range_with_len}
 use Rattle.std.proofs.lemmas.List.Folds.{list_any_at, list_any_more, list_any_none}
 use Rattle.std.proofs.lemmas.Option.{slice_get_within, slice_get-get_or, get_or_from_slice_get}
 use Rattle.std.proofs.Math.Seq.{take-set-lt}
 use Rattle.bb_memory.specs.Flags.{is_held, held_numbers, IsFreeList, AreFlags}
 use Rattle.bb_memory.specs.NumberSet.{Has, Lacks, IsFull}
-use Rattle.bb_memory.proofs.Listings.{few}
+use Rattle.bb_memory.proofs.Listings.{few_more}
 
 pub length-held_numbers : (bound : ℕ) (free : List ℕ) → length (held_numbers bound free) ≡ bound
 unfolding held_numbers
@@ -131,23 +131,9 @@ pub more : (room bound : ℕ) (free : List ℕ) (left number : ℕ) → IsFreeLi
 more room bound free left number is has =
     let out = not_listed bound free left number (omega (arith, is.len, is.fits, is.few)) has in
     let some = take left free in
-    let len : length some ≡ left = length-take-le left free (omega (arith, is.len, is.fits, is.few)) in
-    let xs = some ++ number ∷ [] in
-    let len2 : length xs ≡ left + 1 = omega (arith, length_push some number, len) in
-    let low : (k : ℕ) → k < left → get_or xs k 0 ≡ get_or free k 0 = λ k h.
-    get_or_append_left some (number ∷ []) 0 k (omega (arith, h, len)) ∙ get_or-take left free k 0 h in
-    let last : get_or xs left 0 ≡ number = get_or_push some number 0 left len in
-    let count : length xs ≤ bound = few xs bound
-    (λ k h. elim (cases_eq k left) [
-      | inl e ↦ rw (e, last) out.0
-      | inr other ↦ rw (low k (omega (arith, h, len2))) (is.below k (omega (arith, h, len2)))
-    ])
-    (λ i k before h. elim (cases_eq k left) [
-      | inl e ↦ rw (e, last, low i (omega arith)) (out.2 i (omega arith))
-      | inr other ↦
-          rw (low i (omega (arith, h, len2)), low k (omega (arith, h, len2))) (is.once i k before (omega (arith, h, len2)))
-    ]) in
-    let room : left < length free = omega (arith, count, len2, is.fits, is.len) in
+    let count : left < bound =
+    few_more (λ k. get_or free k 0) left bound number is.below is.once out.0 out.2 in
+    let room : left < length free = omega (arith, count, is.fits, is.len) in
     let new = set free left number in
     let end : get_or new left 0 ≡ number = get_or-set_same free left number 0 room in
     let kept : (k : ℕ) → k < left → get_or new k 0 ≡ get_or free k 0 =
@@ -164,7 +150,7 @@ more room bound free left number is has =
       record {
         len = length-set free left number ∙ is.len;
         fits = is.fits;
-        few = omega (arith, count, len2);
+        few = omega (arith, count);
         below = λ k h. elim (cases_eq k left) [
           | inl e ↦ rw (e, end) out.0
           | inr other ↦ rw (kept k (omega arith)) (is.below k (omega arith))

@@ -1,13 +1,11 @@
 -- The words that aren't full, the one in hand and the listed ones: after a taking and after a release.
-use Rattle.std.proofs.Common.{◌≡◌, ◌≢◌, ℕ, ◌+◌, ◌-◌, ◌^◌, ◌<◌, ◌≤◌, List, length, map, get_or, set, sym, ◌∙◌}
+use Rattle.std.proofs.Common.{◌≡◌, ◌≢◌, ℕ, ◌+◌, ◌-◌, ◌^◌, ◌<◌, ◌≤◌, List, length, get_or, set, sym, ◌∙◌}
 use Rattle.std.proofs.Common.{ap, if◌then◌else◌, inl, inr, arith, eq-eqb, get_or-set_same, get_or-set_other, length-set}
-use Rattle.std.specs.List.{range_with_len}
 use Rattle.std.proofs.lemmas.Bool.{cases_eq, cases_lt, ne_eqb}
-use Rattle.std.proofs.lemmas.List.FromFn.{length-map-range_with_len, get_or-map-range_with_len}
 use Rattle.bb_memory.specs.Words.{IsListing, IsWordSet, PutsAt, AreIndexWords, open_word}
 use Rattle.bb_memory.specs.IndexWords.{index_words}
 use Rattle.bb_memory.proofs.NumberWords.{AreFull}
-use Rattle.bb_memory.proofs.Listings.{IsStack, filled, still_open, opened, still, room_in}
+use Rattle.bb_memory.proofs.Listings.{filled, opened, still}
 
 -- THE WORD IN HAND ON TOP OF THE LIST
 
@@ -19,46 +17,9 @@ top_word listed hand top k is = ap (λ b. if b then hand else get_or listed k 0)
 under_word : (listed : List ℕ) (hand top k : ℕ) → k + 1 ≢ top → open_word listed hand top k ≡ get_or listed k 0
 under_word listed hand top k other = ap (λ b. if b then hand else get_or listed k 0) (ne_eqb (k + 1) top other)
 
--- the open words as one list
-names : List ℕ → ℕ → ℕ → ℕ → List ℕ
-names listed hand top count = map (open_word listed hand top) (range_with_len 0 count)
-
-length-names : (listed : List ℕ) (hand top count : ℕ) → length (names listed hand top count) ≡ count
-unfolding names
-length-names listed hand top count = length-map-range_with_len (open_word listed hand top) 0 count
-
-name_at : (listed : List ℕ) (hand top count k : ℕ) → k < count →
-    get_or (names listed hand top count) k 0 ≡ open_word listed hand top k
-unfolding names
-name_at listed hand top count k within = get_or-map-range_with_len (open_word listed hand top) 0 count k k 0 within (omega arith)
-
-stack_of : (words listed : List ℕ) (hand top : ℕ) → IsListing words listed hand top →
-    IsStack words (names listed hand top (length words)) top
-stack_of words listed hand top is =
-    let fits = is.fits in
-    let at : (k : ℕ) → k < top → get_or (names listed hand top (length words)) k 0 ≡ open_word listed hand top k = λ k h.
-    name_at listed hand top (length words) k (omega (arith, h, fits)) in
-    record {
-      fits = fits;
-      below = λ k h. rw (at k h) (is.below k h);
-      each = λ k h. rw (at k h) (is.each k h);
-      once = λ i k before h. rw (at i (omega (arith, before, h)), at k h) (is.once i k before h);
-      all = λ a within not. let there = is.all a within not in (there.0, there.1, at there.0 there.1 ∙ there.2);
-    }
-
-listing_of : (words stack listed : List ℕ) (hand top : ℕ) → IsStack words stack top →
-    ((k : ℕ) → k < top → open_word listed hand top k ≡ get_or stack k 0) → IsListing words listed hand top
-listing_of words stack listed hand top is at = record {
-  fits = is.fits;
-  below = λ k h. rw (at k h) (is.below k h);
-  each = λ k h. rw (at k h) (is.each k h);
-  once = λ i k before h. rw (at i (omega (arith, before, h)), at k h) (is.once i k before h);
-  all = λ a within not. let there = is.all a within not in (there.0, there.1, at there.0 there.1 ∙ there.2);
-}
-
 -- the word in hand is full only where every word is
-pub hand_full : (words listed : List ℕ) (hand top : ℕ) → IsListing words listed hand top → get_or words hand 0 ≡ 2 ^ 64 - 1 →
-    AreFull words 0 (length words)
+pub hand_full : (words listed : List ℕ) (hand top : ℕ) → IsListing words (open_word listed hand top) top →
+    get_or words hand 0 ≡ 2 ^ 64 - 1 → AreFull words 0 (length words)
 hand_full words listed hand top is full = elim (cases_lt 0 top) [
   | inl some ↦
       let last : top - 1 + 1 ≡ top = omega arith in
@@ -68,19 +29,6 @@ hand_full words listed hand top is full = elim (cases_lt 0 top) [
     | inr not ↦ let there = is.all at within not in absurd (omega (arith, there.1, none))
   ]
 ]
-
--- where it isn't full, it is one of the open words
-some_open : (words listed : List ℕ) (hand top : ℕ) → IsListing words listed hand top → hand < length words →
-    get_or words hand 0 ≢ 2 ^ 64 - 1 → 0 < top
-some_open words listed hand top is within not = let there = is.all hand within not in omega (arith, there.1)
-
--- it is the last of the open words
-hand_named : (words listed : List ℕ) (hand top : ℕ) → IsListing words listed hand top → 0 < top →
-    get_or (names listed hand top (length words)) (top - 1) 0 ≡ hand
-hand_named words listed hand top is some =
-    let fits = is.fits in
-    let last : top - 1 + 1 ≡ top = omega (arith, some) in
-    name_at listed hand top (length words) (top - 1) (omega (arith, some, fits)) ∙ top_word listed hand top (top - 1) last
 
 -- another word in place of one
 put_word : (words : List ℕ) (at word : ℕ) → PutsAt words at (set words at word)
@@ -92,20 +40,14 @@ pub set_left : (bound : ℕ) (words listed : List ℕ) (hand top left : ℕ) →
     AreIndexWords bound (set words hand left) → hand < length words → get_or words hand 0 ≢ 2 ^ 64 - 1 →
     left ≢ 2 ^ 64 - 1 → IsWordSet bound (set words hand left) listed hand top
 set_left bound words listed hand top left is are within was_open not =
-    let listing = is.listing in
+    let named = open_word listed hand top in
     let puts = put_word words hand left in
-    let some = some_open words listed hand top listing within was_open in
-    let stack = names listed hand top (length words) in
-    let fits = listing.fits in
     record {
       are = are;
       room = omega (arith, is.room, puts.len);
       in_hand = λ any. omega (arith, within, puts.len);
-      listing = listing_of (set words hand left) stack listed hand top
-          (still_open words (set words hand left) stack top hand (top - 1) (stack_of words listed hand top listing) puts
-          (omega (arith, some)) (hand_named words listed hand top listing some)
-          (λ full. not (sym (get_or-set_same words hand left 0 within) ∙ full)))
-          (λ k h. sym (name_at listed hand top (length words) k (omega (arith, h, fits))));
+      listing = still words (set words hand left) named named top hand is.listing puts within was_open
+          (λ full. not (sym (get_or-set_same words hand left 0 within) ∙ full));
     }
 
 -- the same, and it is full then: the word that is listed last is in hand, if one is listed
@@ -115,10 +57,10 @@ pub set_filled : (bound : ℕ) (words listed : List ℕ) (hand top left next : �
     (top - 1 ≡ 0 → next ≡ hand) → IsWordSet bound (set words hand left) listed next (top - 1)
 set_filled bound words listed hand top left next is are within was_open full last_listed none_listed =
     let listing = is.listing in
+    let named = open_word listed hand top in
     let puts = put_word words hand left in
-    let some = some_open words listed hand top listing within was_open in
-    let stack = names listed hand top (length words) in
-    let fits = listing.fits in
+    let there = listing.all hand within was_open in
+    let some : 0 < top = omega (arith, there.1) in
     record {
       are = are;
       room = omega (arith, is.room, puts.len);
@@ -129,12 +71,10 @@ set_filled bound words listed hand top left next is are within was_open full las
             omega (arith, below, under, last_listed more, puts.len)
         | inr none ↦ omega (arith, none_listed (omega (arith, none)), within, puts.len)
       ];
-      listing = listing_of (set words hand left) stack listed next (top - 1)
-          (filled words (set words hand left) stack top hand (stack_of words listed hand top listing) puts some
-          (sym (hand_named words listed hand top listing some)) (get_or-set_same words hand left 0 within ∙ full))
+      listing = filled words (set words hand left) named (open_word listed next (top - 1)) top hand listing puts some
+          (top_word listed hand top (top - 1) (omega (arith, some))) (get_or-set_same words hand left 0 within ∙ full)
           (λ k h.
-          let under : get_or stack k 0 ≡ get_or listed k 0 =
-          name_at listed hand top (length words) k (omega (arith, h, fits)) ∙ under_word listed hand top k (omega (arith, h)) in
+          let under = under_word listed hand top k (omega (arith, h)) in
           elim (cases_eq (k + 1) (top - 1)) [
             | inl e ↦
                 let place : top - 1 - 1 ≡ k = omega (arith, e) in
@@ -144,42 +84,19 @@ set_filled bound words listed hand top left next is are within was_open full las
           ]);
     }
 
--- with a full word the open ones are fewer than all
-pub room_left : (words listed : List ℕ) (hand top at : ℕ) → IsListing words listed hand top → at < length words →
-    get_or words at 0 ≡ 2 ^ 64 - 1 → top < length words
-room_left words listed hand top at is within full =
-    let stack = names listed hand top (length words) in
-    let len : length stack ≡ length words = length-names listed hand top (length words) in
-    omega (arith, room_in words stack top at (stack_of words listed hand top is) len within full, len)
-
 -- a release: a full word has a bit less, and is in hand, and the one that was in hand is listed
 pub set_opened : (bound : ℕ) (words listed new named : List ℕ) (hand top at : ℕ) → IsWordSet bound words listed hand top →
     AreIndexWords bound new → PutsAt words at new → at < length words → get_or words at 0 ≡ 2 ^ 64 - 1 →
     get_or new at 0 ≢ 2 ^ 64 - 1 → length named ≡ length listed →
     ((k : ℕ) → k < top → get_or named k 0 ≡ open_word listed hand top k) → IsWordSet bound new named at (top + 1)
-set_opened bound words listed new named hand top at is are puts within full not_full len name =
-    let listing = is.listing in
-    let stack = names listed hand top (length words) in
-    let fits = listing.fits in
-    let stack_len : length stack ≡ length words = length-names listed hand top (length words) in
-    let room : top < length stack = omega (arith, room_left words listed hand top at listing within full, stack_len) in
-    record {
-      are = are;
-      room = omega (arith, len, is.room, puts.len);
-      in_hand = λ some. omega (arith, within, puts.len);
-      listing = listing_of new (set stack top at) named at (top + 1)
-          (opened words new stack top at (stack_of words listed hand top listing) puts within room full not_full)
-          (λ k h. elim (cases_eq k top) [
-            | inl e ↦
-                top_word named at (top + 1) k (omega (arith, e))
-                ∙ sym (ap (λ x. get_or (set stack top at) x 0) e ∙ get_or-set_same stack top at 0 room)
-            | inr other ↦
-                under_word named at (top + 1) k (omega (arith, other))
-                ∙ name k (omega (arith, h, other))
-                ∙ sym (name_at listed hand top (length words) k (omega (arith, h, other, fits)))
-                ∙ sym (get_or-set_other stack top k at 0 other)
-          ]);
-    }
+set_opened bound words listed new named hand top at is are puts within full not_full len name = record {
+  are = are;
+  room = omega (arith, len, is.room, puts.len);
+  in_hand = λ some. omega (arith, within, puts.len);
+  listing = opened words new (open_word listed hand top) (open_word named at (top + 1)) top at is.listing puts within full
+      not_full (top_word named at (top + 1) top (omega arith))
+      (λ k h. under_word named at (top + 1) k (omega (arith, h)) ∙ name k h);
+}
 
 -- the list with the word in hand at its end
 pub named_hand : (listed : List ℕ) (hand top k : ℕ) → k < top → top ≤ length listed →
@@ -194,20 +111,16 @@ named_hand listed hand top k h room = elim (cases_eq (k + 1) top) [
 ]
 
 -- a release of a number whose word wasn't full, and is named already
-pub set_still : (bound : ℕ) (words listed new named : List ℕ) (hand top at : ℕ) → IsWordSet bound words listed hand top →
+pub set_still : (bound : ℕ) (words listed new left : List ℕ) (hand top at : ℕ) → IsWordSet bound words listed hand top →
     AreIndexWords bound new → PutsAt words at new → at < length words → get_or words at 0 ≢ 2 ^ 64 - 1 →
-    get_or new at 0 ≢ 2 ^ 64 - 1 → named ≡ listed → IsWordSet bound new named hand top
-set_still bound words listed new named hand top at is are puts within was_open not_full name =
-    let listing = is.listing in
-    let stack = names listed hand top (length words) in
-    let fits = listing.fits in
+    get_or new at 0 ≢ 2 ^ 64 - 1 → left ≡ listed → IsWordSet bound new left hand top
+set_still bound words listed new left hand top at is are puts within was_open not_full same =
+    let named = open_word listed hand top in
     record {
       are = are;
-      room = ap length name ∙ omega (arith, is.room, puts.len);
+      room = ap length same ∙ omega (arith, is.room, puts.len);
       in_hand = λ some. omega (arith, is.in_hand (omega (arith, within)), puts.len);
-      listing = rw name (listing_of new stack listed hand top
-          (still words new stack top at (stack_of words listed hand top listing) puts within was_open not_full)
-          (λ k h. sym (name_at listed hand top (length words) k (omega (arith, h, fits)))));
+      listing = rw same (still words new named named top at is.listing puts within was_open not_full);
     }
 
 -- fresh words, all of them open: the first in hand, and the others listed, the second one last

@@ -224,6 +224,11 @@ HaveAllNumbers count parties =
 abbrev pub IsHeldByOne : List PoolParty → ℕ → Type 0
 IsHeldByOne parties bucket = Any (λ party. IsHeldAfter party.log bucket) parties
 
+-- no bucket is held by two of these parties
+abbrev pub HoldApart : List PoolParty → Type 0
+HoldApart parties = (i j : ℕ) (one other : PoolParty) (bucket : ℕ) → slice_get parties i ≡ Some one
+    → slice_get parties j ≡ Some other → i ≢ j → IsHeldAfter one.log bucket → ¬ IsHeldAfter other.log bucket
+
 -- one of these parties has detached the bucket
 abbrev pub WasDetachedByOne : List PoolParty → ℕ → Type 0
 WasDetachedByOne parties bucket = Any (λ party. WasDetached party.log bucket) parties

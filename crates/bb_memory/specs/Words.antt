@@ -43,14 +43,13 @@ abbrev pub open_word : List ℕ → ℕ → ℕ → ℕ → ℕ
 open_word listed hand top k = if k + 1 == top then hand else slice_index listed k
 
 -- these, so many, are just the words that aren't full, each once
-pub record IsListing (words : List ℕ) (listed : List ℕ) (hand : ℕ) (top : ℕ) : Type 0 where
+pub record IsListing (words : List ℕ) (named : ℕ → ℕ) (top : ℕ) : Type 0 where
   pub fits : top ≤ length words
-  pub below : (k : ℕ) → k < top → open_word listed hand top k < length words
-  pub each : (k : ℕ) → k < top → slice_index words (open_word listed hand top k) ≢ 2 ^ 64 - 1
-  pub once : (i : ℕ) (k : ℕ) → i < k → k < top
-      → open_word listed hand top i ≢ open_word listed hand top k
+  pub below : (k : ℕ) → k < top → named k < length words
+  pub each : (k : ℕ) → k < top → slice_index words (named k) ≢ 2 ^ 64 - 1
+  pub once : (i : ℕ) (k : ℕ) → i < k → k < top → named i ≢ named k
   pub all : (at : ℕ) → at < length words → slice_index words at ≢ 2 ^ 64 - 1
-      → (k : ℕ) × (k < top) × (open_word listed hand top k ≡ at)
+      → (k : ℕ) × (k < top) × (named k ≡ at)
 
 -- the words hold a set, one of them is in hand, and those that aren't full are listed or in hand
 pub record IsWordSet
@@ -59,4 +58,4 @@ pub record IsWordSet
   pub are : AreIndexWords bound words
   pub room : length listed ≡ length words - 1
   pub in_hand : 0 < length words → hand < length words
-  pub listing : IsListing words listed hand top
+  pub listing : IsListing words (open_word listed hand top) top

@@ -324,8 +324,8 @@ pub fn run_base_one_chunk(
 
 /// What the definition of the one-chunk object says of every region and every list of commands. There is exactly one answer
 /// to each request, and to each resize. A chunk that is given begins at a multiple of the asked alignment, has at least the
-/// asked size, isn't empty, and ends where the region does. Each run from a live list that a one chunk stands for, with resizes or
-/// without, leads to such a list again, which is sound. It does nothing: its contract is the law.
+/// asked size, isn't empty, and ends where the region does. Each run from a live list that a one chunk stands for, with resizes
+/// or without, leads to such a list again, which is sound. It does nothing: its contract is the law.
 pub fn one_chunk_object_law()
     ensures some_answer { (region : Region) → AnswersAll (one_chunk_object region).base }
     ensures one_answer { (region : Region) → AnswersOnce (one_chunk_object region).base }

@@ -6,8 +6,8 @@ use bb_memory_base::allocator::{Allocator, BaseAllocator};
 use bb_memory_base::layout::{Chunk, Layout};
 use bb_memory_base::lists::append_law;
 
-/// Gives back the chunk that was given last.
-pub(crate) fn return_last<A: Allocator>(inner: &mut A, chunk: Chunk, layout: Layout)
+/// Gives back the chunk that was given last: the allocator then stands for the lists without it.
+pub fn return_last<A: Allocator>(inner: &mut A, chunk: Chunk, layout: Layout)
     requires { A.may_release inner.old chunk.place }
     ensures stands { (live : List Chunk) → A.stands_for inner.old (live ++ chunk ∷ [])
         → A.stands_for inner.new live }

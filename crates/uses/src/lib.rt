@@ -19,7 +19,7 @@ pub mod byte_vector;
 pub mod chunk_budget;
 pub mod examples;
 pub mod keyed_slab;
-mod last_chunk;
+pub mod last_chunk;
 pub mod pool_messages;
 pub mod pool_workers;
 pub mod ring;

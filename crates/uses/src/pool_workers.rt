@@ -1,6 +1,6 @@
 //! Threads that take buckets of one pool, and what is known once all of them are back.
 ghost use Rattle.std.specs.Prelude.{◌≡◌, All, IfOk, length};
-ghost use Rattle.bb_memory.specs.SharedPool.{AreFresh, HaveMet, PoolParty};
+ghost use Rattle.bb_memory.specs.SharedPool.{AreFresh, HaveMet, HoldApart, PoolParty};
 ghost use Rattle.uses.specs.Workers.{AllComeBack, AsksNear, ComesBack, HasAskedNear};
 
 use bb_memory::layout::Layout;
@@ -45,6 +45,7 @@ pub fn four_workers<R: Threads + Sync>(
     ensures all { IfOk result (λ made. length made.1.items ≡ made.0.scene.parties) }
     ensures theirs { IfOk result (λ made. All (λ party. party.allocator ≡ made.0) made.1.items) }
     ensures met { IfOk result (λ made. HaveMet made.0.scene made.1.items) }
+    ensures apart { IfOk result (λ made. HoldApart made.1.items) }
     ensures asked { IfOk result (λ made. All (HasAskedNear layout) made.1.items) }
 {
     let (pool, parties) = pool_of_four(alloc)?;

@@ -9,8 +9,8 @@ ghost use Rattle.bb_memory_base.specs.PoolCalls.{AreAsked, IsPoolRun};
 ghost use Rattle.bb_memory_base.specs.PoolHistory.{history_of, log_of};
 ghost use Rattle.bb_memory_base.specs.PoolLogs.{IsHeldAfter};
 ghost use Rattle.bb_memory_base.specs.declared.layout.Layout.{Layout};
-ghost use Rattle.bb_memory.specs.SharedPool.{HasTaker, HaveMet, WasDetachedByOne, IsHeldByOne, IsHeldOrDetached, IsSharedScene};
-ghost use Rattle.bb_memory.specs.SharedPool.{PoolParty, TookOne, refused_pass};
+ghost use Rattle.bb_memory.specs.SharedPool.{HasTaker, HaveMet, HoldApart, IsHeldByOne, IsHeldOrDetached};
+ghost use Rattle.bb_memory.specs.SharedPool.{IsSharedScene, PoolParty, TookOne, WasDetachedByOne, refused_pass};
 
 /// What a user of a shared pool has of parties that met ([`meet_all`](super::SharedPoolAllocator::meet_all)), and above all of
 /// all its parties, whatever the threads did. It does nothing: its contract is the law.
@@ -58,10 +58,8 @@ pub fn shared_pool_meeting_law()
         → All (λ party. log_of scene met.1.agree.steps party.number ≡ party.log) parties }
 
     // No bucket is held by two of them.
-    ensures apart { (scene : PoolScene) (parties : List PoolParty) (met : HaveMet scene parties)
-        (i j : ℕ) (one other : PoolParty) (bucket : ℕ) → slice_get parties i ≡ Some one
-        → slice_get parties j ≡ Some other → i ≢ j
-        → IsHeldAfter one.log bucket → ¬ IsHeldAfter other.log bucket }
+    ensures apart { (scene : PoolScene) (parties : List PoolParty) → HaveMet scene parties
+        → HoldApart parties }
 
     // Where all have met, each step stands in the log of one of them: it was nobody else's.
     ensures nobody_else { (scene : PoolScene) (parties : List PoolParty)

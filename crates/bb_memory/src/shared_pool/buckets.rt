@@ -1,13 +1,13 @@
 //! What the shared pools are: buckets with a flag each, on which any number of threads step.
 ghost use Rattle.std.specs.Prelude.{◌≡◌, ◌≢◌, ℕ, ◌<◌, ◌≤◌, ◌↔◌, ◌%◌, ◌^◌, [], All, IsErr, IfErr, IfOk};
-ghost use Rattle.std.specs.Prelude.{◌+◌, IfSome, MatchOption, Some, length, slice_get};
+ghost use Rattle.std.specs.Prelude.{◌+◌, IfSome, MatchOption, length};
 ghost use Rattle.bb_memory_base.specs.Region.{IsRegion};
 ghost use Rattle.bb_memory_base.specs.Chunk.{Chunk, IsInside};
 ghost use Rattle.bb_memory_base.specs.PoolObject.{IsWithin, MayGrow, MayShrink};
 ghost use Rattle.bb_memory_base.specs.PoolLogs.{IsHeldAfter};
 ghost use Rattle.bb_memory.specs.Seats.{Stays, number_of, view_log};
 ghost use Rattle.bb_memory.specs.SharedPool.{AreAllHeldAfter, AreBothOf, AreFresh, AreInterleaved, HasTaker, HaveMet};
-ghost use Rattle.bb_memory.specs.SharedPool.{IsAlignedTo, PoolParty};
+ghost use Rattle.bb_memory.specs.SharedPool.{HoldApart, IsAlignedTo};
 ghost use Rattle.bb_memory.specs.SharedPool.{IsResizedTo, IsSameParty, IsSharedScene, MayTake, chunk_of};
 ghost use Rattle.bb_memory.specs.SharedPool.{return_entry, with_entries};
 ghost use Rattle.bb_memory.specs.SharedPoolRule.{IsIdleAt, MaySeat};
@@ -198,9 +198,7 @@ impl<const CAPPED: usize, const MOST: usize> SharedBucketPool<CAPPED, MOST> {
         ensures kept { parties.new.items ≡ parties.old.items }
         ensures parties { All (λ party. party.allocator ≡ self.now) parties.new.items }
         ensures met { HaveMet self.now.scene parties.old.items }
-        ensures apart { (i j : ℕ) (one other : PoolParty) (bucket : ℕ)
-            → slice_get parties.old.items i ≡ Some one → slice_get parties.old.items j ≡ Some other
-            → i ≢ j → IsHeldAfter one.log bucket → ¬ IsHeldAfter other.log bucket }
+        ensures apart { HoldApart parties.old.items }
         ensures one_took { length parties.old.items ≡ self.now.scene.parties
             → All (λ party. party.log ≢ []) parties.old.items
             → HasTaker self.now.scene parties.old.items }

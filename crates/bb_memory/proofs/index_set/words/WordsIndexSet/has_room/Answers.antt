@@ -29,6 +29,7 @@ returns-else-self-gt0 g c =
       λ told. absurd (omega (arith, ltb-true 0 inside.bound told, c.if-self-gt0.false)),
       λ free.
           let within = slice_get_within c.args.self.now free.0 false free.1 in
-          let at = (has_bound inside.bound inside.words.words free.0 c.args.self.now c.self.invariant.are c.self.view_is within).0 in
+          let is = c.self.invariant.are in
+          let at = (has_bound inside.bound inside.words.words free.0 c.args.self.now is c.self.view_is within).0 in
           lt-ltb 0 inside.bound (omega (arith, at)),
     )

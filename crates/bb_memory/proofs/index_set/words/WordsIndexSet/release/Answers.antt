@@ -1,6 +1,7 @@
 use Rattle.std.proofs.Common.{◌-◌, ◌/◌, ℕ, List, ◌∙◌, ap, set, get_or, arith, length, length-set}
 use Rattle.bb_memory.proofs.NumberWords.{has_word, released}
-use Rattle.bb_memory.proofs.OpenWords.{set_opened, set_still, room_left, named_hand}
+use Rattle.bb_memory.proofs.OpenWords.{set_opened, set_still, named_hand}
+use Rattle.bb_memory.proofs.Listings.{room_left}
 use Rattle.bb_memory.proofs.index_set.words.WordsIndexSet.release.Goals as goal
 use Rattle.bb_memory.proofs.index_set.words.WordsIndexSet.release.Goals.{then-self-gt0, else-self-gt0}
 
@@ -17,7 +18,7 @@ list-requires g c =
     let has = rw (← c.self.view_is) at c.requires in
     let is = c.self.invariant in
     let within = (has_word inside.bound inside.words.words c.args.number is.are has).1 in
-    let left = room_left inside.words.words inside.words.listed inside.hand inside.top (c.args.number / 64) is.listing within
+    let left = room_left inside.words.words _ inside.top (c.args.number / 64) is.listing within
     (told.was_full c.if-was_full.true) in
     let room = is.room in
     omega (arith, left, room, ap length told.listed, c.if-self-gt0.true)
@@ -34,7 +35,7 @@ invariant_of-self g c =
     let left = released inside.bound words _ c.args.number is.are has told.bit in
     let within = (has_word inside.bound words c.args.number is.are has).1 in
     let full = told.was_full c.if-was_full.true in
-    let fits = room_left words listed inside.hand inside.top at is.listing within full in
+    let fits = room_left words _ inside.top at is.listing within full in
     let room = is.room in
     elim c.if-self-gt0.branch [
       | then-self-gt0 w ↦

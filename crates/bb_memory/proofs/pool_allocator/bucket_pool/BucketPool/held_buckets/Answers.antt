@@ -12,10 +12,10 @@ loop-number-preserved g c =
     let number = c.loop-number.number in
     let before = c.loop-number.invariant in
     let same = ap (λ (p : CountedPool). p.pool.held) c.self.view_is in
-    let as_many : length pool.held ≡ pool.geometry.buckets =
-    ap length (sym same) ∙ c.self.invariant.0.flags ∙ ap (λ (p : CountedPool). p.pool.geometry.buckets) c.self.view_is in
+    let buckets = ap (λ (p : CountedPool). p.pool.geometry.buckets) c.self.view_is in
+    let as_many : length pool.held ≡ pool.geometry.buckets = ap length (sym same) ∙ c.self.invariant.0.flags ∙ buckets in
     let below : number < length pool.held =
-    omega (arith, as_many, c.count-number-end.ensures.value, ap (λ (p : CountedPool). p.pool.geometry.buckets) c.self.view_is, c.loop-number-test.true) in
+    omega (arith, as_many, c.count-number-end.ensures.value, buckets, c.loop-number-test.true) in
     elim c.if-has.branch [
       | then-has w ↦ record {
         counted = w.held-is ∙ ap (λ (n : ℕ). n + 1) before.counted
