@@ -115,10 +115,7 @@ fn a_pool_gives_buckets() {
     let mut held = Vec::new();
     for _ in 0..8 {
         let chunk = pool.allocate(layout(48, 4)).unwrap();
-        assert_eq!(
-            (chunk.len(), at(chunk, info.start_address).0 % 128),
-            (48, 0)
-        );
+        assert_eq!((chunk.len(), at(chunk, info.start_address).0 % 128), (48, 0));
         assert!(!held.contains(&chunk.cast::<u8>()));
         held.push(chunk.cast());
     }
@@ -141,10 +138,7 @@ fn a_pool_gives_buckets() {
 fn the_first_bucket_is_aligned() {
     let mut region = Region::new();
     let pool = PoolAllocator::over(layout(100, 64), &mut region.0[1..]).unwrap();
-    assert_eq!(
-        (pool.number_of_buckets(), pool.start_address() % 64),
-        (7, 0)
-    );
+    assert_eq!((pool.number_of_buckets(), pool.start_address() % 64), (7, 0));
     let chunk = pool.allocate(layout(100, 64)).unwrap();
     assert_eq!(at(chunk, pool.start_address()).0 % 128, 0);
 }
@@ -183,10 +177,7 @@ fn a_bucket_is_known_by_its_number() {
     let pool = PoolAllocator::over(layout(48, 64), &mut region.0).unwrap();
     for number in 0..16 {
         let place = pool.place_at(number).unwrap();
-        assert_eq!(
-            place.addr().get(),
-            pool.start_address() + 64 * number as usize
-        );
+        assert_eq!(place.addr().get(), pool.start_address() + 64 * number as usize);
         assert_eq!(pool.number_at(place), Some(number));
         // SAFETY: the bucket has more than a byte.
         assert_eq!(pool.number_at(unsafe { place.add(1) }), None);

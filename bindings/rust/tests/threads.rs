@@ -203,10 +203,7 @@ fn what_one_party_holds_is_not_anothers() {
     let kept = mine.allocate(bucket()).unwrap().cast::<u8>();
     assert_eq!((mine.holds(chunk), other.holds(chunk)), (true, false));
     let number = mine.number_at(chunk).unwrap();
-    assert_eq!(
-        (other.place_at(number), other.place_at(2)),
-        (Some(chunk), None)
-    );
+    assert_eq!((other.place_at(number), other.place_at(2)), (Some(chunk), None));
     let alone = SharedPoolAllocator::over(bucket(), &mut small, 1).unwrap();
     let elsewhere = alone.join().unwrap();
     let there = elsewhere.allocate(bucket()).unwrap().cast::<u8>();
