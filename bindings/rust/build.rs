@@ -56,12 +56,7 @@ fn folder_of(file: &Path, text: &str) -> PathBuf {
         found.unwrap_or_else(|| panic!("{}: no line {name}", file.display()))
     };
     let version = value("Version: ");
-    let minor = concat!(
-        env!("CARGO_PKG_VERSION_MAJOR"),
-        ".",
-        env!("CARGO_PKG_VERSION_MINOR"),
-        "."
-    );
+    let minor = concat!(env!("CARGO_PKG_VERSION_MAJOR"), ".", env!("CARGO_PKG_VERSION_MINOR"), ".");
     assert!(
         version.starts_with(minor),
         "{}: version {version}, but this crate is for {minor}x",

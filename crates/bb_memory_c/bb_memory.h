@@ -36,16 +36,19 @@
 //
 // RULES, which no function tests:
 //
-// - A handle is a variable of the host's, both fields zero before its first use: `bb_pool pool = BB_EMPTY;`. Nothing but these
-//   functions writes it. It may be moved, and then the old copy isn't used. It has one kind, which the functions' types name.
+// - A handle is a variable of the host's, both fields zero before its first use: `bb_pool pool = BB_EMPTY;`. It is passed by its
+//   address, which isn't null. Nothing but these functions writes it. It may be moved, and then the old copy isn't used. It has
+//   one kind, which the functions' types name: a compiler refuses another one, and a caller who casts has to see to it.
 // - One call at a time has a handle; a data race on a handle is undefined behaviour, and may give a chunk twice. Threads that
 //   call at once each use a party of their own, or share a handle under a lock. A handle may go to another thread where a lock,
 //   an atomic, or a thread's start or join orders the two calls. Only `place_at` and `number_at`, which read what `init` or
-//   `join` fixed, may run beside other calls with the handle but `destroy` and `leave`.
+//   `join` fixed, may run beside other calls with the handle but `destroy` and `leave` (examples/c/places.c tries it; the
+//   proofs are of one call at a time).
 // - A call that takes two handles is passed two. A party leaves what it joined, and attaches buckets of its own pool.
 // - No function is called from a signal handler, or in a child that a process of several threads forked.
-// - A region is the host's as long as chunks in it are used. No two allocators have a byte in common, but where one lies in a
-//   chunk of the other, which then serves nothing else.
+// - A region is the host's as long as chunks in it are used, and until then no other allocator is made over it. No two allocators
+//   have a byte in common, but where one lies in a chunk of the other: a pool over a chunk of a bump is meant to work. That chunk
+//   then serves nothing else, and isn't given back before its pool is done with.
 // - `malloc`, `realloc` and `free` come from one allocator, which aligns as C says.
 //
 // No function reads or writes a byte of a region. Chunks that are out lie inside the region, at multiples of the asked alignment,

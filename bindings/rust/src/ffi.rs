@@ -10,10 +10,7 @@ pub struct Handle {
 }
 
 impl Handle {
-    pub const EMPTY: Handle = Handle {
-        at: ptr::null_mut(),
-        made: false,
-    };
+    pub const EMPTY: Handle = Handle { at: ptr::null_mut(), made: false };
 }
 
 /// A code, and with [`OK`] the chunk that was given.

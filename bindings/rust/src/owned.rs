@@ -62,21 +62,14 @@ impl<'region> Owned<'region> {
         let mut handle = Handle::EMPTY;
         // SAFETY: the function is of this kind, no other call has one of the handles, and they are two.
         match unsafe { join(self.handle(), &mut handle) } {
-            ffi::OK => Ok(Owned {
-                handle: UnsafeCell::new(handle),
-                destroy,
-                ..*self
-            }),
+            ffi::OK => Ok(Owned { handle: UnsafeCell::new(handle), destroy, ..*self }),
             code => Err(JoinError::of(code)),
         }
     }
 
     /// Panics where the party is another allocator's.
     pub fn expect_own(&self, party: &Owned<'_>) {
-        assert_eq!(
-            self.number, party.number,
-            "the party is another allocator's"
-        );
+        assert_eq!(self.number, party.number, "the party is another allocator's");
     }
 
     /// Ends a party, with all that it holds. It panics where the party is another allocator's.
@@ -133,9 +126,7 @@ impl<'region> Owned<'region> {
 
 impl fmt::Debug for Owned<'_> {
     fn fmt(&self, f: &mut fmt::Formatter<'_>) -> fmt::Result {
-        f.debug_struct("Owned")
-            .field("start", &self.start)
-            .finish_non_exhaustive()
+        f.debug_struct("Owned").field("start", &self.start).finish_non_exhaustive()
     }
 }
 

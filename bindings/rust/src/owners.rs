@@ -101,14 +101,7 @@ impl OneChunkAllocator<'_> {
         let (handle, place) = (self.owned.handle(), place.as_ptr().cast());
         // SAFETY: as of `holds`: `grow` and `shrink` hand in functions of this kind.
         self.owned.chunk(unsafe {
-            resize(
-                handle,
-                place,
-                old.size(),
-                old.align(),
-                new.size(),
-                new.align(),
-            )
+            resize(handle, place, old.size(), old.align(), new.size(), new.align())
         })
     }
 }

@@ -268,9 +268,7 @@ impl PoolParty<'_> {
         detached.pool = None;
         let (party, from) = (self.owned.handle(), detached.owned.handle());
         // SAFETY: as of `detach`; and the bucket is of the party's pool.
-        let chunk = self
-            .owned
-            .chunk(unsafe { ffi::bb_pool_party_attach(party, from) });
+        let chunk = self.owned.chunk(unsafe { ffi::bb_pool_party_attach(party, from) });
         Some(chunk.unwrap_or_else(|code| no_such_answer(code)))
     }
 }

@@ -17,6 +17,10 @@ impl Region {
     }
 }
 
+fn refuses<T, E: PartialEq + std::fmt::Debug>(told: Result<T, E>, why: E) {
+    assert_eq!(told.err(), Some(why));
+}
+
 fn layout(size: usize, align: usize) -> Layout {
     Layout::from_size_align(size, align).unwrap()
 }
@@ -42,10 +46,8 @@ fn a_bump_gives_one_chunk_behind_another() {
     let info = bump.info();
     assert_eq!((info.used_space, info.free_space), (74, 950));
     assert_eq!(info.total_space, 1024);
-    let refused = bump.allocate(layout(0, 1));
-    assert_eq!(refused, Err(AllocationError::SizeIsZero));
-    let refused = bump.allocate(layout(951, 1));
-    assert_eq!(refused, Err(AllocationError::OutOfMemory));
+    refuses(bump.allocate(layout(0, 1)), AllocationError::SizeIsZero);
+    refuses(bump.allocate(layout(951, 1)), AllocationError::OutOfMemory);
     assert!(is_zero(bump.allocate_zeroed(layout(950, 1)).unwrap()));
     // SAFETY: no chunk is used again.
     unsafe { bump.deallocate(first.cast(), layout(48, 4)) };
@@ -70,36 +72,42 @@ fn one_chunk_is_out_at_a_time() {
     let mut region = Region::new();
     let one = OneChunkAllocator::over(&mut region.0[1..]).unwrap();
     assert_eq!((one.size(), one.has_chunk_available()), (1023, true));
-    let refused = one.allocate(layout(1023, 4));
-    assert_eq!(refused, Err(AllocationError::OutOfMemory));
+    refuses(one.allocate(layout(1023, 4)), AllocationError::OutOfMemory);
     let chunk = one.allocate(layout(48, 4)).unwrap();
     let place = chunk.cast::<u8>();
     assert_eq!(at(chunk, one.start_address()), (3, 1020));
-    let refused = one.allocate(layout(1, 1));
-    assert_eq!(refused, Err(AllocationError::OutOfMemory));
+    refuses(one.allocate(layout(1, 1)), AllocationError::OutOfMemory);
     let wild = place.map_addr(|address| address.checked_add(1).unwrap());
     assert_eq!((one.holds(place), one.holds(wild)), (true, false));
     // SAFETY: the chunk is ours, and nothing else uses it.
     unsafe {
         let shrunk = one.shrink(place, layout(48, 4), layout(32, 4)).unwrap();
         assert_eq!(shrunk.len(), 32);
-        let refused = one.shrink(place, layout(1021, 4), layout(1, 1));
-        assert_eq!(refused, Err(AllocationShrinkError::LayoutMismatch));
-        let refused = one.shrink(place, layout(1, 1), layout(1, 1));
-        assert_eq!(refused, Err(AllocationShrinkError::ShrinkWouldGrow));
+        refuses(
+            one.shrink(place, layout(1021, 4), layout(1, 1)),
+            AllocationShrinkError::LayoutMismatch,
+        );
+        refuses(
+            one.shrink(place, layout(1, 1), layout(1, 1)),
+            AllocationShrinkError::ShrinkWouldGrow,
+        );
         let grown = one.grow_zeroed(place, layout(0, 1), layout(64, 1)).unwrap();
         assert!(grown.len() == 1020 && is_zero(grown));
-        let refused = one.grow(place, layout(64, 4), layout(64, 4));
-        assert_eq!(refused, Err(AllocationGrowError::GrowWouldShrink));
-        let refused = one.grow(place, layout(64, 4), layout(1021, 4));
-        assert_eq!(refused, Err(AllocationGrowError::OutOfMemory));
-        let refused = one.grow(place, layout(64, 4), layout(96, 8));
-        assert_eq!(refused, Err(AllocationGrowError::AlignmentFailure));
-        let refused = one.grow(place, layout(64, 1 << 40), layout(65, 4));
-        assert_eq!(refused, Err(AllocationGrowError::LayoutMismatch));
-        let refused = one.grow(wild, layout(1, 1), layout(2, 1));
-        assert_eq!(refused, Err(AllocationGrowError::NotHeld));
-        assert_eq!(one.try_deallocate(wild), Err(DeallocationError::NotHeld));
+        refuses(
+            one.grow(place, layout(64, 4), layout(64, 4)),
+            AllocationGrowError::GrowWouldShrink,
+        );
+        refuses(one.grow(place, layout(64, 4), layout(1021, 4)), AllocationGrowError::OutOfMemory);
+        refuses(
+            one.grow(place, layout(64, 4), layout(96, 8)),
+            AllocationGrowError::AlignmentFailure,
+        );
+        refuses(
+            one.grow(place, layout(64, 1 << 40), layout(65, 4)),
+            AllocationGrowError::LayoutMismatch,
+        );
+        refuses(one.grow(wild, layout(1, 1), layout(2, 1)), AllocationGrowError::NotHeld);
+        refuses(one.try_deallocate(wild), DeallocationError::NotHeld);
         assert_eq!(one.try_deallocate(place), Ok(()));
     }
     assert!(one.has_chunk_available());
@@ -115,19 +123,13 @@ fn a_pool_gives_buckets() {
     let mut held = Vec::new();
     for _ in 0..8 {
         let chunk = pool.allocate(layout(48, 4)).unwrap();
-        assert_eq!(
-            (chunk.len(), at(chunk, info.start_address).0 % 128),
-            (48, 0)
-        );
+        assert_eq!((chunk.len(), at(chunk, info.start_address).0 % 128), (48, 0));
         assert!(!held.contains(&chunk.cast::<u8>()));
         held.push(chunk.cast());
     }
-    let refused = pool.allocate(layout(0, 1));
-    assert_eq!(refused, Err(AllocationError::OutOfMemory));
-    let refused = pool.allocate(layout(129, 8));
-    assert_eq!(refused, Err(AllocationError::SizeTooLarge));
-    let refused = pool.allocate(layout(1, 16));
-    assert_eq!(refused, Err(AllocationError::AlignmentFailure));
+    refuses(pool.allocate(layout(0, 1)), AllocationError::OutOfMemory);
+    refuses(pool.allocate(layout(129, 8)), AllocationError::SizeTooLarge);
+    refuses(pool.allocate(layout(1, 16)), AllocationError::AlignmentFailure);
     // SAFETY: the bucket is ours, and is not used once it is given back. A second return does nothing.
     unsafe {
         pool.deallocate(held[3], layout(0, 1));
@@ -141,10 +143,7 @@ fn a_pool_gives_buckets() {
 fn the_first_bucket_is_aligned() {
     let mut region = Region::new();
     let pool = PoolAllocator::over(layout(100, 64), &mut region.0[1..]).unwrap();
-    assert_eq!(
-        (pool.number_of_buckets(), pool.start_address() % 64),
-        (7, 0)
-    );
+    assert_eq!((pool.number_of_buckets(), pool.start_address() % 64), (7, 0));
     let chunk = pool.allocate(layout(100, 64)).unwrap();
     assert_eq!(at(chunk, pool.start_address()).0 % 128, 0);
 }
@@ -164,14 +163,11 @@ fn a_pool_lies_in_a_chunk_of_a_bump() {
 #[test]
 fn what_cannot_be_is_refused() {
     let mut region = Region::new();
-    let made = PoolAllocator::over(layout(0, 8), &mut region.0);
-    assert_eq!(made.err(), Some(InitError::InvalidArgument));
-    let made = PoolAllocator::over(layout(1025, 1), &mut region.0);
-    assert_eq!(made.err(), Some(InitError::NoBucket));
+    refuses(PoolAllocator::over(layout(0, 8), &mut region.0), InitError::InvalidArgument);
+    refuses(PoolAllocator::over(layout(1025, 1), &mut region.0), InitError::NoBucket);
     let start = NonNull::from(&mut region.0).cast();
     // SAFETY: nothing is made, since such a region would end behind the last address.
-    let made = unsafe { BumpAllocator::new(start, usize::MAX) };
-    assert_eq!(made.err(), Some(InitError::InvalidArgument));
+    refuses(unsafe { BumpAllocator::new(start, usize::MAX) }, InitError::InvalidArgument);
     assert_eq!(InitError::MallocRefused.to_string(), "malloc refused");
     let one = OneChunkAllocator::over(&mut region.0).unwrap();
     assert!(format!("{one:?}").starts_with("OneChunkAllocator"));
@@ -183,10 +179,7 @@ fn a_bucket_is_known_by_its_number() {
     let pool = PoolAllocator::over(layout(48, 64), &mut region.0).unwrap();
     for number in 0..16 {
         let place = pool.place_at(number).unwrap();
-        assert_eq!(
-            place.addr().get(),
-            pool.start_address() + 64 * number as usize
-        );
+        assert_eq!(place.addr().get(), pool.start_address() + 64 * number as usize);
         assert_eq!(pool.number_at(place), Some(number));
         // SAFETY: the bucket has more than a byte.
         assert_eq!(pool.number_at(unsafe { place.add(1) }), None);

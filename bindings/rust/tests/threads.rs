@@ -11,6 +11,10 @@ use std::thread;
 const THREADS: u32 = 4;
 const ROUNDS: u64 = 20_000;
 
+fn refuses<T, E: PartialEq + std::fmt::Debug>(told: Result<T, E>, why: E) {
+    assert_eq!(told.err(), Some(why));
+}
+
 fn bucket() -> Layout {
     Layout::from_size_align(64, 8).unwrap()
 }
@@ -33,8 +37,7 @@ fn use_pool(party: &PoolParty<'_>, number: u32) {
             chunk.write(pattern);
             assert_eq!(chunk.read(), pattern);
             assert_eq!(party.try_deallocate(chunk.cast()), Ok(()));
-            let again = party.try_deallocate(chunk.cast());
-            assert_eq!(again, Err(DeallocationError::NotHeld));
+            refuses(party.try_deallocate(chunk.cast()), DeallocationError::NotHeld);
         }
         taken += 1;
     }
@@ -45,7 +48,7 @@ fn no_bucket_has_two_holders() {
     let mut region = Box::new_uninit_slice(64 * 3 + 7);
     let pool = SharedPoolAllocator::over(bucket(), &mut region, THREADS).unwrap();
     let parties: Vec<PoolParty<'_>> = (0..THREADS).map(|_| pool.join().unwrap()).collect();
-    assert_eq!(pool.join().err(), Some(JoinError::NoParty));
+    refuses(pool.join(), JoinError::NoParty);
     assert_eq!(parties[0].number_of_buckets(), 3);
     drop(pool);
     thread::scope(|scope| {
@@ -76,7 +79,7 @@ fn every_byte_of_a_shared_bump_is_given_once() {
     // SAFETY: the region is this function's, and used through chunks alone.
     let bump = unsafe { SharedBumpAllocator::new(start, 640_000, THREADS) }.unwrap();
     let parties: Vec<BumpParty<'_>> = (0..THREADS).map(|_| bump.join().unwrap()).collect();
-    assert_eq!(bump.join().err(), Some(JoinError::NoParty));
+    refuses(bump.join(), JoinError::NoParty);
     let given: usize = thread::scope(|scope| {
         let started = (1..).zip(parties);
         let started = started.map(|(number, party)| scope.spawn(move || use_bump(&party, number)));
@@ -95,16 +98,16 @@ fn a_shared_bump_is_reset_when_each_party_has_left() {
     assert_eq!(other.info().free_space, 0);
     // SAFETY: no chunk is used, here and below.
     let reset = || unsafe { bump.reset() };
-    assert_eq!(reset(), Err(ResetError::PartiesJoined));
+    refuses(reset(), ResetError::PartiesJoined);
     bump.leave(other);
-    assert_eq!(reset(), Err(ResetError::PartiesJoined));
+    refuses(reset(), ResetError::PartiesJoined);
     bump.leave(one);
     assert_eq!(reset(), Ok(()));
     let party = bump.join().unwrap();
     assert_eq!((party.used_space(), party.total_space()), (0, 64));
     // A dropped party doesn't come back.
     drop(party);
-    assert_eq!(reset(), Err(ResetError::PartiesJoined));
+    refuses(reset(), ResetError::PartiesJoined);
 }
 
 #[test]
@@ -133,7 +136,7 @@ fn a_party_leaves_with_what_it_holds() {
     assert_eq!(unsafe { kept.try_deallocate(chunk) }, Ok(()));
     assert!(pool.leave(kept).is_ok());
     let _parties = (pool.join().unwrap(), pool.join().unwrap());
-    assert_eq!(pool.join().err(), Some(JoinError::NoParty));
+    refuses(pool.join(), JoinError::NoParty);
 }
 
 #[test]
@@ -203,30 +206,22 @@ fn what_one_party_holds_is_not_anothers() {
     let kept = mine.allocate(bucket()).unwrap().cast::<u8>();
     assert_eq!((mine.holds(chunk), other.holds(chunk)), (true, false));
     let number = mine.number_at(chunk).unwrap();
-    assert_eq!(
-        (other.place_at(number), other.place_at(2)),
-        (Some(chunk), None)
-    );
+    assert_eq!((other.place_at(number), other.place_at(2)), (Some(chunk), None));
     let alone = SharedPoolAllocator::over(bucket(), &mut small, 1).unwrap();
     let elsewhere = alone.join().unwrap();
     let there = elsewhere.allocate(bucket()).unwrap().cast::<u8>();
     // SAFETY: no chunk is used.
     unsafe {
-        let refused = elsewhere.detach(there, 64, &mut detached);
-        assert_eq!(refused, Err(DetachError::OneParty));
-        let refused = other.detach(chunk, 64, &mut detached);
-        assert_eq!(refused, Err(DetachError::NotHeld));
-        let refused = mine.detach(chunk, 65, &mut detached);
-        assert_eq!(refused, Err(DetachError::SizeTooLarge));
+        refuses(elsewhere.detach(there, 64, &mut detached), DetachError::OneParty);
+        refuses(other.detach(chunk, 64, &mut detached), DetachError::NotHeld);
+        refuses(mine.detach(chunk, 65, &mut detached), DetachError::SizeTooLarge);
         assert_eq!(mine.detach(chunk, 64, &mut detached), Ok(()));
-        let refused = mine.detach(kept, 64, &mut detached);
-        assert_eq!(refused, Err(DetachError::DetachedFull));
-        assert_eq!(mine.try_deallocate(chunk), Err(DeallocationError::NotHeld));
-        let refused = other.allocate(bucket());
-        assert_eq!(refused, Err(AllocationError::OutOfMemory));
+        refuses(mine.detach(kept, 64, &mut detached), DetachError::DetachedFull);
+        refuses(mine.try_deallocate(chunk), DeallocationError::NotHeld);
+        refuses(other.allocate(bucket()), AllocationError::OutOfMemory);
         let taken = other.attach(&mut detached).unwrap();
         assert_eq!((taken.cast(), taken.len()), (chunk, 64));
-        assert_eq!(mine.try_deallocate(chunk), Err(DeallocationError::NotHeld));
+        refuses(mine.try_deallocate(chunk), DeallocationError::NotHeld);
         assert_eq!(other.try_deallocate(chunk), Ok(()));
     }
 }
@@ -247,8 +242,6 @@ fn a_bucket_is_not_attached_at_another_pool() {
 #[test]
 fn nothing_is_made_for_no_party() {
     let mut region = Box::new_uninit_slice(64);
-    let made = SharedBumpAllocator::over(&mut region, 0);
-    assert_eq!(made.err(), Some(InitError::InvalidArgument));
-    let made = SharedPoolAllocator::over(bucket(), &mut region, 0);
-    assert_eq!(made.err(), Some(InitError::InvalidArgument));
+    refuses(SharedBumpAllocator::over(&mut region, 0), InitError::InvalidArgument);
+    refuses(SharedPoolAllocator::over(bucket(), &mut region, 0), InitError::InvalidArgument);
 }

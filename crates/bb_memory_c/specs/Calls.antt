@@ -130,18 +130,22 @@ pub record AnswersFree {X : Type 0} (old new : Option X) (code : ℕ) : Type 0 w
 
 -- WHAT THREADS SHARE: `with_party` is it with one more party that hasn't joined, and `at` says of a party that it has joined it
 
--- The last party that hasn't joined joins, behind another handle that is empty, where one is left and memory isn't refused.
+-- The last party that hasn't joined joins, if one is left and memory isn't refused; `party` is what is behind its handle then.
+pub record TellsJoin {X Y : Type 0} (made after : X) (party : Option Y) (code : ℕ) (left : X → ℕ) (with_party : X → Y → X)
+    (at : X → Y → Type 0) : Type 0 where
+  pub joins : code ≡ ok → (joined : Y) × (party ≡ Some joined) × (made ≡ with_party after joined) × at after joined
+  pub none_left : (code ≡ no_party) ↔ (left made ≡ 0)
+  pub else_memory : code ≢ ok → code ≢ no_party → code ≡ malloc_refused
+  pub still : code ≢ ok → (after ≡ made) × (party ≡ None)
+
+-- The party's handle has to be empty.
 pub record AnswersJoin {X Y : Type 0} (old new : Option X) (old_party new_party : Option Y) (code : ℕ) (left : X → ℕ)
     (with_party : X → Y → X) (at : X → Y → Type 0) : Type 0 where
-  pub joins : IfSome old (λ made. code ≡ ok → (after : X) × (party : Y)
-      × (made ≡ with_party after party) × at after party × (new ≡ Some after) × (new_party ≡ Some party))
-  pub held_one : (code ≡ already_initialized) ↔ (old_party ≢ None)
-  pub empty : (code ≡ uninitialized) ↔ ((old_party ≡ None) × (old ≡ None))
-  pub none_left : IfSome old (λ made. (code ≡ no_party) ↔ ((old_party ≡ None) × (left made ≡ 0)))
-  pub else_memory : code ≢ ok → code ≢ already_initialized → code ≢ uninitialized → code ≢ no_party → code ≡ malloc_refused
-  pub still : code ≢ ok → (new ≡ old) × (new_party ≡ old_party)
+  pub held_one : old_party ≢ None → (code ≡ already_initialized) × (new ≡ old) × (new_party ≡ old_party)
+  pub joins : old_party ≡ None → Answers old new ((code ≡ uninitialized) × (new_party ≡ None))
+      (λ made after. TellsJoin made after new_party code left with_party at)
 
--- The last party that hasn't joined joins, if one is left and memory isn't refused.
+-- The same as a result.
 pub record TakesParty {X Y : Type 0} (old new : X) (told : Result Y ℕ) (left : X → ℕ) (with_party : X → Y → X)
     (at : X → Y → Type 0) : Type 0 where
   pub joins : IfOk told (λ party. (old ≡ with_party new party) × at new party)

@@ -1,9 +1,9 @@
 -- A shared bump and its parties behind handles, and what C is told.
-use Rattle.std.specs.Prelude.{◌≡◌, ◌≢◌, ◌<◌, ◌≤◌, ◌↔◌, ℕ, Option, Some, None, IfSome}
+use Rattle.std.specs.Prelude.{◌≡◌, ◌≢◌, ◌<◌, ◌≤◌, ◌↔◌, ℕ, Option, Some}
 use Rattle.bb_memory_base.specs.Region.{Region, IsRegion}
 use Rattle.bb_memory.specs.SharedBump.{BumpParty, load_entry, seen_by, with_entries}
 use Rattle.bb_memory_c.specs.declared.answer.BumpInfo.{BumpInfo}
-use Rattle.bb_memory_c.specs.Codes.{ok, malloc_refused, uninitialized, parties_joined}
+use Rattle.bb_memory_c.specs.Codes.{ok, malloc_refused, parties_joined}
 use Rattle.bb_memory_c.specs.Infos.{bump_info}
 use Rattle.bb_memory_c.specs.Parties.{left_at}
 use Rattle.bb_memory_c.specs.SharedBumps.{AreFreshOver, BumpParties}
@@ -29,9 +29,8 @@ ShowsLoad party info after =
     (used : ℕ) × (info ≡ bump_info party.allocator.scene.region used) × Loads party used after
 
 -- The bump starts again over its region with as many parties, where each has left and memory isn't refused.
-pub record AnswersReset (old new : Option BumpParties) (code : ℕ) : Type 0 where
-  pub begun : IfSome old (λ all. code ≡ ok → MakesSharedBump all.shared.scene.region all.shared.scene.parties new)
-  pub empty : (code ≡ uninitialized) ↔ (old ≡ None)
-  pub out : IfSome old (λ all. (code ≡ parties_joined) ↔ (left_at all < all.shared.scene.parties))
-  pub else_memory : code ≢ ok → code ≢ uninitialized → code ≢ parties_joined → code ≡ malloc_refused
-  pub still : code ≢ ok → new ≡ old
+pub record TellsReset (all after : BumpParties) (code : ℕ) : Type 0 where
+  pub begun : code ≡ ok → AreFreshOver all.shared.scene.region all.shared.scene.parties after
+  pub out : (code ≡ parties_joined) ↔ (left_at all < all.shared.scene.parties)
+  pub else_memory : code ≢ ok → code ≢ parties_joined → code ≡ malloc_refused
+  pub still : code ≢ ok → after ≡ all

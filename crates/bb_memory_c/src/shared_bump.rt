@@ -2,10 +2,11 @@
 ghost use Rattle.std.specs.Prelude.{◌≡◌, ◌<◌, ◌↔◌, IfSome, IsTrue, Some};
 ghost use Rattle.bb_memory_base.specs.Region.{region_at};
 ghost use Rattle.bb_memory.specs.SharedBump.{MayTake};
-ghost use Rattle.bb_memory_c.specs.Calls.{AnswersFree, AnswersInfo, AnswersJoin, AnswersLeave, AnswersMake};
+ghost use Rattle.bb_memory_c.specs.Calls.{Answers, AnswersFree, AnswersInfo, AnswersJoin, AnswersLeave, AnswersMake};
 ghost use Rattle.bb_memory_c.specs.Calls.{AnswersRequest, IfBoth};
+ghost use Rattle.bb_memory_c.specs.Codes.{uninitialized};
 ghost use Rattle.bb_memory_c.specs.Parties.{with_party, left_at};
-ghost use Rattle.bb_memory_c.specs.SharedBumpHandles.{AnswersReset, IsShareable, MakesSharedBump, ShowsLoad};
+ghost use Rattle.bb_memory_c.specs.SharedBumpHandles.{IsShareable, MakesSharedBump, ShowsLoad, TellsReset};
 ghost use Rattle.bb_memory_c.specs.SharedBumps.{AreFreshOver, IsAt};
 
 use crate::answer::{Answer, BumpInfo};
@@ -162,7 +163,7 @@ impl Shares<JoinedBump> for BumpParties {
 
 /// Starts again, where each party has left.
 fn reset(all: &mut BumpParties, alloc: Global) -> u32
-    ensures { AnswersReset (Some all.old) (Some all.new) result }
+    ensures { TellsReset all.old all.new result }
 {
     if !all.are_all_back() {
         return code::PARTIES_JOINED;
@@ -239,7 +240,8 @@ pub extern "C" fn bb_shared_bump_leave(
 /// left.
 #[unsafe(no_mangle)]
 pub extern "C" fn bb_shared_bump_reset(alloc: Global, handle: &mut SharedBumpHandle) -> u32
-    ensures { AnswersReset handle.old.value handle.new.value result }
+    ensures { Answers handle.old.value handle.new.value (result ≡ uninitialized) (λ all after.
+        TellsReset all after result) }
 {
     match handle.made_mut() {
         Some(all) => reset(all, alloc),

@@ -1,4 +1,3 @@
--- The handle may go to another thread.
 use denote.Param.Send.{IsSend, owning_send}
 use Rattle.bb_memory.specs.contracts.bump_allocator.BumpAllocator.{the_row as made_row}
 use Rattle.bb_memory.proofs.bump_allocator.BumpAllocator.TheSendSync.{the_send}

@@ -1,4 +1,3 @@
--- The handle may go to another thread.
 use denote.Param.Send.{IsSend, owning_send}
 use Rattle.bb_memory.specs.contracts.one_chunk_allocator.OneChunkAllocator.{the_row as made_row}
 use Rattle.bb_memory.proofs.one_chunk_allocator.OneChunkAllocator.TheSendSync.{the_send}

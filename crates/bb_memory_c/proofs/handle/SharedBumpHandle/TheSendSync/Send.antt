@@ -1,4 +1,3 @@
--- The handle may go to another thread.
 use denote.Param.Send.{IsSend, owning_send}
 use Rattle.bb_memory_c.specs.contracts.shared_bump.BumpParties.{the_row as made_row}
 use Rattle.bb_memory_c.proofs.shared_bump.BumpParties.TheSendSync.{the_send}

@@ -1,4 +1,3 @@
--- What is owned is lent.
 use Rattle.std.proofs.Common.{refl}
 use Rattle.bb_memory_c.proofs.Owners.{shared_bump}
 use Rattle.bb_memory_c.proofs.Looking.{lends}

@@ -1,4 +1,3 @@
--- What is owned is passed on.
 use Rattle.bb_memory_c.proofs.Owners.{held, shared_bump}
 use Rattle.bb_memory_c.proofs.Passing.{passes}
 use Rattle.bb_memory_c.specs.contracts.handle.SharedBumpHandleHandle.of.Key.{name as #self}
