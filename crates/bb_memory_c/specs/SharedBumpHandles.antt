@@ -1,7 +1,7 @@
 -- A shared bump and its parties behind handles, and what C is told.
 use Rattle.std.specs.Prelude.{◌≡◌, ◌≢◌, ◌<◌, ◌≤◌, ◌↔◌, ℕ, Option, Some}
 use Rattle.bb_memory_base.specs.Region.{Region, IsRegion}
-use Rattle.bb_memory.specs.SharedBump.{BumpParty, load_entry, seen_by, with_entries}
+use Rattle.bb_memory.specs.SharedBump.{BumpParty, HasLoaded}
 use Rattle.bb_memory_c.specs.declared.answer.BumpInfo.{BumpInfo}
 use Rattle.bb_memory_c.specs.Codes.{ok, malloc_refused, parties_joined}
 use Rattle.bb_memory_c.specs.Infos.{bump_info}
@@ -17,16 +17,10 @@ pub record IsShareable (region : Region) (parties : ℕ) : Type 0 where
 abbrev pub MakesSharedBump : Region → ℕ → Option BumpParties → Type 0
 MakesSharedBump region parties new = (all : BumpParties) × (new ≡ Some all) × AreFreshOver region parties all
 
--- the party has made one load, which found this many bytes used: at least what it has seen, and at most the region's size
-pub record Loads (party : BumpParty) (used : ℕ) (after : BumpParty) : Type 0 where
-  pub logged : after ≡ with_entries party (load_entry party.number used)
-  pub seen : seen_by party ≤ used
-  pub within : used ≤ party.allocator.scene.region.size
-
 -- its figures are shown by what one load found, and the handle stands for what the party is then
 abbrev pub ShowsLoad : BumpParty → BumpInfo → BumpParty → Type 0
 ShowsLoad party info after =
-    (used : ℕ) × (info ≡ bump_info party.allocator.scene.region used) × Loads party used after
+    (used : ℕ) × (info ≡ bump_info party.allocator.scene.region used) × HasLoaded party.allocator party used after
 
 -- The bump starts again over its region with as many parties, where each has left and memory isn't refused.
 pub record TellsReset (all after : BumpParties) (code : ℕ) : Type 0 where
