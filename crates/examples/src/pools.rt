@@ -87,7 +87,7 @@ pub fn back_if_held(pool: &mut FixedSizePoolAllocator<16>) -> Result<(), Allocat
 
 /// Takes two more buckets, of which each may be refused. Whatever was held still is.
 fn two_more(pool: &mut FixedSizePoolAllocator<16>, layout: Layout) -> (bool, bool)
-    ensures { (place : ℕ) → HoldsPlace pool.old place → HoldsPlace pool.new place }
+    ensures { (place : ℕ) → HoldsPlace pool.old.pool place → HoldsPlace pool.new.pool place }
 {
     (pool.allocate(layout).is_ok(), pool.allocate(layout).is_ok())
 }
@@ -98,9 +98,9 @@ fn one_more(
     layout: Layout,
     out: usize,
 ) -> Result<Chunk, AllocationError>
-    requires { HoldsPlace pool.old out }
-    ensures out { HoldsPlace pool.new out }
-    ensures given { IfOk result (λ chunk. HoldsPlace pool.new chunk.place) }
+    requires { HoldsPlace pool.old.pool out }
+    ensures out { HoldsPlace pool.new.pool out }
+    ensures given { IfOk result (λ chunk. HoldsPlace pool.new.pool chunk.place) }
     ensures differ { IfOk result (λ chunk. chunk.place ≢ out) }
 {
     pool.allocate(layout)
@@ -108,8 +108,8 @@ fn one_more(
 
 /// Gives two places back, one after the other.
 fn give_two(pool: &mut FixedSizePoolAllocator<16>, one: usize, other: usize)
-    requires one { HoldsPlace pool.old one }
-    requires other { HoldsPlace pool.old other }
+    requires one { HoldsPlace pool.old.pool one }
+    requires other { HoldsPlace pool.old.pool other }
     requires differ { one ≢ other }
 {
     pool.deallocate(one, Layout::empty());
