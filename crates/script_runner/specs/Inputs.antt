@@ -1,8 +1,13 @@
 -- What is written of an input.
-use Rattle.std.specs.Prelude.{ℕ, ◌≡◌, ◌-◌, ◌⊎◌, List, ◌∷◌, All, Option, IfSome, take}
+use Rattle.std.specs.Prelude.{ℕ, ◌≡◌, ◌≢◌, ◌-◌, ◌⊎◌, List, ◌∷◌, All, Option, IfSome, take}
+use Rattle.std.specs.Io.KnownBytes.{Keeps, Appends}
 use Rattle.script_runner.specs.AllKinds.{kinds}
+use Rattle.script_runner.specs.Status.{IsCutShort}
+use Rattle.script_runner.specs.declared.status.Status.{Status}
+use Rattle.script_runner.specs.declared.status.Status.TheVariants.{Done, Unreadable, InputFailed}
 use Rattle.script_runner.specs.engine.Lines.{lines_of}
-use Rattle.script_runner.specs.engine.Rules.{Kind, SomeOf, header_line}
+use Rattle.script_runner.specs.Words.{MayStand, words_text}
+use Rattle.script_runner.specs.engine.Rules.{Kind, SomeOf, header_words}
 use Rattle.script_runner.specs.engine.Sending.{Begins}
 use Rattle.script_runner.specs.engine.Transcript.{IsTranscript, IsBegunTranscript, IsLineText, unreadable_text}
 
@@ -12,7 +17,8 @@ use Rattle.script_runner.specs.engine.Transcript.{IsTranscript, IsBegunTranscrip
 pub record HasHeader (kind : Kind) (lines : List (List ℕ))
     (header : kind.Header) (rest : List (List ℕ)) : Type 0 where
   pub allowed : kind.rules.is_header header
-  pub cut : lines ≡ header_line kind.rules header ∷ rest
+  pub stand : MayStand (header_words kind.rules header)
+  pub cut : lines ≡ words_text (header_words kind.rules header) ∷ rest
 
 -- the first line is of this kind
 abbrev pub HasHeaderOf : List (List ℕ) → Kind → Type 0
@@ -53,6 +59,15 @@ abbrev pub BeginsOutputOf : List Kind → List (List ℕ) → List ℕ → Type 
 BeginsOutputOf table lines sent =
     SomeOf table (IsBegunBy lines sent)
     ⊎ ((number : ℕ) × IsUnreadableAt table lines number × Begins sent (unreadable_text number))
+
+-- how a run on the lines ends, and what it writes
+pub record Ends (table : List Kind) (lines : List (List ℕ)) (old new : Option (List ℕ)) (status : Status) : Type 0 where
+  pub done : status ≡ Done → (text : List ℕ) × SomeOf table (IsAnsweredBy lines text) × Appends old new text
+  pub unreadable : status ≡ Unreadable
+      → (number : ℕ) × IsUnreadableAt table lines number × Appends old new (unreadable_text number)
+  pub cut_short : IsCutShort status
+      → Keeps old new ⊎ ((sent : List ℕ) × BeginsOutputOf table lines sent × Appends old new sent)
+  pub input_read : status ≢ InputFailed
 
 -- OF AN INPUT
 

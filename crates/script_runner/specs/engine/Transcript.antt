@@ -1,7 +1,12 @@
 -- What a run writes.
-use Rattle.std.specs.Prelude.{ℕ, ◌≡◌, ◌+◌, ◌⊎◌, List, [], ◌∷◌, ◌++◌, All, codes, map, take}
-use Rattle.std.specs.Fmt.{decimal}
+use Rattle.std.specs.Prelude.{ℕ, ◌≡◌, ◌≢◌, ◌+◌, ◌⊎◌, List, [], ◌∷◌, ◌++◌, All, Option, codes, map, take}
+use Rattle.std.specs.Io.KnownBytes.{Keeps, Appends}
 use Rattle.std.specs.List.{flat_map}
+use Rattle.script_runner.specs.Status.{IsCutShort}
+use Rattle.script_runner.specs.declared.status.Status.{Status}
+use Rattle.script_runner.specs.declared.status.Status.TheVariants.{Done, Unreadable, InputFailed}
+use Rattle.script_runner.specs.Words.{words, words_text}
+use Rattle.script_runner.specs.declared.words.Numbers.TheVariants.{One}
 use Rattle.script_runner.specs.engine.Script.{Batches}
 use Rattle.script_runner.specs.engine.Sending.{Begins}
 use Rattle.script_runner.specs.engine.Rules.{Rules, IsLine, line_text}
@@ -62,7 +67,7 @@ IsLaterUnreadable rules rest number =
 
 -- what is written of the first unreadable line, a line feed included
 abbrev pub unreadable_text : ℕ → List ℕ
-unreadable_text number = codes "line " ++ (decimal number ++ codes ": refused\n")
+unreadable_text number = words_text (words (codes "line") (One number)) ++ codes ": refused\n"
 
 -- the bytes begin what is written of the first unreadable line
 abbrev pub IsBegunLaterUnreadable : {S O C R : Type 0} → Rules S O C R
@@ -75,3 +80,13 @@ abbrev pub BeginsLaterOutput : {S O C R : Type 0} → Rules S O C R → O
     → List (List ℕ) → List ℕ → Type 0
 BeginsLaterOutput rules header rest sent =
     IsBegunTranscript rules header rest sent ⊎ IsBegunLaterUnreadable rules rest sent
+
+-- how a run on the lines behind a first line of this header ends, and what it writes
+pub record EndsLater {S O C R : Type 0} (rules : Rules S O C R) (header : O) (lines : List (List ℕ))
+    (old new : Option (List ℕ)) (status : Status) : Type 0 where
+  pub done : status ≡ Done → (text : List ℕ) × IsTranscript rules header lines text × Appends old new text
+  pub unreadable : status ≡ Unreadable
+      → (number : ℕ) × IsLaterUnreadable rules lines number × Appends old new (unreadable_text number)
+  pub cut_short : IsCutShort status
+      → Keeps old new ⊎ ((sent : List ℕ) × BeginsLaterOutput rules header lines sent × Appends old new sent)
+  pub input_read : status ≢ InputFailed

@@ -1,6 +1,5 @@
 -- Scripts that take the steps of a pool machine.
 use Rattle.std.specs.Prelude.{ℕ, ◌≡◌, List, [], ◌++◌, ◌^◌, ◌<◌, ◌≤◌, codes, Option, Some, None, true}
-use Rattle.std.specs.Fmt.{decimal}
 use Rattle.std.specs.List.{flat_map}
 use Rattle.bb_memory_base.specs.PoolMachine.{holder_in}
 use Rattle.bb_memory_base.specs.PoolWorld.{PoolWorld, opened, outcomes_of, after_steps}
@@ -10,54 +9,31 @@ use Rattle.bb_memory_base.specs.declared.steps.pool.PoolOutcome.TheVariants as o
 use Rattle.bb_memory_base.specs.declared.steps.pool.PoolStep.{PoolStep}
 use Rattle.bb_memory_base.specs.declared.steps.pool.PoolStep.TheVariants.{Try, GiveBack, TryAt, Detach, Attach}
 use Rattle.script_runner.specs.engine.Rules.{Rules}
-use Rattle.script_runner.specs.Fields.{parties, IsParty}
+use Rattle.script_runner.specs.Words.{Words, words, words_text, parties, IsParty}
+use Rattle.script_runner.specs.declared.words.Numbers.TheVariants.{Zero, One, Two}
 
--- LINES
-
--- a number of buckets that a script may ask for
-abbrev pub IsBucketCount : ℕ → Type 0
-IsBucketCount count = count ≤ 4096
-
--- a number that may name a bucket
-abbrev pub IsBucket : ℕ → Type 0
-IsBucket bucket = bucket < 2 ^ 32
-
--- one of the parties, and a number that may name a bucket
-abbrev pub IsGiving : ℕ → ℕ → Type 0
-IsGiving party bucket = IsParty party × IsBucket bucket
-
--- its party is one of the parties, and its bucket's number may name one
+-- its party is one of the parties, and its bucket's number has at most 32 bits
 abbrev pub IsStep : PoolStep → Type 0
 IsStep (Try party) = IsParty party
-IsStep (GiveBack party bucket) = IsGiving party bucket
+IsStep (GiveBack party bucket) = IsParty party × (bucket < 2 ^ 32)
 -- no line writes these steps
 IsStep (TryAt party bucket) = ⊥
 IsStep (Detach party bucket) = ⊥
 IsStep (Attach party bucket) = ⊥
 
--- `PARTY BUCKET`
-abbrev pub giving_text : ℕ → ℕ → List ℕ
-giving_text party bucket = decimal party ++ (codes " " ++ decimal bucket)
-
-abbrev pub try_line : ℕ → List ℕ
-try_line party = codes "try " ++ decimal party
-
-abbrev pub give_line : ℕ → ℕ → List ℕ
-give_line party bucket = codes "give " ++ giving_text party bucket
-
--- the line that writes a step
-abbrev pub step_line : PoolStep → List ℕ
-step_line (Try party) = try_line party
-step_line (GiveBack party bucket) = give_line party bucket
-step_line (TryAt party bucket) = []
-step_line (Detach party bucket) = []
-step_line (Attach party bucket) = []
+-- the words that write a step
+abbrev pub step_words : PoolStep → Words
+step_words (Try party) = words (codes "try") (One party)
+step_words (GiveBack party bucket) = words (codes "give") (Two party bucket)
+step_words (TryAt party bucket) = words [] Zero
+step_words (Detach party bucket) = words [] Zero
+step_words (Attach party bucket) = words [] Zero
 
 -- REPLIES
 
 -- the number of a bucket's holder, or a dash where no party holds it
 abbrev pub holder_text : Option ℕ → List ℕ
-holder_text (Some party) = codes " " ++ decimal party
+holder_text (Some party) = words_text (words [] (One party))
 holder_text None = codes " -"
 
 -- the holder that a flag names, or a dash
@@ -68,17 +44,20 @@ flag_text flag = holder_text (holder_in flag)
 abbrev pub held_line : List Flag → List ℕ
 held_line flags = codes "held" ++ (flat_map flag_text flags ++ codes "\n")
 
+-- a name and a bucket, and then the rest of the line
+abbrev pub bucket_line : List ℕ → ℕ → List ℕ → List ℕ
+bucket_line name bucket rest = words_text (words name (One bucket)) ++ rest
+
 -- the line of an outcome
 abbrev pub outcome_line : PoolOutcome → List ℕ
-outcome_line (outcome.Takes bucket) = codes "takes " ++ (decimal bucket ++ codes "\n")
-outcome_line (outcome.Loses bucket) = codes "loses " ++ (decimal bucket ++ codes "\n")
-outcome_line (outcome.RefusedAtLoss bucket) =
-    codes "loses " ++ (decimal bucket ++ codes " refused OutOfMemory\n")
-outcome_line (outcome.Gives bucket) = codes "gives " ++ (decimal bucket ++ codes "\n")
+outcome_line (outcome.Takes bucket) = bucket_line (codes "takes") bucket (codes "\n")
+outcome_line (outcome.Loses bucket) = bucket_line (codes "loses") bucket (codes "\n")
+outcome_line (outcome.RefusedAtLoss bucket) = bucket_line (codes "loses") bucket (codes " refused OutOfMemory\n")
+outcome_line (outcome.Gives bucket) = bucket_line (codes "gives") bucket (codes "\n")
 outcome_line outcome.Passed = codes "passed\n"
-outcome_line (outcome.Misses bucket) = codes "misses " ++ (decimal bucket ++ codes "\n")
-outcome_line (outcome.Detaches bucket) = codes "detaches " ++ (decimal bucket ++ codes "\n")
-outcome_line (outcome.Attaches bucket) = codes "attaches " ++ (decimal bucket ++ codes "\n")
+outcome_line (outcome.Misses bucket) = bucket_line (codes "misses") bucket (codes "\n")
+outcome_line (outcome.Detaches bucket) = bucket_line (codes "detaches") bucket (codes "\n")
+outcome_line (outcome.Attaches bucket) = bucket_line (codes "attaches") bucket (codes "\n")
 
 -- RUNS
 
@@ -90,10 +69,10 @@ StepsRun old steps outcomes new = (outcomes ≡ outcomes_of old steps) × (new �
 abbrev pub pool_step_rules : Rules PoolWorld ℕ PoolStep PoolOutcome
 pool_step_rules = record {
   name = codes "steps-pool";
-  is_header = IsBucketCount;
-  header_text = decimal;
+  is_header = λ buckets. buckets ≤ 4096;
+  header_numbers = One;
   is_command = IsStep;
-  command_line = step_line;
+  command_words = step_words;
   can_show = true;
   starts = λ buckets world. world ≡ opened buckets parties;
   runs = StepsRun;
