@@ -1,5 +1,6 @@
 -- The words of a line: there is one way only to read them.
-use Rattle.std.proofs.Common.{arith, ◌≡◌, ◌≢◌, ℕ, ◌<◌, ◌^◌, suc, List, [], ◌∷◌, ◌++◌, All, length, drop, take, get_or, ◌+◌, refl, sym, ap, ap₂, ◌∙◌}
+use Rattle.std.proofs.Common.{arith, ◌≡◌, ◌≢◌, ℕ, ◌<◌, ◌^◌, ◌+◌, suc, List, [], ◌∷◌, ◌++◌, All, length, drop, take, get_or}
+use Rattle.std.proofs.Common.{refl, sym, ap, ap₂, ◌∙◌}
 use Rattle.std.specs.Fmt.{decimal}
 use Rattle.std.specs.Str.Parse.{digits_value}
 use Rattle.std.proofs.lemmas.Fmt.{digits_decimal, digits_value-decimal}
@@ -142,11 +143,7 @@ at_most_five (Three a b c) h = omega (arith, h)
 at_most_five (Four a b c d) h = omega (arith, h)
 at_most_five (Five a b c d e) h = omega (arith, h)
 
--- numbers, and one more
-are_more : (ns : List ℕ) (n : ℕ) → AreNumbers ns → n < 2 ^ 64 → AreNumbers (ns ++ n ∷ [])
-are_more [] n h small = (small, tt)
-are_more (m ∷ ns) n h small = (h.0, are_more ns n h.1 small)
-
+-- the text of numbers, and one more
 text_more : (ns after : List ℕ) (n : ℕ) →
     numbers_text (ns ++ n ∷ []) ++ after ≡ numbers_text ns ++ 32 ∷ (decimal n ++ after)
 text_more [] after n = ap (λ l. 32 ∷ (l ++ after)) (append-nil (decimal n))
@@ -165,17 +162,6 @@ numbers_text-take ns index below =
     ap numbers_text (take_more ns index 0 below)
     ∙ (sym (append-nil (numbers_text (before ++ n ∷ [])))
     ∙ (text_more before [] n ∙ ap (λ l. numbers_text before ++ 32 ∷ l) (append-nil (decimal n))))
-
--- a number more of the line is read
-pub so_far-more : (line name ns more field after : List ℕ) (n : ℕ) → SoFar line name ns (32 ∷ (field ++ after))
-    → n < 2 ^ 64 → field ≡ decimal n → more ≡ ns ++ n ∷ [] → StartsWith 32 after → SoFar line name more after
-so_far-more line name ns more field after n so small is longer s =
-    rw longer (record {
-      text = so.text ∙ ap (λ l. name ++ l) (ap (λ f. numbers_text ns ++ 32 ∷ (f ++ after)) is ∙ sym (text_more ns after n));
-      name_is = so.name_is;
-      numbers_are = are_more ns n so.numbers_are small;
-      rest_starts = s;
-    })
 
 -- a rest with a byte is a space and what is behind it
 pub space_first : (rest front after : List ℕ) → StartsWith 32 rest → 0 < length rest → front ++ after ≡ drop 1 rest

@@ -12,7 +12,8 @@ use Rattle.script_runner.specs.kinds.PoolSteps.{flag_text, holder_text}
 
 -- the texts of one flag more
 texts-more : (flags : List Flag) (i : ℕ) → i < length flags
-    → flat_map flag_text (take (i + 1) flags) ≡ flat_map flag_text (take i flags) ++ flag_text (unwrap_or (slice_get flags i) Free)
+    → flat_map flag_text (take (i + 1) flags)
+    ≡ flat_map flag_text (take i flags) ++ flag_text (unwrap_or (slice_get flags i) Free)
 texts-more flags i below =
     rw (
       take_more flags i Free below,

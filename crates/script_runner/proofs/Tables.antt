@@ -1,22 +1,22 @@
 -- Tables of kinds, and which kind a first line has.
-use Rattle.std.proofs.Common.{◌≡◌, ◌-◌, ℕ, zero, suc, true, List, [], ◌∷◌, inl, inr, ◌⊎◌, All, take, not}
+use Rattle.std.proofs.Common.{◌≡◌, ◌-◌, ◌+◌, ℕ, zero, suc, true, List, [], ◌∷◌, inl, inr, ◌⊎◌, All, take, not}
 use Rattle.std.proofs.Common.{Option, Some, None, IfSome, IfNone, refl, sym, ap, subst, arith}
 use Rattle.std.specs.Prelude.{slice_get}
 use Rattle.std.specs.Str.{bytes_eq}
 use Rattle.std.proofs.lemmas.Bool.{and_parts, both_ways, not-true}
 use Rattle.std.proofs.lemmas.Option.{none-some}
 use Rattle.std.proofs.lemmas.Slice.Eq.{bytes_eq-Decides}
-use Rattle.std.specs.Io.KnownBytes.{Appends}
+use Rattle.std.specs.Io.KnownBytes.{Appends, Keeps}
 use Rattle.script_runner.proofs.LineWords.{words_same}
-use Rattle.script_runner.proofs.Telling.{not_done, read_unreadable}
+use Rattle.script_runner.proofs.Telling.{not_done, not_unreadable, read_unreadable, read_done}
 use Rattle.script_runner.specs.Status.{IsCutShort}
-use Rattle.script_runner.specs.declared.status.Status.TheVariants.{Unreadable}
-use Rattle.script_runner.specs.engine.Sending.{AppendsPart}
+use Rattle.script_runner.specs.declared.status.Status.TheVariants.{Done, Unreadable}
+use Rattle.script_runner.specs.engine.Script.{Batches, IsFirstUnreadable}
 use Rattle.script_runner.specs.Words.{Words, MayStand, AreWords, words_text}
 use Rattle.script_runner.specs.engine.Rules.{Rules, Kind, kind, SomeOf, header_words, is_new}
 use Rattle.script_runner.specs.declared.status.Status.{Status}
 use Rattle.script_runner.specs.Inputs.{Ends, HasHeader, HasHeaderOf, IsScriptOf, AreReadable, IsUnreadableAt, BeginsOutputOf}
-use Rattle.script_runner.specs.engine.Transcript.{EndsLater, IsLaterUnreadable, IsLineText, BeginsLaterOutput, unreadable_text}
+use Rattle.script_runner.specs.engine.Transcript.{IsLineText, AreScript, IsPlayed, IsBegun, AppendsPart, unreadable_text}
 
 -- what holds of some kind, in other words
 some-map : (table : List Kind) (P Q : Kind → Type 0) → ((one : Kind) → P one → Q one) → SomeOf table P → SomeOf table Q
@@ -118,59 +118,55 @@ further_unread P (x ∷ xs) zero line got all = let same : x ≡ line = cc in rw
 further_unread P (x ∷ xs) (suc index) line got all =
     further_unread P xs index line got (λ k d below. all (suc k) d (omega (arith, below)))
 
--- behind a first line of a kind that is apart from the others, the kind's first unreadable line is the first
-unreadable_here : {S O C R : Type 0} (rules : Rules S O C R) (others : List Kind) (header : O) (first : Words)
-    (rest : List (List ℕ)) (number : ℕ)
-    → is_new rules.name others ≡ true → MayStand first → rules.is_header header → first ≡ header_words rules header
-    → IsLaterUnreadable rules rest number
-    → IsUnreadableAt (kind rules ∷ others) (words_text first ∷ rest) number
-unreadable_here rules others header first rest number test stand allowed e (index, (before, line, got, unread), is) =
-    let same : number ≡ suc (suc index) = omega (arith, is) in
-    let less : number - 1 ≡ suc index = omega (arith, is) in
-    let text : List ℕ = words_text first in
-    let readable : AreReadable (kind rules ∷ others) (take (suc index) (text ∷ rest)) =
-    inl (
-      header,
-      take index rest,
-      record {
-        allowed = allowed;
-        stand = subst MayStand e stand;
-        cut = ap (λ w. words_text w ∷ take index rest) e;
-      },
-      before,
-    ) in
-    let unreadable : AreReadable (kind rules ∷ others) (take (suc (suc index)) (text ∷ rest)) → ⊥ =
+-- behind a first line of a kind, its first unreadable line is the first
+unreadable_here : {S O C R : Type 0} (rules : Rules S O C R) (header : O) (rest : List (List ℕ)) (index : ℕ)
+    → rules.is_header header → MayStand (header_words rules header) → IsFirstUnreadable (IsLineText rules) rest index
+    → IsUnreadableAt (kind rules ∷ []) (words_text (header_words rules header) ∷ rest) (index + 2)
+unreadable_here rules header rest index allowed stand (before, line, got, unread) =
+    let same : index + 2 ≡ suc (suc index) = omega arith in
+    let less : (index + 2) - 1 ≡ suc index = omega arith in
+    let text : List ℕ = words_text (header_words rules header) in
+    let readable : AreReadable (kind rules ∷ []) (take (suc index) (text ∷ rest)) =
+    inl (header, take index rest, record { allowed = allowed; stand = stand; cut = refl }, before) in
+    let unreadable : AreReadable (kind rules ∷ []) (take (suc (suc index)) (text ∷ rest)) → ⊥ =
     elim [
       | inl (again, after, starts, read) ↦
           let cut : text ∷ take (suc index) rest ≡ words_text (header_words rules again) ∷ after = starts.cut in
           let same_after : after ≡ take (suc index) rest = cc in
           unread (further_unread (IsLineText rules) rest index line got (rw same_after at read))
-      | inr there ↦
-          new_no_header others first rest stand (subst (λ w. is_new w.name others ≡ true) (sym e) test)
-          (some-map others (IsScriptOf (take (suc (suc index)) (text ∷ rest))) (HasHeaderOf (text ∷ rest))
-          (script_header text rest (suc (suc index))) there)
+      | inr none ↦ none
     ] in
     rw (less, same) (inr readable, unreadable)
 
--- the same of what is written of the lines
-begun_here : {S O C R : Type 0} (rules : Rules S O C R) (others : List Kind) (header : O) (first : Words)
-    (rest : List (List ℕ)) (sent : List ℕ)
-    → is_new rules.name others ≡ true → MayStand first → rules.is_header header → first ≡ header_words rules header
-    → BeginsLaterOutput rules header rest sent
-    → BeginsOutputOf (kind rules ∷ others) (words_text first ∷ rest) sent
-begun_here rules others header first rest sent test stand allowed e (inl begun) =
-    inl (inl (
-      header,
-      rest,
-      record {
-        allowed = allowed;
-        stand = subst MayStand e stand;
-        cut = ap (λ w. words_text w ∷ rest) e;
-      },
-      begun,
-    ))
-begun_here rules others header first rest sent test stand allowed e (inr (number, is_unreadable, begins)) =
-    inr (number, unreadable_here rules others header first rest number test stand allowed e is_unreadable, begins)
+-- lines that are readable by one kind are so by more
+early_wider : (one : Kind) (others : List Kind) (lines : List (List ℕ)) (number : ℕ)
+    → (number ≡ 1) ⊎ AreReadable (one ∷ []) lines → (number ≡ 1) ⊎ AreReadable (one ∷ others) lines
+early_wider one others lines number (inl is) = inl is
+early_wider one others lines number (inr (inl here)) = inr (inl here)
+early_wider one others lines number (inr (inr none)) = absurd none
+
+-- which is so too by a table of others with other names
+unreadable_wider : (one : Kind) (others : List Kind) (first : Words) (rest : List (List ℕ)) (number : ℕ) → MayStand first
+    → is_new first.name others ≡ true → IsUnreadableAt (one ∷ []) (words_text first ∷ rest) number
+    → IsUnreadableAt (one ∷ others) (words_text first ∷ rest) number
+unreadable_wider one others first rest number stand test (early, unread) = (
+  early_wider one others _ number early,
+  elim [
+    | inl here ↦ unread (inl here)
+    | inr there ↦
+        new_no_header others first rest stand test
+        (some-map others (IsScriptOf (take number (words_text first ∷ rest))) (HasHeaderOf (words_text first ∷ rest))
+        (script_header (words_text first) rest number) there)
+  ],
+)
+
+begun_wider : (one : Kind) (others : List Kind) (first : Words) (rest : List (List ℕ)) (sent : List ℕ) → MayStand first
+    → is_new first.name others ≡ true → BeginsOutputOf (one ∷ []) (words_text first ∷ rest) sent
+    → BeginsOutputOf (one ∷ others) (words_text first ∷ rest) sent
+begun_wider one others first rest sent stand test (inl (inl begun)) = inl (inl begun)
+begun_wider one others first rest sent stand test (inl (inr none)) = absurd none
+begun_wider one others first rest sent stand test (inr (number, unread, begins)) =
+    inr (number, unreadable_wider one others first rest number stand test unread, begins)
 
 begun_later : (one : Kind) (others : List Kind) (first : List ℕ) (rest : List (List ℕ)) (sent : List ℕ)
     → (HasHeaderOf (first ∷ rest) one → ⊥)
@@ -188,34 +184,86 @@ no_header rules first rest stand each (header, after, starts) =
     let same = header_same (kind rules) first rest header after stand starts in
     none-some header (each header starts.allowed same.0 same.1)
 
--- how a run of a kind on its first line ends, by a table with the kind
-pub ends_here : {S O C R : Type 0} (rules : Rules S O C R) (others : List Kind) (header : O) (first : Words)
-    (rest : List (List ℕ)) (old new : Option (List ℕ)) (status : Status)
-    → is_new rules.name others ≡ true → MayStand first → rules.is_header header → first ≡ header_words rules header
-    → EndsLater rules header rest old new status
-    → Ends (kind rules ∷ others) (words_text first ∷ rest) old new status
-ends_here rules others header first rest old new status test stand allowed e ends = record {
+-- how a run on the lines behind an unreadable line of a kind ends
+pub ends_unreadable : {S O C R : Type 0} (rules : Rules S O C R) (header : O) (rest : List (List ℕ)) (index : ℕ)
+    (old new : Option (List ℕ)) (status : Status) → rules.is_header header → MayStand (header_words rules header)
+    → IsFirstUnreadable (IsLineText rules) rest index
+    → (status ≡ Unreadable → Appends old new (unreadable_text (index + 2)))
+    → (IsCutShort status → AppendsPart old new (unreadable_text (index + 2)))
+    → (status ≡ Unreadable) ⊎ IsCutShort status
+    → Ends (kind rules ∷ []) (words_text (header_words rules header) ∷ rest) old new status
+ends_unreadable rules header rest index old new status allowed stand first whole part either =
+    let unread = unreadable_here rules header rest index allowed stand first in
+    record {
+      done = λ is. absurd (not_done status is either);
+      unreadable = λ is. (index + 2, unread, whole is);
+      cut_short = λ short. let (sent, begins, wrote) = part short in inr (sent, inr (index + 2, unread, begins), wrote);
+      input_read = read_unreadable status either;
+    }
+
+-- and on a script
+pub ends_answered : {S O C R : Type 0} (rules : Rules S O C R) (header : O) (rest : List (List ℕ)) (script : Batches C)
+    (old new : Option (List ℕ)) (status : Status) → rules.is_header header → MayStand (header_words rules header)
+    → AreScript rules rest script
+    → (status ≡ Done → (first : S) × (last : S) × (text : List ℕ) × rules.starts header first
+    × IsPlayed rules first script text last × Appends old new text)
+    → (IsCutShort status → Keeps old new ⊎ ((first : S) × (sent : List ℕ) × rules.starts header first
+    × IsBegun rules first script sent × Appends old new sent))
+    → (status ≡ Done) ⊎ IsCutShort status
+    → Ends (kind rules ∷ []) (words_text (header_words rules header) ∷ rest) old new status
+ends_answered rules header rest script old new status allowed stand read whole part either = record {
   done = λ is.
-      let (text, transcript, wrote) = ends.done is in (
+      let (first, last, text, starts, played, wrote) = whole is in (
         text,
         inl (
           header,
           rest,
-          record {
-            allowed = allowed;
-            stand = subst MayStand e stand;
-            cut = ap (λ w. words_text w ∷ rest) e;
-          },
-          transcript,
+          record { allowed = allowed; stand = stand; cut = refl },
+          script,
+          first,
+          last,
+          read,
+          starts,
+          played,
         ),
         wrote,
       );
+  unreadable = λ is. absurd (not_unreadable status is either);
+  cut_short = λ short. elim (part short) [
+    | inl kept ↦ inl kept
+    | inr (first, sent, starts, begun, wrote) ↦
+        inr (
+          sent,
+          inl (inl (
+            header,
+            rest,
+            record { allowed = allowed; stand = stand; cut = refl },
+            script,
+            first,
+            read,
+            starts,
+            begun,
+          )),
+          wrote,
+        )
+  ];
+  input_read = read_done status either;
+}
+
+-- and by a table with others of other names
+pub ends_wider : (one : Kind) (others : List Kind) (first : Words) (rest : List (List ℕ)) (old new : Option (List ℕ))
+    (status : Status) → MayStand first → is_new first.name others ≡ true
+    → Ends (one ∷ []) (words_text first ∷ rest) old new status → Ends (one ∷ others) (words_text first ∷ rest) old new status
+ends_wider one others first rest old new status stand test ends = record {
+  done = λ is.
+      let (text, answered, wrote) = ends.done is in
+      (text, elim answered [ inl here ↦ inl here | inr none ↦ absurd none ], wrote);
   unreadable = λ is.
       let (number, unread, wrote) = ends.unreadable is in
-      (number, unreadable_here rules others header first rest number test stand allowed e unread, wrote);
+      (number, unreadable_wider one others first rest number stand test unread, wrote);
   cut_short = λ is. elim (ends.cut_short is) [
     | inl kept ↦ inl kept
-    | inr (sent, begun, wrote) ↦ inr (sent, begun_here rules others header first rest sent test stand allowed e begun, wrote)
+    | inr (sent, begun, wrote) ↦ inr (sent, begun_wider one others first rest sent stand test begun, wrote)
   ];
   input_read = ends.input_read;
 }

@@ -3,17 +3,17 @@ use Rattle.std.proofs.Common.{ℕ, List, [], ◌∷◌, ◌++◌, sym, ap, ◌�
 use Rattle.std.specs.List.{flat_map}
 use Rattle.std.specs.Prelude.{slice_get}
 use Rattle.std.proofs.Common.{inl, inr, ◌⊎◌}
-use Rattle.std.specs.Io.KnownBytes.{Appends, Keeps}
+use Rattle.std.specs.Io.KnownBytes.{Appends}
 use Rattle.std.proofs.lemmas.List.{append_assoc, append-nil, take_more, take_all}
 use Rattle.std.proofs.lemmas.Option.{get_or_from_slice_get, slice_get_within}
 use Rattle.script_runner.specs.Status.{IsCutShort}
 use Rattle.script_runner.specs.declared.status.Status.{Status}
 use Rattle.script_runner.specs.declared.status.Status.TheVariants.{Done, Unreadable, InputFailed}
-use Rattle.script_runner.specs.engine.Script.{Batches, IsFirstUnreadable}
-use Rattle.script_runner.specs.engine.Sending.{AppendsPart}
+use Rattle.script_runner.specs.engine.Script.{Batches}
+use Rattle.script_runner.specs.engine.Transcript.{AppendsPart}
 use Rattle.script_runner.proofs.Appending.{appends_again}
 use Rattle.script_runner.proofs.Sends.{begins_after, begins_all}
-use Rattle.script_runner.specs.engine.Transcript.{IsTold, IsPlayed, IsSoFar, IsBegun, AreScript, IsLineText, EndsLater, unreadable_text}
+use Rattle.script_runner.specs.engine.Transcript.{IsTold, IsPlayed, IsSoFar, IsBegun}
 use Rattle.script_runner.specs.engine.Rules.{Rules}
 
 -- what is told, one batch longer
@@ -85,7 +85,7 @@ not_done status is (inl other) = cc
 not_done status is (inr (inl other)) = cc
 not_done status is (inr (inr other)) = cc
 
-not_unreadable : (status : Status) → status ≡ Unreadable → (status ≡ Done) ⊎ IsCutShort status → ⊥
+pub not_unreadable : (status : Status) → status ≡ Unreadable → (status ≡ Done) ⊎ IsCutShort status → ⊥
 not_unreadable status is (inl other) = cc
 not_unreadable status is (inr (inl other)) = cc
 not_unreadable status is (inr (inr other)) = cc
@@ -95,42 +95,7 @@ read_unreadable status (inl other) is = cc
 read_unreadable status (inr (inl other)) is = cc
 read_unreadable status (inr (inr other)) is = cc
 
-read_done : (status : Status) → (status ≡ Done) ⊎ IsCutShort status → status ≡ InputFailed → ⊥
+pub read_done : (status : Status) → (status ≡ Done) ⊎ IsCutShort status → status ≡ InputFailed → ⊥
 read_done status (inl other) is = cc
 read_done status (inr (inl other)) is = cc
 read_done status (inr (inr other)) is = cc
-
--- an unreadable line behind the first, whose number is told
-pub ends_unreadable : {S O C R : Type 0} (rules : Rules S O C R) (header : O) (lines : List (List ℕ)) (index : ℕ)
-    (old new : Option (List ℕ)) (status : Status) → IsFirstUnreadable (IsLineText rules) lines index
-    → (status ≡ Unreadable → Appends old new (unreadable_text (index + 2)))
-    → (IsCutShort status → AppendsPart old new (unreadable_text (index + 2)))
-    → (status ≡ Unreadable) ⊎ IsCutShort status → EndsLater rules header lines old new status
-ends_unreadable rules header lines index old new status unread whole part either = record {
-  done = λ is. absurd (not_done status is either);
-  unreadable = λ is. (index + 2, (index, unread, refl), whole is);
-  cut_short = λ short.
-      let (sent, begins, wrote) = part short in
-      inr (sent, inr (index + 2, (index, unread, refl), begins), wrote);
-  input_read = read_unreadable status either;
-}
-
--- a script that is run
-pub ends_answered : {S O C R : Type 0} (rules : Rules S O C R) (header : O) (lines : List (List ℕ)) (script : Batches C)
-    (old new : Option (List ℕ)) (status : Status) → AreScript rules lines script
-    → (status ≡ Done → (first : S) × (last : S) × (text : List ℕ) × rules.starts header first
-    × IsPlayed rules first script text last × Appends old new text)
-    → (IsCutShort status → Keeps old new ⊎ ((first : S) × (sent : List ℕ) × rules.starts header first
-    × IsBegun rules first script sent × Appends old new sent))
-    → (status ≡ Done) ⊎ IsCutShort status → EndsLater rules header lines old new status
-ends_answered rules header lines script old new status read whole part either = record {
-  done = λ is.
-      let (first, last, text, starts, played, wrote) = whole is in
-      (text, (script, first, last, read, starts, played), wrote);
-  unreadable = λ is. absurd (not_unreadable status is either);
-  cut_short = λ short. elim (part short) [
-    | inl kept ↦ inl kept
-    | inr (first, sent, starts, begun, wrote) ↦ inr (sent, inl (script, first, read, starts, begun), wrote)
-  ];
-  input_read = read_done status either;
-}

@@ -1,4 +1,3 @@
-pub mod AllKinds
 pub mod Inputs
 pub mod Status
 pub mod Words

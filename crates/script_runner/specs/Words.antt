@@ -1,5 +1,5 @@
 -- The words of a line: a name, and numbers in decimal, with a space between each two.
-use Rattle.std.specs.Prelude.{ℕ, ◌≡◌, ◌≢◌, ◌^◌, ◌<◌, List, [], ◌∷◌, ◌++◌, All, codes}
+use Rattle.std.specs.Prelude.{ℕ, ◌≡◌, ◌≢◌, ◌^◌, ◌<◌, List, [], ◌∷◌, ◌++◌, All}
 use Rattle.std.specs.Fmt.{decimal}
 use Rattle.bb_memory_base.specs.Region.{Region, region_at}
 use Rattle.script_runner.specs.declared.words.Bounds.{Bounds}
@@ -31,9 +31,9 @@ numbers_text (n ∷ numbers) = 32 ∷ (decimal n ++ numbers_text numbers)
 abbrev pub words_text : Words → List ℕ
 words_text words = words.name ++ numbers_text (list_of words.numbers)
 
--- the same, and a line feed
-abbrev pub words_line : Words → List ℕ
-words_line words = words_text words ++ codes "\n"
+-- `NAME NUMBER ..`, and then a text
+abbrev pub words_then : List ℕ → Numbers → List ℕ → List ℕ
+words_then name numbers text = words_text (words name numbers) ++ text
 
 -- each of them may be written
 abbrev pub AreNumbers : List ℕ → Type 0
@@ -55,13 +55,9 @@ abbrev pub StartsWith : ℕ → List ℕ → Type 0
 StartsWith byte [] = Unit {0}
 StartsWith byte (first ∷ text) = first ≡ byte
 
--- how many parties a script of steps may name
-abbrev pub parties : ℕ
-parties = 64
-
--- the number of one
+-- the number of a party: a script of steps may name 64
 abbrev pub IsParty : ℕ → Type 0
-IsParty party = party < parties
+IsParty party = party < 64
 
 -- the region that a header names
 abbrev pub region_of : Bounds → Region

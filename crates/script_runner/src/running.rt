@@ -2,7 +2,7 @@
 ghost use Rattle.std.specs.Prelude.{◌≡◌, ◌⊎◌, ℕ, List, true};
 ghost use Rattle.std.specs.Io.KnownBytes.{Keeps, Appends};
 ghost use Rattle.script_runner.specs.Status.{IsCutShort};
-ghost use Rattle.script_runner.specs.Inputs.{IsAnswered, IsUnreadable, BeginsOutput, IsLeft, Ends};
+ghost use Rattle.script_runner.specs.Inputs.{IsAnswered, IsUnreadable, BeginsOutput, IsLeft, Ends, kinds};
 ghost use Rattle.script_runner.specs.engine.Lines.{lines_of};
 ghost use Rattle.script_runner.specs.engine.Rules.{are_apart};
 ghost use Rattle.script_runner.specs.engine.Transcript.{unreadable_text};
@@ -34,10 +34,17 @@ pub fn run<R: Read + Drop, W: Write>(alloc: Global, mut reader: R, writer: &mut 
 {
     let mut input = Vec::new(alloc);
     match reader.read_to_end(&mut input) {
-        Ok(_) => run_input::<AllKinds, W>(alloc, &input, writer),
+        Ok(_) => run_kinds(alloc, &input, writer),
         Err(e) if e.kind() == ErrorKind::OutOfMemory => Status::OutOfMemory,
         Err(_) => Status::InputFailed,
     }
+}
+
+/// Checks every line of an input, and then runs it, by the table of all kinds.
+fn run_kinds<W: Write>(alloc: Global, input: &[u8], writer: &mut W) -> Status
+    ensures { Ends kinds (lines_of input.now) (W.contents writer.old) (W.contents writer.new) result }
+{
+    run_input::<AllKinds, W>(alloc, input, writer)
 }
 
 /// Checks every line of an input, and then runs it, by a table of kinds.

@@ -10,6 +10,7 @@ ghost use Rattle.script_runner.specs.Words.{Words, words, list_of, AreWords, Sta
 ghost use Rattle.script_runner.specs.Words.{region_of, bounds_numbers};
 
 use bb_memory::layout::Layout;
+use bb_memory::region::Region;
 use std::io;
 use std::io::Write;
 
@@ -122,6 +123,13 @@ pub fn write_words(name: &[u8], numbers: &[usize], end: &[u8], line: &mut Vec<u8
     line.write_all(end)
 }
 
+/// Tests that a name is this text.
+pub fn is(name: &[u8], text: &[u8]) -> bool
+    ensures { IsTrue result ↔ (name.now ≡ text.now) }
+{
+    name == text
+}
+
 /// Returns the layout of these numbers, where there is one.
 pub fn layout(size: usize, align: usize) -> Option<Layout>
     ensures made { IfSome result (λ layout. (layout.size ≡ size) × (layout.align ≡ align)) }
@@ -138,20 +146,16 @@ pub struct Bounds {
     pub size: usize,
 }
 
-/// Reads `START SIZE`.
-pub fn region(numbers: Numbers) -> Option<Bounds>
+/// Reads `KIND START SIZE`.
+pub fn region(kind: &[u8], name: &[u8], numbers: Numbers) -> Option<Bounds>
     ensures written { IfSome result (λ bounds. IsRegion (region_of bounds)
-        × (numbers ≡ bounds_numbers bounds)) }
-    ensures each { (bounds : Bounds) → IsRegion (region_of bounds) → numbers ≡ bounds_numbers bounds
-        → result ≡ Some bounds }
+        × (name.now ≡ kind.now) × (numbers ≡ bounds_numbers bounds)) }
+    ensures each { (bounds : Bounds) → IsRegion (region_of bounds) → name.now ≡ kind.now
+        → numbers ≡ bounds_numbers bounds → result ≡ Some bounds }
 {
     match numbers {
-        Numbers::Two(start, size) => {
-            if bb_memory::region::Region::can_make(start, size) {
-                Some(Bounds { start, size })
-            } else {
-                None
-            }
+        Numbers::Two(start, size) if is(name, kind) && Region::can_make(start, size) => {
+            Some(Bounds { start, size })
         }
         _ => None,
     }

@@ -11,7 +11,7 @@ use Rattle.bb_memory_base.specs.declared.allocator.Command.{Command}
 use Rattle.bb_memory_base.specs.declared.allocator.Command.TheVariants.{Allocate, Release, Grow, Shrink}
 use Rattle.bb_memory_base.specs.declared.allocator.Reply.{Reply}
 use Rattle.bb_memory_base.specs.declared.allocator.Reply.TheVariants as reply
-use Rattle.script_runner.specs.Words.{Words, words, words_line}
+use Rattle.script_runner.specs.Words.{Words, words, words_then}
 use Rattle.script_runner.specs.declared.words.Numbers.{Numbers}
 use Rattle.script_runner.specs.declared.words.Numbers.TheVariants.{One, Two, Five}
 use Rattle.script_runner.specs.engine.Rules.{Rules}
@@ -22,11 +22,6 @@ command_words (Allocate layout) = words (codes "alloc") (Two layout.size layout.
 command_words (Release position) = words (codes "free") (One position)
 command_words (Grow position old new) = words (codes "grow") (Five position old.size old.align new.size new.align)
 command_words (Shrink position old new) = words (codes "shrink") (Five position old.size old.align new.size new.align)
-
--- REPLIES
-
-abbrev pub chunk_line : List ℕ → Chunk → List ℕ
-chunk_line name chunk = words_line (words name (Two chunk.place chunk.len))
 
 -- a refusal is written by its name
 abbrev pub refusal_line : AllocationError → List ℕ
@@ -47,14 +42,12 @@ shrink_refusal_line shrink.SizeIsZero = codes "SizeIsZero\n"
 
 -- the line of a reply
 abbrev pub reply_line : Reply → List ℕ
-reply_line (reply.Chunk chunk) = chunk_line (codes "chunk") chunk
+reply_line (reply.Chunk chunk) = words_then (codes "chunk") (Two chunk.place chunk.len) (codes "\n")
 reply_line reply.Released = codes "released\n"
 reply_line reply.Passed = codes "passed\n"
 reply_line (reply.Refused error) = refusal_line error
 reply_line (reply.GrowRefused error) = grow_refusal_line error
 reply_line (reply.ShrinkRefused error) = shrink_refusal_line error
-
--- RUNS
 
 -- an allocator that a script drives, and the chunks that it has out
 pub record LiveState (A : Type 0) : Type 0 where

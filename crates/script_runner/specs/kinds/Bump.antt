@@ -25,12 +25,6 @@ figures_line used free total =
     codes "used " ++ (decimal used ++ (codes " free " ++ (decimal free
     ++ (codes " total " ++ (decimal total ++ codes "\n")))))
 
--- what `show` writes
-abbrev pub bump_lines : Bump → List ℕ
-bump_lines bump =
-    (bump_text bump ++ codes "\n")
-    ++ figures_line bump.used (bump.region.size - bump.used) bump.region.size
-
 -- a bump that a script drives: it begins with nothing used
 abbrev pub bump_rules : AllocatorRules Bump Bounds
 bump_rules = record {
@@ -39,5 +33,6 @@ bump_rules = record {
   header_numbers = bounds_numbers;
   starts = λ bounds bump. bump ≡ record { region = region_of bounds; used = 0 };
   runs = BumpRuns;
-  state_text = λ bump _. bump_lines bump;
+  state_text = λ bump _.
+      (bump_text bump ++ codes "\n") ++ figures_line bump.used (bump.region.size - bump.used) bump.region.size;
 }

@@ -1,15 +1,14 @@
 -- Scripts that take the steps of a bump machine.
-use Rattle.std.specs.Prelude.{ℕ, ◌≡◌, List, ◌++◌, codes, true}
+use Rattle.std.specs.Prelude.{ℕ, ◌≡◌, List, codes, true}
 use Rattle.bb_memory_base.specs.BumpWorld.{BumpWorld, opened, outcomes_of, after_steps}
 use Rattle.bb_memory_base.specs.Region.{IsRegion}
 use Rattle.bb_memory_base.specs.declared.steps.bump.BumpOutcome.{BumpOutcome}
 use Rattle.bb_memory_base.specs.declared.steps.bump.BumpOutcome.TheVariants as outcome
 use Rattle.bb_memory_base.specs.declared.steps.bump.BumpStep.{BumpStep}
 use Rattle.bb_memory_base.specs.declared.steps.bump.BumpStep.TheVariants.{Read, Exchange, Load, Clear}
-use Rattle.script_runner.specs.Words.{Words, words, words_text, parties, IsParty, region_of, bounds_numbers}
+use Rattle.script_runner.specs.Words.{Words, words, words_then, IsParty, region_of, bounds_numbers}
 use Rattle.script_runner.specs.declared.words.Bounds.{Bounds}
-use Rattle.script_runner.specs.declared.words.Numbers.TheVariants.{Zero, One, Three}
-use Rattle.script_runner.specs.kinds.Allocators.{chunk_line}
+use Rattle.script_runner.specs.declared.words.Numbers.TheVariants.{Zero, One, Two, Three}
 use Rattle.script_runner.specs.engine.Rules.{Rules}
 
 -- its party is one of the parties
@@ -26,22 +25,16 @@ step_words (Exchange party) = words (codes "exchange") (One party)
 step_words (Load party) = words (codes "load") (One party)
 step_words Clear = words (codes "clear") Zero
 
--- a name and a position, and then the rest of the line
-abbrev pub position_line : List ℕ → ℕ → List ℕ → List ℕ
-position_line name position rest = words_text (words name (One position)) ++ rest
-
 -- the line of an outcome
 abbrev pub outcome_line : BumpOutcome → List ℕ
-outcome_line (outcome.Sees position) = position_line (codes "sees") position (codes "\n")
-outcome_line (outcome.RefusedAtRead position) = position_line (codes "sees") position (codes " refused OutOfMemory\n")
-outcome_line (outcome.Wins chunk) = chunk_line (codes "wins") chunk
-outcome_line (outcome.Loses position) = position_line (codes "loses") position (codes "\n")
-outcome_line (outcome.RefusedAtLoss position) = position_line (codes "loses") position (codes " refused OutOfMemory\n")
-outcome_line (outcome.Loaded position) = position_line (codes "used") position (codes "\n")
+outcome_line (outcome.Sees position) = words_then (codes "sees") (One position) (codes "\n")
+outcome_line (outcome.RefusedAtRead position) = words_then (codes "sees") (One position) (codes " refused OutOfMemory\n")
+outcome_line (outcome.Wins chunk) = words_then (codes "wins") (Two chunk.place chunk.len) (codes "\n")
+outcome_line (outcome.Loses position) = words_then (codes "loses") (One position) (codes "\n")
+outcome_line (outcome.RefusedAtLoss position) = words_then (codes "loses") (One position) (codes " refused OutOfMemory\n")
+outcome_line (outcome.Loaded position) = words_then (codes "used") (One position) (codes "\n")
 outcome_line outcome.Cleared = codes "cleared\n"
 outcome_line outcome.Passed = codes "passed\n"
-
--- RUNS
 
 -- the outcomes are those of the steps, and the world is the one that they leave
 abbrev pub StepsRun : BumpWorld → List BumpStep → List BumpOutcome → BumpWorld → Type 0
@@ -56,8 +49,8 @@ bump_step_rules = record {
   is_command = IsStep;
   command_words = step_words;
   can_show = true;
-  starts = λ bounds world. world ≡ opened (region_of bounds) parties;
+  starts = λ bounds world. world ≡ opened (region_of bounds) 64;
   runs = StepsRun;
   reply_text = outcome_line;
-  state_text = λ world. position_line (codes "used") world.state.position (codes "\n");
+  state_text = λ world. words_then (codes "used") (One world.state.position) (codes "\n");
 }

@@ -1,5 +1,5 @@
 -- Scripts that loan samples from a pool.
-use Rattle.std.specs.Prelude.{ℕ, ◌≡◌, ◌^◌, ◌<◌, List, [], codes, Bool, true, false, Contains}
+use Rattle.std.specs.Prelude.{ℕ, ◌≡◌, ◌^◌, ◌<◌, List, [], codes, true, false, Contains}
 use Rattle.bb_memory_base.specs.PoolObject.{MayAllocate}
 use Rattle.bb_memory_base.specs.Run.{IsRun}
 use Rattle.bb_memory.specs.Pool.{CountedPool, StandsFor}
@@ -12,7 +12,7 @@ use Rattle.loan_book.specs.declared.run.LoanCall.{LoanCall}
 use Rattle.loan_book.specs.declared.run.LoanCall.TheVariants.{Loan, Publish, GiveBack, IsOut}
 use Rattle.loan_book.specs.declared.run.LoanReply.{LoanReply}
 use Rattle.loan_book.specs.declared.run.LoanReply.TheVariants as reply
-use Rattle.script_runner.specs.Words.{Words, words, words_line}
+use Rattle.script_runner.specs.Words.{Words, words, words_then}
 use Rattle.script_runner.specs.declared.words.Numbers.TheVariants.{One, Two, Three}
 use Rattle.script_runner.specs.declared.kinds.pool.PoolPlan.{PoolPlan}
 use Rattle.script_runner.specs.kinds.Pool.{IsPoolPlan, pool_numbers, BeginsPool}
@@ -21,10 +21,8 @@ use Rattle.script_runner.specs.engine.Rules.{Rules}
 
 -- a number that counts readers has at most 32 bits
 abbrev pub IsCall : LoanCall → Type 0
-IsCall (Loan size) = Unit {0}
 IsCall (Publish id readers) = readers < 2 ^ 32
-IsCall (GiveBack id) = Unit {0}
-IsCall (IsOut id) = Unit {0}
+IsCall _ = Unit {0}
 
 -- the words that write a call
 abbrev pub call_words : LoanCall → Words
@@ -32,8 +30,6 @@ call_words (Loan size) = words (codes "loan") (One size)
 call_words (Publish id readers) = words (codes "publish") (Two id readers)
 call_words (GiveBack id) = words (codes "back") (One id)
 call_words (IsOut id) = words (codes "out") (One id)
-
--- REPLIES
 
 -- a refusal is written by its name, and the pool's by the name that the pool gave it
 abbrev pub loan_refusal_line : LoanError → List ℕ
@@ -45,20 +41,15 @@ loan_refusal_line refused.UnknownSample = codes "UnknownSample\n"
 loan_refusal_line refused.AlreadyPublished = codes "AlreadyPublished\n"
 loan_refusal_line refused.NoReaders = codes "NoReaders\n"
 
-abbrev pub answer_line : Bool → List ℕ
-answer_line true = codes "yes\n"
-answer_line false = codes "no\n"
-
 -- the line of a reply
 abbrev pub loan_reply_line : LoanReply → List ℕ
-loan_reply_line (reply.Loaned id chunk) = words_line (words (codes "loan") (Three id chunk.place chunk.len))
+loan_reply_line (reply.Loaned id chunk) = words_then (codes "loan") (Three id chunk.place chunk.len) (codes "\n")
 loan_reply_line reply.Published = codes "published\n"
 loan_reply_line reply.Returned = codes "returned\n"
 loan_reply_line reply.Kept = codes "kept\n"
-loan_reply_line (reply.Out answer) = answer_line answer
+loan_reply_line (reply.Out true) = codes "yes\n"
+loan_reply_line (reply.Out false) = codes "no\n"
 loan_reply_line (reply.Refused error) = loan_refusal_line error
-
--- RUNS
 
 -- the replies are a run of a book over the pool object of the pool's geometry, none is that a record found no memory, and
 -- the pool stands for exactly the chunks of the samples that are out

@@ -25,12 +25,6 @@ abbrev pub available_text : Option ℕ → List ℕ
 available_text None = codes " available yes\n"
 available_text (Some place) = codes " available no\n"
 
--- what `show` writes
-abbrev pub one_chunk_state : OneChunk → List ℕ
-one_chunk_state one =
-    codes "one start " ++ (decimal one.region.start
-    ++ (codes " size " ++ (decimal one.region.size ++ available_text one.kept)))
-
 -- a one chunk that a script drives: it begins with nothing kept
 abbrev pub one_chunk_rules : AllocatorRules OneChunk Bounds
 one_chunk_rules = record {
@@ -39,5 +33,7 @@ one_chunk_rules = record {
   header_numbers = bounds_numbers;
   starts = λ bounds one. one ≡ record { region = region_of bounds; kept = None };
   runs = OneChunkRuns;
-  state_text = λ one _. one_chunk_state one;
+  state_text = λ one _.
+      codes "one start " ++ (decimal one.region.start
+      ++ (codes " size " ++ (decimal one.region.size ++ available_text one.kept)));
 }

@@ -57,13 +57,6 @@ pool_figures geometry live rest =
     ++ (codes " buckets " ++ (decimal geometry.buckets
     ++ (codes " live " ++ (decimal live ++ rest)))))))))
 
--- what `show` writes
-abbrev pub pool_state : CountedPool → ℕ → List ℕ
-pool_state pool live =
-    codes "pool start "
-    ++ (decimal (first_place pool.pool.geometry.region pool.pool.geometry.bucket)
-    ++ pool_figures pool.pool.geometry live (codes " reads " ++ (decimal pool.reads ++ codes "\n")))
-
 -- a pool that a script drives: it begins with no bucket held
 abbrev pub pool_rules : AllocatorRules CountedPool PoolPlan
 pool_rules = record {
@@ -72,7 +65,9 @@ pool_rules = record {
   header_numbers = pool_numbers;
   starts = BeginsPool;
   runs = CountedPoolRuns;
-  state_text = pool_state;
+  state_text = λ pool live.
+      codes "pool start " ++ (decimal (first_place pool.pool.geometry.region pool.pool.geometry.bucket)
+      ++ pool_figures pool.pool.geometry live (codes " reads " ++ (decimal pool.reads ++ codes "\n")));
 }
 
 -- the pool's region is cut into the buckets that it has room for, but into at most 512; none is held
@@ -80,10 +75,6 @@ abbrev pub BeginsFixed : PoolPlan → Pool → Type 0
 BeginsFixed plan pool =
     (whole : PoolGeometry) × IsCut (plan_region plan) plan.bucket whole
     × (pool ≡ fresh_pool (at_most 512 whole))
-
--- what `show` writes of it
-abbrev pub fixed_state : Pool → ℕ → List ℕ
-fixed_state pool live = codes "fixed" ++ pool_figures pool.geometry live (codes "\n")
 
 -- a fixed pool that a script drives: it begins with no bucket held
 abbrev pub fixed_rules : AllocatorRules Pool PoolPlan
@@ -93,5 +84,5 @@ fixed_rules = record {
   header_numbers = pool_numbers;
   starts = BeginsFixed;
   runs = PoolRuns;
-  state_text = fixed_state;
+  state_text = λ pool live. codes "fixed" ++ pool_figures pool.geometry live (codes "\n");
 }

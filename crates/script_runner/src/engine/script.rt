@@ -1,9 +1,9 @@
 //! Scripts: how an input is cut into lines, and the commands that the lines behind the header say, cut at each `show`.
-ghost use Rattle.std.specs.Prelude.{◌≡◌, ◌<◌, ◌≤◌, ◌∷◌, [], length, IfOk, IfErr, IfSome, IfNone, Some};
+ghost use Rattle.std.specs.Prelude.{◌≡◌, ◌<◌, ◌≤◌, ◌∷◌, ◌++◌, [], OnOk, OnErr, length, IfOk, IfErr, IfSome, IfNone, Some};
 ghost use Rattle.std.specs.Prelude.{slice_get, slice_index, slice_range};
 ghost use Rattle.script_runner.specs.engine.Lines.{lines_of};
 ghost use Rattle.script_runner.specs.engine.Rules.{IsLine, line_text};
-ghost use Rattle.script_runner.specs.engine.Script.{Adds, IsFirstUnreadable, AreInOrder, batches_from, script_lines};
+ghost use Rattle.script_runner.specs.engine.Script.{IsFirstUnreadable, AreInOrder, batches_from, script_lines};
 ghost use Rattle.script_runner.specs.engine.Transcript.{AreScript, IsLineText};
 
 use crate::engine::driving::Driven;
@@ -53,7 +53,8 @@ impl<C: Drop> Script<C> {
 
     /// Adds a line at the end.
     pub fn push(&mut self, line: Line<C>) -> Result<(), AllocError>
-        ensures { Adds self.old line result self.new }
+        ensures added { OnOk result (script_lines self.new ≡ script_lines self.old ++ line ∷ []) }
+        ensures still { OnErr result (self.new ≡ self.old) }
     {
         match line {
             Line::Command(command) => {

@@ -1,9 +1,10 @@
 //! Allocators that a script drives: what all of them share.
-ghost use Rattle.std.specs.Prelude.{◌≡◌, ◌++◌, OnOk};
-ghost use Rattle.script_runner.specs.kinds.Allocators.{chunk_line, refusal_line, grow_refusal_line, shrink_refusal_line};
+ghost use Rattle.std.specs.Prelude.{◌≡◌, ◌++◌, OnOk, codes};
+ghost use Rattle.script_runner.specs.Words.{words_then};
+ghost use Rattle.script_runner.specs.kinds.Allocators.{refusal_line, grow_refusal_line, shrink_refusal_line};
 
 use crate::engine::driving::Driven;
-use crate::words::{Numbers, layout, write_words};
+use crate::words::{Numbers, is, layout, write_words};
 use bb_memory::allocator::{
     AllocationError, AllocationGrowError, AllocationShrinkError, Command, Reply,
 };
@@ -102,18 +103,16 @@ impl<A: Scripted> Driven for Live<A> {
 
     fn read(name: &[u8], numbers: Numbers) -> Option<Command> {
         match numbers {
-            Numbers::One(position) if name == b"free".as_slice() => {
-                Some(Command::Release(position))
-            }
-            Numbers::Two(size, align) if name == b"alloc".as_slice() => {
+            Numbers::One(position) if is(name, b"free") => { Some(Command::Release(position)) }
+            Numbers::Two(size, align) if is(name, b"alloc") => {
                 Some(Command::Allocate(layout(size, align)?))
             }
             Numbers::Five(position, old_size, old_align, size, align) => {
                 let old = layout(old_size, old_align)?;
                 let new = layout(size, align)?;
-                if name == b"grow".as_slice() {
+                if is(name, b"grow") {
                     Some(Command::Grow(position, old, new))
-                } else if name == b"shrink".as_slice() {
+                } else if is(name, b"shrink") {
                     Some(Command::Shrink(position, old, new))
                 } else {
                     None
@@ -123,7 +122,7 @@ impl<A: Scripted> Driven for Live<A> {
         }
     }
 
-    fn run(&mut self, commands: &[Command]) -> Result<Vec<Reply>, AllocError> {
+    fn run(&mut self, _alloc: Global, commands: &[Command]) -> Result<Vec<Reply>, AllocError> {
         self.allocator.run(&mut self.live, commands)
     }
 
@@ -145,7 +144,8 @@ impl<A: Scripted> Driven for Live<A> {
 
 /// Writes `NAME PLACE LEN` and a line feed.
 pub fn write_chunk(name: &[u8], chunk: &Chunk, line: &mut Vec<u8>) -> io::Result<()>
-    ensures { OnOk result (line.new.items ≡ line.old.items ++ chunk_line name.now chunk.now) }
+    ensures { OnOk result (line.new.items ≡ line.old.items
+        ++ words_then name.now (Numbers.Two chunk.now.place chunk.now.len) (codes "\n")) }
 {
     write_words(name, &[chunk.place(), chunk.len()], b"\n", line)
 }

@@ -20,11 +20,7 @@ impl Scripted for BumpAllocator {
     ghost stands_for = { λ bump. StandsFor bump.region bump.used };
 
     fn read_header(name: &[u8], numbers: Numbers) -> Option<Bounds> {
-        if name == b"bump".as_slice() {
-            region(numbers)
-        } else {
-            None
-        }
+        region(b"bump", name, numbers)
     }
 
     fn make(_alloc: Global, header: Bounds) -> Result<Self, AllocError> {

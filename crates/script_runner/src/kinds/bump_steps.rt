@@ -2,7 +2,7 @@
 
 use crate::engine::driving::Driven;
 use crate::kinds::allocators::write_chunk;
-use crate::words::{Bounds, Numbers, PARTIES, layout, party_of, region, write_words};
+use crate::words::{Bounds, Numbers, PARTIES, is, layout, party_of, region, write_words};
 use bb_memory::steps::{BumpOutcome, BumpStep, BumpWorld};
 use std::alloc::{AllocError, Global};
 use std::io;
@@ -28,11 +28,7 @@ impl Driven for BumpWorld {
     ghost shows = { refl };
 
     fn read_header(name: &[u8], numbers: Numbers) -> Option<Bounds> {
-        if name == b"steps-bump".as_slice() {
-            region(numbers)
-        } else {
-            None
-        }
+        region(b"steps-bump", name, numbers)
     }
 
     fn make(alloc: Global, header: Bounds) -> Result<Self, AllocError> {
@@ -41,18 +37,18 @@ impl Driven for BumpWorld {
 
     fn read(name: &[u8], numbers: Numbers) -> Option<BumpStep> {
         match numbers {
-            Numbers::Zero if name == b"clear".as_slice() => Some(BumpStep::Clear),
+            Numbers::Zero if is(name, b"clear") => Some(BumpStep::Clear),
             Numbers::One(party) => {
                 let party = party_of(party)?;
-                if name == b"exchange".as_slice() {
+                if is(name, b"exchange") {
                     Some(BumpStep::Exchange { party })
-                } else if name == b"load".as_slice() {
+                } else if is(name, b"load") {
                     Some(BumpStep::Load { party })
                 } else {
                     None
                 }
             }
-            Numbers::Three(party, size, align) if name == b"read".as_slice() => {
+            Numbers::Three(party, size, align) if is(name, b"read") => {
                 let party = party_of(party)?;
                 let layout = layout(size, align)?;
                 Some(BumpStep::Read { party, layout })
@@ -61,7 +57,7 @@ impl Driven for BumpWorld {
         }
     }
 
-    fn run(&mut self, steps: &[BumpStep]) -> Result<Vec<BumpOutcome>, AllocError> {
+    fn run(&mut self, _alloc: Global, steps: &[BumpStep]) -> Result<Vec<BumpOutcome>, AllocError> {
         self.replay(steps)
     }
 

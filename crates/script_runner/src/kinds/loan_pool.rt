@@ -5,29 +5,15 @@ ghost use Rattle.script_runner.specs.kinds.LoanPool.{loan_refusal_line};
 use crate::engine::driving::Driven;
 use crate::kinds::allocators::refusal;
 use crate::kinds::pool::{PoolPlan, pool_of, pool_plan};
-use crate::words::{Numbers, small, write_words};
+use crate::words::{Numbers, is, small, write_words};
 use bb_memory::pool_allocator::PoolAllocator;
 use loan_book::{LoanBook, LoanCall, LoanError, LoanReply, run_loans};
 use std::alloc::{AllocError, Global};
 use std::io;
 use std::io::Write;
-use std::marker::Model;
 
-/// A loan book over a pool, and where the replies of a script take their memory from.
-#[derive(Drop)]
-pub struct LoanPool {
-    alloc: Global,
-    book: LoanBook<PoolAllocator<Global>>,
-}
-
-impl Model for LoanPool {
-    ghost use Rattle.bb_memory.specs.Pool.{CountedPool};
-    ghost use Rattle.loan_book.specs.LoanBook.{LoanBook};
-
-    ghost Value = { LoanBook CountedPool };
-
-    ghost view = { λ a. a.book };
-}
+/// A loan book over a pool.
+pub type LoanPool = LoanBook<PoolAllocator<Global>>;
 
 impl Driven for LoanPool {
     ghost use Rattle.std.specs.Prelude.{false};
@@ -49,41 +35,37 @@ impl Driven for LoanPool {
     ghost shows = { refl };
 
     fn read_header(name: &[u8], numbers: Numbers) -> Option<PoolPlan> {
-        if name == b"loan-pool".as_slice() {
-            pool_plan(numbers)
-        } else {
-            None
-        }
+        pool_plan(b"loan-pool", name, numbers)
     }
 
     fn make(alloc: Global, header: PoolPlan) -> Result<Self, AllocError> {
         let pool = pool_of(alloc, header)?;
         let book = LoanBook::new(alloc, pool);
-        Ok(LoanPool { alloc, book })
+        Ok(book)
     }
 
     fn read(name: &[u8], numbers: Numbers) -> Option<LoanCall> {
         match numbers {
             Numbers::One(number) => {
-                if name == b"loan".as_slice() {
+                if is(name, b"loan") {
                     Some(LoanCall::Loan(number))
-                } else if name == b"back".as_slice() {
+                } else if is(name, b"back") {
                     Some(LoanCall::GiveBack(number as u64))
-                } else if name == b"out".as_slice() {
+                } else if is(name, b"out") {
                     Some(LoanCall::IsOut(number as u64))
                 } else {
                     None
                 }
             }
-            Numbers::Two(id, readers) if name == b"publish".as_slice() => {
+            Numbers::Two(id, readers) if is(name, b"publish") => {
                 Some(LoanCall::Publish(id as u64, small(readers)?))
             }
             _ => None,
         }
     }
 
-    fn run(&mut self, calls: &[LoanCall]) -> Result<Vec<LoanReply>, AllocError> {
-        let replies = run_loans(self.alloc, &mut self.book, calls)?;
+    fn run(&mut self, alloc: Global, calls: &[LoanCall]) -> Result<Vec<LoanReply>, AllocError> {
+        let replies = run_loans(alloc, self, calls)?;
         if replies.contains(&LoanReply::Refused(LoanError::Memory)) {
             return Err(AllocError);
         }

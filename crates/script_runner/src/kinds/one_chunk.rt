@@ -20,11 +20,7 @@ impl Scripted for OneChunkAllocator {
     ghost stands_for = { StandsFor };
 
     fn read_header(name: &[u8], numbers: Numbers) -> Option<Bounds> {
-        if name == b"one".as_slice() {
-            region(numbers)
-        } else {
-            None
-        }
+        region(b"one", name, numbers)
     }
 
     fn make(_alloc: Global, header: Bounds) -> Result<Self, AllocError> {

@@ -4,7 +4,7 @@ ghost use Rattle.bb_memory.specs.Pool.{StandsFor};
 ghost use Rattle.script_runner.specs.kinds.Pool.{BeginsPool, IsPoolPlan, pool_numbers};
 
 use crate::kinds::allocators::Scripted;
-use crate::words::{Numbers, layout};
+use crate::words::{Numbers, is, layout};
 use bb_memory::allocator::{Command, Reply};
 use bb_memory::layout::{Chunk, Layout};
 use bb_memory::pool_allocator::{FixedSizePoolAllocator, PoolAllocator, run_fixed_pool, run_pool};
@@ -20,14 +20,15 @@ pub struct PoolPlan {
     bucket: Layout,
 }
 
-/// Reads `START SIZE BUCKET ALIGN`.
-pub fn pool_plan(numbers: Numbers) -> Option<PoolPlan>
-    ensures written { IfSome result (λ plan. IsPoolPlan plan × (numbers ≡ pool_numbers plan)) }
-    ensures each { (plan : PoolPlan) → IsPoolPlan plan → numbers ≡ pool_numbers plan
-        → result ≡ Some plan }
+/// Reads `KIND START SIZE BUCKET ALIGN`.
+pub fn pool_plan(kind: &[u8], name: &[u8], numbers: Numbers) -> Option<PoolPlan>
+    ensures written { IfSome result (λ plan. IsPoolPlan plan
+        × (name.now ≡ kind.now) × (numbers ≡ pool_numbers plan)) }
+    ensures each { (plan : PoolPlan) → IsPoolPlan plan → name.now ≡ kind.now
+        → numbers ≡ pool_numbers plan → result ≡ Some plan }
 {
     match numbers {
-        Numbers::Four(start, size, bucket, align) => {
+        Numbers::Four(start, size, bucket, align) if is(name, kind) => {
             let bucket = layout(bucket, align)?;
             if PoolAllocator::can_make(bucket, start, size) {
                 Some(PoolPlan {
@@ -54,11 +55,7 @@ impl Scripted for PoolAllocator<Global> {
     ghost stands_for = { λ pool. StandsFor pool.pool };
 
     fn read_header(name: &[u8], numbers: Numbers) -> Option<PoolPlan> {
-        if name == b"pool".as_slice() {
-            pool_plan(numbers)
-        } else {
-            None
-        }
+        pool_plan(b"pool", name, numbers)
     }
 
     fn make(alloc: Global, header: PoolPlan) -> Result<Self, AllocError> {
@@ -114,11 +111,7 @@ impl Scripted for Fixed {
     ghost stands_for = { StandsFor };
 
     fn read_header(name: &[u8], numbers: Numbers) -> Option<PoolPlan> {
-        if name == b"fixed".as_slice() {
-            pool_plan(numbers)
-        } else {
-            None
-        }
+        pool_plan(b"fixed", name, numbers)
     }
 
     fn make(_alloc: Global, header: PoolPlan) -> Result<Self, AllocError> {

@@ -1,10 +1,11 @@
 //! A pool world that a script drives by its steps.
 ghost use Rattle.std.specs.Prelude.{◌≡◌, ◌++◌, OnOk};
 ghost use Rattle.std.specs.List.{flat_map};
-ghost use Rattle.script_runner.specs.kinds.PoolSteps.{bucket_line, flag_text};
+ghost use Rattle.script_runner.specs.Words.{words_then};
+ghost use Rattle.script_runner.specs.kinds.PoolSteps.{flag_text};
 
 use crate::engine::driving::Driven;
-use crate::words::{Numbers, PARTIES, party_of, small, write_words};
+use crate::words::{Numbers, PARTIES, is, party_of, small, write_words};
 use bb_memory::steps::{PoolOutcome, PoolStep, PoolWorld};
 use std::alloc::{AllocError, Global};
 use std::io;
@@ -34,7 +35,7 @@ impl Driven for PoolWorld {
 
     fn read_header(name: &[u8], numbers: Numbers) -> Option<u32> {
         match numbers {
-            Numbers::One(count) if count <= MOST_BUCKETS && name == b"steps-pool".as_slice() => {
+            Numbers::One(count) if count <= MOST_BUCKETS && is(name, b"steps-pool") => {
                 Some(count as u32)
             }
             _ => None,
@@ -47,11 +48,11 @@ impl Driven for PoolWorld {
 
     fn read(name: &[u8], numbers: Numbers) -> Option<PoolStep> {
         match numbers {
-            Numbers::One(party) if name == b"try".as_slice() => {
+            Numbers::One(party) if is(name, b"try") => {
                 let party = party_of(party)?;
                 Some(PoolStep::Try { party })
             }
-            Numbers::Two(party, bucket) if name == b"give".as_slice() => {
+            Numbers::Two(party, bucket) if is(name, b"give") => {
                 let party = party_of(party)?;
                 let bucket = small(bucket)?;
                 Some(PoolStep::GiveBack { party, bucket })
@@ -60,7 +61,7 @@ impl Driven for PoolWorld {
         }
     }
 
-    fn run(&mut self, steps: &[PoolStep]) -> Result<Vec<PoolOutcome>, AllocError> {
+    fn run(&mut self, _alloc: Global, steps: &[PoolStep]) -> Result<Vec<PoolOutcome>, AllocError> {
         self.replay(steps)
     }
 
@@ -87,7 +88,8 @@ impl Driven for PoolWorld {
 }
 
 fn write_bucket(name: &[u8], bucket: u32, end: &[u8], line: &mut Vec<u8>) -> io::Result<()>
-    ensures { OnOk result (line.new.items ≡ line.old.items ++ bucket_line name.now bucket end.now) }
+    ensures { OnOk result (line.new.items ≡ line.old.items
+        ++ words_then name.now (Numbers.One bucket) end.now) }
 {
     write_words(name, &[bucket as usize], end, line)
 }

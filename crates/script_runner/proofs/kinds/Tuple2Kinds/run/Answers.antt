@@ -1,10 +1,15 @@
-use Rattle.std.proofs.Common.{ap₂}
+use Rattle.std.proofs.Common.{◌≡◌, ap₂, subst, sym, true}
 use Rattle.std.proofs.lemmas.Bool.{and_parts}
-use Rattle.script_runner.specs.Words.{words, words_text}
+use Rattle.script_runner.specs.Words.{MayStand, words, words_text}
 use Rattle.script_runner.specs.engine.Lines.{lines_of}
-use Rattle.script_runner.specs.engine.Rules.{kind, is_new, are_apart}
-use Rattle.script_runner.proofs.Tables.{ends_here, ends_later, none_later, no_header}
+use Rattle.script_runner.specs.engine.Rules.{kind, header_words, is_new, are_apart}
+use Rattle.script_runner.proofs.Tables.{ends_wider, ends_later, none_later, no_header}
 use Rattle.script_runner.proofs.kinds.Tuple2Kinds.run.Goals as goal
+
+pub drive-requires-clause-stand : goal.drive-requires-clause-stand
+drive-requires-clause-stand g c =
+    let (allowed, name, numbers) = c.in-Some.ensures.written in
+    subst MayStand (ap₂ words name numbers) c.requires.stand
 
 pub returns-in-Some-clause-ends : goal.returns-in-Some-clause-ends
 returns-in-Some-clause-ends g c =
@@ -12,8 +17,11 @@ returns-in-Some-clause-ends g c =
     let others = g.Others.Kinds.table in
     let apart = and_parts (is_new rules.name others) (are_apart others) c.requires.apart in
     let (allowed, name, numbers) = c.in-Some.ensures.written in
-    ends_here rules others c.in-Some.header (words c.args.name.now c.args.numbers) (lines_of c.args.rest.now)
-    (g.W.Write.contents c.args.writer.now) (g.W.Write.contents c.drive.new.writer) c.drive.result apart.0 c.requires.stand allowed (ap₂ words name numbers) c.drive.ensures
+    let first = words c.args.name.now c.args.numbers in
+    let same : header_words rules c.in-Some.header ≡ first = sym (ap₂ words name numbers) in
+    ends_wider (kind rules) others first (lines_of c.args.rest.now)
+    (g.W.Write.contents c.args.writer.now) (g.W.Write.contents c.drive.new.writer) c.drive.result c.requires.stand
+    (subst (λ w. is_new w.name others ≡ true) same apart.0) (rw same at c.drive.ensures)
 
 pub returns-in-None-clause-none : goal.returns-in-None-clause-none
 returns-in-None-clause-none g c =

@@ -7,7 +7,7 @@ use Rattle.script_runner.proofs.kinds.pool.pool_plan.Goals as goal
 use Rattle.script_runner.proofs.kinds.pool.pool_plan.Goals.{After-can_make}
 
 pub returns-in_err-bucket-in-Four-clause-each : goal.returns-in_err-bucket-in-Four-clause-each
-returns-in_err-bucket-in-Four-clause-each c plan is numbers =
+returns-in_err-bucket-in-Four-clause-each c plan is name numbers =
     let four = c.in-Four in
     let e : Four four.start four.size four.bucket four.align ≡ pool_numbers plan = sym four.is ∙ numbers in
     absurd (none-some plan.bucket (c.in_err-bucket-in-Four.ensures.each plan.bucket (cc) (cc)))
@@ -25,10 +25,11 @@ same_plan c plan numbers =
     λ i. record { start = start i; size = size i; bucket = bucket i }
 
 pub returns-then-can_make-clause-each : goal.returns-then-can_make-clause-each
-returns-then-can_make-clause-each c plan is numbers = ap Some (same_plan (goal.at.returns-then-can_make-clause-each c).After-can_make plan numbers)
+returns-then-can_make-clause-each c plan is name numbers =
+    ap Some (same_plan (goal.at.returns-then-can_make-clause-each c).After-can_make plan numbers)
 
 pub returns-else-can_make-clause-each : goal.returns-else-can_make-clause-each
-returns-else-can_make-clause-each c plan is numbers =
+returns-else-can_make-clause-each c plan is name numbers =
     let same = same_plan (goal.at.returns-else-can_make-clause-each c).After-can_make plan numbers in
     let may = subst IsPoolPlan (sym same) is in
     search rules

@@ -5,7 +5,8 @@ use Rattle.script_runner.specs.declared.words.Numbers.TheVariants.{One}
 use Rattle.script_runner.specs.kinds.PoolSteps.{holder_text}
 use Rattle.script_runner.proofs.PoolShows.{holders_more}
 use Rattle.script_runner.proofs.kinds.pool_steps.write_holders.Goals as goal
-use Rattle.script_runner.proofs.kinds.pool_steps.write_holders.Goals.{in-Some+in_ok-write_words-in-Some, in-None+in_ok-write_all-in-None}
+use Rattle.script_runner.proofs.kinds.pool_steps.write_holders.Goals.{in-Some+in_ok-write_words-in-Some}
+use Rattle.script_runner.proofs.kinds.pool_steps.write_holders.Goals.{in-None+in_ok-write_all-in-None}
 
 pub loop-bucket-preserved : goal.loop-bucket-preserved
 loop-bucket-preserved c =

@@ -1,5 +1,4 @@
 use Rattle.std.proofs.Common.{◌∙◌, sym, None, Some}
-use Rattle.std.specs.Cmp.Lexicographic.{same_text}
 use Rattle.script_runner.proofs.Layouts.{reads_two, old_made, new_made, reads_grow, reads_shrink}
 use Rattle.script_runner.proofs.kinds.allocators.LiveDriven.read.Goals as goal
 
@@ -27,16 +26,16 @@ returns-in_err-new-in-Five-clause-each g c command is name numbers =
     ∙ new_made five.position five.old_size five.old_align five.size five.align command c.in_err-new-in-Five.ensures.each
     (sym five.is ∙ numbers)
 
-pub returns-then-eq-3-clause-each : goal.returns-then-eq-3-clause-each
-returns-then-eq-3-clause-each g c command is name numbers =
+pub returns-then-is-3-clause-each : goal.returns-then-is-3-clause-each
+returns-then-is-3-clause-each g c command is name numbers =
     let five = c.in-Five in
     reads_grow five.position five.old_size five.old_align five.size five.align c.in_ok-old-in-Five.old c.in_ok-new-in-Five.new
     c.args.name.now command c.in_ok-old-in-Five.ensures.each c.in_ok-new-in-Five.ensures.each
-    (same_text _ _ c.if-eq-3.ensures ∙ c.as_slice-in-Five.ensures) name (sym five.is ∙ numbers)
+    (c.is-in-Five.ensures.0 c.if-is-3.true) name (sym five.is ∙ numbers)
 
-pub returns-then-eq-4-clause-each : goal.returns-then-eq-4-clause-each
-returns-then-eq-4-clause-each g c command is name numbers =
+pub returns-then-is-4-clause-each : goal.returns-then-is-4-clause-each
+returns-then-is-4-clause-each g c command is name numbers =
     let five = c.in-Five in
     reads_shrink five.position five.old_size five.old_align five.size five.align c.in_ok-old-in-Five.old
     c.in_ok-new-in-Five.new c.args.name.now command c.in_ok-old-in-Five.ensures.each c.in_ok-new-in-Five.ensures.each
-    (same_text _ _ c.if-eq-4.ensures ∙ c.as_slice-else-eq-3.ensures) name (sym five.is ∙ numbers)
+    (c.is-else-is-3.ensures.0 c.if-is-4.true) name (sym five.is ∙ numbers)
