@@ -28,19 +28,6 @@ pub on_err : {A E P : Type 0} (r : Result A E) → P → OnErr r P
 on_err (Ok a) p = tt
 on_err (Err e) p = p
 
--- what follows from what holds where a call succeeds, holds there too
-pub on_ok-map : {A E P Q : Type 0} (r : Result A E) → (P → Q) → OnOk r P → OnOk r Q
-on_ok-map (Ok a) f p = f p
-on_ok-map (Err e) f p = tt
-
 -- a cleared line that grows by a text is the text
 pub written_whole : (old new text : List ℕ) → old ≡ [] → Appends (Some old) (Some new) text → new ≡ text
 written_whole old new text empty wrote = wrote ∙ ap (λ l. l ++ text) empty
-
--- by a name and a field with a space, and then by a text
-pub appends_field : (old mid new : Option (List ℕ)) (name field rest : List ℕ) → Appends old mid (name ++ (field ++ 32 ∷ []))
-    → Appends mid new rest → Appends old new (name ++ (field ++ 32 ∷ rest))
-appends_field old mid new name field rest one two =
-    subst (Appends old new)
-    (append_assoc name (field ++ 32 ∷ []) rest ∙ ap (λ l. name ++ l) (append_assoc field (32 ∷ []) rest))
-    (appends_again old mid new (name ++ (field ++ 32 ∷ [])) rest one two)

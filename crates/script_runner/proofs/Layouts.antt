@@ -1,15 +1,19 @@
--- Layouts made of two numbers.
-use Rattle.std.proofs.Common.{◌≡◌, ℕ, zero, suc, ◌*◌, ◌<◌, ◌≤◌, ◌^◌, Result, Ok, Err, Some, IsOk, IfOk, IfSome, ◌↔◌, ap, ◌∙◌, List, ◌∷◌, ◌++◌}
-use Rattle.std.specs.Fmt.{decimal}
-use Rattle.std.proofs.Common.{arith, mul-le-mul_right}
+-- Layouts made of two numbers, and what lines with layouts say.
+use Rattle.std.proofs.Common.{◌≡◌, ℕ, List, codes, Option, None, Some, Result, Ok, Err, IsOk, IfOk, ◌↔◌, ap, ◌∙◌}
 use Rattle.std.proofs.lemmas.Bool.{false≢true}
+use Rattle.std.proofs.lemmas.Option.{none-some, same_Some}
 use Rattle.std.specs.Align.{IsLayout}
+use Rattle.std.specs.Option.{option_map}
 use Rattle.std.specs.Result.{result_ok}
-use Rattle.bb_memory_base.specs.LeastPlace.{least_place}
+use Rattle.bb_memory_base.specs.declared.allocator.Command.{Command}
+use Rattle.bb_memory_base.specs.declared.allocator.Command.TheVariants.{Allocate, Release, Grow, Shrink}
+use Rattle.bb_memory_base.specs.declared.steps.bump.BumpStep.{BumpStep}
+use Rattle.bb_memory_base.specs.declared.steps.bump.BumpStep.TheVariants.{Read, Exchange, Load, Clear}
 use Rattle.bb_memory_base.specs.declared.layout.Layout.{Layout}
 use Rattle.bb_memory_base.proofs.Layouts.{same_layout}
-use Rattle.bb_memory_base.proofs.LeastPlaces.{least_place-is}
-use Rattle.script_runner.specs.Fields.{IsLayoutOfNumbers, layout_text}
+use Rattle.script_runner.specs.declared.words.Numbers.TheVariants.{Two, Three, Five}
+use Rattle.script_runner.specs.kinds.Allocators.{command_words}
+use Rattle.script_runner.specs.kinds.BumpSteps.{step_words}
 
 -- what is made of the numbers of a layout is that layout
 pub result_ok-layout : {E : Type 0} (r : Result Layout E) (size align : ℕ) (layout : Layout)
@@ -20,31 +24,65 @@ result_ok-layout (Ok l) size align layout succeeds made same_size same_align =
 result_ok-layout (Err e) size align layout succeeds made same_size same_align =
     absurd (false≢true (succeeds.1 (rw (same_size, same_align) layout.valid)))
 
--- a layout that is made of two numbers writes them
-pub result_ok-written : {E : Type 0} (r : Result Layout E) (size align : ℕ) (text : List ℕ) → size < 2 ^ 64 → align < 2 ^ 64
-    → IfOk r (λ l. (l.size ≡ size) × (l.align ≡ align)) → text ≡ decimal size ++ 32 ∷ decimal align
-    → IfSome (result_ok r) (λ l. IsLayoutOfNumbers l × (text ≡ layout_text l))
-result_ok-written (Err e) size align text small fits made writes = tt
-result_ok-written (Ok l) size align text small fits made writes =
-    ((rw made.0 small, rw made.1 fits), rw (made.0, made.1) writes)
+-- what is made of two numbers is each layout of these numbers
+abbrev pub Makes : Option Layout → ℕ → ℕ → Type 0
+Makes made size align = (layout : Layout) → layout.size ≡ size → layout.align ≡ align → made ≡ Some layout
 
--- a multiple that isn't 0 is no less than what it is a multiple of
-multiple-above : (n k align : ℕ) → n ≡ k * align → 0 < n → align ≤ n
-multiple-above n zero align is positive = omega (arith, is)
-multiple-above n (suc k) align is positive = omega (arith, is, mul-le-mul_right {m = 1} {n = suc k} align (omega arith))
+-- two numbers say an `alloc`
+pub reads_two : (made : Option Layout) (size align : ℕ) (command : Command) → Makes made size align
+    → Two size align ≡ (command_words command).numbers → option_map Allocate made ≡ Some command
+reads_two made size align (Allocate layout) makes e = ap (option_map Allocate) (makes layout (cc) (cc))
+reads_two made size align (Release position) makes e = absurd (cc)
+reads_two made size align (Grow position old new) makes e = absurd (cc)
+reads_two made size align (Shrink position old new) makes e = absurd (cc)
 
--- the rounded size may be written
-rounded-fits : (layout : Layout) → least_place layout.size layout.align < 2 ^ 63
-unfolding least_place
-rounded-fits layout = layout.valid.fits
+-- three numbers say a `read`
+pub reads_three : (made : Option Layout) (party size align : ℕ) (step : BumpStep) → Makes made size align
+    → Three party size align ≡ (step_words step).numbers → option_map (λ layout. Read party layout) made ≡ Some step
+reads_three made party size align (Read other layout) makes e =
+    let same : party ≡ other = cc in
+    ap (option_map (λ l. Read party l)) (makes layout (cc) (cc)) ∙ ap (λ p. Some (Read p layout)) same
+reads_three made party size align (Exchange other) makes e = absurd (cc)
+reads_three made party size align (Load other) makes e = absurd (cc)
+reads_three made party size align Clear makes e = absurd (cc)
 
--- a layout with a byte is made of numbers that may be written
-pub layout-of_numbers : (layout : Layout) → 0 < layout.size → IsLayoutOfNumbers layout
-layout-of_numbers layout filled =
-    let least = least_place-is layout.size layout.align layout.valid.positive in
-    let fits : least_place layout.size layout.align < 2 ^ 63 = rounded-fits layout in
-    let size : layout.size ≤ least_place layout.size layout.align = least.above in
-    let align : layout.align ≤ least_place layout.size layout.align =
-    multiple-above (least_place layout.size layout.align) least.multiple.0 layout.align least.multiple.1 (omega arith)
-    in
-    (omega arith, omega arith)
+-- five numbers say a resize, whose layouts are made
+pub old_made : (position a b size align : ℕ) (command : Command) → Makes None a b
+    → Five position a b size align ≡ (command_words command).numbers → None ≡ Some command
+old_made position a b size align (Allocate layout) makes e = absurd (cc)
+old_made position a b size align (Release other) makes e = absurd (cc)
+old_made position a b size align (Grow other old new) makes e = absurd (none-some old (makes old (cc) (cc)))
+old_made position a b size align (Shrink other old new) makes e = absurd (none-some old (makes old (cc) (cc)))
+
+pub new_made : (position a b size align : ℕ) (command : Command) → Makes None size align
+    → Five position a b size align ≡ (command_words command).numbers → None ≡ Some command
+new_made position a b size align (Allocate layout) makes e = absurd (cc)
+new_made position a b size align (Release other) makes e = absurd (cc)
+new_made position a b size align (Grow other old new) makes e = absurd (none-some new (makes new (cc) (cc)))
+new_made position a b size align (Shrink other old new) makes e = absurd (none-some new (makes new (cc) (cc)))
+
+-- by its name, a `grow`
+pub reads_grow : (position a b size align : ℕ) (old new : Layout) (name : List ℕ) (command : Command)
+    → Makes (Some old) a b → Makes (Some new) size align → name ≡ codes "grow" → name ≡ (command_words command).name
+    → Five position a b size align ≡ (command_words command).numbers → Some (Grow position old new) ≡ Some command
+reads_grow position a b size align old new name (Allocate layout) olds news is same e = absurd (cc)
+reads_grow position a b size align old new name (Release other) olds news is same e = absurd (cc)
+reads_grow position a b size align old new name (Grow other before after) olds news is same e =
+    let place : position ≡ other = cc in
+    let first = same_Some old before (olds before (cc) (cc)) in
+    let second = same_Some new after (news after (cc) (cc)) in
+    λ i. Some (Grow (place i) (first i) (second i))
+reads_grow position a b size align old new name (Shrink other before after) olds news is same e = absurd (cc)
+
+-- or a `shrink`
+pub reads_shrink : (position a b size align : ℕ) (old new : Layout) (name : List ℕ) (command : Command)
+    → Makes (Some old) a b → Makes (Some new) size align → name ≡ codes "shrink" → name ≡ (command_words command).name
+    → Five position a b size align ≡ (command_words command).numbers → Some (Shrink position old new) ≡ Some command
+reads_shrink position a b size align old new name (Allocate layout) olds news is same e = absurd (cc)
+reads_shrink position a b size align old new name (Release other) olds news is same e = absurd (cc)
+reads_shrink position a b size align old new name (Grow other before after) olds news is same e = absurd (cc)
+reads_shrink position a b size align old new name (Shrink other before after) olds news is same e =
+    let place : position ≡ other = cc in
+    let first = same_Some old before (olds before (cc) (cc)) in
+    let second = same_Some new after (news after (cc) (cc)) in
+    λ i. Some (Shrink (place i) (first i) (second i))

@@ -1,10 +1,8 @@
 mod Appending
-mod CommandLines
-mod Cuts
 mod Cutting
 mod Layouts
+mod LineWords
 mod Numbers
-mod PoolPlans
 mod PoolShows
 mod ScriptLines
 mod Sends

@@ -75,14 +75,6 @@ IsPlain-decimal (suc n) small =
 pub IsPlain-writes : (field : List ℕ) (n : ℕ) → n < 2 ^ 64 → field ≡ decimal n → IsPlain field
 IsPlain-writes field n small e = rw e (IsPlain-decimal n small)
 
--- a number of 6 bits may be written
-pub sixty_four : (n : ℕ) → n < 64 → n < 2 ^ 64
-sixty_four n small = omega (arith, small)
-
--- so may one of 32 bits
-pub half_word : (n : ℕ) → n < 2 ^ 32 → n < 2 ^ 64
-half_word n small = omega (arith, small)
-
 -- what is free is what isn't used
 pub what_is_free : (used free size : ℕ) → used + free ≡ size → free ≡ size - used
 what_is_free used free size whole = omega (arith, whole)

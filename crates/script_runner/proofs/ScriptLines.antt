@@ -1,9 +1,16 @@
 -- The lines of a script, as far as they are read.
-use Rattle.std.proofs.Common.{◌≡◌, ℕ, List, [], ◌∷◌, ◌++◌, length, take, map, Some, All, refl, sym, ap, ◌∙◌, subst}
+use Rattle.std.proofs.Common.{◌≡◌, ℕ, List, [], ◌∷◌, ◌++◌, length, take, map, Some, None, All, IsTrue, codes}
+use Rattle.std.proofs.Common.{refl, sym, ap, ◌∙◌, subst}
 use Rattle.std.specs.Prelude.{slice_get}
 use Rattle.std.proofs.lemmas.List.{take_at, length-map, append_assoc, map-append}
 use Rattle.std.proofs.lemmas.List.Elements.{All-map, All-weaker}
+use Rattle.std.proofs.lemmas.Option.{none-some}
+use Rattle.script_runner.proofs.LineWords.{words_same}
+use Rattle.script_runner.specs.Words.{Words, AreWords}
+use Rattle.script_runner.specs.engine.Rules.{Rules}
 use Rattle.script_runner.specs.engine.Script.{IsTextOf, IsFirstUnreadable}
+use Rattle.script_runner.specs.engine.Transcript.{IsLineText}
+use Rattle.script_runner.specs.declared.engine.script.Line.TheVariants.{Command, Show}
 
 -- what stands after a list
 slice_get_at : {X : Type 0} (xs : List X) (y : X) (ys : List X) → slice_get (xs ++ y ∷ ys) (length xs) ≡ Some y
@@ -36,3 +43,13 @@ pub lines_more : {A : Type 0} (text_of : A → List ℕ) (before grown : List A)
 lines_more text_of before grown value lines rest line same text longer =
     rw longer
     (rw (map-append text_of before (value ∷ []), append_assoc (map text_of before) (text_of value ∷ []) rest, ← text) same)
+
+-- words that are read as no command are no line, where the line isn't a show
+pub unread_line : {S O C R : Type 0} (rules : Rules S O C R) (one : Words) (text : List ℕ) → AreWords one text
+    → ((command : C) → rules.is_command command → one.name ≡ (rules.command_words command).name
+    → one.numbers ≡ (rules.command_words command).numbers → None ≡ Some command)
+    → (IsTrue rules.can_show → text ≡ codes "show" → ⊥) → IsLineText rules text → ⊥
+unread_line rules one text are each no_show (Command command, (is, stand), same) =
+    let parts = words_same one (rules.command_words command) text are (record { stand = stand; text = same }) in
+    none-some command (each command is parts.0 parts.1)
+unread_line rules one text are each no_show (Show, can, same) = no_show can same

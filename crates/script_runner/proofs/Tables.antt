@@ -1,45 +1,49 @@
 -- Tables of kinds, and which kind a first line has.
-use Rattle.std.proofs.Common.{◌≡◌, ◌==◌, ◌-◌, ℕ, zero, suc, true, List, [], ◌∷◌, ◌++◌, inl, inr, All, take, codes, not}
-use Rattle.std.proofs.Common.{Option, Some, None, IfSome, refl, sym, ap, ◌∙◌, arith, append_assoc}
+use Rattle.std.proofs.Common.{◌≡◌, ◌-◌, ◌+◌, ℕ, zero, suc, true, List, [], ◌∷◌, inl, inr, ◌⊎◌, All, take, not}
+use Rattle.std.proofs.Common.{Option, Some, None, IfSome, IfNone, refl, sym, ap, subst, arith}
 use Rattle.std.specs.Prelude.{slice_get}
-use Rattle.std.proofs.lemmas.Bool.{and_parts, or_cases, both_ways, not-true, eq-eqb}
-use Rattle.script_runner.specs.engine.Rules.{Rules, Kind, kind, SomeOf, header_line, apart, apart_from}
-use Rattle.script_runner.specs.Inputs.{HasHeaderOf, IsScriptOf, AreReadable, IsUnreadableAt, BeginsOutputOf}
-use Rattle.script_runner.specs.engine.Transcript.{IsLaterUnreadable, IsLineText, BeginsLaterOutput}
-
--- texts that are apart begin no text both
-pub apart-never : (one other xs ys : List ℕ) → apart one other ≡ true → one ++ xs ≡ other ++ ys → ⊥
-apart-never [] other xs ys test e = cc
-apart-never (a ∷ one) [] xs ys test e = cc
-apart-never (a ∷ one) (b ∷ other) xs ys test e =
-    let same : a ≡ b = cc in
-    let later : one ++ xs ≡ other ++ ys = cc in
-    elim (or_cases (not (a == b)) (apart one other) test) [
-      | inl differ ↦ both_ways (a == b) (not-true (a == b) differ) (eq-eqb a b same)
-      | inr more ↦ apart-never one other xs ys more later
-    ]
+use Rattle.std.specs.Str.{bytes_eq}
+use Rattle.std.proofs.lemmas.Bool.{and_parts, both_ways, not-true}
+use Rattle.std.proofs.lemmas.Option.{none-some}
+use Rattle.std.proofs.lemmas.Slice.Eq.{bytes_eq-Decides}
+use Rattle.std.specs.Io.KnownBytes.{Appends, Keeps}
+use Rattle.script_runner.proofs.LineWords.{words_same}
+use Rattle.script_runner.proofs.Telling.{not_done, not_unreadable, read_unreadable, read_done}
+use Rattle.script_runner.specs.Status.{IsCutShort}
+use Rattle.script_runner.specs.declared.status.Status.TheVariants.{Done, Unreadable}
+use Rattle.script_runner.specs.engine.Script.{Batches, IsFirstUnreadable}
+use Rattle.script_runner.specs.Words.{Words, MayStand, AreWords, words_text}
+use Rattle.script_runner.specs.engine.Rules.{Rules, Kind, kind, SomeOf, header_words, is_new}
+use Rattle.script_runner.specs.declared.status.Status.{Status}
+use Rattle.script_runner.specs.Inputs.{Ends, HasHeader, HasHeaderOf, IsScriptOf, AreReadable, IsUnreadableAt, BeginsOutputOf}
+use Rattle.script_runner.specs.engine.Transcript.{IsLineText, AreScript, IsPlayed, IsBegun, AppendsPart, unreadable_text}
 
 -- what holds of some kind, in other words
-pub some-map : (table : List Kind) (P Q : Kind → Type 0) → ((one : Kind) → P one → Q one) → SomeOf table P → SomeOf table Q
+some-map : (table : List Kind) (P Q : Kind → Type 0) → ((one : Kind) → P one → Q one) → SomeOf table P → SomeOf table Q
 some-map [] P Q f h = h
 some-map (one ∷ others) P Q f (inl p) = inl (f one p)
 some-map (one ∷ others) P Q f (inr later) = inr (some-map others P Q f later)
 
 -- what holds of no kind holds of none of a table
-pub some-none : (table : List Kind) (P : Kind → Type 0) → ((one : Kind) → P one → ⊥) → SomeOf table P → ⊥
+some-none : (table : List Kind) (P : Kind → Type 0) → ((one : Kind) → P one → ⊥) → SomeOf table P → ⊥
 some-none [] P f h = h
 some-none (one ∷ others) P f (inl p) = f one p
 some-none (one ∷ others) P f (inr later) = some-none others P f later
 
+-- what stands first is the words of a header
+header_first : (one : Kind) (first : List ℕ) (rest : List (List ℕ)) (header : one.Header) (after : List (List ℕ))
+    → HasHeader one (first ∷ rest) header after → first ≡ words_text (header_words one.rules header)
+header_first one first rest header after starts =
+    let cut : first ∷ rest ≡ words_text (header_words one.rules header) ∷ after = starts.cut in cc
+
 -- the lines up to some number are a script of a kind only where the first is of that kind
-pub script_header : (first : List ℕ) (rest : List (List ℕ)) (number : ℕ) (one : Kind)
+script_header : (first : List ℕ) (rest : List (List ℕ)) (number : ℕ) (one : Kind)
     → IsScriptOf (take number (first ∷ rest)) one → HasHeaderOf (first ∷ rest) one
 script_header first rest zero one (header, after, starts, read) =
-    let cut : [] ≡ header_line one.rules header ∷ after = starts.cut in absurd (cc)
+    let cut : [] ≡ words_text (header_words one.rules header) ∷ after = starts.cut in absurd (cc)
 script_header first rest (suc n) one (header, after, starts, read) =
-    let cut : first ∷ take n rest ≡ header_line one.rules header ∷ after = starts.cut in
-    let head : first ≡ header_line one.rules header = cc in
-    (header, rest, record { allowed = starts.allowed; cut = ap (λ l. l ∷ rest) head })
+    let head = header_first one first (take n rest) header after starts in
+    (header, rest, record { allowed = starts.allowed; stand = starts.stand; cut = ap (λ l. l ∷ rest) head })
 
 -- a line of no kind is the first that is unreadable
 pub unreadable_first : (table : List Kind) (first : List ℕ) (rest : List (List ℕ))
@@ -53,11 +57,11 @@ pub unreadable_empty : (table : List Kind) → IsUnreadableAt table [] 1
 unreadable_empty table = (
   inl refl,
   some-none table (IsScriptOf [])
-      (λ one (header, after, starts, read). let cut : [] ≡ header_line one.rules header ∷ after = starts.cut in cc),
+      (λ one (header, after, starts, read). let cut : [] ≡ words_text (header_words one.rules header) ∷ after = starts.cut in cc),
 )
 
 -- a line that is the first unreadable one to other kinds is so also with a kind more that doesn't read the first line
-pub unreadable_later : (one : Kind) (others : List Kind) (first : List ℕ) (rest : List (List ℕ)) (number : ℕ)
+unreadable_later : (one : Kind) (others : List Kind) (first : List ℕ) (rest : List (List ℕ)) (number : ℕ)
     → (HasHeaderOf (first ∷ rest) one → ⊥) → IsUnreadableAt others (first ∷ rest) number
     → IsUnreadableAt (one ∷ others) (first ∷ rest) number
 unreadable_later one others first rest number no_header (inl is, unread) = (
@@ -75,20 +79,36 @@ unreadable_later one others first rest number no_header (inr read, unread) = (
   ],
 )
 
--- a first line that begins with a text apart from each kind's name is of none
-pub apart_no_header : (table : List Kind) (start text : List ℕ) (first : List ℕ) (rest : List (List ℕ))
-    → apart_from start table ≡ true → first ≡ start ++ text → SomeOf table (HasHeaderOf (first ∷ rest)) → ⊥
-apart_no_header [] start text first rest test e h = h
-apart_no_header (one ∷ others) start text first rest test e (inl (header, after, starts)) =
+-- a line that isn't words is of no kind
+pub no_words : (table : List Kind) (first : List ℕ) (rest : List (List ℕ))
+    → ((words : Words) → AreWords words first → ⊥) → SomeOf table (HasHeaderOf (first ∷ rest)) → ⊥
+no_words table first rest none =
+    some-none table (HasHeaderOf (first ∷ rest)) (λ one (header, after, starts).
+    none (header_words one.rules header)
+    (record { stand = starts.stand; text = header_first one first rest header after starts }))
+
+-- the words of a first line are those of its header
+header_same : (one : Kind) (first : Words) (rest : List (List ℕ)) (header : one.Header) (after : List (List ℕ))
+    → MayStand first → HasHeader one (words_text first ∷ rest) header after
+    → (first.name ≡ one.rules.name) × (first.numbers ≡ one.rules.header_numbers header)
+header_same one first rest header after stand starts =
+    let head = header_first one (words_text first) rest header after starts in
+    words_same first (header_words one.rules header) (words_text first) (record { stand = stand; text = refl })
+    (record { stand = starts.stand; text = head })
+
+-- a first line whose name is no kind's is of none
+new_no_header : (table : List Kind) (first : Words) (rest : List (List ℕ)) → MayStand first
+    → is_new first.name table ≡ true → SomeOf table (HasHeaderOf (words_text first ∷ rest)) → ⊥
+new_no_header [] first rest stand test h = h
+new_no_header (one ∷ others) first rest stand test (inl (header, after, starts)) =
     let name : List ℕ = one.rules.name in
-    let parts = and_parts (apart start (name ++ codes " ")) (apart_from start others) test in
-    let cut : first ∷ rest ≡ header_line one.rules header ∷ after = starts.cut in
-    let head : first ≡ header_line one.rules header = cc in
-    apart-never start (name ++ codes " ") text (one.rules.header_text header) parts.0
-    (sym e ∙ (head ∙ sym (append_assoc name (codes " ") (one.rules.header_text header))))
-apart_no_header (one ∷ others) start text first rest test e (inr later) =
-    let parts = and_parts (apart start (one.rules.name ++ codes " ")) (apart_from start others) test in
-    apart_no_header others start text first rest parts.1 e later
+    let parts = and_parts (not (bytes_eq first.name name)) (is_new first.name others) test in
+    let same = header_same one first rest header after stand starts in
+    both_ways (bytes_eq first.name name) (not-true (bytes_eq first.name name) parts.0)
+    ((bytes_eq-Decides first.name name).1 same.0)
+new_no_header (one ∷ others) first rest stand test (inr later) =
+    let parts = and_parts (not (bytes_eq first.name one.rules.name)) (is_new first.name others) test in
+    new_no_header others first rest stand parts.1 later
 
 -- a line further than those that are read
 further_unread : (P : List ℕ → Type 0) (rest : List (List ℕ)) (index : ℕ) (line : List ℕ)
@@ -98,62 +118,192 @@ further_unread P (x ∷ xs) zero line got all = let same : x ≡ line = cc in rw
 further_unread P (x ∷ xs) (suc index) line got all =
     further_unread P xs index line got (λ k d below. all (suc k) d (omega (arith, below)))
 
--- behind a first line of a kind that is apart from the others, the kind's first unreadable line is the first
-pub unreadable_here : {S O C R : Type 0} (rules : Rules S O C R) (others : List Kind) (header : O) (first : List ℕ)
-    (rest : List (List ℕ)) (number : ℕ)
-    → apart_from (rules.name ++ codes " ") others ≡ true → rules.is_header header → first ≡ header_line rules header
-    → IsLaterUnreadable rules rest number
-    → IsUnreadableAt (kind rules ∷ others) (first ∷ rest) number
-unreadable_here rules others header first rest number test allowed e (index, (before, line, got, unread), is) =
-    let same : number ≡ suc (suc index) = omega (arith, is) in
-    let less : number - 1 ≡ suc index = omega (arith, is) in
-    let whole : first ≡ (rules.name ++ codes " ") ++ rules.header_text header =
-    e ∙ sym (append_assoc rules.name (codes " ") (rules.header_text header)) in
-    let readable : AreReadable (kind rules ∷ others) (take (suc index) (first ∷ rest)) =
-    inl (header, take index rest, record { allowed = allowed; cut = ap (λ l. l ∷ take index rest) e }, before) in
-    let unreadable : AreReadable (kind rules ∷ others) (take (suc (suc index)) (first ∷ rest)) → ⊥ =
+-- behind a first line of a kind, its first unreadable line is the first
+unreadable_here : {S O C R : Type 0} (rules : Rules S O C R) (header : O) (rest : List (List ℕ)) (index : ℕ)
+    → rules.is_header header → MayStand (header_words rules header) → IsFirstUnreadable (IsLineText rules) rest index
+    → IsUnreadableAt (kind rules ∷ []) (words_text (header_words rules header) ∷ rest) (index + 2)
+unreadable_here rules header rest index allowed stand (before, line, got, unread) =
+    let same : index + 2 ≡ suc (suc index) = omega arith in
+    let less : (index + 2) - 1 ≡ suc index = omega arith in
+    let text : List ℕ = words_text (header_words rules header) in
+    let readable : AreReadable (kind rules ∷ []) (take (suc index) (text ∷ rest)) =
+    inl (header, take index rest, record { allowed = allowed; stand = stand; cut = refl }, before) in
+    let unreadable : AreReadable (kind rules ∷ []) (take (suc (suc index)) (text ∷ rest)) → ⊥ =
     elim [
       | inl (again, after, starts, read) ↦
-          let cut : first ∷ take (suc index) rest ≡ header_line rules again ∷ after = starts.cut in
+          let cut : text ∷ take (suc index) rest ≡ words_text (header_words rules again) ∷ after = starts.cut in
           let same_after : after ≡ take (suc index) rest = cc in
           unread (further_unread (IsLineText rules) rest index line got (rw same_after at read))
-      | inr there ↦
-          apart_no_header others (rules.name ++ codes " ") (rules.header_text header) first rest test whole
-          (some-map others (IsScriptOf (take (suc (suc index)) (first ∷ rest))) (HasHeaderOf (first ∷ rest))
-          (script_header first rest (suc (suc index))) there)
+      | inr none ↦ none
     ] in
     rw (less, same) (inr readable, unreadable)
 
--- the same of what is written of the lines
-pub begun_here : {S O C R : Type 0} (rules : Rules S O C R) (others : List Kind) (header : O) (first : List ℕ)
-    (rest : List (List ℕ)) (sent : List ℕ)
-    → apart_from (rules.name ++ codes " ") others ≡ true → rules.is_header header → first ≡ header_line rules header
-    → BeginsLaterOutput rules header rest sent
-    → BeginsOutputOf (kind rules ∷ others) (first ∷ rest) sent
-begun_here rules others header first rest sent test allowed e (inl begun) =
-    inl (inl (header, rest, record { allowed = allowed; cut = ap (λ l. l ∷ rest) e }, begun))
-begun_here rules others header first rest sent test allowed e (inr (number, is_unreadable, begins)) =
-    inr (number, unreadable_here rules others header first rest number test allowed e is_unreadable, begins)
+-- lines that are readable by one kind are so by more
+early_wider : (one : Kind) (others : List Kind) (lines : List (List ℕ)) (number : ℕ)
+    → (number ≡ 1) ⊎ AreReadable (one ∷ []) lines → (number ≡ 1) ⊎ AreReadable (one ∷ others) lines
+early_wider one others lines number (inl is) = inl is
+early_wider one others lines number (inr (inl here)) = inr (inl here)
+early_wider one others lines number (inr (inr none)) = absurd none
 
-pub begun_later : (one : Kind) (others : List Kind) (first : List ℕ) (rest : List (List ℕ)) (sent : List ℕ)
+-- which is so too by a table of others with other names
+unreadable_wider : (one : Kind) (others : List Kind) (first : Words) (rest : List (List ℕ)) (number : ℕ) → MayStand first
+    → is_new first.name others ≡ true → IsUnreadableAt (one ∷ []) (words_text first ∷ rest) number
+    → IsUnreadableAt (one ∷ others) (words_text first ∷ rest) number
+unreadable_wider one others first rest number stand test (early, unread) = (
+  early_wider one others _ number early,
+  elim [
+    | inl here ↦ unread (inl here)
+    | inr there ↦
+        new_no_header others first rest stand test
+        (some-map others (IsScriptOf (take number (words_text first ∷ rest))) (HasHeaderOf (words_text first ∷ rest))
+        (script_header (words_text first) rest number) there)
+  ],
+)
+
+begun_wider : (one : Kind) (others : List Kind) (first : Words) (rest : List (List ℕ)) (sent : List ℕ) → MayStand first
+    → is_new first.name others ≡ true → BeginsOutputOf (one ∷ []) (words_text first ∷ rest) sent
+    → BeginsOutputOf (one ∷ others) (words_text first ∷ rest) sent
+begun_wider one others first rest sent stand test (inl (inl begun)) = inl (inl begun)
+begun_wider one others first rest sent stand test (inl (inr none)) = absurd none
+begun_wider one others first rest sent stand test (inr (number, unread, begins)) =
+    inr (number, unreadable_wider one others first rest number stand test unread, begins)
+
+begun_later : (one : Kind) (others : List Kind) (first : List ℕ) (rest : List (List ℕ)) (sent : List ℕ)
     → (HasHeaderOf (first ∷ rest) one → ⊥)
     → BeginsOutputOf others (first ∷ rest) sent → BeginsOutputOf (one ∷ others) (first ∷ rest) sent
 begun_later one others first rest sent no_header (inl begun) = inl (inr begun)
 begun_later one others first rest sent no_header (inr (number, is_unreadable, begins)) =
     inr (number, unreadable_later one others first rest number no_header is_unreadable, begins)
 
--- a line that is read as no header of a kind is none of its first lines
-pub no_header : {S O C R : Type 0} (rules : Rules S O C R) (first : List ℕ) (rest : List (List ℕ))
-    → ((header : O) → rules.is_header header → first ≡ header_line rules header → None ≡ Some header)
-    → HasHeaderOf (first ∷ rest) (kind rules) → ⊥
-no_header rules first rest each (header, after, starts) =
-    let cut : first ∷ rest ≡ header_line rules header ∷ after = starts.cut in
-    let head : first ≡ header_line rules header = cc in
-    let e = each header starts.allowed head in
-    cc
+-- words that are read as no header of a kind are none of its first lines
+pub no_header : {S O C R : Type 0} (rules : Rules S O C R) (first : Words) (rest : List (List ℕ)) → MayStand first
+    → ((header : O) → rules.is_header header → first.name ≡ rules.name → first.numbers ≡ rules.header_numbers header
+    → None ≡ Some header)
+    → HasHeaderOf (words_text first ∷ rest) (kind rules) → ⊥
+no_header rules first rest stand each (header, after, starts) =
+    let same = header_same (kind rules) first rest header after stand starts in
+    none-some header (each header starts.allowed same.0 same.1)
 
--- what a status tells, in other words
-pub if_some : {T : Type 0} (made : Option T) (P Q : T → Type 0) → ((value : T) → P value → Q value) → IfSome made P
-    → IfSome made Q
-if_some None P Q f h = h
-if_some (Some value) P Q f h = f value h
+-- how a run on the lines behind an unreadable line of a kind ends
+pub ends_unreadable : {S O C R : Type 0} (rules : Rules S O C R) (header : O) (rest : List (List ℕ)) (index : ℕ)
+    (old new : Option (List ℕ)) (status : Status) → rules.is_header header → MayStand (header_words rules header)
+    → IsFirstUnreadable (IsLineText rules) rest index
+    → (status ≡ Unreadable → Appends old new (unreadable_text (index + 2)))
+    → (IsCutShort status → AppendsPart old new (unreadable_text (index + 2)))
+    → (status ≡ Unreadable) ⊎ IsCutShort status
+    → Ends (kind rules ∷ []) (words_text (header_words rules header) ∷ rest) old new status
+ends_unreadable rules header rest index old new status allowed stand first whole part either =
+    let unread = unreadable_here rules header rest index allowed stand first in
+    record {
+      done = λ is. absurd (not_done status is either);
+      unreadable = λ is. (index + 2, unread, whole is);
+      cut_short = λ short. let (sent, begins, wrote) = part short in inr (sent, inr (index + 2, unread, begins), wrote);
+      input_read = read_unreadable status either;
+    }
+
+-- and on a script
+pub ends_answered : {S O C R : Type 0} (rules : Rules S O C R) (header : O) (rest : List (List ℕ)) (script : Batches C)
+    (old new : Option (List ℕ)) (status : Status) → rules.is_header header → MayStand (header_words rules header)
+    → AreScript rules rest script
+    → (status ≡ Done → (first : S) × (last : S) × (text : List ℕ) × rules.starts header first
+    × IsPlayed rules first script text last × Appends old new text)
+    → (IsCutShort status → Keeps old new ⊎ ((first : S) × (sent : List ℕ) × rules.starts header first
+    × IsBegun rules first script sent × Appends old new sent))
+    → (status ≡ Done) ⊎ IsCutShort status
+    → Ends (kind rules ∷ []) (words_text (header_words rules header) ∷ rest) old new status
+ends_answered rules header rest script old new status allowed stand read whole part either = record {
+  done = λ is.
+      let (first, last, text, starts, played, wrote) = whole is in (
+        text,
+        inl (
+          header,
+          rest,
+          record { allowed = allowed; stand = stand; cut = refl },
+          script,
+          first,
+          last,
+          read,
+          starts,
+          played,
+        ),
+        wrote,
+      );
+  unreadable = λ is. absurd (not_unreadable status is either);
+  cut_short = λ short. elim (part short) [
+    | inl kept ↦ inl kept
+    | inr (first, sent, starts, begun, wrote) ↦
+        inr (
+          sent,
+          inl (inl (
+            header,
+            rest,
+            record { allowed = allowed; stand = stand; cut = refl },
+            script,
+            first,
+            read,
+            starts,
+            begun,
+          )),
+          wrote,
+        )
+  ];
+  input_read = read_done status either;
+}
+
+-- and by a table with others of other names
+pub ends_wider : (one : Kind) (others : List Kind) (first : Words) (rest : List (List ℕ)) (old new : Option (List ℕ))
+    (status : Status) → MayStand first → is_new first.name others ≡ true
+    → Ends (one ∷ []) (words_text first ∷ rest) old new status → Ends (one ∷ others) (words_text first ∷ rest) old new status
+ends_wider one others first rest old new status stand test ends = record {
+  done = λ is.
+      let (text, answered, wrote) = ends.done is in
+      (text, elim answered [ inl here ↦ inl here | inr none ↦ absurd none ], wrote);
+  unreadable = λ is.
+      let (number, unread, wrote) = ends.unreadable is in
+      (number, unreadable_wider one others first rest number stand test unread, wrote);
+  cut_short = λ is. elim (ends.cut_short is) [
+    | inl kept ↦ inl kept
+    | inr (sent, begun, wrote) ↦ inr (sent, begun_wider one others first rest sent stand test begun, wrote)
+  ];
+  input_read = ends.input_read;
+}
+
+-- and by a table with one more kind that doesn't read the first line
+pub ends_later : (made : Option Status) (one : Kind) (others : List Kind) (first : List ℕ) (rest : List (List ℕ))
+    (old new : Option (List ℕ)) → (HasHeaderOf (first ∷ rest) one → ⊥)
+    → IfSome made (Ends others (first ∷ rest) old new) → IfSome made (Ends (one ∷ others) (first ∷ rest) old new)
+ends_later None one others first rest old new no_header ends = tt
+ends_later (Some status) one others first rest old new no_header ends = record {
+  done = λ is. let (text, answered, wrote) = ends.done is in (text, inr answered, wrote);
+  unreadable = λ is.
+      let (number, unread, wrote) = ends.unreadable is in
+      (number, unreadable_later one others first rest number no_header unread, wrote);
+  cut_short = λ is. elim (ends.cut_short is) [
+    | inl kept ↦ inl kept
+    | inr (sent, begun, wrote) ↦ inr (sent, begun_later one others first rest sent no_header begun, wrote)
+  ];
+  input_read = ends.input_read;
+}
+
+-- what no other kind reads, and this one doesn't, none does
+pub none_later : {T S O C R : Type 0} (made : Option T) (rules : Rules S O C R) (others : List Kind) (first : List ℕ)
+    (rest : List (List ℕ)) → (HasHeaderOf (first ∷ rest) (kind rules) → ⊥)
+    → IfNone made (SomeOf others (HasHeaderOf (first ∷ rest)) → ⊥)
+    → IfNone made (SomeOf (kind rules ∷ others) (HasHeaderOf (first ∷ rest)) → ⊥)
+none_later None rules others first rest no_header none = elim [
+  | inl here ↦ no_header here
+  | inr there ↦ none there
+]
+none_later (Some value) rules others first rest no_header none = tt
+
+-- a first line that is unreadable, which is told
+pub ends_first : (table : List Kind) (lines : List (List ℕ)) (old new : Option (List ℕ)) (status : Status)
+    → IsUnreadableAt table lines 1 → (status ≡ Unreadable → Appends old new (unreadable_text 1))
+    → (IsCutShort status → AppendsPart old new (unreadable_text 1))
+    → (status ≡ Unreadable) ⊎ IsCutShort status → Ends table lines old new status
+ends_first table lines old new status unread whole part either = record {
+  done = λ is. absurd (not_done status is either);
+  unreadable = λ is. (1, unread, whole is);
+  cut_short = λ short. let (sent, begins, wrote) = part short in inr (sent, inr (1, unread, begins), wrote);
+  input_read = read_unreadable status either;
+}

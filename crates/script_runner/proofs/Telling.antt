@@ -2,11 +2,15 @@
 use Rattle.std.proofs.Common.{ℕ, List, [], ◌∷◌, ◌++◌, sym, ap, ◌∙◌, refl, subst, ◌≡◌, ◌+◌, ◌<◌, ◌≤◌, length, take, Option, Some}
 use Rattle.std.specs.List.{flat_map}
 use Rattle.std.specs.Prelude.{slice_get}
+use Rattle.std.proofs.Common.{inl, inr, ◌⊎◌}
 use Rattle.std.specs.Io.KnownBytes.{Appends}
 use Rattle.std.proofs.lemmas.List.{append_assoc, append-nil, take_more, take_all}
 use Rattle.std.proofs.lemmas.Option.{get_or_from_slice_get, slice_get_within}
+use Rattle.script_runner.specs.Status.{IsCutShort}
+use Rattle.script_runner.specs.declared.status.Status.{Status}
+use Rattle.script_runner.specs.declared.status.Status.TheVariants.{Done, Unreadable, InputFailed}
 use Rattle.script_runner.specs.engine.Script.{Batches}
-use Rattle.script_runner.specs.engine.Sending.{AppendsPart}
+use Rattle.script_runner.specs.engine.Transcript.{AppendsPart}
 use Rattle.script_runner.proofs.Appending.{appends_again}
 use Rattle.script_runner.proofs.Sends.{begins_after, begins_all}
 use Rattle.script_runner.specs.engine.Transcript.{IsTold, IsPlayed, IsSoFar, IsBegun}
@@ -74,3 +78,24 @@ pub begun_all : {S O C R : Type 0} (rules : Rules S O C R) (start end : S) (scri
     IsSoFar rules start script whole end → Appends old new whole → (sent : List ℕ) × IsBegun rules start script sent
     × Appends old new sent
 begun_all rules start end script old new whole so_far wrote = (whole, (whole, end, begins_all whole, so_far), wrote)
+
+-- statuses are apart
+pub not_done : (status : Status) → status ≡ Done → (status ≡ Unreadable) ⊎ IsCutShort status → ⊥
+not_done status is (inl other) = cc
+not_done status is (inr (inl other)) = cc
+not_done status is (inr (inr other)) = cc
+
+pub not_unreadable : (status : Status) → status ≡ Unreadable → (status ≡ Done) ⊎ IsCutShort status → ⊥
+not_unreadable status is (inl other) = cc
+not_unreadable status is (inr (inl other)) = cc
+not_unreadable status is (inr (inr other)) = cc
+
+pub read_unreadable : (status : Status) → (status ≡ Unreadable) ⊎ IsCutShort status → status ≡ InputFailed → ⊥
+read_unreadable status (inl other) is = cc
+read_unreadable status (inr (inl other)) is = cc
+read_unreadable status (inr (inr other)) is = cc
+
+pub read_done : (status : Status) → (status ≡ Done) ⊎ IsCutShort status → status ≡ InputFailed → ⊥
+read_done status (inl other) is = cc
+read_done status (inr (inl other)) is = cc
+read_done status (inr (inr other)) is = cc

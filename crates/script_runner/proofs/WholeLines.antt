@@ -1,9 +1,11 @@
 -- What the lines of an input are, and that no others are.
-use Rattle.std.proofs.Common.{◌≡◌, ◌≢◌, ℕ, suc, zero, Bool, true, false, List, [], ◌∷◌, ◌++◌, length, refl, sym, ap, ◌∙◌, arith}
+use Rattle.std.proofs.Common.{◌≡◌, ◌≢◌, ◌<◌, ℕ, suc, zero, Bool, true, false, List, [], ◌∷◌, ◌++◌, length, drop, arith}
+use Rattle.std.proofs.Common.{refl, sym, ap, ◌∙◌}
 use Rattle.std.proofs.Common.{inl, inr, ◌⊎◌, append_assoc, subst, append-nil, length-append, tests, All, Contains, eqb}
 use Rattle.std.specs.List.{onto_first}
 use Rattle.std.proofs.lemmas.List.{append_cancel_right, flat_map_more}
 use Rattle.std.proofs.lemmas.List.Elements.{All-nil, All-cons, All-head, All-tail}
+use Rattle.script_runner.specs.Words.{StartsWith}
 use Rattle.script_runner.specs.engine.Lines.{lines_of, ended, EndsInText, AreLines}
 
 -- whether a byte is a line feed
@@ -38,7 +40,7 @@ no_feed-cons byte line other none (zero, below, at) = other at
 no_feed-cons byte line other none (suc k, below, at) = none (k, omega (arith, below), at)
 
 -- a text of other bytes has no line feed
-pub no_feed-all : (line : List ℕ) → All (λ byte. byte ≢ 10) line → HasNoFeed line
+no_feed-all : (line : List ℕ) → All (λ byte. byte ≢ 10) line → HasNoFeed line
 no_feed-all [] all = no_feed-nil
 no_feed-all (byte ∷ line) all =
     no_feed-cons byte line (All-head (λ b. b ≢ 10) byte line all) (no_feed-all line (All-tail (λ b. b ≢ 10) byte line all))
@@ -124,7 +126,7 @@ no_feed-tail : (byte : ℕ) (line : List ℕ) → HasNoFeed (byte ∷ line) → 
 no_feed-tail byte line none (k, below, at) = none (suc k, omega (arith, below), at)
 
 -- a line that ends comes first
-pub lines_line : (line rest : List ℕ) → HasNoFeed line → lines_of (line ++ 10 ∷ rest) ≡ line ∷ lines_of rest
+lines_line : (line rest : List ℕ) → HasNoFeed line → lines_of (line ++ 10 ∷ rest) ≡ line ∷ lines_of rest
 lines_line [] rest none = refl
 lines_line (byte ∷ line) rest none =
     line_by (feed byte) byte line rest refl none (lines_line line rest (no_feed-tail byte line none))
@@ -137,9 +139,25 @@ last_by false byte [] e none later = rw e refl
 last_by false byte (next ∷ line) e none later = rw e (ap (onto_first byte) (later (λ n. cc)))
 
 -- a line that doesn't end is the only one
-pub lines_last : (line : List ℕ) → HasNoFeed line → line ≢ [] → lines_of line ≡ line ∷ []
+lines_last : (line : List ℕ) → HasNoFeed line → line ≢ [] → lines_of line ≡ line ∷ []
 lines_last [] none some = absurd (some refl)
 lines_last (byte ∷ line) none some = last_by (feed byte) byte line refl none (lines_last line (no_feed-tail byte line none))
+
+-- so comes a text before a line feed
+pub lines_split : (input line rest : List ℕ) → input ≡ line ++ rest → All (λ byte. byte ≢ 10) line → StartsWith 10 rest
+    → 0 < length rest → lines_of input ≡ line ∷ lines_of (drop 1 rest)
+lines_split input line [] e clear start some = absurd (omega (arith, some))
+lines_split input line (byte ∷ rest) e clear start some =
+    ap lines_of (e ∙ ap (λ b. line ++ b ∷ rest) start) ∙ lines_line line rest (no_feed-all line clear)
+
+-- and one before no more
+pub lines_whole_text : (input line rest : List ℕ) → input ≡ line ++ rest → All (λ byte. byte ≢ 10) line
+    → 0 < length input → length rest ≡ 0 → lines_of input ≡ line ∷ lines_of rest
+lines_whole_text input line [] e clear some none =
+    let same : input ≡ line = e ∙ append-nil line in
+    ap lines_of same
+    ∙ lines_last line (no_feed-all line clear) (λ empty. omega (arith, some, ap length (same ∙ empty)))
+lines_whole_text input line (byte ∷ rest) e clear some none = absurd (omega (arith, none))
 
 -- lines that end come first
 lines_ended : (front : List (List ℕ)) (rest : List ℕ) → All HasNoFeed front

@@ -1,18 +1,28 @@
 -- What is written of an input.
-use Rattle.std.specs.Prelude.{ℕ, ◌≡◌, ◌-◌, ◌⊎◌, List, ◌∷◌, All, Option, IfSome, take}
-use Rattle.script_runner.specs.AllKinds.{kinds}
+use Rattle.std.specs.Prelude.{ℕ, ◌≡◌, ◌≢◌, ◌-◌, ◌⊎◌, List, [], ◌∷◌, All, Option, IfSome, take}
+use Rattle.std.specs.Io.KnownBytes.{Keeps, Appends}
+use Rattle.script_runner.specs.kinds.Bump.{bump_rules}
+use Rattle.script_runner.specs.kinds.BumpSteps.{bump_step_rules}
+use Rattle.script_runner.specs.kinds.Allocators.{live_rules}
+use Rattle.script_runner.specs.kinds.LoanPool.{loan_pool_rules}
+use Rattle.script_runner.specs.kinds.OneChunk.{one_chunk_rules}
+use Rattle.script_runner.specs.kinds.Pool.{fixed_rules, pool_rules}
+use Rattle.script_runner.specs.kinds.PoolSteps.{pool_step_rules}
+use Rattle.script_runner.specs.Status.{IsCutShort}
+use Rattle.script_runner.specs.declared.status.Status.{Status}
+use Rattle.script_runner.specs.declared.status.Status.TheVariants.{Done, Unreadable, InputFailed}
 use Rattle.script_runner.specs.engine.Lines.{lines_of}
-use Rattle.script_runner.specs.engine.Rules.{Kind, SomeOf, header_line}
-use Rattle.script_runner.specs.engine.Sending.{Begins}
-use Rattle.script_runner.specs.engine.Transcript.{IsTranscript, IsBegunTranscript, IsLineText, unreadable_text}
-
--- OF LINES, BY A TABLE OF KINDS
+use Rattle.script_runner.specs.Words.{MayStand, words_text}
+use Rattle.script_runner.specs.engine.Rules.{Kind, kind, SomeOf, header_words}
+use Rattle.script_runner.specs.engine.Script.{Batches}
+use Rattle.script_runner.specs.engine.Transcript.{Begins, AreScript, IsPlayed, IsBegun, IsLineText, unreadable_text}
 
 -- the lines are a first line of this kind, that says this of what is to be made, and the rest
 pub record HasHeader (kind : Kind) (lines : List (List ℕ))
     (header : kind.Header) (rest : List (List ℕ)) : Type 0 where
   pub allowed : kind.rules.is_header header
-  pub cut : lines ≡ header_line kind.rules header ∷ rest
+  pub stand : MayStand (header_words kind.rules header)
+  pub cut : lines ≡ words_text (header_words kind.rules header) ∷ rest
 
 -- the first line is of this kind
 abbrev pub HasHeaderOf : List (List ℕ) → Kind → Type 0
@@ -29,13 +39,15 @@ IsScriptOf lines kind =
 abbrev pub IsAnsweredBy : List (List ℕ) → List ℕ → Kind → Type 0
 IsAnsweredBy lines text kind =
     (header : kind.Header) × (rest : List (List ℕ)) × HasHeader kind lines header rest
-    × IsTranscript kind.rules header rest text
+    × (script : Batches kind.Command) × (first : kind.State) × (last : kind.State) × AreScript kind.rules rest script
+    × kind.rules.starts header first × IsPlayed kind.rules first script text last
 
 -- the lines are a script of this kind, and the bytes begin what it is answered
 abbrev pub IsBegunBy : List (List ℕ) → List ℕ → Kind → Type 0
 IsBegunBy lines sent kind =
     (header : kind.Header) × (rest : List (List ℕ)) × HasHeader kind lines header rest
-    × IsBegunTranscript kind.rules header rest sent
+    × (script : Batches kind.Command) × (first : kind.State) × AreScript kind.rules rest script
+    × kind.rules.starts header first × IsBegun kind.rules first script sent
 
 -- the lines are a script of some kind
 abbrev pub AreReadable : List Kind → List (List ℕ) → Type 0
@@ -54,7 +66,26 @@ BeginsOutputOf table lines sent =
     SomeOf table (IsBegunBy lines sent)
     ⊎ ((number : ℕ) × IsUnreadableAt table lines number × Begins sent (unreadable_text number))
 
--- OF AN INPUT
+-- how a run on the lines ends, and what it writes
+pub record Ends (table : List Kind) (lines : List (List ℕ)) (old new : Option (List ℕ)) (status : Status) : Type 0 where
+  pub done : status ≡ Done → (text : List ℕ) × SomeOf table (IsAnsweredBy lines text) × Appends old new text
+  pub unreadable : status ≡ Unreadable
+      → (number : ℕ) × IsUnreadableAt table lines number × Appends old new (unreadable_text number)
+  pub cut_short : IsCutShort status
+      → Keeps old new ⊎ ((sent : List ℕ) × BeginsOutputOf table lines sent × Appends old new sent)
+  pub input_read : status ≢ InputFailed
+
+-- the kinds of scripts
+abbrev pub kinds : List Kind
+kinds =
+    kind (live_rules bump_rules)
+    ∷ kind (live_rules one_chunk_rules)
+    ∷ kind (live_rules pool_rules)
+    ∷ kind (live_rules fixed_rules)
+    ∷ kind bump_step_rules
+    ∷ kind pool_step_rules
+    ∷ kind loan_pool_rules
+    ∷ []
 
 -- the input is a script of some kind, and the text is what it is answered
 abbrev pub IsAnswered : List ℕ → List ℕ → Type 0

@@ -1,6 +1,5 @@
-pub mod AllKinds
-pub mod Fields
 pub mod Inputs
 pub mod Status
+pub mod Words
 pub mod engine
 pub mod kinds

@@ -2,5 +2,4 @@
 pub mod Lines
 pub mod Rules
 pub mod Script
-pub mod Sending
 pub mod Transcript

@@ -1,4 +1,3 @@
 //! From the lines of a script of any kind to the lines of its replies.
-pub mod driven;
 pub mod driving;
 pub mod script;

@@ -8,12 +8,12 @@ pub mod one_chunk;
 pub mod pool;
 pub mod pool_steps;
 
-use crate::engine::driven::Driven;
-use crate::engine::driving::drive;
+use crate::engine::driving::{Driven, drive};
 use crate::kinds::allocators::Live;
 use crate::kinds::loan_pool::LoanPool;
 use crate::kinds::pool::Fixed;
 use crate::status::Status;
+use crate::words::Numbers;
 use bb_memory::bump_allocator::BumpAllocator;
 use bb_memory::one_chunk_allocator::OneChunkAllocator;
 use bb_memory::pool_allocator::PoolAllocator;
@@ -38,35 +38,29 @@ type FromLoanPool = (LoanPool, ());
 
 /// Kinds of scripts, one after another.
 pub trait Kinds {
-    ghost use Rattle.std.specs.Prelude.{◌≡◌, ◌≢◌, ◌⊎◌, ◌∷◌, ℕ, List, IfNone, IfSome, true};
-    ghost use Rattle.std.specs.Io.KnownBytes.{Keeps, Appends};
-    ghost use Rattle.script_runner.specs.Status.{IsCutShort};
+    ghost use Rattle.std.specs.Prelude.{◌≡◌, ◌∷◌, List, IfNone, IfSome, true};
+    ghost use Rattle.script_runner.specs.Inputs.{HasHeaderOf, Ends};
+    ghost use Rattle.script_runner.specs.Words.{words, words_text, MayStand};
     ghost use Rattle.script_runner.specs.engine.Lines.{lines_of};
     ghost use Rattle.script_runner.specs.engine.Rules.{Kind, SomeOf, are_apart};
-    ghost use Rattle.script_runner.specs.Inputs.{HasHeaderOf, IsAnsweredBy, IsUnreadableAt, BeginsOutputOf};
-    ghost use Rattle.script_runner.specs.engine.Transcript.{unreadable_text};
-    ghost use Rattle.script_runner.specs.declared.status.Status.TheVariants.{Done, Unreadable, InputFailed};
 
     ghost table: { List Kind };
 
-    /// Checks and runs the script of this header and these bytes behind it, where one of the kinds reads the header.
-    fn run<W: Write>(alloc: Global, first: &[u8], rest: &[u8], writer: &mut W) -> Option<Status>
-        requires { are_apart table ≡ true }
+    /// Checks and runs the script of a header of these words and the bytes behind it, where one of the kinds reads the header.
+    fn run<W: Write>(
+        alloc: Global,
+        name: &[u8],
+        numbers: Numbers,
+        rest: &[u8],
+        writer: &mut W,
+    ) -> Option<Status>
+        requires apart { are_apart table ≡ true }
+        requires stand { MayStand (words name.now numbers) }
         ensures none { IfNone result
-            (¬ SomeOf table (HasHeaderOf (first.now ∷ lines_of rest.now))) }
+            (¬ SomeOf table (HasHeaderOf (words_text (words name.now numbers) ∷ lines_of rest.now))) }
         ensures untouched { IfNone result (writer.new ≡ writer.old) }
-        ensures done { IfSome result (λ status. status ≡ Done → (text : List ℕ)
-            × SomeOf table (IsAnsweredBy (first.now ∷ lines_of rest.now) text)
-            × Appends (W.contents writer.old) (W.contents writer.new) text) }
-        ensures unreadable { IfSome result (λ status. status ≡ Unreadable → (number : ℕ)
-            × IsUnreadableAt table (first.now ∷ lines_of rest.now) number
-            × Appends (W.contents writer.old) (W.contents writer.new) (unreadable_text number)) }
-        ensures cut_short { IfSome result (λ status. IsCutShort status
-            → Keeps (W.contents writer.old) (W.contents writer.new)
-            ⊎ ((sent : List ℕ)
-            × BeginsOutputOf table (first.now ∷ lines_of rest.now) sent
-            × Appends (W.contents writer.old) (W.contents writer.new) sent)) }
-        ensures input_read { IfSome result (λ status. status ≢ InputFailed) };
+        ensures ends { IfSome result (Ends table (words_text (words name.now numbers) ∷ lines_of rest.now)
+            (W.contents writer.old) (W.contents writer.new)) };
 }
 
 impl Kinds for () {
@@ -74,7 +68,7 @@ impl Kinds for () {
 
     ghost table = { [] };
 
-    fn run<W: Write>(_: Global, _: &[u8], _: &[u8], _: &mut W) -> Option<Status> {
+    fn run<W: Write>(_: Global, _: &[u8], _: Numbers, _: &[u8], _: &mut W) -> Option<Status> {
         None
     }
 }
@@ -85,10 +79,16 @@ impl<K: Driven, Others: Kinds> Kinds for (K, Others) {
 
     ghost table = { kind K.rules ∷ Others.table };
 
-    fn run<W: Write>(alloc: Global, first: &[u8], rest: &[u8], writer: &mut W) -> Option<Status> {
-        match K::read_header(first) {
+    fn run<W: Write>(
+        alloc: Global,
+        name: &[u8],
+        numbers: Numbers,
+        rest: &[u8],
+        writer: &mut W,
+    ) -> Option<Status> {
+        match K::read_header(name, numbers) {
             Some(header) => Some(drive::<K, W>(alloc, header, rest, writer)),
-            None => Others::run(alloc, first, rest, writer),
+            None => Others::run(alloc, name, numbers, rest, writer),
         }
     }
 }

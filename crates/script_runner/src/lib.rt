@@ -5,19 +5,19 @@
 //!
 //! - `running`: from the bytes of a script to the bytes that it is answered. `status`: how a run ends. `laws`: what holds of
 //!   every input and every status.
-//! - `engine`, what all kinds of scripts share. `driven` says what a kind of script has to have; `driving` runs a script of a
-//!   kind; `script` cuts the input into lines, reads them, and keeps what they say.
+//! - `engine`, what all kinds of scripts share. `driving` says what a kind of script has to have, and runs a script of a kind;
+//!   `script` cuts the input into lines, reads them, and keeps what they say.
 //! - `kinds`, the table of the kinds and a file for each: the allocators, over what `allocators` shares; `bump_steps` and
 //!   `pool_steps`, the twins; `loan_pool`.
-//! - `fields`: the numbers, layouts, regions and parties that stand between the spaces of a line.
+//! - `words`: the name and the numbers of a line, and the layouts, regions and parties that these numbers write.
 #![tactic(auto)]
 
 mod engine;
-mod fields;
 mod kinds;
 mod laws;
 mod running;
 mod status;
+mod words;
 
 pub use laws::{equality_law, lines_law};
 pub use running::run;

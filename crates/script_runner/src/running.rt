@@ -1,17 +1,17 @@
 //! From the bytes of a script to the bytes that it is answered.
-ghost use Rattle.std.specs.Prelude.{◌≡◌, ◌≢◌, ◌⊎◌, ℕ, List, true};
+ghost use Rattle.std.specs.Prelude.{◌≡◌, ◌⊎◌, ℕ, List, true};
 ghost use Rattle.std.specs.Io.KnownBytes.{Keeps, Appends};
 ghost use Rattle.script_runner.specs.Status.{IsCutShort};
-ghost use Rattle.script_runner.specs.Inputs.{IsAnswered, IsUnreadable, BeginsOutput, IsLeft};
-ghost use Rattle.script_runner.specs.Inputs.{IsAnsweredBy, IsUnreadableAt, BeginsOutputOf};
+ghost use Rattle.script_runner.specs.Inputs.{IsAnswered, IsUnreadable, BeginsOutput, IsLeft, Ends, kinds};
 ghost use Rattle.script_runner.specs.engine.Lines.{lines_of};
-ghost use Rattle.script_runner.specs.engine.Rules.{SomeOf, are_apart};
+ghost use Rattle.script_runner.specs.engine.Rules.{are_apart};
 ghost use Rattle.script_runner.specs.engine.Transcript.{unreadable_text};
 
 use crate::engine::driving::tell_unreadable;
 use crate::engine::script::first_line;
 use crate::kinds::{AllKinds, Kinds};
 use crate::status::Status;
+use crate::words::words;
 use std::alloc::Global;
 use std::io::{ErrorKind, Read, Write};
 
@@ -34,30 +34,31 @@ pub fn run<R: Read + Drop, W: Write>(alloc: Global, mut reader: R, writer: &mut 
 {
     let mut input = Vec::new(alloc);
     match reader.read_to_end(&mut input) {
-        Ok(_) => run_input::<AllKinds, W>(alloc, &input, writer),
+        Ok(_) => run_kinds(alloc, &input, writer),
         Err(e) if e.kind() == ErrorKind::OutOfMemory => Status::OutOfMemory,
         Err(_) => Status::InputFailed,
     }
 }
 
+/// Checks every line of an input, and then runs it, by the table of all kinds.
+fn run_kinds<W: Write>(alloc: Global, input: &[u8], writer: &mut W) -> Status
+    ensures { Ends kinds (lines_of input.now) (W.contents writer.old) (W.contents writer.new) result }
+{
+    run_input::<AllKinds, W>(alloc, input, writer)
+}
+
 /// Checks every line of an input, and then runs it, by a table of kinds.
 fn run_input<K: Kinds, W: Write>(alloc: Global, input: &[u8], writer: &mut W) -> Status
     requires { are_apart K.table ≡ true }
-    ensures done { result ≡ Status.Done → (text : List ℕ)
-        × SomeOf K.table (IsAnsweredBy (lines_of input.now) text)
-        × Appends (W.contents writer.old) (W.contents writer.new) text }
-    ensures unreadable { result ≡ Status.Unreadable → (number : ℕ)
-        × IsUnreadableAt K.table (lines_of input.now) number
-        × Appends (W.contents writer.old) (W.contents writer.new) (unreadable_text number) }
-    ensures cut_short { IsCutShort result → Keeps (W.contents writer.old) (W.contents writer.new)
-        ⊎ ((sent : List ℕ) × BeginsOutputOf K.table (lines_of input.now) sent
-        × Appends (W.contents writer.old) (W.contents writer.new) sent) }
-    ensures input_read { result ≢ Status.InputFailed }
+    ensures { Ends K.table (lines_of input.now) (W.contents writer.old) (W.contents writer.new) result }
 {
     let Some((first, rest)) = first_line(input) else {
         return tell_unreadable(alloc, 1, writer);
     };
-    match K::run(alloc, first, rest, writer) {
+    let Some((name, numbers)) = words(first) else {
+        return tell_unreadable(alloc, 1, writer);
+    };
+    match K::run(alloc, name, numbers, rest, writer) {
         Some(status) => status,
         None => tell_unreadable(alloc, 1, writer),
     }

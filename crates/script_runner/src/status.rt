@@ -1,6 +1,6 @@
 //! The status of a run.
-ghost use Rattle.std.specs.Prelude.{◌≡◌, ◌↔◌, MatchOption, None, Some};
-ghost use Rattle.script_runner.specs.Status.{code_of, message_of, IsCutShort};
+ghost use Rattle.std.specs.Prelude.{◌≡◌, MatchOption, None, Some};
+ghost use Rattle.script_runner.specs.Status.{code_of, message_of};
 
 use std::alloc::AllocError;
 
@@ -46,32 +46,13 @@ impl Status {
     }
 }
 
-/// A failure that stops a readable script.
-#[derive(Clone, Copy)]
-pub enum Failure {
-    Output,
-    Memory,
-}
-
-impl Failure {
-    pub fn status(self) -> Status
-        ensures either { IsCutShort result }
-        ensures output { (result ≡ Status.OutputFailed) ↔ (self ≡ Failure.Output) }
-    {
-        match self {
-            Failure::Output => Status::OutputFailed,
-            Failure::Memory => Status::OutOfMemory,
-        }
-    }
-}
-
-impl From<AllocError> for Failure {
+impl From<AllocError> for Status {
     ghost use Rattle.std.specs.Prelude.{◌≡◌};
-    ghost use Rattle.script_runner.specs.declared.status.Failure.{Failure};
+    ghost use Rattle.script_runner.specs.declared.status.Status.TheVariants.{OutOfMemory};
 
-    ghost from_gives = { λ _ failure. failure ≡ Failure.Memory };
+    ghost from_gives = { λ _ status. status ≡ OutOfMemory };
 
-    fn from(_e: AllocError) -> Failure {
-        Failure::Memory
+    fn from(_e: AllocError) -> Status {
+        Status::OutOfMemory
     }
 }

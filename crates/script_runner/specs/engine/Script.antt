@@ -1,11 +1,8 @@
 -- Scripts: their commands, cut at each show, and which lines they are.
 use Rattle.std.specs.Prelude.{ℕ, ◌≡◌, ◌≤◌, List, [], ◌∷◌, ◌++◌, map, All, take, slice_get, slice_range, Some}
-use Rattle.std.specs.Prelude.{Result, OnOk, OnErr}
 use Rattle.std.specs.List.{flat_map}
 use Rattle.script_runner.specs.declared.engine.script.Line.{Line}
 use Rattle.script_runner.specs.declared.engine.script.Line.TheVariants.{Command, Show}
-
--- BATCHES
 
 -- the commands before each show, and those after the last
 pub record Batches (C : Type 0) : Type 0 where
@@ -28,8 +25,6 @@ abbrev pub AreInOrder : ℕ → List ℕ → ℕ → Type 0
 AreInOrder start [] len = start ≤ len
 AreInOrder start (end ∷ ends) len = (start ≤ end) × AreInOrder end ends len
 
--- LINES
-
 -- the commands, and then a show
 abbrev pub shown_lines : {C : Type 0} → List C → List (Line C)
 shown_lines batch = map Command batch ++ Show ∷ []
@@ -37,12 +32,6 @@ shown_lines batch = map Command batch ++ Show ∷ []
 -- the lines of a script after the first
 abbrev pub script_lines : {C : Type 0} → Batches C → List (Line C)
 script_lines script = flat_map shown_lines script.shown ++ map Command script.last
-
--- the line stands behind the others then; where memory was refused, the script is as it was
-pub record Adds {C Done Error : Type 0} (old : Batches C) (line : Line C) (answer : Result Done Error) (new : Batches C)
-    : Type 0 where
-  pub added : OnOk answer (script_lines new ≡ script_lines old ++ line ∷ [])
-  pub still : OnErr answer (new ≡ old)
 
 -- the bytes are those of a value that is allowed
 abbrev pub IsTextOf : {A : Type 0} → (A → Type 0) → (A → List ℕ) → List ℕ → Type 0

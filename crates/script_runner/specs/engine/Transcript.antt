@@ -1,11 +1,25 @@
 -- What a run writes.
-use Rattle.std.specs.Prelude.{ℕ, ◌≡◌, ◌+◌, ◌⊎◌, List, [], ◌∷◌, ◌++◌, All, codes, map, take}
-use Rattle.std.specs.Fmt.{decimal}
+use Rattle.std.specs.Prelude.{ℕ, ◌≡◌, ◌⊎◌, List, [], ◌∷◌, ◌++◌, All, Option, Result, MatchResult, codes, map, take}
+use Rattle.std.specs.Io.KnownBytes.{Appends}
 use Rattle.std.specs.List.{flat_map}
+use Rattle.script_runner.specs.Words.{words_then}
+use Rattle.script_runner.specs.declared.words.Numbers.TheVariants.{One}
 use Rattle.script_runner.specs.engine.Script.{Batches}
-use Rattle.script_runner.specs.engine.Sending.{Begins}
 use Rattle.script_runner.specs.engine.Rules.{Rules, IsLine, line_text}
-use Rattle.script_runner.specs.engine.Script.{IsTextOf, IsFirstUnreadable, script_lines}
+use Rattle.script_runner.specs.engine.Script.{IsTextOf, script_lines}
+
+-- the bytes begin the text
+abbrev pub Begins : List ℕ → List ℕ → Type 0
+Begins sent text = (rest : List ℕ) × (text ≡ sent ++ rest)
+
+-- known bytes grow by a beginning of the text
+abbrev pub AppendsPart : Option (List ℕ) → Option (List ℕ) → List ℕ → Type 0
+AppendsPart old new text = (sent : List ℕ) × Begins sent text × Appends old new sent
+
+-- they grow by the text at success, and else by a beginning of it
+abbrev pub Sends : {T E : Type 0} → Option (List ℕ) → Option (List ℕ) → List ℕ → Result T E → Type 0
+Sends old new text result =
+    MatchResult result (λ _. Appends old new text) (λ _. AppendsPart old new text)
 
 -- the line may stand behind the first
 abbrev pub IsLineText : {S O C R : Type 0} → Rules S O C R → List ℕ → Type 0
@@ -42,36 +56,6 @@ abbrev pub IsBegun : {S O C R : Type 0} → Rules S O C R → S → Batches C �
 IsBegun {S} rules old script sent =
     (text : List ℕ) × (new : S) × Begins sent text × IsSoFar rules old script text new
 
--- these lines are a script, and the text is what it is answered where it starts so
-abbrev pub IsTranscript : {S O C R : Type 0} → Rules S O C R → O → List (List ℕ) → List ℕ → Type 0
-IsTranscript {S} {O} {C} {R} rules header lines text =
-    (script : Batches C) × (first : S) × (last : S) × AreScript rules lines script
-    × rules.starts header first × IsPlayed rules first script text last
-
--- these lines are a script, and the bytes begin what it is answered
-abbrev pub IsBegunTranscript : {S O C R : Type 0} → Rules S O C R → O
-    → List (List ℕ) → List ℕ → Type 0
-IsBegunTranscript {S} {O} {C} {R} rules header lines sent =
-    (script : Batches C) × (first : S) × AreScript rules lines script
-    × rules.starts header first × IsBegun rules first script sent
-
--- behind a readable first line, the first that is unreadable has this number
-abbrev pub IsLaterUnreadable : {S O C R : Type 0} → Rules S O C R → List (List ℕ) → ℕ → Type 0
-IsLaterUnreadable rules rest number =
-    (index : ℕ) × IsFirstUnreadable (IsLineText rules) rest index × (number ≡ index + 2)
-
 -- what is written of the first unreadable line, a line feed included
 abbrev pub unreadable_text : ℕ → List ℕ
-unreadable_text number = codes "line " ++ (decimal number ++ codes ": refused\n")
-
--- the bytes begin what is written of the first unreadable line
-abbrev pub IsBegunLaterUnreadable : {S O C R : Type 0} → Rules S O C R
-    → List (List ℕ) → List ℕ → Type 0
-IsBegunLaterUnreadable rules rest sent =
-    (number : ℕ) × IsLaterUnreadable rules rest number × Begins sent (unreadable_text number)
-
--- the bytes begin what is written of these lines, behind a first line of this header, be they readable or not
-abbrev pub BeginsLaterOutput : {S O C R : Type 0} → Rules S O C R → O
-    → List (List ℕ) → List ℕ → Type 0
-BeginsLaterOutput rules header rest sent =
-    IsBegunTranscript rules header rest sent ⊎ IsBegunLaterUnreadable rules rest sent
+unreadable_text number = words_then (codes "line") (One number) (codes ": refused\n")

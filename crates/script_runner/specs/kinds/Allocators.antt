@@ -1,6 +1,5 @@
 -- Scripts that drive an allocator: what all of them share.
-use Rattle.std.specs.Prelude.{ℕ, ◌≡◌, List, [], ◌++◌, codes, length, true}
-use Rattle.std.specs.Fmt.{decimal}
+use Rattle.std.specs.Prelude.{ℕ, ◌≡◌, List, [], codes, length, true}
 use Rattle.bb_memory_base.specs.Chunk.{Chunk}
 use Rattle.bb_memory_base.specs.declared.allocator.AllocationError.{AllocationError}
 use Rattle.bb_memory_base.specs.declared.allocator.AllocationError.TheVariants as refused
@@ -12,41 +11,17 @@ use Rattle.bb_memory_base.specs.declared.allocator.Command.{Command}
 use Rattle.bb_memory_base.specs.declared.allocator.Command.TheVariants.{Allocate, Release, Grow, Shrink}
 use Rattle.bb_memory_base.specs.declared.allocator.Reply.{Reply}
 use Rattle.bb_memory_base.specs.declared.allocator.Reply.TheVariants as reply
-use Rattle.bb_memory_base.specs.declared.layout.Layout.{Layout}
-use Rattle.script_runner.specs.Fields.{IsNumber, IsLayoutOfNumbers, layout_text}
+use Rattle.script_runner.specs.Words.{Words, words, words_then}
+use Rattle.script_runner.specs.declared.words.Numbers.{Numbers}
+use Rattle.script_runner.specs.declared.words.Numbers.TheVariants.{One, Two, Five}
 use Rattle.script_runner.specs.engine.Rules.{Rules}
 
--- COMMANDS
-
--- a position and two layouts of such numbers
-abbrev pub IsResizeOfNumbers : ℕ → Layout → Layout → Type 0
-IsResizeOfNumbers position old new =
-    IsNumber position × IsLayoutOfNumbers old × IsLayoutOfNumbers new
-
--- its numbers may be written
-abbrev pub IsCommandOfNumbers : Command → Type 0
-IsCommandOfNumbers (Allocate layout) = IsLayoutOfNumbers layout
-IsCommandOfNumbers (Release position) = IsNumber position
-IsCommandOfNumbers (Grow position old new) = IsResizeOfNumbers position old new
-IsCommandOfNumbers (Shrink position old new) = IsResizeOfNumbers position old new
-
--- `POSITION SIZE ALIGN SIZE ALIGN`
-abbrev pub resize_text : ℕ → Layout → Layout → List ℕ
-resize_text position old new =
-    decimal position ++ (codes " " ++ (layout_text old ++ (codes " " ++ layout_text new)))
-
--- the line that writes a command
-abbrev pub command_line : Command → List ℕ
-command_line (Allocate layout) = codes "alloc " ++ layout_text layout
-command_line (Release position) = codes "free " ++ decimal position
-command_line (Grow position old new) = codes "grow " ++ resize_text position old new
-command_line (Shrink position old new) = codes "shrink " ++ resize_text position old new
-
--- REPLIES
-
-abbrev pub chunk_line : Chunk → List ℕ
-chunk_line chunk =
-    codes "chunk " ++ (decimal chunk.place ++ (codes " " ++ (decimal chunk.len ++ codes "\n")))
+-- the words that write a command
+abbrev pub command_words : Command → Words
+command_words (Allocate layout) = words (codes "alloc") (Two layout.size layout.align)
+command_words (Release position) = words (codes "free") (One position)
+command_words (Grow position old new) = words (codes "grow") (Five position old.size old.align new.size new.align)
+command_words (Shrink position old new) = words (codes "shrink") (Five position old.size old.align new.size new.align)
 
 -- a refusal is written by its name
 abbrev pub refusal_line : AllocationError → List ℕ
@@ -67,14 +42,12 @@ shrink_refusal_line shrink.SizeIsZero = codes "SizeIsZero\n"
 
 -- the line of a reply
 abbrev pub reply_line : Reply → List ℕ
-reply_line (reply.Chunk chunk) = chunk_line chunk
+reply_line (reply.Chunk chunk) = words_then (codes "chunk") (Two chunk.place chunk.len) (codes "\n")
 reply_line reply.Released = codes "released\n"
 reply_line reply.Passed = codes "passed\n"
 reply_line (reply.Refused error) = refusal_line error
 reply_line (reply.GrowRefused error) = grow_refusal_line error
 reply_line (reply.ShrinkRefused error) = shrink_refusal_line error
-
--- RUNS
 
 -- an allocator that a script drives, and the chunks that it has out
 pub record LiveState (A : Type 0) : Type 0 where
@@ -85,7 +58,7 @@ pub record LiveState (A : Type 0) : Type 0 where
 pub record AllocatorRules (A O : Type 0) : Type 1 where
   pub name : List ℕ
   pub is_header : O → Type 0
-  pub header_text : O → List ℕ
+  pub header_numbers : O → Numbers
   pub starts : O → A → Type 0
   pub runs : A → List Chunk → List Command → List Reply → A → List Chunk → Type 0
   pub state_text : A → ℕ → List ℕ
@@ -95,9 +68,9 @@ abbrev pub live_rules : {A O : Type 0} → AllocatorRules A O → Rules (LiveSta
 live_rules rules = record {
   name = rules.name;
   is_header = rules.is_header;
-  header_text = rules.header_text;
-  is_command = IsCommandOfNumbers;
-  command_line = command_line;
+  header_numbers = rules.header_numbers;
+  is_command = λ _. Unit {0};
+  command_words = command_words;
   can_show = true;
   starts = λ header state. rules.starts header state.allocator × (state.live ≡ []);
   runs = λ old commands replies new.

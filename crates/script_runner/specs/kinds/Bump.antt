@@ -1,14 +1,15 @@
 -- Scripts that drive a bump.
 use Rattle.std.specs.Prelude.{ℕ, ◌≡◌, ◌-◌, List, ◌++◌, codes}
 use Rattle.std.specs.Fmt.{decimal}
-use Rattle.bb_memory_base.specs.Region.{Region, IsRegion}
+use Rattle.bb_memory_base.specs.Region.{IsRegion}
 use Rattle.bb_memory_base.specs.Chunk.{Chunk}
 use Rattle.bb_memory_base.specs.Run.{Step, IsRun}
 use Rattle.bb_memory_base.specs.BumpObject.{bump_object, StandsFor}
 use Rattle.bb_memory_base.specs.declared.allocator.Command.{Command}
 use Rattle.bb_memory_base.specs.declared.allocator.Reply.{Reply}
 use Rattle.bb_memory.specs.Bump.{Bump, bump_text}
-use Rattle.script_runner.specs.Fields.{region_text}
+use Rattle.script_runner.specs.Words.{region_of, bounds_numbers}
+use Rattle.script_runner.specs.declared.words.Bounds.{Bounds}
 use Rattle.script_runner.specs.kinds.Allocators.{AllocatorRules}
 
 -- the replies are a run of the bump object over the bump's region, and the bump stands for the list that the run leaves
@@ -24,19 +25,14 @@ figures_line used free total =
     codes "used " ++ (decimal used ++ (codes " free " ++ (decimal free
     ++ (codes " total " ++ (decimal total ++ codes "\n")))))
 
--- what `show` writes
-abbrev pub bump_lines : Bump → List ℕ
-bump_lines bump =
-    (bump_text bump ++ codes "\n")
-    ++ figures_line bump.used (bump.region.size - bump.used) bump.region.size
-
 -- a bump that a script drives: it begins with nothing used
-abbrev pub bump_rules : AllocatorRules Bump Region
+abbrev pub bump_rules : AllocatorRules Bump Bounds
 bump_rules = record {
   name = codes "bump";
-  is_header = IsRegion;
-  header_text = region_text;
-  starts = λ region bump. bump ≡ record { region = region; used = 0 };
+  is_header = λ bounds. IsRegion (region_of bounds);
+  header_numbers = bounds_numbers;
+  starts = λ bounds bump. bump ≡ record { region = region_of bounds; used = 0 };
   runs = BumpRuns;
-  state_text = λ bump _. bump_lines bump;
+  state_text = λ bump _.
+      (bump_text bump ++ codes "\n") ++ figures_line bump.used (bump.region.size - bump.used) bump.region.size;
 }

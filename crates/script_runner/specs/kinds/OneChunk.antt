@@ -1,7 +1,7 @@
 -- Scripts that drive a one chunk.
 use Rattle.std.specs.Prelude.{ℕ, ◌≡◌, List, ◌++◌, codes, Option, Some, None}
 use Rattle.std.specs.Fmt.{decimal}
-use Rattle.bb_memory_base.specs.Region.{Region, IsRegion}
+use Rattle.bb_memory_base.specs.Region.{IsRegion}
 use Rattle.bb_memory_base.specs.Chunk.{Chunk}
 use Rattle.bb_memory_base.specs.Run.{IsRun}
 use Rattle.bb_memory_base.specs.ResizableObject.{ResizableStep}
@@ -9,7 +9,8 @@ use Rattle.bb_memory_base.specs.declared.allocator.Command.{Command}
 use Rattle.bb_memory_base.specs.declared.allocator.Reply.{Reply}
 use Rattle.bb_memory.specs.OneChunk.{OneChunk, StandsFor}
 use Rattle.bb_memory_base.specs.OneChunkObject.{one_chunk_object}
-use Rattle.script_runner.specs.Fields.{region_text}
+use Rattle.script_runner.specs.Words.{region_of, bounds_numbers}
+use Rattle.script_runner.specs.declared.words.Bounds.{Bounds}
 use Rattle.script_runner.specs.kinds.Allocators.{AllocatorRules}
 
 -- the replies are a run of the one-chunk object over its region, and it stands for the list that the run leaves
@@ -24,19 +25,15 @@ abbrev pub available_text : Option ℕ → List ℕ
 available_text None = codes " available yes\n"
 available_text (Some place) = codes " available no\n"
 
--- what `show` writes
-abbrev pub one_chunk_state : OneChunk → List ℕ
-one_chunk_state one =
-    codes "one start " ++ (decimal one.region.start
-    ++ (codes " size " ++ (decimal one.region.size ++ available_text one.kept)))
-
 -- a one chunk that a script drives: it begins with nothing kept
-abbrev pub one_chunk_rules : AllocatorRules OneChunk Region
+abbrev pub one_chunk_rules : AllocatorRules OneChunk Bounds
 one_chunk_rules = record {
   name = codes "one";
-  is_header = IsRegion;
-  header_text = region_text;
-  starts = λ region one. one ≡ record { region = region; kept = None };
+  is_header = λ bounds. IsRegion (region_of bounds);
+  header_numbers = bounds_numbers;
+  starts = λ bounds one. one ≡ record { region = region_of bounds; kept = None };
   runs = OneChunkRuns;
-  state_text = λ one _. one_chunk_state one;
+  state_text = λ one _.
+      codes "one start " ++ (decimal one.region.start
+      ++ (codes " size " ++ (decimal one.region.size ++ available_text one.kept)));
 }

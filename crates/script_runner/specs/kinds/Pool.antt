@@ -5,39 +5,33 @@ use Rattle.bb_memory_base.specs.Chunk.{Chunk}
 use Rattle.bb_memory_base.specs.FirstPlace.{first_place}
 use Rattle.bb_memory_base.specs.PoolGeometry.{PoolGeometry, IsCut, at_most}
 use Rattle.bb_memory_base.specs.PoolObject.{pool_object}
-use Rattle.bb_memory_base.specs.Region.{Region}
+use Rattle.bb_memory_base.specs.Region.{Region, region_at}
 use Rattle.bb_memory_base.specs.ResizableObject.{ResizableStep}
 use Rattle.bb_memory_base.specs.Run.{IsRun}
 use Rattle.bb_memory_base.specs.declared.allocator.Command.{Command}
 use Rattle.bb_memory_base.specs.declared.allocator.Reply.{Reply}
-use Rattle.bb_memory_base.specs.declared.layout.Layout.{Layout}
 use Rattle.bb_memory.specs.IndexWords.{index_words}
 use Rattle.bb_memory.specs.Pool.{Pool, StandsFor, fresh_pool, CountedPool, counted, reads_after, MayBeCut}
-use Rattle.script_runner.specs.Fields.{layout_text}
+use Rattle.script_runner.specs.declared.kinds.pool.PoolPlan.{PoolPlan}
+use Rattle.script_runner.specs.declared.words.Numbers.{Numbers}
+use Rattle.script_runner.specs.declared.words.Numbers.TheVariants.{Four}
 use Rattle.script_runner.specs.kinds.Allocators.{AllocatorRules}
 
--- the region that is to be cut, and the layout of each bucket
-pub record PoolPlan : Type 0 where
-  pub region : Region
-  pub bucket : Layout
+-- the region that is to be cut
+abbrev pub plan_region : PoolPlan → Region
+plan_region plan = region_at plan.start plan.size
 
-abbrev pub pool_plan : Region → Layout → PoolPlan
-pool_plan region bucket = record { region = region; bucket = bucket }
-
--- a pool may be made by it
+-- a pool may be made by the plan
 abbrev pub IsPoolPlan : PoolPlan → Type 0
-IsPoolPlan plan = MayBeCut plan.region plan.bucket
+IsPoolPlan plan = MayBeCut (plan_region plan) plan.bucket
 
--- `START SIZE BUCKET ALIGN`
-abbrev pub pool_plan_text : PoolPlan → List ℕ
-pool_plan_text plan =
-    decimal plan.region.start ++ (codes " " ++ (decimal plan.region.size
-    ++ (codes " " ++ layout_text plan.bucket)))
+abbrev pub pool_numbers : PoolPlan → Numbers
+pool_numbers plan = Four plan.start plan.size plan.bucket.size plan.bucket.align
 
 -- the pool's region is cut into all the buckets that it has room for; none is held, and no index word was read
 abbrev pub BeginsPool : PoolPlan → CountedPool → Type 0
 BeginsPool plan pool =
-    (geometry : PoolGeometry) × IsCut plan.region plan.bucket geometry
+    (geometry : PoolGeometry) × IsCut (plan_region plan) plan.bucket geometry
     × (pool ≡ counted (fresh_pool geometry) 0)
 
 -- the replies are a run of the pool object over the pool's geometry, and the pool stands for the list that the run leaves
@@ -63,41 +57,32 @@ pool_figures geometry live rest =
     ++ (codes " buckets " ++ (decimal geometry.buckets
     ++ (codes " live " ++ (decimal live ++ rest)))))))))
 
--- what `show` writes
-abbrev pub pool_state : CountedPool → ℕ → List ℕ
-pool_state pool live =
-    codes "pool start "
-    ++ (decimal (first_place pool.pool.geometry.region pool.pool.geometry.bucket)
-    ++ pool_figures pool.pool.geometry live (codes " reads " ++ (decimal pool.reads ++ codes "\n")))
-
 -- a pool that a script drives: it begins with no bucket held
 abbrev pub pool_rules : AllocatorRules CountedPool PoolPlan
 pool_rules = record {
   name = codes "pool";
   is_header = IsPoolPlan;
-  header_text = pool_plan_text;
+  header_numbers = pool_numbers;
   starts = BeginsPool;
   runs = CountedPoolRuns;
-  state_text = pool_state;
+  state_text = λ pool live.
+      codes "pool start " ++ (decimal (first_place pool.pool.geometry.region pool.pool.geometry.bucket)
+      ++ pool_figures pool.pool.geometry live (codes " reads " ++ (decimal pool.reads ++ codes "\n")));
 }
 
 -- the pool's region is cut into the buckets that it has room for, but into at most 512; none is held
 abbrev pub BeginsFixed : PoolPlan → CountedPool → Type 0
 BeginsFixed plan pool =
-    (whole : PoolGeometry) × IsCut plan.region plan.bucket whole
+    (whole : PoolGeometry) × IsCut (plan_region plan) plan.bucket whole
     × (pool ≡ counted (fresh_pool (at_most 512 whole)) 0)
-
--- what `show` writes of it
-abbrev pub fixed_state : CountedPool → ℕ → List ℕ
-fixed_state pool live = codes "fixed" ++ pool_figures pool.pool.geometry live (codes "\n")
 
 -- a fixed pool that a script drives: it begins with no bucket held
 abbrev pub fixed_rules : AllocatorRules CountedPool PoolPlan
 fixed_rules = record {
   name = codes "fixed";
   is_header = IsPoolPlan;
-  header_text = pool_plan_text;
+  header_numbers = pool_numbers;
   starts = BeginsFixed;
   runs = λ old live commands replies new left. PoolRuns old.pool live commands replies new.pool left;
-  state_text = fixed_state;
+  state_text = λ pool live. codes "fixed" ++ pool_figures pool.pool.geometry live (codes "\n");
 }

@@ -1,13 +1,13 @@
 //! Scripts: how an input is cut into lines, and the commands that the lines behind the header say, cut at each `show`.
-ghost use Rattle.std.specs.Prelude.{◌≡◌, ◌<◌, ◌≤◌, ◌∷◌, [], length, IfOk, IfErr, IfSome, IfNone, Some};
+ghost use Rattle.std.specs.Prelude.{◌≡◌, ◌<◌, ◌≤◌, ◌∷◌, ◌++◌, [], OnOk, OnErr, length, IfOk, IfErr, IfSome, IfNone, Some};
 ghost use Rattle.std.specs.Prelude.{slice_get, slice_index, slice_range};
 ghost use Rattle.script_runner.specs.engine.Lines.{lines_of};
 ghost use Rattle.script_runner.specs.engine.Rules.{IsLine, line_text};
-ghost use Rattle.script_runner.specs.engine.Script.{Adds, IsFirstUnreadable, AreInOrder, batches_from, script_lines};
+ghost use Rattle.script_runner.specs.engine.Script.{IsFirstUnreadable, AreInOrder, batches_from, script_lines};
 ghost use Rattle.script_runner.specs.engine.Transcript.{AreScript, IsLineText};
 
-use crate::engine::driven::Driven;
-use crate::fields::cut;
+use crate::engine::driving::Driven;
+use crate::words::{split_before, words};
 use std::alloc::{AllocError, Global};
 use std::marker::Model;
 
@@ -53,7 +53,8 @@ impl<C: Drop> Script<C> {
 
     /// Adds a line at the end.
     pub fn push(&mut self, line: Line<C>) -> Result<(), AllocError>
-        ensures { Adds self.old line result self.new }
+        ensures added { OnOk result (script_lines self.new ≡ script_lines self.old ++ line ∷ []) }
+        ensures still { OnErr result (self.new ≡ self.old) }
     {
         match line {
             Line::Command(command) => {
@@ -149,13 +150,11 @@ fn read_line<K: Driven>(text: &[u8]) -> Option<Line<K::Command>>
         × (text.now ≡ line_text K.rules line)) }
     ensures unreadable { IfNone result (¬ IsLineText K.rules text.now) }
 {
-    if let Some(command) = K::read(text) {
-        return Some(Line::Command(command));
-    }
     if K::CAN_SHOW && text == b"show".as_slice() {
         return Some(Line::Show);
     }
-    None
+    let (name, numbers) = words(text)?;
+    Some(Line::Command(K::read(name, numbers)?))
 }
 
 /// Cuts off the first line of an input, where a line is left.
@@ -168,8 +167,10 @@ pub fn first_line(input: &[u8]) -> Option<(&[u8], &[u8])>
     if input.is_empty() {
         return None;
     }
-    match cut(input, b'\n') {
-        Some((line, rest)) => Some((line, rest)),
-        None => Some((input, &[])),
+    let (line, rest) = split_before(input, b'\n');
+    if rest.is_empty() {
+        Some((line, rest))
+    } else {
+        Some((line, &rest[1..]))
     }
 }

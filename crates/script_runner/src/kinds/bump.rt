@@ -1,7 +1,7 @@
 //! A bump that a script drives.
 
-use crate::fields::{Bounds, behind, region};
 use crate::kinds::allocators::Scripted;
+use crate::words::{Bounds, Numbers, region};
 use bb_memory::allocator::{Command, Reply};
 use bb_memory::bump_allocator::{BumpAllocator, run_bump};
 use bb_memory::layout::Chunk;
@@ -10,14 +10,17 @@ use std::io;
 use std::io::Write;
 
 impl Scripted for BumpAllocator {
+    ghost use Rattle.bb_memory_base.specs.BumpObject.{StandsFor};
     ghost use Rattle.script_runner.specs.kinds.Bump.{bump_rules};
 
     type Header = Bounds;
 
     ghost rules = { bump_rules };
 
-    fn read_header(line: &[u8]) -> Option<Bounds> {
-        region(behind(b"bump ", line)?)
+    ghost stands_for = { λ bump. StandsFor bump.region bump.used };
+
+    fn read_header(name: &[u8], numbers: Numbers) -> Option<Bounds> {
+        region(b"bump", name, numbers)
     }
 
     fn make(_alloc: Global, header: Bounds) -> Result<Self, AllocError> {
@@ -32,10 +35,10 @@ impl Scripted for BumpAllocator {
         run_bump(self, live, commands)
     }
 
-    fn write_state<W: Write>(&self, _live: usize, writer: &mut W) -> io::Result<()> {
+    fn write_state(&self, _live: usize, line: &mut Vec<u8>) -> io::Result<()> {
         let used = self.used_space();
         let free = self.free_space();
         let total = self.total_space();
-        writeln!(writer, "{self}\nused {used} free {free} total {total}")
+        writeln!(line, "{self}\nused {used} free {free} total {total}")
     }
 }

@@ -1,14 +1,8 @@
 //! A bump world that a script drives by its steps.
-ghost use Rattle.std.specs.Prelude.{◌≡◌, ℕ, IfSome, Some};
-ghost use Rattle.bb_memory_base.specs.declared.layout.Layout.{Layout};
-ghost use Rattle.script_runner.specs.kinds.BumpSteps.{IsReading, read_line};
 
-use crate::engine::driven::Driven;
-use crate::fields::{
-    Bounds, PARTIES, behind, layout, named_party, number_and_rest, party_of, region, write_between,
-};
+use crate::engine::driving::Driven;
 use crate::kinds::allocators::write_chunk;
-use bb_memory::layout::Layout;
+use crate::words::{Bounds, Numbers, PARTIES, is, layout, party_of, region, write_words};
 use bb_memory::steps::{BumpOutcome, BumpStep, BumpWorld};
 use std::alloc::{AllocError, Global};
 use std::io;
@@ -33,61 +27,58 @@ impl Driven for BumpWorld {
 
     ghost shows = { refl };
 
-    fn read_header(line: &[u8]) -> Option<Bounds> {
-        region(behind(b"steps-bump ", line)?)
+    fn read_header(name: &[u8], numbers: Numbers) -> Option<Bounds> {
+        region(b"steps-bump", name, numbers)
     }
 
     fn make(alloc: Global, header: Bounds) -> Result<Self, AllocError> {
         BumpWorld::new(alloc, header.start, header.size, PARTIES)
     }
 
-    fn read(line: &[u8]) -> Option<BumpStep> {
-        if line == b"clear".as_slice() {
-            return Some(BumpStep::Clear);
+    fn read(name: &[u8], numbers: Numbers) -> Option<BumpStep> {
+        match numbers {
+            Numbers::Zero if is(name, b"clear") => Some(BumpStep::Clear),
+            Numbers::One(party) => {
+                let party = party_of(party)?;
+                if is(name, b"exchange") {
+                    Some(BumpStep::Exchange { party })
+                } else if is(name, b"load") {
+                    Some(BumpStep::Load { party })
+                } else {
+                    None
+                }
+            }
+            Numbers::Three(party, size, align) if is(name, b"read") => {
+                let party = party_of(party)?;
+                let layout = layout(size, align)?;
+                Some(BumpStep::Read { party, layout })
+            }
+            _ => None,
         }
-        if let Some(party) = named_party(b"exchange ", line) {
-            return Some(BumpStep::Exchange { party });
-        }
-        if let Some(party) = named_party(b"load ", line) {
-            return Some(BumpStep::Load { party });
-        }
-        let (party, layout) = reading(line)?;
-        Some(BumpStep::Read { party, layout })
     }
 
-    fn run(&mut self, steps: &[BumpStep]) -> Result<Vec<BumpOutcome>, AllocError> {
+    fn run(&mut self, _alloc: Global, steps: &[BumpStep]) -> Result<Vec<BumpOutcome>, AllocError> {
         self.replay(steps)
     }
 
-    fn write_reply<W: Write>(outcome: &BumpOutcome, writer: &mut W) -> io::Result<()> {
+    fn write_reply(outcome: &BumpOutcome, line: &mut Vec<u8>) -> io::Result<()> {
         match outcome {
-            BumpOutcome::Sees(used) => write_between(b"sees ", *used, b"\n", writer),
+            BumpOutcome::Sees(used) => write_words(b"sees", &[*used], b"\n", line),
             BumpOutcome::RefusedAtRead(used) => {
-                write_between(b"sees ", *used, b" refused OutOfMemory\n", writer)
+                write_words(b"sees", &[*used], b" refused OutOfMemory\n", line)
             }
-            BumpOutcome::Wins(chunk) => write_chunk(b"wins ", chunk, writer),
-            BumpOutcome::Loses(used) => write_between(b"loses ", *used, b"\n", writer),
+            BumpOutcome::Wins(chunk) => write_chunk(b"wins", chunk, line),
+            BumpOutcome::Loses(used) => write_words(b"loses", &[*used], b"\n", line),
             BumpOutcome::RefusedAtLoss(used) => {
-                write_between(b"loses ", *used, b" refused OutOfMemory\n", writer)
+                write_words(b"loses", &[*used], b" refused OutOfMemory\n", line)
             }
-            BumpOutcome::Loaded(used) => write_between(b"used ", *used, b"\n", writer),
-            BumpOutcome::Cleared => writer.write_all(b"cleared\n"),
-            BumpOutcome::Passed => writer.write_all(b"passed\n"),
+            BumpOutcome::Loaded(used) => write_words(b"used", &[*used], b"\n", line),
+            BumpOutcome::Cleared => line.write_all(b"cleared\n"),
+            BumpOutcome::Passed => line.write_all(b"passed\n"),
         }
     }
 
-    fn write_state<W: Write>(&self, writer: &mut W) -> io::Result<()> {
-        write_between(b"used ", self.used_space(), b"\n", writer)
+    fn write_state(&self, line: &mut Vec<u8>) -> io::Result<()> {
+        write_words(b"used", &[self.used_space()], b"\n", line)
     }
-}
-
-/// Parses `read PARTY SIZE ALIGN`.
-fn reading(line: &[u8]) -> Option<(u32, Layout)>
-    ensures written { IfSome result (λ (party, layout). IsReading party layout
-        × (line.now ≡ read_line party layout)) }
-    ensures each { (party : ℕ) (layout : Layout) → IsReading party layout
-        → line.now ≡ read_line party layout → result ≡ Some (party, layout) }
-{
-    let (party, rest) = number_and_rest(behind(b"read ", line)?)?;
-    Some((party_of(party)?, layout(rest)?))
 }

@@ -1,35 +1,19 @@
 //! A loan book over a pool that a script drives.
-ghost use Rattle.std.specs.Prelude.{◌≡◌, ℕ, IfSome, Some, OnOk};
-ghost use Rattle.std.specs.Io.KnownBytes.{Appends};
-ghost use Rattle.script_runner.specs.kinds.LoanPool.{IsPublishing, publish_line, loan_refusal_line};
+ghost use Rattle.std.specs.Prelude.{◌≡◌};
+ghost use Rattle.script_runner.specs.kinds.LoanPool.{loan_refusal_line};
 
-use crate::engine::driven::Driven;
-use crate::fields::{behind, named_number, number, number_and_rest, small, write_between};
-use crate::kinds::allocators::{write_chunk, write_refusal};
+use crate::engine::driving::Driven;
+use crate::kinds::allocators::refusal;
 use crate::kinds::pool::{PoolPlan, pool_of, pool_plan};
-use bb_memory::layout::Chunk;
+use crate::words::{Numbers, is, small, write_words};
 use bb_memory::pool_allocator::PoolAllocator;
 use loan_book::{LoanBook, LoanCall, LoanError, LoanReply, run_loans};
 use std::alloc::{AllocError, Global};
 use std::io;
 use std::io::Write;
-use std::marker::Model;
 
-/// A loan book over a pool, and where the replies of a script take their memory from.
-#[derive(Drop)]
-pub struct LoanPool {
-    alloc: Global,
-    book: LoanBook<PoolAllocator<Global>>,
-}
-
-impl Model for LoanPool {
-    ghost use Rattle.bb_memory.specs.Pool.{CountedPool};
-    ghost use Rattle.loan_book.specs.LoanBook.{LoanBook};
-
-    ghost Value = { LoanBook CountedPool };
-
-    ghost view = { λ a. a.book };
-}
+/// A loan book over a pool.
+pub type LoanPool = LoanBook<PoolAllocator<Global>>;
 
 impl Driven for LoanPool {
     ghost use Rattle.std.specs.Prelude.{false};
@@ -50,80 +34,74 @@ impl Driven for LoanPool {
 
     ghost shows = { refl };
 
-    fn read_header(line: &[u8]) -> Option<PoolPlan> {
-        pool_plan(behind(b"loan-pool ", line)?)
+    fn read_header(name: &[u8], numbers: Numbers) -> Option<PoolPlan> {
+        pool_plan(b"loan-pool", name, numbers)
     }
 
     fn make(alloc: Global, header: PoolPlan) -> Result<Self, AllocError> {
         let pool = pool_of(alloc, header)?;
         let book = LoanBook::new(alloc, pool);
-        Ok(LoanPool { alloc, book })
+        Ok(book)
     }
 
-    fn read(line: &[u8]) -> Option<LoanCall> {
-        if let Some(size) = named_number(b"loan ", line) {
-            return Some(LoanCall::Loan(size));
+    fn read(name: &[u8], numbers: Numbers) -> Option<LoanCall> {
+        match numbers {
+            Numbers::One(number) => {
+                if is(name, b"loan") {
+                    Some(LoanCall::Loan(number))
+                } else if is(name, b"back") {
+                    Some(LoanCall::GiveBack(number as u64))
+                } else if is(name, b"out") {
+                    Some(LoanCall::IsOut(number as u64))
+                } else {
+                    None
+                }
+            }
+            Numbers::Two(id, readers) if is(name, b"publish") => {
+                Some(LoanCall::Publish(id as u64, small(readers)?))
+            }
+            _ => None,
         }
-        if let Some((id, readers)) = publishing(line) {
-            return Some(LoanCall::Publish(id, readers));
-        }
-        if let Some(id) = named_number(b"back ", line) {
-            return Some(LoanCall::GiveBack(id as u64));
-        }
-        let id = named_number(b"out ", line)?;
-        Some(LoanCall::IsOut(id as u64))
     }
 
-    fn run(&mut self, calls: &[LoanCall]) -> Result<Vec<LoanReply>, AllocError> {
-        let replies = run_loans(self.alloc, &mut self.book, calls)?;
+    fn run(&mut self, alloc: Global, calls: &[LoanCall]) -> Result<Vec<LoanReply>, AllocError> {
+        let replies = run_loans(alloc, self, calls)?;
         if replies.contains(&LoanReply::Refused(LoanError::Memory)) {
             return Err(AllocError);
         }
         Ok(replies)
     }
 
-    fn write_reply<W: Write>(reply: &LoanReply, writer: &mut W) -> io::Result<()> {
+    fn write_reply(reply: &LoanReply, line: &mut Vec<u8>) -> io::Result<()> {
         match reply {
             LoanReply::Loaned(id, chunk) => {
-                write_between(b"loan ", *id as usize, b" ", writer)?;
-                write_chunk(b"", chunk, writer)
+                let numbers = [*id as usize, chunk.place(), chunk.len()];
+                write_words(b"loan", &numbers, b"\n", line)
             }
-            LoanReply::Published => writer.write_all(b"published\n"),
-            LoanReply::Returned => writer.write_all(b"returned\n"),
-            LoanReply::Kept => writer.write_all(b"kept\n"),
-            LoanReply::Out(true) => writer.write_all(b"yes\n"),
-            LoanReply::Out(false) => writer.write_all(b"no\n"),
-            LoanReply::Refused(error) => write_loan_refusal(error, writer),
+            LoanReply::Published => line.write_all(b"published\n"),
+            LoanReply::Returned => line.write_all(b"returned\n"),
+            LoanReply::Kept => line.write_all(b"kept\n"),
+            LoanReply::Out(true) => line.write_all(b"yes\n"),
+            LoanReply::Out(false) => line.write_all(b"no\n"),
+            LoanReply::Refused(error) => line.write_all(loan_refusal(error)),
         }
     }
 
-    fn write_state<W: Write>(&self, _writer: &mut W) -> io::Result<()> {
+    fn write_state(&self, _line: &mut Vec<u8>) -> io::Result<()> {
         Ok(())
     }
 }
 
-/// Parses `publish ID READERS`.
-fn publishing(line: &[u8]) -> Option<(u64, u32)>
-    ensures written { IfSome result (λ (id, readers). IsPublishing id readers
-        × (line.now ≡ publish_line id readers)) }
-    ensures each { (id readers : ℕ) → IsPublishing id readers → line.now ≡ publish_line id readers
-        → result ≡ Some (id, readers) }
-{
-    let (id, rest) = number_and_rest(behind(b"publish ", line)?)?;
-    Some((id as u64, small(number(rest)?)?))
-}
-
-fn write_loan_refusal<W: Write>(error: &LoanError, writer: &mut W) -> io::Result<()>
-    ensures { OnOk result
-        (Appends (W.contents writer.old) (W.contents writer.new) (loan_refusal_line error.now)) }
+fn loan_refusal(error: &LoanError) -> &'static [u8]
+    ensures { result.now ≡ loan_refusal_line error.now }
 {
     match error {
-        LoanError::Size => writer.write_all(b"Size\n"),
-        LoanError::IdsExhausted => writer.write_all(b"IdsExhausted\n"),
-        LoanError::Memory => writer.write_all(b"Memory\n"),
-        LoanError::Allocation(error) => write_refusal(error, writer),
-        LoanError::UnknownSample => writer.write_all(b"UnknownSample\n"),
-        LoanError::AlreadyPublished => writer.write_all(b"AlreadyPublished\n"),
-        LoanError::NoReaders => writer.write_all(b"NoReaders\n"),
+        LoanError::Size => b"Size\n",
+        LoanError::IdsExhausted => b"IdsExhausted\n",
+        LoanError::Memory => b"Memory\n",
+        LoanError::Allocation(error) => refusal(error),
+        LoanError::UnknownSample => b"UnknownSample\n",
+        LoanError::AlreadyPublished => b"AlreadyPublished\n",
+        LoanError::NoReaders => b"NoReaders\n",
     }
 }

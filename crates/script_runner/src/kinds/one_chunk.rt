@@ -1,7 +1,7 @@
 //! A one chunk that a script drives.
 
-use crate::fields::{Bounds, behind, region};
 use crate::kinds::allocators::Scripted;
+use crate::words::{Bounds, Numbers, region};
 use bb_memory::allocator::{Command, Reply};
 use bb_memory::layout::Chunk;
 use bb_memory::one_chunk_allocator::{OneChunkAllocator, run_one_chunk};
@@ -10,14 +10,17 @@ use std::io;
 use std::io::Write;
 
 impl Scripted for OneChunkAllocator {
+    ghost use Rattle.bb_memory.specs.OneChunk.{StandsFor};
     ghost use Rattle.script_runner.specs.kinds.OneChunk.{one_chunk_rules};
 
     type Header = Bounds;
 
     ghost rules = { one_chunk_rules };
 
-    fn read_header(line: &[u8]) -> Option<Bounds> {
-        region(behind(b"one ", line)?)
+    ghost stands_for = { StandsFor };
+
+    fn read_header(name: &[u8], numbers: Numbers) -> Option<Bounds> {
+        region(b"one", name, numbers)
     }
 
     fn make(_alloc: Global, header: Bounds) -> Result<Self, AllocError> {
@@ -32,13 +35,13 @@ impl Scripted for OneChunkAllocator {
         run_one_chunk(self, live, commands)
     }
 
-    fn write_state<W: Write>(&self, _live: usize, writer: &mut W) -> io::Result<()> {
+    fn write_state(&self, _live: usize, line: &mut Vec<u8>) -> io::Result<()> {
         let start = self.start_address();
         let size = self.size();
         if self.has_chunk_available() {
-            writeln!(writer, "one start {start} size {size} available yes")
+            writeln!(line, "one start {start} size {size} available yes")
         } else {
-            writeln!(writer, "one start {start} size {size} available no")
+            writeln!(line, "one start {start} size {size} available no")
         }
     }
 }

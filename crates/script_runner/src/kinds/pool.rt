@@ -1,17 +1,16 @@
 //! A pool that a script drives, and a fixed one.
 ghost use Rattle.std.specs.Prelude.{◌≡◌, [], IfOk, IfSome, Some};
 ghost use Rattle.bb_memory.specs.Pool.{StandsFor};
-ghost use Rattle.script_runner.specs.kinds.Pool.{BeginsPool, IsPoolPlan, PoolPlan, pool_plan_text};
+ghost use Rattle.script_runner.specs.kinds.Pool.{BeginsPool, IsPoolPlan, pool_numbers};
 
-use crate::fields::{behind, layout, number_and_rest};
 use crate::kinds::allocators::Scripted;
+use crate::words::{Numbers, is, layout};
 use bb_memory::allocator::{Command, Reply};
 use bb_memory::layout::{Chunk, Layout};
 use bb_memory::pool_allocator::{FixedSizePoolAllocator, PoolAllocator, run_fixed_pool, run_pool};
 use std::alloc::{AllocError, Global};
 use std::io;
 use std::io::Write;
-use std::marker::Model;
 
 /// The region that a pool cuts, and the layout of each of its buckets.
 #[derive(Clone, Copy)]
@@ -21,46 +20,42 @@ pub struct PoolPlan {
     bucket: Layout,
 }
 
-impl Model for PoolPlan {
-    ghost use Rattle.bb_memory_base.specs.Region.{region_at};
-    ghost use Rattle.script_runner.specs.kinds.Pool.{PoolPlan, pool_plan};
-
-    ghost Value = { PoolPlan };
-
-    ghost view = { λ a. pool_plan (region_at a.start a.size) a.bucket };
-
-    ghost inverse = { λ plan.
-        record { start = plan.region.start; size = plan.region.size; bucket = plan.bucket } };
-}
-
-/// Parses `START SIZE BUCKET ALIGN`.
-pub fn pool_plan(text: &[u8]) -> Option<PoolPlan>
-    ensures written { IfSome result (λ plan. IsPoolPlan plan × (text.now ≡ pool_plan_text plan)) }
-    ensures each { (plan : PoolPlan) → IsPoolPlan plan → text.now ≡ pool_plan_text plan
-        → result ≡ Some plan }
+/// Reads `KIND START SIZE BUCKET ALIGN`.
+pub fn pool_plan(kind: &[u8], name: &[u8], numbers: Numbers) -> Option<PoolPlan>
+    ensures written { IfSome result (λ plan. IsPoolPlan plan
+        × (name.now ≡ kind.now) × (numbers ≡ pool_numbers plan)) }
+    ensures each { (plan : PoolPlan) → IsPoolPlan plan → name.now ≡ kind.now
+        → numbers ≡ pool_numbers plan → result ≡ Some plan }
 {
-    let (start, rest) = number_and_rest(text)?;
-    let (size, bucket) = number_and_rest(rest)?;
-    let bucket = layout(bucket)?;
-    if !PoolAllocator::can_make(bucket, start, size) {
-        return None;
+    match numbers {
+        Numbers::Four(start, size, bucket, align) if is(name, kind) => {
+            let bucket = layout(bucket, align)?;
+            if PoolAllocator::can_make(bucket, start, size) {
+                Some(PoolPlan {
+                    start,
+                    size,
+                    bucket,
+                })
+            } else {
+                None
+            }
+        }
+        _ => None,
     }
-    Some(PoolPlan {
-        start,
-        size,
-        bucket,
-    })
 }
 
 impl Scripted for PoolAllocator<Global> {
+    ghost use Rattle.bb_memory.specs.Pool.{StandsFor};
     ghost use Rattle.script_runner.specs.kinds.Pool.{pool_rules};
 
     type Header = PoolPlan;
 
     ghost rules = { pool_rules };
 
-    fn read_header(line: &[u8]) -> Option<PoolPlan> {
-        pool_plan(behind(b"pool ", line)?)
+    ghost stands_for = { λ pool. StandsFor pool.pool };
+
+    fn read_header(name: &[u8], numbers: Numbers) -> Option<PoolPlan> {
+        pool_plan(b"pool", name, numbers)
     }
 
     fn make(alloc: Global, header: PoolPlan) -> Result<Self, AllocError> {
@@ -75,7 +70,7 @@ impl Scripted for PoolAllocator<Global> {
         run_pool(self, live, commands)
     }
 
-    fn write_state<W: Write>(&self, live: usize, writer: &mut W) -> io::Result<()> {
+    fn write_state(&self, live: usize, line: &mut Vec<u8>) -> io::Result<()> {
         let start = self.start_address();
         let size = self.size();
         let bucket = self.bucket_size();
@@ -83,7 +78,7 @@ impl Scripted for PoolAllocator<Global> {
         let buckets = self.number_of_buckets();
         let reads = self.last_reads();
         writeln!(
-            writer,
+            line,
             "pool start {start} size {size} bucket {bucket} align {align} buckets {buckets} live {live} reads {reads}"
         )
     }
@@ -106,14 +101,17 @@ pub fn pool_of(alloc: Global, plan: PoolPlan) -> Result<PoolAllocator<Global>, A
 pub type Fixed = FixedSizePoolAllocator<512>;
 
 impl Scripted for Fixed {
+    ghost use Rattle.bb_memory.specs.Pool.{StandsFor};
     ghost use Rattle.script_runner.specs.kinds.Pool.{fixed_rules};
 
     type Header = PoolPlan;
 
     ghost rules = { fixed_rules };
 
-    fn read_header(line: &[u8]) -> Option<PoolPlan> {
-        pool_plan(behind(b"fixed ", line)?)
+    ghost stands_for = { StandsFor };
+
+    fn read_header(name: &[u8], numbers: Numbers) -> Option<PoolPlan> {
+        pool_plan(b"fixed", name, numbers)
     }
 
     fn make(_alloc: Global, header: PoolPlan) -> Result<Self, AllocError> {
@@ -128,13 +126,13 @@ impl Scripted for Fixed {
         run_fixed_pool(self, live, commands)
     }
 
-    fn write_state<W: Write>(&self, live: usize, writer: &mut W) -> io::Result<()> {
+    fn write_state(&self, live: usize, line: &mut Vec<u8>) -> io::Result<()> {
         let size = self.size();
         let bucket = self.bucket_size();
         let align = self.max_alignment();
         let buckets = self.number_of_buckets();
         writeln!(
-            writer,
+            line,
             "fixed size {size} bucket {bucket} align {align} buckets {buckets} live {live}"
         )
     }

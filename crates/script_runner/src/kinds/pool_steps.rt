@@ -1,14 +1,11 @@
 //! A pool world that a script drives by its steps.
-ghost use Rattle.std.specs.Prelude.{◌≡◌, ℕ, IfSome, Some, OnOk};
-ghost use Rattle.std.specs.Io.KnownBytes.{Appends};
+ghost use Rattle.std.specs.Prelude.{◌≡◌, ◌++◌, OnOk};
 ghost use Rattle.std.specs.List.{flat_map};
-ghost use Rattle.script_runner.specs.kinds.PoolSteps.{IsGiving, flag_text, give_line, holder_text};
+ghost use Rattle.script_runner.specs.Words.{words_then};
+ghost use Rattle.script_runner.specs.kinds.PoolSteps.{flag_text};
 
-use crate::engine::driven::Driven;
-use crate::fields::{
-    PARTIES, behind, named_number, named_party, number, number_and_rest, party_of, small,
-    write_between,
-};
+use crate::engine::driving::Driven;
+use crate::words::{Numbers, PARTIES, is, party_of, small, write_words};
 use bb_memory::steps::{PoolOutcome, PoolStep, PoolWorld};
 use std::alloc::{AllocError, Global};
 use std::io;
@@ -36,100 +33,76 @@ impl Driven for PoolWorld {
 
     ghost shows = { refl };
 
-    fn read_header(line: &[u8]) -> Option<u32> {
-        let count = named_number(b"steps-pool ", line)?;
-        if count > MOST_BUCKETS {
-            return None;
+    fn read_header(name: &[u8], numbers: Numbers) -> Option<u32> {
+        match numbers {
+            Numbers::One(count) if count <= MOST_BUCKETS && is(name, b"steps-pool") => {
+                Some(count as u32)
+            }
+            _ => None,
         }
-        Some(count as u32)
     }
 
     fn make(alloc: Global, header: u32) -> Result<Self, AllocError> {
         PoolWorld::new(alloc, header, PARTIES)
     }
 
-    fn read(line: &[u8]) -> Option<PoolStep> {
-        if let Some(party) = named_party(b"try ", line) {
-            return Some(PoolStep::Try { party });
+    fn read(name: &[u8], numbers: Numbers) -> Option<PoolStep> {
+        match numbers {
+            Numbers::One(party) if is(name, b"try") => {
+                let party = party_of(party)?;
+                Some(PoolStep::Try { party })
+            }
+            Numbers::Two(party, bucket) if is(name, b"give") => {
+                let party = party_of(party)?;
+                let bucket = small(bucket)?;
+                Some(PoolStep::GiveBack { party, bucket })
+            }
+            _ => None,
         }
-        let (party, bucket) = giving(line)?;
-        Some(PoolStep::GiveBack { party, bucket })
     }
 
-    fn run(&mut self, steps: &[PoolStep]) -> Result<Vec<PoolOutcome>, AllocError> {
+    fn run(&mut self, _alloc: Global, steps: &[PoolStep]) -> Result<Vec<PoolOutcome>, AllocError> {
         self.replay(steps)
     }
 
-    fn write_reply<W: Write>(outcome: &PoolOutcome, writer: &mut W) -> io::Result<()> {
+    fn write_reply(outcome: &PoolOutcome, line: &mut Vec<u8>) -> io::Result<()> {
         match outcome {
-            PoolOutcome::Takes(bucket) => write_between(b"takes ", *bucket as usize, b"\n", writer),
-            PoolOutcome::Loses(bucket) => write_between(b"loses ", *bucket as usize, b"\n", writer),
+            PoolOutcome::Takes(bucket) => write_bucket(b"takes", *bucket, b"\n", line),
+            PoolOutcome::Loses(bucket) => write_bucket(b"loses", *bucket, b"\n", line),
             PoolOutcome::RefusedAtLoss(bucket) => {
-                write_between(
-                    b"loses ",
-                    *bucket as usize,
-                    b" refused OutOfMemory\n",
-                    writer,
-                )
+                write_bucket(b"loses", *bucket, b" refused OutOfMemory\n", line)
             }
-            PoolOutcome::Gives(bucket) => write_between(b"gives ", *bucket as usize, b"\n", writer),
-            PoolOutcome::Passed => writer.write_all(b"passed\n"),
-            PoolOutcome::Misses(bucket) => write_between(
-                b"misses ",
-                *bucket as usize,
-                b"\n",
-                writer,
-            ),
-            PoolOutcome::Detaches(bucket) => write_between(
-                b"detaches ",
-                *bucket as usize,
-                b"\n",
-                writer,
-            ),
-            PoolOutcome::Attaches(bucket) => write_between(
-                b"attaches ",
-                *bucket as usize,
-                b"\n",
-                writer,
-            ),
+            PoolOutcome::Gives(bucket) => write_bucket(b"gives", *bucket, b"\n", line),
+            PoolOutcome::Passed => line.write_all(b"passed\n"),
+            PoolOutcome::Misses(bucket) => write_bucket(b"misses", *bucket, b"\n", line),
+            PoolOutcome::Detaches(bucket) => write_bucket(b"detaches", *bucket, b"\n", line),
+            PoolOutcome::Attaches(bucket) => write_bucket(b"attaches", *bucket, b"\n", line),
         }
     }
 
-    fn write_state<W: Write>(&self, writer: &mut W) -> io::Result<()> {
-        writer.write_all(b"held")?;
-        write_holders(self, writer)?;
-        writer.write_all(b"\n")
+    fn write_state(&self, line: &mut Vec<u8>) -> io::Result<()> {
+        line.write_all(b"held")?;
+        write_holders(self, line)?;
+        line.write_all(b"\n")
     }
+}
+
+fn write_bucket(name: &[u8], bucket: u32, end: &[u8], line: &mut Vec<u8>) -> io::Result<()>
+    ensures { OnOk result (line.new.items ≡ line.old.items
+        ++ words_then name.now (Numbers.One bucket) end.now) }
+{
+    write_words(name, &[bucket as usize], end, line)
 }
 
 /// Writes the holder of each bucket.
-fn write_holders<W: Write>(world: &PoolWorld, writer: &mut W) -> io::Result<()>
-    ensures { OnOk result (Appends (W.contents writer.old) (W.contents writer.new)
-        (flat_map flag_text world.now.flags)) }
+fn write_holders(world: &PoolWorld, line: &mut Vec<u8>) -> io::Result<()>
+    ensures { OnOk result (line.new.items ≡ line.old.items ++ flat_map flag_text world.now.flags) }
 {
     for bucket in 0..world.number_of_buckets() {
-        write_holder(world.holder(bucket), writer)?;
+        match world.holder(bucket) {
+            Some(party) => write_words(b"", &[party as usize], b"", line)?,
+            None => line.write_all(b" -")?,
+        }
     }
     Ok(())
-}
-
-fn write_holder<W: Write>(holder: Option<u32>, writer: &mut W) -> io::Result<()>
-    ensures { OnOk result
-        (Appends (W.contents writer.old) (W.contents writer.new) (holder_text holder)) }
-{
-    match holder {
-        Some(party) => write_between(b" ", party as usize, b"", writer),
-        None => writer.write_all(b" -"),
-    }
-}
-
-/// Parses `give PARTY BUCKET`.
-fn giving(line: &[u8]) -> Option<(u32, u32)>
-    ensures written { IfSome result (λ (party, bucket). IsGiving party bucket
-        × (line.now ≡ give_line party bucket)) }
-    ensures each { (party bucket : ℕ) → IsGiving party bucket → line.now ≡ give_line party bucket
-        → result ≡ Some (party, bucket) }
-{
-    let (party, bucket) = number_and_rest(behind(b"give ", line)?)?;
-    Some((party_of(party)?, small(number(bucket)?)?))
 }

@@ -1,29 +1,17 @@
-use Rattle.std.proofs.Common.{inl, inr, refl, ◌+◌}
+use Rattle.script_runner.proofs.Tables.{ends_unreadable, ends_answered}
+use Rattle.script_runner.specs.engine.Lines.{lines_of}
 use Rattle.script_runner.proofs.engine.driving.drive.Goals as goal
 
-pub returns-in-Ok-Err-clause-cut_short : goal.returns-in-Ok-Err-clause-cut_short
-returns-in-Ok-Err-clause-cut_short g c short =
-    let (sent, begins, wrote) = c.tell_unreadable.ensures.cut_short short in
-    let index = c.in-Ok-Err.index in
-    let unreadable = rw c.in-Ok-Err.field-0-is at c.in-Ok-Err.ensures.unreadable in
-    inr (sent, inr (index + 2, (index, unreadable, refl), begins), wrote)
+pub returns-in-Ok-Err : goal.returns-in-Ok-Err
+returns-in-Ok-Err g c =
+    let told = c.tell_unreadable.ensures in
+    let unread = rw c.in-Ok-Err.field-0-is at c.in-Ok-Err.ensures.unreadable in
+    ends_unreadable g.K.Driven.rules c.args.header (lines_of c.args.rest.now) c.in-Ok-Err.index _ _ c.tell_unreadable.result
+    c.requires.header c.requires.stand unread told.unreadable told.cut_short told.status
 
-pub returns-in-Ok-Err-clause-unreadable : goal.returns-in-Ok-Err-clause-unreadable
-returns-in-Ok-Err-clause-unreadable g c e =
-    let index = c.in-Ok-Err.index in
-    let unreadable = rw c.in-Ok-Err.field-0-is at c.in-Ok-Err.ensures.unreadable in
-    (index + 2, (index, unreadable, refl), c.tell_unreadable.ensures.unreadable e)
-
-pub returns-in-Ok-Ok-clause-done : goal.returns-in-Ok-Ok-clause-done
-returns-in-Ok-Ok-clause-done g c e =
-    let (first, last, text, starts, played, wrote) = c.answer.ensures.done e in
+pub returns-in-Ok-Ok : goal.returns-in-Ok-Ok
+returns-in-Ok-Ok g c =
     let read = rw c.in-Ok-Ok.field-0-is at c.in-Ok-Ok.ensures.read in
-    (text, (c.in-Ok-Ok.script, first, last, read, starts, played), wrote)
-
-pub returns-in-Ok-Ok-clause-cut_short : goal.returns-in-Ok-Ok-clause-cut_short
-returns-in-Ok-Ok-clause-cut_short g c short =
-    let read = rw c.in-Ok-Ok.field-0-is at c.in-Ok-Ok.ensures.read in
-    elim (c.answer.ensures.cut_short short) [
-      | inl kept ↦ inl kept
-      | inr (first, sent, starts, begun, wrote) ↦ inr (sent, inl (c.in-Ok-Ok.script, first, read, starts, begun), wrote)
-    ]
+    let answer = c.answer.ensures in
+    ends_answered g.K.Driven.rules c.args.header (lines_of c.args.rest.now) c.in-Ok-Ok.script _ _ c.answer.result
+    c.requires.header c.requires.stand read answer.done answer.cut_short answer.status

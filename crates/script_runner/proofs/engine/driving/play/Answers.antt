@@ -26,7 +26,7 @@ returns-in_err-tell-clause-err g c =
     let longer =
     told_more rules start c.loop-index.driven end script.shown i c.shown.result.now text replies c.shown.ensures told
     c.in_ok-replies.ensures in
-    let part = rw c.deref.ensures.value at c.in_err-tell.ensures in
+    let part = rw c.deref.ensures.value at c.in_err-tell.ensures.sent in
     on_err c.from_residual-in_err-tell.result
     (begun_part rules start end script _ _ _ (text ++ (more ++ state)) text more state refl (inl (i + 1, longer)) wrote part)
 
@@ -44,11 +44,11 @@ returns-in_err-show-clause-err g c =
     let longer =
     told_more rules start c.loop-index.driven end script.shown i c.shown.result.now text replies c.shown.ensures told
     c.in_ok-replies.ensures in
-    let lines = rw c.deref.ensures.value at c.in_ok-tell.ensures in
+    let lines = rw c.deref.ensures.value at c.in_ok-tell.ensures.sent in
     let split = sym (ap (λ l. (text ++ more) ++ l) (append-nil state) ∙ append_assoc text more state) in
     on_err c.from_residual-in_err-show.result
     (begun_part rules start end script _ _ _ (text ++ (more ++ state)) (text ++ more) state [] split (inl (i + 1, longer))
-    (appends_again _ _ _ text more wrote lines) c.in_err-show.ensures)
+    (appends_again _ _ _ text more wrote lines) c.in_err-show.ensures.sent)
 
 pub loop-index-preserved : goal.loop-index-preserved
 loop-index-preserved g c =
@@ -59,13 +59,13 @@ loop-index-preserved g c =
     let end = c.run.new.self in
     let more : List ℕ = flat_map rules.reply_text replies in
     let state : List ℕ = rules.state_text end in
-    let lines = rw c.deref.ensures.value at c.in_ok-tell.ensures in
+    let lines = rw c.deref.ensures.value at c.in_ok-tell.ensures.sent in
     record {
       told = (
         text ++ (more ++ state),
         told_more rules c.args.driven.now c.loop-index.driven end shown c.loop-index.index c.shown.result.now text replies
             c.shown.ensures told c.in_ok-replies.ensures,
-        appends_again _ _ _ text (more ++ state) wrote (appends_again _ _ _ more state lines c.in_ok-show.ensures),
+        appends_again _ _ _ text (more ++ state) wrote (appends_again _ _ _ more state lines c.in_ok-show.ensures.sent),
       );
     }
 
@@ -87,7 +87,7 @@ returns-in_err-tell-2-clause-err g c =
     let past : length script.shown ≤ i = rw c.shows-index-end.ensures at c.loop-index-test.false in
     let run = rw c.last.ensures at c.in_ok-replies-2.ensures in
     let all = played rules c.args.driven.now c.loop-index.driven c.run-2.new.self script i text replies past told run in
-    let part = rw c.deref-2.ensures.value at c.in_err-tell-2.ensures in
+    let part = rw c.deref-2.ensures.value at c.in_err-tell-2.ensures.sent in
     on_err c.from_residual-in_err-tell-2.result
     (begun_part rules c.args.driven.now c.run-2.new.self script _ _ _ (text ++ more) text more []
     (sym (ap (λ l. text ++ l) (append-nil more))) (inr all) wrote part)
@@ -103,7 +103,7 @@ returns-clause-ok g c =
     let past : length script.shown ≤ i = rw c.shows-index-end.ensures at c.loop-index-test.false in
     let run = rw c.last.ensures at c.in_ok-replies-2.ensures in
     let all = played rules c.args.driven.now c.loop-index.driven c.run-2.new.self script i text replies past told run in
-    let lines = rw c.deref-2.ensures.value at c.in_ok-tell-2.ensures in
+    let lines = rw c.deref-2.ensures.value at c.in_ok-tell-2.ensures.sent in
     (text ++ more, all, appends_kept _ _ _ (text ++ more) (appends_again _ _ _ text more wrote lines) c.flush.ensures.bytes)
 
 pub returns-in_default-clause-err : goal.returns-in_default-clause-err
@@ -117,7 +117,7 @@ returns-in_default-clause-err g c =
     let past : length script.shown ≤ i = rw c.shows-index-end.ensures at c.loop-index-test.false in
     let run = rw c.last.ensures at c.in_ok-replies-2.ensures in
     let all = played rules c.args.driven.now c.loop-index.driven c.run-2.new.self script i text replies past told run in
-    let lines = rw c.deref-2.ensures.value at c.in_ok-tell-2.ensures in
+    let lines = rw c.deref-2.ensures.value at c.in_ok-tell-2.ensures.sent in
     let wrote_all =
     appends_kept _ _ _ (text ++ more) (appends_again _ _ _ text more wrote lines) c.flush.ensures.bytes in
     begun_all rules c.args.driven.now c.run-2.new.self script _ _ (text ++ more) (inr all) wrote_all

@@ -7,8 +7,8 @@ use Rattle.script_runner.proofs.Appending.{appends_again, appends_nothing, writt
 use Rattle.script_runner.proofs.Sends.{flat_map-at, flat_map-more, part_after}
 use Rattle.script_runner.proofs.engine.driving.tell.Goals as goal
 
-pub returns-in_default : goal.returns-in_default
-returns-in_default g c =
+pub returns-in_default-clause-sent : goal.returns-in_default-clause-sent
+returns-in_default-clause-sent g c =
     let rules = g.K.Driven.rules in
     let replies = c.args.replies.now in
     let i = c.loop-reply.reply-index in
@@ -19,8 +19,8 @@ returns-in_default g c =
     ∙ flat_map-append rules.reply_text (take i replies) (drop i replies) in
     (front, (back, whole), c.loop-reply.invariant)
 
-pub returns-in_err-send : goal.returns-in_err-send
-returns-in_err-send g c =
+pub returns-in_err-send-clause-sent : goal.returns-in_err-send-clause-sent
+returns-in_err-send-clause-sent g c =
     let rules = g.K.Driven.rules in
     let replies = c.args.replies.now in
     let i = c.loop-reply.reply-index in
@@ -29,7 +29,7 @@ returns-in_err-send g c =
     let below : i < length replies = c.loop-reply-test.true in
     let p = err_from_is_err_and c.from_residual.result c.from_residual.ensures.1 in
     let is = written_whole _ _ (rules.reply_text reply) c.clear.ensures.items c.in-Ok.ensures in
-    let part = rw (c.deref.ensures.value, is) at c.in_err-send.ensures in
+    let part = rw (c.deref.ensures.value, is) at c.in_err-send.ensures.sent in
     rw (p.1, flat_map-at rules.reply_text replies i reply below c.reply-item.is)
     (part_after _ _ _ front (rules.reply_text reply) (flat_map rules.reply_text (drop (i + 1) replies))
     c.loop-reply.invariant part)
@@ -45,12 +45,12 @@ loop-reply-preserved g c =
     let reply = c.reply-item.result in
     let below : i < length replies = c.loop-reply-test.true in
     let is = written_whole _ _ (rules.reply_text reply) c.clear.ensures.items c.in-Ok.ensures in
-    let more = rw (c.deref.ensures.value, is) at c.in_ok-send.ensures in
+    let more = rw (c.deref.ensures.value, is) at c.in_ok-send.ensures.sent in
     rw (flat_map-more rules.reply_text replies i reply below c.reply-item.is)
     (appends_again _ _ _ (flat_map rules.reply_text (take i replies)) (rules.reply_text reply) c.loop-reply.invariant more)
 
-pub returns : goal.returns
-returns g c =
+pub returns-clause-sent : goal.returns-clause-sent
+returns-clause-sent g c =
     let all : take c.loop-reply.reply-index c.args.replies.now ≡ c.args.replies.now =
     take_all c.loop-reply.reply-index c.args.replies.now c.loop-reply-test.false in
     rw all at c.loop-reply.invariant

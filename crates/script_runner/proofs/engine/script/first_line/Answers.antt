@@ -1,14 +1,20 @@
-use Rattle.std.proofs.Common.{arith, tests, ap, ◌∙◌, ◌<◌, length}
-use Rattle.script_runner.specs.engine.Lines.{lines_of}
-use Rattle.script_runner.proofs.WholeLines.{lines_line, lines_last, no_feed-all}
+use Rattle.std.proofs.Common.{arith, tests, ◌<◌, ◌≡◌, ◌-◌, length, take, drop}
+use Rattle.std.proofs.lemmas.Grind.{common_steps}
+use Rattle.script_runner.proofs.WholeLines.{lines_split, lines_whole_text}
 use Rattle.script_runner.proofs.engine.script.first_line.Goals as goal
 
-pub returns-in-Some-clause-cut : goal.returns-in-Some-clause-cut
-returns-in-Some-clause-cut c =
-    let line = c.in-Some.line.now in
-    ap lines_of c.in-Some.ensures.parts ∙ lines_line line c.in-Some.rest.now (no_feed-all line c.in-Some.ensures.first)
-
-pub returns-in-None-clause-cut : goal.returns-in-None-clause-cut
-returns-in-None-clause-cut c =
+pub returns-then-is_empty-2-clause-cut : goal.returns-then-is_empty-2-clause-cut
+returns-then-is_empty-2-clause-cut c =
     let some : 0 < length c.args.input.now = grind (arith, tests) in
-    lines_last c.args.input.now (no_feed-all c.args.input.now c.in-None.ensures.none) (λ e. omega (arith, some, ap length e))
+    let none : length c.split_before.result.1.now ≡ 0 = grind (arith, tests) in
+    lines_whole_text c.args.input.now c.split_before.result.0.now c.split_before.result.1.now c.split_before.ensures.parts
+    c.split_before.ensures.first some none
+
+pub returns-else-is_empty-2-clause-cut : goal.returns-else-is_empty-2-clause-cut
+returns-else-is_empty-2-clause-cut c =
+    let rest = c.split_before.result.1.now in
+    let some : 0 < length rest = grind (arith, tests) in
+    let whole : take (length rest - 1) (drop 1 rest) ≡ drop 1 rest = grind (arith, common_steps) in
+    rw whole
+    (lines_split c.args.input.now c.split_before.result.0.now rest c.split_before.ensures.parts
+    c.split_before.ensures.first c.split_before.ensures.rest some)

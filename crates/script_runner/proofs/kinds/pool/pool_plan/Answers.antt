@@ -1,52 +1,35 @@
-use Rattle.std.proofs.Common.{arith, ap, codes, rules, subst, sym, Some, ◌∙◌, ◌++◌}
-use Rattle.std.specs.Fmt.{decimal}
-use Rattle.std.proofs.lemmas.Option.{none-some}
-use Rattle.script_runner.specs.Fields.{layout_text}
-use Rattle.script_runner.specs.kinds.Pool.{IsPoolPlan}
-use Rattle.script_runner.proofs.Layouts.{layout-of_numbers}
-use Rattle.script_runner.proofs.PoolPlans.{same_plan}
+use Rattle.std.proofs.Common.{◌≡◌, ◌∙◌, rules, subst, sym, ap, Some}
+use Rattle.std.proofs.lemmas.Option.{none-some, same_Some}
+use Rattle.script_runner.specs.declared.kinds.pool.PoolPlan.{PoolPlan}
+use Rattle.script_runner.specs.declared.words.Numbers.TheVariants.{Four}
+use Rattle.script_runner.specs.kinds.Pool.{IsPoolPlan, pool_numbers}
 use Rattle.script_runner.proofs.kinds.pool.pool_plan.Goals as goal
+use Rattle.script_runner.proofs.kinds.pool.pool_plan.Goals.{After-can_make}
 
-pub returns-in_err-start-clause-each : goal.returns-in_err-start-clause-each
-returns-in_err-start-clause-each c plan is e =
-    absurd (c.in_err-start.ensures.each plan.region.start _ (omega (arith, is.is_region.end)) e)
+pub returns-in_err-bucket-in-Four-clause-each : goal.returns-in_err-bucket-in-Four-clause-each
+returns-in_err-bucket-in-Four-clause-each c plan is name numbers =
+    let four = c.in-Four in
+    let e : Four four.start four.size four.bucket four.align ≡ pool_numbers plan = sym four.is ∙ numbers in
+    absurd (none-some plan.bucket (c.in_err-bucket-in-Four.ensures.each plan.bucket (cc) (cc)))
 
-pub returns-in_err-size-clause-each : goal.returns-in_err-size-clause-each
-returns-in_err-size-clause-each c plan is e =
-    let (same_start, rest) = c.in_ok-start.ensures.each plan.region.start _ (omega (arith, is.is_region.end)) e in
-    absurd (c.in_err-size.ensures.each plan.region.size (layout_text plan.bucket) (omega (arith, is.is_region.end)) rest)
+-- the numbers of a plan make that plan
+same_plan : (c : After-can_make) (plan : PoolPlan) → c.args.numbers ≡ pool_numbers plan
+    → record { start = c.in-Four.start; size = c.in-Four.size; bucket = c.in_ok-bucket-in-Four.bucket } ≡ plan
+same_plan c plan numbers =
+    let four = c.in-Four in
+    let e : Four four.start four.size four.bucket four.align ≡ pool_numbers plan = sym four.is ∙ numbers in
+    let start : four.start ≡ plan.start = cc in
+    let size : four.size ≡ plan.size = cc in
+    let bucket = same_Some c.in_ok-bucket-in-Four.bucket plan.bucket
+    (c.in_ok-bucket-in-Four.ensures.each plan.bucket (cc) (cc)) in
+    λ i. record { start = start i; size = size i; bucket = bucket i }
 
-pub returns-in_err-bucket-clause-each : goal.returns-in_err-bucket-clause-each
-returns-in_err-bucket-clause-each c plan is e =
-    let (same_start, rest) = c.in_ok-start.ensures.each plan.region.start _ (omega (arith, is.is_region.end)) e in
-    let (same_size, bucket) =
-    c.in_ok-size.ensures.each plan.region.size (layout_text plan.bucket) (omega (arith, is.is_region.end)) rest in
-    absurd (none-some plan.bucket (c.in_err-bucket.ensures.each plan.bucket (layout-of_numbers plan.bucket is.filled) bucket))
+pub returns-then-can_make-clause-each : goal.returns-then-can_make-clause-each
+returns-then-can_make-clause-each c plan is name numbers =
+    ap Some (same_plan (goal.at.returns-then-can_make-clause-each c).After-can_make plan numbers)
 
-pub returns-clause-each : goal.returns-clause-each
-returns-clause-each c plan is e =
-    let (same_start, rest) = c.in_ok-start.ensures.each plan.region.start _ (omega (arith, is.is_region.end)) e in
-    let (same_size, bucket) =
-    c.in_ok-size.ensures.each plan.region.size (layout_text plan.bucket) (omega (arith, is.is_region.end)) rest in
-    let same_bucket = c.in_ok-bucket.ensures.each plan.bucket (layout-of_numbers plan.bucket is.filled) bucket in
-    ap Some (same_plan c.in_ok-start.start c.in_ok-size.size c.in_ok-bucket.bucket plan same_start same_size same_bucket)
-
-pub returns-then-not-can_make-clause-each : goal.returns-then-not-can_make-clause-each
-returns-then-not-can_make-clause-each c plan is e =
-    let (same_start, rest) = c.in_ok-start.ensures.each plan.region.start _ (omega (arith, is.is_region.end)) e in
-    let (same_size, bucket) =
-    c.in_ok-size.ensures.each plan.region.size (layout_text plan.bucket) (omega (arith, is.is_region.end)) rest in
-    let same_bucket = c.in_ok-bucket.ensures.each plan.bucket (layout-of_numbers plan.bucket is.filled) bucket in
-    let same = same_plan c.in_ok-start.start c.in_ok-size.size c.in_ok-bucket.bucket plan same_start same_size same_bucket in
+pub returns-else-can_make-clause-each : goal.returns-else-can_make-clause-each
+returns-else-can_make-clause-each c plan is name numbers =
+    let same = same_plan (goal.at.returns-else-can_make-clause-each c).After-can_make plan numbers in
     let may = subst IsPoolPlan (sym same) is in
     search rules
-
-pub returns-clause-written : goal.returns-clause-written
-returns-clause-written c =
-    let (start_fits, first) = c.in_ok-start.ensures.written in
-    let (size_fits, second) = c.in_ok-size.ensures.written in
-    let (numbers, third) = c.in_ok-bucket.ensures.written in (
-      c.can_make.ensures.0 c.if-not-can_make.false,
-      first ∙ ap (λ l. decimal c.in_ok-start.start ++ (codes " " ++ l))
-          (second ∙ ap (λ l. decimal c.in_ok-size.size ++ (codes " " ++ l)) third),
-    )

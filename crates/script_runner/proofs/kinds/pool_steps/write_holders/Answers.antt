@@ -1,11 +1,26 @@
-use Rattle.std.proofs.Common.{arith, ◌<◌, length}
-use Rattle.script_runner.proofs.PoolShows.{appends_holder}
+use Rattle.std.proofs.Common.{arith, ◌≡◌, ◌<◌, ◌++◌, ◌∙◌, ap, length, []}
+use Rattle.std.proofs.lemmas.List.{append-nil}
+use Rattle.script_runner.specs.Words.{words, words_text}
+use Rattle.script_runner.specs.declared.words.Numbers.TheVariants.{One}
+use Rattle.script_runner.specs.kinds.PoolSteps.{holder_text}
+use Rattle.script_runner.proofs.PoolShows.{holders_more}
 use Rattle.script_runner.proofs.kinds.pool_steps.write_holders.Goals as goal
+use Rattle.script_runner.proofs.kinds.pool_steps.write_holders.Goals.{in-Some+in_ok-write_words-in-Some}
+use Rattle.script_runner.proofs.kinds.pool_steps.write_holders.Goals.{in-None+in_ok-write_all-in-None}
 
 pub loop-bucket-preserved : goal.loop-bucket-preserved
-loop-bucket-preserved g c =
+loop-bucket-preserved c =
     let flags = c.args.world.now.flags in
     let bucket = c.loop-bucket.bucket in
+    let before = c.loop-bucket.line.items in
     let below : bucket < length flags = omega (arith, c.number_of_buckets-bucket-end.ensures) in
-    let more = rw c.holder.ensures at c.in_ok-write_holder.ensures in
-    appends_holder _ _ _ flags bucket below c.loop-bucket.invariant more
+    let more : c.match-holder.line.items ≡ before ++ holder_text c.holder.result =
+    elim c.match-holder.branch [
+      | in-Some+in_ok-write_words-in-Some w ↦
+          rw w.in-Some.is (ap (λ l. l.items) w.line-is ∙ (w.in_ok-write_words-in-Some.ensures
+          ∙ ap (λ l. before ++ l) (append-nil (words_text (words [] (One w.in-Some.party))))))
+      | in-None+in_ok-write_all-in-None w ↦
+          rw w.in-None.is (ap (λ l. l.items) w.line-is ∙ w.in_ok-write_all-in-None.ensures.bytes)
+    ] in
+    holders_more c.args.line.now.items before c.match-holder.line.items flags bucket below c.loop-bucket.invariant
+    (rw c.holder.ensures at more)

@@ -5,7 +5,7 @@ use Rattle.script_runner.proofs.Numbers.{what_is_free}
 use Rattle.script_runner.proofs.kinds.bump.BumpAllocatorScripted.write_state.Goals as goal
 
 pub returns : goal.returns
-returns g c =
+returns c =
     let bump = c.args.self.now in
     let free = what_is_free bump.used c.free_space-free.result bump.region.size c.free_space-free.ensures in
     let figures = figures_line bump.used (bump.region.size - bump.used) bump.region.size in

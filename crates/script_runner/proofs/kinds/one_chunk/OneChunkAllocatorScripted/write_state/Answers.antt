@@ -9,12 +9,12 @@ kept_text None some = absurd (some refl)
 kept_text (Some place) some = refl
 
 pub returns-then-has_chunk_available : goal.returns-then-has_chunk_available
-returns-then-has_chunk_available g c =
+returns-then-has_chunk_available c =
     let none = c.has_chunk_available.ensures.value.0 c.if-has_chunk_available.true in
     rw none (rw (c.start_address-start.ensures.value, c.size-size.ensures) at c.writeln.ensures.bytes)
 
 pub returns-else-has_chunk_available : goal.returns-else-has_chunk_available
-returns-else-has_chunk_available g c =
+returns-else-has_chunk_available c =
     let kept = c.args.self.now.kept in
     let some : ¬ (kept ≡ None) =
     λ e. false≢true (sym c.if-has_chunk_available.false ∙ c.has_chunk_available.ensures.value.1 e) in

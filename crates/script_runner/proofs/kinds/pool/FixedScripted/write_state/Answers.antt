@@ -1,7 +1,7 @@
 use Rattle.script_runner.proofs.kinds.pool.FixedScripted.write_state.Goals as goal
 
 pub returns : goal.returns
-returns g c =
+returns c =
     rw (
       c.size-size.ensures,
       c.bucket_size-bucket.ensures,

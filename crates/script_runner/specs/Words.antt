@@ -1,0 +1,67 @@
+-- The words of a line: a name, and numbers in decimal, with a space between each two.
+use Rattle.std.specs.Prelude.{ℕ, ◌≡◌, ◌≢◌, ◌^◌, ◌<◌, List, [], ◌∷◌, ◌++◌, All}
+use Rattle.std.specs.Fmt.{decimal}
+use Rattle.bb_memory_base.specs.Region.{Region, region_at}
+use Rattle.script_runner.specs.declared.words.Bounds.{Bounds}
+use Rattle.script_runner.specs.declared.words.Numbers.{Numbers}
+use Rattle.script_runner.specs.declared.words.Numbers.TheVariants.{Zero, One, Two, Three, Four, Five}
+
+-- a name, and the numbers behind it
+pub record Words : Type 0 where
+  pub name : List ℕ
+  pub numbers : Numbers
+
+abbrev pub words : List ℕ → Numbers → Words
+words name numbers = record { name = name; numbers = numbers }
+
+abbrev pub list_of : Numbers → List ℕ
+list_of Zero = []
+list_of (One a) = a ∷ []
+list_of (Two a b) = a ∷ b ∷ []
+list_of (Three a b c) = a ∷ b ∷ c ∷ []
+list_of (Four a b c d) = a ∷ b ∷ c ∷ d ∷ []
+list_of (Five a b c d e) = a ∷ b ∷ c ∷ d ∷ e ∷ []
+
+-- a space before each number
+abbrev pub numbers_text : List ℕ → List ℕ
+numbers_text [] = []
+numbers_text (n ∷ numbers) = 32 ∷ (decimal n ++ numbers_text numbers)
+
+-- `NAME NUMBER ..`
+abbrev pub words_text : Words → List ℕ
+words_text words = words.name ++ numbers_text (list_of words.numbers)
+
+-- `NAME NUMBER ..`, and then a text
+abbrev pub words_then : List ℕ → Numbers → List ℕ → List ℕ
+words_then name numbers text = words_text (words name numbers) ++ text
+
+-- each of them may be written
+abbrev pub AreNumbers : List ℕ → Type 0
+AreNumbers [] = Unit {0}
+AreNumbers (n ∷ numbers) = (n < 2 ^ 64) × AreNumbers numbers
+
+-- the name has no space, and the numbers may be written
+pub record MayStand (words : Words) : Type 0 where
+  pub name : All (λ byte. byte ≢ 32) words.name
+  pub numbers : AreNumbers (list_of words.numbers)
+
+-- the line is these words
+pub record AreWords (words : Words) (line : List ℕ) : Type 0 where
+  pub stand : MayStand words
+  pub text : line ≡ words_text words
+
+-- where there is a first byte, it is this one
+abbrev pub StartsWith : ℕ → List ℕ → Type 0
+StartsWith byte [] = Unit {0}
+StartsWith byte (first ∷ text) = first ≡ byte
+
+-- the number of a party: a script of steps may name 64
+abbrev pub IsParty : ℕ → Type 0
+IsParty party = party < 64
+
+-- the region that a header names
+abbrev pub region_of : Bounds → Region
+region_of bounds = region_at bounds.start bounds.size
+
+abbrev pub bounds_numbers : Bounds → Numbers
+bounds_numbers bounds = Two bounds.start bounds.size

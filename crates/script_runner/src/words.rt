@@ -1,0 +1,184 @@
+//! The words of a line: a name, and numbers in decimal, with a space between each two.
+ghost use Rattle.std.specs.Prelude.{◌≡◌, ◌≢◌, ◌↔◌, ◌^◌, ◌<◌, ◌++◌, ◌∷◌, [], ℕ, All, IsTrue, Some};
+ghost use Rattle.std.specs.Prelude.{IfNone, IfSome, OnOk, length, slice_index};
+ghost use Rattle.std.specs.Fmt.{decimal};
+ghost use Rattle.std.specs.Option.{SomeIff};
+ghost use Rattle.std.specs.Str.Parse.{AllDigits, digits_value};
+ghost use Rattle.bb_memory_base.specs.Region.{IsRegion};
+ghost use Rattle.bb_memory_base.specs.declared.layout.Layout.{Layout};
+ghost use Rattle.script_runner.specs.Words.{Words, words, list_of, AreWords, StartsWith, numbers_text, IsParty};
+ghost use Rattle.script_runner.specs.Words.{region_of, bounds_numbers};
+
+use bb_memory::layout::Layout;
+use bb_memory::region::Region;
+use std::io;
+use std::io::Write;
+
+/// The number of parties in scripts of steps.
+pub const PARTIES: u32 = 64;
+
+/// The numbers of a line.
+#[derive(Clone, Copy)]
+pub enum Numbers {
+    Zero,
+    One(usize),
+    Two(usize, usize),
+    Three(usize, usize, usize),
+    Four(usize, usize, usize, usize),
+    Five(usize, usize, usize, usize, usize),
+}
+
+impl Numbers {
+    /// Adds a number at the end, where there is room.
+    fn and(self, last: usize) -> Option<Numbers>
+        ensures more { IfSome result (λ more. list_of more ≡ list_of self ++ last ∷ []) }
+        ensures full { IfNone result (length (list_of self) ≡ 5) }
+    {
+        match self {
+            Numbers::Zero => Some(Numbers::One(last)),
+            Numbers::One(a) => Some(Numbers::Two(a, last)),
+            Numbers::Two(a, b) => Some(Numbers::Three(a, b, last)),
+            Numbers::Three(a, b, c) => Some(Numbers::Four(a, b, c, last)),
+            Numbers::Four(a, b, c, d) => Some(Numbers::Five(a, b, c, d, last)),
+            Numbers::Five(..) => None,
+        }
+    }
+}
+
+/// Parses the words of a line.
+pub fn words(line: &[u8]) -> Option<(&[u8], Numbers)>
+    ensures written { IfSome result (λ (name, numbers).
+        AreWords (words name.now numbers) line.now) }
+    ensures none { IfNone result ((other : Words) → ¬ AreWords other line.now) }
+{
+    let (name, behind) = split_before(line, b' ');
+    let mut numbers = Numbers::Zero;
+    let mut rest = behind;
+    while !rest.is_empty() {
+        let (field, after) = split_before(&rest[1..], b' ');
+        numbers = numbers.and(number(field)?)?;
+        rest = after;
+    }
+    Some((name, numbers))
+}
+
+/// Splits a text before the first byte of this value, or at its end.
+pub fn split_before(text: &[u8], byte: u8) -> (&[u8], &[u8])
+    ensures parts { text.now ≡ result.0.now ++ result.1.now }
+    ensures first { All (λ b. b ≢ byte) result.0.now }
+    ensures rest { StartsWith byte result.1.now }
+{
+    match text.iter().position(|b| *b == byte) {
+        Some(index) => (&text[..index], &text[index..]),
+        None => (text, &[]),
+    }
+}
+
+/// Parses a number in decimal, without a sign or a leading zero.
+fn number(field: &[u8]) -> Option<usize>
+    ensures written { IfSome result (λ n. (n < 2 ^ 64) × (field.now ≡ decimal n)) }
+    ensures each { (n : ℕ) → n < 2 ^ 64 → field.now ≡ decimal n → result ≡ Some n }
+{
+    if !is_plain(field) {
+        return None;
+    }
+    value(field)
+}
+
+/// Tests that there is a byte, and no leading zero.
+fn is_plain(field: &[u8]) -> bool
+    ensures { IsTrue result
+        ↔ ((0 < length field.now) × (slice_index field.now 0 ≡ 48 → length field.now ≡ 1)) }
+{
+    match field.first() {
+        None => false,
+        Some(b'0') => field.len() == 1,
+        Some(_) => true,
+    }
+}
+
+/// Returns the value of these digits, where they are digits and it fits.
+fn value(digits: &[u8]) -> Option<usize>
+    ensures { SomeIff result
+        (AllDigits 10 digits.now × (digits_value 10 digits.now < 2 ^ 64))
+        (digits_value 10 digits.now) }
+{
+    let mut value: usize = 0;
+    for byte in digits {
+        let digit = (*byte as char).to_digit(10)?;
+        value = value.checked_mul(10)?.checked_add(digit as usize)?;
+    }
+    Some(value)
+}
+
+/// Writes a name and numbers, and then a text.
+pub fn write_words(name: &[u8], numbers: &[usize], end: &[u8], line: &mut Vec<u8>) -> io::Result<()>
+    ensures { OnOk result (line.new.items
+        ≡ line.old.items ++ ((name.now ++ numbers_text numbers.now) ++ end.now)) }
+{
+    line.write_all(name)?;
+    for number in numbers {
+        write!(line, " {number}")?;
+    }
+    line.write_all(end)
+}
+
+/// Tests that a name is this text.
+pub fn is(name: &[u8], text: &[u8]) -> bool
+    ensures { IsTrue result ↔ (name.now ≡ text.now) }
+{
+    name == text
+}
+
+/// Returns the layout of these numbers, where there is one.
+pub fn layout(size: usize, align: usize) -> Option<Layout>
+    ensures made { IfSome result (λ layout. (layout.size ≡ size) × (layout.align ≡ align)) }
+    ensures each { (layout : Layout) → layout.size ≡ size → layout.align ≡ align
+        → result ≡ Some layout }
+{
+    Layout::from_size_align(size, align).ok()
+}
+
+/// The region that a header names.
+#[derive(Clone, Copy)]
+pub struct Bounds {
+    pub start: usize,
+    pub size: usize,
+}
+
+/// Reads `KIND START SIZE`.
+pub fn region(kind: &[u8], name: &[u8], numbers: Numbers) -> Option<Bounds>
+    ensures written { IfSome result (λ bounds. IsRegion (region_of bounds)
+        × (name.now ≡ kind.now) × (numbers ≡ bounds_numbers bounds)) }
+    ensures each { (bounds : Bounds) → IsRegion (region_of bounds) → name.now ≡ kind.now
+        → numbers ≡ bounds_numbers bounds → result ≡ Some bounds }
+{
+    match numbers {
+        Numbers::Two(start, size) if is(name, kind) && Region::can_make(start, size) => {
+            Some(Bounds { start, size })
+        }
+        _ => None,
+    }
+}
+
+/// Returns the party of this number, where there is one.
+pub fn party_of(number: usize) -> Option<u32>
+    ensures { SomeIff result (IsParty number) number }
+{
+    if number < PARTIES as usize {
+        Some(number as u32)
+    } else {
+        None
+    }
+}
+
+/// Returns the number in 32 bits, where it fits.
+pub fn small(number: usize) -> Option<u32>
+    ensures { SomeIff result (number < 2 ^ 32) number }
+{
+    if number <= u32::MAX as usize {
+        Some(number as u32)
+    } else {
+        None
+    }
+}
