@@ -19,7 +19,7 @@ pub record IsChunk (chunk : Chunk) : Type 0 where
 abbrev pub Covers : Chunk → ℕ → Type 0
 Covers chunk n = (chunk.place ≤ n) × (n < chunk_end chunk)
 
--- each of its numbers is one of the other's
+-- it begins at or behind the other's place, and ends at or before its end
 abbrev pub IsPart : Chunk → Chunk → Type 0
 IsPart part whole = (whole.place ≤ part.place) × (chunk_end part ≤ chunk_end whole)
 
