@@ -1,6 +1,6 @@
 -- Tables of kinds, and which kind a first line has.
 use Rattle.std.proofs.Common.{◌≡◌, ◌-◌, ◌+◌, ℕ, zero, suc, true, List, [], ◌∷◌, inl, inr, ◌⊎◌, All, take, not}
-use Rattle.std.proofs.Common.{Option, Some, None, IfSome, IfNone, refl, sym, ap, subst, arith}
+use Rattle.std.proofs.Common.{Option, Some, None, IfSome, IfNone, refl, ap, arith}
 use Rattle.std.specs.Prelude.{slice_get}
 use Rattle.std.specs.Str.{bytes_eq}
 use Rattle.std.proofs.lemmas.Bool.{and_parts, both_ways, not-true}

@@ -5,7 +5,6 @@ use Rattle.script_runner.specs.Words.{Words, words, words_text, MayStand}
 use Rattle.script_runner.specs.declared.engine.script.Line.{Line}
 use Rattle.script_runner.specs.declared.engine.script.Line.TheVariants as line
 use Rattle.script_runner.specs.declared.words.Numbers.{Numbers}
-use Rattle.script_runner.specs.declared.words.Numbers.TheVariants.{Zero}
 
 -- the rules of the scripts that drive what has states S, is made by headers O, and takes commands C, each with a reply R
 pub record Rules (S O C R : Type 0) : Type 1 where

@@ -2,7 +2,7 @@ use Rattle.std.proofs.Common.{◌≡◌, ◌<◌, ◌++◌, ◌∷◌, List, ℕ
 use Rattle.std.proofs.lemmas.Grind.{common_steps}
 use Rattle.std.proofs.lemmas.Option.{none-some}
 use Rattle.script_runner.specs.Words.{Words, list_of}
-use Rattle.script_runner.proofs.LineWords.{SoFar, next_number, at_most_five, space_first}
+use Rattle.script_runner.proofs.LineWords.{next_number, at_most_five, space_first}
 use Rattle.script_runner.proofs.words.words.Goals as goal
 
 pub returns-in_err-number-clause-none : goal.returns-in_err-number-clause-none
