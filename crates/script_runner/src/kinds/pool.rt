@@ -108,7 +108,7 @@ impl Scripted for Fixed {
 
     ghost rules = { fixed_rules };
 
-    ghost stands_for = { StandsFor };
+    ghost stands_for = { λ pool. StandsFor pool.pool };
 
     fn read_header(name: &[u8], numbers: Numbers) -> Option<PoolPlan> {
         pool_plan(b"fixed", name, numbers)
