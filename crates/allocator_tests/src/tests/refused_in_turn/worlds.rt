@@ -1,7 +1,7 @@
 //! Worlds and their replays, each row by its name. A refused replay leaves its world unchanged.
 use super::ends_unmade;
 use crate::marks::some_was_refused;
-use crate::rows::{Words, alone, call_and_answer, counted, field_and_rest, number_or_none};
+use crate::rows::{Words, alone, call_and_answer, counted, number_or_none};
 use crate::tests::checks::{check, check_at, chunk, layout};
 use bb_memory::steps::{BumpOutcome, BumpStep, BumpWorld, PoolOutcome, PoolStep, PoolWorld};
 use std::alloc::Global;
@@ -96,40 +96,11 @@ fn answer(world: &mut PoolWorld, call: Words<'_>) -> Words<'static> {
     }
 }
 
-/// Each row is of a fresh world of two buckets, for as many parties as the second field says.
-const POOL_ROWS: &str = "\
-a free bucket is taken, a held one is missed | 2 | try-at 0 1 = takes 1; try-at 0 1 = misses 1; try-at 1 1 = misses 1; \
-    try 1 = takes 0; holder 0 = is 1; holder 1 = is 0; give 0 1 = gives 1; try-at 1 1 = takes 1; holder 1 = is 1
-a pass stays where it is | 2 | try 0 = takes 0; try 1 = loses 0; try-at 1 1 = passed; attach 1 0 = passed; \
-    try-at 0 1 = takes 1; detach 0 1 = detaches 1; attach 1 1 = passed; try 1 = refused 1; attach 1 1 = attaches 1; \
-    try 1 = loses 0; detach 1 1 = detaches 1; try 1 = refused 1; try-at 1 0 = misses 0
-nobody holds a detached bucket | 2 | detach 0 1 = passed; attach 0 1 = passed; try-at 0 1 = takes 1; detach 1 1 = passed; \
-    attach 1 1 = passed; detach 0 1 = detaches 1; holder 1 = none; detach 0 1 = passed; give 0 1 = passed; \
-    try-at 0 1 = misses 1; attach 1 0 = passed; attach 1 1 = attaches 1; holder 1 = is 1; attach 0 1 = passed; \
-    detach 0 1 = passed; give 0 1 = passed; give 1 1 = gives 1; attach 1 1 = passed; try-at 0 1 = takes 1
-there is no such party or bucket | 2 | try-at 0 2 = passed; try-at 0 4294967295 = passed; try-at 2 0 = passed; \
-    try-at 4294967295 1 = passed; try-at 1 1 = takes 1; detach 2 1 = passed; detach 1 2 = passed; detach 1 1 = detaches 1; \
-    attach 2 1 = passed; attach 1 2 = passed; attach 1 4294967295 = passed; attach 1 1 = attaches 1; holder 2 = none
-one party detaches nothing | 1 | \
-    try-at 0 0 = takes 0; detach 0 0 = passed; attach 0 0 = passed; holder 0 = is 0; give 0 0 = gives 0; holder 0 = none";
-
 /// Makes a row's steps, and checks each outcome.
-fn keeps(rt: &impl Abort, world: &mut PoolWorld, name: &str, calls: &str) {
+pub(super) fn keeps(rt: &impl Abort, world: &mut PoolWorld, name: &str, calls: &str) {
     for (number, call) in calls.split("; ").enumerate() {
         let (call, wanted) = call_and_answer(call);
         check_at(rt, answer(world, call) == wanted, name, number);
-    }
-}
-
-#[test]
-fn pool_worlds(rt: HostRuntime) {
-    for row in POOL_ROWS.split('\n') {
-        let (name, row) = field_and_rest(row);
-        let (parties, calls) = field_and_rest(row);
-        match pool_world(rt.alloc(), parties.parse().unwrap_or(0)) {
-            Some(mut world) => keeps(&rt, &mut world, name, calls),
-            None => return ends_unmade(&rt, rt.alloc()),
-        }
     }
 }
 
