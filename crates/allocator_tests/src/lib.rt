@@ -4,5 +4,6 @@
 #![tactic(auto)]
 
 pub mod marks;
+pub mod rows;
 #[cfg(test)]
 mod tests;

@@ -2,5 +2,4 @@
 mod checks;
 mod owner;
 mod refused_in_turn;
-mod rows;
 mod texts;

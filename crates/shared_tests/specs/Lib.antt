@@ -1,1 +1,1 @@
-pub mod Users
+pub mod Pools

@@ -1,5 +1,5 @@
 //! Checks, proved once: a test's own proof carries no more of a check than its call.
-use super::rows::layout_of;
+use crate::rows::layout_of;
 use bb_memory::layout::{Chunk, Layout};
 use std::process::Abort;
 

@@ -8,11 +8,11 @@ ghost use Rattle.bb_memory_base.specs.Region.{region_at};
 use self::kinds::{Figures, Kind, Run};
 use super::checks::{check, check_at};
 use super::refused_in_turn::ends_unmade;
-use super::rows::{
-    Words, alone, call_and_answer, field_and_rest, layout_of, may_be_told, of_chunk, of_growth,
-    of_refusal, of_reply, of_shrinking, yes_or_no,
-};
 use crate::marks::{none_was_asked, refuse_memory, some_was_refused};
+use crate::rows::{
+    Words, alone, call_and_answer, counted, field_and_rest, layout_of, may_be_told, of_chunk,
+    of_growth, of_refusal, of_reply, of_shrinking, yes_or_no,
+};
 use bb_memory::allocator::{Allocator, BaseAllocator, Command, Reply, run_base, run_full};
 use bb_memory::layout::{Chunk, Layout};
 use bb_memory::region::Region;
@@ -148,7 +148,9 @@ impl<A: BaseAllocator + Drop> Owner<A> {
             ("out", _, Some(chunk)) => of_chunk(chunk),
             ("at", _, _) => yes_or_no(self.are_at(first, second, third)),
             ("zeros", _, _) => yes_or_no(self.has_zeros(first, second)),
-            _ => alone("passed"),
+            ("alloc" | "alloc-zeroed" | "out" | "reserved", _, _)
+            | ("grow" | "grow-zeroed" | "shrink", _, _) => alone("passed"),
+            _ => alone("no such call"),
         }
     }
 
@@ -164,10 +166,7 @@ impl<A: Allocator + Drop> Owner<A> {
         let position = call.1[0];
         match (chunk_at(&self.live, position), layouts(call)) {
             (Some(chunk), _) if call.0 == "reserved" => {
-                (
-                    "bytes",
-                    [self.allocator.reserved(chunk.place()), 0, 0, 0, 0, 0],
-                )
+                counted("bytes", self.allocator.reserved(chunk.place()))
             }
             (Some(chunk), Some(layouts)) => {
                 let place = chunk.place();

@@ -3,7 +3,6 @@
 //! ends. Want of memory is accepted only where a request was refused.
 mod after_making;
 mod blocks;
-mod counted;
 mod loans;
 mod makers;
 mod runs;

@@ -1,15 +1,12 @@
-//! Comparisons of tests and their ends, proved once: a test carries no more of them than the call.
+//! Checks, proved once: a test's own proof carries no more of a check than its call.
 use std::process::Abort;
 
-/// Memory for what a test makes was refused.
-pub(super) const REFUSED: &str = "memory was refused";
-
-/// This has to be true.
+/// Checks a condition.
 pub(super) fn check(rt: &impl Abort, found: bool) {
     assert!(rt; found);
 }
 
-/// The test ends, for this cause.
-pub(super) fn fail(rt: &impl Abort, cause: &str) {
-    panic!(rt; "{cause}");
+/// Checks a condition of a row's call. A failure names both.
+pub(super) fn check_at(rt: &impl Abort, found: bool, row: &str, at: usize) {
+    assert!(rt; found, "{row}: call {at}");
 }

@@ -1,20 +1,24 @@
-//! What a test compares and how it ends, proved once: a test carries no more of it than that it was called.
+//! Checks, proved once: a test's own proof carries no more of a check than its call.
+use allocator_tests::rows::layout_of;
 use bb_memory::layout::Layout;
 use std::process::Abort;
 
-/// This has to be true.
+/// Checks a condition.
 pub(super) fn check(rt: &impl Abort, found: bool) {
     assert!(rt; found);
 }
 
-/// The test ends, for this cause.
+/// Checks a condition of a row's call. A failure names both.
+pub(super) fn check_at(rt: &impl Abort, found: bool, row: &str, at: usize) {
+    assert!(rt; found, "{row}: call {at}");
+}
+
+/// Ends the test.
 pub(super) fn fail(rt: &impl Abort, cause: &str) {
     panic!(rt; "{cause}");
 }
 
-/// The layout of this size and alignment, which has to be one.
+/// Makes a layout, which has to be there.
 pub(super) fn layout(rt: &impl Abort, size: usize, align: usize) -> Layout {
-    Layout::from_size_align(size, align)
-        .ok()
-        .expect(rt, "there is such a layout")
+    layout_of(size, align).expect(rt, "there is such a layout")
 }

@@ -3,8 +3,8 @@ ghost use Rattle.std.specs.Prelude.{◌≡◌, [], IfSome};
 ghost use Rattle.bb_memory_base.specs.Region.{region_at};
 ghost use Rattle.bb_memory.specs.Pool.{StandsFor};
 
-use super::super::rows::{Words, field_and_rest, layout_of, words};
 use super::{Owner, keeps};
+use crate::rows::{Words, field_and_rest, layout_of, words};
 use bb_memory::allocator::{BaseAllocator, Command, Reply};
 use bb_memory::bump_allocator::{BumpAllocator, run_bump};
 use bb_memory::layout::Layout;

@@ -1,11 +1,11 @@
 //! Heap blocks, each row by its name. Where memory is refused, no block is made, and a growth hands its block back unchanged. An
 //! answer's numbers behind `with` are the block's bytes after the call.
 use crate::marks::{none_was_asked, refuse_memory, some_was_freed, some_was_refused};
-use crate::tests::checks::{check, check_at};
-use crate::tests::owner::layouts;
-use crate::tests::rows::{
+use crate::rows::{
     Words, alone, call_and_answer, field_and_rest, layout_of, of_growth, of_refusal, of_shrinking,
 };
+use crate::tests::checks::{check, check_at};
+use crate::tests::owner::layouts;
 use bb_memory::heap_allocator::{AllocationError, HeapAllocator, HeapBlock};
 use bb_memory::layout::Layout;
 use std::alloc::Global;
@@ -178,21 +178,13 @@ fn heap_of_many_sizes(rt: HostRuntime) {
     }
 }
 
-/// Shrinks and deallocates a block without a request for memory.
+/// Writes, shrinks and deallocates a block without a request for memory.
 pub(super) fn shrinks_without_memory(rt: &impl Abort, alloc: Global) {
-    let block = keeps(
-        rt,
-        alloc,
-        None,
-        "a block | alloc 4 1 = block with 0 0 0 0; count 1 = block with 1 2 3 4",
-    );
+    let block = keeps(rt, alloc, None, "a block | alloc 4 1 = block with 0 0 0 0");
+    let calls = "without memory | \
+        count 1 = block with 1 2 3 4; shrink 0 4 1 2 1 = block with 1 2; free 0 = released";
     refuse_memory(alloc);
-    keeps(
-        rt,
-        alloc,
-        block,
-        "without memory | shrink 0 4 1 2 1 = block with 1 2; free 0 = released",
-    );
+    keeps(rt, alloc, block, calls);
     check(rt, some_was_freed(alloc));
     check(rt, none_was_asked(alloc));
 }

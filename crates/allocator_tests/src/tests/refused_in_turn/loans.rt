@@ -1,7 +1,6 @@
 //! Loan books, each row by its name. A refused loan leaves the book unchanged: just the samples of before are out.
 ghost use Rattle.std.specs.Prelude.{[]};
 
-use super::counted::Counted;
 use super::ends_unmade;
 use crate::marks::{none_was_asked, refuse_memory, some_was_refused};
 use crate::tests::checks::{check, chunk, layout};
@@ -13,9 +12,7 @@ use loan_book::LoanCall::{self, GiveBack, IsOut, Loan, Publish};
 use loan_book::LoanReply::{self, Kept, Loaned, Out, Published, Refused, Returned};
 use loan_book::{LoanBook, LoanError, run_loans};
 use std::alloc::{AllocError, Global};
-use std::cell::Cell;
 use std::process::Abort;
-use std::rc::Rc;
 
 /// Makes a book over a one chunk of 64 bytes at 4096.
 fn one_book(alloc: Global) -> LoanBook<OneChunkAllocator> {
@@ -138,17 +135,10 @@ fn a_list_of_loans_keeps_the_book(rt: HostRuntime) {
     check(&rt, is_made(rt.alloc(), &mut book, whole) == Some(true));
 }
 
-/// Loans sixteen samples, gives some back, publishes the others and loans six more. A loan that is refused for its record's
-/// memory doesn't ask the allocator; a loan that is made asks it once.
-fn sixteen_go_back(
-    rt: &impl Abort,
-    alloc: Global,
-    book: &mut impl Book,
-    requests: &Rc<Cell<usize>>,
-) {
+/// Loans sixteen samples, gives some back, publishes the others and loans six more.
+fn sixteen_go_back(rt: &impl Abort, alloc: Global, book: &mut impl Book) {
     for id in 0..16 {
         check(rt, is_loan(at_last(rt, alloc, book, 64, id), id));
-        check(rt, requests.replace(0) == 1);
     }
     leave(rt, book, &[7, 0, 15, 8, 1, 14]);
     for id in &[2, 3, 4, 5, 6, 9, 10, 11, 12, 13] {
@@ -171,17 +161,10 @@ fn leave(rt: &impl Abort, book: &mut impl Book, ids: &[u64]) {
 }
 
 /// Makes the book of `sixteen_go_back` over a fresh allocator of sixteen chunks of 64 bytes.
-fn sixteen_of<A: Allocator + Drop>(rt: &impl Abort, alloc: Global, inner: A)
-    requires { A.stands_for inner [] }
+fn sixteen_of<A: Allocator + Drop>(rt: &impl Abort, alloc: Global, allocator: A)
+    requires { A.stands_for allocator [] }
 {
-    let Ok(counter) = Rc::new(alloc, Cell::new(0)) else {
-        return ends_unmade(rt, alloc);
-    };
-    let Ok(requests) = counter.clone() else {
-        return ends_unmade(rt, alloc);
-    };
-    let mut book = LoanBook::new(alloc, Counted { inner, requests });
-    sixteen_go_back(rt, alloc, &mut book, &counter);
+    sixteen_go_back(rt, alloc, &mut LoanBook::new(alloc, allocator));
 }
 
 #[test]

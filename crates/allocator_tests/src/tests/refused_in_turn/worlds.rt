@@ -1,7 +1,8 @@
 //! Worlds and their replays, each row by its name. A refused replay leaves its world unchanged.
 use super::ends_unmade;
 use crate::marks::some_was_refused;
-use crate::tests::checks::{check, chunk, layout};
+use crate::rows::{Words, alone, call_and_answer, counted, number_or_none};
+use crate::tests::checks::{check, check_at, chunk, layout};
 use bb_memory::steps::{BumpOutcome, BumpStep, BumpWorld, PoolOutcome, PoolStep, PoolWorld};
 use std::alloc::Global;
 use std::process::Abort;
@@ -55,6 +56,78 @@ fn steps_bump_race(rt: HostRuntime) {
     check(&rt, world.used_space() == 40);
 }
 
+/// Parses a step of a pool's world: `try PARTY`, or a word, a party and a bucket.
+fn pool_step(call: Words<'_>) -> Option<PoolStep> {
+    let party = u32::try_from(call.1[0]).ok()?;
+    let bucket = u32::try_from(call.1[1]).ok()?;
+    match call.0 {
+        "try" => Some(PoolStep::Try { party }),
+        "try-at" => Some(PoolStep::TryAt { party, bucket }),
+        "give" => Some(PoolStep::GiveBack { party, bucket }),
+        "detach" => Some(PoolStep::Detach { party, bucket }),
+        "attach" => Some(PoolStep::Attach { party, bucket }),
+        _ => None,
+    }
+}
+
+fn of_outcome(outcome: PoolOutcome) -> Words<'static> {
+    let (word, bucket) = match outcome {
+        PoolOutcome::Takes(bucket) => ("takes", bucket),
+        PoolOutcome::Loses(bucket) => ("loses", bucket),
+        PoolOutcome::RefusedAtLoss(bucket) => ("refused", bucket),
+        PoolOutcome::Misses(bucket) => ("misses", bucket),
+        PoolOutcome::Gives(bucket) => ("gives", bucket),
+        PoolOutcome::Detaches(bucket) => ("detaches", bucket),
+        PoolOutcome::Attaches(bucket) => ("attaches", bucket),
+        PoolOutcome::Passed => ("passed", 0),
+    };
+    counted(word, bucket as usize)
+}
+
+/// Makes a step, or asks who holds a bucket: `holder BUCKET`.
+fn answer(world: &mut PoolWorld, call: Words<'_>) -> Words<'static> {
+    match (call.0, pool_step(call)) {
+        ("holder", _) => {
+            let bucket = u32::try_from(call.1[0]).unwrap_or(u32::MAX);
+            number_or_none(world.holder(bucket).map(|party| party as usize))
+        }
+        (_, Some(step)) => of_outcome(world.step(step)),
+        (_, None) => alone("no such call"),
+    }
+}
+
+/// Makes a row's steps, and checks each outcome.
+pub(super) fn keeps(rt: &impl Abort, world: &mut PoolWorld, name: &str, calls: &str) {
+    for (number, call) in calls.split("; ").enumerate() {
+        let (call, wanted) = call_and_answer(call);
+        check_at(rt, answer(world, call) == wanted, name, number);
+    }
+}
+
+/// The steps of row `steps-pool-never-full`.
+const NEVER_FULL: &str = "\
+    try 0 = takes 0; try 1 = loses 0; try 2 = loses 0; give 0 0 = gives 0; try 1 = takes 1; try 2 = refused 1";
+
+/// Returns the steps of a row, or `None` where memory was refused.
+fn pool_steps(alloc: Global, calls: &str) -> Option<Vec<PoolStep>> {
+    let mut steps = Vec::new(alloc);
+    for call in calls.split("; ") {
+        steps.push(pool_step(call_and_answer(call).0)?).ok()?;
+    }
+    Some(steps)
+}
+
+/// Returns whether a replay's outcomes are those of a row.
+fn are_told(outcomes: &[PoolOutcome], calls: &str) -> bool {
+    let mut left = outcomes.iter();
+    for call in calls.split("; ") {
+        if left.next().map(|outcome| of_outcome(*outcome)) != Some(call_and_answer(call).1) {
+            return false;
+        }
+    }
+    left.next().is_none()
+}
+
 /// Replays steps, a second time where memory was refused: then the pool is still fresh.
 fn replayed_by_pool(
     rt: &impl Abort,
@@ -66,38 +139,29 @@ fn replayed_by_pool(
         return told;
     }
     check(rt, some_was_refused(alloc));
-    check(rt, (world.holder(0), world.holder(1)) == (None, None));
-    check(rt, world.step(gives(0)) == PoolOutcome::Passed);
+    keeps(
+        rt,
+        world,
+        "a refused replay",
+        "holder 0 = none; holder 1 = none; give 0 0 = passed",
+    );
     world.replay(steps).expect(rt, "there is memory again")
-}
-
-/// Returns the step by which a party gives bucket 0 back.
-fn gives(party: u32) -> PoolStep {
-    PoolStep::GiveBack { party, bucket: 0 }
 }
 
 #[test]
 fn steps_pool_never_full(rt: HostRuntime) {
-    let steps = [
-        PoolStep::Try { party: 0 },
-        PoolStep::Try { party: 1 },
-        PoolStep::Try { party: 2 },
-        gives(0),
-        PoolStep::Try { party: 1 },
-        PoolStep::Try { party: 2 },
-    ];
-    let outcomes = [
-        PoolOutcome::Takes(0),
-        PoolOutcome::Loses(0),
-        PoolOutcome::Loses(0),
-        PoolOutcome::Gives(0),
-        PoolOutcome::Takes(1),
-        PoolOutcome::RefusedAtLoss(1),
-    ];
+    let Some(steps) = pool_steps(rt.alloc(), NEVER_FULL) else {
+        return ends_unmade(&rt, rt.alloc());
+    };
     let Some(mut world) = pool_world(rt.alloc(), 64) else {
         return ends_unmade(&rt, rt.alloc());
     };
     let told = replayed_by_pool(&rt, rt.alloc(), &mut world, &steps);
-    check(&rt, told.as_slice() == outcomes.as_slice());
-    check(&rt, (world.holder(0), world.holder(1)) == (None, Some(1)));
+    check(&rt, are_told(&told, NEVER_FULL));
+    keeps(
+        &rt,
+        &mut world,
+        "held - 1",
+        "holder 0 = none; holder 1 = is 1",
+    );
 }

@@ -1,218 +1,117 @@
-//! Calls of what threads share that take no memory, each on values that were made before. The sweep runs these tests with each
-//! request refused, too, that comes after the making, and every call has to answer as it does with memory, without a request.
-ghost use Rattle.std.specs.Prelude.{◌≡◌, All};
+//! Calls of what threads share, each row by its name. None takes memory: the sweep runs these tests with each request refused,
+//! too, that comes after the making. Where a maker's request is refused, the row is made once more.
+use crate::tests::{bumps, users};
 
-use super::was_refused;
-use crate::tests::bump_rows::{self, all_meet, owner_by_all};
-use crate::tests::checks::check;
-use crate::tests::detached::TWO_DETACHED;
-use crate::tests::pool_rows::Answer::{Bucket, Chunk, Nothing};
-use crate::tests::pool_rows::Call::{FindAgain, GiveBack, Grow, Keep, NumberAt, Shrink, Token};
-use crate::tests::pool_rows::{ASKED, Answer, Call, Row, hold, last_meets, users_of};
-use crate::tests::rounds::FROM_EACH_BUCKET;
-use crate::tests::shared_buckets::Request::Pass;
-use crate::tests::shared_buckets::{Figures, SharedBuckets};
-use crate::tests::shared_bumps::two_parties;
-use crate::tests::shared_pools::{DROPPED_BUCKET, FOUR_BUCKETS, shared_fixed_over, shared_over};
-use allocator_tests::marks::{none_was_asked, refuse_memory};
-use bb_memory::shared_pool::PoolParty;
-use std::alloc::Global;
-use std::process::Abort;
-
-/// What a test makes for itself was refused.
-const REFUSED: &str = "memory was refused";
+/// `NAME | bump START SIZE USED PARTIES | CALL = ANSWER; .. | BY START SIZE USED`. The first number of a call is its party. `meet A` is a
+/// meeting of the last party and party A, `meet-all` one of all. At the end the bump is handed back by the `last` party, or by
+/// `all`, with these figures.
+const BUMPS: &str = "\
+share-two-parties | bump 4096 64 0 2 | number 0 = is 0; number 1 = is 1; alloc 0 40 1 = chunk 4096 40; used 1 = is 40; \
+    alloc 1 40 1 = OutOfMemory; alloc 1 0 1 = SizeIsZero | last 4096 64 40
+share-keeps-position | bump 4096 64 40 2 | used 1 = is 40; free 0 = is 24; region = are 4096 64 2 | last 4096 64 40
+the last of three made no step | bump 4096 64 0 3 | alloc 1 40 1 = chunk 4096 40 | last 4096 64 40
+one party fills it | bump 4096 64 0 1 | \
+    number 0 = is 0; alloc 0 64 1 = chunk 4096 64; meet-all = met; alloc 0 1 1 = OutOfMemory; free 0 = is 0 | last 4096 64 64
+64 parties | bump 4096 64 0 64 | region = are 4096 64 64; number 0 = is 0; number 63 = is 63; alloc 63 1 1 = chunk 4096 1 | \
+    all 4096 64 1
+1000 parties | bump 4096 64 0 1000 | region = are 4096 64 1000; number 999 = is 999; alloc 999 1 1 = chunk 4096 1 | last 4096 64 1
+no party made a step | bump 4096 64 40 4 | region = are 4096 64 4 | all 4096 64 40
+three parties meet | bump 4096 64 0 3 | alloc 0 10 1 = chunk 4096 10; alloc 1 8 8 = chunk 4112 8; alloc 2 3 1 = chunk 4120 3; \
+    meet 0 = met; meet 1 = met; meet-all = met; number 0 = is 0; number 1 = is 1; number 2 = is 2; used 0 = is 27; \
+    used 1 = is 27; free 2 = is 37; alloc 0 5 1 = chunk 4123 5; alloc 1 4 4 = chunk 4128 4; alloc 2 40 1 = OutOfMemory; \
+    alloc 2 28 1 = chunk 4132 28 | all 4096 64 64";
 
 #[test]
-fn a_shared_bump(rt: HostRuntime) {
-    let Some((shared, mut parties)) = bump_rows::share_of(rt.alloc(), 64, 0, 2) else {
-        was_refused(&rt, rt.alloc(), REFUSED);
-        return;
-    };
-    refuse_memory(rt.alloc());
-    let rows = [
-        (0, bump_rows::Call::FreeSpace, bump_rows::Answer::Bytes(64)),
-        (
-            0,
-            bump_rows::Call::Region,
-            bump_rows::Answer::Region(4096, 64),
-        ),
-    ];
-    bump_rows::hold(&rt, &shared, &mut parties, &rows);
-    check(&rt, bump_rows::last_meets(&shared, &mut parties, 0));
-    all_meet(&shared, &mut parties);
-    two_parties(&rt, shared, parties);
-    check(&rt, none_was_asked(rt.alloc()));
-}
-
-/// A bump that is handed back by all its parties.
-#[test]
-fn an_owner_of_all(rt: HostRuntime) {
-    let Some((shared, parties)) = bump_rows::share_of(rt.alloc(), 64, 40, 4) else {
-        was_refused(&rt, rt.alloc(), REFUSED);
-        return;
-    };
-    refuse_memory(rt.alloc());
-    check(
-        &rt,
-        owner_by_all(shared, parties, 4) == Some((4096, 64, 40)),
-    );
-    check(&rt, none_was_asked(rt.alloc()));
-}
-
-/// These rows hold of a pool without a request for memory. Where it has several parties, the last one meets the first before.
-fn answers<P: SharedBuckets>(
-    rt: &impl Abort,
-    alloc: Global,
-    pool: &P,
-    parties: Vec<PoolParty>,
-    first: &[Row],
-    then: &[Row],
-)
-    requires { All (λ party. party.allocator ≡ P.shown pool.now) parties.items }
-{
-    let Ok(mut users) = users_of(alloc, pool, parties) else {
-        was_refused(rt, alloc, REFUSED);
-        return;
-    };
-    refuse_memory(alloc);
-    if users.len() > 1 {
-        check(rt, last_meets(pool, &mut users, 0));
-    }
-    hold(rt, pool, &mut users, first);
-    hold(rt, pool, &mut users, then);
-    check(rt, none_was_asked(alloc));
-}
-
-/// They hold of a shared pool over so many bytes at 4096.
-fn shared_answers(
-    rt: &impl Abort,
-    alloc: Global,
-    size: usize,
-    parties: u32,
-    first: &[Row],
-    then: &[Row],
-) {
-    match shared_over(alloc, 4096, size, parties) {
-        Ok((pool, parties)) => answers(rt, alloc, &pool, parties, first, then),
-        Err(cause) => was_refused(rt, alloc, cause),
+fn shared_bumps(rt: HostRuntime) {
+    for row in BUMPS.split('\n') {
+        bumps::keeps_row(&rt, rt.alloc(), row);
     }
 }
 
-/// They hold of one of at most four buckets over 1024 bytes at 4096.
-fn shared_fixed_answers(rt: &impl Abort, alloc: Global, parties: u32, first: &[Row], then: &[Row]) {
-    match shared_fixed_over::<4>(alloc, 4096, 1024, parties) {
-        Ok((pool, parties)) => answers(rt, alloc, &pool, parties, first, then),
-        Err(cause) => was_refused(rt, alloc, cause),
+/// `NAME | MAKER START SIZE PARTIES MOST | CALL = ANSWER; ..`. Buckets have 128 bytes at multiples of 8. A `pool` has all that the
+/// region has room for, a `most` at most MOST, a `four` at most the constant 4. The first number of a call is its party.
+///
+/// `take` makes a pass and `near` a round; `keep` and `keep-near` keep the token in place of the one that was. `detach` puts the
+/// kept token's bucket upon those on their way, and `attach` takes the uppermost. `figures` are the first place (of a `four` 0),
+/// the buckets, the bucket size, the alignment, the size and the parties.
+const POOLS: &str = "\
+shared-pool-dropped-bucket | pool 4096 256 1 | number 0 = is 0; keep 0 48 4 = bucket 0 4096 48; take 0 48 4 = bucket 1 4224 48; \
+    take 0 48 4 = OutOfMemory; give 0 = given; take 0 48 4 = bucket 0 4096 48; take 0 48 4 = OutOfMemory
+shared-fixed-four-buckets | four 4096 1024 1 | figures = are 0 4 128 8 1024 1; keep 0 48 4 = bucket 0 4096 48; \
+    take 0 48 4 = bucket 1 4224 48; take 0 48 4 = bucket 2 4352 48; take 0 48 4 = bucket 3 4480 48; take 0 48 4 = OutOfMemory; \
+    grow 0 48 4 64 4 = chunk 4096 64; grow 0 64 4 129 4 = OutOfMemory; token 0 = bucket 0 4096 64
+two parties of one bucket | pool 4096 128 2 | keep 0 48 4 = bucket 0 4096 48; take 1 48 4 = OutOfMemory; \
+    near 1 48 4 = OutOfMemory; give 0 = given; take 1 48 4 = bucket 0 4096 48
+a layout that no bucket is enough for | pool 4096 128 1 | take 0 129 16 = SizeTooLarge; take 0 48 16 = AlignmentFailure; \
+    near 0 129 16 = SizeTooLarge; near 0 48 16 = AlignmentFailure; take 0 128 8 = bucket 0 4096 128
+no bucket | pool 4096 127 2 | figures = are 4096 0 128 8 127 2; take 0 48 4 = OutOfMemory; near 1 48 4 = OutOfMemory; \
+    meet 0 = met; meet-all = met; number-at 4096 = none; place-at 0 = none
+no bucket of at most four | four 4096 127 2 | \
+    figures = are 0 0 128 8 127 2; take 0 48 4 = OutOfMemory; near 1 48 4 = OutOfMemory; meet 0 = met; meet-all = met
+64 parties | pool 4096 1024 64 | figures = are 4096 8 128 8 1024 64; number 63 = is 63; take 63 128 8 = bucket 0 4096 128
+1000 parties of at most four buckets | four 4096 1024 1000 | \
+    figures = are 0 4 128 8 1024 1000; number 999 = is 999; take 999 128 8 = bucket 0 4096 128
+fewer buckets than the region has room for | most 4096 1024 2 3 | figures = are 4096 3 128 8 1024 2; number 1 = is 1; \
+    place-at 2 = is 4352; number-at 4352 = is 2; place-at 3 = none; number-at 4480 = none; take 1 48 4 = bucket 0 4096 48; \
+    take 0 48 4 = bucket 1 4224 48; take 0 48 4 = bucket 2 4352 48; take 1 48 4 = OutOfMemory
+as many as it has room for | most 4096 1024 1 8 | figures = are 4096 8 128 8 1024 1; place-at 7 = is 4992; place-at 8 = none
+no more than it has room for | most 4096 1024 1 4294967295 | figures = are 4096 8 128 8 1024 1; place-at 8 = none
+at most none | most 4096 1024 1 0 | figures = are 4096 0 128 8 1024 1; place-at 0 = none; take 0 0 1 = OutOfMemory
+at most four of none | most 4096 0 1 4 | figures = are 4096 0 128 8 0 1; take 0 0 1 = OutOfMemory
+each call of a bucket | pool 4097 300 1 | figures = are 4104 2 128 8 300 1; number-at 4096 = none; number-at 4105 = none; \
+    number-at 4232 = is 1; number-at 4360 = none; place-at 1 = is 4232; keep 0 48 4 = bucket 0 4104 48; \
+    again 0 0 = bucket 0 4104 0; number-at 4104 = is 0; grow 0 48 4 128 8 = chunk 4104 128; grow 0 128 8 64 8 = GrowWouldShrink; \
+    grow 0 48 4 64 16 = AlignmentFailure; shrink 0 48 4 16 16 = AlignmentFailure; shrink 0 128 8 48 4 = chunk 4104 48; \
+    token 0 = bucket 0 4104 48; again 0 48 = bucket 0 4104 48; give 0 = given; take 0 48 4 = bucket 0 4104 48
+each call of a bucket of at most four | four 4096 511 2 | number 1 = is 1; number-at 4352 = is 2; number-at 4480 = none; \
+    place-at 2 = is 4352; place-at 3 = none; keep-near 1 48 4 = bucket 1 4224 48; again 1 64 = bucket 1 4224 64; \
+    shrink 1 128 8 48 4 = chunk 4224 48; shrink 1 48 4 48 4 = ShrinkWouldGrow; token 1 = bucket 1 4224 48; \
+    detach 1 = detached 1 48; take 1 48 4 = bucket 0 4096 48; attach 0 = bucket 1 4224 48; meet 0 = met; give 0 = given; \
+    meet-all = met; take 0 48 4 = bucket 1 4224 48
+a detached bucket is nobody's | pool 4096 128 2 | keep 0 48 4 = bucket 0 4096 48; detach 0 = detached 0 48; \
+    take 0 48 4 = OutOfMemory; near 0 48 4 = OutOfMemory; take 1 48 4 = OutOfMemory; attach 1 = bucket 0 4096 48; \
+    take 0 48 4 = OutOfMemory; give 1 = given; take 0 48 4 = bucket 0 4096 48
+two buckets are exchanged | pool 4096 256 2 | keep 0 48 4 = bucket 0 4096 48; detach 0 = detached 0 48; \
+    keep 1 64 8 = bucket 1 4224 64; detach 1 = detached 1 64; take 0 48 4 = OutOfMemory; attach 0 = bucket 1 4224 64; \
+    give 0 = given; attach 1 = bucket 0 4096 48; give 1 = given
+a dropped token's bucket stays detached | pool 4096 256 2 | keep 0 48 4 = bucket 0 4096 48; detach 0 = detached 0 48; \
+    keep 1 48 4 = bucket 1 4224 48; drop = dropped; attach 0 = none; give 1 = given; \
+    take 1 48 4 = bucket 1 4224 48; take 0 48 4 = OutOfMemory
+a party attaches its own | four 4096 128 2 | keep 1 48 4 = bucket 0 4096 48; detach 1 = detached 0 48; \
+    attach 1 = bucket 0 4096 48; detach 1 = detached 0 48; attach 1 = bucket 0 4096 48; give 1 = given; \
+    keep 0 48 4 = bucket 0 4096 48; detach 0 = detached 0 48; attach 0 = bucket 0 4096 48; give 0 = given
+a round begins in the party's part | pool 4096 1024 4 | near 0 48 4 = bucket 0 4096 48; near 1 48 4 = bucket 2 4352 48; \
+    near 2 48 4 = bucket 4 4608 48; near 3 48 4 = bucket 6 4864 48; take 3 48 4 = bucket 1 4224 48; \
+    take 0 48 4 = bucket 3 4480 48; take 0 48 4 = bucket 5 4736 48; keep 1 48 4 = bucket 7 4992 48; give 1 = given; \
+    take 2 48 4 = bucket 7 4992 48; take 1 48 4 = OutOfMemory
+the last part is the last bucket | most 4096 76800 512 512 | figures = are 4096 512 128 8 76800 512; \
+    number-at 69504 = is 511; number-at 69632 = none; near 511 48 4 = bucket 511 69504 48; near 511 48 4 = bucket 0 4096 48
+a round goes on where the last one ended | pool 4096 1024 2 | near 0 48 4 = bucket 0 4096 48; \
+    keep-near 1 48 4 = bucket 4 4608 48; near 1 48 4 = bucket 5 4736 48; give 1 = given; near 1 48 4 = bucket 4 4608 48; \
+    near 0 48 4 = bucket 1 4224 48
+a round goes on at bucket 0 | pool 4096 512 2 | near 1 48 4 = bucket 2 4352 48; near 1 48 4 = bucket 3 4480 48; \
+    near 1 48 4 = bucket 0 4096 48; near 0 48 4 = bucket 1 4224 48; near 0 48 4 = OutOfMemory; near 1 48 4 = OutOfMemory
+rounds from each bucket | four 4096 1024 4 | keep-near 0 48 4 = bucket 0 4096 48; give 0 = given; \
+    keep-near 1 48 4 = bucket 1 4224 48; give 1 = given; keep-near 2 48 4 = bucket 2 4352 48; give 2 = given; \
+    keep-near 3 48 4 = bucket 3 4480 48; give 3 = given; near 3 48 4 = bucket 3 4480 48; keep-near 3 48 4 = bucket 0 4096 48; \
+    give 3 = given; near 1 48 4 = bucket 1 4224 48; near 0 48 4 = bucket 0 4096 48
+rounds from held buckets | pool 4096 512 4 | near 1 48 4 = bucket 1 4224 48; near 1 48 4 = bucket 2 4352 48; \
+    keep-near 2 48 4 = bucket 3 4480 48; near 3 48 4 = bucket 0 4096 48; near 0 48 4 = OutOfMemory; near 1 48 4 = OutOfMemory; \
+    near 2 48 4 = OutOfMemory; near 3 48 4 = OutOfMemory; give 2 = given; near 0 48 4 = bucket 3 4480 48
+a meeting keeps what is held | pool 4096 512 3 | take 0 48 4 = bucket 0 4096 48; take 1 48 4 = bucket 1 4224 48; \
+    keep 2 48 4 = bucket 2 4352 48; take 2 48 4 = bucket 3 4480 48; give 2 = given; meet 0 = met; meet 1 = met; \
+    meet-all = met; number 0 = is 0; number 1 = is 1; number 2 = is 2; keep 2 48 4 = bucket 2 4352 48; \
+    take 0 48 4 = OutOfMemory; take 1 48 4 = OutOfMemory; give 2 = given; near 1 48 4 = bucket 2 4352 48
+a meeting keeps where a round begins | pool 4096 1024 4 | near 1 48 4 = bucket 2 4352 48; near 2 48 4 = bucket 4 4608 48; \
+    meet 2 = met; meet-all = met; near 1 48 4 = bucket 3 4480 48; near 2 48 4 = bucket 5 4736 48; \
+    near 1 48 4 = bucket 6 4864 48; near 2 48 4 = bucket 7 4992 48
+a meeting keeps where a round of at most four begins | four 4096 1024 2 | keep-near 1 48 4 = bucket 2 4352 48; \
+    detach 1 = detached 2 48; attach 0 = bucket 2 4352 48; give 0 = given; meet-all = met; near 1 48 4 = bucket 3 4480 48; \
+    near 0 48 4 = bucket 2 4352 48; near 1 48 4 = bucket 0 4096 48";
+
+#[test]
+fn shared_pools(rt: HostRuntime) {
+    for row in POOLS.split('\n') {
+        users::keeps_row(&rt, rt.alloc(), row);
     }
-}
-
-#[test]
-fn a_shared_pool(rt: HostRuntime) {
-    let figures = Figures {
-        start: Some(4096),
-        buckets: 2,
-        bucket_size: 128,
-        max_alignment: 8,
-        size: 256,
-    };
-    let first = [
-        (0, Call::Number, Answer::Number(0)),
-        (1, Call::Number, Answer::Number(1)),
-        (0, Call::Figures, Answer::Figures(figures)),
-    ];
-    shared_answers(&rt, rt.alloc(), 256, 2, &first, &DROPPED_BUCKET);
-}
-
-#[test]
-fn shared_fixed(rt: HostRuntime) {
-    let first = [
-        (1, Keep(Pass, (128, 8)), Bucket(0, 4096, 128)),
-        (1, GiveBack, Nothing),
-    ];
-    shared_fixed_answers(&rt, rt.alloc(), 2, &first, &FOUR_BUCKETS);
-}
-
-/// The resizes of a shared pool's bucket.
-#[test]
-fn a_bucket(rt: HostRuntime) {
-    let rows = [
-        (0, Keep(Pass, ASKED), Bucket(0, 4096, 48)),
-        (0, Grow(ASKED, (128, 8)), Chunk(4096, 128)),
-        (0, Shrink((128, 8), ASKED), Chunk(4096, 48)),
-        (0, Token, Bucket(0, 4096, 48)),
-    ];
-    shared_answers(&rt, rt.alloc(), 256, 1, &rows, &[]);
-}
-
-/// A shared pool's bucket by its place and by its number.
-#[test]
-fn a_bucket_by_number(rt: HostRuntime) {
-    let rows = [
-        (0, NumberAt(4097), Nothing),
-        (0, Keep(Pass, (128, 8)), Bucket(0, 4096, 128)),
-        (0, FindAgain(0), Bucket(0, 4096, 0)),
-        (0, NumberAt(4096), Answer::Number(0)),
-    ];
-    shared_answers(&rt, rt.alloc(), 256, 1, &rows, &[]);
-}
-
-/// The same of a shared fixed pool, and a bucket that shrinks.
-#[test]
-fn shared_fixed_bucket(rt: HostRuntime) {
-    let rows = [
-        (0, Keep(Pass, (128, 8)), Bucket(0, 4096, 128)),
-        (0, FindAgain(0), Bucket(0, 4096, 0)),
-        (0, NumberAt(4096), Answer::Number(0)),
-        (0, Shrink((128, 8), ASKED), Chunk(4096, 48)),
-    ];
-    shared_fixed_answers(&rt, rt.alloc(), 1, &rows, &[]);
-}
-
-/// Rounds from each bucket on.
-#[test]
-fn rounds_of_shared_pools(rt: HostRuntime) {
-    shared_answers(&rt, rt.alloc(), 512, 4, &FROM_EACH_BUCKET, &[]);
-    shared_fixed_answers(&rt, rt.alloc(), 4, &FROM_EACH_BUCKET, &[]);
-}
-
-/// All parties of a pool meet without a request for memory.
-fn meet_without_memory<P: SharedBuckets>(
-    rt: &impl Abort,
-    alloc: Global,
-    pool: &P,
-    mut parties: Vec<PoolParty>,
-)
-    requires { All (λ party. party.allocator ≡ P.shown pool.now) parties.items }
-{
-    refuse_memory(alloc);
-    pool.meet_all(&mut parties);
-    check(rt, none_was_asked(alloc));
-}
-
-/// Those of a shared pool do.
-fn shared_meet(rt: &impl Abort, alloc: Global) {
-    match shared_over(alloc, 4096, 256, 3) {
-        Ok((pool, parties)) => meet_without_memory(rt, alloc, &pool, parties),
-        Err(cause) => was_refused(rt, alloc, cause),
-    }
-}
-
-/// And those of a pool of at most four buckets.
-fn shared_fixed_meet(rt: &impl Abort, alloc: Global) {
-    match shared_fixed_over::<4>(alloc, 4096, 1024, 3) {
-        Ok((pool, parties)) => meet_without_memory(rt, alloc, &pool, parties),
-        Err(cause) => was_refused(rt, alloc, cause),
-    }
-}
-
-#[test]
-fn all_parties_of_shared_pools(rt: HostRuntime) {
-    shared_meet(&rt, rt.alloc());
-    shared_fixed_meet(&rt, rt.alloc());
-}
-
-/// Two buckets go from party to party.
-#[test]
-fn detached_buckets(rt: HostRuntime) {
-    shared_answers(&rt, rt.alloc(), 256, 2, &TWO_DETACHED, &[]);
 }

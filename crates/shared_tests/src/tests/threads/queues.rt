@@ -1,9 +1,12 @@
 //! A queue from one thread to another, each of whose messages is a bucket of one shared pool: the receiver gives it back.
-ghost use Rattle.std.specs.Prelude.{◌≡◌, ◌<◌, IfOk, Some};
+ghost use Rattle.std.specs.Prelude.{◌≡◌, ◌<◌, All, IfOk, IfSome, Some};
 
-use crate::tests::checks::{check, fail};
-use crate::tests::detached::{receive, send, three_given, two_of};
+use crate::tests::checks::{check, layout};
+use crate::tests::pools::Pool;
+use crate::tests::users::keeps;
+use allocator_tests::rows::layout_of;
 use bb_memory::layout::Layout;
+use bb_memory::pool_allocator::{AllocationError, PoolAllocator};
 use bb_memory::shared_pool::{DetachedBucket, PoolParty, SharedPoolAllocator};
 use rtrb::{Consumer, Producer, Protocol, PushError, RingBuffer};
 use std::alloc::{AllocError, Global};
@@ -41,6 +44,31 @@ impl<P: MessagePool> Protocol<DetachedBucket> for OfPool<P> {
     ghost use Rattle.std.specs.Prelude.{◌≡◌, Some};
 
     ghost allows = { λ before message. P.pool ≡ Some message.allocator };
+}
+
+/// Takes a bucket, and detaches it.
+fn send(
+    pool: &SharedPoolAllocator,
+    party: &mut PoolParty,
+    asked: Layout,
+) -> Result<DetachedBucket, AllocationError>
+    requires others { 1 < pool.now.scene.parties }
+    requires party { party.old.allocator ≡ pool.now }
+    ensures party { party.new.allocator ≡ pool.now }
+    ensures sent { IfOk result (λ sent. sent.allocator ≡ pool.now) }
+{
+    let taken = pool.allocate(party, asked)?;
+    Ok(pool.detach(party, taken))
+}
+
+/// Attaches a bucket, and gives it back.
+fn receive(pool: &SharedPoolAllocator, party: &mut PoolParty, message: DetachedBucket)
+    requires party { party.old.allocator ≡ pool.now }
+    requires message { message.allocator ≡ pool.now }
+    ensures { party.new.allocator ≡ pool.now }
+{
+    let received = pool.attach(party, message);
+    pool.deallocate_bucket(party, received);
 }
 
 /// Puts a message into the queue. The bucket of one that finds no room is given back.
@@ -181,37 +209,48 @@ fn through_a_queue<R: Threads + Sync>(
     send_and_receive::<Brand, R>(rt, alloc, pool, sender, receiver, asked)
 }
 
-/// A thousand messages in two buckets, by a queue: each arrives, both buckets are free in the end, and there is no third.
-fn a_thousand<R: Threads + Abort + Sync>(
-    rt: &R,
-    alloc: Global,
-    pool: &SharedPoolAllocator,
-    sender: PoolParty,
-    receiver: PoolParty,
-    asked: Layout,
-)
-    requires others { 1 < pool.now.scene.parties }
-    requires sender { sender.allocator ≡ pool.now }
-    requires receiver { receiver.allocator ≡ pool.now }
+/// Takes the last of these parties out.
+fn last_of(pool: &SharedPoolAllocator, parties: &mut Vec<PoolParty>) -> Option<PoolParty>
+    requires { All (λ party. party.allocator ≡ pool.now) parties.old.items }
+    ensures others { All (λ party. party.allocator ≡ pool.now) parties.new.items }
+    ensures own { IfSome result (λ party. party.allocator ≡ pool.now) }
 {
-    match through_a_queue(rt, alloc, pool, sender, receiver, asked) {
-        Ok((receiver, sent, received)) => {
-            check(rt, (sent, received) == (MESSAGES, MESSAGES));
-            check(
-                rt,
-                three_given(pool, receiver, asked) == [true, true, false],
-            );
-        }
-        Err(_) => fail(rt, "memory was refused"),
+    let _ = pool;
+    parties.pop()
+}
+
+/// Makes a pool of two buckets, with its two parties.
+fn two_of(alloc: Global) -> Option<(SharedPoolAllocator, PoolParty, PoolParty)>
+    ensures others { IfSome result (λ made. 1 < made.0.scene.parties) }
+    ensures first { IfSome result (λ made. made.1.allocator ≡ made.0) }
+    ensures second { IfSome result (λ made. made.2.allocator ≡ made.0) }
+{
+    let bucket = layout_of(128, 8)?;
+    if !PoolAllocator::can_make(bucket, 4096, 256) {
+        return None;
     }
+    let (pool, mut parties) = SharedPoolAllocator::new(alloc, bucket, 4096, 256, 2).ok()?;
+    let second = last_of(&pool, &mut parties)?;
+    let first = last_of(&pool, &mut parties)?;
+    Some((pool, first, second))
+}
+
+/// Sends a thousand messages in two buckets: each arrives, both buckets are free in the end, and there is no third. Returns `None`
+/// where memory was refused.
+fn a_thousand<R: Threads + Abort + Sync>(rt: &R, alloc: Global) -> Option<()> {
+    let (pool, sender, receiver) = two_of(alloc)?;
+    let told = through_a_queue(rt, alloc, &pool, sender, receiver, layout(rt, 48, 4)).ok()?;
+    let (receiver, sent, received) = told;
+    check(rt, (sent, received) == (MESSAGES, MESSAGES));
+    let mut parties = Vec::new(alloc);
+    parties.push(receiver).ok()?;
+    let calls =
+        "take 0 48 4 = bucket 0 4096 48; take 0 48 4 = bucket 1 4224 48; take 0 48 4 = OutOfMemory";
+    keeps(rt, alloc, &Pool::whole(pool), parties, ("a queue", calls));
+    Some(())
 }
 
 #[test]
 fn threads_pool_queue(rt: HostRuntime) {
-    match two_of(rt.alloc(), 256) {
-        Ok((pool, sender, receiver, asked)) => {
-            a_thousand(&rt, rt.alloc(), &pool, sender, receiver, asked);
-        }
-        Err(cause) => fail(&rt, cause),
-    }
+    check(&rt, a_thousand(&rt, rt.alloc()).is_some());
 }

@@ -21,7 +21,6 @@ each call of a one chunk | one 4097 1024 | figures = are 4097 1024 1 0; alloc-ze
     shrink 0 48 4 16 4 = chunk 4100 16; grow 0 16 4 32 4 = chunk 4100 1021; grow-zeroed 0 16 4 32 4 = chunk 4100 1021; \
     reserved 0 = bytes 1021; figures = are 4097 1024 0 1; free 0 = released; figures = are 4097 1024 1 0; \
     alloc 48 4 = chunk 4100 1021
-pool-odd-start-getters | pool 4097 1024 128 8 | figures = are 4104 7 1024 128 8
 each call of a pool | pool 4096 64 32 8 | figures = are 4096 2 64 32 8 0; alloc-zeroed 32 4 = first 32; \
     figures = are 4096 2 64 32 8 1; zeros 0 32 = yes; shrink 0 32 4 16 4 = first 16; grow 0 16 4 32 4 = first 32; \
     grow-zeroed 0 16 4 32 4 = first 32; reserved 0 = bytes 32; alloc 32 4 = any 32; at 4096 32 2 = yes; free 0 = released; \

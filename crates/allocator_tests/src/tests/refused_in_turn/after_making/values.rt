@@ -1,9 +1,11 @@
 //! Layouts, roundings, chunks, a region, where allocators can be made, each row by its name; and the laws.
 use super::super::ends_unmade;
 use crate::marks::{none_was_asked, refuse_memory};
+use crate::rows::{
+    Words, alone, call_and_answer, field_and_rest, layout_of, number_or_none, yes_or_no,
+};
 use crate::tests::checks::{check, check_at};
 use crate::tests::owner::kinds::fixed_over;
-use crate::tests::rows::{Words, alone, call_and_answer, field_and_rest, layout_of, yes_or_no};
 use bb_memory::bump_allocator::{BumpAllocator, bump_object_law};
 use bb_memory::heap_allocator::heap_law;
 use bb_memory::layout::{Chunk, Layout, given_law, layout_law, least_place_law, round_up};
@@ -33,13 +35,6 @@ where a region can be | region 1 18446744073709551614 = yes; region 1 1844674407
 where pools can be made | pool 4096 1024 128 8 = yes; pool 0 8 128 8 = no; pool 4096 4294967295 1 1 = no; \
     fixed 4096 1024 128 8 = yes; fixed 4096 18446744073709551615 128 8 = no";
 
-fn number_or_none(number: Option<usize>) -> Words<'static> {
-    match number {
-        Some(number) => ("is", [number, 0, 0, 0, 0, 0]),
-        None => alone("none"),
-    }
-}
-
 /// Calls `memory_size`, where its conditions hold.
 fn memory_size(bucket: Layout, size: usize) -> Option<usize> {
     if bucket.size() == 0 || size / bucket.size() > u32::MAX as usize {
@@ -66,7 +61,7 @@ fn answered(word: &str, start: usize, size: usize, bucket: Layout) -> Words<'sta
         "region" => yes_or_no(Region::can_make(start, size)),
         "pool" => yes_or_no(is_made(bucket, start, size)),
         "fixed" => yes_or_no(fixed_over::<4>(bucket, start, size).is_some()),
-        _ => alone("passed"),
+        _ => alone("no such call"),
     }
 }
 

@@ -1,5 +1,5 @@
 use Rattle.std.proofs.Common.{◌≡◌}
-use Rattle.shared_tests.proofs.tests.threads.pools.take_and_return.Given as goal
+use Rattle.shared_tests.proofs.tests.threads.pools.take.Given as goal
 
 -- the party stays this pool's
 abbrev pub invariant-loop : goal.invariant-loop

@@ -1,5 +1,5 @@
 use Rattle.std.proofs.Common.{◌≡◌}
-use Rattle.shared_tests.proofs.tests.threads.bumps.take_and_watch.Given as goal
+use Rattle.shared_tests.proofs.tests.threads.bumps.watch.Given as goal
 
 -- the party stays this allocator's
 abbrev pub invariant-loop : goal.invariant-loop

@@ -4,47 +4,57 @@ use bb_memory::allocator::{AllocationError, AllocationGrowError, AllocationShrin
 use bb_memory::layout::{Chunk, Layout};
 
 /// A word and its numbers, then zeros.
-pub(super) type Words<'a> = (&'a str, [usize; 6]);
+pub type Words<'a> = (&'a str, [usize; 6]);
 
 /// Splits a row behind its first field.
-pub(super) fn field_and_rest(row: &str) -> (&str, &str) {
+pub fn field_and_rest(row: &str) -> (&str, &str) {
     row.split_once(" | ").unwrap_or((row, ""))
 }
 
 /// Parses `CALL = ANSWER`.
-pub(super) fn call_and_answer(call: &str) -> (Words<'_>, Words<'_>) {
+pub fn call_and_answer(call: &str) -> (Words<'_>, Words<'_>) {
     let (call, answer) = call.split_once(" = ").unwrap_or((call, ""));
     (words(call), words(answer))
 }
 
-/// Parses a word and its numbers.
-pub(super) fn words(text: &str) -> Words<'_> {
+/// Parses a word and its numbers. A number that is missing or empty reads as 0, and a text that is no number as `usize::MAX`.
+pub fn words(text: &str) -> Words<'_> {
     let (word, rest) = text.split_once(' ').unwrap_or((text, ""));
     let mut numbers = [0; 6];
     let mut at: usize = 0;
     for number in rest.split(' ') {
-        if at < 6 {
-            numbers[at] = number.parse().unwrap_or(0);
-            at += 1;
+        if at < 6 && !number.is_empty() {
+            numbers[at] = number.parse().unwrap_or(usize::MAX);
         }
+        at = at.saturating_add(1);
     }
     (word, numbers)
 }
 
 /// Returns a word without numbers.
-pub(super) fn alone(word: &str) -> Words<'_> {
+pub fn alone(word: &str) -> Words<'_> {
     (word, [0; 6])
 }
 
-pub(super) fn yes_or_no(is_so: bool) -> Words<'static> {
+pub fn yes_or_no(is_so: bool) -> Words<'static> {
     alone(if is_so { "yes" } else { "no" })
 }
 
-pub(super) fn of_chunk(chunk: Chunk) -> Words<'static> {
+/// Returns `WORD NUMBER`.
+pub fn counted(word: &str, number: usize) -> Words<'_> {
+    (word, [number, 0, 0, 0, 0, 0])
+}
+
+/// Returns `is NUMBER`, or `none`.
+pub fn number_or_none(number: Option<usize>) -> Words<'static> {
+    number.map_or(alone("none"), |number| counted("is", number))
+}
+
+pub fn of_chunk(chunk: Chunk) -> Words<'static> {
     ("chunk", [chunk.place(), chunk.len(), 0, 0, 0, 0])
 }
 
-pub(super) fn of_refusal(error: AllocationError) -> Words<'static> {
+pub fn of_refusal(error: AllocationError) -> Words<'static> {
     alone(match error {
         AllocationError::SizeIsZero => "SizeIsZero",
         AllocationError::SizeTooLarge => "SizeTooLarge",
@@ -53,7 +63,7 @@ pub(super) fn of_refusal(error: AllocationError) -> Words<'static> {
     })
 }
 
-pub(super) fn of_growth(error: AllocationGrowError) -> Words<'static> {
+pub fn of_growth(error: AllocationGrowError) -> Words<'static> {
     alone(match error {
         AllocationGrowError::GrowWouldShrink => "GrowWouldShrink",
         AllocationGrowError::AlignmentFailure => "AlignmentFailure",
@@ -61,7 +71,7 @@ pub(super) fn of_growth(error: AllocationGrowError) -> Words<'static> {
     })
 }
 
-pub(super) fn of_shrinking(error: AllocationShrinkError) -> Words<'static> {
+pub fn of_shrinking(error: AllocationShrinkError) -> Words<'static> {
     alone(match error {
         AllocationShrinkError::ShrinkWouldGrow => "ShrinkWouldGrow",
         AllocationShrinkError::AlignmentFailure => "AlignmentFailure",
@@ -69,7 +79,7 @@ pub(super) fn of_shrinking(error: AllocationShrinkError) -> Words<'static> {
     })
 }
 
-pub(super) fn of_reply(reply: Reply) -> Words<'static> {
+pub fn of_reply(reply: Reply) -> Words<'static> {
     match reply {
         Reply::Chunk(chunk) => of_chunk(chunk),
         Reply::Released => alone("released"),
@@ -82,7 +92,7 @@ pub(super) fn of_reply(reply: Reply) -> Words<'static> {
 
 /// Returns whether an answer is what a row wants: `first LEN` is a chunk at the place of the first allocated one, `any LEN`
 /// a chunk at any place.
-pub(super) fn may_be_told(told: Words<'_>, wanted: Words<'_>, first: usize) -> bool {
+pub fn may_be_told(told: Words<'_>, wanted: Words<'_>, first: usize) -> bool {
     let len = wanted.1[0];
     match wanted.0 {
         "first" => told == ("chunk", [first, len, 0, 0, 0, 0]),
@@ -92,6 +102,6 @@ pub(super) fn may_be_told(told: Words<'_>, wanted: Words<'_>, first: usize) -> b
 }
 
 /// Makes a layout, where there is one of this size and alignment.
-pub(super) fn layout_of(size: usize, align: usize) -> Option<Layout> {
+pub fn layout_of(size: usize, align: usize) -> Option<Layout> {
     Layout::from_size_align(size, align).ok()
 }

@@ -1,6 +1,0 @@
-use Rattle.std.proofs.Common.{◌≡◌}
-use Rattle.shared_tests.proofs.tests.threads.pools.take_all.Given as goal
-
--- the party stays this pool's
-abbrev pub invariant-loop-number : goal.invariant-loop-number
-invariant-loop-number g l = l.party.allocator ≡ l.pool
