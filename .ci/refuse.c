@@ -2,7 +2,7 @@
 //
 // REFUSE_AT=N refuses the Nth request. Where that request never came and the program ended well, the exit status is 99.
 // REFUSE_MARKED=1 refuses each request between two marks, which are requests of sizes that no other request has. The first mark
-// is refused, and so is each request behind it. The second ends that, and is refused exactly where a request came between the two;
+// is refused, and so is each request behind it. The second ends that, and is refused exactly where a request came between both;
 // a third one between them exactly where nothing was given back since the first. So a test learns by their answers what happened
 // meanwhile. Where the program met the first two and ended well, the exit status is 98.
 //
