@@ -1,18 +1,13 @@
 // Refuses requests for memory of the program that it is loaded into, in one of two ways.
 //
-// REFUSE_AT=N refuses the Nth request. Where that request never came and the program ended well, the exit status is 99:
-// none was left to refuse.
+// REFUSE_AT=N refuses the Nth request. Where that request never came and the program ended well, the exit status is 99.
+// REFUSE_MARKED=1 refuses each request between two marks, which are requests of sizes that no other request has. The first mark
+// is refused, and so is each request behind it. The second ends that, and is refused exactly where a request came between both;
+// a third one between them exactly where nothing was given back since the first. So a test learns by their answers what happened
+// meanwhile. Where the program met the first two and ended well, the exit status is 98.
 //
-// REFUSE_MARKED=1 refuses each request between two marks, which are requests of sizes that no other request has. The first
-// mark is refused, and so is each request behind it. The second one ends that, and is refused exactly where a request came
-// between the two. So a test that asks for the marks learns by their answers that memory was refused, and whether anything
-// asked for it meanwhile. A third mark between the two is refused exactly where nothing was given back since the first. Where
-// the program met the first two and ended well, the exit status is 98.
-//
-// In both ways a fourth mark, at any time, is refused exactly where a request that is no mark was refused before it.
-//
-// Without REFUSE_MARKED the first three marks are granted, so a test that asks for them is run with ample memory, too. No mark is
-// counted, neither as a request nor as given back.
+// In both ways a fourth mark is refused exactly where a request that is no mark was refused before it. Without REFUSE_MARKED the
+// other three are granted, so a test that asks for them is run with ample memory, too. No mark is counted.
 #define _GNU_SOURCE
 #include <stdlib.h>
 #include <sys/syscall.h>
@@ -27,7 +22,6 @@ extern void __libc_free(void *);
 
 static long asked, refuse_at, asked_between, freed_between;
 static int marked, refused, between_marks, met_both;
-
 // A mark that was granted, until it is given back.
 static void *mark;
 
@@ -35,9 +29,7 @@ static void *mark;
 static int told(int status) {
     if (status == 0 && refuse_at && !refused)
         return 99;
-    if (status == 0 && met_both)
-        return 98;
-    return status;
+    return status == 0 && met_both ? 98 : status;
 }
 
 // A program with threads ends by this call.
@@ -60,27 +52,6 @@ __attribute__((constructor)) static void begin(void) {
     on_exit(end, NULL);
 }
 
-// What the first mark, the second one, and any other request meet under REFUSE_MARKED.
-static int refuses_marked(size_t size) {
-    if (size == FIRST_MARK) {
-        between_marks = 1;
-        asked_between = freed_between = 0;
-        return 1;
-    }
-    if (size == FREED_MARK)
-        return freed_between == 0;
-    if (size == SECOND_MARK) {
-        met_both |= between_marks;
-        between_marks = 0;
-        return asked_between != 0;
-    }
-    if (between_marks) {
-        __atomic_add_fetch(&asked_between, 1, __ATOMIC_SEQ_CST);
-        refused = 1;
-    }
-    return between_marks;
-}
-
 static int is_mark(size_t size) {
     return size == FIRST_MARK || size == SECOND_MARK || size == FREED_MARK || size == REFUSED_MARK;
 }
@@ -88,15 +59,17 @@ static int is_mark(size_t size) {
 static int refuses(size_t size) {
     if (size == REFUSED_MARK)
         return refused;
-    if (marked)
-        return refuses_marked(size);
-    if (is_mark(size))
-        return 0;
-    if (refuse_at && __atomic_add_fetch(&asked, 1, __ATOMIC_SEQ_CST) == refuse_at) {
-        refused = 1;
-        return 1;
-    }
-    return 0;
+    if (!marked)
+        return !is_mark(size) && refuse_at && __atomic_add_fetch(&asked, 1, __ATOMIC_SEQ_CST) == refuse_at && (refused = 1);
+    if (size == FIRST_MARK)
+        return asked_between = freed_between = 0, between_marks = 1;
+    if (size == FREED_MARK)
+        return freed_between == 0;
+    if (size == SECOND_MARK)
+        return met_both |= between_marks, between_marks = 0, asked_between != 0;
+    if (between_marks)
+        __atomic_add_fetch(&asked_between, 1, __ATOMIC_SEQ_CST), refused = 1;
+    return between_marks;
 }
 
 void *malloc(size_t size) {
