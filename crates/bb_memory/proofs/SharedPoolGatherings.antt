@@ -15,13 +15,13 @@ use Rattle.bb_memory_base.specs.PoolLogs.{HasLog, IsHeldAfter}
 use Rattle.bb_memory_base.proofs.PoolFlags.{flag_from_taken}
 use Rattle.bb_memory_base.proofs.PoolLogFacts.{held_is_taken, taken_is_held_whole}
 use Rattle.bb_memory_base.proofs.PoolLogSteps.{opening_agrees}
-use Rattle.bb_memory.specs.Seats.{HaveLogs, both_of, standing_for, times_in}
+use Rattle.bb_memory_core.specs.Seats.{HaveLogs, both_of, standing_for, times_in}
 use Rattle.bb_memory.specs.SharedPool.{HaveMet, IsHeldByOne, IsSharedScene, PoolParty, SharedPool}
 use Rattle.bb_memory.specs.SharedPoolRule.{IsPartySeat, NumberedLog, SeatView, numbered_of, party_in}
 use Rattle.bb_memory.specs.SharedPoolSteps.{TellsMeeting}
 use Rattle.bb_memory_base.proofs.Positions.{contains-behind, contains-first}
-use Rattle.bb_memory.proofs.PartyNumbers.{numbers_differ}
-use Rattle.bb_memory.proofs.Seatings.{all_there, one_apart}
+use Rattle.bb_memory_core.proofs.PartyNumbers.{numbers_differ}
+use Rattle.bb_memory_core.proofs.Seatings.{all_there, one_apart}
 
 -- GATHERING
 

@@ -16,11 +16,11 @@ use Rattle.bb_memory_base.proofs.PoolLogSteps.{give_agrees, lose_agrees, miss_ag
 use Rattle.bb_memory_base.proofs.PoolLogFacts.{free_not_held, held_is_taken, taken_is_held_alone, length-flags, interleaved_log}
 use Rattle.bb_memory_base.proofs.SliceGets.{slice_get-set_same, length-set_at}
 use Rattle.bb_memory.specs.FlagWords.{HaveFlags, as_word, word_of}
-use Rattle.bb_memory.specs.Seats.{alone, number_of, view_log}
+use Rattle.bb_memory_core.specs.Seats.{alone, number_of, view_log}
 use Rattle.bb_memory.specs.SharedPoolRule.{IsSeatOf, IsSeatOfIdle, SeatView, WordsAndLogsAgree}
 use Rattle.bb_memory.specs.SharedPoolSteps.{TellsReturn, TellsTry, TellsTryAt, returns, tries, tries_at}
 use Rattle.bb_memory.proofs.FlagWords.{at_word, changed, found_in, taken_again}
-use Rattle.bb_memory.proofs.Seatings.{seated_step}
+use Rattle.bb_memory_core.proofs.Seatings.{seated_step}
 use Rattle.bb_memory.proofs.SharedPoolDetached.{flag_elsewhere, no_hold_left, no_hold_loss, no_hold_other, still_detached}
 use Rattle.bb_memory.proofs.SharedPoolDetached.{detached_kept, detached_not_free, detached_not_held}
 use Rattle.bb_memory.proofs.SharedPoolTries.{idle_after_one}

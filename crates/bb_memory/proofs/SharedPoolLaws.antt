@@ -23,7 +23,7 @@ use Rattle.bb_memory_base.proofs.PoolHolders.{holder_in_log, one_holder}
 use Rattle.bb_memory_base.proofs.PoolPasses.{missed_is_held, refused_found_held}
 use Rattle.bb_memory_base.proofs.PoolRuns.{pool_run, run_is_sound, taken_is_held}
 use Rattle.bb_memory_base.proofs.PoolSteps.{length-left_by}
-use Rattle.bb_memory.specs.Pool.{AreAStrideApart}
+use Rattle.bb_memory_core.specs.Pool.{AreAStrideApart}
 use Rattle.bb_memory.specs.SharedPool.{AreInterleaved, HasFoundAllHeld, IsHistoryRun, IsParty, PoolParty}
 use Rattle.bb_memory.specs.SharedPool.{SharedPool, TakenBucket, chunk_of, losses, refused_pass}
 use Rattle.bb_memory.specs.SharedPoolRounds.{HasMissedAll, at_turn, miss_at, misses, refused_round}

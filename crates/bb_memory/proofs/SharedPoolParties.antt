@@ -8,7 +8,7 @@ use Rattle.bb_memory_base.specs.PoolHistory.{PoolEntry, PoolLog, entry_of}
 use Rattle.bb_memory_base.specs.PoolLogs.{IsAllowed}
 use Rattle.bb_memory_base.specs.declared.steps.pool.PoolStep.TheVariants.{Detach}
 use Rattle.bb_memory_base.specs.declared.steps.pool.PoolOutcome.TheVariants.{Detaches}
-use Rattle.bb_memory.specs.Seats.{alone, number_of, view_log}
+use Rattle.bb_memory_core.specs.Seats.{alone, number_of, view_log}
 use Rattle.bb_memory.specs.SharedPool.{IsParty, IsSharedScene, PoolParty, SharedPool, detach_entry, return_entry, with_entries}
 use Rattle.bb_memory.specs.SharedPoolRounds.{hint_in, part_of}
 use Rattle.bb_memory.specs.SharedPoolRule.{IsDetachedAt, IsPartySeat, IsSeatOfIdle, SeatView, party_in, pool_in}

@@ -9,7 +9,7 @@ use Rattle.bb_memory_base.specs.PoolHistory.{PoolEntry, PoolLog, entry_of}
 use Rattle.bb_memory_base.specs.PoolLogs.{IsHeldAfter, loss_at, next_bucket, pass_in}
 use Rattle.bb_memory_base.specs.declared.steps.pool.PoolStep.TheVariants.{Try}
 use Rattle.bb_memory_base.specs.declared.steps.pool.PoolOutcome.TheVariants.{Takes}
-use Rattle.bb_memory.specs.Seats.{number_of, view_log}
+use Rattle.bb_memory_core.specs.Seats.{number_of, view_log}
 use Rattle.bb_memory.specs.SharedPool.{AreAllHeldAfter, losses, refused_pass, taking_pass}
 use Rattle.bb_memory.specs.SharedPoolRule.{IsSeatOf, SeatView}
 use Rattle.bb_memory.specs.SharedPoolSteps.{HasEnded, HasRefused, HasTaken, TellsLoss, TellsTaking}

@@ -10,7 +10,7 @@ use Rattle.atomic_table.specs.Table.{Me}
 use Rattle.bb_memory_base.specs.PoolMachine.{PoolScene}
 use Rattle.bb_memory_base.specs.PoolHistory.{PoolLog}
 use Rattle.bb_memory_base.specs.PoolLogs.{IsHeldAfter}
-use Rattle.bb_memory.specs.Seats.{number_of, view_log}
+use Rattle.bb_memory_core.specs.Seats.{number_of, view_log}
 use Rattle.bb_memory.specs.SharedPoolRounds.{at_turn, miss_at, misses, start_of, taking_at, taking_round}
 use Rattle.bb_memory.specs.SharedPoolRule.{IsSeatOfIdle, SeatView}
 use Rattle.bb_memory.specs.SharedPoolSteps.{HasEnded, HasMissedAt, HasRefusedFrom, HasTakenAt, HasTakenFrom}

@@ -8,10 +8,10 @@ use Rattle.bb_memory_base.specs.PoolMachine.{PoolScene}
 use Rattle.bb_memory_base.specs.PoolHistory.{PoolEntry, PoolLog}
 use Rattle.bb_memory_base.proofs.PoolLogSteps.{opening_agrees}
 use Rattle.bb_memory.specs.FlagWords.{HaveFlags, words_for}
-use Rattle.bb_memory.specs.Seats.{both_detached, both_of, first_detached, first_of, others_detached, others_of}
+use Rattle.bb_memory_core.specs.Seats.{both_detached, both_of, first_detached, first_of, others_detached, others_of}
 use Rattle.bb_memory.specs.SharedPoolRule.{SeatView, WordsAndLogsAgree, all_parties, nobody}
 use Rattle.bb_memory.proofs.FlagWords.{all_free}
-use Rattle.bb_memory.proofs.Seatings.{seated_joined, seated_opening, seated_others, seated_split}
+use Rattle.bb_memory_core.proofs.Seatings.{seated_joined, seated_opening, seated_others, seated_split}
 use Rattle.bb_memory.proofs.SharedPoolDetached.{both_parts, times_of-parts, detached_joined, detached_split}
 
 pub gives_first : (scene : PoolScene) (seat : ℕ) (view : SeatView) →

@@ -9,7 +9,7 @@ use Rattle.bb_memory_base.specs.PoolLogs.{CommonInterleaving, Interleaving, IsHe
 use Rattle.bb_memory_base.specs.declared.steps.pool.PoolStep.TheVariants.{Try}
 use Rattle.bb_memory_base.specs.declared.steps.pool.PoolOutcome.TheVariants.{Takes}
 use Rattle.bb_memory.specs.FlagWords.{bucket_of}
-use Rattle.bb_memory.specs.Seats.{HaveLogs, alone_with, number_of, times_in, view_log}
+use Rattle.bb_memory_core.specs.Seats.{HaveLogs, alone_with, number_of, times_in, view_log}
 use Rattle.bb_memory.specs.SharedPool.{AreAllHeldAfter, detach_entry, refused_pass, return_entry, attach_entry, taking_pass}
 use Rattle.bb_memory.specs.SharedPoolRounds.{at_turn, miss_at, refused_round, taking_at, taking_round}
 use Rattle.bb_memory.specs.SharedPoolRule.{IsSeatOf, IsSeatOfIdle, NumberedLog, SeatView}

@@ -1,21 +1,9 @@
 //! Allocators over a region that is handed in as numbers: a start and a size in bytes.
 //!
-//! The modules, in the order in which to read them; `allocator`, `equality`, `layout`, `region` and `steps` are passed on from
-//! `bb_memory_base`:
+//! `allocator`, `equality`, `layout`, `region` and `steps` are passed on from `bb_memory_base`; `bump_allocator`, `heap_allocator`,
+//! `one_chunk_allocator`, `pool_allocator` and `shared_bump` from `bb_memory_core`, which a user of these alone may take in its place.
+//! Here stand the pools that threads share, in the order in which to read them:
 //!
-//! - `bump_allocator`: one chunk after another, all given back at once.
-//! - `one_chunk_allocator`: one chunk at a time, all of the region from its place on.
-//! - `index_set`: a set of numbers, in which a pool keeps its held buckets.
-//!   - `flags`: a flag for each number, and the numbers that aren't in the set.
-//!   - `words`: a bit for each number, in the words of `index_words`, which a search reads through a counter alone.
-//! - `pool_allocator`: pools with one owner, and the makers of the pool on words.
-//!   - `geometry`: where the buckets of a region are. `bucket_pool`: these, with the set of those that are held.
-//!   - `fixed_size`: the pool with an array of its own. `laws`: what the definitions come to.
-//! - `heap_allocator`: blocks of bytes from the language's allocator.
-//! - `shared_bump`: the bump that threads share.
-//!   - `position`: its word, and the only calls that touch it. `rule`: what each step on it has to keep, and tells.
-//!   - `party`: one user's right to step. `request`: the loop of a request. `meeting`: any number of parties at one seat.
-//!   - `all_parties`: what a user has who met all of them.
 //! - `shared_pool`: pools that threads share.
 //!   - `flags`, `rule`, `party`, `meeting` and `all_parties`: as those of the bump, with a word for each bucket.
 //!   - `buckets`: the pool itself, and a request by a pass. `rounds`: requests that begin elsewhere than at bucket 0.
@@ -28,11 +16,6 @@
 #![tactic(auto)]
 
 pub use bb_memory_base::{allocator, equality, layout, region, steps};
+pub use bb_memory_core::{bump_allocator, heap_allocator, one_chunk_allocator, pool_allocator, shared_bump};
 
-pub mod bump_allocator;
-pub mod heap_allocator;
-mod index_set;
-pub mod one_chunk_allocator;
-pub mod pool_allocator;
-pub mod shared_bump;
 pub mod shared_pool;

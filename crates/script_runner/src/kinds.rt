@@ -14,10 +14,10 @@ use crate::kinds::loan_pool::LoanPool;
 use crate::kinds::pool::Fixed;
 use crate::status::Status;
 use crate::words::Numbers;
-use bb_memory::bump_allocator::BumpAllocator;
-use bb_memory::one_chunk_allocator::OneChunkAllocator;
-use bb_memory::pool_allocator::PoolAllocator;
-use bb_memory::steps::{BumpWorld, PoolWorld};
+use bb_memory_core::bump_allocator::BumpAllocator;
+use bb_memory_core::one_chunk_allocator::OneChunkAllocator;
+use bb_memory_core::pool_allocator::PoolAllocator;
+use bb_memory_core::steps::{BumpWorld, PoolWorld};
 use std::alloc::Global;
 use std::io::Write;
 

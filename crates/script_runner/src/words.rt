@@ -9,8 +9,8 @@ ghost use Rattle.bb_memory_base.specs.declared.layout.Layout.{Layout};
 ghost use Rattle.script_runner.specs.Words.{Words, words, list_of, AreWords, StartsWith, numbers_text, IsParty};
 ghost use Rattle.script_runner.specs.Words.{region_of, bounds_numbers};
 
-use bb_memory::layout::Layout;
-use bb_memory::region::Region;
+use bb_memory_core::layout::Layout;
+use bb_memory_core::region::Region;
 use std::io;
 use std::io::Write;
 

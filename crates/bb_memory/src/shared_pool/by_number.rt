@@ -2,7 +2,7 @@
 ghost use Rattle.std.specs.Prelude.{◌≡◌, ℕ, ◌<◌, ◌≤◌, ◌%◌, IfSome, IfNone};
 ghost use Rattle.bb_memory_base.specs.PoolGeometry.{bucket_place};
 ghost use Rattle.bb_memory_base.specs.PoolLogs.{IsHeldAfter};
-ghost use Rattle.bb_memory.specs.Buckets.{IsPlaceOfBucket, TellsPlace};
+ghost use Rattle.bb_memory_core.specs.Buckets.{IsPlaceOfBucket, TellsPlace};
 ghost use Rattle.bb_memory.specs.SharedPool.{chunk_of, taken_bucket};
 
 use super::bucket::Bucket;

@@ -1,6 +1,6 @@
 //! Any number of parties at one seat.
 ghost use Rattle.std.specs.Prelude.{◌++◌, map};
-ghost use Rattle.bb_memory.specs.Seats.{HasNow};
+ghost use Rattle.bb_memory_core.specs.Seats.{HasNow};
 ghost use Rattle.bb_memory.specs.SharedPoolRule.{MayMeet, numbered_of};
 ghost use Rattle.bb_memory.specs.SharedPoolSteps.{HasFound};
 

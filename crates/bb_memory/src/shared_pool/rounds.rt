@@ -1,6 +1,6 @@
 //! Takings by a round, which needn't begin at bucket 0.
 ghost use Rattle.std.specs.Prelude.{◌≡◌, ◌+◌, ◌<◌, ◌^◌, IfSome, MatchOption};
-ghost use Rattle.bb_memory.specs.Seats.{Stays, number_of, view_log};
+ghost use Rattle.bb_memory_core.specs.Seats.{Stays, number_of, view_log};
 ghost use Rattle.bb_memory.specs.SharedPool.{ServesRound};
 ghost use Rattle.bb_memory.specs.SharedPoolRounds.{MayTakeFrom, at_turn, hint_of, part_of};
 ghost use Rattle.bb_memory.specs.SharedPoolRule.{IsIdleAt};

@@ -99,7 +99,7 @@ impl Play<u8, View> for Attaches {
 pub(crate) struct GiveDetached;
 
 impl Split<View> for GiveDetached {
-    ghost use Rattle.bb_memory.specs.Seats.{first_detached, others_detached};
+    ghost use Rattle.bb_memory_core.specs.Seats.{first_detached, others_detached};
 
     ghost left = { others_detached };
 
@@ -110,7 +110,7 @@ impl Split<View> for GiveDetached {
 pub(crate) struct TakeIn;
 
 impl Join<View> for TakeIn {
-    ghost use Rattle.bb_memory.specs.Seats.{both_detached};
+    ghost use Rattle.bb_memory_core.specs.Seats.{both_detached};
     ghost use Rattle.bb_memory.specs.SharedPoolRule.{nobody};
 
     ghost both = { both_detached };
@@ -122,7 +122,7 @@ impl Join<View> for TakeIn {
 pub(crate) struct GiveFirst;
 
 impl Split<View> for GiveFirst {
-    ghost use Rattle.bb_memory.specs.Seats.{first_of, others_of};
+    ghost use Rattle.bb_memory_core.specs.Seats.{first_of, others_of};
 
     ghost left = { others_of };
 
@@ -133,7 +133,7 @@ impl Split<View> for GiveFirst {
 pub(crate) struct Gather;
 
 impl Join<View> for Gather {
-    ghost use Rattle.bb_memory.specs.Seats.{both_of};
+    ghost use Rattle.bb_memory_core.specs.Seats.{both_of};
     ghost use Rattle.bb_memory.specs.SharedPoolRule.{nobody};
 
     ghost both = { both_of };

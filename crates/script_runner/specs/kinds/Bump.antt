@@ -7,7 +7,7 @@ use Rattle.bb_memory_base.specs.Run.{Step, IsRun}
 use Rattle.bb_memory_base.specs.BumpObject.{bump_object, StandsFor}
 use Rattle.bb_memory_base.specs.declared.allocator.Command.{Command}
 use Rattle.bb_memory_base.specs.declared.allocator.Reply.{Reply}
-use Rattle.bb_memory.specs.Bump.{Bump, bump_text}
+use Rattle.bb_memory_core.specs.Bump.{Bump, bump_text}
 use Rattle.script_runner.specs.Words.{region_of, bounds_numbers}
 use Rattle.script_runner.specs.declared.words.Bounds.{Bounds}
 use Rattle.script_runner.specs.kinds.Allocators.{AllocatorRules}

@@ -2,7 +2,7 @@
 use Rattle.std.specs.Prelude.{ℕ, ◌≡◌, ◌^◌, ◌<◌, List, [], codes, true, false, Contains}
 use Rattle.bb_memory_base.specs.PoolObject.{MayAllocate}
 use Rattle.bb_memory_base.specs.Run.{IsRun}
-use Rattle.bb_memory.specs.Pool.{CountedPool, StandsFor}
+use Rattle.bb_memory_core.specs.Pool.{CountedPool, StandsFor}
 use Rattle.loan_book.specs.Book.{chunks_out}
 use Rattle.loan_book.specs.LoanBook.{LoanBook}
 use Rattle.loan_book.specs.Runs.{BookStep}

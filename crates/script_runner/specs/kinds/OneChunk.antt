@@ -7,7 +7,7 @@ use Rattle.bb_memory_base.specs.Run.{IsRun}
 use Rattle.bb_memory_base.specs.ResizableObject.{ResizableStep}
 use Rattle.bb_memory_base.specs.declared.allocator.Command.{Command}
 use Rattle.bb_memory_base.specs.declared.allocator.Reply.{Reply}
-use Rattle.bb_memory.specs.OneChunk.{OneChunk, StandsFor}
+use Rattle.bb_memory_core.specs.OneChunk.{OneChunk, StandsFor}
 use Rattle.bb_memory_base.specs.OneChunkObject.{one_chunk_object}
 use Rattle.script_runner.specs.Words.{region_of, bounds_numbers}
 use Rattle.script_runner.specs.declared.words.Bounds.{Bounds}

@@ -10,8 +10,8 @@ use Rattle.bb_memory_base.specs.ResizableObject.{ResizableStep}
 use Rattle.bb_memory_base.specs.Run.{IsRun}
 use Rattle.bb_memory_base.specs.declared.allocator.Command.{Command}
 use Rattle.bb_memory_base.specs.declared.allocator.Reply.{Reply}
-use Rattle.bb_memory.specs.IndexWords.{index_words}
-use Rattle.bb_memory.specs.Pool.{Pool, StandsFor, fresh_pool, CountedPool, counted, reads_after, MayBeCut}
+use Rattle.bb_memory_core.specs.IndexWords.{index_words}
+use Rattle.bb_memory_core.specs.Pool.{Pool, StandsFor, fresh_pool, CountedPool, counted, reads_after, MayBeCut}
 use Rattle.script_runner.specs.declared.kinds.pool.PoolPlan.{PoolPlan}
 use Rattle.script_runner.specs.declared.words.Numbers.{Numbers}
 use Rattle.script_runner.specs.declared.words.Numbers.TheVariants.{Four}

@@ -5,10 +5,10 @@ ghost use Rattle.script_runner.specs.kinds.Allocators.{refusal_line, grow_refusa
 
 use crate::engine::driving::Driven;
 use crate::words::{Numbers, is, layout, write_words};
-use bb_memory::allocator::{
+use bb_memory_core::allocator::{
     AllocationError, AllocationGrowError, AllocationShrinkError, Command, Reply,
 };
-use bb_memory::layout::Chunk;
+use bb_memory_core::layout::Chunk;
 use std::alloc::{AllocError, Global};
 use std::io;
 use std::io::Write;

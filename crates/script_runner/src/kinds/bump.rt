@@ -2,9 +2,9 @@
 
 use crate::kinds::allocators::Scripted;
 use crate::words::{Bounds, Numbers, region};
-use bb_memory::allocator::{Command, Reply};
-use bb_memory::bump_allocator::{BumpAllocator, run_bump};
-use bb_memory::layout::Chunk;
+use bb_memory_core::allocator::{Command, Reply};
+use bb_memory_core::bump_allocator::{BumpAllocator, run_bump};
+use bb_memory_core::layout::Chunk;
 use std::alloc::{AllocError, Global};
 use std::io;
 use std::io::Write;

@@ -3,7 +3,7 @@
 use crate::engine::driving::Driven;
 use crate::kinds::allocators::write_chunk;
 use crate::words::{Bounds, Numbers, PARTIES, is, layout, party_of, region, write_words};
-use bb_memory::steps::{BumpOutcome, BumpStep, BumpWorld};
+use bb_memory_core::steps::{BumpOutcome, BumpStep, BumpWorld};
 use std::alloc::{AllocError, Global};
 use std::io;
 use std::io::Write;

@@ -6,7 +6,7 @@ use crate::engine::driving::Driven;
 use crate::kinds::allocators::refusal;
 use crate::kinds::pool::{PoolPlan, pool_of, pool_plan};
 use crate::words::{Numbers, is, small, write_words};
-use bb_memory::pool_allocator::PoolAllocator;
+use bb_memory_core::pool_allocator::PoolAllocator;
 use loan_book::{LoanBook, LoanCall, LoanError, LoanReply, run_loans};
 use std::alloc::{AllocError, Global};
 use std::io;

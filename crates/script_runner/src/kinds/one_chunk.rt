@@ -2,15 +2,15 @@
 
 use crate::kinds::allocators::Scripted;
 use crate::words::{Bounds, Numbers, region};
-use bb_memory::allocator::{Command, Reply};
-use bb_memory::layout::Chunk;
-use bb_memory::one_chunk_allocator::{OneChunkAllocator, run_one_chunk};
+use bb_memory_core::allocator::{Command, Reply};
+use bb_memory_core::layout::Chunk;
+use bb_memory_core::one_chunk_allocator::{OneChunkAllocator, run_one_chunk};
 use std::alloc::{AllocError, Global};
 use std::io;
 use std::io::Write;
 
 impl Scripted for OneChunkAllocator {
-    ghost use Rattle.bb_memory.specs.OneChunk.{StandsFor};
+    ghost use Rattle.bb_memory_core.specs.OneChunk.{StandsFor};
     ghost use Rattle.script_runner.specs.kinds.OneChunk.{one_chunk_rules};
 
     type Header = Bounds;

@@ -1,13 +1,13 @@
 //! A pool that a script drives, and a fixed one.
 ghost use Rattle.std.specs.Prelude.{◌≡◌, [], IfOk, IfSome, Some};
-ghost use Rattle.bb_memory.specs.Pool.{StandsFor};
+ghost use Rattle.bb_memory_core.specs.Pool.{StandsFor};
 ghost use Rattle.script_runner.specs.kinds.Pool.{BeginsPool, IsPoolPlan, pool_numbers};
 
 use crate::kinds::allocators::Scripted;
 use crate::words::{Numbers, is, layout};
-use bb_memory::allocator::{Command, Reply};
-use bb_memory::layout::{Chunk, Layout};
-use bb_memory::pool_allocator::{FixedSizePoolAllocator, PoolAllocator, run_fixed_pool, run_pool};
+use bb_memory_core::allocator::{Command, Reply};
+use bb_memory_core::layout::{Chunk, Layout};
+use bb_memory_core::pool_allocator::{FixedSizePoolAllocator, PoolAllocator, run_fixed_pool, run_pool};
 use std::alloc::{AllocError, Global};
 use std::io;
 use std::io::Write;
@@ -45,7 +45,7 @@ pub fn pool_plan(kind: &[u8], name: &[u8], numbers: Numbers) -> Option<PoolPlan>
 }
 
 impl Scripted for PoolAllocator<Global> {
-    ghost use Rattle.bb_memory.specs.Pool.{StandsFor};
+    ghost use Rattle.bb_memory_core.specs.Pool.{StandsFor};
     ghost use Rattle.script_runner.specs.kinds.Pool.{pool_rules};
 
     type Header = PoolPlan;
@@ -101,7 +101,7 @@ pub fn pool_of(alloc: Global, plan: PoolPlan) -> Result<PoolAllocator<Global>, A
 pub type Fixed = FixedSizePoolAllocator<512>;
 
 impl Scripted for Fixed {
-    ghost use Rattle.bb_memory.specs.Pool.{StandsFor};
+    ghost use Rattle.bb_memory_core.specs.Pool.{StandsFor};
     ghost use Rattle.script_runner.specs.kinds.Pool.{fixed_rules};
 
     type Header = PoolPlan;

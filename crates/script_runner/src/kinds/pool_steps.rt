@@ -6,7 +6,7 @@ ghost use Rattle.script_runner.specs.kinds.PoolSteps.{flag_text};
 
 use crate::engine::driving::Driven;
 use crate::words::{Numbers, PARTIES, is, party_of, small, write_words};
-use bb_memory::steps::{PoolOutcome, PoolStep, PoolWorld};
+use bb_memory_core::steps::{PoolOutcome, PoolStep, PoolWorld};
 use std::alloc::{AllocError, Global};
 use std::io;
 use std::io::Write;

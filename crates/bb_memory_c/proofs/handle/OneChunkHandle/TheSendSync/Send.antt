@@ -1,5 +1,5 @@
 use denote.Param.Send.{IsSend, owning_send}
-use Rattle.bb_memory.specs.contracts.one_chunk_allocator.OneChunkAllocator.{the_row as made_row}
+use Rattle.bb_memory_core.specs.contracts.one_chunk_allocator.OneChunkAllocator.{the_row as made_row}
 use Rattle.bb_memory.proofs.one_chunk_allocator.OneChunkAllocator.TheSendSync.{the_send}
 use Rattle.bb_memory_c.proofs.Crossing.{owned, two_send}
 use Rattle.bb_memory_c.specs.contracts.handle.OneChunkHandle.{the_row, the_type}

@@ -4,11 +4,11 @@ use Rattle.bb_memory_base.specs.PoolGeometry.{PoolGeometry, IsPoolGeometry}
 use Rattle.bb_memory_base.specs.PoolMachine.{PoolScene}
 use Rattle.bb_memory_base.specs.PoolLogs.{IsHeldAfter}
 use Rattle.bb_memory_base.specs.declared.layout.Layout.{Layout}
-use Rattle.bb_memory.specs.Seats.{number_of, view_log}
+use Rattle.bb_memory_core.specs.Seats.{number_of, view_log}
 use Rattle.bb_memory.specs.SharedPool.{AreAllHeldAfter, PoolParty, SharedPool, refused_pass, taking_pass}
 use Rattle.bb_memory.specs.SharedPoolRule.{SeatView}
-use Rattle.bb_memory.proofs.Measures.{bucket-inside}
-use Rattle.bb_memory.proofs.PoolCalls.{bucket_place-multiple}
+use Rattle.bb_memory_core.proofs.Measures.{bucket-inside}
+use Rattle.bb_memory_core.proofs.PoolCalls.{bucket_place-multiple}
 use Rattle.bb_memory.proofs.SharedPoolParties.{is_party, party_with, seated_then}
 use Rattle.bb_memory.proofs.SharedPoolPasses.{others_held, still_held}
 use Rattle.bb_memory.proofs.SharedPoolTries.{hint-losses, hint-taking, taken_is_held}

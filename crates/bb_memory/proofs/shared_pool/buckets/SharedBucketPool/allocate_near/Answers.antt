@@ -3,11 +3,11 @@ use Rattle.bb_memory_base.specs.PoolGeometry.{PoolGeometry, IsPoolGeometry}
 use Rattle.bb_memory_base.specs.PoolMachine.{PoolScene}
 use Rattle.bb_memory_base.specs.PoolLogs.{IsHeldAfter}
 use Rattle.bb_memory_base.specs.declared.layout.Layout.{Layout}
-use Rattle.bb_memory.specs.Seats.{number_of, view_log}
+use Rattle.bb_memory_core.specs.Seats.{number_of, view_log}
 use Rattle.bb_memory.specs.SharedPool.{AreAllHeldAfter, PoolParty, SharedPool}
 use Rattle.bb_memory.specs.SharedPoolRounds.{refused_round, taking_round}
-use Rattle.bb_memory.proofs.Measures.{bucket-inside}
-use Rattle.bb_memory.proofs.PoolCalls.{bucket_place-multiple}
+use Rattle.bb_memory_core.proofs.Measures.{bucket-inside}
+use Rattle.bb_memory_core.proofs.PoolCalls.{bucket_place-multiple}
 use Rattle.bb_memory.proofs.SharedPoolParties.{is_party, party_with, seated_then}
 use Rattle.bb_memory.proofs.SharedPoolRounds.{hint-misses, hint-round, others_held_from, round_is_held, still_held_from}
 use Rattle.bb_memory.proofs.shared_pool.buckets.SharedBucketPool.allocate_near.Goals as goal

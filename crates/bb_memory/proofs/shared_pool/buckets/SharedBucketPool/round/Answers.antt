@@ -1,6 +1,6 @@
 use Rattle.std.proofs.Common.{◌≡◌, ℕ, ◌∙◌, arith, refl, ap, subst}
 use Rattle.bb_memory_base.specs.PoolMachine.{PoolScene}
-use Rattle.bb_memory.specs.Seats.{number_of, view_log}
+use Rattle.bb_memory_core.specs.Seats.{number_of, view_log}
 use Rattle.bb_memory.specs.SharedPoolRounds.{at_turn}
 use Rattle.bb_memory.proofs.SharedPoolRounds.{IsInRound, round_begins, round_goes_on, round_refuses, round_takes}
 use Rattle.bb_memory.proofs.shared_pool.buckets.SharedBucketPool.round.Goals as goal

@@ -1,6 +1,6 @@
 use Rattle.std.proofs.Common.{[], sym, ap, ◌∙◌, arith}
 use Rattle.bb_memory_base.specs.PoolMachine.{PoolScene}
-use Rattle.bb_memory.specs.Seats.{alone, both_detached, carrying, number_of, view_log}
+use Rattle.bb_memory_core.specs.Seats.{alone, both_detached, carrying, number_of, view_log}
 use Rattle.bb_memory.specs.SharedPool.{SharedPool}
 use Rattle.bb_memory.proofs.SharedPoolDetaching.{attaches_as}
 use Rattle.bb_memory.proofs.SharedPoolSeats.{takes_in}

@@ -1,6 +1,6 @@
 use Rattle.std.proofs.Common.{◌≡◌, ◌<◌, [], sym, ap, ◌∙◌, arith, subst}
 use Rattle.bb_memory_base.specs.PoolMachine.{PoolScene}
-use Rattle.bb_memory.specs.Seats.{alone, number_of, view_log}
+use Rattle.bb_memory_core.specs.Seats.{alone, number_of, view_log}
 use Rattle.bb_memory.specs.SharedPool.{SharedPool}
 use Rattle.bb_memory.proofs.SharedPoolKeeps.{tries_at_as}
 use Rattle.bb_memory.proofs.shared_pool.flags.Flags.try_at.Goals as goal

@@ -1,0 +1,46 @@
+-- The numbers of parties that stand in one list: where no number that was made stands there twice, they are different ones.
+use Rattle.std.proofs.Common.{◌≡◌, ◌≢◌, ℕ, zero, suc, ◌<◌, ◌≤◌, List, [], ◌∷◌, Some, refl, sym, ap, ◌∙◌, subst, arith}
+use Rattle.std.specs.Prelude.{map, slice_get}
+use Rattle.std.proofs.lemmas.Option.{same_Some}
+use Rattle.bb_memory_core.specs.Seats.{HaveLogs, Numbered, times_in}
+use Rattle.bb_memory_core.proofs.Seatings.{one_same}
+
+module _ {P E : Type 0} (of : P → Numbered E) where
+  abbrev number : P → ℕ
+  number party = (of party).number
+
+  -- a party stands in the list, and two at different places that have one number stand there twice
+  stands_once : (items : List P) (i : ℕ) (one : P) → slice_get items i ≡ Some one → 1 ≤ times_in (number one) (map of items)
+  stands_once [] i one at = absurd (cc)
+  stands_once (party ∷ items) zero one at =
+      let own = one_same (number party) (number one) (ap number (same_Some party one at)) in omega arith
+  stands_once (party ∷ items) (suc i) one at = let rest = stands_once items i one at in omega arith
+
+  stands_twice : (items : List P) (i j : ℕ) (one other : P) → slice_get items i ≡ Some one → slice_get items j ≡ Some other →
+      i ≢ j → number one ≡ number other → 2 ≤ times_in (number one) (map of items)
+  stands_twice [] i j one other at at_other apart same = absurd (cc)
+  stands_twice (party ∷ items) zero zero one other at at_other apart same = absurd (apart refl)
+  stands_twice (party ∷ items) zero (suc j) one other at at_other apart same =
+      let own = one_same (number party) (number one) (ap number (same_Some party one at)) in
+      let rest = subst (λ (n : ℕ). 1 ≤ times_in n (map of items)) (sym same) (stands_once items j other at_other) in
+      omega arith
+  stands_twice (party ∷ items) (suc i) zero one other at at_other apart same =
+      let own = one_same (number party) (number one) (ap number (same_Some party other at_other) ∙ sym same) in
+      let rest = stands_once items i one at in omega arith
+  stands_twice (party ∷ items) (suc i) (suc j) one other at at_other apart same =
+      let rest = stands_twice items i j one other at at_other (λ is. apart (ap suc is)) same in omega arith
+
+  -- its number is one of those that were made
+  was_made : (made : ℕ) (logs : List (List E)) (items : List P) (i : ℕ) (one : P) → HaveLogs made logs (map of items) →
+      slice_get items i ≡ Some one → number one < made
+  was_made made logs [] i one have at = absurd (cc)
+  was_made made logs (party ∷ items) zero one have at =
+      subst (λ (p : P). number p < made) (same_Some party one at) have.0
+  was_made made logs (party ∷ items) (suc i) one have at = was_made made logs items i one have.2 at
+
+  pub numbers_differ : (made : ℕ) (logs : List (List E)) (items : List P) → HaveLogs made logs (map of items) →
+      ((n : ℕ) → n < made → times_in n (map of items) ≤ 1) → (i j : ℕ) (one other : P) → slice_get items i ≡ Some one →
+      slice_get items j ≡ Some other → i ≢ j → number one ≢ number other
+  numbers_differ made logs items have once i j one other at at_other apart same =
+      let twice = stands_twice items i j one other at at_other apart same in
+      let most = once (number one) (was_made made logs items i one have at) in omega (arith, twice, most)

@@ -1,0 +1,295 @@
+-- What a pool's requests and releases make of each live list that it stands for.
+use Rattle.std.proofs.Common.{◌≡◌, ◌≢◌, ℕ, suc, ◌+◌, ◌-◌, ◌*◌, ◌/◌, ◌%◌, ◌^◌, ◌<◌, ◌≤◌, ◌↔◌}
+use Rattle.std.proofs.Common.{Bool, true, false, List, [], ◌∷◌, ◌++◌}
+use Rattle.std.proofs.Common.{Result, Ok, Err, refl, sym, ap, subst, ◌∙◌, arith, Some, inl, inr, div-add-mod', pow_pos, pow_mono}
+use Rattle.std.proofs.Common.{pow-add, pow-suc, cond, leb, min, ◌&&◌}
+use Rattle.std.proofs.lemmas.Bool.{le-leb}
+use Rattle.std.specs.Prelude.{slice_get, slice_set, remove, IsOk, IfOk, OnErr}
+use Rattle.std.specs.Int.{IsPowerOfTwo}
+use Rattle.std.proofs.Math.Nat.{mul_assoc}
+use Rattle.std.proofs.lemmas.Bool.{cases_lt}
+use Rattle.std.proofs.lemmas.Nat.{mod-mul-add}
+use Rattle.bb_memory_base.specs.Chunk.{Chunk, IsInside}
+use Rattle.bb_memory_base.specs.FirstPlace.{first_place}
+use Rattle.bb_memory_base.specs.PoolGeometry.{PoolGeometry, bucket_place, stride}
+use Rattle.bb_memory_base.specs.PoolObject.{IsWithin, chunk_in, MayAllocate, MayGrow, MayShrink}
+use Rattle.bb_memory_base.specs.declared.layout.Layout.{Layout}
+use Rattle.bb_memory_base.specs.declared.allocator.AllocationError.{AllocationError}
+use Rattle.bb_memory_base.specs.declared.allocator.AllocationError.TheVariants.{SizeIsZero, SizeTooLarge}
+use Rattle.bb_memory_base.specs.declared.allocator.AllocationError.TheVariants.{AlignmentFailure, OutOfMemory}
+use Rattle.bb_memory_base.specs.declared.allocator.AllocationGrowError.{AllocationGrowError}
+use Rattle.bb_memory_base.specs.declared.allocator.AllocationShrinkError.{AllocationShrinkError}
+use Rattle.bb_memory_base.proofs.Layouts.{layout-plain}
+use Rattle.bb_memory_base.proofs.PoolGeometries.{bucket_place-aligned, bucket_place-after}
+use Rattle.bb_memory_base.proofs.SliceGets.{slice_get-set_other, slice_get-set_same}
+use Rattle.bb_memory_core.specs.NumberSet.{Has, Lacks}
+use Rattle.bb_memory_core.specs.Pool.{Pool, IsPool, StandsFor, HoldsPlace, AreAStrideApart, Takes, with_flag}
+use Rattle.bb_memory_core.specs.Pool.{CountedPool, TakesBucket, FreesBucket, counted, reads_of}
+use Rattle.bb_memory_core.specs.PoolLaws.{bucket_held_at, held_at_bucket}
+use Rattle.bb_memory_core.proofs.Cuts.{number-at}
+use Rattle.bb_memory_core.proofs.Pools.{Has-set_true, IsPool-with_flag, bucket-below, filled-at, held-inside}
+use Rattle.bb_memory_core.proofs.Pools.{lacked-free, one_bucket, stands-given, stands-freed, stands-resized}
+
+-- POWERS OF TWO
+
+-- of two powers of two the lower one divides the higher one
+power-divides : (low high : ℕ) → IsPowerOfTwo low → IsPowerOfTwo high → low ≤ high → (k : ℕ) × (high ≡ k * low)
+power-divides low high p q le =
+    elim (cases_lt q.0 p.0) [
+      | inl below ↦ absurd (omega (arith, p.1, q.1, pow_pos q.0, pow-suc 2 q.0, pow_mono {i = suc q.0} {j = p.0} (omega arith)))
+      | inr above ↦
+          let parts : q.0 ≡ (q.0 - p.0) + p.0 = omega arith in
+          (2 ^ (q.0 - p.0), q.1 ∙ ap (λ j. 2 ^ j) parts ∙ pow-add 2 (q.0 - p.0) p.0 ∙ ap (λ m. 2 ^ (q.0 - p.0) * m) (sym p.1))
+    ]
+
+-- a multiple of a number is one of what divides it
+multiple-divides : (n low high k : ℕ) → 0 < low → high ≡ k * low → n % high ≡ 0 → n % low ≡ 0
+multiple-divides n low high k positive divides multiple =
+    let whole : n ≡ n / high * k * low + 0 =
+    omega (arith, div-add-mod' n high, multiple, ap (λ h. n / high * h) divides, mul_assoc (n / high) k low) in
+    ap (λ m. m % low) whole ∙ mod-mul-add (n / high * k) low 0 positive
+
+-- a bucket's place is a multiple of each alignment that isn't greater than the bucket's
+pub bucket_place-multiple : (geometry : PoolGeometry) (i : ℕ) (layout : Layout) →
+    layout.align ≤ geometry.bucket.align → bucket_place geometry i % layout.align ≡ 0
+bucket_place-multiple geometry i layout le =
+    let low = layout-plain layout.size layout.align in
+    let high = layout-plain geometry.bucket.size geometry.bucket.align in
+    let divides = power-divides layout.align geometry.bucket.align (low.0 layout.valid).0 (high.0 geometry.bucket.valid).0 le in
+    multiple-divides (bucket_place geometry i) layout.align geometry.bucket.align divides.0 layout.valid.positive divides.1
+    (bucket_place-aligned geometry i)
+
+-- REQUESTS
+
+pub Takes-answer : (pool : Pool) (layout : Layout) (answer : Result Chunk AllocationError) (new : Pool) → IsPool pool →
+    Takes pool layout answer new → (live : List Chunk) → StandsFor pool live → MayAllocate pool.geometry live layout answer
+Takes-answer pool layout (Ok chunk) new is (i, within, lacks, given, after) live stands = (
+  i,
+  record { within = within; bucket = bucket-below pool is i false lacks; free = lacked-free pool live is stands i lacks },
+  given,
+)
+Takes-answer pool layout (Err SizeTooLarge) new is takes live stands = takes.0
+Takes-answer pool layout (Err AlignmentFailure) new is takes live stands = (takes.0, takes.1)
+Takes-answer pool layout (Err OutOfMemory) new is (within, full, after) live stands =
+    (within, λ i below. stands.held i (full i (omega (arith, is.flags))))
+Takes-answer pool layout (Err SizeIsZero) new is takes live stands = absurd takes
+
+pub Takes-appended : (pool : Pool) (layout : Layout) (answer : Result Chunk AllocationError) (new : Pool) → IsPool pool →
+    Takes pool layout answer new →
+    IfOk answer (λ chunk. (live : List Chunk) → StandsFor pool live → StandsFor new (live ++ chunk ∷ []))
+Takes-appended pool layout (Ok chunk) new is (i, within, lacks, given, after) = λ live stands.
+    subst (λ (p : Pool). StandsFor p (live ++ chunk ∷ [])) (sym after)
+    (subst (λ (c : Chunk). StandsFor (with_flag pool i true) (live ++ c ∷ [])) (sym given)
+    (stands-given pool live layout i is stands within lacks))
+Takes-appended pool layout (Err error) new is takes = tt
+
+pub Takes-inside : (pool : Pool) (layout : Layout) (answer : Result Chunk AllocationError) (new : Pool) → IsPool pool →
+    Takes pool layout answer new → IfOk answer (IsInside pool.geometry.region)
+Takes-inside pool layout (Ok chunk) new is (i, within, lacks, given, after) =
+    let after : Pool = with_flag pool i true in
+    let here : Has after.held i = slice_get-set_same pool.held i true false lacks in
+    subst (IsInside pool.geometry.region) (sym given)
+    (held-inside after (IsPool-with_flag pool is i true) (chunk_in pool.geometry i layout)
+    (held_at_bucket after (bucket_place pool.geometry i) i here refl) within.size)
+Takes-inside pool layout (Err error) new is takes = tt
+
+pub Takes-aligned : (pool : Pool) (layout : Layout) (answer : Result Chunk AllocationError) (new : Pool) →
+    Takes pool layout answer new → IfOk answer (λ chunk. chunk.place % layout.align ≡ 0)
+Takes-aligned pool layout (Ok chunk) new (i, within, lacks, given, after) =
+    ap (λ (c : Chunk). c.place % layout.align) given ∙ bucket_place-multiple pool.geometry i layout within.align
+Takes-aligned pool layout (Err error) new takes = tt
+
+Takes-bucket_aligned : (pool : Pool) (layout : Layout) (answer : Result Chunk AllocationError) (new : Pool) →
+    Takes pool layout answer new → IfOk answer (λ chunk. chunk.place % pool.geometry.bucket.align ≡ 0)
+Takes-bucket_aligned pool layout (Ok chunk) new (i, within, lacks, given, after) =
+    ap (λ (c : Chunk). c.place % pool.geometry.bucket.align) given ∙ bucket_place-aligned pool.geometry i
+Takes-bucket_aligned pool layout (Err error) new takes = tt
+
+-- there is a chunk exactly where the layout isn't too much for a bucket and some bucket isn't held
+Takes-accepted : (pool : Pool) (layout : Layout) (answer : Result Chunk AllocationError) (new : Pool) → IsPool pool →
+    Takes pool layout answer new →
+    IsOk answer ↔ (IsWithin pool.geometry.bucket layout × ((i : ℕ) × Lacks pool.held i))
+Takes-accepted pool layout (Ok chunk) new is (i, within, lacks, given, after) = (λ ok. (within, (i, lacks)), λ may. refl)
+Takes-accepted pool layout (Err SizeTooLarge) new is takes =
+    (λ ok. absurd (cc), λ may. absurd (let small = may.0.size in omega (arith, takes.0)))
+Takes-accepted pool layout (Err AlignmentFailure) new is takes =
+    (λ ok. absurd (cc), λ may. absurd (let small = may.0.align in omega (arith, takes.1)))
+Takes-accepted pool layout (Err OutOfMemory) new is (within, full, after) = (
+  λ ok. absurd (cc),
+  λ may. absurd (
+      let held = full may.1.0 (omega (arith, is.flags, bucket-below pool is may.1.0 false may.1.1)) in
+      let e : Some true ≡ Some false = sym held ∙ may.1.1 in
+      cc
+      ),
+)
+Takes-accepted pool layout (Err SizeIsZero) new is takes = absurd takes
+
+-- the bucket that is given is held then
+pub Takes-given : (pool : Pool) (layout : Layout) (answer : Result Chunk AllocationError) (new : Pool) →
+    Takes pool layout answer new → IfOk answer (λ chunk. HoldsPlace new chunk.place)
+Takes-given pool layout (Ok chunk) new (i, within, lacks, given, after) =
+    subst (λ (p : Pool). HoldsPlace p chunk.place) (sym after)
+    (held_at_bucket (with_flag pool i true) chunk.place i (slice_get-set_same pool.held i true false lacks)
+    (ap (λ (c : Chunk). c.place) given))
+Takes-given pool layout (Err error) new takes = tt
+
+-- it wasn't before
+Takes-was_free : (pool : Pool) (layout : Layout) (answer : Result Chunk AllocationError) (new : Pool) → IsPool pool →
+    Takes pool layout answer new → IfOk answer (λ chunk. ¬ HoldsPlace pool chunk.place)
+Takes-was_free pool layout (Ok chunk) new is (i, within, lacks, given, after) = λ there.
+    let holds = bucket_held_at pool chunk.place there in
+    let at : chunk.place ≡ bucket_place pool.geometry i = ap (λ (c : Chunk). c.place) given in
+    let same : holds.0 ≡ i = one_bucket pool.geometry is.geometry holds.0 i (sym holds.2 ∙ at) in
+    absurd (let e : Some true ≡ Some false = sym holds.1 ∙ (ap (slice_get pool.held) same ∙ lacks) in cc)
+Takes-was_free pool layout (Err error) new is takes = tt
+
+-- and it is a stride apart from each that was
+Takes-apart : (pool : Pool) (layout : Layout) (answer : Result Chunk AllocationError) (new : Pool) →
+    Takes pool layout answer new →
+    IfOk answer (λ chunk. (place : ℕ) → HoldsPlace pool place → AreAStrideApart pool.geometry.bucket place chunk.place)
+Takes-apart pool layout (Ok chunk) new (i, within, lacks, given, after) = λ place there.
+    let holds = bucket_held_at pool place there in
+    let differ : holds.0 ≢ i =
+    λ same. absurd (let e : Some true ≡ Some false = sym holds.1 ∙ (ap (slice_get pool.held) same ∙ lacks) in cc) in
+    let at : chunk.place ≡ bucket_place pool.geometry i = ap (λ (c : Chunk). c.place) given in
+    elim (cases_lt holds.0 i) [
+      | inl below ↦ inl (omega (arith, bucket_place-after pool.geometry holds.0 i below, at, holds.2))
+      | inr above ↦
+          let more : i < holds.0 = omega (arith, above, differ) in
+          inr (omega (arith, bucket_place-after pool.geometry i holds.0 more, at, holds.2))
+    ]
+Takes-apart pool layout (Err error) new takes = tt
+
+-- and each that was held still is
+pub Takes-still_held : (pool : Pool) (layout : Layout) (answer : Result Chunk AllocationError) (new : Pool) →
+    Takes pool layout answer new → (place : ℕ) → HoldsPlace pool place → HoldsPlace new place
+Takes-still_held pool layout (Ok chunk) new (i, within, lacks, given, after) place there =
+    let holds = bucket_held_at pool place there in
+    subst (λ (p : Pool). HoldsPlace p place) (sym after)
+    (held_at_bucket (with_flag pool i true) place holds.0 (Has-set_true pool.held i holds.0 lacks holds.1) holds.2)
+Takes-still_held pool layout (Err SizeTooLarge) new takes place holds =
+    subst (λ (p : Pool). HoldsPlace p place) (sym takes.1) holds
+Takes-still_held pool layout (Err AlignmentFailure) new takes place holds =
+    subst (λ (p : Pool). HoldsPlace p place) (sym takes.2) holds
+Takes-still_held pool layout (Err OutOfMemory) new takes place holds =
+    subst (λ (p : Pool). HoldsPlace p place) (sym takes.2) holds
+Takes-still_held pool layout (Err SizeIsZero) new takes place holds = absurd takes
+
+-- a refusal changes nothing
+Takes-still : (pool : Pool) (layout : Layout) (answer : Result Chunk AllocationError) (new : Pool) →
+    Takes pool layout answer new → OnErr answer (new ≡ pool)
+Takes-still pool layout (Ok chunk) new takes = tt
+Takes-still pool layout (Err SizeTooLarge) new takes = takes.1
+Takes-still pool layout (Err AlignmentFailure) new takes = takes.2
+Takes-still pool layout (Err OutOfMemory) new takes = takes.2
+Takes-still pool layout (Err SizeIsZero) new takes = absurd takes
+
+few_if : (b : Bool) (words : ℕ) → cond b (min words 1) 0 ≤ words
+few_if true words = omega arith
+few_if false words = omega arith
+
+-- a request reads at most as many words as there are
+pub reads_few : (bucket : Layout) (words : ℕ) (layout : Layout) → reads_of bucket words layout ≤ words
+reads_few bucket words layout = few_if _ words
+
+-- and one, where it is within a bucket and there are words
+reads_one : (bucket : Layout) (words : ℕ) (layout : Layout) → IsWithin bucket layout → 0 < words →
+    reads_of bucket words layout ≡ 1
+reads_one bucket words layout within some =
+    ap (λ b. cond (b && leb layout.align bucket.align) (min words 1) 0) (le-leb layout.size bucket.size within.size)
+    ∙ ap (λ b. cond b (min words 1) 0) (le-leb layout.align bucket.align within.align)
+    ∙ omega (arith, some)
+
+same_counted : (old new : CountedPool) (answer : Result Chunk AllocationError) → OnErr answer (new.pool ≡ old.pool) →
+    new.reads ≡ old.reads → OnErr answer (new ≡ old)
+same_counted old new (Ok chunk) still reads = tt
+same_counted old new (Err error) still reads = ap (λ p. counted p new.reads) still ∙ ap (counted old.pool) reads
+
+-- all that a request says by the value
+pub TakesBucket-is : (old : CountedPool) (layout : Layout) (answer : Result Chunk AllocationError) (new : CountedPool)
+    (words : ℕ) → IsPool old.pool → old.reads ≤ words → Takes old.pool layout answer new.pool →
+    new.reads ≡ reads_of old.pool.geometry.bucket words layout → TakesBucket old layout answer new words
+TakesBucket-is old layout answer new words is most takes reads =
+    let none : words ≡ 0 → new.reads ≡ old.reads =
+    λ zero. omega (arith, zero, reads, reads_few old.pool.geometry.bucket words layout, most) in
+    let still = Takes-still old.pool layout answer new.pool takes in
+    record {
+      taken = takes;
+      accepted = Takes-accepted old.pool layout answer new.pool is takes;
+      still = still;
+      was_free = Takes-was_free old.pool layout answer new.pool is takes;
+      apart = Takes-apart old.pool layout answer new.pool takes;
+      still_held = Takes-still_held old.pool layout answer new.pool takes;
+      bucket_aligned = Takes-bucket_aligned old.pool layout answer new.pool takes;
+      one_read = λ within some. reads ∙ reads_one old.pool.geometry.bucket words layout within some;
+      uncounted = none;
+      unchanged = λ zero. same_counted old new answer still (none zero);
+    }
+
+-- RELEASES
+
+-- the number of a held bucket's place, as it is computed, is that of the bucket
+pub number-held : (pool : Pool) (place first number : ℕ) → HoldsPlace pool place →
+    first ≡ first_place pool.geometry.region pool.geometry.bucket →
+    number ≡ (place - first) / stride pool.geometry.bucket → 0 < stride pool.geometry.bucket →
+    Has pool.held number × (place ≡ bucket_place pool.geometry number)
+number-held pool place first number holds begins divided some =
+    let (i, has, there) = bucket_held_at pool place holds in
+    let same : i ≡ number = sym (divided ∙ ap (λ n. (place - n) / stride pool.geometry.bucket) begins
+    ∙ number-at pool.geometry i place some there) in
+    (subst (Has pool.held) same has, there ∙ ap (bucket_place pool.geometry) same)
+
+-- of bucket i, which is held and begins at the place
+module _ (pool : Pool) (place i : ℕ) (is : IsPool pool) (has : Has pool.held i)
+    (there : place ≡ bucket_place pool.geometry i) where
+  still_held : (other : ℕ) → HoldsPlace pool other → other ≢ place → HoldsPlace (with_flag pool i false) other
+  still_held other holds differ =
+      let (j, other_has, at) = bucket_held_at pool other holds in
+      let apart : j ≢ i = λ same. differ (at ∙ ap (bucket_place pool.geometry) same ∙ sym there) in
+      held_at_bucket (with_flag pool i false) other j (slice_get-set_other pool.held i j false apart ∙ other_has) at
+
+  given_back : ¬ HoldsPlace (with_flag pool i false) place
+  given_back holds =
+      let (j, still, at) = bucket_held_at (with_flag pool i false) place holds in
+      let same = one_bucket pool.geometry is.geometry j i (sym at ∙ there) in
+      let gone = slice_get-set_same pool.held i false true has in
+      absurd (let e : Some true ≡ Some false = sym still ∙ ap (slice_get (slice_set pool.held i false)) same ∙ gone in cc)
+
+  -- all that a release says by the value
+  pub FreesBucket-is : FreesBucket pool place (with_flag pool i false)
+  FreesBucket-is = record {
+    freed = λ j other at.
+        ap (λ n. with_flag pool n false) (one_bucket pool.geometry is.geometry i j (sym there ∙ at));
+    still_held = still_held;
+    given_back = given_back;
+    room = (i, slice_get-set_same pool.held i false true has);
+  }
+
+  -- the chunk at the place is out of each list that the pool stands for
+  pub released-stands : (live : List Chunk) (position : ℕ) (chunk : Chunk) → StandsFor pool live →
+      slice_get live position ≡ Some chunk → chunk.place ≡ place → StandsFor (with_flag pool i false) (remove live position)
+  released-stands live position chunk stands at same =
+      let fills = filled-at pool live stands position chunk at in
+      let bucket = one_bucket pool.geometry is.geometry fills.0 i (sym fills.1.placed ∙ same ∙ there) in
+      subst (λ n. StandsFor (with_flag pool n false) (remove live position)) bucket
+      (stands-freed pool live position fills.0 chunk is stands at fills.1)
+
+-- RESIZES
+
+pub MayGrow-resized : (pool : Pool) (place : ℕ) (old new : Layout) (answer : Result Chunk AllocationGrowError) → IsPool pool →
+    MayGrow pool.geometry.bucket place old new answer →
+    IfOk answer (λ grown. (live : List Chunk) (position : ℕ) (chunk : Chunk) → StandsFor pool live →
+    slice_get live position ≡ Some chunk → chunk.place ≡ place → StandsFor pool (slice_set live position grown))
+MayGrow-resized pool place old new (Ok grown) is (longer, within, given) = λ live position chunk stands at there.
+    stands-resized pool live position chunk grown is stands at (ap (λ (c : Chunk). c.place) given ∙ sym there)
+    (let small = within.size in omega (arith, ap (λ (c : Chunk). c.len) given))
+MayGrow-resized pool place old new (Err error) is may = tt
+
+pub MayShrink-resized : (pool : Pool) (place : ℕ) (old new : Layout) (answer : Result Chunk AllocationShrinkError) →
+    IsPool pool → old.size ≤ pool.geometry.bucket.size → MayShrink pool.geometry.bucket place old new answer →
+    IfOk answer (λ shrunk. (live : List Chunk) (position : ℕ) (chunk : Chunk) → StandsFor pool live →
+    slice_get live position ≡ Some chunk → chunk.place ≡ place → StandsFor pool (slice_set live position shrunk))
+MayShrink-resized pool place old new (Ok shrunk) is within (shorter, aligned, given) = λ live position chunk stands at there.
+    stands-resized pool live position chunk shrunk is stands at (ap (λ (c : Chunk). c.place) given ∙ sym there)
+    (omega (arith, ap (λ (c : Chunk). c.len) given))
+MayShrink-resized pool place old new (Err error) is within may = tt

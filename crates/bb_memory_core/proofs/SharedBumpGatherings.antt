@@ -1,0 +1,245 @@
+-- Parties that come to one seat, and what their meeting says of their logs.
+use Rattle.std.proofs.Common.{◌≡◌, ℕ, replicate, ◌<◌, ◌≤◌, List, [], ◌∷◌, ◌++◌, length, refl, sym, ap, ◌∙◌}
+use Rattle.std.proofs.Common.{subst, arith, append_assoc, inl, inr}
+use Rattle.std.proofs.lemmas.List.{length-map, length-replicate, map-append}
+use Rattle.std.specs.Prelude.{map, max, Contains}
+use Rattle.std.specs.List.{All, AllByRecursion}
+use Rattle.std.proofs.lemmas.Bool.{cases_eq}
+use Rattle.std.proofs.lemmas.List.Elements.{All-from_recursion, All-nil, All-replicate, recursion_from_All}
+use Rattle.atomic_table.specs.Seated.{TableId}
+use Rattle.atomic_table.specs.Table.{Me}
+use Rattle.bb_memory_base.specs.BumpMachine.{BumpScene}
+use Rattle.bb_memory_base.specs.BumpHistory.{BumpLog}
+use Rattle.bb_memory_base.specs.BumpLogs.{HasLog, Interleaving, seen_in}
+use Rattle.bb_memory_base.proofs.BumpLogs.{opening_agrees}
+use Rattle.bb_memory_base.proofs.BumpPositions.{interleaved, seen_below}
+use Rattle.bb_memory_base.proofs.BumpWholes.{opened_below, whole_bounds}
+use Rattle.bb_memory_core.specs.Seats.{HaveLogs, alone, numbered, standing_for, times_in, view_log}
+use Rattle.bb_memory_core.specs.SharedBump.{AgreeAt, BumpParty, HaveMet, IsSharedScene, SharedBump, floor_of, greatest_seen}
+use Rattle.bb_memory_core.specs.SharedBump.{meeting_at}
+use Rattle.bb_memory_core.specs.SharedBumpRule.{IsPartySeat, NumberedLog, SeatView, gathered, meeting_of, met_by, numbered_of}
+use Rattle.bb_memory_core.specs.SharedBumpRule.{party_in, scene_of, sight}
+use Rattle.bb_memory_core.specs.SharedBumpSteps.{TellsMeeting}
+use Rattle.bb_memory_base.proofs.Positions.{contains-behind, contains-first}
+use Rattle.bb_memory_core.proofs.PartyNumbers.{numbers_differ}
+use Rattle.bb_memory_core.proofs.Seatings.{all_there, one_apart}
+use Rattle.bb_memory_core.proofs.SharedBumpParties.{party_seat}
+
+-- GATHERING
+
+-- a party's seat stands for it alone
+pub parties_of : (table : TableId) (number : ℕ) (me : Me ℕ SeatView) (party : BumpParty) → IsPartySeat number me →
+    party_in table number me.0 ≡ party → me.0.parties ≡ numbered_of party ∷ []
+parties_of table number me party fields view_is =
+    ap (λ (m : Me ℕ SeatView). m.0.parties) fields.seat.seat.is ∙ ap (λ (p : BumpParty). numbered_of p ∷ []) view_is
+
+-- the last of a list comes to the seat
+pub all_gathered : (table : TableId) (number : ℕ) (me : Me ℕ SeatView) (party : BumpParty) (items rest : List BumpParty) →
+    IsPartySeat number me → party_in table number me.0 ≡ party → items ≡ rest ++ party ∷ [] →
+    map numbered_of rest ++ me.0.parties ≡ map numbered_of items
+all_gathered table number me party items rest fields view_is is =
+    ap (λ (last : List NumberedLog). map numbered_of rest ++ last) (parties_of table number me party fields view_is)
+    ∙ sym (map-append numbered_of rest (party ∷ [])) ∙ ap (map numbered_of) (sym is)
+
+pub one_gathered : (table : TableId) (number : ℕ) (me : Me ℕ SeatView) (party : BumpParty) (items rest : List BumpParty)
+    (own : List NumberedLog) → IsPartySeat number me → party_in table number me.0 ≡ party → items ≡ rest ++ party ∷ [] →
+    map numbered_of rest ++ (me.0.parties ++ own) ≡ map numbered_of items ++ own
+one_gathered table number me party items rest own fields view_is is =
+    sym (append_assoc (map numbered_of rest) me.0.parties own)
+    ∙ ap (λ (all : List NumberedLog). all ++ own) (all_gathered table number me party items rest fields view_is is)
+
+-- a guest's parties come to a seat
+pub seat_gathered : (scene : BumpScene) (me new : Me ℕ SeatView) (guest : SeatView) →
+    me ≡ (standing_for (sight scene (met_by me.0)) me.0.parties, []) → new ≡ (gathered me.0 guest, me.1) →
+    new ≡ (standing_for (sight scene (met_by new.0)) new.0.parties, [])
+seat_gathered scene me new guest is new_is =
+    subst (λ (m : Me ℕ SeatView). m ≡ (standing_for (sight scene (met_by m.0)) m.0.parties, [])) (sym new_is)
+    (λ i. (standing_for (sight (scene_of (is i).0) (max (met_by me.0) (met_by guest))) (guest.parties ++ me.0.parties), (is i).1))
+
+-- WHAT A MEETING SAYS
+
+-- each party's log is the one that the meeting has for it
+logs_had : (made : ℕ) (logs : List BumpLog) (items : List BumpParty) → HaveLogs made logs (map numbered_of items) →
+    AllByRecursion (λ (p : BumpParty). HasLog logs p.number p.log) items
+logs_had made logs [] have = tt
+logs_had made logs (party ∷ items) have = (have.1, logs_had made logs items have.2)
+
+has_number : (items : List BumpParty) (number : ℕ) → 1 ≤ times_in number (map numbered_of items) →
+    Contains (map (λ (p : BumpParty). p.number) items) number
+has_number [] number some = absurd (omega arith)
+has_number (party ∷ items) number some =
+    let numbers = map (λ (p : BumpParty). p.number) items in
+    elim (cases_eq party.number number) [
+      | inl same ↦ contains-first party.number number numbers same
+      | inr other ↦ let none = one_apart party.number number other in
+          contains-behind party.number number numbers (has_number items number (omega (arith, some, none)))
+    ]
+
+-- a party that stands in the list has its log there, and has seen at most the greatest
+its_log : (scene : BumpScene) (logs : List BumpLog) (items : List BumpParty) (number : ℕ) →
+    AllByRecursion (λ (p : BumpParty). p.allocator.scene ≡ scene) items →
+    AllByRecursion (λ (p : BumpParty). HasLog logs p.number p.log) items →
+    1 ≤ times_in number (map numbered_of items) →
+    (log : BumpLog) × HasLog logs number log × (seen_in scene log ≤ greatest_seen items)
+its_log scene logs [] number theirs had some = absurd (omega arith)
+its_log scene logs (party ∷ items) number theirs had some =
+    elim (cases_eq party.number number) [
+      | inl same ↦
+          let seen = ap (λ (s : BumpScene). seen_in s party.log) theirs.0 in
+          (party.log, subst (λ (n : ℕ). HasLog logs n party.log) same had.0, omega (arith, seen))
+      | inr other ↦ let none = one_apart party.number number other in
+          let rest = its_log scene logs items number theirs.1 had.1 (omega (arith, some, none)) in
+          (rest.0, rest.1, omega (arith, rest.2))
+    ]
+
+greatest_below : (scene : BumpScene) (items : List BumpParty) (most : ℕ) →
+    AllByRecursion (λ (p : BumpParty). p.allocator.scene ≡ scene) items →
+    AllByRecursion (λ (p : BumpParty). seen_in scene p.log ≤ most) items → greatest_seen items ≤ most
+greatest_below scene [] most theirs below = omega arith
+greatest_below scene (party ∷ items) most theirs below =
+    let seen = ap (λ (s : BumpScene). seen_in s party.log) theirs.0 in
+    let rest = greatest_below scene items most theirs.1 below.1 in omega (arith, seen, rest, below.0)
+
+seen_at_most : (scene : BumpScene) (found : ℕ) (parties : List NumberedLog) (met : ℕ) (items : List BumpParty)
+    (told : TellsMeeting scene parties met found) → AllByRecursion (λ (p : BumpParty). HasLog told.logs p.number p.log) items →
+    AllByRecursion (λ (p : BumpParty). seen_in scene p.log ≤ found) items
+seen_at_most scene found parties met [] told had = tt
+seen_at_most scene found parties met (party ∷ items) told had = (
+  seen_below scene found told.logs party.number party.log told.agree had.0,
+  seen_at_most scene found parties met items told had.1,
+)
+
+same_scenes : (bump : SharedBump) (items : List BumpParty) → AllByRecursion (λ (p : BumpParty). p.allocator ≡ bump) items →
+    AllByRecursion (λ (p : BumpParty). p.allocator.scene ≡ bump.scene) items
+same_scenes bump [] theirs = tt
+same_scenes bump (party ∷ items) theirs = (ap (λ (b : SharedBump). b.scene) theirs.0, same_scenes bump items theirs.1)
+
+-- how the logs of parties agree with what their meeting found
+pub agrees : (bump : SharedBump) (items : List BumpParty) (met found : ℕ) → IsSharedScene bump.scene →
+    All (λ (p : BumpParty). p.allocator ≡ bump) items →
+    TellsMeeting bump.scene (map numbered_of items) met found → AgreeAt bump.scene found items
+agrees bump items met found shared theirs told =
+    let scene = bump.scene in
+    let had = logs_had scene.parties told.logs items told.theirs in
+    let scenes = same_scenes bump items (recursion_from_All (λ (p : BumpParty). p.allocator ≡ bump) items theirs) in
+    record {
+      logs = told.logs;
+      agree = told.agree;
+      one_a_party = told.one_a_party;
+      theirs = All-from_recursion (λ (p : BumpParty). HasLog told.logs p.number p.log) items had;
+      differ = numbers_differ numbered_of scene.parties told.logs items told.theirs told.once;
+      whole = λ long.
+          let long_so : length (map numbered_of items) ≡ scene.parties = length-map items numbered_of ∙ long in
+          let there = all_there scene.parties told.logs (map numbered_of items) told.theirs told.once long_so in
+          let each = λ (number : ℕ) (below : number < scene.parties).
+          its_log scene told.logs items number scenes had (there number below) in
+          let first = each 0 shared.parties in
+          let opened = opened_below scene first.0 in
+          let up = whole_bounds scene found (greatest_seen items) told.logs told.agree (omega (arith, opened, first.2)) each in
+          let down = greatest_below scene items found scenes
+          (seen_at_most scene found (map numbered_of items) met items told had) in (
+            λ number below. has_number items number (there number below),
+            omega (arith, up, down),
+          );
+    }
+
+-- they have known no more than that
+floors_by : (scene : BumpScene) (found : ℕ) (items : List BumpParty) →
+    AllByRecursion (λ (p : BumpParty). p.allocator.scene ≡ scene) items →
+    AllByRecursion (λ (p : BumpParty). seen_in scene p.log ≤ found) items →
+    AllByRecursion (λ (p : BumpParty). p.met ≤ found) items →
+    AllByRecursion (λ (p : BumpParty). floor_of p ≤ found) items
+floors_by scene found [] theirs seen met = tt
+floors_by scene found (party ∷ items) theirs seen met =
+    let same = ap (λ (s : BumpScene). seen_in s party.log) theirs.0 in
+    (omega (arith, same, seen.0, met.0), floors_by scene found items theirs.1 seen.1 met.1)
+
+pub floors_below : (bump : SharedBump) (items : List BumpParty) (met found : ℕ) →
+    All (λ (p : BumpParty). p.allocator ≡ bump) items →
+    TellsMeeting bump.scene (map numbered_of items) met found →
+    All (λ (p : BumpParty). p.met ≤ found) items → All (λ (p : BumpParty). floor_of p ≤ found) items
+floors_below bump items met found theirs told mets =
+    let scene = bump.scene in
+    let had = logs_had scene.parties told.logs items told.theirs in
+    let scenes = same_scenes bump items (recursion_from_All (λ (p : BumpParty). p.allocator ≡ bump) items theirs) in
+    All-from_recursion (λ (p : BumpParty). floor_of p ≤ found) items
+    (floors_by scene found items scenes (seen_at_most scene found (map numbered_of items) met items told had)
+    (recursion_from_All (λ (p : BumpParty). p.met ≤ found) items mets))
+
+pub have_met : (bump : SharedBump) (items new : List BumpParty) (met found : ℕ) → IsSharedScene bump.scene →
+    All (λ (p : BumpParty). p.allocator ≡ bump) items →
+    TellsMeeting bump.scene (map numbered_of items) met found →
+    All (λ (p : BumpParty). p.met ≤ found) items → new ≡ map (meeting_at found) items → HaveMet bump.scene items new
+have_met bump items new met found shared theirs told mets is = record {
+  position = found;
+  kept = is;
+  risen = floors_below bump items met found theirs told mets;
+  within = told.within;
+  agree = agrees bump items met found shared theirs told;
+}
+
+-- a meeting of none
+pub none_met : (bump : SharedBump) (items new : List BumpParty) → IsSharedScene bump.scene → items ≡ [] → new ≡ [] →
+    HaveMet bump.scene items new
+none_met bump items new shared none none_new =
+    let scene = bump.scene in
+    let logs : List BumpLog = replicate scene.parties [] in
+    subst (λ (x : List BumpParty × List BumpParty). HaveMet scene x.0 x.1) (λ i. (sym none i, sym none_new i)) record {
+      position = scene.opening;
+      kept = refl;
+      risen = All-nil (λ (p : BumpParty). floor_of p ≤ scene.opening);
+      within = shared.opening;
+      agree = record {
+        logs = logs;
+        agree = opening_agrees scene logs (All-replicate (λ (log : BumpLog). log ≡ []) scene.parties [] refl);
+        one_a_party = length-replicate scene.parties [];
+        theirs = All-nil (λ (p : BumpParty). HasLog logs p.number p.log);
+        differ = λ i j one other at at_other apart same. absurd (cc);
+        whole = λ long. let some = shared.parties in absurd (omega (arith, some, long));
+      };
+    }
+
+-- the party that goes back after the meeting
+pub met_party : (table was : TableId) (number found : ℕ) (me new : Me ℕ SeatView) (party : BumpParty) →
+    party_in was number me.0 ≡ party → table ≡ was → new ≡ (meeting_of found me.0, []) →
+    party_in table number new.0 ≡ meeting_at found party
+met_party table was number found me new party view_is same is = λ i. record {
+  allocator = record {
+    table = (same ∙ ap (λ (p : BumpParty). p.allocator.table) view_is) i;
+    scene = (ap (λ (m : Me ℕ SeatView). scene_of m.0) is ∙ ap (λ (p : BumpParty). p.allocator.scene) view_is) i;
+  };
+  number = ap (λ (p : BumpParty). p.number) view_is i;
+  log = (ap (λ (m : Me ℕ SeatView). view_log m.0) is ∙ ap (λ (p : BumpParty). p.log) view_is) i;
+  met = ap (λ (m : Me ℕ SeatView). met_by m.0) is i;
+}
+
+-- the log of one of the parties that met
+its_own : (made : ℕ) (logs : List BumpLog) (before behind : List NumberedLog) (one : NumberedLog) →
+    HaveLogs made logs (before ++ one ∷ behind) → HasLog logs one.number one.log
+its_own made logs [] behind one have = have.1
+its_own made logs (first ∷ before) behind one have = its_own made logs before behind one have.2
+
+-- the seat of a party that goes back: one interleaving has its log and leaves what the meeting found
+pub met_seat : (scene : BumpScene) (number met found : ℕ) (before behind : List NumberedLog) (me new : Me ℕ SeatView) →
+    IsPartySeat number me → scene_of me.0 ≡ scene →
+    TellsMeeting scene (before ++ (me.0.parties ++ behind)) met found →
+    new ≡ (alone (sight scene found) number (view_log me.0), []) → IsPartySeat number new
+met_seat scene number met found before behind me new fields same told is =
+    let log = view_log me.0 in
+    let own = its_own scene.parties told.logs before behind (numbered number log)
+    (subst (λ (m : Me ℕ SeatView). HaveLogs scene.parties told.logs (before ++ (m.0.parties ++ behind))) fields.seat.seat.is
+    told.theirs) in
+    let seen = seen_below scene found told.logs number log told.agree own in
+    let now : met_by new.0 ≡ found = ap (λ (m : Me ℕ SeatView). met_by m.0) is in
+    party_seat scene number log new
+    record {
+      seat = record {
+        is = is ∙ λ i. (alone (sight scene (met_by (sym is i).0)) number log, []);
+        interleaved = subst (λ (s : BumpScene). Interleaving s number log (seen_in s log)) same fields.seat.seat.interleaved;
+        reached = subst (Interleaving scene number log) (omega (arith, seen, now))
+            (interleaved scene found told.logs number log told.agree own);
+      };
+      idle = fields.seat.idle;
+    }
+    (subst (λ (s : BumpScene). number < s.parties) same fields.below) (subst IsSharedScene same fields.shared)
+    (omega (arith, now, told.within))

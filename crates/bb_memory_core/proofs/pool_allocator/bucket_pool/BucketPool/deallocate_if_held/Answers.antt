@@ -1,0 +1,29 @@
+use Rattle.std.proofs.Common.{refl, subst}
+use Rattle.bb_memory_core.specs.Pool.{HoldsPlace}
+use Rattle.bb_memory_core.specs.PoolLaws.{held_place}
+use Rattle.bb_memory_core.proofs.PoolCalls.{FreesBucket-is, released-stands}
+use Rattle.bb_memory_core.proofs.pool_allocator.bucket_pool.BucketPool.deallocate_if_held.Goals as goal
+
+pub returns-in_default-clause-released : goal.returns-in_default-clause-released
+returns-in_default-clause-released g c = λ live position chunk stands at there.
+    let pool = c.args.self.now.pool in
+    let no = c.in_default.ensures.held.1 (subst (HoldsPlace pool) there (held_place pool live position chunk stands at)) in
+    absurd (cc)
+
+pub returns-clause-freed : goal.returns-clause-freed
+returns-clause-freed g c = λ yes.
+    let has = rw (← c.self.view_is) at c.in-Some.ensures.has in
+    let there = rw (← c.self.view_is) at c.in-Some.ensures.there in
+    rw (← c.self.view_is, c.release.ensures) (FreesBucket-is _ c.args.place c.in-Some.number c.self.invariant.0 has there)
+
+pub returns-clause-released : goal.returns-clause-released
+returns-clause-released g c =
+    let has = rw (← c.self.view_is) at c.in-Some.ensures.has in
+    let there = rw (← c.self.view_is) at c.in-Some.ensures.there in
+    rw (← c.self.view_is, c.release.ensures) (released-stands _ c.args.place c.in-Some.number c.self.invariant.0 has there)
+
+pub returns-clause-given_back : goal.returns-clause-given_back
+returns-clause-given_back g c = (returns-clause-freed g c refl).given_back
+
+pub returns-clause-still_held : goal.returns-clause-still_held
+returns-clause-still_held g c = (returns-clause-freed g c refl).still_held

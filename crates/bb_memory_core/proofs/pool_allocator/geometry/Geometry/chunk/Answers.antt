@@ -1,0 +1,34 @@
+use Rattle.std.proofs.Common.{sym, subst}
+use Rattle.bb_memory_base.specs.Chunk.{IsChunk, IsInside}
+use Rattle.bb_memory_base.specs.Region.{region_at}
+use Rattle.bb_memory_base.specs.PoolGeometry.{PoolGeometry, pool_geometry}
+use Rattle.bb_memory_core.proofs.Cuts.{some-if, some-value}
+use Rattle.bb_memory_core.proofs.Measures.{measured-chunk, measured-inside, measured-place}
+use Rattle.bb_memory_core.proofs.pool_allocator.geometry.Geometry.chunk.Goals as goal
+
+pub unwrap-requires : goal.unwrap-requires
+unwrap-requires c =
+    let inside = c.self.inside in
+    let geometry : PoolGeometry =
+    pool_geometry (region_at inside.region_start inside.region_size) inside.bucket inside.buckets in
+    let below = rw (← c.self.view_is) at c.requires.below in
+    let short = rw (← c.self.view_is) at c.requires.short in
+    let chunk =
+    measured-chunk geometry inside.first inside.stride inside.shift c.self.invariant c.args.bucket c.args.len below short in
+    let place = measured-place geometry inside.first inside.stride inside.shift c.self.invariant c.args.bucket in
+    some-if c.new.result _ _ c.new.ensures (subst (λ p. IsChunk (record { place = p; len = c.args.len })) (sym place) chunk)
+
+pub returns-clause-inside : goal.returns-clause-inside
+returns-clause-inside c =
+    let inside = c.self.inside in
+    let geometry : PoolGeometry =
+    pool_geometry (region_at inside.region_start inside.region_size) inside.bucket inside.buckets in
+    let below = rw (← c.self.view_is) at c.requires.below in
+    let short = rw (← c.self.view_is) at c.requires.short in
+    let lies =
+    measured-inside geometry inside.first inside.stride inside.shift c.self.invariant c.args.bucket c.args.len below short in
+    let place = measured-place geometry inside.first inside.stride inside.shift c.self.invariant c.args.bucket in
+    let value = some-value c.new.result _ _ c.unwrap.result c.new.ensures c.unwrap.ensures in
+    subst (λ (g : PoolGeometry). IsInside g.region c.unwrap.result) c.self.view_is
+    (subst (IsInside geometry.region) (sym value)
+    (subst (λ p. IsInside geometry.region (record { place = p; len = c.args.len })) (sym place) lies))

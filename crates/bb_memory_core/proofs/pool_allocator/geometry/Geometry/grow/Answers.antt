@@ -1,0 +1,44 @@
+use Rattle.std.proofs.Common.{◌%◌, ◌≤◌, ℕ, ap, arith, subst, sym, ◌∙◌}
+use Rattle.bb_memory_base.specs.Chunk.{Chunk, IsInside}
+use Rattle.bb_memory_base.specs.Region.{region_at}
+use Rattle.bb_memory_base.specs.PoolGeometry.{PoolGeometry, pool_geometry}
+use Rattle.bb_memory_base.proofs.Layouts.{multiple}
+use Rattle.bb_memory_base.proofs.PoolGeometries.{bucket_place-aligned}
+use Rattle.bb_memory_core.proofs.Cuts.{some-if, some-value}
+use Rattle.bb_memory_core.proofs.Measures.{placed-chunk, placed-inside}
+use Rattle.bb_memory_core.proofs.pool_allocator.geometry.Geometry.grow.Goals as goal
+
+pub unwrap-requires : goal.unwrap-requires
+unwrap-requires c =
+    let inside = c.self.inside in
+    let geometry : PoolGeometry =
+    pool_geometry (region_at inside.region_start inside.region_size) inside.bucket inside.buckets in
+    let at = rw (← c.self.view_is) at c.requires in
+    let short : c.size-5.result ≤ inside.bucket.size = omega arith in
+    let chunk =
+    placed-chunk geometry inside.first inside.stride inside.shift c.self.invariant c.args.place c.size-5.result at short in
+    some-if c.new.result _ _ c.new.ensures chunk
+
+pub returns-clause-inside : goal.returns-clause-inside
+returns-clause-inside c =
+    let inside = c.self.inside in
+    let geometry : PoolGeometry =
+    pool_geometry (region_at inside.region_start inside.region_size) inside.bucket inside.buckets in
+    let at = rw (← c.self.view_is) at c.requires in
+    let short : c.size-5.result ≤ inside.bucket.size = omega arith in
+    let lies =
+    placed-inside geometry inside.first inside.stride inside.shift c.self.invariant c.args.place c.size-5.result at short in
+    let value = some-value c.new.result _ _ c.unwrap.result c.new.ensures c.unwrap.ensures in
+    subst (λ (g : PoolGeometry). IsInside g.region c.unwrap.result) c.self.view_is
+    (subst (IsInside geometry.region) (sym value) lies)
+
+pub returns-clause-aligned : goal.returns-clause-aligned
+returns-clause-aligned c =
+    let inside = c.self.inside in
+    let geometry : PoolGeometry =
+    pool_geometry (region_at inside.region_start inside.region_size) inside.bucket inside.buckets in
+    let at = rw (← c.self.view_is) at c.requires in
+    let value = some-value c.new.result _ _ c.unwrap.result c.new.ensures c.unwrap.ensures in
+    ap (λ (k : Chunk). k.place % c.args.new.align) value
+    ∙ multiple c.args.place c.args.new inside.bucket (omega arith)
+    (ap (λ (n : ℕ). n % inside.bucket.align) at.2 ∙ bucket_place-aligned geometry at.0)

@@ -1,0 +1,154 @@
+-- A pool, as its contracts see it.
+use Rattle.std.specs.Prelude.{◌≡◌, ◌≢◌, ℕ, ◌-◌, ◌+◌, ◌%◌, ◌≤◌, ◌<◌, ◌^◌, ◌⊎◌, ◌↔◌, Bool, true, false}
+use Rattle.std.specs.Prelude.{◌&&◌, if◌then◌else◌, get_or, nat_eq, nat_le}
+use Rattle.std.specs.List.{list_any, range_with_len}
+use Rattle.std.specs.Prelude.{List, All, length, min, replicate, slice_set, Result, Ok, Err, IsOk, IfOk, OnErr}
+use Rattle.bb_memory_base.specs.Region.{Region, IsRegion}
+use Rattle.bb_memory_base.specs.Chunk.{Chunk}
+use Rattle.bb_memory_base.specs.LiveList.{IsSound}
+use Rattle.bb_memory_base.specs.FirstPlace.{first_place}
+use Rattle.bb_memory_base.specs.ResizableObject.{PlacesDiffer}
+use Rattle.bb_memory_base.specs.PoolGeometry.{PoolGeometry, stride, bucket_place, IsCut, IsPoolGeometry}
+use Rattle.bb_memory_base.specs.PoolObject.{IsHeld, IsWithin, chunk_in}
+use Rattle.bb_memory_base.specs.Run.{note_after_run}
+use Rattle.bb_memory_base.specs.declared.layout.Layout.{Layout}
+use Rattle.bb_memory_base.specs.declared.allocator.Command.{Command}
+use Rattle.bb_memory_base.specs.declared.allocator.AllocationError.{AllocationError}
+use Rattle.bb_memory_base.specs.declared.allocator.AllocationError.TheVariants.{SizeIsZero, SizeTooLarge}
+use Rattle.bb_memory_base.specs.declared.allocator.AllocationError.TheVariants.{AlignmentFailure, OutOfMemory}
+use Rattle.bb_memory_core.specs.NumberSet.{Has, Lacks, IsFull}
+
+-- where its buckets are, and the set of those that are held
+pub record Pool : Type 0 where
+  pub geometry : PoolGeometry
+  pub held : List Bool
+
+abbrev pub pool_of : PoolGeometry → List Bool → Pool
+pool_of geometry held = record { geometry = geometry; held = held }
+
+-- a pool with no bucket held
+abbrev pub fresh_pool : PoolGeometry → Pool
+fresh_pool geometry = pool_of geometry (replicate geometry.buckets false)
+
+-- its buckets are inside a region, and it knows of each whether it is held
+pub record IsPool (pool : Pool) : Type 0 where
+  pub region : IsRegion pool.geometry.region
+  pub geometry : IsPoolGeometry pool.geometry
+  pub flags : length pool.held ≡ pool.geometry.buckets
+
+-- WHAT A MAKER NEEDS
+
+-- the region may be cut into buckets of this layout: the rounded start is a number of the machine, a bucket has a byte, and
+-- there are fewer than u32::MAX
+pub record MayBeCut (region : Region) (bucket : Layout) : Type 0 where
+  pub is_region : IsRegion region
+  pub rounded : first_place region bucket < 2 ^ 64
+  pub filled : 0 < bucket.size
+  pub few : (geometry : PoolGeometry) → IsCut region bucket geometry → geometry.buckets < 2 ^ 32 - 1
+
+-- the region is cut into just the buckets that it has room for
+pub record IsUninit (geometry : PoolGeometry) : Type 0 where
+  pub may : MayBeCut geometry.region geometry.bucket
+  pub cut : IsCut geometry.region geometry.bucket geometry
+
+-- LIVE LISTS
+
+-- the chunk is in bucket i, which is held, and is no longer than a bucket
+pub record Fills (pool : Pool) (chunk : Chunk) (i : ℕ) : Type 0 where
+  pub held : Has pool.held i
+  pub placed : chunk.place ≡ bucket_place pool.geometry i
+  pub short : chunk.len ≤ pool.geometry.bucket.size
+
+-- a pool stands for this live list: each chunk is in a held bucket, no two in one, and each held bucket has its chunk
+pub record StandsFor (pool : Pool) (live : List Chunk) : Type 0 where
+  pub sound : IsSound pool.geometry.region live
+  pub filled : All (λ chunk. (i : ℕ) × Fills pool chunk i) live
+  pub differ : PlacesDiffer live
+  pub held : (i : ℕ) → Has pool.held i → IsHeld pool.geometry live i
+
+-- one of the two places is at least a stride behind the other
+abbrev pub AreAStrideApart : Layout → ℕ → ℕ → Type 0
+AreAStrideApart bucket one other = (one + stride bucket ≤ other) ⊎ (other + stride bucket ≤ one)
+
+-- bucket i is held, and begins at the place
+abbrev pub begins_held : Pool → ℕ → ℕ → Bool
+begins_held pool place i = get_or pool.held i false && nat_eq place (bucket_place pool.geometry i)
+
+-- whether any held bucket begins at the place
+unfoldable pub holds_place : Pool → ℕ → Bool
+holds_place pool place = list_any (begins_held pool place) (range_with_len 0 (length pool.held))
+
+-- the place is that of a held bucket
+abbrev pub HoldsPlace : Pool → ℕ → Type 0
+HoldsPlace pool place = holds_place pool place ≡ true
+
+-- WHAT CALLS DO
+
+-- the pool with bucket i held, or free
+abbrev pub with_flag : Pool → ℕ → Bool → Pool
+with_flag pool i flag = pool_of pool.geometry (slice_set pool.held i flag)
+
+-- What a pool may answer to a request, and what it is then: any free bucket is given and held, and a refusal changes nothing.
+abbrev pub Takes : Pool → Layout → Result Chunk AllocationError → Pool → Type 0
+Takes pool layout (Ok chunk) new =
+    (i : ℕ) × IsWithin pool.geometry.bucket layout × Lacks pool.held i
+    × (chunk ≡ chunk_in pool.geometry i layout) × (new ≡ with_flag pool i true)
+Takes pool layout (Err SizeTooLarge) new = (pool.geometry.bucket.size < layout.size) × (new ≡ pool)
+Takes pool layout (Err AlignmentFailure) new =
+    (layout.size ≤ pool.geometry.bucket.size) × (pool.geometry.bucket.align < layout.align)
+    × (new ≡ pool)
+Takes pool layout (Err OutOfMemory) new =
+    IsWithin pool.geometry.bucket layout × IsFull pool.held × (new ≡ pool)
+-- it never refuses so
+Takes pool layout (Err SizeIsZero) new = ⊥
+
+-- the held bucket at the place is freed, and no other
+abbrev pub Frees : Pool → ℕ → Pool → Type 0
+Frees pool place new =
+    (i : ℕ) → Has pool.held i → place ≡ bucket_place pool.geometry i → new ≡ with_flag pool i false
+
+-- a pool, and how many index words its last request read
+pub record CountedPool : Type 0 where
+  pub pool : Pool
+  pub reads : ℕ
+
+abbrev pub counted : Pool → ℕ → CountedPool
+counted pool reads = record { pool = pool; reads = reads }
+
+-- What a request is answered by the value alone, what the pool is then, and how many of its words it read.
+pub record TakesBucket (old : CountedPool) (layout : Layout) (answer : Result Chunk AllocationError)
+    (new : CountedPool) (words : ℕ) : Type 0 where
+  -- which bucket is held then, each refusal by its cause, and that there is no other
+  pub taken : Takes old.pool layout answer new.pool
+  pub accepted : IsOk answer
+      ↔ (IsWithin old.pool.geometry.bucket layout × ((i : ℕ) × Lacks old.pool.held i))
+  pub still : OnErr answer (new.pool ≡ old.pool)
+  pub was_free : IfOk answer (λ chunk. ¬ HoldsPlace old.pool chunk.place)
+  pub apart : IfOk answer (λ chunk. (place : ℕ) → HoldsPlace old.pool place
+      → AreAStrideApart old.pool.geometry.bucket place chunk.place)
+  pub still_held : (place : ℕ) → HoldsPlace old.pool place → HoldsPlace new.pool place
+  pub bucket_aligned : IfOk answer (λ chunk. chunk.place % old.pool.geometry.bucket.align ≡ 0)
+  pub one_read : IsWithin old.pool.geometry.bucket layout → 0 < words → new.reads ≡ 1
+  -- where no reads are counted, a refusal leaves all as it was
+  pub uncounted : words ≡ 0 → new.reads ≡ old.reads
+  pub unchanged : words ≡ 0 → OnErr answer (new ≡ old)
+
+-- What a pool is after a release by the value alone: that bucket is free, and each other one as it was.
+pub record FreesBucket (old : Pool) (place : ℕ) (new : Pool) : Type 0 where
+  pub freed : Frees old place new
+  pub still_held : (other : ℕ) → HoldsPlace old other → other ≢ place → HoldsPlace new other
+  pub given_back : ¬ HoldsPlace new place
+  pub room : (i : ℕ) × Lacks new.held i
+
+-- INDEX WORDS
+
+-- how many words a request for the layout reads, of so many: one if there is one, and none where its size or its alignment is
+-- refused
+abbrev pub reads_of : Layout → ℕ → Layout → ℕ
+reads_of bucket words layout =
+    if nat_le layout.size bucket.size && nat_le layout.align bucket.align then min words 1 else 0
+
+-- how many the last request of these commands reads, or as many as before where they have none
+abbrev pub reads_after : Layout → ℕ → ℕ → List Command → ℕ
+reads_after bucket words before commands =
+    note_after_run (λ layout reads. reads_of bucket words layout) before commands

@@ -1,0 +1,48 @@
+//! A set of numbers below a bound, from which any number that isn't in it can be taken.
+//!
+//! [`words::Words`] takes memory once, for a bit a number and a list of the words that have a clear bit; [`flags::Flags`] takes
+//! none, and has an array with a flag a number. Both keep a list of where a number is free, so that no taking looks further than
+//! one place.
+pub mod flags;
+pub mod index_words;
+pub mod words;
+
+pub use crate::index_set::index_words::Counter;
+
+/// A set of numbers below a bound. It is empty when it is made.
+pub trait IndexSet: Drop {
+    ghost use Rattle.std.specs.Prelude.{◌≡◌, ◌<◌, ◌↔◌, ℕ, Bool, true, false, List};
+    ghost use Rattle.std.specs.Prelude.{length, min, slice_set, IsTrue, IfSome, IfNone};
+    ghost use Rattle.bb_memory_core.specs.NumberSet.{Has, Lacks, IsFull};
+
+    /// A flag for each number below the bound: whether it is in the set.
+    ghost numbers: { Self → List Bool };
+
+    /// How many words a set of this bound has that are read through a counter.
+    ghost words: { ℕ → ℕ };
+
+    /// Puts a number that isn't in the set into it, and answers that number. There is none exactly where every number is
+    /// in the set. The counter has to stand at 0, and ends at how many words were read: one, or none where there is none.
+    fn take(&mut self, counter: &mut Counter) -> Option<usize>
+        requires { counter.old ≡ 0 }
+        ensures lacked { IfSome result (Lacks (numbers self.old)) }
+        ensures taken { IfSome result (λ number. numbers self.new
+            ≡ slice_set (numbers self.old) number true) }
+        ensures full { IfNone result (IsFull (numbers self.old)) }
+        ensures still { IfNone result (numbers self.new ≡ numbers self.old) }
+        ensures counted { counter.new ≡ min (words (length (numbers self.old))) 1 };
+
+    /// Takes a number, which has to be in the set, out of it, and no other.
+    fn release(&mut self, number: usize)
+        requires { Has (numbers self.old) number }
+        ensures { numbers self.new ≡ slice_set (numbers self.old) number false };
+
+    /// Whether a number below the bound is in the set. No word is read through a counter.
+    fn has(&self, number: usize) -> bool
+        requires { number < length (numbers self.now) }
+        ensures { IsTrue result ↔ Has (numbers self.now) number };
+
+    /// Whether some number below the bound isn't in the set, so that one can be taken. No word is read through a counter.
+    fn has_room(&self) -> bool
+        ensures { IsTrue result ↔ ((number : ℕ) × Lacks (numbers self.now) number) };
+}
