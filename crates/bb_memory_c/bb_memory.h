@@ -69,7 +69,7 @@ extern "C" {
 #endif
 
 // The version of this library, as text and by its numbers. The last of them grows with each version, for `#if`.
-#define BB_VERSION "0.11.0"
+#define BB_VERSION "0.12.0"
 #define BB_VERSION_MAJOR 0
 #define BB_VERSION_MINOR 11
 #define BB_VERSION_PATCH 0
