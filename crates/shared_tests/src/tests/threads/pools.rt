@@ -170,41 +170,19 @@ fn threads_pool_near_few_buckets(rt: HostRuntime) {
     );
 }
 
-/// Takes a bucket in each thread, and drops the token.
-fn take_and_drop(rt: &(impl Threads + Abort), alloc: Global, near: bool, row: (&str, &str, &str)) {
-    let takes = Takes {
-        marks: no_marks(),
-        near,
-        returns: false,
-        layout: layout(rt, 48, 4),
-        times: 1,
-    };
-    all_tell(rt, alloc, row, takes, 1);
-}
-
+/// Each of two threads takes a bucket and drops the token.
 #[test]
 fn threads_pool_dropped_tokens(rt: HostRuntime) {
+    let takes = Takes {
+        marks: no_marks(),
+        near: false,
+        returns: false,
+        layout: layout(&rt, 48, 4),
+        times: 1,
+    };
     let calls =
         "meet-all = met; take 0 48 4 = bucket 2 4352 48; take 0 48 4 = bucket 3 4480 48; take 0 48 4 = bucket 4 4608 48; \
         take 0 48 4 = bucket 5 4736 48; take 0 48 4 = bucket 6 4864 48; take 0 48 4 = bucket 7 4992 48; take 0 48 4 = OutOfMemory";
-    take_and_drop(
-        &rt,
-        rt.alloc(),
-        false,
-        ("by passes", "pool 4096 1024 2", calls),
-    );
-}
-
-/// Each of three threads takes the first bucket of its own part.
-#[test]
-fn threads_pool_near_dropped_tokens(rt: HostRuntime) {
-    let calls =
-        "meet 0 = met; take 0 48 4 = bucket 1 4224 48; take 0 48 4 = bucket 3 4480 48; take 0 48 4 = bucket 4 4608 48; \
-        take 0 48 4 = bucket 6 4864 48; take 0 48 4 = bucket 7 4992 48; take 0 48 4 = OutOfMemory";
-    take_and_drop(
-        &rt,
-        rt.alloc(),
-        true,
-        ("by rounds", "pool 4096 1024 3", calls),
-    );
+    let row = ("dropped tokens", "pool 4096 1024 2", calls);
+    all_tell(&rt, rt.alloc(), row, takes, 1);
 }
