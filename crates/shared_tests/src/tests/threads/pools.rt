@@ -59,8 +59,8 @@ fn marked(marks: &Marks, number: u32) -> u64 {
     }
 }
 
-/// Takes a bucket, by a round or by a pass, `times` times, and goes on where it is refused. Where it `returns` its buckets it tells
-/// how often one was somebody else's, or none of the eight; where it drops the tokens, how many it took.
+/// Takes a bucket, by a round or by a pass, `times` times, and goes on where it is refused. Where it `returns` its buckets it
+/// tells how often one was somebody else's, or none of the eight; where it drops the tokens, how many it took.
 #[derive(Drop)]
 struct Takes {
     marks: Marks,
@@ -182,7 +182,8 @@ fn threads_pool_dropped_tokens(rt: HostRuntime) {
     };
     let calls =
         "meet-all = met; take 0 48 4 = bucket 2 4352 48; take 0 48 4 = bucket 3 4480 48; take 0 48 4 = bucket 4 4608 48; \
-        take 0 48 4 = bucket 5 4736 48; take 0 48 4 = bucket 6 4864 48; take 0 48 4 = bucket 7 4992 48; take 0 48 4 = OutOfMemory";
+        take 0 48 4 = bucket 5 4736 48; take 0 48 4 = bucket 6 4864 48; take 0 48 4 = bucket 7 4992 48; \
+        take 0 48 4 = OutOfMemory";
     let row = ("dropped tokens", "pool 4096 1024 2", calls);
     all_tell(&rt, rt.alloc(), row, takes, 1);
 }
