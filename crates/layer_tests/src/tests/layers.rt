@@ -339,7 +339,7 @@ impl<A: Allocator + Drop> Growing<A> {
 }
 
 impl<A: Allocator + Drop> Layer for Growing<A> {
-    /// `push BYTE`, `len`, `held` (the bytes of the chunk that the vector began with), `copied` (the bytes of a chunk of four after
+    /// `push BYTE`, `len`, `held` (the bytes of the chunk that the vector began with), `copied` (those of a chunk of four, after
     /// a copy to it).
     fn answer(&mut self, call: Words<'_>) -> Words<'static> {
         match call.0 {

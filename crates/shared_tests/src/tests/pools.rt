@@ -90,8 +90,8 @@ impl Pool {
         }
     }
 
-    /// Returns the first place (of at most a constant of buckets 0), the buckets, the bucket size, the alignment, the size and the
-    /// parties.
+    /// Returns the first place (of at most a constant of buckets 0), the buckets, the bucket size, the alignment, the size and
+    /// the parties.
     pub(super) fn figures(&self) -> [usize; 6] {
         let (first, buckets, [bucket, align, size], parties) = match &self.form {
             Form::Whole(pool) => (

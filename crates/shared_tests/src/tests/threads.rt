@@ -1,5 +1,5 @@
-//! Threads over one shared allocator, each row by its name. Each thread is handed a party, and hands it back with what it saw; the
-//! join promises that the party is still this allocator's.
+//! Threads over one shared allocator, each row by its name. Each thread is handed a party, and hands it back with what it saw.
+//! The join promises that the party is still this allocator's.
 ghost use Rattle.std.specs.Prelude.{◌≡◌, All, IfOk};
 ghost use Rattle.std.specs.Arc.{arc_value};
 

@@ -35,7 +35,7 @@ impl<'a> Model for User<'a> {
     ghost invariant = { λ u. IfSome u.kept (IsKeptBy u.party.allocator u.party) };
 }
 
-/// The users of a pool, and the detached buckets that are on their way.
+/// The users of a pool, and a stack of detached buckets.
 #[derive(Drop)]
 struct Users<'a> {
     pool: &'a Pool,
@@ -218,12 +218,12 @@ impl<'a> Users<'a> {
             detached: Vec::with_capacity(alloc, 2)?,
             parties,
         };
-        users.sit_down();
+        users.all_come();
         Ok(users)
     }
 
-    /// Makes a user of each party that has met.
-    fn sit_down(&mut self) {
+    /// Makes a user of each party, in their order.
+    fn all_come(&mut self) {
         for _ in 0..self.parties.len() {
             self.one_comes();
         }
@@ -266,7 +266,7 @@ impl<'a> Users<'a> {
         alone("met")
     }
 
-    /// Puts a bucket on its way.
+    /// Detaches the bucket whose token a user keeps, and puts it on the stack.
     fn detach(&mut self, at: usize) -> Words<'static> {
         let Some(user) = self.users.get_mut(at) else {
             return alone("no-party");
@@ -281,7 +281,7 @@ impl<'a> Users<'a> {
         ("detached", [told.0, told.1, 0, 0, 0, 0])
     }
 
-    /// Attaches the bucket that was put on its way last.
+    /// Attaches the bucket on top of the stack.
     fn attach(&mut self, at: usize) -> Words<'static> {
         let Some(detached) = self.detached.pop() else {
             return alone("none");

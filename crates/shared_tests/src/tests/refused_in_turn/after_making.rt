@@ -2,9 +2,9 @@
 //! too, that comes after the making. Where a maker's request is refused, the row is made once more.
 use crate::tests::{bumps, users};
 
-/// `NAME | bump START SIZE USED PARTIES | CALL = ANSWER; .. | BY START SIZE USED`. The first number of a call is its party. `meet A` is a
-/// meeting of the last party and party A, `meet-all` one of all. At the end the bump is handed back by the `last` party, or by
-/// `all`, with these figures.
+/// `NAME | bump START SIZE USED PARTIES | CALL = ANSWER; .. | BY START SIZE USED`. The first number of a call is its party.
+/// `meet A` is a meeting of the last party and party A, `meet-all` one of all. At the end the bump is handed back by the `last`
+/// party, or by `all`, with these figures.
 const BUMPS: &str = "\
 share-two-parties | bump 4096 64 0 2 | number 0 = is 0; number 1 = is 1; alloc 0 40 1 = chunk 4096 40; used 1 = is 40; \
     alloc 1 40 1 = OutOfMemory; alloc 1 0 1 = SizeIsZero | last 4096 64 40
@@ -28,11 +28,11 @@ fn shared_bumps(rt: HostRuntime) {
     }
 }
 
-/// `NAME | MAKER START SIZE PARTIES MOST | CALL = ANSWER; ..`. Buckets have 128 bytes at multiples of 8. A `pool` has all that the
-/// region has room for, a `most` at most MOST, a `four` at most the constant 4. The first number of a call is its party.
+/// `NAME | MAKER START SIZE PARTIES MOST | CALL = ANSWER; ..`. Buckets have 128 bytes at multiples of 8. A `pool` has all that
+/// the region has room for, a `most` at most MOST, a `four` at most the constant 4. The first number of a call is its party.
 ///
 /// `take` makes a pass and `near` a round; `keep` and `keep-near` keep the token in place of the one that was. `detach` puts the
-/// kept token's bucket upon those on their way, and `attach` takes the uppermost. `figures` are the first place (of a `four` 0),
+/// kept token's bucket on a stack; `attach` takes the top, and `drop` drops it. `figures` are the first place (of a `four` 0),
 /// the buckets, the bucket size, the alignment, the size and the parties.
 const POOLS: &str = "\
 shared-pool-dropped-bucket | pool 4096 256 1 | number 0 = is 0; keep 0 48 4 = bucket 0 4096 48; take 0 48 4 = bucket 1 4224 48; \

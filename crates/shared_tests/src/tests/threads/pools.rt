@@ -59,8 +59,8 @@ fn marked(marks: &Marks, number: u32) -> u64 {
     }
 }
 
-/// Takes a bucket, by a round or by a pass, `times` times, and goes on where it is refused. Where it `returns` its buckets it tells
-/// how often one was somebody else's, or none of the eight; where it drops the tokens, how many it took.
+/// Takes a bucket, by a round or by a pass, `times` times, and goes on where it is refused. Where it `returns` its buckets it
+/// tells how often one was somebody else's, or none of the eight; where it drops the tokens, how many it took.
 #[derive(Drop)]
 struct Takes {
     marks: Marks,
@@ -170,41 +170,20 @@ fn threads_pool_near_few_buckets(rt: HostRuntime) {
     );
 }
 
-/// Takes a bucket in each thread, and drops the token.
-fn take_and_drop(rt: &(impl Threads + Abort), alloc: Global, near: bool, row: (&str, &str, &str)) {
-    let takes = Takes {
-        marks: no_marks(),
-        near,
-        returns: false,
-        layout: layout(rt, 48, 4),
-        times: 1,
-    };
-    all_tell(rt, alloc, row, takes, 1);
-}
-
+/// Each of two threads takes a bucket and drops the token.
 #[test]
 fn threads_pool_dropped_tokens(rt: HostRuntime) {
+    let takes = Takes {
+        marks: no_marks(),
+        near: false,
+        returns: false,
+        layout: layout(&rt, 48, 4),
+        times: 1,
+    };
     let calls =
         "meet-all = met; take 0 48 4 = bucket 2 4352 48; take 0 48 4 = bucket 3 4480 48; take 0 48 4 = bucket 4 4608 48; \
-        take 0 48 4 = bucket 5 4736 48; take 0 48 4 = bucket 6 4864 48; take 0 48 4 = bucket 7 4992 48; take 0 48 4 = OutOfMemory";
-    take_and_drop(
-        &rt,
-        rt.alloc(),
-        false,
-        ("by passes", "pool 4096 1024 2", calls),
-    );
-}
-
-/// Each of three threads takes the first bucket of its own part.
-#[test]
-fn threads_pool_near_dropped_tokens(rt: HostRuntime) {
-    let calls =
-        "meet 0 = met; take 0 48 4 = bucket 1 4224 48; take 0 48 4 = bucket 3 4480 48; take 0 48 4 = bucket 4 4608 48; \
-        take 0 48 4 = bucket 6 4864 48; take 0 48 4 = bucket 7 4992 48; take 0 48 4 = OutOfMemory";
-    take_and_drop(
-        &rt,
-        rt.alloc(),
-        true,
-        ("by rounds", "pool 4096 1024 3", calls),
-    );
+        take 0 48 4 = bucket 5 4736 48; take 0 48 4 = bucket 6 4864 48; take 0 48 4 = bucket 7 4992 48; \
+        take 0 48 4 = OutOfMemory";
+    let row = ("dropped tokens", "pool 4096 1024 2", calls);
+    all_tell(&rt, rt.alloc(), row, takes, 1);
 }

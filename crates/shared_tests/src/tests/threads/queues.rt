@@ -235,8 +235,8 @@ fn two_of(alloc: Global) -> Option<(SharedPoolAllocator, PoolParty, PoolParty)>
     Some((pool, first, second))
 }
 
-/// Sends a thousand messages in two buckets: each arrives, both buckets are free in the end, and there is no third. Returns `None`
-/// where memory was refused.
+/// Sends a thousand messages in two buckets: each arrives, both buckets are free in the end, and there is no third. Returns
+/// `None` where memory was refused.
 fn a_thousand<R: Threads + Abort + Sync>(rt: &R, alloc: Global) -> Option<()> {
     let (pool, sender, receiver) = two_of(alloc)?;
     let told = through_a_queue(rt, alloc, &pool, sender, receiver, layout(rt, 48, 4)).ok()?;
