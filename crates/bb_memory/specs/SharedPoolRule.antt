@@ -5,7 +5,7 @@ use mathlib.Core.Path.{refl}
 use native.Mathlib.Nat.{zero-lt-suc}
 use Rattle.atomic_table.specs.Seated.{TableId}
 use Rattle.atomic_table.specs.Table.{State, Me}
-use Rattle.bb_memory_base.specs.Region.{IsRegion, region_at}
+use Rattle.bb_memory_base.specs.Chunk.{IsRegion, region_at}
 use Rattle.bb_memory_base.specs.PoolGeometry.{pool_geometry}
 use Rattle.bb_memory_base.specs.PoolMachine.{PoolScene}
 use Rattle.bb_memory_base.specs.PoolHistory.{PoolEntry, PoolLog}

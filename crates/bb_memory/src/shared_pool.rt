@@ -1,8 +1,7 @@
 //! Pools that threads share: each call takes its pool by `&`, and steps on one atomic flag for each bucket.
 ghost use Rattle.std.specs.Prelude.{◌≡◌, ◌≢◌, ◌<◌, ◌≤◌, ℕ, List};
 ghost use Rattle.std.specs.Prelude.{IfOk, IfErr, ◌++◌, ◌⊎◌};
-ghost use Rattle.bb_memory_base.specs.Region.{region_at};
-ghost use Rattle.bb_memory_base.specs.Chunk.{AreApart, Chunk};
+ghost use Rattle.bb_memory_base.specs.Chunk.{region_at, AreApart, Chunk};
 ghost use Rattle.bb_memory_base.specs.LiveList.{IsSound};
 ghost use Rattle.bb_memory_base.specs.FirstPlace.{first_place};
 ghost use Rattle.bb_memory_base.specs.PoolGeometry.{IsCut};

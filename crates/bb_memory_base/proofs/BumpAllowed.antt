@@ -3,13 +3,12 @@ use Rattle.std.proofs.Common.{◌≡◌, ℕ, ◌<◌, ◌≤◌, List, [], ◌�
 use Rattle.std.specs.Prelude.{slice_get, ◌==◌, if◌then◌else◌, is_some}
 use Rattle.std.proofs.lemmas.List.{length-replicate}
 use Rattle.std.proofs.lemmas.List.Elements.{All-head, All-nil, All-tail}
-use Rattle.bb_memory_base.specs.Region.{Region}
-use Rattle.bb_memory_base.specs.BumpMachine.{OngoingCall, BumpState, BumpMove, BumpScene, opening_state, bump_step}
+use Rattle.bb_memory_base.specs.Chunk.{Region}
+use Rattle.bb_memory_base.specs.BumpMachine.{OngoingCall, BumpState, BumpMove, BumpScene, opening_state, bump_step, BumpStep}
+use Rattle.bb_memory_base.specs.BumpMachine.{Read, Exchange, Load, Clear}
 use Rattle.bb_memory_base.specs.BumpHistory.{BumpEntry, BumpLog, entry_at, bump_history}
 use Rattle.bb_memory_base.specs.BumpHistory.{history_of, is_by, entries_by, log_of, HasNoClear}
 use Rattle.bb_memory_base.specs.BumpLogs.{IsAllowed, AllAllowed}
-use Rattle.bb_memory_base.specs.declared.steps.bump.BumpStep.{BumpStep}
-use Rattle.bb_memory_base.specs.declared.steps.bump.BumpStep.TheVariants.{Read, Exchange, Load, Clear}
 use Rattle.bb_memory_base.proofs.SliceGets.{length-set_at, slice_get-some}
 use Rattle.bb_memory_base.proofs.BumpSteps.{test_apart, StepView, step_view, sees, refuses_read}
 use Rattle.bb_memory_base.proofs.BumpSteps.{wins, loses, refuses_loss, loads, clears, passes}

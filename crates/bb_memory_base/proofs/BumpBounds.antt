@@ -2,10 +2,8 @@
 use Rattle.std.proofs.Common.{◌≡◌, ℕ, ◌≤◌, List, [], ◌∷◌, ◌++◌, refl, sym, ap, ◌∙◌, arith, Option}
 use Rattle.std.proofs.lemmas.Bool.{leb-true}
 use Rattle.std.proofs.lemmas.List.{append_assoc}
-use Rattle.bb_memory_base.specs.Region.{Region, region_end}
-use Rattle.bb_memory_base.specs.Chunk.{Chunk, chunk_end}
-use Rattle.bb_memory_base.specs.declared.steps.bump.BumpStep.{BumpStep}
-use Rattle.bb_memory_base.specs.BumpMachine.{BumpScene, OngoingCall, IsInCall, chunk_at, left_by}
+use Rattle.bb_memory_base.specs.Chunk.{Region, region_end, Chunk, chunk_end}
+use Rattle.bb_memory_base.specs.BumpMachine.{BumpStep, BumpScene, OngoingCall, IsInCall, chunk_at, left_by}
 use Rattle.bb_memory_base.specs.BumpHistory.{BumpLog, won_at, chunks_won}
 use Rattle.bb_memory_base.specs.BumpLogs.{call_after, call_through, greatest_in, greater_of, position_in}
 use Rattle.bb_memory_base.proofs.LiveLists.{StandsFor-within}

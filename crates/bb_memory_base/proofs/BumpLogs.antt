@@ -5,20 +5,15 @@ use Rattle.std.specs.Prelude.{slice_get, slice_set, ◌==◌, if◌then◌else�
 use Rattle.std.specs.List.{All, AllByRecursion}
 use Rattle.std.proofs.lemmas.List.Elements.{All-push, recursion_from_All}
 use Rattle.std.proofs.lemmas.Option.{same_Some}
-use Rattle.bb_memory_base.specs.Region.{Region}
-use Rattle.bb_memory_base.specs.Chunk.{Chunk}
-use Rattle.bb_memory_base.specs.BumpMachine.{OngoingCall, BumpState, BumpMove, BumpScene, opening_state, chunk_at}
-use Rattle.bb_memory_base.specs.BumpMachine.{fits, position_behind, read_move, exchange_move, ending, seeing}
-use Rattle.bb_memory_base.specs.BumpMachine.{passed, moved, read, exchange, load, bump_step, bump_after, left_by}
+use Rattle.bb_memory_base.specs.Chunk.{Region, Chunk, Layout}
+use Rattle.bb_memory_base.specs.BumpMachine.{OngoingCall, BumpState, BumpMove, BumpScene, opening_state, chunk_at, fits}
+use Rattle.bb_memory_base.specs.BumpMachine.{position_behind, read_move, exchange_move, ending, seeing, passed, moved, read}
+use Rattle.bb_memory_base.specs.BumpMachine.{exchange, load, bump_step, bump_after, left_by, BumpStep, Read, Exchange, Load, Sees}
+use Rattle.bb_memory_base.specs.BumpMachine.{RefusedAtRead, Wins, Loses, RefusedAtLoss, Loaded}
 use Rattle.bb_memory_base.specs.BumpHistory.{BumpEntry, BumpLog, entry_of, entry_at}
 use Rattle.bb_memory_base.specs.BumpHistory.{bump_history, history_of, is_by, entries_by, log_of}
 use Rattle.bb_memory_base.specs.BumpLogs.{seen_at, call_after, call_through, call_in}
 use Rattle.bb_memory_base.specs.BumpLogs.{IsAllowed, AllAllowed, HasLog, LogsAgree, with_entry}
-use Rattle.bb_memory_base.specs.declared.layout.Layout.{Layout}
-use Rattle.bb_memory_base.specs.declared.steps.bump.BumpStep.{BumpStep}
-use Rattle.bb_memory_base.specs.declared.steps.bump.BumpStep.TheVariants.{Read, Exchange, Load}
-use Rattle.bb_memory_base.specs.declared.steps.bump.BumpOutcome.TheVariants.{Sees, RefusedAtRead, Wins}
-use Rattle.bb_memory_base.specs.declared.steps.bump.BumpOutcome.TheVariants.{Loses, RefusedAtLoss, Loaded}
 use Rattle.bb_memory_base.proofs.SliceGets.{slice_get-set_other, slice_get-set_same, slice_get-replicate}
 use Rattle.bb_memory_base.proofs.BumpAllowed.{none_allowed}
 use Rattle.bb_memory_base.proofs.BumpSteps.{same_from_test, test_same, test_apart, StepView, step_view, sees, refuses_read}

@@ -4,13 +4,11 @@ use Rattle.std.proofs.Common.{sym, ap, ◌∙◌, subst, arith, Bool, true, fals
 use Rattle.std.specs.Prelude.{if◌then◌else◌, count_by}
 use Rattle.std.proofs.lemmas.List.Sums.{sum_by-cons}
 use Rattle.std.proofs.lemmas.Option.{same_Some}
-use Rattle.bb_memory_base.specs.Region.{Region}
-use Rattle.bb_memory_base.specs.BumpMachine.{OngoingCall, BumpState, BumpMove, BumpScene, IsIdle}
-use Rattle.bb_memory_base.specs.BumpMachine.{IsInCall, opening_state, bump_step, bump_after, left_by}
+use Rattle.bb_memory_base.specs.Chunk.{Region}
+use Rattle.bb_memory_base.specs.BumpMachine.{OngoingCall, BumpState, BumpMove, BumpScene, IsIdle, IsInCall, opening_state}
+use Rattle.bb_memory_base.specs.BumpMachine.{bump_step, bump_after, left_by, BumpStep, Exchange}
 use Rattle.bb_memory_base.specs.BumpHistory.{BumpEntry, BumpLog, entry_at, bump_history, stretch_after, outcome_after, entries_by}
 use Rattle.bb_memory_base.specs.BumpHistory.{is_by, HasNoClear, is_loss, is_beginning, IsLossAt, losses_in, calls_begun_in}
-use Rattle.bb_memory_base.specs.declared.steps.bump.BumpStep.{BumpStep}
-use Rattle.bb_memory_base.specs.declared.steps.bump.BumpStep.TheVariants.{Exchange}
 use Rattle.bb_memory_base.proofs.LiveLists.{StandsFor-within}
 use Rattle.bb_memory_base.proofs.BumpSteps.{test_same, StepView, step_view, sees, refuses_read, wins}
 use Rattle.bb_memory_base.proofs.BumpSteps.{loses, refuses_loss, loads, clears, passes, others_stay, written}

@@ -5,16 +5,14 @@ use Rattle.std.specs.Prelude.{if◌then◌else◌, IfSome}
 use Rattle.std.specs.List.{All, AllByRecursion}
 use Rattle.std.proofs.lemmas.List.{length-replicate}
 use Rattle.std.proofs.lemmas.List.Elements.{All-from_recursion}
-use Rattle.bb_memory_base.specs.Region.{Region}
-use Rattle.bb_memory_base.specs.Chunk.{Chunk}
+use Rattle.bb_memory_base.specs.Chunk.{Region, Chunk}
 use Rattle.bb_memory_base.specs.BumpObject.{StandsFor}
-use Rattle.bb_memory_base.specs.BumpMachine.{OngoingCall, BumpState, BumpMove, BumpScene, IsInCall}
-use Rattle.bb_memory_base.specs.BumpMachine.{IsFitting, opening_state, bump_step, bump_after, left_by}
+use Rattle.bb_memory_base.specs.BumpMachine.{OngoingCall, BumpState, BumpMove, BumpScene, IsInCall, IsFitting, opening_state}
+use Rattle.bb_memory_base.specs.BumpMachine.{bump_step, bump_after, left_by, BumpStep}
 use Rattle.bb_memory_base.specs.BumpHistory.{BumpEntry, BumpLog, entry_at, bump_history, history_of, is_by, entries_by}
 use Rattle.bb_memory_base.specs.BumpCalls.{OpensWith, live_after}
 use Rattle.bb_memory_base.specs.BumpLogs.{IsAllowed, AllAllowed, HasLog, LogsAgree, Interleaving, CommonInterleaving}
 use Rattle.bb_memory_base.specs.BumpLogs.{HasPositionUpTo, position_in, greater_of, greatest_in, seen_in, call_in}
-use Rattle.bb_memory_base.specs.declared.steps.bump.BumpStep.{BumpStep}
 use Rattle.bb_memory_base.proofs.LiveLists.{StandsFor-within}
 use Rattle.bb_memory_base.proofs.SliceGets.{slice_get-replicated, slice_get-single}
 use Rattle.bb_memory_base.proofs.BumpSteps.{test_same, StepView, step_view, sees, refuses_read}

@@ -3,16 +3,12 @@ use Rattle.std.proofs.Common.{◌≡◌, ◌≢◌, ℕ, ◌<◌, refl, sym, ap,
 use Rattle.std.specs.Prelude.{slice_get, slice_set, ◌==◌, if◌then◌else◌, IfSome}
 use Rattle.std.proofs.lemmas.Bool.Decides.{nat_tests}
 use Rattle.std.proofs.lemmas.Option.{same_Some}
-use Rattle.bb_memory_base.specs.Region.{Region}
-use Rattle.bb_memory_base.specs.BumpMachine.{OngoingCall, BumpState, BumpMove, IsIdle, IsInCall}
-use Rattle.bb_memory_base.specs.BumpMachine.{IsFitting, AllFitting, chunk_at, fits, position_behind, ending}
-use Rattle.bb_memory_base.specs.BumpMachine.{seeing, passed, moved, read, exchange, load, bump_step}
+use Rattle.bb_memory_base.specs.Chunk.{Region, Layout}
+use Rattle.bb_memory_base.specs.BumpMachine.{OngoingCall, BumpState, BumpMove, IsIdle, IsInCall, IsFitting, AllFitting, chunk_at}
+use Rattle.bb_memory_base.specs.BumpMachine.{fits, position_behind, ending, seeing, passed, moved, read, exchange, load}
+use Rattle.bb_memory_base.specs.BumpMachine.{bump_step, BumpStep, Read, Exchange, Load, Clear, Sees, RefusedAtRead, Wins, Loses}
+use Rattle.bb_memory_base.specs.BumpMachine.{RefusedAtLoss, Loaded, Cleared}
 use Rattle.bb_memory_base.specs.BumpHistory.{is_by}
-use Rattle.bb_memory_base.specs.declared.layout.Layout.{Layout}
-use Rattle.bb_memory_base.specs.declared.steps.bump.BumpStep.{BumpStep}
-use Rattle.bb_memory_base.specs.declared.steps.bump.BumpStep.TheVariants.{Read, Exchange, Load, Clear}
-use Rattle.bb_memory_base.specs.declared.steps.bump.BumpOutcome.TheVariants.{Sees, RefusedAtRead, Wins, Loses}
-use Rattle.bb_memory_base.specs.declared.steps.bump.BumpOutcome.TheVariants.{RefusedAtLoss, Loaded, Cleared}
 use Rattle.bb_memory_base.proofs.SliceGets.{slice_get-set, slice_get-set_other, slice_get-set_same}
 
 -- TESTS OF NUMBERS

@@ -1,16 +1,12 @@
 -- Stretches of steps with no clear: the position rises, and the chunks won are a sound list.
 use Rattle.std.proofs.Common.{◌≡◌, ◌≤◌, List, [], ◌∷◌, ◌++◌, append_assoc, append-nil, sym, ap, ◌∙◌, subst, arith}
-use Rattle.bb_memory_base.specs.Region.{Region}
-use Rattle.bb_memory_base.specs.Chunk.{Chunk}
+use Rattle.bb_memory_base.specs.Chunk.{Region, Chunk}
 use Rattle.bb_memory_base.specs.LiveList.{IsSound}
 use Rattle.bb_memory_base.specs.BumpObject.{end_of_last, StandsFor}
-use Rattle.bb_memory_base.specs.BumpMachine.{BumpState, BumpMove, BumpScene, AllFitting, chunk_at}
-use Rattle.bb_memory_base.specs.BumpMachine.{opening_state, bump_step, bump_after, left_by}
+use Rattle.bb_memory_base.specs.BumpMachine.{BumpState, BumpMove, BumpScene, AllFitting, chunk_at, opening_state, bump_step}
+use Rattle.bb_memory_base.specs.BumpMachine.{bump_after, left_by, BumpStep, Read, Exchange, Load, Clear, Wins, RefusedAtLoss}
 use Rattle.bb_memory_base.specs.BumpHistory.{bump_history, history_of, stretch_after, HasNoClear, won_at, chunks_won}
 use Rattle.bb_memory_base.specs.BumpCalls.{asked_by, bump_calls, decided, layout_in, left_by_calls, live_after}
-use Rattle.bb_memory_base.specs.declared.steps.bump.BumpStep.{BumpStep}
-use Rattle.bb_memory_base.specs.declared.steps.bump.BumpStep.TheVariants.{Read, Exchange, Load, Clear}
-use Rattle.bb_memory_base.specs.declared.steps.bump.BumpOutcome.TheVariants.{Wins, RefusedAtLoss}
 use Rattle.bb_memory_base.proofs.LiveLists.{end_of_last-above, end_of_last-append, in_order-rest}
 use Rattle.bb_memory_base.proofs.LiveLists.{sound_from_order, stands_for_some, StandsFor-end, StandsFor-within}
 use Rattle.bb_memory_base.proofs.BumpSteps.{StepView, step_view, sees, refuses_read, wins, loses}

@@ -9,7 +9,7 @@ use Rattle.std.specs.Align.{IsLayout}
 use Rattle.std.specs.Int.{IsPowerOfTwo}
 use mathlib.Core.HLevel.{is_prop→PathP}
 use Rattle.bb_memory_base.specs.LeastPlace.{least_place}
-use Rattle.bb_memory_base.specs.declared.layout.Layout.{Layout}
+use Rattle.bb_memory_base.specs.Chunk.{Layout}
 use Rattle.bb_memory_base.proofs.PowersOfTwo.{power_of_two-from_test, power_of_two-test, power_of_two-positive}
 
 -- a layout is a power of two, and a size that is small enough once it is rounded up to that

@@ -5,8 +5,7 @@ use Rattle.std.specs.Prelude.{All, map, slice_get, slice_set}
 use Rattle.std.proofs.lemmas.Bool.{cases_lt}
 use Rattle.std.proofs.lemmas.List.{map-append, get_or_append_left, get_or_push, length_push}
 use Rattle.std.proofs.lemmas.Option.{slice_get_within, get_or_from_slice_get}
-use Rattle.bb_memory_base.specs.Region.{Region}
-use Rattle.bb_memory_base.specs.Chunk.{Chunk, IsInside, AreApart}
+use Rattle.bb_memory_base.specs.Chunk.{Region, Chunk, IsInside, AreApart}
 use Rattle.bb_memory_base.specs.LiveList.{IsSound}
 use Rattle.bb_memory_base.specs.HeldBytes.{HeldBytes, held_region, bytes_in, ChangesOnly}
 use Rattle.bb_memory_base.proofs.ApartBytes.{apart-kept}

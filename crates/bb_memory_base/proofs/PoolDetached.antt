@@ -5,14 +5,10 @@ use Rattle.std.specs.Prelude.{◌⊎◌, Any, slice_get, slice_set}
 use Rattle.std.proofs.lemmas.Bool.{cases_eq}
 use Rattle.std.proofs.lemmas.Option.{same_Some}
 use Rattle.std.proofs.lemmas.List.{length-replicate}
-use Rattle.bb_memory_base.specs.PoolMachine.{PoolScene, PoolState, PoolMove, IsFlag, IsHolder, IsDetached, IsTaken}
-use Rattle.bb_memory_base.specs.PoolMachine.{pool_step, pool_after, opening_state, left_by}
+use Rattle.bb_memory_base.specs.PoolMachine.{PoolScene, PoolState, PoolMove, IsFlag, IsHolder, IsDetached, IsTaken, pool_step}
+use Rattle.bb_memory_base.specs.PoolMachine.{pool_after, opening_state, left_by, Flag, Free, HeldBy, Detached, PoolStep, Detaches}
 use Rattle.bb_memory_base.specs.PoolHistory.{PoolEntry, PoolLog, entry_of, history_of, pool_history}
 use Rattle.bb_memory_base.specs.PoolLogs.{WasDetached}
-use Rattle.bb_memory_base.specs.declared.steps.pool.Flag.{Flag}
-use Rattle.bb_memory_base.specs.declared.steps.pool.Flag.TheVariants.{Free, HeldBy, Detached}
-use Rattle.bb_memory_base.specs.declared.steps.pool.PoolStep.{PoolStep}
-use Rattle.bb_memory_base.specs.declared.steps.pool.PoolOutcome.TheVariants.{Detaches}
 use Rattle.bb_memory_base.proofs.SliceSets.{slice_get-set_other, slice_get-set_same}
 use Rattle.bb_memory_base.proofs.PoolSteps.{StepKind, takes, takes_at, loses, is_refused, gives, misses, passes}
 use Rattle.bb_memory_base.proofs.PoolSteps.{detaches, attaches, calls-step, kind_of}

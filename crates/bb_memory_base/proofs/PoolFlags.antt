@@ -4,10 +4,8 @@ use Rattle.std.proofs.Common.{Some, None}
 use Rattle.std.proofs.Common.{inl, inr}
 use Rattle.std.specs.Prelude.{◌⊎◌, slice_get, slice_set}
 use Rattle.std.proofs.lemmas.Option.{same_Some, slice_get_within}
-use Rattle.bb_memory_base.specs.PoolMachine.{PoolState, IsFlag, IsTaken}
+use Rattle.bb_memory_base.specs.PoolMachine.{PoolState, IsFlag, IsTaken, Flag, Free, HeldBy, Detached}
 use Rattle.bb_memory_base.specs.PoolLogs.{is_taken, taken_flags}
-use Rattle.bb_memory_base.specs.declared.steps.pool.Flag.{Flag}
-use Rattle.bb_memory_base.specs.declared.steps.pool.Flag.TheVariants.{Free, HeldBy, Detached}
 
 -- a flag, and whether it is taken
 data Shows : Option Flag → Option Bool → Type 0 where

@@ -3,10 +3,9 @@ use Rattle.std.proofs.Common.{◌≡◌, ◌≢◌, ℕ, ◌+◌, ◌-◌, ◌*�
 use Rattle.std.proofs.lemmas.Bool.{cases_lt}
 use Rattle.std.proofs.lemmas.Nat.{le-div, div-add-mod', mod-mul-add}
 use Rattle.std.proofs.Math.Nat.{mul_assoc, mul-add-mod_self_right}
-use Rattle.bb_memory_base.specs.Region.{Region, region_end}
+use Rattle.bb_memory_base.specs.Chunk.{Region, region_end, Layout}
 use Rattle.bb_memory_base.specs.FirstPlace.{first_place}
 use Rattle.bb_memory_base.specs.PoolGeometry.{PoolGeometry, pool_geometry, stride, bucket_place, FillsRegion, IsPoolGeometry}
-use Rattle.bb_memory_base.specs.declared.layout.Layout.{Layout}
 use Rattle.bb_memory_base.proofs.LeastPlaces.{least_place-is}
 
 -- a stride is at least the bucket's size

@@ -8,12 +8,11 @@ use Rattle.std.proofs.lemmas.Bool.Decides.{nat_tests}
 use Rattle.std.proofs.lemmas.Option.{same_Some, slice_get-get_or}
 use Rattle.std.proofs.lemmas.List.Elements.{All-push, All-from_recursion, recursion_from_All}
 use Rattle.std.proofs.lemmas.List.Quantifiers.{all_pairs_push, all_pairs_remove}
-use Rattle.bb_memory_base.specs.Chunk.{Chunk, IsInside, AreApart}
+use Rattle.bb_memory_base.specs.Chunk.{Chunk, IsInside, AreApart, Layout}
 use Rattle.bb_memory_base.specs.LiveList.{IsSound}
 use Rattle.bb_memory_base.specs.ResizableObject.{PlacesDiffer}
 use Rattle.bb_memory_base.specs.PoolGeometry.{PoolGeometry, bucket_place, IsPoolGeometry}
 use Rattle.bb_memory_base.specs.PoolObject.{IsAt, MayGive, chunk_in}
-use Rattle.bb_memory_base.specs.declared.layout.Layout.{Layout}
 use Rattle.bb_memory_base.proofs.PoolGeometries.{stride-above, first_place-above, bucket_place-after}
 use Rattle.bb_memory_base.proofs.PoolSteps.{same_from_test}
 

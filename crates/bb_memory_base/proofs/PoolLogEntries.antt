@@ -6,11 +6,9 @@ use Rattle.std.proofs.lemmas.Bool.{cases_eq}
 use Rattle.std.proofs.lemmas.Option.{same_Some}
 use Rattle.std.proofs.lemmas.List.Elements.{All-push}
 use Rattle.bb_memory_base.specs.PoolMachine.{PoolScene, PoolState, PoolMove, pool_step, pool_after, opening_state, left_by}
+use Rattle.bb_memory_base.specs.PoolMachine.{PoolStep, Try, GiveBack, TryAt, Detach, Attach, PoolOutcome}
 use Rattle.bb_memory_base.specs.PoolHistory.{entry_of, PoolLog, PoolEntry, pool_history, is_by, entries_by, history_of, log_of}
 use Rattle.bb_memory_base.specs.PoolLogs.{HasLog, pass_after, pass_in, taken_flags, IsAllowed, LogsAgree, with_entry}
-use Rattle.bb_memory_base.specs.declared.steps.pool.PoolStep.{PoolStep}
-use Rattle.bb_memory_base.specs.declared.steps.pool.PoolStep.TheVariants.{Try, GiveBack, TryAt, Detach, Attach}
-use Rattle.bb_memory_base.specs.declared.steps.pool.PoolOutcome.{PoolOutcome}
 use Rattle.bb_memory_base.proofs.SliceSets.{slice_get-same, slice_get-set_other, slice_get-set_same}
 use Rattle.bb_memory_base.proofs.PoolSteps.{IsNext, StepKind, takes, takes_at, loses, is_refused, gives, misses, detaches}
 use Rattle.bb_memory_base.proofs.PoolSteps.{attaches, passes, kind_of, next_of_idle, test_same, test_apart}

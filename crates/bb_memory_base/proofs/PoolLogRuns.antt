@@ -1,14 +1,13 @@
 -- Flags and logs that agree are a run of the pool object.
 use Rattle.std.proofs.Common.{◌≡◌, ℕ, ◌<◌, List, Bool, true}
 use Rattle.std.specs.Prelude.{◌↔◌, Some, slice_get}
-use Rattle.bb_memory_base.specs.Chunk.{Chunk}
+use Rattle.bb_memory_base.specs.Chunk.{Chunk, Layout}
 use Rattle.bb_memory_base.specs.PoolGeometry.{IsPoolGeometry}
 use Rattle.bb_memory_base.specs.PoolObject.{IsHeld}
 use Rattle.bb_memory_base.specs.PoolMachine.{PoolScene, left_by}
 use Rattle.bb_memory_base.specs.PoolHistory.{PoolLog}
 use Rattle.bb_memory_base.specs.PoolCalls.{AreAsked, IsPoolRun}
 use Rattle.bb_memory_base.specs.PoolLogs.{LogsAgree}
-use Rattle.bb_memory_base.specs.declared.layout.Layout.{Layout}
 use Rattle.bb_memory_base.proofs.PoolFlags.{taken_from_flag, flag_from_taken}
 use Rattle.bb_memory_base.proofs.PoolRuns.{pool_run, taken_is_held}
 

@@ -8,16 +8,11 @@ use Rattle.std.proofs.lemmas.List.Elements.{All-nil}
 use Rattle.bb_memory_base.specs.PoolMachine.{move_of, PoolScene, PoolState, PoolMove, IsFlag, IsHolder, IsTaken, with_pass}
 use Rattle.bb_memory_base.specs.PoolMachine.{taking, loss, return_of, passed, try_flag, try_next, give_flag, try_at, try_one}
 use Rattle.bb_memory_base.specs.PoolMachine.{IsDetached, detach_flag, detach, detaching, attach_flag, attach, attaching}
-use Rattle.bb_memory_base.specs.PoolMachine.{pool_step, left_by}
+use Rattle.bb_memory_base.specs.PoolMachine.{pool_step, left_by, Flag, Free, HeldBy, Detached, PoolStep, Try, GiveBack, TryAt}
+use Rattle.bb_memory_base.specs.PoolMachine.{Detach, Attach, Takes, Loses, RefusedAtLoss, Gives, Misses, Detaches, Attaches}
 use Rattle.bb_memory_base.specs.PoolHistory.{entry_of, PoolLog, PoolEntry}
 use Rattle.bb_memory_base.specs.PoolLogs.{HasLog, held_after, pass_in, next_bucket, loss_at}
 use Rattle.bb_memory_base.specs.PoolLogs.{is_taken, IsAllowed, IsHeldAfter, IsDetachedAfter, LogsAgree, with_entry}
-use Rattle.bb_memory_base.specs.declared.steps.pool.Flag.{Flag}
-use Rattle.bb_memory_base.specs.declared.steps.pool.Flag.TheVariants.{Free, HeldBy, Detached}
-use Rattle.bb_memory_base.specs.declared.steps.pool.PoolStep.{PoolStep}
-use Rattle.bb_memory_base.specs.declared.steps.pool.PoolStep.TheVariants.{Try, GiveBack, TryAt, Detach, Attach}
-use Rattle.bb_memory_base.specs.declared.steps.pool.PoolOutcome.TheVariants.{Takes, Loses, RefusedAtLoss, Gives, Misses}
-use Rattle.bb_memory_base.specs.declared.steps.pool.PoolOutcome.TheVariants.{Detaches, Attaches}
 use Rattle.bb_memory_base.proofs.SliceSets.{slice_get-set_other, slice_get-set_same}
 use Rattle.bb_memory_base.proofs.PoolSteps.{calls-left_by, test_below, length-left_by, test_same}
 use Rattle.bb_memory_base.proofs.PoolHolders.{holder_in_log}

@@ -7,12 +7,8 @@ use Rattle.std.proofs.lemmas.List.{length-set, length-replicate}
 use Rattle.bb_memory_base.specs.PoolMachine.{PoolScene, opening_state, left_by, move_of, PoolState, PoolMove, with_pass, IsFlag}
 use Rattle.bb_memory_base.specs.PoolMachine.{IsHolder, IsDetached, IsTaken, detaching, detach, detach_flag, attaching}
 use Rattle.bb_memory_base.specs.PoolMachine.{attach_flag, attach, taking, return_of, passed, try_flag, try_next, give_flag}
-use Rattle.bb_memory_base.specs.PoolMachine.{try_at, try_one, pool_step, pool_after}
-use Rattle.bb_memory_base.specs.declared.steps.pool.Flag.{Flag}
-use Rattle.bb_memory_base.specs.declared.steps.pool.Flag.TheVariants.{Free, HeldBy, Detached}
-use Rattle.bb_memory_base.specs.declared.steps.pool.PoolStep.{PoolStep}
-use Rattle.bb_memory_base.specs.declared.steps.pool.PoolStep.TheVariants.{Try, GiveBack, TryAt, Detach, Attach}
-use Rattle.bb_memory_base.specs.declared.steps.pool.PoolOutcome.TheVariants.{Loses, RefusedAtLoss, Misses}
+use Rattle.bb_memory_base.specs.PoolMachine.{try_at, try_one, pool_step, pool_after, Flag, Free, HeldBy, Detached, PoolStep, Try}
+use Rattle.bb_memory_base.specs.PoolMachine.{GiveBack, TryAt, Detach, Attach, Loses, RefusedAtLoss, Misses}
 
 -- the party's pass is at this bucket, or begins there
 pub record IsNext (state : PoolState) (party bucket : ℕ) : Type 0 where

@@ -1,9 +1,8 @@
 -- Runs, one step longer, and what each step of one keeps.
 use Rattle.std.proofs.Common.{◌≡◌, zero, suc, List, [], ◌∷◌, ◌++◌, length, refl, sym, ap, ◌∙◌, subst, arith}
 use Rattle.std.proofs.lemmas.List.Sums.{fold_push}
-use Rattle.bb_memory_base.specs.Chunk.{Chunk}
+use Rattle.bb_memory_base.specs.Chunk.{Chunk, Layout}
 use Rattle.bb_memory_base.specs.Run.{IsRun, EachGiven, note_after_command, note_after_run}
-use Rattle.bb_memory_base.specs.declared.layout.Layout.{Layout}
 use Rattle.bb_memory_base.specs.declared.allocator.Command.{Command}
 use Rattle.bb_memory_base.specs.declared.allocator.Command.TheVariants.{Allocate}
 use Rattle.bb_memory_base.specs.declared.allocator.Reply.{Reply}

@@ -1,17 +1,10 @@
 -- The calls of the bump object that a list of steps makes: each at the step that decides it.
 use Rattle.std.specs.Prelude.{◌≡◌, List, [], ◌∷◌, ◌++◌, Option, Some, None, Result, Ok, Err, slice_get}
-use Rattle.bb_memory_base.specs.Region.{Region}
-use Rattle.bb_memory_base.specs.Chunk.{Chunk}
+use Rattle.bb_memory_base.specs.Chunk.{Region, Chunk, Layout, AllocationError, OutOfMemory}
 use Rattle.bb_memory_base.specs.Object.{Allocates, appended}
 use Rattle.bb_memory_base.specs.BumpObject.{bump_object, StandsFor}
-use Rattle.bb_memory_base.specs.BumpMachine.{OngoingCall, BumpState, BumpScene, opening_state, bump_step, left_by}
-use Rattle.bb_memory_base.specs.declared.layout.Layout.{Layout}
-use Rattle.bb_memory_base.specs.declared.allocator.AllocationError.{AllocationError}
-use Rattle.bb_memory_base.specs.declared.allocator.AllocationError.TheVariants.{OutOfMemory}
-use Rattle.bb_memory_base.specs.declared.steps.bump.BumpStep.{BumpStep}
-use Rattle.bb_memory_base.specs.declared.steps.bump.BumpStep.TheVariants.{Read, Exchange}
-use Rattle.bb_memory_base.specs.declared.steps.bump.BumpOutcome.{BumpOutcome}
-use Rattle.bb_memory_base.specs.declared.steps.bump.BumpOutcome.TheVariants.{RefusedAtRead, Wins, RefusedAtLoss, Cleared}
+use Rattle.bb_memory_base.specs.BumpMachine.{OngoingCall, BumpState, BumpScene, opening_state, bump_step, left_by, BumpStep, Read}
+use Rattle.bb_memory_base.specs.BumpMachine.{Exchange, BumpOutcome, RefusedAtRead, Wins, RefusedAtLoss, Cleared}
 
 -- CALLS OF THE OBJECT
 

@@ -1,12 +1,8 @@
 -- Histories of the bump machine: what happened, step by step.
 use Rattle.std.specs.Prelude.{ℕ, ◌≡◌, ◌==◌, Bool, true, false, List, [], ◌∷◌, ◌++◌, filter, map, count_by}
-use Rattle.bb_memory_base.specs.Region.{Region}
-use Rattle.bb_memory_base.specs.Chunk.{Chunk}
-use Rattle.bb_memory_base.specs.BumpMachine.{BumpScene, BumpState, opening_state, left_by, bump_step}
-use Rattle.bb_memory_base.specs.declared.steps.bump.BumpStep.{BumpStep}
-use Rattle.bb_memory_base.specs.declared.steps.bump.BumpStep.TheVariants.{Read, Exchange, Load, Clear}
-use Rattle.bb_memory_base.specs.declared.steps.bump.BumpOutcome.{BumpOutcome}
-use Rattle.bb_memory_base.specs.declared.steps.bump.BumpOutcome.TheVariants.{Sees, Wins, Loses, RefusedAtLoss}
+use Rattle.bb_memory_base.specs.Chunk.{Region, Chunk}
+use Rattle.bb_memory_base.specs.BumpMachine.{BumpScene, BumpState, opening_state, left_by, bump_step, BumpStep, Read, Exchange}
+use Rattle.bb_memory_base.specs.BumpMachine.{Load, Clear, BumpOutcome, Sees, Wins, Loses, RefusedAtLoss}
 
 -- an entry: a step with what it found
 pub record BumpEntry : Type 0 where

@@ -1,14 +1,10 @@
 -- Parties' logs: what a log says of its party, and when a bump's position and its parties' logs agree.
 use Rattle.std.specs.Prelude.{ℕ, ◌≡◌, List, [], ◌∷◌, ◌++◌, Option, Some, None, All}
 use Rattle.std.specs.Prelude.{IfSome, ◌≤◌, fold, option_map, slice_get, slice_set, max}
-use Rattle.bb_memory_base.specs.Region.{Region}
-use Rattle.bb_memory_base.specs.BumpMachine.{OngoingCall, BumpScene, position_behind, left_by}
+use Rattle.bb_memory_base.specs.Chunk.{Region}
+use Rattle.bb_memory_base.specs.BumpMachine.{OngoingCall, BumpScene, position_behind, left_by, BumpStep, Read, BumpOutcome, Sees}
+use Rattle.bb_memory_base.specs.BumpMachine.{RefusedAtRead, Wins, Loses, RefusedAtLoss, Loaded, Cleared, Passed}
 use Rattle.bb_memory_base.specs.BumpHistory.{BumpEntry, BumpLog, history_of, log_of}
-use Rattle.bb_memory_base.specs.declared.steps.bump.BumpStep.{BumpStep}
-use Rattle.bb_memory_base.specs.declared.steps.bump.BumpStep.TheVariants.{Read}
-use Rattle.bb_memory_base.specs.declared.steps.bump.BumpOutcome.{BumpOutcome}
-use Rattle.bb_memory_base.specs.declared.steps.bump.BumpOutcome.TheVariants.{Sees, RefusedAtRead, Wins, Loses}
-use Rattle.bb_memory_base.specs.declared.steps.bump.BumpOutcome.TheVariants.{RefusedAtLoss, Loaded, Cleared, Passed}
 
 -- THE CALL OF A PARTY
 

@@ -2,15 +2,13 @@
 -- from 0.
 use Rattle.std.specs.Prelude.{ℕ, ◌≡◌, ◌+◌, ◌-◌, ◌<◌, ◌==◌, nat_le, Bool, true, List, [], ◌∷◌}
 use Rattle.std.specs.Prelude.{Option, Some, None, if◌then◌else◌, slice_get, slice_set, replicate}
-use Rattle.bb_memory_base.specs.Region.{Region, region_end}
-use Rattle.bb_memory_base.specs.Chunk.{Chunk, chunk_end}
+use Rattle.bb_memory_base.specs.Chunk.{Region, region_end, Chunk, chunk_end, Layout}
 use Rattle.bb_memory_base.specs.BumpObject.{chunk_at_or_after}
-use Rattle.bb_memory_base.specs.declared.layout.Layout.{Layout}
-use Rattle.bb_memory_base.specs.declared.steps.bump.BumpStep.{BumpStep}
-use Rattle.bb_memory_base.specs.declared.steps.bump.BumpStep.TheVariants.{Read, Exchange, Load, Clear}
-use Rattle.bb_memory_base.specs.declared.steps.bump.BumpOutcome.{BumpOutcome}
-use Rattle.bb_memory_base.specs.declared.steps.bump.BumpOutcome.TheVariants.{Sees, RefusedAtRead, Wins, Loses}
-use Rattle.bb_memory_base.specs.declared.steps.bump.BumpOutcome.TheVariants.{RefusedAtLoss, Loaded, Cleared, Passed}
+pub use Rattle.bb_memory_base.specs.declared.steps.bump.BumpOutcome.{BumpOutcome}
+pub use Rattle.bb_memory_base.specs.declared.steps.bump.BumpOutcome.TheVariants.{Cleared, Loaded, Loses, Passed, RefusedAtLoss}
+pub use Rattle.bb_memory_base.specs.declared.steps.bump.BumpOutcome.TheVariants.{RefusedAtRead, Sees, Wins}
+pub use Rattle.bb_memory_base.specs.declared.steps.bump.BumpStep.{BumpStep}
+pub use Rattle.bb_memory_base.specs.declared.steps.bump.BumpStep.TheVariants.{Clear, Exchange, Load, Read}
 
 -- STATES
 

@@ -1,14 +1,10 @@
 -- The bump object: chunks one after another, all given back at once.
 use Rattle.std.specs.Prelude.{◌≡◌, ℕ, ◌-◌, ◌≤◌, ◌<◌, true, List, [], ◌∷◌, Result, Ok, Err}
-use Rattle.bb_memory_base.specs.Region.{Region, region_end}
+use Rattle.bb_memory_base.specs.Chunk.{Region, region_end, Chunk, chunk_end, Layout, AllocationError, SizeIsZero, SizeTooLarge}
+use Rattle.bb_memory_base.specs.Chunk.{AlignmentFailure, OutOfMemory}
 use Rattle.bb_memory_base.specs.LeastPlace.{least_place}
-use Rattle.bb_memory_base.specs.Chunk.{Chunk, chunk_end}
 use Rattle.bb_memory_base.specs.LiveList.{IsSound}
 use Rattle.bb_memory_base.specs.Object.{Object, object_of}
-use Rattle.bb_memory_base.specs.declared.layout.Layout.{Layout}
-use Rattle.bb_memory_base.specs.declared.allocator.AllocationError.{AllocationError}
-use Rattle.bb_memory_base.specs.declared.allocator.AllocationError.TheVariants.{SizeIsZero, SizeTooLarge}
-use Rattle.bb_memory_base.specs.declared.allocator.AllocationError.TheVariants.{AlignmentFailure, OutOfMemory}
 
 -- the end of the last chunk, or v where the list is empty
 abbrev pub end_of_last : ℕ → List Chunk → ℕ

@@ -1,12 +1,10 @@
 -- A bump world: the bump machine over a region.
 use Rattle.std.specs.Prelude.{◌≡◌, ℕ, ◌≤◌, List, Option, Result, IfOk, IfSome, OnErr, OnOk}
 use Rattle.std.specs.declared.vec.Vec.{Vec}
-use Rattle.bb_memory_base.specs.Region.{Region, IsRegion}
+use Rattle.bb_memory_base.specs.Chunk.{Region, IsRegion}
 use Rattle.bb_memory_base.specs.BumpMachine.{OngoingCall, BumpState, BumpScene, PartyMove, AllFitting, IsFitting, opening_state}
-use Rattle.bb_memory_base.specs.BumpMachine.{bump_step, bump_after}
+use Rattle.bb_memory_base.specs.BumpMachine.{bump_step, bump_after, BumpStep, BumpOutcome}
 use Rattle.bb_memory_base.specs.BumpHistory as histories
-use Rattle.bb_memory_base.specs.declared.steps.bump.BumpStep.{BumpStep}
-use Rattle.bb_memory_base.specs.declared.steps.bump.BumpOutcome.{BumpOutcome}
 
 -- the region, and the machine's state
 pub record BumpWorld : Type 0 where

@@ -1,6 +1,10 @@
--- Chunks: what is given.
+-- Chunks: what is given. Passed on with them are regions, layouts and the causes of a refused request.
 use Rattle.std.specs.Prelude.{ℕ, ◌+◌, ◌<◌, ◌≤◌, ◌^◌}
-use Rattle.bb_memory_base.specs.Region.{Region, region_end}
+pub use Rattle.bb_memory_base.specs.Region.{IsRegion, Region, region_at, region_end}
+pub use Rattle.bb_memory_base.specs.declared.allocator.AllocationError.{AllocationError}
+pub use Rattle.bb_memory_base.specs.declared.allocator.AllocationError.TheVariants.{AlignmentFailure, OutOfMemory, SizeIsZero}
+pub use Rattle.bb_memory_base.specs.declared.allocator.AllocationError.TheVariants.{SizeTooLarge}
+pub use Rattle.bb_memory_base.specs.declared.layout.Layout.{Layout}
 
 -- the numbers from a place to place + length, the last excluded
 pub record Chunk : Type 0 where

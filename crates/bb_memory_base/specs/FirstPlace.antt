@@ -1,8 +1,7 @@
 -- Where a layout's first chunk begins in a region.
 use Rattle.std.specs.Prelude.{ℕ}
-use Rattle.bb_memory_base.specs.Region.{Region}
+use Rattle.bb_memory_base.specs.Chunk.{Region, Layout}
 use Rattle.bb_memory_base.specs.LeastPlace.{least_place}
-use Rattle.bb_memory_base.specs.declared.layout.Layout.{Layout}
 
 abbrev pub first_place : Region → Layout → ℕ
 first_place region layout = least_place region.start layout.align

@@ -1,8 +1,6 @@
 -- What every chunk is that is given to a request.
 use Rattle.std.specs.Prelude.{◌≡◌, ◌≤◌, ◌%◌}
-use Rattle.bb_memory_base.specs.Region.{Region}
-use Rattle.bb_memory_base.specs.Chunk.{Chunk, IsInside}
-use Rattle.bb_memory_base.specs.declared.layout.Layout.{Layout}
+use Rattle.bb_memory_base.specs.Chunk.{Region, Chunk, IsInside, Layout}
 
 -- it is inside the region, at a multiple of the asked alignment, and at least as long as asked
 pub record Fits (region : Region) (layout : Layout) (chunk : Chunk) : Type 0 where

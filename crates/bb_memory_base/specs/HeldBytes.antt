@@ -1,7 +1,6 @@
 -- The bytes of a region.
 use Rattle.std.specs.Prelude.{ℕ, ◌≡◌, ◌+◌, ◌-◌, List, length, take, drop, slice_range, replicate, Result, IfOk, OnErr}
-use Rattle.bb_memory_base.specs.Region.{Region}
-use Rattle.bb_memory_base.specs.Chunk.{Chunk}
+use Rattle.bb_memory_base.specs.Chunk.{Region, Chunk}
 
 -- bytes from a place on
 pub record HeldBytes : Type 0 where

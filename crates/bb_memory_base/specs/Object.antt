@@ -1,8 +1,6 @@
 -- Objects that hold live chunks and nothing else: what they may answer, and what that makes of the live list.
 use Rattle.std.specs.Prelude.{◌≡◌, ℕ, ◌<◌, Bool, true, false, List, [], ◌∷◌, ◌++◌, length, remove, Result, Ok, Err}
-use Rattle.bb_memory_base.specs.Chunk.{Chunk}
-use Rattle.bb_memory_base.specs.declared.layout.Layout.{Layout}
-use Rattle.bb_memory_base.specs.declared.allocator.AllocationError.{AllocationError}
+use Rattle.bb_memory_base.specs.Chunk.{Chunk, Layout, AllocationError}
 
 pub record Object : Type 1 where
   -- whether a release gives back all chunks at once

@@ -1,17 +1,13 @@
 -- The pool's calls: the takings and returns of a pool machine, as calls of the pool object.
 use Rattle.std.specs.Prelude.{◌≡◌, ℕ, ◌<◌, ◌≤◌, List, [], Some, Ok, All, length, take, slice_get}
-use Rattle.bb_memory_base.specs.Chunk.{Chunk}
+use Rattle.bb_memory_base.specs.Chunk.{Chunk, Layout}
 use Rattle.bb_memory_base.specs.Object.{Allocates, Releases}
 use Rattle.bb_memory_base.specs.Run.{IsRun}
 use Rattle.bb_memory_base.specs.PoolGeometry.{PoolGeometry, bucket_place}
 use Rattle.bb_memory_base.specs.PoolObject.{IsAt, IsHeld, IsWithin, chunk_in, pool_object}
-use Rattle.bb_memory_base.specs.PoolMachine.{PoolScene, left_by, IsInCall}
+use Rattle.bb_memory_base.specs.PoolMachine.{PoolScene, left_by, IsInCall, PoolStep, Try, TryAt, PoolOutcome, Takes, Loses}
+use Rattle.bb_memory_base.specs.PoolMachine.{RefusedAtLoss, Gives, Misses}
 use Rattle.bb_memory_base.specs.PoolHistory.{PoolLog, entry_of, outcomes_of, history_of}
-use Rattle.bb_memory_base.specs.declared.layout.Layout.{Layout}
-use Rattle.bb_memory_base.specs.declared.steps.pool.PoolStep.{PoolStep}
-use Rattle.bb_memory_base.specs.declared.steps.pool.PoolStep.TheVariants.{Try, TryAt}
-use Rattle.bb_memory_base.specs.declared.steps.pool.PoolOutcome.{PoolOutcome}
-use Rattle.bb_memory_base.specs.declared.steps.pool.PoolOutcome.TheVariants.{Takes, Loses, RefusedAtLoss, Gives, Misses}
 
 -- What a step with this outcome is to the object, which goes from `old` to `new`.
 abbrev pub PoolCall : PoolGeometry → List Chunk → Layout → PoolOutcome → List Chunk → Type 0

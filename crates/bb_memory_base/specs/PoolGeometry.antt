@@ -1,9 +1,8 @@
 -- Pool geometry: where the buckets of a region lie. Buckets are numbered from 0.
 use Rattle.std.specs.Prelude.{ℕ, ◌≡◌, ◌+◌, ◌*◌, ◌<◌, ◌≤◌, ◌↔◌, min}
-use Rattle.bb_memory_base.specs.Region.{Region, region_end}
+use Rattle.bb_memory_base.specs.Chunk.{Region, region_end, Layout}
 use Rattle.bb_memory_base.specs.LeastPlace.{least_place}
 use Rattle.bb_memory_base.specs.FirstPlace.{first_place}
-use Rattle.bb_memory_base.specs.declared.layout.Layout.{Layout}
 
 -- the region that is cut, the layout of each bucket, and how many buckets there are
 pub record PoolGeometry : Type 0 where

@@ -1,9 +1,7 @@
 -- Histories of the pool machine: what happened, step by step.
 use Rattle.std.specs.Prelude.{ℕ, ◌==◌, Bool, List, [], ◌∷◌, filter, map}
-use Rattle.bb_memory_base.specs.PoolMachine.{PoolScene, PoolState, opening_state, pool_step}
-use Rattle.bb_memory_base.specs.declared.steps.pool.PoolStep.{PoolStep}
-use Rattle.bb_memory_base.specs.declared.steps.pool.PoolStep.TheVariants.{Try, GiveBack, TryAt, Detach, Attach}
-use Rattle.bb_memory_base.specs.declared.steps.pool.PoolOutcome.{PoolOutcome}
+use Rattle.bb_memory_base.specs.PoolMachine.{PoolScene, PoolState, opening_state, pool_step, PoolStep, Try, GiveBack, TryAt}
+use Rattle.bb_memory_base.specs.PoolMachine.{Detach, Attach, PoolOutcome}
 
 -- an entry: a step with what it found
 pub record PoolEntry : Type 0 where

@@ -1,14 +1,9 @@
 -- What a party's log says, and when a pool's flags and its parties' logs agree.
 use Rattle.std.specs.Prelude.{ℕ, ◌+◌, ◌≡◌, ◌==◌, Bool, true, false, nat_lt, if◌then◌else◌}
 use Rattle.std.specs.Prelude.{List, [], ◌∷◌, ◌++◌, Option, Some, None, All, Any, fold, map, slice_get, slice_set, unwrap_or}
-use Rattle.bb_memory_base.specs.PoolMachine.{PoolScene, PoolState, left_by}
+use Rattle.bb_memory_base.specs.PoolMachine.{PoolScene, PoolState, left_by, Flag, Free, PoolStep, PoolOutcome, Takes, Loses}
+use Rattle.bb_memory_base.specs.PoolMachine.{RefusedAtLoss, Gives, Passed, Detaches, Attaches}
 use Rattle.bb_memory_base.specs.PoolHistory.{PoolEntry, PoolLog, history_of, log_of}
-use Rattle.bb_memory_base.specs.declared.steps.pool.Flag.{Flag}
-use Rattle.bb_memory_base.specs.declared.steps.pool.Flag.TheVariants.{Free}
-use Rattle.bb_memory_base.specs.declared.steps.pool.PoolStep.{PoolStep}
-use Rattle.bb_memory_base.specs.declared.steps.pool.PoolOutcome.{PoolOutcome}
-use Rattle.bb_memory_base.specs.declared.steps.pool.PoolOutcome.TheVariants.{Takes, Loses, RefusedAtLoss, Gives, Passed}
-use Rattle.bb_memory_base.specs.declared.steps.pool.PoolOutcome.TheVariants.{Detaches, Attaches}
 
 -- WHAT A LOG SAYS
 

@@ -2,14 +2,14 @@
 -- their numbers, from 0.
 use Rattle.std.specs.Prelude.{ℕ, ◌+◌, ◌≡◌, ◌==◌, nat_lt, List, [], ◌∷◌, length, Option, Some}
 use Rattle.std.specs.Prelude.{None, if◌then◌else◌, slice_get, slice_set, replicate, unwrap_or, ◌⊎◌}
-use Rattle.bb_memory_base.specs.declared.steps.pool.Flag.{Flag}
-use Rattle.bb_memory_base.specs.declared.steps.pool.Flag.TheVariants.{Free, HeldBy, Detached}
 use Rattle.bb_memory_base.specs.PoolGeometry.{PoolGeometry}
-use Rattle.bb_memory_base.specs.declared.steps.pool.PoolStep.{PoolStep}
-use Rattle.bb_memory_base.specs.declared.steps.pool.PoolStep.TheVariants.{Try, GiveBack, TryAt, Detach, Attach}
-use Rattle.bb_memory_base.specs.declared.steps.pool.PoolOutcome.{PoolOutcome}
-use Rattle.bb_memory_base.specs.declared.steps.pool.PoolOutcome.TheVariants.{Takes, Loses, RefusedAtLoss, Gives, Passed, Misses}
-use Rattle.bb_memory_base.specs.declared.steps.pool.PoolOutcome.TheVariants.{Detaches, Attaches}
+pub use Rattle.bb_memory_base.specs.declared.steps.pool.Flag.{Flag}
+pub use Rattle.bb_memory_base.specs.declared.steps.pool.Flag.TheVariants.{Detached, Free, HeldBy}
+pub use Rattle.bb_memory_base.specs.declared.steps.pool.PoolOutcome.{PoolOutcome}
+pub use Rattle.bb_memory_base.specs.declared.steps.pool.PoolOutcome.TheVariants.{Attaches, Detaches, Gives, Loses, Misses, Passed}
+pub use Rattle.bb_memory_base.specs.declared.steps.pool.PoolOutcome.TheVariants.{RefusedAtLoss, Takes}
+pub use Rattle.bb_memory_base.specs.declared.steps.pool.PoolStep.{PoolStep}
+pub use Rattle.bb_memory_base.specs.declared.steps.pool.PoolStep.TheVariants.{Attach, Detach, GiveBack, Try, TryAt}
 
 -- STATES
 

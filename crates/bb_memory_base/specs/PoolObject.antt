@@ -1,12 +1,8 @@
 -- The pool object: chunks in buckets, each resized in its bucket and given back alone.
 use Rattle.std.specs.Prelude.{◌≡◌, ℕ, ◌≤◌, ◌<◌, List, Some, Result, Ok, Err, slice_get}
-use Rattle.bb_memory_base.specs.Chunk.{Chunk}
+use Rattle.bb_memory_base.specs.Chunk.{Chunk, Layout, AllocationError, SizeIsZero, SizeTooLarge, AlignmentFailure, OutOfMemory}
 use Rattle.bb_memory_base.specs.ResizableObject.{ResizableObject, resizable_object_of}
 use Rattle.bb_memory_base.specs.PoolGeometry.{PoolGeometry, bucket_place}
-use Rattle.bb_memory_base.specs.declared.layout.Layout.{Layout}
-use Rattle.bb_memory_base.specs.declared.allocator.AllocationError.{AllocationError}
-use Rattle.bb_memory_base.specs.declared.allocator.AllocationError.TheVariants.{SizeIsZero, SizeTooLarge}
-use Rattle.bb_memory_base.specs.declared.allocator.AllocationError.TheVariants.{AlignmentFailure, OutOfMemory}
 use Rattle.bb_memory_base.specs.declared.allocator.AllocationGrowError.{AllocationGrowError}
 use Rattle.bb_memory_base.specs.declared.allocator.AllocationGrowError.TheVariants as grow
 use Rattle.bb_memory_base.specs.declared.allocator.AllocationShrinkError.{AllocationShrinkError}

@@ -1,11 +1,8 @@
 -- A pool world: the pool machine over some buckets.
 use Rattle.std.specs.Prelude.{◌≡◌, ℕ, ◌<◌, ◌^◌, List, Option, Result, IfOk, OnErr, OnOk, length}
 use Rattle.std.specs.declared.vec.Vec.{Vec}
-use Rattle.bb_memory_base.specs.PoolMachine.{PoolState, all_free, pool_step, pool_after}
+use Rattle.bb_memory_base.specs.PoolMachine.{PoolState, all_free, pool_step, pool_after, Flag, PoolStep, PoolOutcome}
 use Rattle.bb_memory_base.specs.PoolHistory as histories
-use Rattle.bb_memory_base.specs.declared.steps.pool.Flag.{Flag}
-use Rattle.bb_memory_base.specs.declared.steps.pool.PoolStep.{PoolStep}
-use Rattle.bb_memory_base.specs.declared.steps.pool.PoolOutcome.{PoolOutcome}
 
 -- the machine's state
 abbrev pub PoolWorld : Type 0

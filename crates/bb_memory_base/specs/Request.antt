@@ -1,12 +1,9 @@
 -- What calls promise that ask for a chunk, give one back or ask for a longer one: all that `allocate`, `deallocate` and `grow`
 -- say, for calls that do as these do and more.
 use Rattle.std.specs.Prelude.{◌≡◌, ℕ, ◌%◌, ◌<◌, ◌≤◌, Bool, List, [], ◌∷◌, ◌++◌, Some, Result, IfOk, OnErr, slice_get, slice_set}
-use Rattle.bb_memory_base.specs.Region.{Region}
-use Rattle.bb_memory_base.specs.Chunk.{Chunk, IsInside}
+use Rattle.bb_memory_base.specs.Chunk.{Region, Chunk, IsInside, Layout, AllocationError}
 use Rattle.bb_memory_base.specs.Fitting.{Fits}
 use Rattle.bb_memory_base.specs.Object.{released}
-use Rattle.bb_memory_base.specs.declared.layout.Layout.{Layout}
-use Rattle.bb_memory_base.specs.declared.allocator.AllocationError.{AllocationError}
 use Rattle.bb_memory_base.specs.declared.allocator.AllocationGrowError.{AllocationGrowError}
 
 -- `old` was asked for a chunk of the layout, gave this answer, and is `new` then. The words are those of `BaseAllocator`.

@@ -1,10 +1,8 @@
 -- Objects whose chunks can be resized in place. A release takes out one chunk alone.
 use Rattle.std.specs.Prelude.{◌≡◌, ◌≢◌, ℕ, ◌≤◌, ◌%◌, false, List, AllPairs, Result, Ok, Err, Some, slice_get, slice_set}
-use Rattle.bb_memory_base.specs.Chunk.{Chunk}
+use Rattle.bb_memory_base.specs.Chunk.{Chunk, Layout, AllocationError}
 use Rattle.bb_memory_base.specs.Object.{Object, object_of}
 use Rattle.bb_memory_base.specs.Run.{Step}
-use Rattle.bb_memory_base.specs.declared.layout.Layout.{Layout}
-use Rattle.bb_memory_base.specs.declared.allocator.AllocationError.{AllocationError}
 use Rattle.bb_memory_base.specs.declared.allocator.AllocationGrowError.{AllocationGrowError}
 use Rattle.bb_memory_base.specs.declared.allocator.AllocationShrinkError.{AllocationShrinkError}
 use Rattle.bb_memory_base.specs.declared.allocator.Command.{Command}

@@ -1,12 +1,10 @@
 -- Runs: commands applied one after the other to an object, with one reply each.
 use Rattle.std.specs.Prelude.{◌≡◌, ℕ, ◌+◌, ◌≤◌, List, [], ◌∷◌, length, fold, Some, Ok, Err, slice_get}
 use Rattle.std.specs.Prelude.{Vec, vec_len, vec_capacity, Result, IfOk, OnOk, OnErr}
-use Rattle.bb_memory_base.specs.Region.{Region}
-use Rattle.bb_memory_base.specs.Chunk.{Chunk}
+use Rattle.bb_memory_base.specs.Chunk.{Region, Chunk, Layout}
 use Rattle.bb_memory_base.specs.Fitting.{Fits}
 use Rattle.bb_memory_base.specs.LiveList.{IsSound}
 use Rattle.bb_memory_base.specs.Object.{Object, Allocates, Releases}
-use Rattle.bb_memory_base.specs.declared.layout.Layout.{Layout}
 use Rattle.bb_memory_base.specs.declared.allocator.Command.{Command}
 use Rattle.bb_memory_base.specs.declared.allocator.Command.TheVariants.{Allocate, Release, Grow, Shrink}
 use Rattle.bb_memory_base.specs.declared.allocator.Reply.{Reply}

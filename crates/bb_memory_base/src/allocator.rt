@@ -95,14 +95,11 @@ pub enum Reply {
 /// crate may bring an allocator with an object of its own.
 pub trait BaseAllocator {
     ghost use Rattle.std.specs.Prelude.{◌≡◌, ◌∷◌, ◌++◌, ◌≤◌, ◌%◌, ℕ, Some, [], List, Result, Ok, Bool, IfOk, OnErr, slice_get};
-    ghost use Rattle.bb_memory_base.specs.Region.{Region, IsRegion};
-    ghost use Rattle.bb_memory_base.specs.Chunk.{Chunk, IsInside};
+    ghost use Rattle.bb_memory_base.specs.Chunk.{Region, IsRegion, Chunk, IsInside, Layout, AllocationError};
     ghost use Rattle.bb_memory_base.specs.LiveList.{IsSound};
     ghost use Rattle.bb_memory_base.specs.Object.{released};
     ghost use Rattle.bb_memory_base.specs.Request.{Requested};
     ghost use Rattle.bb_memory_base.specs.HeldBytes.{held_region, ZeroesAnswered};
-    ghost use Rattle.bb_memory_base.specs.declared.layout.Layout.{Layout};
-    ghost use Rattle.bb_memory_base.specs.declared.allocator.AllocationError.{AllocationError};
 
     /// Whether a release gives back all chunks at once.
     const RELEASE_EMPTIES: bool;
@@ -220,11 +217,10 @@ pub trait BaseAllocator {
 /// the part that is reserved for a chunk is told by the answer alone.
 pub trait Allocator: BaseAllocator {
     ghost use Rattle.std.specs.Prelude.{◌≡◌, ◌<◌, ◌≤◌, ◌%◌, ℕ, false, List, Some, Result, IfOk, OnErr, slice_get, slice_set};
-    ghost use Rattle.bb_memory_base.specs.Chunk.{Chunk, IsInside};
+    ghost use Rattle.bb_memory_base.specs.Chunk.{Chunk, IsInside, Layout};
     ghost use Rattle.bb_memory_base.specs.HeldBytes.{held_region, part_behind, ZeroesAnswered};
     ghost use Rattle.bb_memory_base.specs.Request.{Grown};
     ghost use Rattle.bb_memory_base.specs.ResizableObject.{PlacesDiffer};
-    ghost use Rattle.bb_memory_base.specs.declared.layout.Layout.{Layout};
     ghost use Rattle.bb_memory_base.specs.declared.allocator.AllocationGrowError.{AllocationGrowError};
     ghost use Rattle.bb_memory_base.specs.declared.allocator.AllocationShrinkError.{AllocationShrinkError};
 

@@ -4,7 +4,7 @@ use Rattle.std.proofs.lemmas.Bool.{false≢true}
 use Rattle.std.specs.Align.{IsLayout}
 use Rattle.std.specs.Result.{result_ok}
 use Rattle.bb_memory_base.specs.declared.layout.Layout.{Layout}
-use Rattle.bb_memory_base.specs.Region.{Region}
+use Rattle.bb_memory_base.specs.Chunk.{Region}
 use Rattle.bb_memory_base.proofs.Layouts.{same_layout}
 use Rattle.bb_memory.specs.Pool.{MayBeCut}
 use Rattle.bb_memory_c.specs.Layouts.{CannotCut, IsCuttable, IsOf}

@@ -3,7 +3,7 @@ use Rattle.std.proofs.Common.{◌≡◌, ◌≢◌, ◌↔◌, ◌∙◌, ℕ, B
 use Rattle.std.proofs.lemmas.Bool.{false≢true}
 use Rattle.std.proofs.lemmas.Option.{none-some}
 use Rattle.std.specs.Align.{IsLayout}
-use Rattle.bb_memory_base.specs.Region.{Region}
+use Rattle.bb_memory_base.specs.Chunk.{Region}
 use Rattle.bb_memory_base.specs.declared.layout.Layout.{Layout}
 use Rattle.bb_memory.specs.Pool.{MayBeCut}
 use Rattle.bb_memory_c.specs.Calls.{AnswersPoolMake}

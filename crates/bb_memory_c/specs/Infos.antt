@@ -2,7 +2,7 @@
 use Rattle.std.specs.Prelude.{◌≡◌, ◌-◌, ◌↔◌, ℕ, IsTrue, None}
 use Rattle.bb_memory_base.specs.FirstPlace.{first_place}
 use Rattle.bb_memory_base.specs.PoolGeometry.{PoolGeometry}
-use Rattle.bb_memory_base.specs.Region.{Region}
+use Rattle.bb_memory_base.specs.Chunk.{Region}
 use Rattle.bb_memory.specs.Bump.{Bump}
 use Rattle.bb_memory.specs.OneChunk.{OneChunk}
 use Rattle.bb_memory_c.specs.declared.answer.BumpInfo.{BumpInfo}

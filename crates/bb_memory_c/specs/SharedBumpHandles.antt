@@ -1,6 +1,6 @@
 -- A shared bump and its parties behind handles, and what C is told.
 use Rattle.std.specs.Prelude.{◌≡◌, ◌≢◌, ◌<◌, ◌≤◌, ◌↔◌, ℕ, Option, Some}
-use Rattle.bb_memory_base.specs.Region.{Region, IsRegion}
+use Rattle.bb_memory_base.specs.Chunk.{Region, IsRegion}
 use Rattle.bb_memory.specs.SharedBump.{BumpParty, HasLoaded}
 use Rattle.bb_memory_c.specs.declared.answer.BumpInfo.{BumpInfo}
 use Rattle.bb_memory_c.specs.Codes.{ok, malloc_refused, parties_joined}

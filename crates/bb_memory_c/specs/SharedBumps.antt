@@ -1,6 +1,6 @@
 -- A shared bump, and the parties of it that haven't joined.
 use Rattle.std.specs.Prelude.{◌≡◌, ◌≤◌, ℕ, All, List, length}
-use Rattle.bb_memory_base.specs.Region.{Region}
+use Rattle.bb_memory_base.specs.Chunk.{Region}
 use Rattle.bb_memory_c.specs.Parties.{IsOneOf, Parties}
 use Rattle.bb_memory.specs.SharedBump.{AreFresh, BumpParty, SharedBump, scene_at}
 

@@ -1,8 +1,7 @@
 -- A shared pool, its parties, and what their calls are answered.
 use Rattle.std.specs.Prelude.{◌≡◌, ◌+◌, ◌≤◌, ◌↔◌, ℕ, zero, suc, All, Bool, false, List, [], ◌++◌, Result, Ok, Err, length}
 use Rattle.std.specs.Prelude.{Option, Some, fold, if◌then◌else◌}
-use Rattle.bb_memory_base.specs.Region.{Region}
-use Rattle.bb_memory_base.specs.Chunk.{Chunk}
+use Rattle.bb_memory_base.specs.Chunk.{Region, Chunk}
 use Rattle.bb_memory_base.specs.PoolGeometry.{IsCut, bucket_place}
 use Rattle.bb_memory_base.specs.PoolHistory.{PoolLog}
 use Rattle.bb_memory_base.specs.PoolLogs.{IsHeldAfter, held_after}

@@ -1,6 +1,6 @@
 //! A one-chunk allocator behind a handle.
 ghost use Rattle.std.specs.Prelude.{◌≡◌, None, Some};
-ghost use Rattle.bb_memory_base.specs.Region.{IsRegion, region_at};
+ghost use Rattle.bb_memory_base.specs.Chunk.{IsRegion, region_at};
 ghost use Rattle.bb_memory.specs.OneChunk.{one_chunk_of};
 ghost use Rattle.bb_memory_base.specs.OneChunkObject.{MayGrow, MayShrink, reserved_at};
 ghost use Rattle.bb_memory_c.specs.Answers.{AnswersStill, TellsGrow, TellsOfLayouts, TellsShrink};

@@ -1,6 +1,6 @@
 //! A shared bump behind handles: one for the bump and the parties that haven't joined, and one for each party that has.
 ghost use Rattle.std.specs.Prelude.{◌≡◌, ◌<◌, ◌↔◌, IfSome, IsTrue, Some};
-ghost use Rattle.bb_memory_base.specs.Region.{region_at};
+ghost use Rattle.bb_memory_base.specs.Chunk.{region_at};
 ghost use Rattle.bb_memory.specs.SharedBump.{MayTake};
 ghost use Rattle.bb_memory_c.specs.Calls.{Answers, AnswersFree, AnswersInfo, AnswersJoin, AnswersLeave, AnswersMake};
 ghost use Rattle.bb_memory_c.specs.Calls.{AnswersRequest, IfBoth};

@@ -1,7 +1,7 @@
 //! A shared pool behind handles: one for the pool and the parties that haven't joined, and one for each party that has, with the
 //! buckets that it holds.
 ghost use Rattle.std.specs.Prelude.{◌≡◌, ◌<◌, IfSome, IfNone, count_by};
-ghost use Rattle.bb_memory_base.specs.Region.{region_at};
+ghost use Rattle.bb_memory_base.specs.Chunk.{region_at};
 ghost use Rattle.bb_memory_base.specs.PoolLogs.{IsHeldAfter};
 ghost use Rattle.bb_memory.specs.SharedPool.{return_entry, with_entries};
 ghost use Rattle.bb_memory_c.specs.Calls.{AnswersFree, AnswersInfo, AnswersNumber, AnswersPlace, AnswersPoolMake};

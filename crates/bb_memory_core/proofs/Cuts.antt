@@ -7,7 +7,7 @@ use Rattle.std.proofs.Math.Nat.{mul-div_cancel, mul-le-mul_left}
 use Rattle.std.proofs.lemmas.Bool.{cases_eq, cases_lt}
 use Rattle.std.proofs.lemmas.Nat.{le-div}
 use Rattle.std.proofs.lemmas.Nat.Bits.{bit_at-trailing_zeros, bit_at-pow_other}
-use Rattle.bb_memory_base.specs.Region.{Region, IsRegion, region_end}
+use Rattle.bb_memory_base.specs.Chunk.{Region, IsRegion, region_end}
 use Rattle.bb_memory_base.specs.FirstPlace.{first_place}
 use Rattle.bb_memory_base.specs.PoolGeometry.{PoolGeometry, pool_geometry, bucket_place, stride, FillsRegion, IsCut}
 use Rattle.bb_memory_base.specs.declared.layout.Layout.{Layout}

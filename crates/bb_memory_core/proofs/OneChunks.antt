@@ -3,8 +3,7 @@ use Rattle.std.proofs.Common.{◌≡◌, ℕ, ◌+◌, ◌<◌, ◌≤◌, ◌%�
 use Rattle.std.proofs.Common.{length, slice_get, slice_set, remove, refl, sym, ◌∙◌, ap, subst, inl, inr, arith}
 use Rattle.std.specs.Option.{ForSome}
 use Rattle.std.proofs.lemmas.Bool.{cases_lt}
-use Rattle.bb_memory_base.specs.Region.{Region, region_end}
-use Rattle.bb_memory_base.specs.Chunk.{Chunk, chunk_end, IsInside}
+use Rattle.bb_memory_base.specs.Chunk.{Region, region_end, Chunk, chunk_end, IsInside}
 use Rattle.bb_memory_base.specs.Run.{IsRun, Step}
 use Rattle.bb_memory_base.specs.ResizableObject.{ResizableStep}
 use Rattle.bb_memory_base.specs.declared.layout.Layout.{Layout}

@@ -7,8 +7,7 @@ use Rattle.std.proofs.Math.Seq.{drop-append_seam}
 use Rattle.std.proofs.lemmas.List.Elements.{All-nil}
 use Rattle.atomic_table.specs.Seated.{TableId}
 use Rattle.atomic_table.specs.Table.{Me}
-use Rattle.bb_memory_base.specs.Region.{region_end}
-use Rattle.bb_memory_base.specs.Chunk.{Chunk, chunk_end}
+use Rattle.bb_memory_base.specs.Chunk.{region_end, Chunk, chunk_end}
 use Rattle.bb_memory_base.specs.BumpObject.{chunk_at_or_after, next_chunk}
 use Rattle.bb_memory_base.specs.BumpMachine.{BumpScene, chunk_at}
 use Rattle.bb_memory_base.specs.BumpHistory.{BumpLog, chunks_won, losses_in}

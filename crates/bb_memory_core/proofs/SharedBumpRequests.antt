@@ -4,10 +4,9 @@ use Rattle.std.proofs.Common.{sym, ap, ◌∙◌, subst, arith, append_assoc, So
 use Rattle.std.specs.Prelude.{if◌then◌else◌, max}
 use Rattle.std.proofs.lemmas.List.Elements.{All-from_recursion}
 use Rattle.atomic_table.specs.Table.{Me}
-use Rattle.bb_memory_base.specs.Region.{Region, region_end}
-use Rattle.bb_memory_base.specs.Chunk.{Chunk, chunk_end}
-use Rattle.bb_memory_base.specs.BumpMachine.{BumpScene, OngoingCall, chunk_at, ending, exchange_move}
-use Rattle.bb_memory_base.specs.BumpMachine.{fits, loss_move, position_behind, read_move, seeing}
+use Rattle.bb_memory_base.specs.Chunk.{Region, region_end, Chunk, chunk_end}
+use Rattle.bb_memory_base.specs.BumpMachine.{BumpScene, OngoingCall, chunk_at, ending, exchange_move, fits, loss_move}
+use Rattle.bb_memory_base.specs.BumpMachine.{position_behind, read_move, seeing}
 use Rattle.bb_memory_base.specs.BumpHistory.{BumpLog, chunks_won, entry_of, is_loss, losses_in}
 use Rattle.bb_memory_base.specs.BumpLogs.{HasPositionFrom, HasPositionUpTo, call_after, call_in, seen_in}
 use Rattle.bb_memory_base.specs.declared.layout.Layout.{Layout}

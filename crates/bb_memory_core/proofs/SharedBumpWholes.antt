@@ -4,8 +4,7 @@ use Rattle.std.specs.Prelude.{Any, Contains, slice_get}
 use Rattle.std.specs.List.{All, AllByRecursion}
 use Rattle.std.proofs.lemmas.Bool.{cases_lt}
 use Rattle.std.proofs.lemmas.List.Elements.{All-contains, All-contains_itself, All-from_recursion, All-weaker}
-use Rattle.bb_memory_base.specs.Region.{Region}
-use Rattle.bb_memory_base.specs.Chunk.{Chunk}
+use Rattle.bb_memory_base.specs.Chunk.{Region, Chunk}
 use Rattle.bb_memory_base.specs.BumpObject.{StandsFor}
 use Rattle.bb_memory_base.specs.BumpMachine.{BumpScene, BumpState, bump_step, opening_state}
 use Rattle.bb_memory_base.specs.BumpHistory.{BumpEntry, BumpLog, bump_history, chunks_won, history_of, is_by, log_of}

@@ -1,6 +1,6 @@
 -- What the buckets of a region store.
 use Rattle.std.specs.Prelude.{◌≡◌, ℕ, ◌<◌, ◌≤◌, ◌^◌, Option, IfSome, IfNone}
-use Rattle.bb_memory_base.specs.Region.{IsRegion}
+use Rattle.bb_memory_base.specs.Chunk.{IsRegion}
 use Rattle.bb_memory_base.specs.FirstPlace.{first_place}
 use Rattle.bb_memory_base.specs.PoolGeometry.{PoolGeometry, IsPoolGeometry, bucket_place, stride}
 

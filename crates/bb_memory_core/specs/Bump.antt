@@ -1,8 +1,7 @@
 -- A bump allocator, as its contracts see it.
 use Rattle.std.specs.Prelude.{◌≡◌, ℕ, ◌+◌, ◌<◌, ◌≤◌, ◌↔◌, ◌++◌, [], List, Result, Err, IsOk, IfOk, OnErr, codes}
 use Rattle.std.specs.Fmt.{decimal}
-use Rattle.bb_memory_base.specs.Region.{Region, IsRegion, region_at, region_end}
-use Rattle.bb_memory_base.specs.Chunk.{Chunk, chunk_end}
+use Rattle.bb_memory_base.specs.Chunk.{Region, IsRegion, region_at, region_end, Chunk, chunk_end}
 use Rattle.bb_memory_base.specs.LeastPlace.{least_place}
 use Rattle.bb_memory_base.specs.BumpObject.{StandsFor, chunk_at_or_after}
 use Rattle.bb_memory_base.specs.declared.layout.Layout.{Layout}

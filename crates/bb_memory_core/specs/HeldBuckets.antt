@@ -1,6 +1,6 @@
 -- How many buckets of a pool are held, and pools of at most so many buckets.
 use Rattle.std.specs.Prelude.{◌≡◌, ℕ, count_by}
-use Rattle.bb_memory_base.specs.Region.{Region}
+use Rattle.bb_memory_base.specs.Chunk.{Region}
 use Rattle.bb_memory_base.specs.PoolGeometry.{IsCut, PoolGeometry, at_most}
 use Rattle.bb_memory_base.specs.declared.layout.Layout.{Layout}
 use Rattle.bb_memory_core.specs.Pool.{Pool}

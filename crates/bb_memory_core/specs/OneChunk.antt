@@ -2,8 +2,7 @@
 use Rattle.std.specs.Prelude.{◌≡◌, ℕ, ◌≤◌, ◌<◌, ◌↔◌, ◌⊎◌, List, [], ◌∷◌, Option, Some, None, IsSome}
 use Rattle.std.specs.Prelude.{Result, Err, IsOk, IfOk, OnErr}
 use Rattle.std.specs.Option.{ForSome}
-use Rattle.bb_memory_base.specs.Region.{Region, IsRegion, region_at, region_end}
-use Rattle.bb_memory_base.specs.Chunk.{Chunk, chunk_end}
+use Rattle.bb_memory_base.specs.Chunk.{Region, IsRegion, region_at, region_end, Chunk, chunk_end}
 use Rattle.bb_memory_base.specs.FirstPlace.{first_place}
 use Rattle.bb_memory_base.specs.LiveList.{IsSound}
 use Rattle.bb_memory_base.specs.OneChunkObject.{HasRoom, LacksRoom}

@@ -2,9 +2,8 @@
 use Rattle.std.specs.Prelude.{◌≡◌, ◌≤◌, ℕ, zero, suc, List, [], ◌∷◌, Some, None, Option, length, slice_get}
 use Rattle.std.proofs.Common.{arith, ap, refl, subst, ◌∙◌}
 use Rattle.std.proofs.lemmas.Option.{slice_get_within, get_or_from_slice_get}
-use Rattle.bb_memory_base.specs.Region.{region_end}
+use Rattle.bb_memory_base.specs.Chunk.{region_end, Chunk, chunk_end}
 use Rattle.bb_memory_base.specs.OneChunkObject.{reserved_at}
-use Rattle.bb_memory_base.specs.Chunk.{Chunk, chunk_end}
 use Rattle.bb_memory_base.specs.ResizableObject.{PlacesDiffer}
 use Rattle.bb_memory_core.specs.OneChunk.{OneChunk, StandsFor, IsKept}
 

@@ -3,8 +3,7 @@ use Rattle.std.specs.Prelude.{◌≡◌, ◌≢◌, ℕ, ◌-◌, ◌+◌, ◌%�
 use Rattle.std.specs.Prelude.{◌&&◌, if◌then◌else◌, get_or, nat_eq, nat_le}
 use Rattle.std.specs.List.{list_any, range_with_len}
 use Rattle.std.specs.Prelude.{List, All, length, min, replicate, slice_set, Result, Ok, Err, IsOk, IfOk, OnErr}
-use Rattle.bb_memory_base.specs.Region.{Region, IsRegion}
-use Rattle.bb_memory_base.specs.Chunk.{Chunk}
+use Rattle.bb_memory_base.specs.Chunk.{Region, IsRegion, Chunk}
 use Rattle.bb_memory_base.specs.LiveList.{IsSound}
 use Rattle.bb_memory_base.specs.FirstPlace.{first_place}
 use Rattle.bb_memory_base.specs.ResizableObject.{PlacesDiffer}

@@ -2,8 +2,7 @@
 use Rattle.std.specs.Prelude.{◌≡◌, ◌≢◌, ℕ, ◌+◌, ◌<◌, ◌≤◌, true, false, List, [], ◌∷◌, ◌++◌, None, Result, Ok, Err, All}
 use Rattle.std.specs.Prelude.{Contains, Some, length, map, max, slice_get}
 use Rattle.atomic_table.specs.Seated.{TableId}
-use Rattle.bb_memory_base.specs.Region.{Region}
-use Rattle.bb_memory_base.specs.Chunk.{Chunk, AreApart, chunk_end}
+use Rattle.bb_memory_base.specs.Chunk.{Region, Chunk, AreApart, chunk_end}
 use Rattle.bb_memory_base.specs.BumpMachine.{BumpScene, chunk_at, fits}
 use Rattle.bb_memory_base.specs.BumpHistory.{BumpLog, chunks_won, entry_of}
 use Rattle.bb_memory_base.specs.BumpObject.{MayAllocate, StandsFor}

@@ -5,7 +5,7 @@ use mathlib.Core.Option.{some}
 use lib.ListN.{get_elem?}
 use Rattle.atomic_table.specs.Seated.{TableId}
 use Rattle.atomic_table.specs.Table.{State, Me}
-use Rattle.bb_memory_base.specs.Region.{IsRegion, region_at}
+use Rattle.bb_memory_base.specs.Chunk.{IsRegion, region_at}
 use Rattle.bb_memory_base.specs.BumpMachine.{BumpScene}
 use Rattle.bb_memory_base.specs.BumpHistory.{BumpEntry, BumpLog}
 use Rattle.bb_memory_base.specs.BumpLogs.{Interleaving, LogsAgree, call_in, seen_in}

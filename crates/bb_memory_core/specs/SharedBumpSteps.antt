@@ -3,8 +3,7 @@ use Rattle.std.specs.Prelude.{◌≡◌, ◌≢◌, ℕ, ◌+◌, ◌<◌, ◌�
 use Rattle.std.specs.Prelude.{length, max}
 use Rattle.atomic_table.specs.Seated.{TableId}
 use Rattle.atomic_table.specs.Table.{Me, Step}
-use Rattle.bb_memory_base.specs.Region.{Region, region_end}
-use Rattle.bb_memory_base.specs.Chunk.{Chunk, IsInside, chunk_end}
+use Rattle.bb_memory_base.specs.Chunk.{Region, region_end, Chunk, IsInside, chunk_end}
 use Rattle.bb_memory_base.specs.BumpMachine.{BumpScene, OngoingCall, chunk_at, fits, read_move, exchange_move}
 use Rattle.bb_memory_base.specs.BumpHistory.{BumpLog, chunks_won, entry_of, losses_in}
 use Rattle.bb_memory_base.specs.BumpLogs.{HasPositionFrom, CommonInterleaving, Interleaving, HasPositionUpTo, LogsAgree, call_in}

@@ -1,8 +1,7 @@
 //! An allocator that gives one chunk after another, and takes all of them back at once.
 ghost use Rattle.std.specs.Prelude.{◌≡◌, [], List, All, ◌+◌, ◌<◌, ◌≤◌, ◌%◌, ◌↔◌, ℕ};
 ghost use Rattle.std.specs.Prelude.{IfOk, IfErr, IsTrue, Ok, Some, length, slice_get};
-ghost use Rattle.bb_memory_base.specs.Region.{Region, IsRegion, region_at};
-ghost use Rattle.bb_memory_base.specs.Chunk.{Chunk, IsInside, chunk_end};
+ghost use Rattle.bb_memory_base.specs.Chunk.{Region, IsRegion, region_at, Chunk, IsInside, chunk_end};
 ghost use Rattle.bb_memory_base.specs.Object.{AnswersAll, AnswersOnce, GivesOnly};
 ghost use Rattle.bb_memory_base.specs.Run.{AnswersRun, IsRun, Step};
 ghost use Rattle.bb_memory_base.specs.BumpObject.{MayAllocate, IsInOrder, StandsFor, bump_object, used_space};
@@ -177,7 +176,7 @@ impl fmt::Display for BumpAllocator {
 
 impl BaseAllocator for BumpAllocator {
     ghost use Rattle.std.specs.Prelude.{true};
-    ghost use Rattle.bb_memory_base.specs.Region.{Region};
+    ghost use Rattle.bb_memory_base.specs.Chunk.{Region};
     ghost use Rattle.bb_memory_base.specs.BumpObject.{MayAllocate, StandsFor};
     ghost use Rattle.bb_memory_core.specs.Bump.{Takes, Frees};
 

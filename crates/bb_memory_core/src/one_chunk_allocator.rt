@@ -1,8 +1,7 @@
 //! An allocator that gives one chunk at a time, which is all of its region from the chunk's place on.
 ghost use Rattle.std.specs.Prelude.{◌≡◌, [], List, ◌+◌, ◌-◌, ◌<◌, ◌≤◌, ◌%◌, ◌↔◌, ℕ};
 ghost use Rattle.std.specs.Prelude.{IsTrue, Some, Result};
-ghost use Rattle.bb_memory_base.specs.Region.{Region, IsRegion, region_at, region_end};
-ghost use Rattle.bb_memory_base.specs.Chunk.{Chunk, IsInside, chunk_end};
+ghost use Rattle.bb_memory_base.specs.Chunk.{Region, IsRegion, region_at, region_end, Chunk, IsInside, chunk_end};
 ghost use Rattle.bb_memory_base.specs.Object.{AnswersAll, AnswersOnce, GivesOnly};
 ghost use Rattle.bb_memory_base.specs.Run.{AnswersRun, IsRun, Step};
 ghost use Rattle.bb_memory_base.specs.ResizableObject.{ResizableStep};
@@ -130,7 +129,7 @@ impl OneChunkAllocator {
 
 impl BaseAllocator for OneChunkAllocator {
     ghost use Rattle.std.specs.Prelude.{◌≡◌, Some, false};
-    ghost use Rattle.bb_memory_base.specs.Region.{Region};
+    ghost use Rattle.bb_memory_base.specs.Chunk.{Region};
     ghost use Rattle.bb_memory_core.specs.OneChunk.{StandsFor, Takes, Frees};
     ghost use Rattle.bb_memory_core.specs.OneChunkLaws.{only_chunk};
     ghost use Rattle.bb_memory_base.specs.OneChunkObject.{MayAllocate};
@@ -204,7 +203,7 @@ impl BaseAllocator for OneChunkAllocator {
 
 impl Allocator for OneChunkAllocator {
     ghost use Rattle.std.specs.Prelude.{refl};
-    ghost use Rattle.bb_memory_base.specs.Region.{Region};
+    ghost use Rattle.bb_memory_base.specs.Chunk.{Region};
     ghost use Rattle.bb_memory_core.specs.OneChunkLaws.{places_differ, covered, kept_is_live};
     ghost use Rattle.bb_memory_base.specs.OneChunkObject.{MayGrow, MayShrink, reserved_at};
 

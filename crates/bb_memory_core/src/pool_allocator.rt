@@ -1,8 +1,7 @@
 //! Allocators that cut a region into buckets of one layout, and give a bucket for each request.
 ghost use Rattle.std.specs.Prelude.{◌≡◌, ◌≢◌, [], List, ℕ, ◌*◌, ◌/◌, ◌<◌, ◌≤◌, ◌^◌, ◌↔◌, IfOk};
 ghost use Rattle.std.specs.Prelude.{IfErr, IsTrue, Some, false, replicate, slice_get, remove};
-ghost use Rattle.bb_memory_base.specs.Region.{region_at};
-ghost use Rattle.bb_memory_base.specs.Chunk.{Chunk};
+ghost use Rattle.bb_memory_base.specs.Chunk.{region_at, Chunk};
 ghost use Rattle.bb_memory_base.specs.FirstPlace.{first_place};
 ghost use Rattle.bb_memory_base.specs.PoolGeometry.{PoolGeometry, IsCut};
 ghost use Rattle.bb_memory_base.specs.declared.allocator.AllocationError.{AllocationError};

@@ -1,8 +1,7 @@
 //! The bump that threads share: its word is the position, and each thread steps with a party of its own.
 ghost use Rattle.std.specs.Prelude.{◌≡◌, ◌≢◌, ◌+◌, ◌-◌, ◌≤◌, ◌%◌, ◌∷◌, ◌++◌, [], List, All, IfOk};
 ghost use Rattle.std.specs.Prelude.{ℕ, OnErr, Some, length, slice_get, Contains};
-ghost use Rattle.bb_memory_base.specs.Region.{IsRegion, region_at};
-ghost use Rattle.bb_memory_base.specs.Chunk.{AreApart, Chunk, IsInside};
+ghost use Rattle.bb_memory_base.specs.Chunk.{IsRegion, region_at, AreApart, Chunk, IsInside};
 ghost use Rattle.bb_memory_base.specs.LiveList.{IsSound};
 ghost use Rattle.bb_memory_base.specs.BumpObject.{StandsFor};
 ghost use Rattle.bb_memory_base.specs.BumpHistory.{BumpLog, chunks_won, history_of, losses_in};
@@ -63,7 +62,7 @@ pub struct SharedBumpAllocator {
 
 impl Model for SharedBumpAllocator {
     ghost use Rattle.std.specs.Prelude.{◌≡◌};
-    ghost use Rattle.bb_memory_base.specs.Region.{region_at};
+    ghost use Rattle.bb_memory_base.specs.Chunk.{region_at};
     ghost use Rattle.bb_memory_core.specs.SharedBump.{SharedBump};
 
     ghost Value = { SharedBump };

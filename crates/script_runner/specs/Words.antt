@@ -1,7 +1,7 @@
 -- The words of a line: a name, and numbers in decimal, with a space between each two.
 use Rattle.std.specs.Prelude.{ℕ, ◌≡◌, ◌≢◌, ◌^◌, ◌<◌, List, [], ◌∷◌, ◌++◌, All}
 use Rattle.std.specs.Fmt.{decimal}
-use Rattle.bb_memory_base.specs.Region.{Region, region_at}
+use Rattle.bb_memory_base.specs.Chunk.{Region, region_at}
 use Rattle.script_runner.specs.declared.words.Bounds.{Bounds}
 use Rattle.script_runner.specs.declared.words.Numbers.{Numbers}
 use Rattle.script_runner.specs.declared.words.Numbers.TheVariants.{Zero, One, Two, Three, Four, Five}

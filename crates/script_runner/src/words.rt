@@ -4,7 +4,7 @@ ghost use Rattle.std.specs.Prelude.{IfNone, IfSome, OnOk, length, slice_index};
 ghost use Rattle.std.specs.Fmt.{decimal};
 ghost use Rattle.std.specs.Option.{SomeIff};
 ghost use Rattle.std.specs.Str.Parse.{AllDigits, digits_value};
-ghost use Rattle.bb_memory_base.specs.Region.{IsRegion};
+ghost use Rattle.bb_memory_base.specs.Chunk.{IsRegion};
 ghost use Rattle.bb_memory_base.specs.declared.layout.Layout.{Layout};
 ghost use Rattle.script_runner.specs.Words.{Words, words, list_of, AreWords, StartsWith, numbers_text, IsParty};
 ghost use Rattle.script_runner.specs.Words.{region_of, bounds_numbers};

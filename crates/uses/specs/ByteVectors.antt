@@ -2,9 +2,8 @@
 use Rattle.std.specs.Prelude.{◌≡◌, ◌∷◌, ◌++◌, ◌+◌, ◌<◌, ◌≤◌, ◌⊎◌, [], ℕ, List, Result, Ok, Err, Some}
 use Rattle.std.specs.Prelude.{IfErr, IsOk, OnOk, length, slice_get}
 use Rattle.std.specs.Align.{IsLayout}
-use Rattle.bb_memory_base.specs.Chunk.{AreApart, Chunk, IsInside}
+use Rattle.bb_memory_base.specs.Chunk.{AreApart, Chunk, IsInside, Region}
 use Rattle.bb_memory_base.specs.HeldBytes.{HeldBytes, bytes_in, held_region}
-use Rattle.bb_memory_base.specs.Region.{Region}
 use Rattle.bb_memory_base.specs.declared.layout.Layout.{Layout}
 use Rattle.bb_memory_base.specs.declared.allocator.AllocationGrowError.{AllocationGrowError}
 use Rattle.uses.specs.declared.byte_vector.PushError.{PushError}

@@ -1,7 +1,6 @@
 -- A bump that threads have carved up.
 use Rattle.std.specs.Prelude.{◌≡◌, ℕ, All, List, Result, length}
-use Rattle.bb_memory_base.specs.Chunk.{Chunk}
-use Rattle.bb_memory_base.specs.Region.{Region}
+use Rattle.bb_memory_base.specs.Chunk.{Chunk, Region}
 use Rattle.bb_memory_base.specs.declared.layout.Layout.{Layout}
 use Rattle.bb_memory_base.specs.declared.allocator.AllocationError.{AllocationError}
 use Rattle.bb_memory.specs.SharedBump.{AgreeAt, BumpParty, MayTake, greatest_seen, scene_at}

@@ -1,9 +1,8 @@
 //! The driver of rows: an owner of an allocator and its region makes a row's calls. Each call stands in a function without
 //! a clause, so a test's own proof carries none of the library's.
 ghost use Rattle.std.specs.Prelude.{◌≡◌, [], ℕ, List, Some, IfOk, IfSome, slice_get, slice_set};
-ghost use Rattle.bb_memory_base.specs.Chunk.{Chunk};
+ghost use Rattle.bb_memory_base.specs.Chunk.{Chunk, region_at};
 ghost use Rattle.bb_memory_base.specs.HeldBytes.{held_region};
-ghost use Rattle.bb_memory_base.specs.Region.{region_at};
 
 use self::kinds::{Figures, Kind, Run};
 use super::checks::{check, check_at};

@@ -5,7 +5,7 @@
 //! and which load a word more for the seat of what is detached. `deal`, `gather`, `find` and `meet` only load words, and are in
 //! no log; `open` is before all sharing, and `geometry` touches no word.
 ghost use Rattle.std.specs.Prelude.{◌≡◌, ℕ, ◌<◌, ◌≤◌, [], IfOk, MatchBool};
-ghost use Rattle.bb_memory_base.specs.Region.{IsRegion};
+ghost use Rattle.bb_memory_base.specs.Chunk.{IsRegion};
 ghost use Rattle.bb_memory_base.specs.PoolGeometry.{IsPoolGeometry};
 ghost use Rattle.bb_memory.specs.FlagWords.{bucket_of, word_of, words_for};
 ghost use Rattle.bb_memory_core.specs.Seats.{IsDealt, MayGather, Stays, both_of, number_of, view_log};

@@ -1,21 +1,18 @@
 //! The pool machine's steps, and what holds of every list of them.
 ghost use Rattle.std.specs.Prelude.{◌≡◌, ◌<◌, ◌≤◌, ◌↔◌, ◌⊎◌, ◌∷◌, ℕ, Bool, true, false, List, [], Some, None, All, drop};
 ghost use Rattle.std.specs.Prelude.{length, replicate, slice_get, slice_set, take};
-ghost use Rattle.bb_memory_base.specs.Region.{Region};
-ghost use Rattle.bb_memory_base.specs.Chunk.{Chunk};
+ghost use Rattle.bb_memory_base.specs.Chunk.{Region, Chunk, Layout};
 ghost use Rattle.bb_memory_base.specs.LiveList.{IsSound};
 ghost use Rattle.bb_memory_base.specs.PoolGeometry.{PoolGeometry, pool_geometry, FillsRegion, IsPoolGeometry, at_most};
 ghost use Rattle.bb_memory_base.specs.PoolObject.{IsHeld};
 ghost use Rattle.bb_memory_base.specs.PoolMachine.{PoolScene, IsHolder, IsDetached, IsTaken, left_by, opening_state, pool_step};
+ghost use Rattle.bb_memory_base.specs.PoolMachine.{PoolStep, Try, GiveBack, TryAt, Detach, Attach, Takes, Gives, Misses};
+ghost use Rattle.bb_memory_base.specs.PoolMachine.{Detaches, Attaches};
 ghost use Rattle.bb_memory_base.specs.PoolHistory.{PoolLog, entry_of, history_of, log_of};
 ghost use Rattle.bb_memory_base.specs.PoolCalls.{AreAsked, FoundHeld, IsCallRun, IsHeldInRun, IsPoolRun};
 ghost use Rattle.bb_memory_base.specs.PoolCalls.{IsRefusedAt, LosesAt, MissesAt};
 ghost use Rattle.bb_memory_base.specs.PoolLogs.{AllAllowed, CommonInterleaving, WasDetached, HasLog, Interleaving, IsHeldAfter};
 ghost use Rattle.bb_memory_base.specs.PoolLogs.{IsDetachedAfter, LogsAgree, loss_at, next_bucket, pass_in, with_entry};
-ghost use Rattle.bb_memory_base.specs.declared.layout.Layout.{Layout};
-ghost use Rattle.bb_memory_base.specs.declared.steps.pool.PoolStep.{PoolStep};
-ghost use Rattle.bb_memory_base.specs.declared.steps.pool.PoolStep.TheVariants.{Try, GiveBack, TryAt, Detach, Attach};
-ghost use Rattle.bb_memory_base.specs.declared.steps.pool.PoolOutcome.TheVariants.{Takes, Gives, Misses, Detaches, Attaches};
 
 /// What the flag of a bucket is. In memory a flag has two values: free, and taken for the other two.
 #[derive(Debug, Clone, Copy)]

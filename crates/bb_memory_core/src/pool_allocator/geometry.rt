@@ -1,7 +1,6 @@
 //! Where the buckets of a region are.
 ghost use Rattle.std.specs.Prelude.{◌≡◌, ℕ, ◌<◌, ◌≤◌, ◌/◌, ◌%◌, ◌↔◌, IfOk, IfSome, IfNone, IsTrue};
-ghost use Rattle.bb_memory_base.specs.Region.{IsRegion, region_at};
-ghost use Rattle.bb_memory_base.specs.Chunk.{Chunk, IsInside};
+ghost use Rattle.bb_memory_base.specs.Chunk.{IsRegion, region_at, Chunk, IsInside};
 ghost use Rattle.bb_memory_base.specs.FirstPlace.{first_place};
 ghost use Rattle.bb_memory_base.specs.PoolGeometry.{IsCut, IsPoolGeometry, at_most, bucket_place, pool_geometry, stride};
 ghost use Rattle.bb_memory_base.specs.PoolObject.{MayGrow, MayShrink};
@@ -44,7 +43,7 @@ pub struct Geometry {
 }
 
 impl Model for Geometry {
-    ghost use Rattle.bb_memory_base.specs.Region.{IsRegion, region_at};
+    ghost use Rattle.bb_memory_base.specs.Chunk.{IsRegion, region_at};
     ghost use Rattle.bb_memory_base.specs.PoolGeometry.{PoolGeometry, pool_geometry};
     ghost use Rattle.bb_memory_core.specs.Buckets.{IsMeasured};
 

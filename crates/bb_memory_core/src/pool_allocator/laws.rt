@@ -1,9 +1,8 @@
 //! What the definitions of the pool object and of its geometry say, in plain words.
 ghost use Rattle.std.specs.Prelude.{◌≡◌, ◌≢◌, ◌+◌, ◌-◌, ◌/◌, ◌^◌, ◌<◌, ◌≤◌, ◌%◌, [], List, All};
 ghost use Rattle.std.specs.Prelude.{AllPairs, ℕ, Result, Ok, Err, Some, IsOk, length, remove, slice_get};
-ghost use Rattle.bb_memory_base.specs.Region.{Region, IsRegion, region_end};
+ghost use Rattle.bb_memory_base.specs.Chunk.{Region, IsRegion, region_end, Chunk, IsInside};
 ghost use Rattle.bb_memory_base.specs.FirstPlace.{first_place};
-ghost use Rattle.bb_memory_base.specs.Chunk.{Chunk, IsInside};
 ghost use Rattle.bb_memory_base.specs.Object.{AnswersAll, GivesOnly};
 ghost use Rattle.bb_memory_base.specs.Run.{IsRun, Step};
 ghost use Rattle.bb_memory_base.specs.ResizableObject.{ResizableStep};

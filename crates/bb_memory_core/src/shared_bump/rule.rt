@@ -12,7 +12,7 @@ pub(crate) struct Scene {
 }
 
 impl Model for Scene {
-    ghost use Rattle.bb_memory_base.specs.Region.{region_at};
+    ghost use Rattle.bb_memory_base.specs.Chunk.{region_at};
     ghost use Rattle.bb_memory_base.specs.BumpMachine.{BumpScene};
     ghost use Rattle.bb_memory_core.specs.SharedBump.{scene_at};
 

@@ -1,7 +1,7 @@
 //! The driver of rows: each layer, over any allocator, makes a row's calls. The first number of a record is its length.
 ghost use Rattle.std.specs.Prelude.{◌≡◌, ℕ, List, [], Some, IsTrue, length, slice_get};
 ghost use Rattle.bb_memory_base.specs.HeldBytes.{held_region};
-ghost use Rattle.bb_memory_base.specs.Region.{region_at};
+ghost use Rattle.bb_memory_base.specs.Chunk.{region_at};
 
 use super::checks::{check, check_at};
 use allocator_tests::marks::some_was_refused;
@@ -304,9 +304,8 @@ pub(super) struct Growing<A: Allocator + Drop> {
 
 impl<A: Allocator + Drop> Model for Growing<A> {
     ghost use Rattle.std.specs.Prelude.{◌≡◌, ◌+◌, ◌≤◌, length};
-    ghost use Rattle.bb_memory_base.specs.Chunk.{IsInside};
+    ghost use Rattle.bb_memory_base.specs.Chunk.{IsInside, region_at};
     ghost use Rattle.bb_memory_base.specs.HeldBytes.{held_region};
-    ghost use Rattle.bb_memory_base.specs.Region.{region_at};
 
     // Nothing is told of a vector.
     ghost Value = { Unit {0} };

@@ -1,7 +1,7 @@
 //! The pools that the layers are driven over, and their region.
 ghost use Rattle.std.specs.Prelude.{◌≡◌, [], IfSome};
 ghost use Rattle.bb_memory_base.specs.HeldBytes.{held_region};
-ghost use Rattle.bb_memory_base.specs.Region.{region_at};
+ghost use Rattle.bb_memory_base.specs.Chunk.{region_at};
 ghost use Rattle.bb_memory.specs.Pool.{StandsFor};
 
 use allocator_tests::rows::layout_of;

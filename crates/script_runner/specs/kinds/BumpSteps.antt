@@ -1,7 +1,7 @@
 -- Scripts that take the steps of a bump machine.
 use Rattle.std.specs.Prelude.{ℕ, ◌≡◌, List, codes, true}
 use Rattle.bb_memory_base.specs.BumpWorld.{BumpWorld, opened, outcomes_of, after_steps}
-use Rattle.bb_memory_base.specs.Region.{IsRegion}
+use Rattle.bb_memory_base.specs.Chunk.{IsRegion}
 use Rattle.bb_memory_base.specs.declared.steps.bump.BumpOutcome.{BumpOutcome}
 use Rattle.bb_memory_base.specs.declared.steps.bump.BumpOutcome.TheVariants as outcome
 use Rattle.bb_memory_base.specs.declared.steps.bump.BumpStep.{BumpStep}

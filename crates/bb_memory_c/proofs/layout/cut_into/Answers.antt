@@ -1,5 +1,5 @@
 use Rattle.std.proofs.Common.{rules, refl}
-use Rattle.bb_memory_base.specs.Region.{region_at}
+use Rattle.bb_memory_base.specs.Chunk.{region_at}
 use Rattle.bb_memory_c.proofs.Layouts.{cut-or-not}
 use Rattle.bb_memory_c.proofs.layout.cut_into.Goals as goal
 

@@ -1,6 +1,6 @@
 use Rattle.std.proofs.Common.{◌≡◌, ◌≢◌, ◌≤◌, ◌∙◌, ℕ, arith, refl, sym}
 use Rattle.std.proofs.lemmas.Bool.{false≢true}
-use Rattle.bb_memory_base.specs.Region.{region_at}
+use Rattle.bb_memory_base.specs.Chunk.{region_at}
 use Rattle.bb_memory_c.proofs.Makers.{is_empty, made-already, not-cut, not-may, not-room, tried}
 use Rattle.bb_memory_c.proofs.shared_pool.bb_shared_pool_init.Goals as goal
 

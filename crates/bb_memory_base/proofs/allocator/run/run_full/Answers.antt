@@ -1,7 +1,6 @@
 use Rattle.std.proofs.Common.{◌≡◌, ◌+◌, ◌∷◌, ◌++◌, [], take, ap, sym, ◌∙◌, subst, arith}
 use Rattle.std.proofs.lemmas.List.{take_more, take_all, length-take-le}
-use Rattle.bb_memory_base.specs.declared.layout.Layout.{Layout}
-use Rattle.bb_memory_base.specs.Chunk.{Chunk}
+use Rattle.bb_memory_base.specs.Chunk.{Layout, Chunk}
 use Rattle.bb_memory_base.specs.Run.{note_after_command}
 use Rattle.bb_memory_base.specs.ResizableObject.{ResizableStep, resizable_object_of}
 use Rattle.bb_memory_base.specs.Fitting.{Fits}

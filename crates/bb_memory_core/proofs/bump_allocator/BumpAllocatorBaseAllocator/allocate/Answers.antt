@@ -1,6 +1,5 @@
 use Rattle.std.proofs.Common.{◌≡◌, ◌+◌, ◌<◌, ◌≤◌, refl, arith, ap, sym, ◌∙◌, subst}
-use Rattle.bb_memory_base.specs.Region.{region_end}
-use Rattle.bb_memory_base.specs.Chunk.{Chunk, chunk_end}
+use Rattle.bb_memory_base.specs.Chunk.{region_end, Chunk, chunk_end}
 use Rattle.bb_memory_base.specs.BumpObject.{StandsFor, chunk_at_or_after, next_chunk}
 use Rattle.bb_memory_base.proofs.LiveLists.{StandsFor-end, StandsFor-push}
 use Rattle.bb_memory_core.specs.Bump.{Bump, bump_of}

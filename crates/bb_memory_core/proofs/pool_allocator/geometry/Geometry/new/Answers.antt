@@ -1,5 +1,5 @@
 use Rattle.std.proofs.Common.{◌≡◌, ◌/◌, arith, subst, ℕ, sym}
-use Rattle.bb_memory_base.specs.Region.{Region, region_at}
+use Rattle.bb_memory_base.specs.Chunk.{Region, region_at}
 use Rattle.bb_memory_base.specs.FirstPlace.{first_place}
 use Rattle.bb_memory_base.specs.PoolGeometry.{IsCut, pool_geometry}
 use Rattle.bb_memory_core.proofs.Cuts.{stride-positive, room_for, room-cut, may-be-cut-few, some-value}
