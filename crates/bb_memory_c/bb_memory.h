@@ -71,7 +71,7 @@ extern "C" {
 // The version of this library, as text and by its numbers. The last of them grows with each version, for `#if`.
 #define BB_VERSION "0.12.0"
 #define BB_VERSION_MAJOR 0
-#define BB_VERSION_MINOR 11
+#define BB_VERSION_MINOR 12
 #define BB_VERSION_PATCH 0
 #define BB_VERSION_NUMBER (BB_VERSION_MAJOR * 10000 + BB_VERSION_MINOR * 100 + BB_VERSION_PATCH)
 

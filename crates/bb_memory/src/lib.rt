@@ -16,6 +16,8 @@
 #![tactic(auto)]
 
 pub use bb_memory_base::{allocator, equality, layout, region, steps};
-pub use bb_memory_core::{bump_allocator, heap_allocator, one_chunk_allocator, pool_allocator, shared_bump};
+pub use bb_memory_core::{
+    bump_allocator, heap_allocator, one_chunk_allocator, pool_allocator, shared_bump,
+};
 
 pub mod shared_pool;

@@ -42,8 +42,13 @@ multiple place layout wider le is =
     let high = layout-plain wider.size wider.align in
     let divides = power-divides layout.align wider.align (low.0 layout.valid).0 (high.0 wider.valid).0 le in
     let whole : place ≡ place / wider.align * divides.0 * layout.align + 0 =
-    omega (arith, div-add-mod' place wider.align, is, ap (λ h. place / wider.align * h) divides.1,
-    mul_assoc (place / wider.align) divides.0 layout.align) in
+    omega (
+      arith,
+      div-add-mod' place wider.align,
+      is,
+      ap (λ h. place / wider.align * h) divides.1,
+      mul_assoc (place / wider.align) divides.0 layout.align,
+    ) in
     ap (λ m. m % layout.align) whole ∙ mod-mul-add (place / wider.align * divides.0) layout.align 0 layout.valid.positive
 
 -- no bytes have a layout

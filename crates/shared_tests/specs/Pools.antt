@@ -2,8 +2,8 @@
 use Rattle.std.specs.Prelude.{◌≡◌}
 use Rattle.bb_memory_base.specs.PoolLogs.{IsHeldAfter}
 use Rattle.bb_memory.specs.SharedPool.{PoolParty, SharedPool, TakenBucket}
-use Rattle.shared_tests.specs.declared.tests.pools.Form.{Form}
-use Rattle.shared_tests.specs.declared.tests.pools.Form.TheVariants.{Whole, Four}
+use Rattle.shared_tests.specs.declared.form.Form.{Form}
+use Rattle.shared_tests.specs.declared.form.Form.TheVariants.{Whole, Four}
 
 abbrev pub shown : Form → SharedPool
 shown (Whole pool) = pool

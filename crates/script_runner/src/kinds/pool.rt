@@ -7,7 +7,9 @@ use crate::kinds::allocators::Scripted;
 use crate::words::{Numbers, is, layout};
 use bb_memory_core::allocator::{Command, Reply};
 use bb_memory_core::layout::{Chunk, Layout};
-use bb_memory_core::pool_allocator::{FixedSizePoolAllocator, PoolAllocator, run_fixed_pool, run_pool};
+use bb_memory_core::pool_allocator::{
+    FixedSizePoolAllocator, PoolAllocator, run_fixed_pool, run_pool,
+};
 use std::alloc::{AllocError, Global};
 use std::io;
 use std::io::Write;

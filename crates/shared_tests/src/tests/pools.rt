@@ -6,6 +6,7 @@ ghost use Rattle.bb_memory.specs.Pool.{MayBeCut};
 ghost use Rattle.bb_memory.specs.SharedPool.{IsAlignedTo, IsResizedTo};
 ghost use Rattle.shared_tests.specs.Pools.{IsKeptBy};
 
+use crate::form::Form;
 use allocator_tests::rows::{Words, layout_of};
 use bb_memory::layout::{Chunk, Layout};
 use bb_memory::pool_allocator::PoolAllocator;
@@ -15,12 +16,6 @@ use bb_memory::shared_pool::{
 };
 use std::alloc::Global;
 use std::marker::Model;
-
-#[derive(Drop)]
-enum Form {
-    Whole(SharedPoolAllocator),
-    Four(SharedFixedSizePoolAllocator<4>),
-}
 
 /// A shared pool of either form.
 #[derive(Drop)]
