@@ -26,7 +26,8 @@ use Rattle.bb_memory_base.proofs.PoolSteps.{test_same}
 use Rattle.bb_memory_base.proofs.PoolDetached.{was_detached_before}
 use Rattle.bb_memory.specs.SharedPool.{HasTaker, HaveMet, WasDetachedByOne, IsHeldByOne, IsHeldOrDetached, IsSharedScene}
 use Rattle.bb_memory.specs.SharedPool.{IsTaking, PoolParty, TookOne, losses, refused_pass}
-use Rattle.bb_memory_core.proofs.Contained.{any_contained, contains-filter, contains-first, contains_at, contains-none, one_of_figure}
+use Rattle.bb_memory_core.proofs.Contained.{any_contained, contains-filter, contains-first, contains_at, contains-none}
+use Rattle.bb_memory_core.proofs.Contained.{one_of_figure}
 
 module _ (scene : PoolScene) (parties : List PoolParty) (met : HaveMet scene parties) where
   abbrev steps : List PoolStep

@@ -1,7 +1,8 @@
 //! Allocators over a region that is handed in as numbers: a start and a size in bytes.
 //!
-//! `allocator`, `equality`, `layout`, `region` and `steps` are passed on from `bb_memory_base`; `bump_allocator`, `heap_allocator`,
-//! `one_chunk_allocator`, `pool_allocator` and `shared_bump` from `bb_memory_core`, which a user of these alone may take in its place.
+//! `allocator`, `equality`, `layout`, `region` and `steps` are passed on from `bb_memory_base`; `bump_allocator`,
+//! `heap_allocator`, `one_chunk_allocator`, `pool_allocator` and `shared_bump` from `bb_memory_core`, which a user of these
+//! alone may take in its place.
 //! Here stand the pools that threads share, in the order in which to read them:
 //!
 //! - `shared_pool`: pools that threads share.

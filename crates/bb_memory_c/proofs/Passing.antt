@@ -1,7 +1,8 @@
 -- What is held is taken apart and put together again under another name. Assumes `Logic`.
 use Rattle.std.proofs.Common.{◌≡◌, List, [], ◌∷◌, ◌++◌, refl, sym, ap, subst}
 use lib.Dec.{T}
-use mir.Syntax.{Fn, Sym, Callee, Tys, tcons, tnil, ty_struct, ty_ptr, ty_bool, local, value_local, seq, assign, return, place, field, rv_opd, copy, aggregate}
+use mir.Syntax.{Fn, Sym, Callee, Tys, tcons, tnil, ty_struct, ty_ptr, ty_bool, local, value_local, seq, assign, return, place}
+use mir.Syntax.{field, rv_opd, copy, aggregate}
 use mir.Val.{Val}
 use seplogic.Ra.Ura.{Ura}
 use base.Logic.{SProp, ent, emp, id⊢}

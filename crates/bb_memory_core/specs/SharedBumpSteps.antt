@@ -15,7 +15,8 @@ use Rattle.bb_memory_base.specs.declared.steps.bump.BumpOutcome.{BumpOutcome}
 use Rattle.bb_memory_base.specs.declared.steps.bump.BumpOutcome.TheVariants.{Loaded}
 use Rattle.bb_memory_core.specs.Seats.{HaveLogs, number_of, times_in, view_log}
 use Rattle.bb_memory_core.specs.SharedBump.{HasChunksWithin, HaveChunksApart, IsRefused, IsWon, SharedBump}
-use Rattle.bb_memory_core.specs.SharedBumpRule.{IsIdleAt, IsSeatOf, IsSeatOfIdle, NumberedLog, SeatView, meeting_of, met_by, scene_of}
+use Rattle.bb_memory_core.specs.SharedBumpRule.{IsIdleAt, IsSeatOf, IsSeatOfIdle, NumberedLog, SeatView, meeting_of, met_by}
+use Rattle.bb_memory_core.specs.SharedBumpRule.{scene_of}
 
 -- WHAT A STEP TELLS
 

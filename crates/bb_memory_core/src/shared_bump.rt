@@ -9,7 +9,8 @@ ghost use Rattle.bb_memory_base.specs.BumpCalls.{IsCallRun, OpensWith, calls_of,
 ghost use Rattle.bb_memory_base.specs.BumpLogs.{Interleaving};
 ghost use Rattle.bb_memory_core.specs.SharedBump.{AgreeAt, AreBothOf, AreFresh, AreInterleaved, BumpParty, HasChunksWithin};
 ghost use Rattle.bb_memory_core.specs.SharedBump.{HaveChunksApart};
-ghost use Rattle.bb_memory_core.specs.SharedBump.{HasLoaded, HaveMet, IsAnsweredAt, IsFoundBy, IsInterleaved, IsParty, IsSameParty};
+ghost use Rattle.bb_memory_core.specs.SharedBump.{HasLoaded, HaveMet, IsAnsweredAt, IsFoundBy, IsInterleaved, IsParty};
+ghost use Rattle.bb_memory_core.specs.SharedBump.{IsSameParty};
 ghost use Rattle.bb_memory_core.specs.SharedBump.{IsSharedScene, MayTake, MeetAt};
 ghost use Rattle.bb_memory_core.specs.SharedBump.{floor_of, greatest_seen, meeting_at, scene_at, seen_by};
 ghost use Rattle.bb_memory_core.specs.SharedBump.{with_entries};

@@ -3,7 +3,8 @@ use Rattle.atomic_table.specs.Table.{Me}
 use Rattle.bb_memory_base.specs.BumpHistory.{chunks_won}
 use Rattle.bb_memory_core.specs.Seats.{number_of, view_log}
 use Rattle.bb_memory_core.specs.SharedBumpRule.{SeatView, met_by}
-use Rattle.bb_memory_core.proofs.SharedBumpAnswers.{alone_refused, alone_won, answers_refused, answers_won, behind_floor, ended_by}
+use Rattle.bb_memory_core.proofs.SharedBumpAnswers.{alone_refused, alone_won, answers_refused, answers_won, behind_floor}
+use Rattle.bb_memory_core.proofs.SharedBumpAnswers.{ended_by}
 use Rattle.bb_memory_core.proofs.SharedBumpAnswers.{found_by}
 use Rattle.bb_memory_core.proofs.SharedBumpAnswers.{lost_by, nothing_found, nothing_lost, won_by}
 use Rattle.bb_memory_core.proofs.shared_bump.SharedBumpAllocator.allocate.Goals.{in-Some, in-None}

@@ -3,7 +3,8 @@ use Rattle.bb_memory_core.proofs.LowestBits.{taken}
 use Rattle.bb_memory_core.proofs.NumberWords.{full_words, has_bound, word_count}
 use Rattle.bb_memory_core.proofs.OpenWords.{hand_full, set_left, set_filled}
 use Rattle.bb_memory_core.proofs.index_set.words.WordsIndexSet.take.Goals as goal
-use Rattle.bb_memory_core.proofs.index_set.words.WordsIndexSet.take.Goals.{then-left+then-self-gt0, then-left+else-self-gt0, else-left}
+use Rattle.bb_memory_core.proofs.index_set.words.WordsIndexSet.take.Goals.{then-left+then-self-gt0, then-left+else-self-gt0}
+use Rattle.bb_memory_core.proofs.index_set.words.WordsIndexSet.take.Goals.{else-left}
 
 pub returns-then-self-eq0-clause-full : goal.returns-then-self-eq0-clause-full
 returns-then-self-eq0-clause-full g c = λ number within.

@@ -1,4 +1,5 @@
-use Rattle.bb_memory_core.proofs.PoolCalls.{Takes-answer, Takes-appended, Takes-inside, Takes-aligned, Takes-given, TakesBucket-is}
+use Rattle.bb_memory_core.proofs.PoolCalls.{Takes-answer, Takes-appended, Takes-inside, Takes-aligned, Takes-given}
+use Rattle.bb_memory_core.proofs.PoolCalls.{TakesBucket-is}
 use Rattle.bb_memory_core.proofs.pool_allocator.bucket_pool.BucketPoolBaseAllocator.allocate.Goals as goal
 
 pub returns-clause-answer : goal.returns-clause-answer
