@@ -6,6 +6,29 @@ use bb_memory::layout::{Chunk, Layout};
 /// A word and its numbers, then zeros.
 pub type Words<'a> = (&'a str, [usize; 6]);
 
+/// Answers the calls of a row.
+pub trait Answers {
+    /// Makes a call.
+    fn answer(&mut self, call: Words<'_>) -> Words<'static>;
+
+    /// Returns whether the answer to the last call is one that a row wants.
+    fn is_wanted(&self, told: Words<'_>, wanted: Words<'_>) -> bool {
+        told == wanted
+    }
+}
+
+/// Makes a row's calls in order, up to the first one that is answered otherwise. Returns the number of that call, from 0.
+pub fn first_wrong<A: Answers>(caller: &mut A, calls: &str) -> Option<usize> {
+    for (number, call) in calls.split("; ").enumerate() {
+        let (call, wanted) = call_and_answer(call);
+        let told = caller.answer(call);
+        if !caller.is_wanted(told, wanted) {
+            return Some(number);
+        }
+    }
+    None
+}
+
 /// Splits a row behind its first field.
 pub fn field_and_rest(row: &str) -> (&str, &str) {
     row.split_once(" | ").unwrap_or((row, ""))

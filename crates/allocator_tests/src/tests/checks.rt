@@ -13,6 +13,11 @@ pub(super) fn check_at(rt: &impl Abort, found: bool, row: &str, at: usize) {
     assert!(rt; found, "{row}: call {at}");
 }
 
+/// Checks that no call of a row was answered otherwise.
+pub(super) fn check_row(rt: &impl Abort, wrong: Option<usize>, row: &str) {
+    assert!(rt; wrong.is_none(), "{row}: call {wrong:?}");
+}
+
 /// Makes a layout, which has to be there.
 pub(super) fn layout(rt: &impl Abort, size: usize, align: usize) -> Layout {
     layout_of(size, align).expect(rt, "there is such a layout")

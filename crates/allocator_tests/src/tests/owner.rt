@@ -5,12 +5,12 @@ ghost use Rattle.bb_memory_base.specs.Chunk.{Chunk, region_at};
 ghost use Rattle.bb_memory_base.specs.HeldBytes.{held_region};
 
 use self::kinds::{Figures, Kind, Run};
-use super::checks::{check, check_at};
+use super::checks::{check, check_row};
 use super::refused_in_turn::ends_unmade;
 use crate::marks::{none_was_asked, refuse_memory, some_was_refused};
 use crate::rows::{
-    Words, alone, call_and_answer, counted, field_and_rest, layout_of, may_be_told, of_chunk,
-    of_growth, of_refusal, of_reply, of_shrinking, yes_or_no,
+    Answers, Words, alone, call_and_answer, counted, field_and_rest, first_wrong, layout_of,
+    may_be_told, of_chunk, of_growth, of_refusal, of_reply, of_shrinking, yes_or_no,
 };
 use bb_memory::allocator::{Allocator, BaseAllocator, Command, Reply, run_base, run_full};
 use bb_memory::layout::{Chunk, Layout};
@@ -274,32 +274,51 @@ fn commands_of(alloc: Global, calls: &str) -> Option<Vec<Command>> {
     Some(commands)
 }
 
-/// Returns whether a run replies what a row's calls want. A run without resizes passes over each resize.
-fn are_replies(run: Run, replies: &[Reply], calls: &str) -> bool {
-    let mut first = 0;
-    let mut left = replies.iter();
-    for call in calls.split("; ") {
-        let Some(reply) = left.next() else {
-            return false;
-        };
-        let told = of_reply(*reply);
-        if first == 0 && told.0 == "chunk" {
-            first = told.1[0];
-        }
-        let (call, wanted) = call_and_answer(call);
-        let is_passed = layouts(call).is_some() && !run.resizes;
-        if !may_be_told(
-            told,
-            if is_passed { alone("passed") } else { wanted },
-            first,
-        ) {
-            return false;
-        }
-    }
-    left.next().is_none()
+/// The replies of a run that are left, in order. A run without resizes passes over each resize.
+#[derive(Drop)]
+struct Replies<'a> {
+    left: &'a [Reply],
+    run: Run,
+    /// The place of the first allocated chunk, or 0.
+    first: usize,
+    /// Whether the last call was passed over.
+    passed_over: bool,
 }
 
-impl<A: Kind> Owner<A> {
+impl<'a> Answers for Replies<'a> {
+    fn answer(&mut self, call: Words<'_>) -> Words<'static> {
+        let Some((reply, left)) = self.left.split_first() else {
+            return alone("no reply");
+        };
+        let told = of_reply(*reply);
+        self.left = left;
+        self.passed_over = layouts(call).is_some() && !self.run.resizes;
+        if self.first == 0 && told.0 == "chunk" {
+            self.first = told.1[0];
+        }
+        told
+    }
+
+    fn is_wanted(&self, told: Words<'_>, wanted: Words<'_>) -> bool {
+        if self.passed_over {
+            return told == alone("passed");
+        }
+        may_be_told(told, wanted, self.first)
+    }
+}
+
+/// Returns whether a run replies what a row's calls want.
+fn are_replies(run: Run, replies: &[Reply], calls: &str) -> bool {
+    let mut replies = Replies {
+        left: replies,
+        run,
+        first: 0,
+        passed_over: false,
+    };
+    first_wrong(&mut replies, calls).is_none() && replies.left.is_empty()
+}
+
+impl<A: Kind> Answers for Owner<A> {
     fn answer(&mut self, call: Words<'_>) -> Words<'static> {
         if call.0 != "figures" {
             return A::answer(self, call);
@@ -310,22 +329,12 @@ impl<A: Kind> Owner<A> {
         ("are", self.allocator.figures())
     }
 
-    /// Makes a row's calls, and checks each answer.
-    fn keeps(&mut self, rt: &impl Abort, name: &str, calls: &str) {
-        for (number, call) in calls.split("; ").enumerate() {
-            let (call, wanted) = call_and_answer(call);
-            let told = self.answer(call);
-            check_at(rt, may_be_told(told, wanted, self.first), name, number);
-        }
+    fn is_wanted(&self, told: Words<'_>, wanted: Words<'_>) -> bool {
+        may_be_told(told, wanted, self.first)
     }
+}
 
-    /// Makes a row's calls, and checks each answer and that no call asks for memory.
-    fn keeps_without_memory(&mut self, rt: &impl Abort, alloc: Global, name: &str, calls: &str) {
-        refuse_memory(alloc);
-        self.keeps(rt, name, calls);
-        check(rt, none_was_asked(alloc));
-    }
-
+impl<A: Kind> Owner<A> {
     /// Runs commands, a second time where memory was refused: then nothing is live, and the getters answer as before.
     fn replies(
         &mut self,
@@ -354,7 +363,7 @@ impl<A: Kind> Owner<A> {
             Ok(replies) => assert!(rt; are_replies(run, &replies, calls), "{name}: {run:?}"),
             Err(_) => panic!(rt; "there is memory again"),
         }
-        self.keeps(rt, name, then);
+        check_row(rt, first_wrong(self, then), name);
     }
 }
 
@@ -368,7 +377,11 @@ fn keeps<A: Kind>(
 ) {
     match (made, run) {
         (Some(mut owner), Some(run)) => owner.keeps_by_run(rt, alloc, run, name, calls),
-        (Some(mut owner), None) => owner.keeps_without_memory(rt, alloc, name, calls),
+        (Some(mut owner), None) => {
+            refuse_memory(alloc);
+            check_row(rt, first_wrong(&mut owner, calls), name);
+            check(rt, none_was_asked(alloc));
+        }
         (None, _) => ends_unmade(rt, alloc),
     }
 }

@@ -1,10 +1,11 @@
 //! The driver of a shared bump's rows: its parties make a row's calls.
 ghost use Rattle.std.specs.Prelude.{◌≡◌, All, IfOk};
 
-use super::checks::{check, check_at, fail};
+use super::checks::{check, check_row, fail};
 use allocator_tests::marks::{none_was_asked, refuse_memory, some_was_refused};
 use allocator_tests::rows::{
-    Words, alone, call_and_answer, counted, field_and_rest, layout_of, of_chunk, of_refusal, words,
+    Answers, Words, alone, counted, field_and_rest, first_wrong, layout_of, of_chunk, of_refusal,
+    words,
 };
 use bb_memory::bump_allocator::{BaseAllocator, BumpAllocator};
 use bb_memory::shared_bump::{BumpParty, SharedBumpAllocator};
@@ -134,7 +135,24 @@ impl Sharers {
         }
     }
 
-    /// Makes a call.
+    /// Hands the bump back by the last party, or by all.
+    fn owner(self, by: &str) -> Option<BumpAllocator> {
+        let Sharers {
+            shared,
+            mut parties,
+            count,
+        } = self;
+        match by {
+            "last" => Some(shared.into_owner(parties.pop()?)),
+            "all" if u32::try_from(parties.len()) == Ok(count) => {
+                Some(shared.into_owner_all(parties))
+            }
+            _ => None,
+        }
+    }
+}
+
+impl Answers for Sharers {
     fn answer(&mut self, call: Words<'_>) -> Words<'static> {
         let party = call.1[0];
         match call.0 {
@@ -157,22 +175,6 @@ impl Sharers {
             },
         }
     }
-
-    /// Hands the bump back by the last party, or by all.
-    fn owner(self, by: &str) -> Option<BumpAllocator> {
-        let Sharers {
-            shared,
-            mut parties,
-            count,
-        } = self;
-        match by {
-            "last" => Some(shared.into_owner(parties.pop()?)),
-            "all" if u32::try_from(parties.len()) == Ok(count) => {
-                Some(shared.into_owner_all(parties))
-            }
-            _ => None,
-        }
-    }
 }
 
 /// Returns the start, the size and the used space of a bump.
@@ -184,10 +186,7 @@ pub(super) fn figures_of(bump: &BumpAllocator) -> [usize; 3] {
 pub(super) fn keeps(rt: &impl Abort, alloc: Global, mut sharers: Sharers, name: &str, row: &str) {
     let (calls, end) = field_and_rest(row);
     refuse_memory(alloc);
-    for (number, call) in calls.split("; ").enumerate() {
-        let (call, wanted) = call_and_answer(call);
-        check_at(rt, sharers.answer(call) == wanted, name, number);
-    }
+    check_row(rt, first_wrong(&mut sharers, calls), name);
     if !end.is_empty() {
         let (by, [start, size, used, ..]) = words(end);
         let owner = sharers.owner(by).map(|bump| figures_of(&bump));

@@ -1,13 +1,13 @@
 //! The driver of a shared pool's rows: its parties make a row's calls.
 ghost use Rattle.std.specs.Prelude.{◌≡◌, All, IfSome};
 
-use super::checks::{check, check_at, fail};
+use super::checks::{check, check_row, fail};
 use super::pools::{Pool, made};
 use super::refused_in_turn::ends_unmade;
 use allocator_tests::marks::{none_was_asked, refuse_memory, some_was_refused};
 use allocator_tests::rows::{
-    Words, alone, call_and_answer, counted, field_and_rest, layout_of, number_or_none, of_chunk,
-    of_growth, of_refusal, of_shrinking, words,
+    Answers, Words, alone, counted, field_and_rest, first_wrong, layout_of, number_or_none,
+    of_chunk, of_growth, of_refusal, of_shrinking, words,
 };
 use bb_memory::layout::Layout;
 use bb_memory::shared_pool::{Bucket, DetachedBucket, PoolParty};
@@ -291,8 +291,9 @@ impl<'a> Users<'a> {
             None => alone("no-party"),
         }
     }
+}
 
-    /// Makes a call.
+impl<'a> Answers for Users<'a> {
     fn answer(&mut self, call: Words<'_>) -> Words<'static> {
         let at = call.1[0];
         match call.0 {
@@ -314,19 +315,9 @@ impl<'a> Users<'a> {
             },
         }
     }
-
-    /// Makes a row's calls without a request for memory.
-    fn keeps(&mut self, rt: &impl Abort, alloc: Global, name: &str, calls: &str) {
-        refuse_memory(alloc);
-        for (number, call) in calls.split("; ").enumerate() {
-            let (call, wanted) = call_and_answer(call);
-            check_at(rt, self.answer(call) == wanted, name, number);
-        }
-        check(rt, none_was_asked(alloc));
-    }
 }
 
-/// Makes the parties' calls of a row.
+/// Makes the parties' calls of a row without a request for memory.
 pub(super) fn keeps(
     rt: &impl Abort,
     alloc: Global,
@@ -337,7 +328,11 @@ pub(super) fn keeps(
     requires { All (λ party. party.allocator ≡ pool.now) parties.items }
 {
     match Users::new(alloc, pool, parties) {
-        Ok(mut users) => users.keeps(rt, alloc, row.0, row.1),
+        Ok(mut users) => {
+            refuse_memory(alloc);
+            check_row(rt, first_wrong(&mut users, row.1), row.0);
+            check(rt, none_was_asked(alloc));
+        }
         Err(_) => ends_unmade(rt, alloc),
     }
 }

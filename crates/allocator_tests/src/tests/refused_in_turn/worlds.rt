@@ -1,8 +1,8 @@
 //! Worlds and their replays, each row by its name. A refused replay leaves its world unchanged.
 use super::ends_unmade;
 use crate::marks::some_was_refused;
-use crate::rows::{Words, alone, call_and_answer, counted, number_or_none};
-use crate::tests::checks::{check, check_at, chunk, layout};
+use crate::rows::{Answers, Words, alone, call_and_answer, counted, first_wrong, number_or_none};
+use crate::tests::checks::{check, check_row, chunk, layout};
 use bb_memory::steps::{BumpOutcome, BumpStep, BumpWorld, PoolOutcome, PoolStep, PoolWorld};
 use std::alloc::Global;
 use std::process::Abort;
@@ -84,23 +84,33 @@ fn of_outcome(outcome: PoolOutcome) -> Words<'static> {
     counted(word, bucket as usize)
 }
 
-/// Makes a step, or asks who holds a bucket: `holder BUCKET`.
-fn answer(world: &mut PoolWorld, call: Words<'_>) -> Words<'static> {
-    match (call.0, pool_step(call)) {
-        ("holder", _) => {
-            let bucket = u32::try_from(call.1[0]).unwrap_or(u32::MAX);
-            number_or_none(world.holder(bucket).map(|party| party as usize))
+/// Makes steps, or tells who holds a bucket: `holder BUCKET`.
+impl Answers for PoolWorld {
+    fn answer(&mut self, call: Words<'_>) -> Words<'static> {
+        match (call.0, pool_step(call)) {
+            ("holder", _) => {
+                let bucket = u32::try_from(call.1[0]).unwrap_or(u32::MAX);
+                number_or_none(self.holder(bucket).map(|party| party as usize))
+            }
+            (_, Some(step)) => of_outcome(self.step(step)),
+            (_, None) => alone("no such call"),
         }
-        (_, Some(step)) => of_outcome(world.step(step)),
-        (_, None) => alone("no such call"),
     }
 }
 
-/// Makes a row's steps, and checks each outcome.
-pub(super) fn keeps(rt: &impl Abort, world: &mut PoolWorld, name: &str, calls: &str) {
-    for (number, call) in calls.split("; ").enumerate() {
-        let (call, wanted) = call_and_answer(call);
-        check_at(rt, answer(world, call) == wanted, name, number);
+/// The outcomes of a replay that are left, in order.
+#[derive(Drop)]
+struct Outcomes<'a>(&'a [PoolOutcome]);
+
+impl<'a> Answers for Outcomes<'a> {
+    fn answer(&mut self, _call: Words<'_>) -> Words<'static> {
+        match self.0.split_first() {
+            Some((outcome, left)) => {
+                self.0 = left;
+                of_outcome(*outcome)
+            }
+            None => alone("no outcome"),
+        }
     }
 }
 
@@ -117,17 +127,6 @@ fn pool_steps(alloc: Global, calls: &str) -> Option<Vec<PoolStep>> {
     Some(steps)
 }
 
-/// Returns whether a replay's outcomes are those of a row.
-fn are_told(outcomes: &[PoolOutcome], calls: &str) -> bool {
-    let mut left = outcomes.iter();
-    for call in calls.split("; ") {
-        if left.next().map(|outcome| of_outcome(*outcome)) != Some(call_and_answer(call).1) {
-            return false;
-        }
-    }
-    left.next().is_none()
-}
-
 /// Replays steps, a second time where memory was refused: then the pool is still fresh.
 fn replayed_by_pool(
     rt: &impl Abort,
@@ -139,12 +138,8 @@ fn replayed_by_pool(
         return told;
     }
     check(rt, some_was_refused(alloc));
-    keeps(
-        rt,
-        world,
-        "a refused replay",
-        "holder 0 = none; holder 1 = none; give 0 0 = passed",
-    );
+    let fresh = "holder 0 = none; holder 1 = none; give 0 0 = passed";
+    check_row(rt, first_wrong(world, fresh), "a refused replay");
     world.replay(steps).expect(rt, "there is memory again")
 }
 
@@ -157,11 +152,9 @@ fn steps_pool_never_full(rt: HostRuntime) {
         return ends_unmade(&rt, rt.alloc());
     };
     let told = replayed_by_pool(&rt, rt.alloc(), &mut world, &steps);
-    check(&rt, are_told(&told, NEVER_FULL));
-    keeps(
-        &rt,
-        &mut world,
-        "held - 1",
-        "holder 0 = none; holder 1 = is 1",
-    );
+    let mut outcomes = Outcomes(&told);
+    check_row(&rt, first_wrong(&mut outcomes, NEVER_FULL), "outcomes");
+    check(&rt, outcomes.0.is_empty());
+    let held = "holder 0 = none; holder 1 = is 1";
+    check_row(&rt, first_wrong(&mut world, held), "held - 1");
 }

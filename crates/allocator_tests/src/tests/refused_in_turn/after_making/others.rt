@@ -2,10 +2,10 @@
 use super::super::blocks::shrinks_without_memory;
 use super::super::ends_unmade;
 use super::super::loans::{is_full, keeps_without_memory};
-use super::super::worlds::{bump_world, keeps, pool_world};
+use super::super::worlds::{bump_world, pool_world};
 use crate::marks::{none_was_asked, refuse_memory};
-use crate::rows::field_and_rest;
-use crate::tests::checks::{check, chunk, layout};
+use crate::rows::{field_and_rest, first_wrong};
+use crate::tests::checks::{check, check_row, chunk, layout};
 use crate::tests::owner::kinds::pool_over;
 use bb_memory::steps::{BumpOutcome, BumpStep, BumpWorld};
 use std::process::Abort;
@@ -79,7 +79,7 @@ fn pool_worlds(rt: HostRuntime) {
             return ends_unmade(&rt, rt.alloc());
         };
         refuse_memory(rt.alloc());
-        keeps(&rt, &mut world, name, calls);
+        check_row(&rt, first_wrong(&mut world, calls), name);
         check(&rt, none_was_asked(rt.alloc()));
     }
 }

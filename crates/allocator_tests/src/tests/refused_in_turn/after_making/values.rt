@@ -2,9 +2,9 @@
 use super::super::ends_unmade;
 use crate::marks::{none_was_asked, refuse_memory};
 use crate::rows::{
-    Words, alone, call_and_answer, field_and_rest, layout_of, number_or_none, yes_or_no,
+    Answers, Words, alone, field_and_rest, first_wrong, layout_of, number_or_none, yes_or_no,
 };
-use crate::tests::checks::{check, check_at};
+use crate::tests::checks::{check, check_row};
 use crate::tests::owner::kinds::fixed_over;
 use bb_memory::bump_allocator::{BumpAllocator, bump_object_law};
 use bb_memory::heap_allocator::heap_law;
@@ -65,6 +65,16 @@ fn answered(word: &str, start: usize, size: usize, bucket: Layout) -> Words<'sta
     }
 }
 
+/// Calls that are of no object.
+#[derive(Drop)]
+struct NoObject;
+
+impl Answers for NoObject {
+    fn answer(&mut self, call: Words<'_>) -> Words<'static> {
+        answer(call)
+    }
+}
+
 /// Makes a call.
 fn answer(call: Words<'_>) -> Words<'static> {
     let [first, second, third, fourth, ..] = call.1;
@@ -86,10 +96,7 @@ fn values(rt: HostRuntime) {
     refuse_memory(rt.alloc());
     for row in ROWS.split('\n') {
         let (name, calls) = field_and_rest(row);
-        for (number, call) in calls.split("; ").enumerate() {
-            let (call, wanted) = call_and_answer(call);
-            check_at(&rt, answer(call) == wanted, name, number);
-        }
+        check_row(&rt, first_wrong(&mut NoObject, calls), name);
     }
     check(&rt, none_was_asked(rt.alloc()));
 }
