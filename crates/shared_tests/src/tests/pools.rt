@@ -126,11 +126,11 @@ impl Pool {
         }
     }
 
-    /// Asks for a bucket, by a round or by a pass.
+    /// Asks for a bucket, by a next-fit search or by a pass.
     pub(super) fn ask(
         &self,
         party: &mut PoolParty,
-        near: bool,
+        next_fit: bool,
         layout: Layout,
     ) -> Result<Bucket<'_>, AllocationError>
         requires { party.old.allocator ≡ self.now }
@@ -139,11 +139,11 @@ impl Pool {
         ensures still_held { (other : ℕ) → IsHeldAfter party.old.log other
             → IsHeldAfter party.new.log other }
     {
-        match (&self.form, near) {
+        match (&self.form, next_fit) {
             (Form::Whole(pool), false) => pool.allocate(party, layout),
-            (Form::Whole(pool), true) => pool.allocate_near(party, layout),
+            (Form::Whole(pool), true) => pool.allocate_next_fit(party, layout),
             (Form::Four(pool), false) => pool.allocate(party, layout),
-            (Form::Four(pool), true) => pool.allocate_near(party, layout),
+            (Form::Four(pool), true) => pool.allocate_next_fit(party, layout),
         }
     }
 

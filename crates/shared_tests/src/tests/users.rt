@@ -69,11 +69,11 @@ fn take<'a>(pool: &'a Pool, user: &mut User<'a>, call: &str, layout: Layout) -> 
     requires { user.old ≡ pool.now }
     ensures { user.new ≡ pool.now }
 {
-    let near = call == "near" || call == "keep-near";
-    match pool.ask(&mut user.party, near, layout) {
+    let next_fit = call == "fit" || call == "keep-fit";
+    match pool.ask(&mut user.party, next_fit, layout) {
         Ok(bucket) => {
             let told = of_bucket(&bucket);
-            if call == "keep" || call == "keep-near" {
+            if call == "keep" || call == "keep-fit" {
                 user.kept = Some(bucket);
             }
             told
@@ -154,7 +154,7 @@ fn answered<'a>(pool: &'a Pool, user: &mut User<'a>, call: Words<'_>) -> Words<'
     match (call.0, layout_of(size, align), &user.kept) {
         ("number", _, _) => counted("is", user.party.number() as usize),
         ("token", _, Some(bucket)) => of_bucket(bucket),
-        ("take" | "keep" | "near" | "keep-near", Some(layout), _) => {
+        ("take" | "keep" | "fit" | "keep-fit", Some(layout), _) => {
             take(pool, user, call.0, layout)
         }
         ("give", _, _) => give(pool, user),

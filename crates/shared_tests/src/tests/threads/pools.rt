@@ -59,12 +59,12 @@ fn marked(marks: &Marks, number: u32) -> u64 {
     }
 }
 
-/// Takes a bucket, by a round or by a pass, `times` times, and goes on where it is refused. Where it `returns` its buckets it
+/// Takes a bucket, by a next-fit search or by a pass, `times` times, and goes on where it is refused. Where it `returns` its buckets it
 /// tells how often one was somebody else's, or none of the eight; where it drops the tokens, how many it took.
 #[derive(Drop)]
 struct Takes {
     marks: Marks,
-    near: bool,
+    next_fit: bool,
     returns: bool,
     layout: Layout,
     times: u32,
@@ -85,7 +85,7 @@ fn take(takes: &Takes, pool: &Pool, mut party: PoolParty) -> (PoolParty, u64)
 {
     let mut told: u64 = 0;
     for _ in 0..takes.times {
-        match pool.ask(&mut party, takes.near, takes.layout) {
+        match pool.ask(&mut party, takes.next_fit, takes.layout) {
             Ok(bucket) if takes.returns => {
                 told = told.saturating_add(marked(&takes.marks, bucket.number()));
                 pool.give(&mut party, bucket);
@@ -123,12 +123,12 @@ fn all_tell(
 fn take_and_return(
     rt: &(impl Threads + Abort),
     alloc: Global,
-    near: bool,
+    next_fit: bool,
     row: (&str, &str, &str),
 ) {
     let takes = Takes {
         marks: no_marks(),
-        near,
+        next_fit,
         returns: true,
         layout: layout(rt, 48, 4),
         times: 1000,
@@ -152,13 +152,13 @@ fn threads_pool_take_and_return(rt: HostRuntime) {
         &rt,
         rt.alloc(),
         true,
-        ("by rounds", "pool 4096 1024 4", calls),
+        ("by next fit", "pool 4096 1024 4", calls),
     );
 }
 
 /// There are fewer buckets than threads, so that they meet at each.
 #[test]
-fn threads_pool_near_few_buckets(rt: HostRuntime) {
+fn threads_pool_next_fit_few_buckets(rt: HostRuntime) {
     let calls =
         "take 1 48 4 = bucket 0 4096 48; take 1 48 4 = bucket 1 4224 48; take 1 48 4 = bucket 2 4352 48; \
         take 1 48 4 = OutOfMemory";
@@ -175,7 +175,7 @@ fn threads_pool_near_few_buckets(rt: HostRuntime) {
 fn threads_pool_dropped_tokens(rt: HostRuntime) {
     let takes = Takes {
         marks: no_marks(),
-        near: false,
+        next_fit: false,
         returns: false,
         layout: layout(&rt, 48, 4),
         times: 1,
