@@ -8,6 +8,7 @@ mod SharedPoolMeetings
 mod SharedPoolParties
 mod SharedPoolPasses
 pub mod SharedPoolNextFit
+mod SharedPoolRequests
 mod SharedPoolSeats
 mod SharedPoolDetached
 pub mod SharedPoolTries

@@ -1,9 +1,8 @@
 -- How a search goes on: from its first exchange to the step that ends it.
-use Rattle.std.proofs.Common.{◌≡◌, ◌≢◌, ℕ, zero, suc, ◌+◌, ◌-◌, ◌<◌, ◌≤◌, ◌%◌, Bool, true, false, ◌++◌, append_assoc}
-use Rattle.std.proofs.Common.{append-nil, add-one, refl, sym, ap, ◌∙◌, subst, arith, Option, Some, None, inl, inr}
-use Rattle.std.specs.Prelude.{MatchOption, ◌==◌, if◌then◌else◌}
+use Rattle.std.proofs.Common.{◌≡◌, ℕ, zero, suc, ◌+◌, ◌-◌, ◌<◌, ◌≤◌, ◌%◌, Bool, true, false, ◌++◌, append_assoc}
+use Rattle.std.proofs.Common.{append-nil, add-one, refl, sym, ap, ◌∙◌, subst, arith, Some, None, inl, inr}
+use Rattle.std.specs.Prelude.{◌==◌, if◌then◌else◌}
 use Rattle.std.proofs.lemmas.Bool.{cases_lt}
-use Rattle.std.proofs.lemmas.Bool.Decides.{nat_tests}
 use Rattle.std.proofs.Math.Nat.{add-mod_left, mod-eq_of_lt}
 use borrow.Author.Count.{below_more}
 use Rattle.atomic_table.specs.Table.{Me}
@@ -11,14 +10,14 @@ use Rattle.bb_memory_base.specs.PoolMachine.{PoolScene}
 use Rattle.bb_memory_base.specs.PoolHistory.{PoolLog}
 use Rattle.bb_memory_base.specs.PoolLogs.{IsHeldAfter}
 use Rattle.bb_memory_core.specs.Seats.{number_of, view_log}
-use Rattle.bb_memory.specs.SharedPoolNextFit.{probed, miss_at, misses, start_of, taking_at, taking_search}
+use Rattle.bb_memory.specs.SharedPoolNextFit.{probed, miss_at, misses, start_of, refused_search, taking_at, taking_search}
 use Rattle.bb_memory.specs.SharedPoolRule.{IsSeatOfIdle, SeatView}
 use Rattle.bb_memory.specs.SharedPoolSteps.{HasEnded, HasMissedAt, HasRefusedFrom, HasTakenAt, HasTakenFrom}
+use Rattle.bb_memory.proofs.SharedPoolRequests.{HasAsked}
 use Rattle.bb_memory_base.proofs.PoolHolders.{held_through}
-use Rattle.bb_memory_base.proofs.PoolSteps.{test_apart}
-use Rattle.bb_memory.proofs.SharedPoolTries.{held-append, hint-append, hint_through, test_below, test_not_below, either_true}
+use Rattle.bb_memory.proofs.SharedPoolTries.{held-append, hint-append, hint_through, test_below, test_not_below}
 
--- TURNS
+-- PROBES
 
 -- where a search begins
 pub start_here : (buckets first : ℕ) → first < buckets → start_of buckets first ≡ first
@@ -108,14 +107,6 @@ held-taking_at : (party taken bucket : ℕ) (log : PoolLog) →
     ≡ (if taken == bucket then true else held_through bucket false log)
 held-taking_at party taken bucket log = held-append bucket false log (taking_at party taken)
 
--- and what it held
-pub held_after_taking_at : (party taken bucket : ℕ) (log : PoolLog) → IsHeldAfter log bucket →
-    IsHeldAfter (log ++ taking_at party taken) bucket
-held_after_taking_at party taken bucket log held =
-    held-taking_at party taken bucket log
-    ∙ ap (λ (b : Bool). if taken == bucket then true else b) held
-    ∙ either_true (taken == bucket)
-
 -- nor of a hint
 pub hint-misses : (buckets party first probe hint : ℕ) → hint ≡ hint_through hint (misses buckets party first probe)
 hint-misses buckets party first zero hint = refl
@@ -129,11 +120,6 @@ hint_by_search buckets party first probe taken hint there =
     ap (λ (n : ℕ). n + 1) (sym there)
     ∙ sym (hint-append hint (misses buckets party first probe) (taking_at party (probed buckets first probe)))
 
--- a search's misses leave the log holding what it held, and so does its taking
-pub held_after_misses : (buckets party first probe bucket : ℕ) (log : PoolLog) → IsHeldAfter log bucket →
-    IsHeldAfter (log ++ misses buckets party first probe) bucket
-held_after_misses buckets party first probe bucket log held = missed_same buckets party first probe bucket log ∙ held
-
 -- a search that takes a bucket leaves that one held, and the others as they were
 pub held_by_search : (buckets party first probe taken bucket : ℕ) (log : PoolLog) → probed buckets first probe ≡ taken →
     held_through bucket false (log ++ taking_search buckets party first probe)
@@ -146,22 +132,7 @@ held_by_search buckets party first probe taken bucket log there =
     ∙ ap (λ (held : Bool). if tried == bucket then true else held) (missed_same buckets party first probe bucket log)
     ∙ ap (λ (n : ℕ). if n == bucket then true else held_through bucket false log) there
 
-pub search_is_held : (buckets party first probe taken : ℕ) (log : PoolLog) → probed buckets first probe ≡ taken →
-    IsHeldAfter (log ++ taking_search buckets party first probe) taken
-search_is_held buckets party first probe taken log there =
-    let same : (taken == taken) ≡ true = grind (arith, nat_tests) in
-    held_by_search buckets party first probe taken taken log there
-    ∙ ap (λ (b : Bool). if b then true else held_through taken false log) same
-
-pub held_after_search : (buckets party first probe bucket : ℕ) (log : PoolLog) → IsHeldAfter log bucket →
-    IsHeldAfter (log ++ taking_search buckets party first probe) bucket
-held_after_search buckets party first probe bucket log held =
-    let taken : ℕ = probed buckets first probe in
-    subst (λ (l : PoolLog). IsHeldAfter l bucket) (append_assoc log (misses buckets party first probe) (taking_at party taken))
-    (held_after_taking_at party taken bucket (log ++ misses buckets party first probe)
-    (held_after_misses buckets party first probe bucket log held))
-
--- ONE ROUND
+-- ONE SEARCH
 
 -- a search under way: since it began, the seat's party has missed the buckets of the probes before this one
 pub record IsInSearch (scene : PoolScene) (number : ℕ) (log : PoolLog) (first probe : ℕ) (me : Me ℕ SeatView) : Type 0 where
@@ -226,29 +197,21 @@ module _ (scene : PoolScene) (number : ℕ) (log : PoolLog) (first : ℕ) where
         subst (λ (b : ℕ). IsHeldAfter log b) probe.there (so_far.held one probe.probe probe.before_end);
   }
 
-  -- WHAT A ROUND THAT HAS ENDED SAYS
+-- a search that has ended
+pub search_took : (scene : PoolScene) (number : ℕ) (log : PoolLog) (first : ℕ) (new : Me ℕ SeatView) (bucket : ℕ)
+    (took : HasTakenFrom scene number log first new bucket) →
+    HasAsked scene number log (taking_search scene.geometry.buckets number first took.probe) (Some bucket) new
+search_took scene number log first new bucket took = record {
+  ended = took.ended;
+  leaves = λ other. held_by_search scene.geometry.buckets number first took.probe bucket other log took.there;
+  found = (took.below, took.free);
+}
 
-  -- what was held after the log still is
-  pub still_held_from : (new : Me ℕ SeatView) (result : Option ℕ) (bucket : ℕ) →
-      MatchOption result (HasRefusedFrom scene number log first new) (HasTakenFrom scene number log first new) →
-      IsHeldAfter log bucket → IsHeldAfter (view_log new.0) bucket
-  still_held_from new None bucket refused held =
-      subst (λ (m : Me ℕ SeatView). IsHeldAfter (view_log m.0) bucket) (sym refused.ended.seat.is)
-      (held_after_misses scene.geometry.buckets number first scene.geometry.buckets bucket log held)
-  still_held_from new (Some taken) bucket passed held =
-      subst (λ (m : Me ℕ SeatView). IsHeldAfter (view_log m.0) bucket) (sym passed.ended.seat.is)
-      (held_after_search scene.geometry.buckets number first passed.probe bucket log held)
-
-  -- and nothing else, but the bucket that it took
-  pub others_held_from : (new : Me ℕ SeatView) (result : Option ℕ) (bucket : ℕ) →
-      MatchOption result (HasRefusedFrom scene number log first new) (HasTakenFrom scene number log first new) →
-      MatchOption result (Unit {0}) (λ taken. bucket ≢ taken) → IsHeldAfter (view_log new.0) bucket → IsHeldAfter log bucket
-  others_held_from new None bucket refused apart held =
-      let buckets : ℕ = scene.geometry.buckets in
-      sym (missed_same buckets number first buckets bucket log)
-      ∙ subst (λ (m : Me ℕ SeatView). IsHeldAfter (view_log m.0) bucket) refused.ended.seat.is held
-  others_held_from new (Some taken) bucket passed apart held =
-      let before : Bool = held_through bucket false log in
-      sym (held_by_search scene.geometry.buckets number first passed.probe taken bucket log passed.there
-      ∙ ap (λ (b : Bool). if b then true else before) (test_apart taken bucket (λ same. apart (sym same))))
-      ∙ subst (λ (m : Me ℕ SeatView). IsHeldAfter (view_log m.0) bucket) passed.ended.seat.is held
+pub search_lost : (scene : PoolScene) (number : ℕ) (log : PoolLog) (first : ℕ) (new : Me ℕ SeatView) →
+    HasRefusedFrom scene number log first new →
+    HasAsked scene number log (refused_search scene.geometry.buckets number first) None new
+search_lost scene number log first new lost = record {
+  ended = lost.ended;
+  leaves = λ other. missed_same scene.geometry.buckets number first scene.geometry.buckets other log;
+  found = lost.held;
+}
