@@ -4,7 +4,7 @@ use Rattle.std.proofs.Common.{Some, eqb, refl, sym, ap, ◌∙◌, subst, arith,
 use Rattle.std.specs.Prelude.{slice_get, slice_set, nat_lt, if◌then◌else◌}
 use Rattle.std.proofs.lemmas.Bool.{cases_eq}
 use Rattle.std.proofs.lemmas.Option.{same_Some}
-use mathlib.Core.Option.{some, some-injective, some-ne-none}
+use mathlib.Core.Option.{some}
 use lib.ListN.{get_elem?}
 use Rattle.bb_memory_base.specs.PoolHistory.{PoolEntry, PoolLog}
 use Rattle.bb_memory_base.specs.PoolLogs.{HasLog, IsHeldAfter, IsDetachedAfter, held_after, loss_at, with_entry}
@@ -14,35 +14,17 @@ use Rattle.bb_memory_base.proofs.PoolSteps.{test_apart}
 use Rattle.bb_memory_base.proofs.SliceSets.{slice_get-set_other, slice_get-set_same}
 use Rattle.bb_memory_core.specs.Seats.{head_of, tail_of, times_detached, times_of}
 use Rattle.bb_memory.specs.SharedPoolRule.{AreDetached, SeatView}
-use Rattle.bb_memory_core.proofs.Seatings.{one_apart, one_same}
+use Rattle.bb_memory_core.proofs.Seatings.{one_apart, one_same, total-at, total-push, total-set}
 use Rattle.bb_memory.proofs.SharedPoolTries.{held-append}
 
 -- HOW OFTEN A BUCKET STANDS IN VIEWS
 
-detached-set : (item : ℕ) (views : List SeatView) (seat : ℕ) (old new : SeatView) → get_elem? views seat ≡ some old →
-    times_detached item (set views seat new) + times_of item old.detached ≡
-    times_detached item views + times_of item new.detached
-detached-set item [] seat old new at = absurd (some-ne-none old (sym at))
-detached-set item (view ∷ views) zero old new at =
-    let same = ap (λ (v : SeatView). times_of item v.detached) (some-injective view old at) in omega arith
-detached-set item (view ∷ views) (suc seat) old new at =
-    let rest = detached-set item views seat old new at in omega arith
-
-detached-push : (item : ℕ) (views : List SeatView) (view : SeatView) →
-    times_detached item (views ++ view ∷ []) ≡ times_detached item views + times_of item view.detached
-detached-push item [] view = omega arith
-detached-push item (first ∷ views) view = let rest = detached-push item views view in omega arith
+abbrev moving_at : ℕ → SeatView → ℕ
+moving_at item view = times_of item view.detached
 
 times_of-append : (item : ℕ) (xs ys : List ℕ) → times_of item (xs ++ ys) ≡ times_of item xs + times_of item ys
 times_of-append item [] ys = omega arith
 times_of-append item (x ∷ xs) ys = let rest = times_of-append item xs ys in omega arith
-
-detached-at : (item : ℕ) (views : List SeatView) (seat : ℕ) (view : SeatView) → get_elem? views seat ≡ some view →
-    times_of item view.detached ≤ times_detached item views
-detached-at item [] seat view at = absurd (some-ne-none view (sym at))
-detached-at item (first ∷ views) zero view at =
-    let same = ap (λ (v : SeatView). times_of item v.detached) (some-injective first view at) in omega arith
-detached-at item (first ∷ views) (suc seat) view at = let rest = detached-at item views seat view at in omega arith
 
 pub times_of-parts : (item : ℕ) (items : List ℕ) →
     times_of item (head_of items) + times_of item (tail_of items) ≡ times_of item items
@@ -71,8 +53,8 @@ pub detached_split : (flags : List Bool) (logs : List PoolLog) (views : List Sea
     AreDetached flags logs (set views seat left ++ right ∷ [])
 detached_split flags logs views seat view left right parts are at =
     fewer_detached flags logs views (set views seat left ++ right ∷ []) are (λ bucket.
-    let pushed = detached-push bucket (set views seat left) right in
-    let placed = detached-set bucket views seat view left at in
+    let pushed = total-push (moving_at bucket) (set views seat left) right in
+    let placed = total-set (moving_at bucket) views seat view left at in
     let less = parts bucket in omega arith)
 
 pub detached_joined : (flags : List Bool) (logs : List PoolLog) (views : List SeatView) (seat other : ℕ)
@@ -83,8 +65,8 @@ pub detached_joined : (flags : List Bool) (logs : List PoolLog) (views : List Se
 detached_joined flags logs views seat other view guest both spent empty parts are at there =
     let first : List SeatView = set views seat both in
     fewer_detached flags logs views (set first other spent) are (λ bucket.
-    let placed = detached-set bucket views seat view both at in
-    let emptied = detached-set bucket first other guest spent there in
+    let placed = total-set (moving_at bucket) views seat view both at in
+    let emptied = total-set (moving_at bucket) first other guest spent there in
     let none = ap (times_of bucket) empty in
     let less = parts bucket in omega arith)
 
@@ -100,12 +82,12 @@ pub detached_kept : (flags new_flags : List Bool) (logs new_logs : List PoolLog)
     AreDetached new_flags new_logs (set views seat new)
 detached_kept flags new_flags logs new_logs views seat old new none still_none at are keep = record {
   each = λ bucket some.
-      let placed = detached-set bucket views seat old new at in
+      let placed = total-set (moving_at bucket) views seat old new at in
       let before = ap (times_of bucket) none in
       let after = ap (times_of bucket) still_none in
       keep bucket (are.each bucket (omega arith));
   once = λ bucket.
-      let placed = detached-set bucket views seat old new at in
+      let placed = total-set (moving_at bucket) views seat old new at in
       let after = ap (times_of bucket) still_none in
       let one = are.once bucket in omega arith;
 }
@@ -120,7 +102,7 @@ more_detached flags logs new_logs views seat item old new none one at not_yet ar
   each = λ bucket some. elim (cases_eq item bucket) [
     | inl same ↦ subst (IsDetachedAfter flags new_logs) same now
     | inr apart ↦
-        let placed = detached-set bucket views seat old new at in
+        let placed = total-set (moving_at bucket) views seat old new at in
         let before = ap (times_of bucket) none in
         let after = ap (times_of bucket) one in
         let other = times_of-other bucket item apart in
@@ -128,13 +110,13 @@ more_detached flags logs new_logs views seat item old new none one at not_yet ar
   ];
   once = λ bucket. elim (cases_eq item bucket) [
     | inl same ↦
-        let placed = detached-set bucket views seat old new at in
+        let placed = total-set (moving_at bucket) views seat old new at in
         let after = ap (times_of bucket) one in
         let own = times_of-own bucket in
         let here = ap (λ (i : ℕ). times_of bucket (i ∷ [])) same in
         let zero_times = none_yet bucket (λ moving. not_yet (subst (IsDetachedAfter flags logs) (sym same) moving)) in omega arith
     | inr apart ↦
-        let placed = detached-set bucket views seat old new at in
+        let placed = total-set (moving_at bucket) views seat old new at in
         let after = ap (times_of bucket) one in
         let other = times_of-other bucket item apart in
         let most = are.once bucket in omega arith
@@ -154,7 +136,7 @@ pub detached_of_seat : (flags : List Bool) (logs : List PoolLog) (views : List S
     view.detached ≡ item ∷ [] → get_elem? views seat ≡ some view → AreDetached flags logs views →
     IsDetachedAfter flags logs item
 detached_of_seat flags logs views seat item view one at are =
-    let within = detached-at item views seat view at in
+    let within = total-at (moving_at item) views seat view at in
     let here = ap (times_of item) one in
     let own = times_of-own item in
     are.each item (omega arith)
@@ -167,7 +149,7 @@ pub fewer_detached_one : (flags : List Bool) (logs new_logs : List PoolLog) (vie
     AreDetached flags new_logs (set views seat new)
 fewer_detached_one flags logs new_logs views seat item old new one none at are keep = record {
   each = λ bucket some.
-      let placed = detached-set bucket views seat old new at in
+      let placed = total-set (moving_at bucket) views seat old new at in
       let before = ap (times_of bucket) one in
       let after = ap (times_of bucket) none in
       elim (cases_eq item bucket) [
@@ -180,7 +162,7 @@ fewer_detached_one flags logs new_logs views seat item old new one none at are k
             keep bucket apart (are.each bucket (omega arith))
       ];
   once = λ bucket.
-      let placed = detached-set bucket views seat old new at in
+      let placed = total-set (moving_at bucket) views seat old new at in
       let after = ap (times_of bucket) none in
       let most = are.once bucket in omega arith;
 }

@@ -1,12 +1,10 @@
 -- Parties that come to one seat, and what their meeting says of their logs.
-use Rattle.std.proofs.Common.{◌≡◌, ℕ, zero, suc, replicate, ◌≤◌, List, [], ◌∷◌, ◌++◌, Some, length, refl, sym, ap, ◌∙◌}
+use Rattle.std.proofs.Common.{◌≡◌, ℕ, replicate, ◌≤◌, List, [], ◌∷◌, ◌++◌, Some, length, refl, sym, ap, ◌∙◌}
 use Rattle.std.proofs.Common.{subst, arith, inl, inr, true, false}
-use Rattle.std.specs.Prelude.{map, Contains, slice_get}
-use Rattle.std.specs.List.{AllByRecursion}
-use Rattle.std.proofs.lemmas.Bool.{cases_eq}
+use Rattle.std.specs.Prelude.{All, Contains, map, slice_get}
 use Rattle.std.proofs.lemmas.Option.{same_Some}
 use Rattle.std.proofs.lemmas.List.{length-map, length-replicate, map-append}
-use Rattle.std.proofs.lemmas.List.Elements.{All-from_recursion, All-nil, All-replicate}
+use Rattle.std.proofs.lemmas.List.Elements.{All-contains, All-from_recursion, All-nil, All-replicate}
 use Rattle.atomic_table.specs.Seated.{TableId}
 use Rattle.atomic_table.specs.Table.{Me}
 use Rattle.bb_memory_base.specs.PoolMachine.{PoolScene, left_by}
@@ -15,13 +13,13 @@ use Rattle.bb_memory_base.specs.PoolLogs.{HasLog, IsHeldAfter}
 use Rattle.bb_memory_base.proofs.PoolFlags.{flag_from_taken}
 use Rattle.bb_memory_base.proofs.PoolLogFacts.{held_is_taken, taken_is_held_whole}
 use Rattle.bb_memory_base.proofs.PoolLogSteps.{opening_agrees}
-use Rattle.bb_memory_core.specs.Seats.{HaveLogs, both_of, standing_for, times_in}
+use Rattle.bb_memory_core.specs.Seats.{both_of, standing_for, times_in}
 use Rattle.bb_memory.specs.SharedPool.{HaveMet, IsHeldByOne, IsSharedScene, PoolParty, SharedPool}
 use Rattle.bb_memory.specs.SharedPoolRule.{IsPartySeat, NumberedLog, SeatView, numbered_of, party_in}
 use Rattle.bb_memory.specs.SharedPoolSteps.{TellsMeeting}
-use Rattle.bb_memory_base.proofs.Positions.{contains-behind, contains-first}
-use Rattle.bb_memory_core.proofs.PartyNumbers.{numbers_differ}
-use Rattle.bb_memory_core.proofs.Seatings.{all_there, one_apart}
+use Rattle.bb_memory_core.proofs.PartyNumbers.{has_number, logs_had, numbers_differ, owner}
+use Rattle.bb_memory_core.proofs.Contained.{any_contained}
+use Rattle.bb_memory_core.proofs.Seatings.{all_there}
 
 -- GATHERING
 
@@ -42,99 +40,63 @@ all_gathered table number hint me party items rest fields view_is is =
 
 -- WHAT A MEETING SAYS
 
--- each party's log is the one that the meeting has for it
-logs_had : (made : ℕ) (logs : List PoolLog) (items : List PoolParty) → HaveLogs made logs (map numbered_of items) →
-    AllByRecursion (λ (p : PoolParty). HasLog logs p.number p.log) items
-logs_had made logs [] have = tt
-logs_had made logs (party ∷ items) have = (have.1, logs_had made logs items have.2)
-
-has_number : (items : List PoolParty) (number : ℕ) → 1 ≤ times_in number (map numbered_of items) →
-    Contains (map (λ (p : PoolParty). p.number) items) number
-has_number [] number some = absurd (omega arith)
-has_number (party ∷ items) number some =
-    let numbers = map (λ (p : PoolParty). p.number) items in
-    elim (cases_eq party.number number) [
-      | inl same ↦ contains-first party.number number numbers same
-      | inr other ↦ let none = one_apart party.number number other in
-          contains-behind party.number number numbers (has_number items number (omega (arith, some, none)))
-    ]
-
-held-first : (party : PoolParty) (items : List PoolParty) (bucket : ℕ) → IsHeldAfter party.log bucket →
-    IsHeldByOne (party ∷ items) bucket
-held-first party items bucket held = (zero, party, omega arith, refl, held)
-
-held-behind : (party : PoolParty) (items : List PoolParty) (bucket : ℕ) → IsHeldByOne items bucket →
-    IsHeldByOne (party ∷ items) bucket
-held-behind party items bucket one = (suc one.0, one.1, omega (arith, one.2), one.3, one.4)
-
--- a party that stands in the list has its log there
-its_log : (logs : List PoolLog) (items : List PoolParty) (number : ℕ) →
-    AllByRecursion (λ (p : PoolParty). HasLog logs p.number p.log) items →
-    1 ≤ times_in number (map numbered_of items) → (log : PoolLog) × HasLog logs number log
-its_log logs [] number had some = absurd (omega arith)
-its_log logs (party ∷ items) number had some =
-    elim (cases_eq party.number number) [
-      | inl same ↦ (party.log, subst (λ (n : ℕ). HasLog logs n party.log) same had.0)
-      | inr other ↦ let none = one_apart party.number number other in
-          its_log logs items number had.1 (omega (arith, some, none))
-    ]
-
--- what is held after such a log, one of them holds
-its_bucket : (logs : List PoolLog) (items : List PoolParty) (number : ℕ) (log : PoolLog) (bucket : ℕ) →
-    AllByRecursion (λ (p : PoolParty). HasLog logs p.number p.log) items →
-    1 ≤ times_in number (map numbered_of items) → HasLog logs number log → IsHeldAfter log bucket → IsHeldByOne items bucket
-its_bucket logs [] number log bucket had some at held = absurd (omega arith)
-its_bucket logs (party ∷ items) number log bucket had some at held =
-    elim (cases_eq party.number number) [
-      | inl same ↦
-          let own : party.log ≡ log =
-          same_Some party.log log (sym had.0 ∙ ap (λ (n : ℕ). slice_get logs n) same ∙ at) in
-          held-first party items bucket (subst (λ (l : PoolLog). IsHeldAfter l bucket) (sym own) held)
-      | inr other ↦ let none = one_apart party.number number other in
-          held-behind party items bucket (its_bucket logs items number log bucket had.1 (omega (arith, some, none)) at held)
-    ]
-
--- what one of them holds is taken
-one_taken : (scene : PoolScene) (parties : List NumberedLog) (items : List PoolParty) (bucket : ℕ)
-    (told : TellsMeeting scene parties) →
-    AllByRecursion (λ (p : PoolParty). HasLog told.logs p.number p.log) items →
-    (one : IsHeldByOne items bucket) → slice_get told.flags bucket ≡ Some true
-one_taken scene parties items bucket told had one =
-    let all = All-from_recursion (λ (p : PoolParty). HasLog told.logs p.number p.log) items had in
-    let own = subst (λ (p : PoolParty). HasLog told.logs p.number p.log) one.3 (all one.0 one.1 one.2) in
-    held_is_taken scene told.flags told.logs one.1.number one.1.log bucket told.agree own one.4
-
 -- how the logs of parties agree with the flags of their meeting
-pub agrees : (scene : PoolScene) (items : List PoolParty) → TellsMeeting scene (map numbered_of items) → HaveMet scene items
-agrees scene items told =
-    let had = logs_had scene.parties told.logs items told.theirs in (
-      told.flags,
-      record {
-        logs = told.logs;
-        agree = told.agree;
-        one_a_party = told.one_a_party;
-        theirs = All-from_recursion (λ (p : PoolParty). HasLog told.logs p.number p.log) items had;
-        differ = numbers_differ numbered_of scene.parties told.logs items told.theirs told.once;
-        whole = λ long.
-            let long_so : length (map numbered_of items) ≡ scene.parties = length-map items numbered_of ∙ long in
-            let there = all_there scene.parties told.logs (map numbered_of items) told.theirs told.once long_so in (
-              λ number below. has_number items number (there number below),
-              λ bucket. (
-                λ taken. elim (taken_is_held_whole scene told.flags told.logs bucket told.agree
-                    (λ number below. its_log told.logs items number had (there number below)) taken) [
-                      | inl holder ↦ inl (its_bucket told.logs items holder.0 holder.1 bucket had
-                          (there holder.0 holder.2) holder.3 holder.4)
-                      | inr detached ↦ inr detached
-                    ],
-                λ out. elim out [
-                  | inl one ↦ one_taken scene (map numbered_of items) items bucket told had one
-                  | inr detached ↦
-                      flag_from_taken (left_by scene told.agree.steps) told.flags bucket told.agree.leaves (inr detached)
-                ],
-              ),
-            );
-      },
-    )
+module _ (scene : PoolScene) (items : List PoolParty) (told : TellsMeeting scene (map numbered_of items)) where
+  had : All (λ party. HasLog told.logs party.number party.log) items
+  had = All-from_recursion (λ (p : PoolParty). HasLog told.logs p.number p.log) items
+      (logs_had numbered_of scene.parties told.logs items told.theirs)
+
+  its_own : (one : PoolParty) → Contains items one → HasLog told.logs one.number one.log
+  its_own one there = All-contains (λ (p : PoolParty). HasLog told.logs p.number p.log) items one had there
+
+  -- a number that stands in the list has the log of its party there, and what is held after it, one of them holds
+  its_log : (number : ℕ) → 1 ≤ times_in number (map numbered_of items) → (log : PoolLog) × HasLog told.logs number log
+  its_log number some =
+      let one = owner numbered_of items number some in
+      (one.one.log, subst (λ (n : ℕ). HasLog told.logs n one.one.log) one.its (its_own one.one one.there))
+
+  its_bucket : (number : ℕ) (log : PoolLog) (bucket : ℕ) → 1 ≤ times_in number (map numbered_of items) →
+      HasLog told.logs number log → IsHeldAfter log bucket → IsHeldByOne items bucket
+  its_bucket number log bucket some at held =
+      let one = owner numbered_of items number some in
+      let same = same_Some one.one.log log (sym (its_own one.one one.there) ∙ ap (slice_get told.logs) one.its ∙ at) in
+      any_contained (λ (p : PoolParty). IsHeldAfter p.log bucket) items one.one one.there
+      (subst (λ (l : PoolLog). IsHeldAfter l bucket) (sym same) held)
+
+  -- what one of them holds is taken
+  one_taken : (bucket : ℕ) (one : IsHeldByOne items bucket) → slice_get told.flags bucket ≡ Some true
+  one_taken bucket one =
+      let own = subst (λ (p : PoolParty). HasLog told.logs p.number p.log) one.3 (had one.0 one.1 one.2) in
+      held_is_taken scene told.flags told.logs one.1.number one.1.log bucket told.agree own one.4
+
+  pub agrees : HaveMet scene items
+  agrees = (
+    told.flags,
+    record {
+      logs = told.logs;
+      agree = told.agree;
+      one_a_party = told.one_a_party;
+      theirs = had;
+      differ = numbers_differ numbered_of scene.parties told.logs items told.theirs told.once;
+      whole = λ long.
+          let long_so : length (map numbered_of items) ≡ scene.parties = length-map items numbered_of ∙ long in
+          let there = all_there scene.parties told.logs (map numbered_of items) told.theirs told.once long_so in (
+            λ number below. has_number numbered_of items number (there number below),
+            λ bucket. (
+              λ taken. elim (taken_is_held_whole scene told.flags told.logs bucket told.agree
+                  (λ number below. its_log number (there number below)) taken) [
+                    | inl holder ↦ inl (its_bucket holder.0 holder.1 bucket (there holder.0 holder.2) holder.3 holder.4)
+                    | inr detached ↦ inr detached
+                  ],
+              λ out. elim out [
+                | inl one ↦ one_taken bucket one
+                | inr detached ↦
+                    flag_from_taken (left_by scene told.agree.steps) told.flags bucket told.agree.leaves (inr detached)
+              ],
+            ),
+          );
+    },
+  )
 
 -- a meeting of none
 pub none_met : (scene : PoolScene) (items : List PoolParty) → IsSharedScene scene → items ≡ [] → HaveMet scene items

@@ -9,15 +9,15 @@ use Rattle.atomic_table.specs.Table.{State, Me, Act, keeps, step, stepped, carri
 use Rattle.bb_memory_base.specs.PoolMachine.{PoolScene}
 use Rattle.bb_memory_base.specs.PoolHistory.{PoolEntry, PoolLog, entry_of}
 use Rattle.bb_memory_base.specs.PoolLogs.{HasLog, IsHeldAfter, IsDetachedAfter, LogsAgree, held_after, loss_at, next_bucket}
-use Rattle.bb_memory_base.specs.PoolLogs.{pass_after, pass_in, with_entry}
+use Rattle.bb_memory_base.specs.PoolLogs.{pass_in, with_entry}
 use Rattle.bb_memory_base.specs.declared.steps.pool.PoolStep.TheVariants.{Try, GiveBack, TryAt}
 use Rattle.bb_memory_base.specs.declared.steps.pool.PoolOutcome.TheVariants.{Takes, Gives, Misses}
 use Rattle.bb_memory_base.proofs.PoolLogSteps.{give_agrees, lose_agrees, miss_agrees, take_agrees, take_at_agrees}
 use Rattle.bb_memory_base.proofs.PoolLogFacts.{free_not_held, held_is_taken, taken_is_held_alone, length-flags, interleaved_log}
 use Rattle.bb_memory_base.proofs.SliceGets.{slice_get-set_same, length-set_at}
-use Rattle.bb_memory.specs.FlagWords.{HaveFlags, as_word, word_of}
+use Rattle.bb_memory.specs.FlagWords.{HaveFlags, as_word, bucket_of, word_of}
 use Rattle.bb_memory_core.specs.Seats.{alone, number_of, view_log}
-use Rattle.bb_memory.specs.SharedPoolRule.{IsSeatOf, IsSeatOfIdle, SeatView, WordsAndLogsAgree}
+use Rattle.bb_memory.specs.SharedPoolRule.{IsSeatOf, SeatView, WordsAndLogsAgree}
 use Rattle.bb_memory.specs.SharedPoolSteps.{TellsReturn, TellsTry, TellsTryAt, returns, tries, tries_at}
 use Rattle.bb_memory.proofs.FlagWords.{at_word, changed, found_in, taken_again}
 use Rattle.bb_memory_core.proofs.Seatings.{seated_step}
@@ -93,16 +93,6 @@ told scene flags logs party log entry at agree = record {
       (slice_get-set_same logs party (log ++ entry ∷ []) log at);
 }
 
--- the same of a step that leaves the party idle
-told_idle : (scene : PoolScene) (flags : List Bool) (logs : List PoolLog) (party : ℕ) (log : PoolLog) (entry : PoolEntry) →
-    HasLog logs party log → LogsAgree scene flags (with_entry logs party log entry) →
-    pass_in log ≡ None → pass_after None entry.outcome ≡ None →
-    IsSeatOfIdle scene party (log ++ entry ∷ []) (alone scene party (log ++ entry ∷ []), [])
-told_idle scene flags logs party log entry at agree idle is = record {
-  seat = told scene flags logs party log entry at agree;
-  idle = idle_after_one log entry idle is;
-}
-
 -- EXCHANGES
 
 -- what a step tells of a bucket
@@ -119,65 +109,70 @@ Allowed tells scene state seat bucket me found =
     × WordsAndLogsAgree scene (stepped state (word_of bucket) (either (eqb found 0) 1 found) seat me.1 new act)
     × tells_of tells me bucket found (new, carried_after me.1 act)
 
-tries_flag : (scene : PoolScene) (seat party bucket : ℕ) (log : PoolLog) → next_bucket log ≡ bucket →
-    (state : State ℕ SeatView) (rule : WordsAndLogsAgree scene state) →
-    get_elem? state.views seat ≡ some (alone scene party log) →
-    (flag : Bool) → slice_get rule.flags bucket ≡ Some flag →
-    Allowed TellsTry scene state seat bucket (alone scene party log, []) (as_word flag)
-tries_flag scene seat party bucket log next state rule at false free =
-    let mine = rule.seated.known seat (alone scene party log) at in
-    let made = mine.0 in
-    let entry : PoolEntry = entry_of (Try party) (Takes bucket) in
-    let flags : List Bool = slice_set rule.flags bucket true in
-    let agree = take_agrees scene rule.flags rule.logs party log bucket rule.agree made mine.1 next free in (
-      alone scene party (log ++ entry ∷ []),
-      keeps,
-      tt,
-      entered scene state rule seat party log entry (set state.words (word_of bucket) 1) flags at agree
-          (changed state.words rule.flags bucket false true rule.words free)
-          (kept_at_taking rule.flags rule.logs party log entry bucket mine.1 free (λ b apart. no_hold_other bucket b apart)),
-      (
-        λ _. record {
-          seat = told scene flags rule.logs party log entry mine.1 agree;
-          free = free_not_held scene rule.flags rule.logs party log bucket rule.agree mine.1 free;
-        },
-        λ not_free. absurd (not_free refl),
-      ),
-    )
-tries_flag scene seat party bucket log next state rule at true taken =
-    let mine = rule.seated.known seat (alone scene party log) at in
-    let made = mine.0 in
-    let entry : PoolEntry = entry_of (Try party) (loss_at scene.geometry.buckets bucket) in
-    let agree = lose_agrees scene rule.flags rule.logs party log bucket rule.agree made mine.1 next taken in (
-      alone scene party (log ++ entry ∷ []),
-      keeps,
-      tt,
-      entered scene state rule seat party log entry (set state.words (word_of bucket) 1) rule.flags at agree
-          (taken_again state.words rule.flags bucket rule.words taken)
-          (kept_at_loss rule.flags rule.logs party log entry mine.1 (λ b. no_hold_loss scene.geometry.buckets bucket b)),
-      (
-        λ zero_found. absurd (suc-ne-zero zero zero_found),
-        λ _. record {
-          seat = told scene rule.flags rule.logs party log entry mine.1 agree;
-          held = λ one.
+-- An exchange from free to taken, of a bucket that there is: the party's log gets the one entry where it finds the flag free, and
+-- the other where it finds it taken.
+module _ (tells : Telling) (scene : PoolScene) (slots seat word party bucket : ℕ) (log : PoolLog) (me : Me ℕ SeatView)
+    (taking loss : PoolEntry) (there : word ≡ word_of bucket) (is : me ≡ (alone scene party log, []))
+    (below : bucket < scene.geometry.buckets)
+    (no_other : (b : ℕ) → bucket ≢ b → held_after b false taking.outcome ≡ false)
+    (no_hold : (b : ℕ) → held_after b false loss.outcome ≡ false)
+    (takes : (flags : List Bool) (logs : List PoolLog) → LogsAgree scene flags logs → party < scene.parties →
+    HasLog logs party log → slice_get flags bucket ≡ Some false →
+    LogsAgree scene (slice_set flags bucket true) (with_entry logs party log taking))
+    (loses : (flags : List Bool) (logs : List PoolLog) → LogsAgree scene flags logs → party < scene.parties →
+    HasLog logs party log → slice_get flags bucket ≡ Some true → LogsAgree scene flags (with_entry logs party log loss))
+    (tells_taking : IsSeatOf scene party (log ++ taking ∷ []) (alone scene party (log ++ taking ∷ []), []) →
+    ¬ IsHeldAfter log bucket → tells scene party log bucket 0 (alone scene party (log ++ taking ∷ []), []))
+    (tells_loss : IsSeatOf scene party (log ++ loss ∷ []) (alone scene party (log ++ loss ∷ []), []) →
+    (scene.parties ≡ 1 → IsHeldAfter log bucket) → tells scene party log bucket 1 (alone scene party (log ++ loss ∷ []), []))
+  where
+    by_flag : (state : State ℕ SeatView) (rule : WordsAndLogsAgree scene state) →
+        get_elem? state.views seat ≡ some (alone scene party log) →
+        (flag : Bool) → slice_get rule.flags bucket ≡ Some flag →
+        Allowed tells scene state seat bucket (alone scene party log, []) (as_word flag)
+    by_flag state rule at false free =
+        let mine = rule.seated.known seat (alone scene party log) at in
+        let flags : List Bool = slice_set rule.flags bucket true in
+        let agree = takes rule.flags rule.logs rule.agree mine.0 mine.1 free in (
+          alone scene party (log ++ taking ∷ []),
+          keeps,
+          tt,
+          entered scene state rule seat party log taking (set state.words (word_of bucket) 1) flags at agree
+              (changed state.words rule.flags bucket false true rule.words free)
+              (kept_at_taking rule.flags rule.logs party log taking bucket mine.1 free no_other),
+          tells_taking (told scene flags rule.logs party log taking mine.1 agree)
+              (free_not_held scene rule.flags rule.logs party log bucket rule.agree mine.1 free),
+        )
+    by_flag state rule at true taken =
+        let mine = rule.seated.known seat (alone scene party log) at in
+        let made = mine.0 in
+        let agree = loses rule.flags rule.logs rule.agree made mine.1 taken in (
+          alone scene party (log ++ loss ∷ []),
+          keeps,
+          tt,
+          entered scene state rule seat party log loss (set state.words (word_of bucket) 1) rule.flags at agree
+              (taken_again state.words rule.flags bucket rule.words taken)
+              (kept_at_loss rule.flags rule.logs party log loss mine.1 no_hold),
+          tells_loss (told scene rule.flags rule.logs party log loss mine.1 agree) (λ one.
               let first : party ≡ 0 = omega (arith, made, one) in
               taken_is_held_alone scene rule.flags rule.logs log bucket rule.agree one
-              (subst (λ n. HasLog rule.logs n log) first mine.1) taken;
-        },
-      ),
-    )
+              (subst (λ n. HasLog rule.logs n log) first mine.1) taken),
+        )
 
-tries_one : (scene : PoolScene) (slots seat party bucket : ℕ) (log : PoolLog) → bucket < scene.geometry.buckets →
-    next_bucket log ≡ bucket →
-    Allows (WordsAndLogsAgree scene) slots seat (alone scene party log, []) (word_of bucket)
-    (λ found. either (eqb found 0) 1 found)
-    (tells_of TellsTry (alone scene party log, []) bucket)
-tries_one scene slots seat party bucket log below next state rule homes at fits =
-    let count = length-flags scene rule.flags rule.logs rule.agree in
-    let flag = some_at rule.flags bucket (omega arith) in
-    let found = found_in state.words rule.flags bucket flag.0 rule.words flag.1 in
-    subst (Allowed TellsTry scene state seat bucket (alone scene party log, [])) (sym found)
-    (tries_flag scene seat party bucket log next state rule at flag.0 flag.1)
+    at_bucket : Allows (WordsAndLogsAgree scene) slots seat (alone scene party log, []) (word_of bucket)
+        (λ found. either (eqb found 0) 1 found) (tells_of tells (alone scene party log, []) bucket)
+    at_bucket state rule homes at fits =
+        let count = length-flags scene rule.flags rule.logs rule.agree in
+        let flag = some_at rule.flags bucket (omega arith) in
+        let found = found_in state.words rule.flags bucket flag.0 rule.words flag.1 in
+        subst (Allowed tells scene state seat bucket (alone scene party log, [])) (sym found) (by_flag state rule at flag.0 flag.1)
+
+    exchanges_as : Allows (WordsAndLogsAgree scene) slots seat me word (λ found. either (eqb found 0) 1 found)
+        (tells_of tells me (bucket_of word))
+    exchanges_as =
+        at_word (WordsAndLogsAgree scene) slots seat bucket word me (λ found. either (eqb found 0) 1 found) (tells_of tells me) there
+        (subst (λ (m : Me ℕ SeatView). Allows (WordsAndLogsAgree scene) slots seat m (word_of bucket)
+        (λ found. either (eqb found 0) 1 found) (tells_of tells m bucket)) (sym is) at_bucket)
 
 -- a seat of one party may try the bucket that is next
 pub tries_as : (scene : PoolScene) (slots seat word party bucket : ℕ) (log : PoolLog) (me : Me ℕ SeatView) →
@@ -186,73 +181,13 @@ pub tries_as : (scene : PoolScene) (slots seat word party bucket : ℕ) (log : P
     Allows (WordsAndLogsAgree scene) slots seat me word (λ found. either (eqb found 0) 1 found)
     (tries (step slots word 0 1 none) me)
 tries_as scene slots seat word party bucket log me there is below next =
-    at_word (WordsAndLogsAgree scene) slots seat bucket word me (λ found. either (eqb found 0) 1 found)
-    (tells_of TellsTry me) there
-    (subst (λ (m : Me ℕ SeatView). Allows (WordsAndLogsAgree scene) slots seat m (word_of bucket)
-    (λ found. either (eqb found 0) 1 found) (tells_of TellsTry m bucket)) (sym is)
-    (tries_one scene slots seat party bucket log below next))
-
--- EXCHANGES OF AN IDLE PARTY
-
-tries_one_flag : (scene : PoolScene) (seat party bucket : ℕ) (log : PoolLog) → pass_in log ≡ None →
-    (state : State ℕ SeatView) (rule : WordsAndLogsAgree scene state) →
-    get_elem? state.views seat ≡ some (alone scene party log) →
-    (flag : Bool) → slice_get rule.flags bucket ≡ Some flag →
-    Allowed TellsTryAt scene state seat bucket (alone scene party log, []) (as_word flag)
-tries_one_flag scene seat party bucket log idle state rule at false free =
-    let mine = rule.seated.known seat (alone scene party log) at in
-    let made = mine.0 in
-    let entry : PoolEntry = entry_of (TryAt party bucket) (Takes bucket) in
-    let flags : List Bool = slice_set rule.flags bucket true in
-    let agree = take_at_agrees scene rule.flags rule.logs party log bucket rule.agree made mine.1 idle free in (
-      alone scene party (log ++ entry ∷ []),
-      keeps,
-      tt,
-      entered scene state rule seat party log entry (set state.words (word_of bucket) 1) flags at agree
-          (changed state.words rule.flags bucket false true rule.words free)
-          (kept_at_taking rule.flags rule.logs party log entry bucket mine.1 free (λ b apart. no_hold_other bucket b apart)),
-      (
-        λ _. record {
-          ended = told_idle scene flags rule.logs party log entry mine.1 agree idle refl;
-          free = free_not_held scene rule.flags rule.logs party log bucket rule.agree mine.1 free;
-        },
-        λ not_free. absurd (not_free refl),
-      ),
-    )
-tries_one_flag scene seat party bucket log idle state rule at true taken =
-    let mine = rule.seated.known seat (alone scene party log) at in
-    let made = mine.0 in
-    let entry : PoolEntry = entry_of (TryAt party bucket) (Misses bucket) in
-    let agree = miss_agrees scene rule.flags rule.logs party log bucket rule.agree made mine.1 idle taken in (
-      alone scene party (log ++ entry ∷ []),
-      keeps,
-      tt,
-      entered scene state rule seat party log entry (set state.words (word_of bucket) 1) rule.flags at agree
-          (taken_again state.words rule.flags bucket rule.words taken)
-          (kept_at_loss rule.flags rule.logs party log entry mine.1 (λ b. refl)),
-      (
-        λ zero_found. absurd (suc-ne-zero zero zero_found),
-        λ _. record {
-          ended = told_idle scene rule.flags rule.logs party log entry mine.1 agree idle refl;
-          held = λ one.
-              let first : party ≡ 0 = omega (arith, made, one) in
-              taken_is_held_alone scene rule.flags rule.logs log bucket rule.agree one
-              (subst (λ n. HasLog rule.logs n log) first mine.1) taken;
-        },
-      ),
-    )
-
-tries_at_one : (scene : PoolScene) (slots seat party bucket : ℕ) (log : PoolLog) → bucket < scene.geometry.buckets →
-    pass_in log ≡ None →
-    Allows (WordsAndLogsAgree scene) slots seat (alone scene party log, []) (word_of bucket)
-    (λ found. either (eqb found 0) 1 found)
-    (tells_of TellsTryAt (alone scene party log, []) bucket)
-tries_at_one scene slots seat party bucket log below idle state rule homes at fits =
-    let count = length-flags scene rule.flags rule.logs rule.agree in
-    let flag = some_at rule.flags bucket (omega arith) in
-    let found = found_in state.words rule.flags bucket flag.0 rule.words flag.1 in
-    subst (Allowed TellsTryAt scene state seat bucket (alone scene party log, [])) (sym found)
-    (tries_one_flag scene seat party bucket log idle state rule at flag.0 flag.1)
+    exchanges_as TellsTry scene slots seat word party bucket log me (entry_of (Try party) (Takes bucket))
+    (entry_of (Try party) (loss_at scene.geometry.buckets bucket)) there is below (no_hold_other bucket)
+    (no_hold_loss scene.geometry.buckets bucket)
+    (λ flags logs agree made at free. take_agrees scene flags logs party log bucket agree made at next free)
+    (λ flags logs agree made at taken. lose_agrees scene flags logs party log bucket agree made at next taken)
+    (λ new free. (λ _. record { seat = new; free = free }, λ not_free. absurd (not_free refl)))
+    (λ new held. (λ zero_found. absurd (suc-ne-zero zero zero_found), λ _. record { seat = new; held = held }))
 
 -- a seat of one idle party may try any bucket
 pub tries_at_as : (scene : PoolScene) (slots seat word party bucket : ℕ) (log : PoolLog) (me : Me ℕ SeatView) →
@@ -261,11 +196,20 @@ pub tries_at_as : (scene : PoolScene) (slots seat word party bucket : ℕ) (log 
     Allows (WordsAndLogsAgree scene) slots seat me word (λ found. either (eqb found 0) 1 found)
     (tries_at (step slots word 0 1 none) me)
 tries_at_as scene slots seat word party bucket log me there is below idle =
-    at_word (WordsAndLogsAgree scene) slots seat bucket word me (λ found. either (eqb found 0) 1 found)
-    (tells_of TellsTryAt me) there
-    (subst (λ (m : Me ℕ SeatView). Allows (WordsAndLogsAgree scene) slots seat m (word_of bucket)
-    (λ found. either (eqb found 0) 1 found) (tells_of TellsTryAt m bucket)) (sym is)
-    (tries_at_one scene slots seat party bucket log below idle))
+    let taking : PoolEntry = entry_of (TryAt party bucket) (Takes bucket) in
+    let miss : PoolEntry = entry_of (TryAt party bucket) (Misses bucket) in
+    exchanges_as TellsTryAt scene slots seat word party bucket log me taking miss there is below (no_hold_other bucket)
+    (λ b. refl)
+    (λ flags logs agree made at free. take_at_agrees scene flags logs party log bucket agree made at idle free)
+    (λ flags logs agree made at taken. miss_agrees scene flags logs party log bucket agree made at idle taken)
+    (λ new free. (
+      λ _. record { ended = record { seat = new; idle = idle_after_one log taking idle refl }; free = free },
+      λ not_free. absurd (not_free refl),
+    ))
+    (λ new held. (
+      λ zero_found. absurd (suc-ne-zero zero zero_found),
+      λ _. record { ended = record { seat = new; idle = idle_after_one log miss idle refl }; held = held },
+    ))
 
 -- STORES
 

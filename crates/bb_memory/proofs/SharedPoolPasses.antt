@@ -1,7 +1,6 @@
 -- How a pass goes on: from its first exchange to the step that ends it.
-use Rattle.std.proofs.Common.{◌≡◌, ◌≢◌, ℕ, ◌+◌, ◌<◌, [], ◌∷◌, ◌++◌, Bool, true, false, append_assoc, append-nil}
-use Rattle.std.proofs.Common.{add-one, refl, sym, ap, ◌∙◌, subst, arith, Option, Some, None}
-use Rattle.std.specs.Prelude.{MatchOption, if◌then◌else◌}
+use Rattle.std.proofs.Common.{◌≡◌, ℕ, ◌+◌, ◌<◌, [], ◌∷◌, ◌++◌, append_assoc, append-nil}
+use Rattle.std.proofs.Common.{add-one, refl, sym, ap, ◌∙◌, subst, arith, Some, None}
 use borrow.Author.Count.{below_more}
 use Rattle.atomic_table.specs.Table.{Me}
 use Rattle.bb_memory_base.specs.PoolMachine.{PoolScene}
@@ -12,10 +11,9 @@ use Rattle.bb_memory_base.specs.declared.steps.pool.PoolOutcome.TheVariants.{Tak
 use Rattle.bb_memory_core.specs.Seats.{number_of, view_log}
 use Rattle.bb_memory.specs.SharedPool.{AreAllHeldAfter, losses, refused_pass, taking_pass}
 use Rattle.bb_memory.specs.SharedPoolRule.{IsSeatOf, SeatView}
-use Rattle.bb_memory.specs.SharedPoolSteps.{HasEnded, HasRefused, HasTaken, TellsLoss, TellsTaking}
-use Rattle.bb_memory_base.proofs.PoolHolders.{held_through}
-use Rattle.bb_memory_base.proofs.PoolSteps.{test_apart}
-use Rattle.bb_memory.proofs.SharedPoolTries.{held-taking, held_after_refusal, held_after_taking, idle_after_refusal}
+use Rattle.bb_memory.specs.SharedPoolSteps.{HasRefused, HasTaken, TellsLoss, TellsTaking}
+use Rattle.bb_memory.proofs.SharedPoolRequests.{HasAsked}
+use Rattle.bb_memory.proofs.SharedPoolTries.{held-taking, idle_after_refusal}
 use Rattle.bb_memory.proofs.SharedPoolTries.{idle_after_taking, next_after_losses, same_held}
 
 -- a pass under way: since it began, the seat's party has lost at the buckets below this one
@@ -87,40 +85,20 @@ module _ (scene : PoolScene) (number : ℕ) (log : PoolLog) where
     held = passing.held;
   }
 
--- WHAT A PASS THAT HAS ENDED SAYS
+-- a pass that has ended
+pub pass_took : (scene : PoolScene) (number : ℕ) (log : PoolLog) (new : Me ℕ SeatView) (bucket : ℕ) →
+    HasTaken scene number log new bucket →
+    HasAsked scene number log (taking_pass scene.geometry.buckets number bucket) (Some bucket) new
+pass_took scene number log new bucket took = record {
+  ended = took.ended;
+  leaves = λ other. held-taking scene.geometry.buckets number bucket other log;
+  found = (took.below, took.free);
+}
 
--- what it adds to the log, by what it took
-abbrev pub pass_of : ℕ → ℕ → Option ℕ → PoolLog
-pass_of buckets number (Some bucket) = taking_pass buckets number bucket
-pass_of buckets number None = refused_pass buckets number
-
-module _ (scene : PoolScene) (number : ℕ) (log : PoolLog) (new : Me ℕ SeatView) where
-  pub ended_by : (result : Option ℕ) → MatchOption result (HasRefused scene number log new) (HasTaken scene number log new) →
-      HasEnded scene number log (pass_of scene.geometry.buckets number result) new
-  ended_by None refused = refused.ended
-  ended_by (Some bucket) taken = taken.ended
-
-  -- what was held after the log still is
-  pub still_held : (result : Option ℕ) (bucket : ℕ) →
-      MatchOption result (HasRefused scene number log new) (HasTaken scene number log new) → IsHeldAfter log bucket →
-      IsHeldAfter (view_log new.0) bucket
-  still_held None bucket refused held =
-      subst (λ (m : Me ℕ SeatView). IsHeldAfter (view_log m.0) bucket) (sym refused.ended.seat.is)
-      (held_after_refusal scene.geometry.buckets number bucket log held)
-  still_held (Some taken) bucket passed held =
-      subst (λ (m : Me ℕ SeatView). IsHeldAfter (view_log m.0) bucket) (sym passed.ended.seat.is)
-      (held_after_taking scene.geometry.buckets number taken bucket log held)
-
-  -- and nothing else, but the bucket that it took
-  pub others_held : (result : Option ℕ) (bucket : ℕ) →
-      MatchOption result (HasRefused scene number log new) (HasTaken scene number log new) →
-      MatchOption result (Unit {0}) (λ taken. bucket ≢ taken) → IsHeldAfter (view_log new.0) bucket → IsHeldAfter log bucket
-  others_held None bucket refused apart held =
-      let buckets : ℕ = scene.geometry.buckets in
-      sym (same_held buckets number buckets bucket log)
-      ∙ subst (λ (m : Me ℕ SeatView). IsHeldAfter (view_log m.0) bucket) refused.ended.seat.is held
-  others_held (Some taken) bucket passed apart held =
-      let before : Bool = held_through bucket false log in
-      sym (held-taking scene.geometry.buckets number taken bucket log
-      ∙ ap (λ (b : Bool). if b then true else before) (test_apart taken bucket (λ same. apart (sym same))))
-      ∙ subst (λ (m : Me ℕ SeatView). IsHeldAfter (view_log m.0) bucket) passed.ended.seat.is held
+pub pass_lost : (scene : PoolScene) (number : ℕ) (log : PoolLog) (new : Me ℕ SeatView) → HasRefused scene number log new →
+    HasAsked scene number log (refused_pass scene.geometry.buckets number) None new
+pass_lost scene number log new lost = record {
+  ended = lost.ended;
+  leaves = λ other. same_held scene.geometry.buckets number scene.geometry.buckets other log;
+  found = lost.held;
+}

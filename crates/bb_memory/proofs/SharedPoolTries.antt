@@ -8,7 +8,7 @@ use Rattle.bb_memory_base.specs.PoolLogs.{held_after, IsHeldAfter, pass_after, p
 use Rattle.bb_memory_base.specs.declared.steps.pool.PoolStep.TheVariants.{Try}
 use Rattle.bb_memory_base.specs.declared.steps.pool.PoolOutcome.TheVariants.{Takes, Loses, RefusedAtLoss}
 use Rattle.bb_memory_base.proofs.PoolHolders.{held_through}
-use Rattle.bb_memory.specs.SharedPoolRounds.{hint_after}
+use Rattle.bb_memory.specs.SharedPoolNextFit.{hint_after}
 use Rattle.bb_memory.specs.SharedPool.{detach_entry, losses, taking_pass, refused_pass, return_entry}
 
 abbrev pass_through : Option ℕ → PoolLog → Option ℕ
@@ -120,11 +120,6 @@ idle_after_taking buckets party bucket log =
     pass-append None log (taking_pass buckets party bucket)
     ∙ pass-append (pass_in log) (losses buckets party bucket) (entry_of (Try party) (Takes bucket) ∷ [])
 
--- a refused pass leaves the log holding what it held
-pub held_after_refusal : (buckets party bucket : ℕ) (log : PoolLog) → IsHeldAfter log bucket →
-    IsHeldAfter (log ++ refused_pass buckets party) bucket
-held_after_refusal buckets party bucket log held = same_held buckets party buckets bucket log ∙ held
-
 -- a pass that takes a bucket leaves it held, and the others as they were
 pub held-taking : (buckets party taken bucket : ℕ) (log : PoolLog) →
     held_through bucket false (log ++ taking_pass buckets party taken)
@@ -134,25 +129,6 @@ held-taking buckets party taken bucket log =
     held-append bucket false log (taking_pass buckets party taken)
     ∙ held-append bucket before (losses buckets party taken) (entry_of (Try party) (Takes taken) ∷ [])
     ∙ ap (λ (held : Bool). if taken == bucket then true else held) (held-losses buckets party taken bucket before)
-
-pub either_true : (b : Bool) → (if b then true else true) ≡ true
-either_true true = refl
-either_true false = refl
-
--- and what it held
-pub held_after_taking : (buckets party taken bucket : ℕ) (log : PoolLog) → IsHeldAfter log bucket →
-    IsHeldAfter (log ++ taking_pass buckets party taken) bucket
-held_after_taking buckets party taken bucket log held =
-    held-taking buckets party taken bucket log
-    ∙ ap (λ (b : Bool). if taken == bucket then true else b) held
-    ∙ either_true (taken == bucket)
-
-pub taken_is_held : (buckets party taken : ℕ) (log : PoolLog) →
-    IsHeldAfter (log ++ taking_pass buckets party taken) taken
-taken_is_held buckets party taken log =
-    let same : (taken == taken) ≡ true = grind (arith, nat_tests) in
-    held-taking buckets party taken taken log
-    ∙ ap (λ (b : Bool). if b then true else held_through taken false log) same
 
 -- STEPS OF AN IDLE PARTY
 

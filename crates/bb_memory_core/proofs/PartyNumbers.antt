@@ -1,9 +1,12 @@
 -- The numbers of parties that stand in one list: where no number that was made stands there twice, they are different ones.
-use Rattle.std.proofs.Common.{◌≡◌, ◌≢◌, ℕ, zero, suc, ◌<◌, ◌≤◌, List, [], ◌∷◌, Some, refl, sym, ap, ◌∙◌, subst, arith}
-use Rattle.std.specs.Prelude.{map, slice_get}
+use Rattle.std.proofs.Common.{◌≡◌, ◌≢◌, ℕ, zero, suc, ◌<◌, ◌≤◌, List, [], ◌∷◌, Some, refl, sym, ap, ◌∙◌, subst, arith, inl, inr}
+use Rattle.std.specs.Prelude.{Contains, map, slice_get}
+use Rattle.std.specs.List.{AllByRecursion}
+use Rattle.std.proofs.lemmas.Bool.{cases_eq}
 use Rattle.std.proofs.lemmas.Option.{same_Some}
 use Rattle.bb_memory_core.specs.Seats.{HaveLogs, Numbered, times_in}
-use Rattle.bb_memory_core.proofs.Seatings.{one_same}
+use Rattle.bb_memory_core.proofs.Contained.{HasOne, contains-behind, contains-first, one_of_figure}
+use Rattle.bb_memory_core.proofs.Seatings.{one_apart, one_same}
 
 module _ {P E : Type 0} (of : P → Numbered E) where
   abbrev number : P → ℕ
@@ -44,3 +47,21 @@ module _ {P E : Type 0} (of : P → Numbered E) where
   numbers_differ made logs items have once i j one other at at_other apart same =
       let twice = stands_twice items i j one other at at_other apart same in
       let most = once (number one) (was_made made logs items i one have at) in omega (arith, twice, most)
+
+  -- each party's log is the one that there is for it
+  pub logs_had : (made : ℕ) (logs : List (List E)) (items : List P) → HaveLogs made logs (map of items) →
+      AllByRecursion (λ party. slice_get logs (number party) ≡ Some (of party).log) items
+  logs_had made logs [] have = tt
+  logs_had made logs (party ∷ items) have = (have.1, logs_had made logs items have.2)
+
+  -- a number that stands in the list is that of one of its parties
+  pub has_number : (items : List P) (n : ℕ) → 1 ≤ times_in n (map of items) → Contains (map number items) n
+  has_number [] n some = absurd (omega arith)
+  has_number (party ∷ items) n some = elim (cases_eq (number party) n) [
+    | inl same ↦ contains-first (number party) n (map number items) same
+    | inr other ↦ let none = one_apart (number party) n other in
+        contains-behind (number party) n (map number items) (has_number items n (omega (arith, some, none)))
+  ]
+
+  pub owner : (items : List P) (n : ℕ) → 1 ≤ times_in n (map of items) → HasOne number items n
+  owner items n some = one_of_figure number items n (has_number items n some)

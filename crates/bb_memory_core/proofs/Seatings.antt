@@ -8,53 +8,46 @@ use lib.ListN.{get_elem?}
 use Rattle.atomic_table.proofs.Lists.{at_set, at_snoc}
 use Rattle.bb_memory_base.proofs.SliceGets.{slice_get-set_other, slice_get-set_same, slice_get-replicate}
 use Rattle.bb_memory_core.specs.Seats.{AreSeated, HaveLogs, Numbered, Seat, alone, first_of, fresh_from, head_of}
-use Rattle.bb_memory_core.specs.Seats.{numbered, one_if, others_of, seat_of, standing_for, tail_of, times_in, times_in_views}
+use Rattle.bb_memory_core.specs.Seats.{numbered, one_if, others_of, seat_of, standing_for, tail_of, times_in, total}
 
 -- HOW OFTEN A PARTY STANDS IN VIEWS
 
-times_in_views-set : {S E : Type 0} (number : ℕ) (views : List (Seat S E)) (seat : ℕ) (old new : Seat S E) →
-    get_elem? views seat ≡ some old →
-    times_in_views number (set views seat new) + times_in number old.parties ≡
-    times_in_views number views + times_in number new.parties
-times_in_views-set number [] seat old new at = absurd (some-ne-none old (sym at))
-times_in_views-set {S = S} {E = E} number (view ∷ views) zero old new at =
-    let same = ap (λ (v : Seat S E). times_in number v.parties) (some-injective view old at) in omega arith
-times_in_views-set number (view ∷ views) (suc seat) old new at =
-    let rest = times_in_views-set number views seat old new at in omega arith
+-- a figure of all views, where one of them becomes another, and with one view more
+module _ {V : Type 0} (figure : V → ℕ) where
+  pub total-set : (views : List V) (seat : ℕ) (old new : V) → get_elem? views seat ≡ some old →
+      total figure (set views seat new) + figure old ≡ total figure views + figure new
+  total-set [] seat old new at = absurd (some-ne-none old (sym at))
+  total-set (view ∷ views) zero old new at = let same = ap figure (some-injective view old at) in omega arith
+  total-set (view ∷ views) (suc seat) old new at = let rest = total-set views seat old new at in omega arith
 
-times_in_views-push : {S E : Type 0} (number : ℕ) (views : List (Seat S E)) (view : Seat S E) →
-    times_in_views number (views ++ view ∷ []) ≡ times_in_views number views + times_in number view.parties
-times_in_views-push number [] view = omega arith
-times_in_views-push number (first ∷ views) view = let rest = times_in_views-push number views view in omega arith
+  pub total-push : (views : List V) (view : V) → total figure (views ++ view ∷ []) ≡ total figure views + figure view
+  total-push [] view = omega arith
+  total-push (first ∷ views) view = let rest = total-push views view in omega arith
+
+  -- a view has no more than all, nor have two
+  pub total-at : (views : List V) (seat : ℕ) (view : V) → get_elem? views seat ≡ some view → figure view ≤ total figure views
+  total-at [] seat view at = absurd (some-ne-none view (sym at))
+  total-at (first ∷ views) zero view at = let same = ap figure (some-injective first view at) in omega arith
+  total-at (first ∷ views) (suc seat) view at = let rest = total-at views seat view at in omega arith
+
+  total-two : (views : List V) (seat other : ℕ) (view there : V) → seat ≢ other →
+      get_elem? views seat ≡ some view → get_elem? views other ≡ some there → figure view + figure there ≤ total figure views
+  total-two [] seat other view there apart at at_other = absurd (some-ne-none view (sym at))
+  total-two (first ∷ views) zero zero view there apart at at_other = absurd (apart refl)
+  total-two (first ∷ views) zero (suc other) view there apart at at_other =
+      let same = ap figure (some-injective first view at) in let rest = total-at views other there at_other in omega arith
+  total-two (first ∷ views) (suc seat) zero view there apart at at_other =
+      let same = ap figure (some-injective first there at_other) in let rest = total-at views seat view at in omega arith
+  total-two (first ∷ views) (suc seat) (suc other) view there apart at at_other =
+      let rest = total-two views seat other view there (λ same. apart (ap suc same)) at at_other in omega arith
+
+abbrev standing : {S E : Type 0} → ℕ → Seat S E → ℕ
+standing number view = times_in number view.parties
 
 times_in-append : {E : Type 0} (number : ℕ) (xs ys : List (Numbered E)) →
     times_in number (xs ++ ys) ≡ times_in number xs + times_in number ys
 times_in-append number [] ys = omega arith
 times_in-append number (x ∷ xs) ys = let rest = times_in-append number xs ys in omega arith
-
--- a view has no more of them than all views
-pub times_in-at : {S E : Type 0} (number : ℕ) (views : List (Seat S E)) (seat : ℕ) (view : Seat S E) →
-    get_elem? views seat ≡ some view →
-    times_in number view.parties ≤ times_in_views number views
-times_in-at number [] seat view at = absurd (some-ne-none view (sym at))
-times_in-at {S = S} {E = E} number (first ∷ views) zero view at =
-    let same = ap (λ (v : Seat S E). times_in number v.parties) (some-injective first view at) in omega arith
-times_in-at number (first ∷ views) (suc seat) view at = let rest = times_in-at number views seat view at in omega arith
-
--- nor have two
-times_in-two : {S E : Type 0} (number : ℕ) (views : List (Seat S E)) (seat other : ℕ) (view there : Seat S E) → seat ≢ other →
-    get_elem? views seat ≡ some view → get_elem? views other ≡ some there →
-    times_in number view.parties + times_in number there.parties ≤ times_in_views number views
-times_in-two number [] seat other view there apart at at_other = absurd (some-ne-none view (sym at))
-times_in-two number (first ∷ views) zero zero view there apart at at_other = absurd (apart refl)
-times_in-two {S = S} {E = E} number (first ∷ views) zero (suc other) view there apart at at_other =
-    let same = ap (λ (v : Seat S E). times_in number v.parties) (some-injective first view at) in
-    let rest = times_in-at number views other there at_other in omega arith
-times_in-two {S = S} {E = E} number (first ∷ views) (suc seat) zero view there apart at at_other =
-    let same = ap (λ (v : Seat S E). times_in number v.parties) (some-injective first there at_other) in
-    let rest = times_in-at number views seat view at in omega arith
-times_in-two number (first ∷ views) (suc seat) (suc other) view there apart at at_other =
-    let rest = times_in-two number views seat other view there (λ same. apart (ap suc same)) at at_other in omega arith
 
 -- the test of two numbers counts as one where they are the same
 pub one_same : (number other : ℕ) → number ≡ other → one_if (eqb number other) ≡ 1
@@ -194,13 +187,13 @@ seated_with {S = S} {E = E} made logs views seat scene number log new before aft
             subst (λ (v : Seat S E). HaveLogs made (slice_set logs number new) v.parties) here.1
             (mine.0, slice_get-set_same logs number new log mine.1, tt)
         | inr elsewhere ↦
-            let two = times_in-two number views other seat found old elsewhere.0 elsewhere.1 at in
+            let two = total-two (standing number) views other seat found old elsewhere.0 elsewhere.1 at in
             let one = times_in-own number log in
             let most = seated.once number mine.0 in
             others_keep made logs new number found.parties (omega arith) (seated.known other found elsewhere.1)
       ];
       once = λ party below.
-          let placed = times_in_views-set party views seat old then at in
+          let placed = total-set (standing party) views seat old then at in
           let one = seated.once party below in omega arith;
     }
 
@@ -232,8 +225,8 @@ seated_split {S = S} {E = E} made logs views seat view left right count parts se
         | inr last ↦ subst Known last own.1
       ];
       once = λ number below.
-          let pushed = times_in_views-push number first right in
-          let placed = times_in_views-set number views seat view left at in
+          let pushed = total-push (standing number) first right in
+          let placed = total-set (standing number) views seat view left at in
           let same = count number in
           let one = seated.once number below in omega arith;
     }
@@ -270,8 +263,8 @@ seated_joined {S = S} {E = E} made logs views seat view other guest scene none i
         ]
       ];
       once = λ number below.
-          let placed = times_in_views-set number views seat view both at in
-          let emptied = times_in_views-set number first other guest spent there in
+          let placed = total-set (standing number) views seat view both at in
+          let emptied = total-set (standing number) first other guest spent there in
           let same = times_in-append number guest.parties view.parties in
           let one = seated.once number below in omega arith;
     }
@@ -287,7 +280,7 @@ seated_again {S = S} {E = E} made logs views seat view scene seated at =
         | inr elsewhere ↦ seated.known other found elsewhere.1
       ];
       once = λ number below.
-          let placed = times_in_views-set number views seat view new at in
+          let placed = total-set (standing number) views seat view new at in
           let one = seated.once number below in omega arith;
     }
 
@@ -296,7 +289,7 @@ pub once_in : {S E : Type 0} (made : ℕ) (logs : List (List E)) (views : List (
     AreSeated made logs views → get_elem? views seat ≡ some view → (number : ℕ) → number < made →
     times_in number view.parties ≤ 1
 once_in made logs views seat view seated at number below =
-    let within = times_in-at number views seat view at in
+    let within = total-at (standing number) views seat view at in
     let one = seated.once number below in omega arith
 
 -- THE OPENING

@@ -1,11 +1,11 @@
 -- Parties that come to one seat, and what their meeting says of their logs.
-use Rattle.std.proofs.Common.{◌≡◌, ℕ, replicate, ◌<◌, ◌≤◌, List, [], ◌∷◌, ◌++◌, length, refl, sym, ap, ◌∙◌}
-use Rattle.std.proofs.Common.{subst, arith, append_assoc, inl, inr}
+use Rattle.std.proofs.Common.{◌≡◌, ℕ, zero, suc, replicate, ◌<◌, ◌≤◌, List, [], ◌∷◌, ◌++◌, length, refl, sym, ap, ◌∙◌}
+use Rattle.std.proofs.Common.{subst, arith, append_assoc}
 use Rattle.std.proofs.lemmas.List.{length-map, length-replicate, map-append}
 use Rattle.std.specs.Prelude.{map, max, Contains}
 use Rattle.std.specs.List.{All, AllByRecursion}
-use Rattle.std.proofs.lemmas.Bool.{cases_eq}
-use Rattle.std.proofs.lemmas.List.Elements.{All-from_recursion, All-nil, All-replicate, recursion_from_All}
+use Rattle.std.proofs.lemmas.List.Elements.{All-contains, All-contains_itself, All-from_recursion, All-nil, All-replicate}
+use Rattle.std.proofs.lemmas.List.Elements.{All-weaker, recursion_from_All}
 use Rattle.atomic_table.specs.Seated.{TableId}
 use Rattle.atomic_table.specs.Table.{Me}
 use Rattle.bb_memory_base.specs.BumpMachine.{BumpScene}
@@ -14,15 +14,15 @@ use Rattle.bb_memory_base.specs.BumpLogs.{HasLog, Interleaving, seen_in}
 use Rattle.bb_memory_base.proofs.BumpLogs.{opening_agrees}
 use Rattle.bb_memory_base.proofs.BumpPositions.{interleaved, seen_below}
 use Rattle.bb_memory_base.proofs.BumpWholes.{opened_below, whole_bounds}
-use Rattle.bb_memory_core.specs.Seats.{HaveLogs, alone, numbered, standing_for, times_in, view_log}
+use Rattle.bb_memory_core.specs.Seats.{HaveLogs, alone, numbered, standing_for, view_log}
 use Rattle.bb_memory_core.specs.SharedBump.{AgreeAt, BumpParty, HaveMet, IsSharedScene, SharedBump, floor_of, greatest_seen}
-use Rattle.bb_memory_core.specs.SharedBump.{meeting_at}
+use Rattle.bb_memory_core.specs.SharedBump.{meeting_at, seen_by}
 use Rattle.bb_memory_core.specs.SharedBumpRule.{IsPartySeat, NumberedLog, SeatView, gathered, meeting_of, met_by, numbered_of}
 use Rattle.bb_memory_core.specs.SharedBumpRule.{party_in, scene_of, sight}
 use Rattle.bb_memory_core.specs.SharedBumpSteps.{TellsMeeting}
-use Rattle.bb_memory_base.proofs.Positions.{contains-behind, contains-first}
-use Rattle.bb_memory_core.proofs.PartyNumbers.{numbers_differ}
-use Rattle.bb_memory_core.proofs.Seatings.{all_there, one_apart}
+use Rattle.bb_memory_core.proofs.PartyNumbers.{has_number, logs_had, numbers_differ, owner}
+use Rattle.bb_memory_core.proofs.Contained.{contains-none}
+use Rattle.bb_memory_core.proofs.Seatings.{all_there}
 use Rattle.bb_memory_core.proofs.SharedBumpParties.{party_seat}
 
 -- GATHERING
@@ -58,125 +58,82 @@ seat_gathered scene me new guest is new_is =
 
 -- WHAT A MEETING SAYS
 
--- each party's log is the one that the meeting has for it
-logs_had : (made : ℕ) (logs : List BumpLog) (items : List BumpParty) → HaveLogs made logs (map numbered_of items) →
-    AllByRecursion (λ (p : BumpParty). HasLog logs p.number p.log) items
-logs_had made logs [] have = tt
-logs_had made logs (party ∷ items) have = (have.1, logs_had made logs items have.2)
+-- the greatest position that one of them has seen
+greatest_above : (items : List BumpParty) (one : BumpParty) → Contains items one → seen_by one ≤ greatest_seen items
+greatest_above [] one has = absurd (contains-none one has)
+greatest_above (party ∷ items) one (zero, below, same) = let seen = ap seen_by same in omega arith
+greatest_above (party ∷ items) one (suc k, below, same) =
+    let rest = greatest_above items one (k, omega (arith, below), same) in omega arith
 
-has_number : (items : List BumpParty) (number : ℕ) → 1 ≤ times_in number (map numbered_of items) →
-    Contains (map (λ (p : BumpParty). p.number) items) number
-has_number [] number some = absurd (omega arith)
-has_number (party ∷ items) number some =
-    let numbers = map (λ (p : BumpParty). p.number) items in
-    elim (cases_eq party.number number) [
-      | inl same ↦ contains-first party.number number numbers same
-      | inr other ↦ let none = one_apart party.number number other in
-          contains-behind party.number number numbers (has_number items number (omega (arith, some, none)))
-    ]
+greatest_below : (items : List BumpParty) (most : ℕ) → AllByRecursion (λ party. seen_by party ≤ most) items →
+    greatest_seen items ≤ most
+greatest_below [] most below = omega arith
+greatest_below (party ∷ items) most below = let rest = greatest_below items most below.1 in omega (arith, rest, below.0)
 
--- a party that stands in the list has its log there, and has seen at most the greatest
-its_log : (scene : BumpScene) (logs : List BumpLog) (items : List BumpParty) (number : ℕ) →
-    AllByRecursion (λ (p : BumpParty). p.allocator.scene ≡ scene) items →
-    AllByRecursion (λ (p : BumpParty). HasLog logs p.number p.log) items →
-    1 ≤ times_in number (map numbered_of items) →
-    (log : BumpLog) × HasLog logs number log × (seen_in scene log ≤ greatest_seen items)
-its_log scene logs [] number theirs had some = absurd (omega arith)
-its_log scene logs (party ∷ items) number theirs had some =
-    elim (cases_eq party.number number) [
-      | inl same ↦
-          let seen = ap (λ (s : BumpScene). seen_in s party.log) theirs.0 in
-          (party.log, subst (λ (n : ℕ). HasLog logs n party.log) same had.0, omega (arith, seen))
-      | inr other ↦ let none = one_apart party.number number other in
-          let rest = its_log scene logs items number theirs.1 had.1 (omega (arith, some, none)) in
-          (rest.0, rest.1, omega (arith, rest.2))
-    ]
+-- parties of one bump that met where this position was found
+module _ (bump : SharedBump) (items : List BumpParty) (met found : ℕ) (theirs : All (λ party. party.allocator ≡ bump) items)
+    (told : TellsMeeting bump.scene (map numbered_of items) met found) where
+  abbrev scene : BumpScene
+  scene = bump.scene
 
-greatest_below : (scene : BumpScene) (items : List BumpParty) (most : ℕ) →
-    AllByRecursion (λ (p : BumpParty). p.allocator.scene ≡ scene) items →
-    AllByRecursion (λ (p : BumpParty). seen_in scene p.log ≤ most) items → greatest_seen items ≤ most
-greatest_below scene [] most theirs below = omega arith
-greatest_below scene (party ∷ items) most theirs below =
-    let seen = ap (λ (s : BumpScene). seen_in s party.log) theirs.0 in
-    let rest = greatest_below scene items most theirs.1 below.1 in omega (arith, seen, rest, below.0)
+  had : All (λ party. HasLog told.logs party.number party.log) items
+  had = All-from_recursion (λ (p : BumpParty). HasLog told.logs p.number p.log) items
+      (logs_had numbered_of scene.parties told.logs items told.theirs)
 
-seen_at_most : (scene : BumpScene) (found : ℕ) (parties : List NumberedLog) (met : ℕ) (items : List BumpParty)
-    (told : TellsMeeting scene parties met found) → AllByRecursion (λ (p : BumpParty). HasLog told.logs p.number p.log) items →
-    AllByRecursion (λ (p : BumpParty). seen_in scene p.log ≤ found) items
-seen_at_most scene found parties met [] told had = tt
-seen_at_most scene found parties met (party ∷ items) told had = (
-  seen_below scene found told.logs party.number party.log told.agree had.0,
-  seen_at_most scene found parties met items told had.1,
-)
+  its_scene : (party : BumpParty) → Contains items party → seen_by party ≡ seen_in scene party.log
+  its_scene party there = ap (λ (b : SharedBump). seen_in b.scene party.log)
+      (All-contains (λ (p : BumpParty). p.allocator ≡ bump) items party theirs there)
 
-same_scenes : (bump : SharedBump) (items : List BumpParty) → AllByRecursion (λ (p : BumpParty). p.allocator ≡ bump) items →
-    AllByRecursion (λ (p : BumpParty). p.allocator.scene ≡ bump.scene) items
-same_scenes bump [] theirs = tt
-same_scenes bump (party ∷ items) theirs = (ap (λ (b : SharedBump). b.scene) theirs.0, same_scenes bump items theirs.1)
+  seen_at_most : (party : BumpParty) → Contains items party → seen_by party ≤ found
+  seen_at_most party there =
+      let own = All-contains (λ (p : BumpParty). HasLog told.logs p.number p.log) items party had there in
+      let seen = seen_below scene found told.logs party.number party.log told.agree own in
+      omega (arith, seen, its_scene party there)
 
--- how the logs of parties agree with what their meeting found
-pub agrees : (bump : SharedBump) (items : List BumpParty) (met found : ℕ) → IsSharedScene bump.scene →
-    All (λ (p : BumpParty). p.allocator ≡ bump) items →
-    TellsMeeting bump.scene (map numbered_of items) met found → AgreeAt bump.scene found items
-agrees bump items met found shared theirs told =
-    let scene = bump.scene in
-    let had = logs_had scene.parties told.logs items told.theirs in
-    let scenes = same_scenes bump items (recursion_from_All (λ (p : BumpParty). p.allocator ≡ bump) items theirs) in
-    record {
-      logs = told.logs;
-      agree = told.agree;
-      one_a_party = told.one_a_party;
-      theirs = All-from_recursion (λ (p : BumpParty). HasLog told.logs p.number p.log) items had;
-      differ = numbers_differ numbered_of scene.parties told.logs items told.theirs told.once;
-      whole = λ long.
-          let long_so : length (map numbered_of items) ≡ scene.parties = length-map items numbered_of ∙ long in
-          let there = all_there scene.parties told.logs (map numbered_of items) told.theirs told.once long_so in
-          let each = λ (number : ℕ) (below : number < scene.parties).
-          its_log scene told.logs items number scenes had (there number below) in
-          let first = each 0 shared.parties in
-          let opened = opened_below scene first.0 in
-          let up = whole_bounds scene found (greatest_seen items) told.logs told.agree (omega (arith, opened, first.2)) each in
-          let down = greatest_below scene items found scenes
-          (seen_at_most scene found (map numbered_of items) met items told had) in (
-            λ number below. has_number items number (there number below),
-            omega (arith, up, down),
-          );
-    }
+  -- how their logs agree with it
+  pub agrees : IsSharedScene scene → AgreeAt scene found items
+  agrees shared = record {
+    logs = told.logs;
+    agree = told.agree;
+    one_a_party = told.one_a_party;
+    theirs = had;
+    differ = numbers_differ numbered_of scene.parties told.logs items told.theirs told.once;
+    whole = λ long.
+        let long_so : length (map numbered_of items) ≡ scene.parties = length-map items numbered_of ∙ long in
+        let there = all_there scene.parties told.logs (map numbered_of items) told.theirs told.once long_so in
+        let each : (number : ℕ) → number < scene.parties →
+        (log : BumpLog) × HasLog told.logs number log × (seen_in scene log ≤ greatest_seen items) = λ number below.
+        let one = owner numbered_of items number (there number below) in
+        let own = All-contains (λ (p : BumpParty). HasLog told.logs p.number p.log) items one.one had one.there in (
+          one.one.log,
+          subst (λ (n : ℕ). HasLog told.logs n one.one.log) one.its own,
+          omega (arith, greatest_above items one.one one.there, its_scene one.one one.there),
+        ) in
+        let first = each 0 shared.parties in
+        let opened = opened_below scene first.0 in
+        let up = whole_bounds scene found (greatest_seen items) told.logs told.agree (omega (arith, opened, first.2)) each in
+        let down = greatest_below items found (recursion_from_All (λ (p : BumpParty). seen_by p ≤ found) items
+        (All-weaker (Contains items) (λ p. seen_by p ≤ found) seen_at_most items (All-contains_itself items))) in (
+          λ number below. has_number numbered_of items number (there number below),
+          omega (arith, up, down),
+        );
+  }
 
--- they have known no more than that
-floors_by : (scene : BumpScene) (found : ℕ) (items : List BumpParty) →
-    AllByRecursion (λ (p : BumpParty). p.allocator.scene ≡ scene) items →
-    AllByRecursion (λ (p : BumpParty). seen_in scene p.log ≤ found) items →
-    AllByRecursion (λ (p : BumpParty). p.met ≤ found) items →
-    AllByRecursion (λ (p : BumpParty). floor_of p ≤ found) items
-floors_by scene found [] theirs seen met = tt
-floors_by scene found (party ∷ items) theirs seen met =
-    let same = ap (λ (s : BumpScene). seen_in s party.log) theirs.0 in
-    (omega (arith, same, seen.0, met.0), floors_by scene found items theirs.1 seen.1 met.1)
+  -- they have known no more than that
+  pub floors_below : All (λ party. party.met ≤ found) items → All (λ party. floor_of party ≤ found) items
+  floors_below mets = All-weaker (Contains items) (λ p. floor_of p ≤ found)
+      (λ p there. let known = All-contains (λ (q : BumpParty). q.met ≤ found) items p mets there in
+      omega (arith, seen_at_most p there, known)) items (All-contains_itself items)
 
-pub floors_below : (bump : SharedBump) (items : List BumpParty) (met found : ℕ) →
-    All (λ (p : BumpParty). p.allocator ≡ bump) items →
-    TellsMeeting bump.scene (map numbered_of items) met found →
-    All (λ (p : BumpParty). p.met ≤ found) items → All (λ (p : BumpParty). floor_of p ≤ found) items
-floors_below bump items met found theirs told mets =
-    let scene = bump.scene in
-    let had = logs_had scene.parties told.logs items told.theirs in
-    let scenes = same_scenes bump items (recursion_from_All (λ (p : BumpParty). p.allocator ≡ bump) items theirs) in
-    All-from_recursion (λ (p : BumpParty). floor_of p ≤ found) items
-    (floors_by scene found items scenes (seen_at_most scene found (map numbered_of items) met items told had)
-    (recursion_from_All (λ (p : BumpParty). p.met ≤ found) items mets))
-
-pub have_met : (bump : SharedBump) (items new : List BumpParty) (met found : ℕ) → IsSharedScene bump.scene →
-    All (λ (p : BumpParty). p.allocator ≡ bump) items →
-    TellsMeeting bump.scene (map numbered_of items) met found →
-    All (λ (p : BumpParty). p.met ≤ found) items → new ≡ map (meeting_at found) items → HaveMet bump.scene items new
-have_met bump items new met found shared theirs told mets is = record {
-  position = found;
-  kept = is;
-  risen = floors_below bump items met found theirs told mets;
-  within = told.within;
-  agree = agrees bump items met found shared theirs told;
-}
+  pub have_met : (new : List BumpParty) → IsSharedScene scene → All (λ party. party.met ≤ found) items →
+      new ≡ map (meeting_at found) items → HaveMet scene items new
+  have_met new shared mets is = record {
+    position = found;
+    kept = is;
+    risen = floors_below mets;
+    within = told.within;
+    agree = agrees shared;
+  }
 
 -- a meeting of none
 pub none_met : (bump : SharedBump) (items new : List BumpParty) → IsSharedScene bump.scene → items ≡ [] → new ≡ [] →

@@ -71,14 +71,18 @@ abbrev pub one_if : Bool → ℕ
 one_if true = 1
 one_if false = 0
 
+-- a figure of each element, summed up
+abbrev pub total : {V : Type 0} → (V → ℕ) → List V → ℕ
+total figure [] = 0
+total figure (x ∷ xs) = figure x + total figure xs
+
 -- how often a party stands in a list, and in all views
 abbrev pub times_in : {E : Type 0} → ℕ → List (Numbered E) → ℕ
 times_in number [] = 0
 times_in number (party ∷ parties) = one_if (party.number == number) + times_in number parties
 
 abbrev pub times_in_views : {S E : Type 0} → ℕ → List (Seat S E) → ℕ
-times_in_views number [] = 0
-times_in_views number (view ∷ views) = times_in number view.parties + times_in_views number views
+times_in_views number views = total (λ view. times_in number view.parties) views
 
 -- each party of a view has this log, and each party that was made stands in exactly one view; a dropped party's view stays
 pub record AreSeated {S E : Type 0} (made : ℕ) (logs : List (List E)) (views : List (Seat S E))
@@ -95,8 +99,7 @@ times_of item [] = 0
 times_of item (other ∷ others) = one_if (other == item) + times_of item others
 
 abbrev pub times_detached : {S E : Type 0} → ℕ → List (Seat S E) → ℕ
-times_detached item [] = 0
-times_detached item (view ∷ views) = times_of item view.detached + times_detached item views
+times_detached item views = total (λ view. times_of item view.detached) views
 
 -- SPLITS AND JOINS
 

@@ -29,7 +29,7 @@ returns-clause-agree c =
     c.close-last.ensures.last in
     let used = ap (λ (b : Bump). b.used) c.at_position.ensures in
     subst (λ (n : ℕ). AgreeAt bump.scene n items) (sym used)
-    (agrees bump items (met_by new.0) found (subst IsSharedScene own c.self.invariant.shared) c.requires.parties told)
+    (agrees bump items (met_by new.0) found c.requires.parties told (subst IsSharedScene own c.self.invariant.shared))
 
 pub returns-clause-exact : goal.returns-clause-exact
 returns-clause-exact c = ((returns-clause-agree c).whole c.requires.all).1

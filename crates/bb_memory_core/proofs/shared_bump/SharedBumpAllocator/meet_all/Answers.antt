@@ -44,8 +44,8 @@ returns-in-Some-clause-met c =
     let met = ap (λ (p : BumpParty). p.met) c.party.view_is in
     let mets = subst (All (λ (p : BumpParty). p.met ≤ found)) (sym is)
     (All-push (λ (p : BumpParty). p.met ≤ found) rest party c.meet_rest.ensures.risen (omega (arith, told.above, met))) in
-    have_met bump items c.push_reserved.new.self.items (met_by me.0) found
-    (subst IsSharedScene (ap (λ (b : SharedBump). b.scene) c.self.view_is) c.self.invariant.shared) c.requires.parties told mets
+    have_met bump items (met_by me.0) found c.requires.parties told c.push_reserved.new.self.items
+    (subst IsSharedScene (ap (λ (b : SharedBump). b.scene) c.self.view_is) c.self.invariant.shared) mets
     (c.push_reserved.ensures.items
     ∙ (λ i. c.meet_rest.ensures.rest.items i ++ back i ∷ [])
     ∙ sym (map-append (meeting_at found) rest (party ∷ [])) ∙ ap (map (meeting_at found)) (sym is))
