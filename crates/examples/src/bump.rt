@@ -14,15 +14,6 @@ pub fn forty_eight() -> Layout
     Layout::from_size_align(48, 4).unwrap()
 }
 
-/// A fresh bump has all of its region free.
-pub fn fresh() -> BumpAllocator {
-    let bump = BumpAllocator::new(4096, 1024);
-    let (used, free) = (bump.used_space(), bump.free_space());
-    prove!(used == 0);
-    prove!(free == 1024);
-    bump
-}
-
 /// The first chunk begins where the region does, has the asked size, and can't be refused.
 pub fn first_chunk() {
     let mut bump = BumpAllocator::new(4096, 1024);
@@ -41,17 +32,5 @@ pub fn second_chunk() -> Result<(), AllocationError> {
     let second = bump.allocate(forty_eight())?;
     let (end, place) = (first.end(), second.place());
     prove!(end <= place);
-    Ok(())
-}
-
-/// Size 0 is refused, and a release gives all of the region back.
-pub fn refused_and_released() -> Result<(), AllocationError> {
-    let mut bump = BumpAllocator::new(4096, 1024);
-    let refused = bump.allocate(Layout::empty());
-    prove!(matches!(&refused, Err(AllocationError::SizeIsZero)));
-    let chunk = bump.allocate(forty_eight())?;
-    bump.deallocate(chunk.place(), forty_eight());
-    let free = bump.free_space();
-    prove!(free == 1024);
     Ok(())
 }

@@ -22,10 +22,3 @@ pub fn grown(alloc: Global) -> Result<(), AllocationError> {
     prove!(last == 0);
     Ok(())
 }
-
-/// Size 0 is refused.
-pub fn refused(alloc: Global) {
-    let heap = HeapAllocator::new(alloc);
-    let answer = heap.allocate(Layout::empty());
-    prove!(matches!(&answer, Err(AllocationError::SizeIsZero)));
-}
