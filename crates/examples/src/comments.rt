@@ -10,7 +10,7 @@ use bb_memory::allocator::{
 };
 use bb_memory::bump_allocator::BumpAllocator;
 use bb_memory::heap_allocator::HeapAllocator;
-use bb_memory::layout::{Chunk, Layout, LayoutError};
+use bb_memory::layout::{Chunk, Layout, LayoutError, round_up};
 use bb_memory::one_chunk_allocator::OneChunkAllocator;
 use bb_memory::pool_allocator::{FixedSizePoolAllocator, PoolAllocator, pool_count_law};
 use bb_memory::region::Region;
@@ -25,6 +25,13 @@ pub fn layout() -> Result<(), LayoutError> {
     let layout = Layout::from_size_align(48, 4)?;
     let (size, align) = (layout.size(), layout.align());
     prove!(size == 48 && align == 4);
+    Ok(())
+}
+
+pub fn rounding() -> Result<(), LayoutError> {
+    let eight = Layout::from_size_align(16, 8)?;
+    let rounded = round_up(4097, eight.align());
+    prove!(rounded == Some(4104));
     Ok(())
 }
 

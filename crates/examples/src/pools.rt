@@ -6,10 +6,8 @@ ghost use Rattle.bb_memory.specs.Pool.{HoldsPlace};
 
 use bb_memory::layout::{Chunk, Layout};
 use bb_memory::pool_allocator::{
-    AllocationError, Allocator, BaseAllocator, FixedSizePoolAllocator, PoolAllocator,
-    pool_count_law,
+    AllocationError, BaseAllocator, FixedSizePoolAllocator, pool_count_law,
 };
-use std::alloc::Global;
 
 /// A region of 1024 bytes has 8 buckets of 128. The law decides the makers' condition at literals.
 pub fn eight_buckets() -> FixedSizePoolAllocator<16> {
@@ -19,18 +17,6 @@ pub fn eight_buckets() -> FixedSizePoolAllocator<16> {
     let count = pool.number_of_buckets();
     prove!(count == 8);
     pool
-}
-
-/// The same, whose index words take memory.
-pub fn eight_buckets_by_words(alloc: Global) -> Result<PoolAllocator<Global>, AllocationError> {
-    pool_count_law();
-    let bucket = Layout::from_size_align(128, 8).unwrap();
-    let Ok(pool) = PoolAllocator::new_uninit(bucket, 4096, 1024).init(alloc) else {
-        return Err(AllocationError::OutOfMemory);
-    };
-    let count = pool.number_of_buckets();
-    prove!(count == 8);
-    Ok(pool)
 }
 
 /// A pool over a region that is known at run time alone.
@@ -105,23 +91,5 @@ pub fn two_out(
     let first = pool.allocate(layout)?;
     let second = one_more(pool, layout, first.place())?;
     give_two(pool, first.place(), second.place());
-    Ok(())
-}
-
-/// A chunk is grown in its bucket.
-pub fn grown_in_its_bucket(
-    pool: &mut PoolAllocator<Global>,
-    old: Layout,
-    new: Layout,
-) -> Result<(), AllocationError> {
-    let fits = new.size() <= pool.bucket_size() && new.align() <= pool.max_alignment();
-    let chunk = pool.allocate(old)?;
-    let place = chunk.place();
-    if old.size() < new.size() && fits {
-        let grown = pool.grow(place, old, new).unwrap();
-        let (same_place, len, size) = (grown.place(), grown.len(), new.size());
-        prove!(same_place == place);
-        prove!(len == size);
-    }
     Ok(())
 }
