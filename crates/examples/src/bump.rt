@@ -14,36 +14,6 @@ pub fn forty_eight() -> Layout
     Layout::from_size_align(48, 4).unwrap()
 }
 
-/// A fresh bump has all of its region free.
-pub fn fresh() -> BumpAllocator {
-    let bump = BumpAllocator::new(4096, 1024);
-    let (used, free) = (bump.used_space(), bump.free_space());
-    prove!(used == 0);
-    prove!(free == 1024);
-    bump
-}
-
-/// The first chunk begins where the region does, has the asked size, and can't be refused.
-pub fn first_chunk() {
-    let mut bump = BumpAllocator::new(4096, 1024);
-    let chunk = bump.allocate(forty_eight()).unwrap();
-    let (place, len) = (chunk.place(), chunk.len());
-    prove!(place == 4096);
-    prove!(len == 48);
-    let used = bump.used_space();
-    prove!(used == 48);
-}
-
-/// The second chunk begins behind the first.
-pub fn second_chunk() -> Result<(), AllocationError> {
-    let mut bump = BumpAllocator::new(4096, 1024);
-    let first = bump.allocate(forty_eight())?;
-    let second = bump.allocate(forty_eight())?;
-    let (end, place) = (first.end(), second.place());
-    prove!(end <= place);
-    Ok(())
-}
-
 /// Size 0 is refused, and a release gives all of the region back.
 pub fn refused_and_released() -> Result<(), AllocationError> {
     let mut bump = BumpAllocator::new(4096, 1024);

@@ -4,7 +4,6 @@
 ghost use Rattle.std.specs.Prelude.{◌≡◌, ◌≢◌, ◌<◌, []};
 ghost use Rattle.bb_memory.specs.OneChunk.{StandsFor};
 
-use crate::errors::GiveError;
 use bb_memory::allocator::{
     AllocationError, Allocator, BaseAllocator, Command, deallocate_beside, may_release_law,
     run_base, run_full,
@@ -161,13 +160,6 @@ pub fn fixed_pool() -> Result<(), AllocationError> {
     Ok(())
 }
 
-pub fn fixed_pool_held(pool: &mut FixedSizePoolAllocator<16>) -> Result<(), AllocationError> {
-    let chunk = pool.allocate(Layout::empty())?;
-    let held = pool.holds(chunk.place());
-    prove!(held);
-    Ok(())
-}
-
 pub fn heap(alloc: Global) -> Result<(), AllocationError> {
     let heap = HeapAllocator::new(alloc);
     let four = Layout::from_size_align(4, 1).unwrap();
@@ -208,11 +200,12 @@ pub fn shared_pool(alloc: Global) -> Result<(), AllocationError> {
     Ok(())
 }
 
-pub fn shared_pool_by_number(alloc: Global) -> Result<(), AllocationError> {
-    pool_count_law();
-    let bucket = Layout::from_size_align(128, 8).unwrap();
-    let (pool, mut parties) = SharedPoolAllocator::new(alloc, bucket, 4096, 1024, 1)?;
-    let mut party = parties.pop().unwrap();
+pub fn shared_pool_by_number(
+    pool: SharedPoolAllocator,
+    mut party: PoolParty,
+) -> Result<(), AllocationError>
+    requires { party.allocator ≡ pool }
+{
     let taken = pool.allocate(&mut party, Layout::from_size_align(48, 4).unwrap())?;
     let number = taken.number();
     let again = by_number::bucket(&pool, &party, number, 48);

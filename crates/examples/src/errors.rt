@@ -7,7 +7,7 @@ use std::alloc::Global;
 use thiserror::Error;
 
 /// Why nothing was given.
-#[derive(Debug, Clone, Copy, PartialEq, Eq, Error)]
+#[derive(Debug, Drop, Error)]
 pub enum GiveError {
     #[error("layout: {0}")]
     Layout(#[from] LayoutError),

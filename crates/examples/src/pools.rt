@@ -1,15 +1,13 @@
 //! The pools with one owner.
 #![tactic(auto, unfolding(bb_memory_base::specs::LeastPlace::least_place))]
 
-ghost use Rattle.std.specs.Prelude.{◌≢◌, IfOk, ℕ};
+ghost use Rattle.std.specs.Prelude.{◌≢◌, IfOk};
 ghost use Rattle.bb_memory.specs.Pool.{HoldsPlace};
 
 use bb_memory::layout::{Chunk, Layout};
 use bb_memory::pool_allocator::{
-    AllocationError, Allocator, BaseAllocator, FixedSizePoolAllocator, PoolAllocator,
-    pool_count_law,
+    AllocationError, BaseAllocator, FixedSizePoolAllocator, pool_count_law,
 };
-use std::alloc::Global;
 
 /// A region of 1024 bytes has 8 buckets of 128. The law decides the makers' condition at literals.
 pub fn eight_buckets() -> FixedSizePoolAllocator<16> {
@@ -19,18 +17,6 @@ pub fn eight_buckets() -> FixedSizePoolAllocator<16> {
     let count = pool.number_of_buckets();
     prove!(count == 8);
     pool
-}
-
-/// The same, whose index words take memory.
-pub fn eight_buckets_by_words(alloc: Global) -> Result<PoolAllocator<Global>, AllocationError> {
-    pool_count_law();
-    let bucket = Layout::from_size_align(128, 8).unwrap();
-    let Ok(pool) = PoolAllocator::new_uninit(bucket, 4096, 1024).init(alloc) else {
-        return Err(AllocationError::OutOfMemory);
-    };
-    let count = pool.number_of_buckets();
-    prove!(count == 8);
-    Ok(pool)
 }
 
 /// A pool over a region that is known at run time alone.
@@ -55,18 +41,6 @@ pub fn taken_again(
     Ok(())
 }
 
-/// Two chunks have different places.
-pub fn two_chunks(
-    pool: &mut FixedSizePoolAllocator<16>,
-    layout: Layout,
-) -> Result<(), AllocationError> {
-    let first = pool.allocate(layout)?;
-    let second = pool.allocate(layout)?;
-    let (one, other) = (first.place(), second.place());
-    prove!(one != other);
-    Ok(())
-}
-
 /// A pool tells beforehand whether it will give a bucket.
 pub fn room_told(pool: &mut FixedSizePoolAllocator<16>) {
     let before = pool.has_room();
@@ -83,13 +57,6 @@ pub fn back_if_held(pool: &mut FixedSizePoolAllocator<16>) -> Result<(), Allocat
     let again = pool.deallocate_if_held(chunk.place());
     prove!(!again);
     Ok(())
-}
-
-/// Takes two more buckets, of which each may be refused. Whatever was held still is.
-fn two_more(pool: &mut FixedSizePoolAllocator<16>, layout: Layout) -> (bool, bool)
-    ensures { (place : ℕ) → HoldsPlace pool.old.pool place → HoldsPlace pool.new.pool place }
-{
-    (pool.allocate(layout).is_ok(), pool.allocate(layout).is_ok())
 }
 
 /// Takes one more bucket. The place `out` is still held then, and the new chunk has another one.
@@ -125,41 +92,4 @@ pub fn two_out(
     let second = one_more(pool, layout, first.place())?;
     give_two(pool, first.place(), second.place());
     Ok(())
-}
-
-/// What a request got is given back by its place alone.
-pub fn given_back(pool: &mut PoolAllocator<Global>, layout: Layout) -> Result<(), AllocationError> {
-    let chunk = pool.allocate(layout)?;
-    pool.deallocate_bucket(chunk.place());
-    Ok(())
-}
-
-/// A chunk is grown in its bucket.
-pub fn grown_in_its_bucket(
-    pool: &mut PoolAllocator<Global>,
-    old: Layout,
-    new: Layout,
-) -> Result<(), AllocationError> {
-    let fits = new.size() <= pool.bucket_size() && new.align() <= pool.max_alignment();
-    let chunk = pool.allocate(old)?;
-    let place = chunk.place();
-    if old.size() < new.size() && fits {
-        let grown = pool.grow(place, old, new).unwrap();
-        let (same_place, len, size) = (grown.place(), grown.len(), new.size());
-        prove!(same_place == place);
-        prove!(len == size);
-    }
-    Ok(())
-}
-
-/// The first request of a pool that has a bucket is accepted, where the bucket is large enough for it.
-pub fn first_request(bucket: Layout) {
-    if !FixedSizePoolAllocator::<16>::can_make(bucket, 4096, 1024) {
-        return;
-    }
-    let mut pool = FixedSizePoolAllocator::<16>::new(bucket, 4096, 1024);
-    if pool.number_of_buckets() > 0 {
-        let accepted = pool.allocate(bucket).is_ok();
-        prove!(accepted);
-    }
 }

@@ -19,15 +19,3 @@ pub fn written_and_zeroed(alloc: Global) -> Result<Region, AllocError> {
     prove!(first == 0);
     Ok(region)
 }
-
-/// The same by a lent chunk.
-pub fn lent(alloc: Global) -> Result<Region, AllocError> {
-    let mut region = Region::new(4096, vec![in alloc; 7; 1024]?);
-    let Some(chunk) = Chunk::new(4100, 4) else {
-        return Ok(region);
-    };
-    region.chunk_mut(chunk)[0] = 1;
-    let byte = region.bytes()[4];
-    prove!(byte == 1);
-    Ok(region)
-}

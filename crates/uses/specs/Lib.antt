@@ -1,7 +1,6 @@
 pub mod Budgets
 pub mod ByteVectors
 pub mod Carvings
-pub mod Keys
 pub mod Messages
 pub mod Records
 pub mod Requests

@@ -2,8 +2,8 @@
 ghost use Rattle.std.specs.Prelude.{◌≡◌, ◌+◌, ◌<◌, ◌≤◌, ◌^◌, ℕ, List, Some};
 ghost use Rattle.std.specs.Prelude.{IfOk, IfErr, OnOk, OnErr, length, slice_get, slice_index};
 ghost use Rattle.bb_memory_base.specs.Chunk.{Chunk, AreApart, IsInside};
-ghost use Rattle.bb_memory_base.specs.HeldBytes.{HeldBytes, held_region, bytes_in};
-ghost use Rattle.uses.specs.ByteVectors.{ByteVector, IsGrown, IsPushed, IsWhyFull, KeepsOthers, LivesIn, MakesRoom, contents};
+ghost use Rattle.bb_memory_base.specs.HeldBytes.{held_region, bytes_in};
+ghost use Rattle.uses.specs.ByteVectors.{IsGrown, IsPushed, IsWhyFull, KeepsOthers, LivesIn, MakesRoom, contents};
 
 use bb_memory_base::allocator::{AllocationGrowError, Allocator, BaseAllocator};
 use bb_memory_base::layout::{Chunk, Layout, LayoutError};
@@ -12,7 +12,7 @@ use std::marker::Model;
 use thiserror::Error;
 
 /// Why a byte wasn't pushed.
-#[derive(Debug, Clone, Copy, PartialEq, Eq, Error)]
+#[derive(Debug, Clone, Copy, Error)]
 pub enum PushError {
     #[error("too long: {0}")]
     TooLong(LayoutError),
@@ -21,7 +21,7 @@ pub enum PushError {
 }
 
 /// Bytes at an offset.
-#[derive(Debug, Clone, Copy, PartialEq, Eq)]
+#[derive(Clone, Copy)]
 pub struct ByteVec {
     offset: usize,
     capacity: usize,
@@ -69,18 +69,6 @@ impl ByteVec {
         ensures { result ≡ slice_index (contents region.now self.now) at }
     {
         region.bytes()[self.offset + at]
-    }
-
-    /// One more byte, where there is room for it.
-    pub fn push_within(&mut self, region: &mut Region, byte: u8)
-        requires room { self.old.len < self.old.capacity }
-        requires inside { self.old.offset + self.old.capacity ≤ length region.old.bytes }
-        ensures pushed { IsPushed region.old region.new self.old byte self.new }
-        ensures longer { self.new ≡ record self.old { len = self.old.len + 1 } }
-        ensures apart { KeepsOthers region.old self.old region.new }
-    {
-        self.write_behind(region, byte);
-        self.len += 1;
     }
 
     /// Makes room for another byte, where there is none, by growing the chunk in place. It is refused only where there is no
@@ -211,10 +199,3 @@ fn grow_by_one<A: Allocator>(
         Err(error) => Err(PushError::Full(error)),
     }
 }
-
-/// Where the bytes of a region lie at another start, a vector has the same bytes there: it is addressed by its offset. It does
-/// nothing: its contract is the law.
-pub fn moved_law()
-    ensures { (here there : HeldBytes) (vector : ByteVector) → here.bytes ≡ there.bytes
-        → contents here vector ≡ contents there vector }
-{}

@@ -54,13 +54,6 @@ impl<A: BaseAllocator + Drop> ChunkBudget<A> {
     {
         self.out
     }
-
-    /// How many chunks may be out.
-    pub fn budget(&self) -> usize
-        ensures { result ≡ self.now.budget }
-    {
-        self.budget
-    }
 }
 
 impl<A: BaseAllocator + Drop> BaseAllocator for ChunkBudget<A> {

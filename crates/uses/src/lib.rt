@@ -2,24 +2,18 @@
 //!
 //! The modules, in the order in which to read them:
 //!
-//! - `slab`: records of bytes, each in a chunk of its own. `keyed_slab`: records under keys that are refused once their record is
-//!   taken out, over the slab.
+//! - `slab`: records of bytes, each in a chunk of its own.
 //! - `chunk_budget`: a limit of chunks over an allocator, which is an allocator itself.
 //! - `tenants`: tenants of one allocator, each with a limit, which together never exceed a whole.
 //! - `byte_vector`: a vector of bytes at an offset of a region, which can move to another region.
 //! - `ring`: messages for several readers, over a loan book. `ring/laws`: laws of the book's newest and oldest sample.
 //! - `bump_workers`: four threads over one bump, which one owner then has again. `pool_workers`: four threads over one pool.
 //! - `pool_messages`: messages whose buckets one party takes and another gives back.
-//! - `last_chunk`: gives a chunk back as soon as it was given, for `slab` and `tenants`.
-//! - `examples`: the examples of the layers' comments.
 #![tactic(auto)]
 
 pub mod bump_workers;
 pub mod byte_vector;
 pub mod chunk_budget;
-pub mod examples;
-pub mod keyed_slab;
-pub mod last_chunk;
 pub mod pool_messages;
 pub mod pool_workers;
 pub mod ring;

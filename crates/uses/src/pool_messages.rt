@@ -2,7 +2,7 @@
 ghost use Rattle.std.specs.Prelude.{◌≡◌, ◌<◌, Err, IfErr, IfOk};
 ghost use Rattle.bb_memory_base.specs.PoolLogs.{IsHeldAfter};
 ghost use Rattle.bb_memory.specs.SharedPool.{MayTakeBucket, chunk_of};
-ghost use Rattle.uses.specs.Messages.{having_received};
+ghost use Rattle.uses.specs.Messages.{Sends, having_received};
 ghost use Rattle.uses.specs.Workers.{KeepsBuckets, MayTakeNear};
 
 use bb_memory::allocator::AllocationError;
@@ -24,7 +24,9 @@ pub fn send(
     ensures long_enough { IfOk result (λ message. message.len ≡ layout.size) }
     ensures was_detached { IfOk result
         (λ message. ¬ IsHeldAfter sender.new.log message.number) }
+    ensures sent { IfOk result (λ message. Sends sender.old layout message sender.new) }
     ensures keeps { KeepsBuckets sender.old sender.new }
+    ensures others { KeepsBuckets sender.new sender.old }
     ensures refused { IfErr result
         (λ error. MayTakeNear sender.old layout (Err error) sender.new) }
 {

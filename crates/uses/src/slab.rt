@@ -8,7 +8,6 @@ ghost use Rattle.bb_memory_base.specs.HeldBytes.{HeldBytes, held_region};
 ghost use Rattle.uses.specs.Records.{HoldsThen, Leaves, Stores, records_in};
 ghost use Rattle.uses.specs.Requests.{IsOfBytes, MayGiveLonger};
 
-use crate::last_chunk::return_last;
 use bb_memory_base::allocator::{AllocationError, Allocator, BaseAllocator};
 use bb_memory_base::layout::{Chunk, Layout, LayoutError};
 use bb_memory_base::lists::append_law;
@@ -165,6 +164,17 @@ pub(crate) fn put(region: &mut Region, chunks: &Vec<Chunk>, chunk: Chunk, bytes:
     append_law::<Chunk>();
     live_bytes_law();
     region.write(chunk, bytes);
+}
+
+/// Gives back the chunk that was given last: the allocator then stands for the lists without it.
+pub fn return_last<A: Allocator>(inner: &mut A, chunk: Chunk, layout: Layout)
+    requires { A.may_release inner.old chunk.place }
+    ensures stands { (live : List Chunk) → A.stands_for inner.old (live ++ chunk ∷ [])
+        → A.stands_for inner.new live }
+    ensures geometry { A.geometry inner.new ≡ A.geometry inner.old }
+{
+    append_law::<Chunk>();
+    inner.deallocate(chunk.place(), layout);
 }
 
 /// An allocator that may give a longer chunk for a layout may give one for the layout's size, and taking a chunk out of a list

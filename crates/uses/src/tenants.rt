@@ -9,7 +9,7 @@ ghost use Rattle.uses.specs.Tenants.{HasLeft, IsUnasked, IsWhyNotAdmitted, IsWhy
 ghost use Rattle.uses.specs.Tenants.{bytes_for, bytes_out, chunks_of, lease_at};
 ghost use Rattle.uses.specs.Tenants.{limit_of, used_by, with_lease, with_tenant, without_lease};
 
-use crate::last_chunk::return_last;
+use crate::slab::return_last;
 use bb_memory_base::allocator::{AllocationError, Allocator, BaseAllocator};
 use bb_memory_base::layout::{Chunk, Layout};
 use bb_memory_base::lists::{Grouped, append_law, group_law, map_law, position_law, sum_law};
@@ -42,12 +42,12 @@ pub enum LeaseError {
 }
 
 /// The tenant holds no chunk at the place.
-#[derive(Debug, Clone, Copy, PartialEq, Eq, Error)]
+#[derive(Debug, Drop, Error)]
 #[error("the tenant holds no chunk at this place")]
 pub struct NotHeld {}
 
 /// A chunk that is out, and the number of the tenant that holds it.
-#[derive(Debug, Clone, Copy, PartialEq, Eq)]
+#[derive(Clone, Copy)]
 pub struct Lease {
     pub tenant: usize,
     pub chunk: Chunk,
@@ -145,13 +145,6 @@ impl<A: Allocator + Drop> Tenants<A> {
         self.limits.push_reserved(limit);
         self.promised += limit;
         Ok(number)
-    }
-
-    /// How many tenants there are.
-    pub fn count(&self) -> usize
-        ensures { result ≡ length self.now.limits }
-    {
-        self.limits.len()
     }
 
     /// How many bytes all limits may be together.
@@ -319,6 +312,18 @@ fn give_back<A: Allocator>(allocator: &mut A, leases: &Vec<Lease>, position: usi
 {
     leases_law();
     allocator.deallocate(lease.chunk.place(), Layout::empty());
+}
+
+/// A tenant is refused a byte more than its limit, whatever the allocator has.
+pub fn over_limit<A: Allocator + Drop>(alloc: Global, allocator: A) -> Result<(), AdmitError>
+    requires { A.stands_for allocator [] }
+{
+    let mut tenants = Tenants::new(alloc, allocator, 1000);
+    let tenant = tenants.admit(100)?;
+    let layout = Layout::from_size_align(101, 1).unwrap();
+    let refused = tenants.allocate(tenant, layout).is_err();
+    prove!(refused);
+    Ok(())
 }
 
 /// Laws of leases. One more or less changes its own tenant's use alone, and is a chunk more or less that is out. A tenant holds

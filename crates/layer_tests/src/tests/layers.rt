@@ -3,10 +3,10 @@ ghost use Rattle.std.specs.Prelude.{◌≡◌, ℕ, List, [], Some, IsTrue, leng
 ghost use Rattle.bb_memory_base.specs.HeldBytes.{held_region};
 ghost use Rattle.bb_memory_base.specs.Chunk.{region_at};
 
-use super::checks::{check, check_at};
 use allocator_tests::marks::some_was_refused;
 use allocator_tests::rows::{
-    Words, alone, call_and_answer, counted, layout_of, of_growth, of_refusal, of_reply, yes_or_no,
+    Words, alone, call_and_answer, counted, field_and_rest, layout_of, of_growth, of_refusal,
+    of_reply, yes_or_no,
 };
 use bb_memory::allocator::{Allocator, BaseAllocator, Command, run_full};
 use bb_memory::layout::Chunk;
@@ -17,7 +17,6 @@ use std::marker::Model;
 use std::process::Abort;
 use uses::byte_vector::{ByteVec, PushError};
 use uses::chunk_budget::ChunkBudget;
-use uses::keyed_slab::{Key, KeyedSlab};
 use uses::ring::{MessageRing, SendError};
 use uses::slab::{InsertError, Slab};
 use uses::tenants::{AdmitError, LeaseError, Tenants};
@@ -28,14 +27,23 @@ pub(super) trait Layer: Drop {
     fn answer(&mut self, call: Words<'_>) -> Words<'static>;
 }
 
+/// Checks a condition.
+pub(super) fn check(rt: &impl Abort, found: bool) {
+    assert!(rt; found);
+}
+
+/// Checks a condition of a row's call. A failure names both.
+fn check_at(rt: &impl Abort, found: bool, row: &str, at: usize) {
+    assert!(rt; found, "{row}: call {at}");
+}
+
 /// Makes a row's calls, each a second time where memory was refused. The answers behind it show that a refused call changes
-/// nothing.
-pub(super) fn keeps(
-    rt: &impl Abort,
-    alloc: Global,
-    mut layer: impl Layer,
-    (name, calls): (&str, &str),
-) {
+/// nothing. Without a layer, memory for it has to have been refused.
+pub(super) fn keeps_row(rt: &impl Abort, alloc: Global, layer: Option<impl Layer>, row: &str) {
+    let Some(mut layer) = layer else {
+        return check(rt, some_was_refused(alloc));
+    };
+    let (name, calls) = field_and_rest(row);
     for (number, call) in calls.split("; ").enumerate() {
         let (call, wanted) = call_and_answer(call);
         let mut told = layer.answer(call);
@@ -58,14 +66,11 @@ fn bytes_of(numbers: [usize; 3]) -> [u8; 3] {
     [byte_of(first), byte_of(second), byte_of(third)]
 }
 
+/// Returns `record LEN BYTES`, with the first five bytes.
 fn of_record(bytes: &[u8]) -> Words<'static> {
     let mut numbers = [bytes.len(), 0, 0, 0, 0, 0];
-    let mut at = 1;
-    for byte in bytes {
-        if at < 6 {
-            numbers[at] = *byte as usize;
-            at += 1;
-        }
+    for (number, byte) in numbers[1..].iter_mut().zip(bytes) {
+        *number = *byte as usize;
     }
     ("record", numbers)
 }
@@ -106,36 +111,6 @@ impl<A: Allocator + Drop> Layer for Slab<A> {
                 alone("done")
             }
             "len" => counted("is", self.len()),
-            _ => alone("no-call"),
-        }
-    }
-}
-
-/// Returns the answer of a call that was done, or of one whose key was stale.
-fn done_or_stale(is_done: bool) -> Words<'static> {
-    alone(if is_done { "done" } else { "stale" })
-}
-
-impl<A: Allocator + Drop> Layer for KeyedSlab<A> {
-    /// `put BYTES` answers `key INDEX GENERATION`, which begins each other call: `holds`, `read`, `write .. BYTES`, `remove`.
-    fn answer(&mut self, call: Words<'_>) -> Words<'static> {
-        let [first, second, third, fourth, ..] = call.1;
-        let key = Key {
-            index: first,
-            generation: second as u64,
-        };
-        match call.0 {
-            "size" => counted("is", self.record_size()),
-            "put" if self.record_size() == 2 => match self.put(&bytes_of([first, second, 0])[..2]) {
-                Ok(key) => ("key", [key.index, key.generation as usize, 0, 0, 0, 0]),
-                Err(error) => of_insertion(error),
-            },
-            "holds" => yes_or_no(self.holds(key)),
-            "read" => self.read(key).map_or(alone("stale"), of_record),
-            "write" if self.record_size() == 2 => {
-                done_or_stale(self.write(key, &bytes_of([third, fourth, 0])[..2]).is_ok())
-            }
-            "remove" => done_or_stale(self.remove(key).is_ok()),
             _ => alone("no-call"),
         }
     }
@@ -210,10 +185,10 @@ impl<A: Allocator + Drop> Layer for Renting<A> {
     }
 }
 
-/// An allocator with its live list.
+/// A budget with its live list.
 #[derive(Drop)]
 pub(super) struct Spending<A: Allocator + Drop> {
-    allocator: A,
+    budget: ChunkBudget<A>,
     live: Vec<Chunk>,
 }
 
@@ -223,26 +198,26 @@ impl<A: Allocator + Drop> Model for Spending<A> {
 
     ghost view = { λ _. tt };
 
-    ghost invariant = { λ s. A.stands_for s.allocator s.live.items };
+    ghost invariant = { λ s. ⟦<ChunkBudget<A> as BaseAllocator>⟧.stands_for s.budget s.live.items };
 }
 
 impl<A: Allocator + Drop> Spending<A> {
-    fn new(alloc: Global, allocator: A) -> Self
+    /// Makes a budget of `most` chunks of an allocator.
+    pub(super) fn new(alloc: Global, allocator: A, most: usize) -> Self
         requires { A.stands_for allocator [] }
     {
         Spending {
-            allocator,
+            budget: ChunkBudget::new(allocator, most),
             live: Vec::new(alloc),
         }
     }
 
     /// Runs a command.
     fn run(&mut self, command: Command) -> Words<'static> {
-        match run_full(&mut self.allocator, &mut self.live, &[command]) {
-            Ok(replies) => match replies.first() {
-                Some(reply) => of_reply(*reply),
-                None => alone("no-reply"),
-            },
+        match run_full(&mut self.budget, &mut self.live, &[command]) {
+            Ok(replies) => replies
+                .first()
+                .map_or(alone("no-reply"), |reply| of_reply(*reply)),
             Err(_) => alone("no-memory"),
         }
     }
@@ -250,21 +225,10 @@ impl<A: Allocator + Drop> Spending<A> {
     /// Returns the bytes that are reserved for a live chunk.
     fn reserved(&self, at: usize) -> Words<'static> {
         match self.live.get(at) {
-            Some(chunk) => counted("is", self.allocator.reserved(chunk.place())),
+            Some(chunk) => counted("is", self.budget.reserved(chunk.place())),
             None => alone("none"),
         }
     }
-}
-
-/// Makes a budget of `most` chunks of an allocator.
-pub(super) fn budget_of<A: Allocator + Drop>(
-    alloc: Global,
-    allocator: A,
-    most: usize,
-) -> Spending<ChunkBudget<A>>
-    requires { A.stands_for allocator [] }
-{
-    Spending::new(alloc, ChunkBudget::new(allocator, most))
 }
 
 /// Returns a call as a command. Alignments are 1.
@@ -279,13 +243,12 @@ fn command_of(call: Words<'_>) -> Option<Command> {
     }
 }
 
-impl<A: Allocator + Drop> Layer for Spending<ChunkBudget<A>> {
+impl<A: Allocator + Drop> Layer for Spending<A> {
     /// `alloc SIZE`, `free AT`, `grow AT OLD NEW`, `shrink AT OLD NEW`, `reserved AT`, and `out` of the budget.
     fn answer(&mut self, call: Words<'_>) -> Words<'static> {
-        let budget = &self.allocator;
         match (call.0, command_of(call)) {
             ("reserved", _) => self.reserved(call.1[0]),
-            ("out", _) => ("is", [budget.out(), budget.budget(), 0, 0, 0, 0]),
+            ("out", _) => ("is", [self.budget.out(), self.budget.budget(), 0, 0, 0, 0]),
             (_, Some(command)) => self.run(command),
             _ => alone("no-call"),
         }

@@ -2,31 +2,46 @@
 //! first request refused, then with its second, and so on. A refused call changes nothing, and is made again.
 ghost use Rattle.std.specs.Prelude.{◌≡◌, [], IfSome};
 ghost use Rattle.bb_memory_base.specs.HeldBytes.{held_region};
-ghost use Rattle.uses.specs.Rings.{GivesExactly};
+ghost use Rattle.bb_memory_base.specs.Chunk.{region_at};
+ghost use Rattle.bb_memory.specs.Pool.{StandsFor};
 
-use super::checks::check;
-use super::layers::{Growing, Layer, Renting, Spending, budget_of, keeps};
-use super::pools::{TestPool, buckets_of, zeros};
-use allocator_tests::marks::some_was_refused;
-use allocator_tests::rows::field_and_rest;
+use super::layers::{Growing, Renting, Spending, keeps_row};
+use allocator_tests::rows::layout_of;
 use bb_memory::allocator::Allocator;
 use bb_memory::one_chunk_allocator::OneChunkAllocator;
-use bb_memory::pool_allocator::pool_object_law;
+use bb_memory::pool_allocator::{FixedSizePoolAllocator, pool_object_law};
 use bb_memory::region::Region;
 use loan_book::LoanBook;
 use std::alloc::Global;
-use std::process::Abort;
-use uses::chunk_budget::ChunkBudget;
-use uses::keyed_slab::KeyedSlab;
 use uses::ring::MessageRing;
 use uses::slab::Slab;
 use uses::tenants::Tenants;
 
-/// Makes a row's calls. Ends the row where memory for the layer was refused.
-fn keeps_row(rt: &impl Abort, alloc: Global, layer: Option<impl Layer>, row: &str) {
-    match layer {
-        Some(layer) => keeps(rt, alloc, layer, field_and_rest(row)),
-        None => check(rt, some_was_refused(alloc)),
+/// The allocator below a layer.
+type TestPool = FixedSizePoolAllocator<16>;
+
+/// Makes a pool of 1,024 bytes at 4096, in buckets of `size` bytes.
+fn buckets_of(size: usize) -> Option<TestPool>
+    ensures empty { IfSome result (λ pool. StandsFor pool.pool []) }
+    ensures region { IfSome result (λ pool. pool.pool.geometry.region ≡ region_at 4096 1024) }
+{
+    let bucket = layout_of(size, 1)?;
+    if !TestPool::can_make(bucket, 4096, 1024) {
+        return None;
+    }
+    Some(TestPool::new(bucket, 4096, 1024))
+}
+
+/// Makes a region of `size` zeros at `start`, or `None` where memory was refused.
+fn zeros(alloc: Global, start: usize, size: usize) -> Option<Region>
+    ensures { IfSome result (λ region. held_region region ≡ region_at start size) }
+{
+    if !Region::can_make(start, size) {
+        return None;
+    }
+    match vec![in alloc; 0; size] {
+        Ok(bytes) => Some(Region::new(start, bytes)),
+        Err(_) => None,
     }
 }
 
@@ -50,38 +65,11 @@ fn slabs(rt: HostRuntime) {
     }
 }
 
-/// Makes an empty slab with keys, for records of two bytes.
-fn keyed(alloc: Global) -> Option<KeyedSlab<TestPool>> {
-    Some(KeyedSlab::new(alloc, slab(alloc)?, 2))
-}
-
-const KEYED: &str = "\
-keys grow stale | size = is 2; read 0 0 = stale; put 1 2 = key 0 0; put 3 4 = key 1 0; remove 0 0 = done; holds 0 0 = no; \
-    read 0 0 = stale; write 0 0 9 9 = stale; remove 0 0 = stale; put 5 6 = key 0 1; read 0 0 = stale; read 0 1 = record 2 5 6; \
-    write 1 0 7 8 = done; read 1 0 = record 2 7 8; holds 1 0 = yes; holds 1 1 = no; put 0 0 = key 2 0; read 0 1 = record 2 5 6
-a full slab takes a free slot again | put 0 1 = key 0 0; put 0 2 = key 1 0; put 0 3 = key 2 0; put 0 4 = key 3 0; \
-    put 0 5 = key 4 0; put 0 6 = key 5 0; put 0 7 = key 6 0; put 0 8 = key 7 0; put 0 9 = OutOfMemory; remove 6 0 = done; \
-    remove 3 0 = done; put 1 0 = key 3 1; put 1 1 = key 6 1; put 1 2 = OutOfMemory; read 3 1 = record 2 1 0";
-
-#[test]
-fn keyed_slabs(rt: HostRuntime) {
-    for row in KEYED.split('\n') {
-        keeps_row(&rt, rt.alloc(), keyed(rt.alloc()), row);
-    }
-}
-
 /// Makes a ring for two readers.
-fn ring_over<A: Allocator + Drop>(alloc: Global, allocator: A, region: Region) -> MessageRing<A>
-    requires fresh { A.stands_for allocator [] }
-    requires exact { GivesExactly A.may_allocate }
-    requires same_region { held_region region ≡ A.region_of (A.geometry allocator) }
-{
-    MessageRing::new(alloc, LoanBook::new(alloc, allocator), region, 2)
-}
-
 fn ring(alloc: Global) -> Option<MessageRing<TestPool>> {
     pool_object_law();
-    Some(ring_over(alloc, buckets_of(128)?, zeros(alloc, 4096, 1024)?))
+    let book = LoanBook::new(alloc, buckets_of(128)?);
+    Some(MessageRing::new(alloc, book, zeros(alloc, 4096, 1024)?, 2))
 }
 
 const RING: &str = "\
@@ -129,8 +117,8 @@ fn tenants_of_an_allocator(rt: HostRuntime) {
 }
 
 /// Makes a budget of two chunks.
-fn budget(alloc: Global) -> Option<Spending<ChunkBudget<TestPool>>> {
-    Some(budget_of(alloc, buckets_of(128)?, 2))
+fn budget(alloc: Global) -> Option<Spending<TestPool>> {
+    Some(Spending::new(alloc, buckets_of(128)?, 2))
 }
 
 const BUDGET: &str = "\

@@ -1,5 +1,5 @@
 //! Errors through `?`, and blocks of the heap.
-use super::checks::check;
+use super::layers::check;
 use bb_memory::layout::Layout;
 use bb_memory::pool_allocator::{AllocationError, PoolAllocator};
 use examples::errors::{GiveError, by_enum, open};

@@ -1,7 +1,7 @@
 //! Threads that share a bump or a pool, and the room that is left when all of them are back.
 ghost use Rattle.std.specs.Prelude.{◌≡◌, All};
 
-use super::checks::check;
+use super::layers::check;
 use bb_memory::bump_allocator::BumpAllocator;
 use bb_memory::layout::Layout;
 use bb_memory::shared_pool::{PoolParty, SharedPoolAllocator};
