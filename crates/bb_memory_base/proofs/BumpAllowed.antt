@@ -83,8 +83,7 @@ step_is_another region state step move party (loses other call is apart fit) all
     is_another state other party (Some call) is past
 step_is_another region state step move party (refuses_loss other call is apart fit) allowed past =
     is_another state other party (Some call) is past
-step_is_another region state step move party (loads other idle) allowed past =
-    is_another state other party None idle past
+step_is_another region state step move party (loads other idle) allowed past = is_another state other party None idle past
 step_is_another region state step move party clears allowed past = absurd allowed
 step_is_another region state step move party (passes other) allowed past = absurd allowed
 

@@ -130,14 +130,12 @@ agree_step scene position logs party log step agree at own others allowed =
           let now : slice_get (slice_set logs party (log ++ entry ∷ [])) other ≡ Some (log ++ entry ∷ []) =
           ap (slice_get (slice_set logs party (log ++ entry ∷ []))) same
           ∙ slice_get-set_same logs party (log ++ entry ∷ []) log at in
-          added
-          ∙ ap (λ (mine : Bool). entries_by other history ++ (if mine then entry ∷ [] else []))
+          added ∙ ap (λ (mine : Bool). entries_by other history ++ (if mine then entry ∷ [] else []))
           (ap (λ (p : ℕ). is_by p step) same ∙ own)
           ∙ ap (λ (before : BumpLog). before ++ entry ∷ []) (agree.each other log (ap (slice_get logs) same ∙ at))
           ∙ same_Some _ _ (sym now ∙ is))
           (λ (apart : other ≢ party).
-          added
-          ∙ ap (λ (mine : Bool). entries_by other history ++ (if mine then entry ∷ [] else [])) (others other apart)
+          added ∙ ap (λ (mine : Bool). entries_by other history ++ (if mine then entry ∷ [] else [])) (others other apart)
           ∙ append-nil (entries_by other history)
           ∙ agree.each other there (sym (slice_get-set_other logs party other (log ++ entry ∷ []) apart) ∙ is))
           (same_or_apart other party);
@@ -168,8 +166,7 @@ pub agreed_call : (scene : BumpScene) (position : ℕ) (logs : List BumpLog) (pa
     HasLog logs party log → party < scene.parties → call_in log ≡ call →
     slice_get (left_by scene agree.steps).calls party ≡ Some call
 agreed_call scene position logs party log call agree at within is =
-    party_call scene agree.steps party within
-    ∙ ap (λ (own : BumpLog). Some (call_in own)) (agree.each party log at) ∙ ap Some is
+    party_call scene agree.steps party within ∙ ap (λ (own : BumpLog). Some (call_in own)) (agree.each party log at) ∙ ap Some is
 
 -- the step is the party's, and no other's
 not_others : (party other : ℕ) → other ≢ party → (party == other) ≡ false

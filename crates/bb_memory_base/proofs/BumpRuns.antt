@@ -154,8 +154,7 @@ pub bump_after-append : (region : Region) (state : BumpState) (first more : List
 bump_after-append region state [] more = refl
 bump_after-append region state (step ∷ first) more = bump_after-append region (bump_step region state step).state first more
 
-bump_calls-append : (region : Region) (state : BumpState) (first more : List BumpStep) →
-    bump_calls region state (first ++ more)
+bump_calls-append : (region : Region) (state : BumpState) (first more : List BumpStep) → bump_calls region state (first ++ more)
     ≡ bump_calls region state first ++ bump_calls region (bump_after region state first) more
 bump_calls-append region state [] more = refl
 bump_calls-append region state (step ∷ first) more =

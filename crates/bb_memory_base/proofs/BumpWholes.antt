@@ -86,8 +86,7 @@ pub record HasOwner (state : BumpState) (step : BumpStep) : Type 0 where
 
 owned : (state : BumpState) (step : BumpStep) (party : ℕ) (now : Option OngoingCall) →
     slice_get state.calls party ≡ Some now → is_by party step ≡ true → HasOwner state step
-owned state step party now at own =
-    record { party = party; there = slice_get-some state.calls party (ap is_some at); own = own }
+owned state step party now at own = record { party = party; there = slice_get-some state.calls party (ap is_some at); own = own }
 
 pub owner_of : (region : Region) (state : BumpState) (step : BumpStep) (move : BumpMove) → StepView region state step move →
     IsAllowed move.outcome → HasOwner state step

@@ -26,13 +26,12 @@ layout-plain size align = (
 
 -- of two powers of two the lower one divides the higher one
 power-divides : (low high : ℕ) → IsPowerOfTwo low → IsPowerOfTwo high → low ≤ high → (k : ℕ) × (high ≡ k * low)
-power-divides low high p q le =
-    elim (cases_lt q.0 p.0) [
-      | inl below ↦ absurd (omega (arith, p.1, q.1, pow_pos q.0, pow-suc 2 q.0, pow_mono {i = suc q.0} {j = p.0} (omega arith)))
-      | inr above ↦
-          let parts : q.0 ≡ (q.0 - p.0) + p.0 = omega arith in
-          (2 ^ (q.0 - p.0), q.1 ∙ ap (λ j. 2 ^ j) parts ∙ pow-add 2 (q.0 - p.0) p.0 ∙ ap (λ m. 2 ^ (q.0 - p.0) * m) (sym p.1))
-    ]
+power-divides low high p q le = elim (cases_lt q.0 p.0) [
+  | inl below ↦ absurd (omega (arith, p.1, q.1, pow_pos q.0, pow-suc 2 q.0, pow_mono {i = suc q.0} {j = p.0} (omega arith)))
+  | inr above ↦
+      let parts : q.0 ≡ (q.0 - p.0) + p.0 = omega arith in
+      (2 ^ (q.0 - p.0), q.1 ∙ ap (λ j. 2 ^ j) parts ∙ pow-add 2 (q.0 - p.0) p.0 ∙ ap (λ m. 2 ^ (q.0 - p.0) * m) (sym p.1))
+]
 
 -- a multiple of an alignment is one of each smaller alignment
 pub multiple : (place : ℕ) (layout wider : Layout) → layout.align ≤ wider.align → place % wider.align ≡ 0 →

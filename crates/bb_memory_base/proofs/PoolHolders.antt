@@ -45,74 +45,61 @@ step_holds state step move party bucket held (takes other at next free) before =
       let was = slice_get-same state.flags at bucket (Some Free) same free in
       let now = slice_get-set_same state.flags at bucket (HeldBy other) Free same free in
       ap (λ (b : Bool). if other == party then (if b then true else held) else held) (test_same at bucket same)
-      ∙ when_taken (other == party) held (before ∙ ap (is_holder party) was)
-      ∙ sym (ap (is_holder party) now)
+      ∙ when_taken (other == party) held (before ∙ ap (is_holder party) was) ∙ sym (ap (is_holder party) now)
   | inr apart ↦
       let now = slice_get-set_other state.flags at bucket (HeldBy other) apart in
       ap (λ (b : Bool). if other == party then (if b then true else held) else held) (test_apart at bucket apart)
-      ∙ either_way (other == party) held ∙ before
-      ∙ sym (ap (is_holder party) now)
+      ∙ either_way (other == party) held ∙ before ∙ sym (ap (is_holder party) now)
 ]
 step_holds state step move party bucket held (takes_at other at idle free) before = elim (cases_eq at bucket) [
   | inl same ↦
       let was = slice_get-same state.flags at bucket (Some Free) same free in
       let now = slice_get-set_same state.flags at bucket (HeldBy other) Free same free in
       ap (λ (b : Bool). if other == party then (if b then true else held) else held) (test_same at bucket same)
-      ∙ when_taken (other == party) held (before ∙ ap (is_holder party) was)
-      ∙ sym (ap (is_holder party) now)
+      ∙ when_taken (other == party) held (before ∙ ap (is_holder party) was) ∙ sym (ap (is_holder party) now)
   | inr apart ↦
       let now = slice_get-set_other state.flags at bucket (HeldBy other) apart in
       ap (λ (b : Bool). if other == party then (if b then true else held) else held) (test_apart at bucket apart)
-      ∙ either_way (other == party) held ∙ before
-      ∙ sym (ap (is_holder party) now)
+      ∙ either_way (other == party) held ∙ before ∙ sym (ap (is_holder party) now)
 ]
 step_holds state step move party bucket held (gives other at taken) before = elim (cases_eq at bucket) [
   | inl same ↦
       let was = slice_get-same state.flags at bucket (Some (HeldBy other)) same taken in
       let now = slice_get-set_same state.flags at bucket Free (HeldBy other) same taken in
       ap (λ (b : Bool). if other == party then (if b then false else held) else held) (test_same at bucket same)
-      ∙ when_returned (other == party) held (before ∙ ap (is_holder party) was)
-      ∙ sym (ap (is_holder party) now)
+      ∙ when_returned (other == party) held (before ∙ ap (is_holder party) was) ∙ sym (ap (is_holder party) now)
   | inr apart ↦
       let now = slice_get-set_other state.flags at bucket Free apart in
       ap (λ (b : Bool). if other == party then (if b then false else held) else held) (test_apart at bucket apart)
-      ∙ either_way (other == party) held ∙ before
-      ∙ sym (ap (is_holder party) now)
+      ∙ either_way (other == party) held ∙ before ∙ sym (ap (is_holder party) now)
 ]
 step_holds state step move party bucket held (detaches other at taken others) before = elim (cases_eq at bucket) [
   | inl same ↦
       let was = slice_get-same state.flags at bucket (Some (HeldBy other)) same taken in
       let now = slice_get-set_same state.flags at bucket Detached (HeldBy other) same taken in
       ap (λ (b : Bool). if other == party then (if b then false else held) else held) (test_same at bucket same)
-      ∙ when_returned (other == party) held (before ∙ ap (is_holder party) was)
-      ∙ sym (ap (is_holder party) now)
+      ∙ when_returned (other == party) held (before ∙ ap (is_holder party) was) ∙ sym (ap (is_holder party) now)
   | inr apart ↦
       let now = slice_get-set_other state.flags at bucket Detached apart in
       ap (λ (b : Bool). if other == party then (if b then false else held) else held) (test_apart at bucket apart)
-      ∙ either_way (other == party) held ∙ before
-      ∙ sym (ap (is_holder party) now)
+      ∙ either_way (other == party) held ∙ before ∙ sym (ap (is_holder party) now)
 ]
 step_holds state step move party bucket held (attaches other at idle detached) before = elim (cases_eq at bucket) [
   | inl same ↦
       let was = slice_get-same state.flags at bucket (Some Detached) same detached in
       let now = slice_get-set_same state.flags at bucket (HeldBy other) Detached same detached in
       ap (λ (b : Bool). if other == party then (if b then true else held) else held) (test_same at bucket same)
-      ∙ when_taken (other == party) held (before ∙ ap (is_holder party) was)
-      ∙ sym (ap (is_holder party) now)
+      ∙ when_taken (other == party) held (before ∙ ap (is_holder party) was) ∙ sym (ap (is_holder party) now)
   | inr apart ↦
       let now = slice_get-set_other state.flags at bucket (HeldBy other) apart in
       ap (λ (b : Bool). if other == party then (if b then true else held) else held) (test_apart at bucket apart)
-      ∙ either_way (other == party) held ∙ before
-      ∙ sym (ap (is_holder party) now)
+      ∙ either_way (other == party) held ∙ before ∙ sym (ap (is_holder party) now)
 ]
-step_holds state step move party bucket held (loses other at next taken more) before =
-    either_way (other == party) held ∙ before
+step_holds state step move party bucket held (loses other at next taken more) before = either_way (other == party) held ∙ before
 step_holds state step move party bucket held (is_refused other at next taken last) before =
     either_way (other == party) held ∙ before
-step_holds state step move party bucket held (misses other at idle taken) before =
-    either_way (other == party) held ∙ before
-step_holds state step move party bucket held (passes other) before =
-    either_way (is_by party step) held ∙ before
+step_holds state step move party bucket held (misses other at idle taken) before = either_way (other == party) held ∙ before
+step_holds state step move party bucket held (passes other) before = either_way (is_by party step) held ∙ before
 
 held_through-log : (party bucket : ℕ) (held mine : Bool) (entry : PoolEntry) (log : PoolLog) →
     held_through bucket held (if mine then entry ∷ log else log) ≡
@@ -137,15 +124,13 @@ nobody_holds zero party bucket = refl
 nobody_holds (suc n) party zero = refl
 nobody_holds (suc n) party (suc bucket) = nobody_holds n party bucket
 
-holder_from_test : (party : ℕ) (found : Option Flag) → is_holder party found ≡ true →
-    found ≡ Some (HeldBy party)
+holder_from_test : (party : ℕ) (found : Option Flag) → is_holder party found ≡ true → found ≡ Some (HeldBy party)
 holder_from_test party None e = absurd (cc)
 holder_from_test party (Some Free) e = absurd (cc)
 holder_from_test party (Some Detached) e = absurd (cc)
 holder_from_test party (Some (HeldBy holder)) e = ap (λ (h : ℕ). Some (HeldBy h)) (same_from_test holder party e)
 
-test_from_holder : (party : ℕ) (found : Option Flag) → found ≡ Some (HeldBy party) →
-    is_holder party found ≡ true
+test_from_holder : (party : ℕ) (found : Option Flag) → found ≡ Some (HeldBy party) → is_holder party found ≡ true
 test_from_holder party found e = ap (is_holder party) e ∙ test_same party party refl
 
 -- a flag's holder is the party whose log holds the bucket

@@ -39,14 +39,12 @@ pass_by party pass step outcome = if is_by party step then pass_after pass outco
 step_pass : (state : PoolState) (step : PoolStep) (move : PoolMove) (party : ℕ) (pass : Option ℕ) →
     StepKind state step move → slice_get state.calls party ≡ Some pass →
     slice_get move.state.calls party ≡ Some (pass_by party pass step move.outcome)
-step_pass state step move party pass (takes other bucket next free) there =
-    pass-set state other party bucket pass None next there
+step_pass state step move party pass (takes other bucket next free) there = pass-set state other party bucket pass None next there
 step_pass state step move party pass (loses other bucket next taken more) there =
     pass-set state other party bucket pass (Some (bucket + 1)) next there
 step_pass state step move party pass (is_refused other bucket next taken last) there =
     pass-set state other party bucket pass None next there
-step_pass state step move party pass (gives other bucket taken) there =
-    there ∙ ap Some (sym (kept_pass (other == party) pass))
+step_pass state step move party pass (gives other bucket taken) there = there ∙ ap Some (sym (kept_pass (other == party) pass))
 step_pass state step move party pass (takes_at other bucket idle free) there =
     pass-set state other party 0 pass None (next_of_idle state other idle) there
 step_pass state step move party pass (misses other bucket idle taken) there =
@@ -55,8 +53,7 @@ step_pass state step move party pass (detaches other bucket taken others) there 
     there ∙ ap Some (sym (kept_pass (other == party) pass))
 step_pass state step move party pass (attaches other bucket idle detached) there =
     there ∙ ap Some (sym (kept_pass (other == party) pass))
-step_pass state step move party pass (passes other) there =
-    there ∙ ap Some (sym (kept_pass (is_by party step) pass))
+step_pass state step move party pass (passes other) there = there ∙ ap Some (sym (kept_pass (is_by party step) pass))
 
 abbrev pass_through : Option ℕ → PoolLog → Option ℕ
 pass_through pass log = fold (λ pass entry. pass_after pass entry.outcome) pass log
@@ -67,8 +64,7 @@ pass_through-log : (pass : Option ℕ) (mine : Bool) (entry : PoolEntry) (log : 
 pass_through-log pass true entry log = refl
 pass_through-log pass false entry log = refl
 
-steps_pass : (state : PoolState) (steps : List PoolStep) (party : ℕ) (pass : Option ℕ) →
-    slice_get state.calls party ≡ Some pass →
+steps_pass : (state : PoolState) (steps : List PoolStep) (party : ℕ) (pass : Option ℕ) → slice_get state.calls party ≡ Some pass →
     slice_get (pool_after state steps).calls party ≡ Some (pass_through pass (entries_by party (pool_history state steps)))
 steps_pass state [] party pass there = there
 steps_pass state (step ∷ steps) party pass there =
@@ -78,8 +74,7 @@ steps_pass state (step ∷ steps) party pass there =
     steps_pass move.state steps party (pass_by party pass step move.outcome) now
     ∙ ap Some (pass_through-log pass (is_by party step) (entry_of step move.outcome) log)
 
-idle_at_opening : (n party : ℕ) → party < n →
-    ◌≡◌ {A = Option (Option ℕ)} (slice_get (replicate n None) party) (Some None)
+idle_at_opening : (n party : ℕ) → party < n → ◌≡◌ {A = Option (Option ℕ)} (slice_get (replicate n None) party) (Some None)
 idle_at_opening zero party made = absurd (omega arith)
 idle_at_opening (suc n) zero made = refl
 idle_at_opening (suc n) (suc party) made = idle_at_opening n party (omega arith)
@@ -87,13 +82,11 @@ idle_at_opening (suc n) (suc party) made = idle_at_opening n party (omega arith)
 -- the pass of a party that was made stands in its log
 pub log_pass : (scene : PoolScene) (steps : List PoolStep) (party : ℕ) → party < scene.parties →
     slice_get (left_by scene steps).calls party ≡ Some (pass_in (log_of scene steps party))
-log_pass scene steps party made =
-    steps_pass (opening_state scene) steps party None (idle_at_opening scene.parties party made)
+log_pass scene steps party made = steps_pass (opening_state scene) steps party None (idle_at_opening scene.parties party made)
 
 -- ONE MORE STEP
 
-history-push : (state : PoolState) (steps : List PoolStep) (step : PoolStep) →
-    pool_history state (steps ++ step ∷ []) ≡
+history-push : (state : PoolState) (steps : List PoolStep) (step : PoolStep) → pool_history state (steps ++ step ∷ []) ≡
     pool_history state steps ++ entry_of step (pool_step (pool_after state steps) step).outcome ∷ []
 history-push state [] step = refl
 history-push state (first ∷ steps) step =

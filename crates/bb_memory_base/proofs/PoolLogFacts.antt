@@ -128,8 +128,7 @@ absent_steps state (step ∷ steps) party absent (here, rest) =
     let move : PoolMove = pool_step state step in
     let now = absent_step state step move party (kind_of state step) here absent in
     let log : PoolLog = entries_by party (pool_history move.state steps) in
-    ap (λ (b : Bool). if b then entry_of step move.outcome ∷ log else log) now.0
-    ∙ absent_steps move.state steps party now.1 rest
+    ap (λ (b : Bool). if b then entry_of step move.outcome ∷ log else log) now.0 ∙ absent_steps move.state steps party now.1 rest
 
 none_past : (n party : ℕ) → n ≤ party → ◌≡◌ {A = Option (Option ℕ)} (slice_get (replicate n None) party) None
 none_past zero party past = refl
@@ -154,18 +153,12 @@ first_kind : (scene : PoolScene) (step : PoolStep) (move : PoolMove) → StepKin
     (party : ℕ) × (bucket : ℕ) × ((step ≡ Try party) ⊎ (step ≡ TryAt party bucket)) × (move.outcome ≡ Takes bucket)
 first_kind scene step move (takes party bucket next free) allowed = (party, bucket, inl refl, refl)
 first_kind scene step move (takes_at party bucket idle free) allowed = (party, bucket, inr refl, refl)
-first_kind scene step move (misses party bucket idle taken) allowed =
-    absurd (none_taken_at_opening scene bucket taken)
-first_kind scene step move (loses party bucket next taken more) allowed =
-    absurd (none_taken_at_opening scene bucket taken)
-first_kind scene step move (is_refused party bucket next taken last) allowed =
-    absurd (none_taken_at_opening scene bucket taken)
-first_kind scene step move (gives party bucket taken) allowed =
-    absurd (none_held_at_opening scene bucket party taken)
-first_kind scene step move (detaches party bucket taken others) allowed =
-    absurd (none_held_at_opening scene bucket party taken)
-first_kind scene step move (attaches party bucket idle detached) allowed =
-    absurd (none_detached_at_opening scene bucket detached)
+first_kind scene step move (misses party bucket idle taken) allowed = absurd (none_taken_at_opening scene bucket taken)
+first_kind scene step move (loses party bucket next taken more) allowed = absurd (none_taken_at_opening scene bucket taken)
+first_kind scene step move (is_refused party bucket next taken last) allowed = absurd (none_taken_at_opening scene bucket taken)
+first_kind scene step move (gives party bucket taken) allowed = absurd (none_held_at_opening scene bucket party taken)
+first_kind scene step move (detaches party bucket taken others) allowed = absurd (none_held_at_opening scene bucket party taken)
+first_kind scene step move (attaches party bucket idle detached) allowed = absurd (none_detached_at_opening scene bucket detached)
 first_kind scene step move (passes other) allowed = absurd allowed
 
 -- where all steps are allowed, the first takes a bucket
@@ -268,8 +261,7 @@ taken_is_held_alone scene flags logs log bucket agree one at taken =
 pub length-flags : (scene : PoolScene) (flags : List Bool) (logs : List PoolLog) →
     LogsAgree scene flags logs → length flags ≡ scene.geometry.buckets
 length-flags scene flags logs agree =
-    ap (λ (f : List Bool). length f) (sym agree.leaves)
-    ∙ length-map (left_by scene agree.steps).flags is_taken
+    ap (λ (f : List Bool). length f) (sym agree.leaves) ∙ length-map (left_by scene agree.steps).flags is_taken
     ∙ length-left_by scene agree.steps
 
 -- DETACHED BUCKETS

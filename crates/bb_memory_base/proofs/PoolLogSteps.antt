@@ -32,8 +32,7 @@ tries scene flags logs party log bucket agree made at next found is =
     let state : PoolState = left_by scene agree.steps in
     let pass : slice_get state.calls party ≡ Some (pass_in log) =
     log_pass scene agree.steps party made ∙ ap (λ (l : PoolLog). Some (pass_in l)) (agree.each party log at) in
-    ap (try_next state party) pass
-    ∙ ap (λ (b : ℕ). try_flag state party b (slice_get state.flags b)) next
+    ap (try_next state party) pass ∙ ap (λ (b : ℕ). try_flag state party b (slice_get state.flags b)) next
     ∙ ap (try_flag state party bucket) is
 
 pub take_agrees : (scene : PoolScene) (flags : List Bool) (logs : List PoolLog) (party : ℕ) (log : PoolLog) (bucket : ℕ) →

@@ -75,8 +75,7 @@ over state other party bucket at next less = elim (cases_eq other party) [
 at_progress : (state : PoolState) (step : PoolStep) (move : PoolMove) (party bucket : ℕ) →
     StepKind state step move → bucket < progress_of (slice_get move.state.calls party) →
     (bucket < progress_of (slice_get state.calls party)) ⊎ ((step ≡ Try party) × IsLossAt bucket move.outcome)
-at_progress state step move party bucket (takes other taken next free) less =
-    inl (over state other party bucket taken next less)
+at_progress state step move party bucket (takes other taken next free) less = inl (over state other party bucket taken next less)
 at_progress state step move party bucket (is_refused other lost next taken none) less =
     inl (over state other party bucket lost next less)
 at_progress state step move party bucket (gives other returned taken) less = inl less
@@ -89,8 +88,7 @@ at_progress state step move party bucket (passes other) less = inl less
 at_progress state step move party bucket (loses other lost next taken more) less = elim (cases_eq other party) [
   | inl same ↦
       let after = slice_get-set_same state.calls other party (Some (lost + 1)) next.pass same next.there in
-      let now : progress_of (slice_get (slice_set state.calls other (Some (lost + 1))) party) ≡ lost + 1 =
-      ap progress_of after in
+      let now : progress_of (slice_get (slice_set state.calls other (Some (lost + 1))) party) ≡ lost + 1 = ap progress_of after in
       let before = progress_next state other party lost same next in
       elim (below_or_at bucket lost (omega arith))
       as (λ _. (bucket < progress_of (slice_get state.calls party)) ⊎ ((Try other ≡ Try party) × (lost ≡ bucket))) [
@@ -111,10 +109,8 @@ taken_at_loss state step move bucket (misses other missed idle taken) lost = abs
 taken_at_loss state step move bucket (detaches other sent taken others) lost = absurd lost
 taken_at_loss state step move bucket (attaches other received idle detached) lost = absurd lost
 taken_at_loss state step move bucket (passes other) lost = absurd lost
-taken_at_loss state step move bucket (loses other at next taken more) lost =
-    subst (IsTaken state) lost taken
-taken_at_loss state step move bucket (is_refused other at next taken none) lost =
-    subst (IsTaken state) lost taken
+taken_at_loss state step move bucket (loses other at next taken more) lost = subst (IsTaken state) lost taken
+taken_at_loss state step move bucket (is_refused other at next taken none) lost = subst (IsTaken state) lost taken
 
 -- ONE PASS
 
@@ -147,8 +143,7 @@ after_first : (state : PoolState) (step : PoolStep) (steps : List PoolStep) (par
 after_first state step steps party last rest zero after within = absurd (omega arith)
 after_first state step steps party last rest (suc j) after within = rest j (omega arith)
 
-entry_parts : (step other : PoolStep) (outcome found : PoolOutcome) →
-    Some (entry_of step outcome) ≡ Some (entry_of other found) →
+entry_parts : (step other : PoolStep) (outcome found : PoolOutcome) → Some (entry_of step outcome) ≡ Some (entry_of other found) →
     (step ≡ other) × (outcome ≡ found)
 entry_parts step other outcome found same =
     let parts = same_Some (entry_of step outcome) (entry_of other found) same in
@@ -262,8 +257,7 @@ taken_at_miss state step move bucket (gives other returned taken) is = absurd (c
 taken_at_miss state step move bucket (detaches other sent taken others) is = absurd (cc)
 taken_at_miss state step move bucket (attaches other received idle detached) is = absurd (cc)
 taken_at_miss state step move bucket (passes other) is = absurd (cc)
-taken_at_miss state step move bucket (misses other at idle taken) is =
-    subst (IsTaken state) (same_missed at bucket is) taken
+taken_at_miss state step move bucket (misses other at idle taken) is = subst (IsTaken state) (same_missed at bucket is) taken
 
 taken_where_missed : (state : PoolState) (steps : List PoolStep) (party bucket k : ℕ) →
     MissesAt (pool_history state steps) party bucket k → IsTaken (pool_after state (take k steps)) bucket

@@ -231,8 +231,7 @@ free_at_opening zero bucket = refl
 free_at_opening (suc n) zero = refl
 free_at_opening (suc n) (suc bucket) = free_at_opening n bucket
 
-opening_matches : (scene : PoolScene) →
-    Matches scene.geometry (opening_state scene) []
+opening_matches : (scene : PoolScene) → Matches scene.geometry (opening_state scene) []
 opening_matches scene = record {
   flags = λ bucket below. sym (free_at_opening scene.geometry.buckets bucket);
   size = length-replicate scene.geometry.buckets Free;

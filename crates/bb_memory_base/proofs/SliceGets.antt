@@ -85,5 +85,4 @@ slice_get-lent xs i (Some x) is = sym (slice_get_read xs (length xs) i x.now ref
 -- and so is what is copied of it
 pub slice_get-copied : {X : Type 0} (xs ys : List X) (i : ℕ) (lent : Option (Bor X)) (copied : Option X) →
     copied ≡ option_copied lent → IsItemAt xs i lent → xs ≡ ys → slice_get ys i ≡ copied
-slice_get-copied xs ys i lent copied is lends same =
-    sym (is ∙ slice_get-lent xs i lent lends ∙ ap (λ zs. slice_get zs i) same)
+slice_get-copied xs ys i lent copied is lends same = sym (is ∙ slice_get-lent xs i lent lends ∙ ap (λ zs. slice_get zs i) same)

@@ -6,8 +6,7 @@ use Rattle.bb_memory_base.specs.Chunk.{Chunk, IsInside}
 use Rattle.bb_memory_base.specs.HeldBytes.{HeldBytes, held_region, bytes_in, ChangesOnly}
 use Rattle.bb_memory_base.proofs.ApartBytes.{span, apart-kept}
 
-pub split-bytes : (held : HeldBytes) (place n m : ℕ) → held.start ≤ place →
-    bytes_in held (record { place = place; len = n + m })
+pub split-bytes : (held : HeldBytes) (place n m : ℕ) → held.start ≤ place → bytes_in held (record { place = place; len = n + m })
     ≡ bytes_in held (record { place = place; len = n }) ++ bytes_in held (record { place = place + n; len = m })
 split-bytes held place n m above =
     let i : ℕ = place - held.start in

@@ -46,8 +46,7 @@ chunk_at region position layout = chunk_at_or_after (region.start + position) la
 
 -- that chunk ends inside the region
 abbrev pub fits : Region → ℕ → Layout → Bool
-fits region position layout =
-    nat_le (chunk_end (chunk_at region position layout)) (region_end region)
+fits region position layout = nat_le (chunk_end (chunk_at region position layout)) (region_end region)
 
 -- the position that ends with a chunk
 abbrev pub position_behind : Region → Chunk → ℕ
@@ -59,8 +58,7 @@ pub record IsFitting (region : Region) (call : OngoingCall) : Type 0 where
   pub fitting : fits region call.seen call.layout ≡ true
 
 abbrev pub AllFitting : Region → BumpState → Type 0
-AllFitting region state =
-    (party : ℕ) (call : OngoingCall) → IsInCall state party call → IsFitting region call
+AllFitting region state = (party : ℕ) (call : OngoingCall) → IsInCall state party call → IsFitting region call
 
 -- STEPS
 
@@ -127,8 +125,7 @@ read region state party layout (Some None) =
 read region state party layout _ = passed state
 
 abbrev pub exchange : Region → BumpState → ℕ → Option (Option OngoingCall) → BumpMove
-exchange region state party (Some (Some call)) =
-    moved state party (exchange_move region state.position call)
+exchange region state party (Some (Some call)) = moved state party (exchange_move region state.position call)
 exchange region state party _ = passed state
 
 abbrev pub load : BumpState → Option (Option OngoingCall) → BumpMove
@@ -137,8 +134,7 @@ load state _ = passed state
 
 -- one atomic step
 abbrev pub bump_step : Region → BumpState → BumpStep → BumpMove
-bump_step region state (Read party layout) =
-    read region state party layout (slice_get state.calls party)
+bump_step region state (Read party layout) = read region state party layout (slice_get state.calls party)
 bump_step region state (Exchange party) = exchange region state party (slice_get state.calls party)
 bump_step region state (Load party) = load state (slice_get state.calls party)
 bump_step region state Clear = record {

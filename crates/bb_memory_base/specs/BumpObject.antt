@@ -22,8 +22,7 @@ next_chunk region live layout = chunk_at_or_after (end_of_last region.start live
 -- What the bump object may answer, and when.
 abbrev pub MayAllocate : Region → List Chunk → Layout → Result Chunk AllocationError → Type 0
 MayAllocate region live layout (Ok chunk) =
-    (0 < layout.size) × (chunk_end chunk ≤ region_end region)
-    × (chunk ≡ next_chunk region live layout)
+    (0 < layout.size) × (chunk_end chunk ≤ region_end region) × (chunk ≡ next_chunk region live layout)
 MayAllocate region live layout (Err SizeIsZero) = layout.size ≡ 0
 MayAllocate region live layout (Err OutOfMemory) =
     (0 < layout.size) × (region_end region < chunk_end (next_chunk region live layout))

@@ -58,8 +58,7 @@ pub record Steps (old : BumpWorld) (step : BumpStep) (answer : BumpOutcome) (new
 
 -- the same of a list of steps
 abbrev pub outcomes_of : BumpWorld → List BumpStep → List BumpOutcome
-outcomes_of world steps =
-    histories.outcomes_of (histories.bump_history world.region world.state steps)
+outcomes_of world steps = histories.outcomes_of (histories.bump_history world.region world.state steps)
 
 abbrev pub after_steps : BumpWorld → List BumpStep → BumpWorld
 after_steps world steps = in_state world (bump_after world.region world.state steps)

@@ -16,8 +16,7 @@ abbrev pub bytes_before : HeldBytes → Chunk → List ℕ
 bytes_before held chunk = take (chunk.place - held.start) held.bytes
 
 abbrev pub bytes_in : HeldBytes → Chunk → List ℕ
-bytes_in held chunk =
-    slice_range held.bytes (chunk.place - held.start) (chunk.place - held.start + chunk.len)
+bytes_in held chunk = slice_range held.bytes (chunk.place - held.start) (chunk.place - held.start + chunk.len)
 
 abbrev pub bytes_behind : HeldBytes → Chunk → List ℕ
 bytes_behind held chunk = drop (chunk.place - held.start + chunk.len) held.bytes

@@ -9,8 +9,7 @@ pub record Object : Type 1 where
   pub may_allocate : List Chunk → Layout → Result Chunk AllocationError → Type 0
 
 abbrev pub object_of : Bool → (List Chunk → Layout → Result Chunk AllocationError → Type 0) → Object
-object_of release_empties may_allocate =
-    record { release_empties = release_empties; may_allocate = may_allocate }
+object_of release_empties may_allocate = record { release_empties = release_empties; may_allocate = may_allocate }
 
 -- the list after an answer: a chunk is appended, and a refusal changes nothing
 abbrev pub appended : List Chunk → Result Chunk AllocationError → List Chunk
@@ -29,8 +28,7 @@ pub record Allocates (object : Object) (old : List Chunk) (layout : Layout)
   pub leaves : new ≡ appended old answer
 
 -- from `old` the chunk at a position is given back, and the object goes on to `new`
-pub record Releases (object : Object) (old : List Chunk) (position : ℕ) (new : List Chunk)
-    : Type 0 where
+pub record Releases (object : Object) (old : List Chunk) (position : ℕ) (new : List Chunk) : Type 0 where
   pub within : position < length old
   pub leaves : new ≡ released object.release_empties old position
 

@@ -41,22 +41,18 @@ MayAllocate region live layout (Err AlignmentFailure) = ⊥
 -- What it may answer where the chunk at a place is to grow from an old layout to a new one, and when.
 abbrev pub MayGrow : Region → ℕ → Layout → Layout → Result Chunk AllocationGrowError → Type 0
 MayGrow region place old new (Ok grown) =
-    (old.size < new.size) × (new.align ≤ old.align) × (new.size ≤ reserved_at region place)
-    × (grown ≡ rest_from region place)
+    (old.size < new.size) × (new.align ≤ old.align) × (new.size ≤ reserved_at region place) × (grown ≡ rest_from region place)
 MayGrow region place old new (Err grow.GrowWouldShrink) = new.size ≤ old.size
-MayGrow region place old new (Err grow.AlignmentFailure) =
-    (old.size < new.size) × (old.align < new.align)
+MayGrow region place old new (Err grow.AlignmentFailure) = (old.size < new.size) × (old.align < new.align)
 MayGrow region place old new (Err grow.OutOfMemory) =
     (old.size < new.size) × (new.align ≤ old.align) × (reserved_at region place < new.size)
 
 -- What it may answer where that chunk is to shrink, and when: it then has exactly the new size.
 abbrev pub MayShrink : ℕ → Layout → Layout → Result Chunk AllocationShrinkError → Type 0
 MayShrink place old new (Ok shrunk) =
-    (new.size < old.size) × (new.align ≤ old.align)
-    × (shrunk ≡ record { place = place; len = new.size })
+    (new.size < old.size) × (new.align ≤ old.align) × (shrunk ≡ record { place = place; len = new.size })
 MayShrink place old new (Err shrink.ShrinkWouldGrow) = old.size ≤ new.size
-MayShrink place old new (Err shrink.AlignmentFailure) =
-    (new.size < old.size) × (old.align < new.align)
+MayShrink place old new (Err shrink.AlignmentFailure) = (new.size < old.size) × (old.align < new.align)
 -- it never refuses so
 MayShrink place old new (Err shrink.SizeIsZero) = ⊥
 

@@ -37,8 +37,7 @@ pub record IsCut (whole : Region) (layout : Layout) (geometry : PoolGeometry) : 
 
 -- the same with the smaller of its number of buckets and a fixed pool's constant
 abbrev pub at_most : ℕ → PoolGeometry → PoolGeometry
-at_most constant geometry =
-    pool_geometry geometry.region geometry.bucket (min geometry.buckets constant)
+at_most constant geometry = pool_geometry geometry.region geometry.bucket (min geometry.buckets constant)
 
 -- a bucket has a byte, and the region has room for each of its buckets
 pub record IsPoolGeometry (geometry : PoolGeometry) : Type 0 where

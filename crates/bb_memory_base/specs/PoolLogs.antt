@@ -72,8 +72,7 @@ pub record LogsAgree (scene : PoolScene) (flags : List Bool) (logs : List PoolLo
   pub each : (party : ℕ) (log : PoolLog) → HasLog logs party log → log_of scene steps party ≡ log
 
 -- a bucket is detached, as flags and logs say it: its flag is taken, and it is held after no party's log
-pub record IsDetachedAfter (flags : List Bool) (logs : List PoolLog) (bucket : ℕ)
-    : Type 0 where
+pub record IsDetachedAfter (flags : List Bool) (logs : List PoolLog) (bucket : ℕ) : Type 0 where
   pub taken : slice_get flags bucket ≡ Some true
   pub no_holder : (party : ℕ) (log : PoolLog) → HasLog logs party log → ¬ IsHeldAfter log bucket
 

@@ -28,8 +28,7 @@ abbrev pub chunk_in : PoolGeometry → ℕ → Layout → Chunk
 chunk_in geometry i layout = record { place = bucket_place geometry i; len = layout.size }
 
 -- a request for the layout may get bucket i, as its size and alignment are small enough, and the bucket isn't held
-pub record MayGive (geometry : PoolGeometry) (live : List Chunk) (layout : Layout) (i : ℕ)
-    : Type 0 where
+pub record MayGive (geometry : PoolGeometry) (live : List Chunk) (layout : Layout) (i : ℕ) : Type 0 where
   pub within : IsWithin geometry.bucket layout
   pub bucket : i < geometry.buckets
   pub free : ¬ IsHeld geometry live i
@@ -37,8 +36,7 @@ pub record MayGive (geometry : PoolGeometry) (live : List Chunk) (layout : Layou
 -- What the pool object may answer, and when.
 abbrev pub MayAllocate : PoolGeometry → List Chunk → Layout → Result Chunk AllocationError → Type 0
 -- any bucket that isn't held
-MayAllocate geometry live layout (Ok chunk) =
-    (i : ℕ) × MayGive geometry live layout i × (chunk ≡ chunk_in geometry i layout)
+MayAllocate geometry live layout (Ok chunk) = (i : ℕ) × MayGive geometry live layout i × (chunk ≡ chunk_in geometry i layout)
 MayAllocate geometry live layout (Err SizeTooLarge) = geometry.bucket.size < layout.size
 MayAllocate geometry live layout (Err AlignmentFailure) =
     (layout.size ≤ geometry.bucket.size) × (geometry.bucket.align < layout.align)
@@ -53,19 +51,16 @@ abbrev pub MayGrow : Layout → ℕ → Layout → Layout → Result Chunk Alloc
 MayGrow bucket place old new (Ok grown) =
     (old.size < new.size) × IsWithin bucket new × (grown ≡ record { place = place; len = new.size })
 MayGrow bucket place old new (Err grow.GrowWouldShrink) = new.size ≤ old.size
-MayGrow bucket place old new (Err grow.AlignmentFailure) =
-    (old.size < new.size) × (bucket.align < new.align)
+MayGrow bucket place old new (Err grow.AlignmentFailure) = (old.size < new.size) × (bucket.align < new.align)
 MayGrow bucket place old new (Err grow.OutOfMemory) =
     (old.size < new.size) × (new.align ≤ bucket.align) × (bucket.size < new.size)
 
 -- What it may answer where that chunk is to shrink, and when.
 abbrev pub MayShrink : Layout → ℕ → Layout → Layout → Result Chunk AllocationShrinkError → Type 0
 MayShrink bucket place old new (Ok shrunk) =
-    (new.size < old.size) × (new.align ≤ bucket.align)
-    × (shrunk ≡ record { place = place; len = new.size })
+    (new.size < old.size) × (new.align ≤ bucket.align) × (shrunk ≡ record { place = place; len = new.size })
 MayShrink bucket place old new (Err shrink.ShrinkWouldGrow) = old.size ≤ new.size
-MayShrink bucket place old new (Err shrink.AlignmentFailure) =
-    (new.size < old.size) × (bucket.align < new.align)
+MayShrink bucket place old new (Err shrink.AlignmentFailure) = (new.size < old.size) × (bucket.align < new.align)
 -- it never refuses so
 MayShrink bucket place old new (Err shrink.SizeIsZero) = ⊥
 

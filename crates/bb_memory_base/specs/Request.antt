@@ -43,8 +43,7 @@ pub record Returned {Allocator Geometry Note : Type 0} (empties : Bool) (stands_
 pub record Grown {Allocator : Type 0} (stands_for : Allocator → List Chunk → Type 0) (region : Region) (reserved : ℕ)
     (may_grow : List Chunk → ℕ → Layout → Layout → Result Chunk AllocationGrowError → Type 0)
     (grows : Allocator → ℕ → Layout → Layout → Result Chunk AllocationGrowError → Allocator → Type 0)
-    (old : Allocator) (place : ℕ) (from to : Layout) (result : Result Chunk AllocationGrowError) (new : Allocator)
-    : Type 0 where
+    (old : Allocator) (place : ℕ) (from to : Layout) (result : Result Chunk AllocationGrowError) (new : Allocator) : Type 0 where
   -- of each live list that it stood for, with a chunk at the place
   pub answer : (live : List Chunk) (position : ℕ) (chunk : Chunk) → stands_for old live
       → slice_get live position ≡ Some chunk → chunk.place ≡ place → may_grow live place from to result

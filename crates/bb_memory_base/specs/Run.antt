@@ -12,10 +12,8 @@ use Rattle.bb_memory_base.specs.declared.allocator.Reply.TheVariants as reply
 
 -- From `old` the object may give this reply to the command, and goes on to `new`.
 abbrev pub Step : Object → List Chunk → Command → Reply → List Chunk → Type 0
-Step object old (Allocate layout) (reply.Chunk chunk) new =
-    Allocates object old layout (Ok chunk) new
-Step object old (Allocate layout) (reply.Refused error) new =
-    Allocates object old layout (Err error) new
+Step object old (Allocate layout) (reply.Chunk chunk) new = Allocates object old layout (Ok chunk) new
+Step object old (Allocate layout) (reply.Refused error) new = Allocates object old layout (Err error) new
 Step object old (Release position) reply.Released new = Releases object old position new
 -- a position that the list doesn't have is passed over, and so is every resize
 Step object old (Release position) reply.Passed new = (length old ≤ position) × (new ≡ old)
