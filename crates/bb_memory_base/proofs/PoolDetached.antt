@@ -70,10 +70,7 @@ detached_step state step move bucket (detaches other at taken others) now = elim
 ]
 detached_step state step move bucket (attaches other at idle detached) now =
     inl (detached_set state at bucket Detached (HeldBy other) detached (somebody other) now)
-detached_step state step move bucket (loses other at next taken more) now = inl now
-detached_step state step move bucket (is_refused other at next taken last) now = inl now
-detached_step state step move bucket (misses other at idle taken) now = inl now
-detached_step state step move bucket (passes other) now = inl now
+detached_step state step move bucket _ now = inl now
 
 -- WHERE THERE IS NO OTHER PARTY
 

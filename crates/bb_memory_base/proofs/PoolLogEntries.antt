@@ -44,16 +44,9 @@ step_pass state step move party pass (loses other bucket next taken more) there 
     pass-set state other party bucket pass (Some (bucket + 1)) next there
 step_pass state step move party pass (is_refused other bucket next taken last) there =
     pass-set state other party bucket pass None next there
-step_pass state step move party pass (gives other bucket taken) there = there ∙ ap Some (sym (kept_pass (other == party) pass))
 step_pass state step move party pass (takes_at other bucket idle free) there =
     pass-set state other party 0 pass None (next_of_idle state other idle) there
-step_pass state step move party pass (misses other bucket idle taken) there =
-    there ∙ ap Some (sym (kept_pass (other == party) pass))
-step_pass state step move party pass (detaches other bucket taken others) there =
-    there ∙ ap Some (sym (kept_pass (other == party) pass))
-step_pass state step move party pass (attaches other bucket idle detached) there =
-    there ∙ ap Some (sym (kept_pass (other == party) pass))
-step_pass state step move party pass (passes other) there = there ∙ ap Some (sym (kept_pass (is_by party step) pass))
+step_pass state step move party pass _ there = there ∙ ap Some (sym (kept_pass (is_by party step) pass))
 
 abbrev pass_through : Option ℕ → PoolLog → Option ℕ
 pass_through pass log = fold (λ pass entry. pass_after pass entry.outcome) pass log

@@ -42,23 +42,15 @@ same_party party other same = cc
 
 -- each bucket is lost before a refusal, or at it
 at_refusal : (state : PoolState) (step : PoolStep) (move : PoolMove) (party last bucket : ℕ) →
-    StepKind state step move → step ≡ Try party → move.outcome ≡ RefusedAtLoss last →
-    bucket < length state.flags →
+    StepKind state step move → step ≡ Try party → move.outcome ≡ RefusedAtLoss last → bucket < length state.flags →
     (bucket < progress_of (slice_get state.calls party)) ⊎ IsLossAt bucket move.outcome
-at_refusal state step move party last bucket (takes other taken next free) by refusal below = absurd (cc)
-at_refusal state step move party last bucket (loses other lost next taken more) by refusal below = absurd (cc)
-at_refusal state step move party last bucket (gives other returned taken) by refusal below = absurd (cc)
-at_refusal state step move party last bucket (takes_at other taken idle free) by refusal below = absurd (cc)
-at_refusal state step move party last bucket (misses other missed idle taken) by refusal below = absurd (cc)
-at_refusal state step move party last bucket (detaches other sent taken others) by refusal below = absurd (cc)
-at_refusal state step move party last bucket (attaches other received idle detached) by refusal below = absurd (cc)
-at_refusal state step move party last bucket (passes other) by refusal below = absurd (cc)
 at_refusal state step move party last bucket (is_refused other lost next taken none) by refusal below =
     let at = progress_next state other party lost (same_party other party by) next in
     elim (below_or_at bucket lost (omega arith)) [
       | inl before ↦ inl (omega arith)
       | inr same ↦ inr same
     ]
+at_refusal state step move party last bucket _ by refusal below = absurd (cc)
 
 -- a pass that is over has lost none
 over : (state : PoolState) (other party bucket next : ℕ) → IsNext state other next →
@@ -75,20 +67,17 @@ over state other party bucket at next less = elim (cases_eq other party) [
 at_progress : (state : PoolState) (step : PoolStep) (move : PoolMove) (party bucket : ℕ) →
     StepKind state step move → bucket < progress_of (slice_get move.state.calls party) →
     (bucket < progress_of (slice_get state.calls party)) ⊎ ((step ≡ Try party) × IsLossAt bucket move.outcome)
-at_progress state step move party bucket (takes other taken next free) less = inl (over state other party bucket taken next less)
+at_progress state step move party bucket (takes other taken next free) less =
+    inl (over state other party bucket taken next less)
 at_progress state step move party bucket (is_refused other lost next taken none) less =
     inl (over state other party bucket lost next less)
-at_progress state step move party bucket (gives other returned taken) less = inl less
 at_progress state step move party bucket (takes_at other taken idle free) less =
     inl (over state other party bucket 0 (next_of_idle state other idle) less)
-at_progress state step move party bucket (misses other missed idle taken) less = inl less
-at_progress state step move party bucket (detaches other sent taken others) less = inl less
-at_progress state step move party bucket (attaches other received idle detached) less = inl less
-at_progress state step move party bucket (passes other) less = inl less
 at_progress state step move party bucket (loses other lost next taken more) less = elim (cases_eq other party) [
   | inl same ↦
       let after = slice_get-set_same state.calls other party (Some (lost + 1)) next.pass same next.there in
-      let now : progress_of (slice_get (slice_set state.calls other (Some (lost + 1))) party) ≡ lost + 1 = ap progress_of after in
+      let now : progress_of (slice_get (slice_set state.calls other (Some (lost + 1))) party) ≡ lost + 1 =
+      ap progress_of after in
       let before = progress_next state other party lost same next in
       elim (below_or_at bucket lost (omega arith))
       as (λ _. (bucket < progress_of (slice_get state.calls party)) ⊎ ((Try other ≡ Try party) × (lost ≡ bucket))) [
@@ -98,19 +87,14 @@ at_progress state step move party bucket (loses other lost next taken more) less
   | inr apart ↦
       inl (omega (arith, ap progress_of (slice_get-set_other state.calls other party (Some (lost + 1)) apart), less))
 ]
+at_progress state step move party bucket _ less = inl less
 
 -- what is lost is taken
 taken_at_loss : (state : PoolState) (step : PoolStep) (move : PoolMove) (bucket : ℕ) → StepKind state step move →
     IsLossAt bucket move.outcome → IsTaken state bucket
-taken_at_loss state step move bucket (takes other taken next free) lost = absurd lost
-taken_at_loss state step move bucket (gives other returned taken) lost = absurd lost
-taken_at_loss state step move bucket (takes_at other taken idle free) lost = absurd lost
-taken_at_loss state step move bucket (misses other missed idle taken) lost = absurd lost
-taken_at_loss state step move bucket (detaches other sent taken others) lost = absurd lost
-taken_at_loss state step move bucket (attaches other received idle detached) lost = absurd lost
-taken_at_loss state step move bucket (passes other) lost = absurd lost
 taken_at_loss state step move bucket (loses other at next taken more) lost = subst (IsTaken state) lost taken
 taken_at_loss state step move bucket (is_refused other at next taken none) lost = subst (IsTaken state) lost taken
+taken_at_loss state step move bucket _ lost = absurd lost
 
 -- ONE PASS
 
@@ -249,15 +233,8 @@ same_missed bucket other same = cc
 -- what is missed is taken
 taken_at_miss : (state : PoolState) (step : PoolStep) (move : PoolMove) (bucket : ℕ) → StepKind state step move →
     move.outcome ≡ Misses bucket → IsTaken state bucket
-taken_at_miss state step move bucket (takes other taken next free) is = absurd (cc)
-taken_at_miss state step move bucket (takes_at other taken idle free) is = absurd (cc)
-taken_at_miss state step move bucket (loses other lost next taken more) is = absurd (cc)
-taken_at_miss state step move bucket (is_refused other lost next taken none) is = absurd (cc)
-taken_at_miss state step move bucket (gives other returned taken) is = absurd (cc)
-taken_at_miss state step move bucket (detaches other sent taken others) is = absurd (cc)
-taken_at_miss state step move bucket (attaches other received idle detached) is = absurd (cc)
-taken_at_miss state step move bucket (passes other) is = absurd (cc)
 taken_at_miss state step move bucket (misses other at idle taken) is = subst (IsTaken state) (same_missed at bucket is) taken
+taken_at_miss state step move bucket _ is = absurd (cc)
 
 taken_where_missed : (state : PoolState) (steps : List PoolStep) (party bucket k : ℕ) →
     MissesAt (pool_history state steps) party bucket k → IsTaken (pool_after state (take k steps)) bucket

@@ -100,10 +100,9 @@ kind_of_return state party bucket holder false test held = passes (GiveBack part
 
 kind_of_give : (state : PoolState) (party bucket : ℕ) (found : Option Flag) → slice_get state.flags bucket ≡ found →
     StepKind state (GiveBack party bucket) (give_flag state party bucket found)
-kind_of_give state party bucket None is = passes (GiveBack party bucket)
-kind_of_give state party bucket (Some Free) is = passes (GiveBack party bucket)
-kind_of_give state party bucket (Some Detached) is = passes (GiveBack party bucket)
-kind_of_give state party bucket (Some (HeldBy holder)) is = kind_of_return state party bucket holder (holder == party) refl is
+kind_of_give state party bucket (Some (HeldBy holder)) is =
+    kind_of_return state party bucket holder (holder == party) refl is
+kind_of_give state party bucket _ is = passes (GiveBack party bucket)
 
 kind_of_one : (state : PoolState) (party bucket : ℕ) (found : Option Flag) → IsIdle state party →
     slice_get state.flags bucket ≡ found → StepKind state (TryAt party bucket) (try_one state party bucket found)
@@ -114,9 +113,8 @@ kind_of_one state party bucket (Some Detached) idle is = misses party bucket idl
 
 kind_of_try_at : (state : PoolState) (party bucket : ℕ) (found : Option (Option ℕ)) → slice_get state.calls party ≡ found →
     StepKind state (TryAt party bucket) (try_at state party bucket found)
-kind_of_try_at state party bucket None is = passes (TryAt party bucket)
 kind_of_try_at state party bucket (Some None) is = kind_of_one state party bucket (slice_get state.flags bucket) is refl
-kind_of_try_at state party bucket (Some (Some next)) is = passes (TryAt party bucket)
+kind_of_try_at state party bucket _ is = passes (TryAt party bucket)
 
 kind_of_others : (state : PoolState) (party bucket : ℕ) (others : Bool) → nat_lt 1 (length state.calls) ≡ others →
     IsHolder state bucket party →
@@ -134,25 +132,19 @@ kind_of_detach_of state party bucket holder false test held = passes (Detach par
 
 kind_of_detach : (state : PoolState) (party bucket : ℕ) (found : Option Flag) → slice_get state.flags bucket ≡ found →
     StepKind state (Detach party bucket) (detach_flag state party bucket found)
-kind_of_detach state party bucket None is = passes (Detach party bucket)
-kind_of_detach state party bucket (Some Free) is = passes (Detach party bucket)
-kind_of_detach state party bucket (Some Detached) is = passes (Detach party bucket)
 kind_of_detach state party bucket (Some (HeldBy holder)) is =
     kind_of_detach_of state party bucket holder (holder == party) refl is
+kind_of_detach state party bucket _ is = passes (Detach party bucket)
 
 kind_of_attach_flag : (state : PoolState) (party bucket : ℕ) (found : Option Flag) → IsIdle state party →
-    slice_get state.flags bucket ≡ found →
-    StepKind state (Attach party bucket) (attach_flag state party bucket found)
-kind_of_attach_flag state party bucket None idle is = passes (Attach party bucket)
-kind_of_attach_flag state party bucket (Some Free) idle is = passes (Attach party bucket)
+    slice_get state.flags bucket ≡ found → StepKind state (Attach party bucket) (attach_flag state party bucket found)
 kind_of_attach_flag state party bucket (Some Detached) idle is = attaches party bucket idle is
-kind_of_attach_flag state party bucket (Some (HeldBy holder)) idle is = passes (Attach party bucket)
+kind_of_attach_flag state party bucket _ idle is = passes (Attach party bucket)
 
 kind_of_attach : (state : PoolState) (party bucket : ℕ) (found : Option (Option ℕ)) → slice_get state.calls party ≡ found →
     StepKind state (Attach party bucket) (attach state party bucket found)
-kind_of_attach state party bucket None is = passes (Attach party bucket)
 kind_of_attach state party bucket (Some None) is = kind_of_attach_flag state party bucket (slice_get state.flags bucket) is refl
-kind_of_attach state party bucket (Some (Some next)) is = passes (Attach party bucket)
+kind_of_attach state party bucket _ is = passes (Attach party bucket)
 
 -- each step is of some kind
 pub kind_of : (state : PoolState) (step : PoolStep) → StepKind state step (pool_step state step)
