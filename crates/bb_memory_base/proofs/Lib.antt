@@ -16,6 +16,7 @@ pub mod Layouts
 pub mod LeastPlaces
 pub mod LiveBytes
 pub mod LiveLists
+pub mod Logs
 pub mod OwnChunks
 pub mod PoolFlags
 pub mod PoolGeometries

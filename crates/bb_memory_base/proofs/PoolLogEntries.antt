@@ -9,6 +9,7 @@ use Rattle.bb_memory_base.specs.PoolMachine.{PoolScene, PoolState, PoolMove, poo
 use Rattle.bb_memory_base.specs.PoolMachine.{PoolStep, Try, GiveBack, TryAt, Detach, Attach, PoolOutcome}
 use Rattle.bb_memory_base.specs.PoolHistory.{entry_of, PoolLog, PoolEntry, pool_history, is_by, entries_by, history_of, log_of}
 use Rattle.bb_memory_base.specs.PoolLogs.{HasLog, pass_after, pass_in, taken_flags, IsAllowed, LogsAgree, with_entry}
+use Rattle.bb_memory_base.proofs.Logs.{logs-push}
 use Rattle.bb_memory_base.proofs.SliceSets.{slice_get-same, slice_get-set_other, slice_get-set_same}
 use Rattle.bb_memory_base.proofs.PoolSteps.{IsNext, StepKind, takes, takes_at, loses, is_refused, gives, misses, detaches}
 use Rattle.bb_memory_base.proofs.PoolSteps.{attaches, passes, kind_of, next_of_idle, test_same, test_apart}
@@ -91,71 +92,14 @@ after-push : (state : PoolState) (steps : List PoolStep) (step : PoolStep) →
 after-push state [] step = refl
 after-push state (first ∷ steps) step = after-push (pool_step state first).state steps step
 
--- an entry where it is the party's, and else nothing
-abbrev only_if : Bool → PoolEntry → PoolLog
-only_if mine entry = if mine then entry ∷ [] else []
-
-cons_if : (mine : Bool) (entry : PoolEntry) (xs ys : PoolLog) →
-    (if mine then entry ∷ (xs ++ ys) else xs ++ ys) ≡ (if mine then entry ∷ xs else xs) ++ ys
-cons_if true entry xs ys = refl
-cons_if false entry xs ys = refl
-
-log-push : (party : ℕ) (history : PoolLog) (entry : PoolEntry) →
-    entries_by party (history ++ entry ∷ []) ≡ entries_by party history ++ only_if (is_by party entry.step) entry
-log-push party [] entry = refl
-log-push party (first ∷ history) entry =
-    let mine : Bool = is_by party first.step in
-    ap (λ (log : PoolLog). if mine then first ∷ log else log) (log-push party history entry)
-    ∙ cons_if mine first (entries_by party history) (only_if (is_by party entry.step) entry)
-
--- the step is the party's, and no other's
-pub record IsStepOf (party : ℕ) (step : PoolStep) : Type 0 where
-  mine : is_by party step ≡ true
-  others : (other : ℕ) → party ≢ other → is_by other step ≡ false
-
-pub try_is_of : (party : ℕ) → IsStepOf party (Try party)
-try_is_of party = record { mine = test_same party party refl; others = test_apart party }
-
-pub try_at_is_of : (party bucket : ℕ) → IsStepOf party (TryAt party bucket)
-try_at_is_of party bucket = record { mine = test_same party party refl; others = test_apart party }
-
-pub give_is_of : (party bucket : ℕ) → IsStepOf party (GiveBack party bucket)
-give_is_of party bucket = record { mine = test_same party party refl; others = test_apart party }
-
-pub detach_is_of : (party bucket : ℕ) → IsStepOf party (Detach party bucket)
-detach_is_of party bucket = record { mine = test_same party party refl; others = test_apart party }
-
-pub attach_is_of : (party bucket : ℕ) → IsStepOf party (Attach party bucket)
-attach_is_of party bucket = record { mine = test_same party party refl; others = test_apart party }
-
--- after the step of a party each log has grown by what was that party's
-logs-push : (logs : List PoolLog) (party : ℕ) (log : PoolLog) (step : PoolStep) (history : PoolLog) (entry : PoolEntry) →
-    HasLog logs party log → IsStepOf party step → entry.step ≡ step →
-    ((other : ℕ) (found : PoolLog) → HasLog logs other found → entries_by other history ≡ found) →
-    (other : ℕ) (found : PoolLog) → slice_get (with_entry logs party log entry) other ≡ Some found →
-    entries_by other (history ++ entry ∷ []) ≡ found
-logs-push logs party log step history entry at of same each other found there =
-    let Grown : Bool → Type 0 = λ b. entries_by other (history ++ entry ∷ []) ≡ entries_by other history ++ only_if b entry in
-    let grown : Grown (is_by other step) = subst (λ s. Grown (is_by other s)) same (log-push other history entry) in
-    elim (cases_eq party other) [
-      | inl here ↦
-          let mine : Grown true = subst Grown (ap (λ p. is_by p step) (sym here) ∙ of.mine) grown in
-          let was = each other log (slice_get-same logs party other (Some log) here at) in
-          let now = slice_get-set_same logs party other (log ++ entry ∷ []) log here at in
-          mine ∙ ap (λ l. l ++ entry ∷ []) was ∙ same_Some (log ++ entry ∷ []) found (sym now ∙ there)
-      | inr apart ↦
-          let others : Grown false = subst Grown (of.others other apart) grown in
-          let kept = slice_get-set_other logs party other (log ++ entry ∷ []) apart in
-          others ∙ append-nil (entries_by other history) ∙ each other found (sym kept ∙ there)
-    ]
-
 -- the step of a party that makes this move leaves flags and logs that agree again
 pub agree_on : (scene : PoolScene) (flags : List Bool) (logs : List PoolLog) (party : ℕ) (log : PoolLog) (step : PoolStep)
-    (agree : LogsAgree scene flags logs) → HasLog logs party log → IsStepOf party step →
+    (agree : LogsAgree scene flags logs) → HasLog logs party log →
+    is_by party step ≡ true → ((other : ℕ) → party ≢ other → is_by other step ≡ false) →
     (move : PoolMove) → pool_step (left_by scene agree.steps) step ≡ move → IsAllowed move.outcome →
     (new : List Bool) → taken_flags move.state ≡ new →
     LogsAgree scene new (with_entry logs party log (entry_of step move.outcome))
-agree_on scene flags logs party log step agree at of move is allowed new leaves =
+agree_on scene flags logs party log step agree at mine others move is allowed new leaves =
     let opening : PoolState = opening_state scene in
     let history : PoolLog = history_of scene agree.steps in
     let entry : PoolEntry = entry_of step move.outcome in
@@ -166,6 +110,6 @@ agree_on scene flags logs party log step agree at of move is allowed new leaves 
       steps = agree.steps ++ step ∷ [];
       allowed = subst (All Allowed) (sym longer) (All-push Allowed history entry agree.allowed allowed);
       leaves = ap taken_flags (after-push opening agree.steps step) ∙ ap (λ (m : PoolMove). taken_flags m.state) is ∙ leaves;
-      each = λ other found there.
-          ap (entries_by other) longer ∙ logs-push logs party log step history entry at of refl agree.each other found there;
+      each = λ other found there. ap (entries_by other) longer
+          ∙ logs-push (λ p e. is_by p e.step) logs party log history entry at mine others agree.each other found there;
     }
