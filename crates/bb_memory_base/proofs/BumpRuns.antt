@@ -135,7 +135,7 @@ step_makes region state live step move (passes other) stands fitting = call_none
 
 -- ANY LIST OF STEPS
 
-steps_make : (region : Region) (state : BumpState) (live : List Chunk) (steps : List BumpStep) →
+pub steps_make : (region : Region) (state : BumpState) (live : List Chunk) (steps : List BumpStep) →
     StandsFor region state.position live →
     AllFitting region state → MakesCalls region live (bump_calls region state steps) (bump_after region state steps).position
 steps_make region state live [] stands fitting = call_none region live state.position stands

@@ -64,10 +64,9 @@ idle_view region state party layout false false idle size fit =
 
 read_view : (region : Region) (state : BumpState) (party : ℕ) (layout : Layout) (now : Option (Option OngoingCall)) →
     slice_get state.calls party ≡ now → StepView region state (Read party layout) (read region state party layout now)
-read_view region state party layout None is = passes (Read party layout)
-read_view region state party layout (Some (Some call)) is = passes (Read party layout)
 read_view region state party layout (Some None) is =
     idle_view region state party layout (layout.size == 0) (fits region state.position layout) is refl refl
+read_view region state party layout _ is = passes (Read party layout)
 
 call_view : (region : Region) (state : BumpState) (party : ℕ) (call : OngoingCall) (same fitting : Bool) →
     IsInCall state party call → (state.position == call.seen) ≡ same → fits region state.position call.layout ≡ fitting →
@@ -84,16 +83,14 @@ call_view region state party call false false is same fit =
 
 exchange_view : (region : Region) (state : BumpState) (party : ℕ) (now : Option (Option OngoingCall)) →
     slice_get state.calls party ≡ now → StepView region state (Exchange party) (exchange region state party now)
-exchange_view region state party None is = passes (Exchange party)
-exchange_view region state party (Some None) is = passes (Exchange party)
 exchange_view region state party (Some (Some call)) is =
     call_view region state party call (state.position == call.seen) (fits region state.position call.layout) is refl refl
+exchange_view region state party _ is = passes (Exchange party)
 
 load_view : (region : Region) (state : BumpState) (party : ℕ) (now : Option (Option OngoingCall)) →
     slice_get state.calls party ≡ now → StepView region state (Load party) (load state now)
-load_view region state party None is = passes (Load party)
-load_view region state party (Some (Some call)) is = passes (Load party)
 load_view region state party (Some None) is = loads party is
+load_view region state party _ is = passes (Load party)
 
 pub step_view : (region : Region) (state : BumpState) (step : BumpStep) → StepView region state step (bump_step region state step)
 step_view region state (Read party layout) = read_view region state party layout (slice_get state.calls party) refl
@@ -116,9 +113,7 @@ others_stay region state step move party (loses other call is apart fit) by =
     slice_get-set_other state.calls other party _ (λ same. apart_from_test other party by (sym same))
 others_stay region state step move party (refuses_loss other call is apart fit) by =
     slice_get-set_other state.calls other party _ (λ same. apart_from_test other party by (sym same))
-others_stay region state step move party (loads other idle) by = refl
-others_stay region state step move party clears by = refl
-others_stay region state step move party (passes other) by = refl
+others_stay region state step move party _ by = refl
 
 -- what is written to a party's place is then there
 pub written : (state : BumpState) (other party : ℕ) (was now : Option OngoingCall) → (other == party) ≡ true →
@@ -190,6 +185,4 @@ all_fitting-step region state step move (loses party call is apart fit) old =
     (record { asks = (old party call is).asks; fitting = fit })
 all_fitting-step region state step move (refuses_loss party call is apart fit) old =
     all_fitting-set region state state.position party None old tt
-all_fitting-step region state step move (loads party idle) old = old
-all_fitting-step region state step move clears old = old
-all_fitting-step region state step move (passes other) old = old
+all_fitting-step region state step move _ old = old

@@ -45,13 +45,6 @@ length-set_at [] i x = refl
 length-set_at (y ∷ ys) zero x = refl
 length-set_at (y ∷ ys) (suc i) x = ap suc (length-set_at ys i x)
 
--- a list of one element has it at position 0
-pub slice_get-single : {X : Type 0} (xs : List X) (i : ℕ) (x : X) → length xs ≡ 1 → slice_get xs i ≡ Some x → i ≡ 0
-slice_get-single [] i x one is = absurd (omega arith)
-slice_get-single (y ∷ ys) zero x one is = refl
-slice_get-single (y ∷ []) (suc i) x one is = absurd (cc)
-slice_get-single (y ∷ z ∷ ys) (suc i) x one is = absurd (omega arith)
-
 -- a place at which a list has something is one of the list
 pub slice_get-some : {X : Type 0} (xs : List X) (i : ℕ) → IsSome (slice_get xs i) → i < length xs
 slice_get-some [] i some = cc
