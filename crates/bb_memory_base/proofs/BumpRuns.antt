@@ -209,13 +209,3 @@ calls_stand scene live steps opens = (scene_makes scene live steps opens).stands
 pub position_used : (scene : BumpScene) (live : List Chunk) (steps : List BumpStep) → OpensWith scene live →
     (left_by scene steps).position ≡ used_space scene.region (live_after scene live steps)
 position_used scene live steps opens = (calls_stand scene live steps opens).used
-
-pub live_sound : (scene : BumpScene) (live : List Chunk) (steps : List BumpStep) → OpensWith scene live →
-    IsSound scene.region (live_after scene live steps)
-live_sound scene live steps opens = (calls_stand scene live steps opens).sound
-
-pub load_finds : (scene : BumpScene) (live : List Chunk) (steps : List BumpStep) (party : ℕ) → OpensWith scene live →
-    IsIdle (left_by scene steps) party →
-    outcome_after scene steps (Load party) ≡ Loaded (used_space scene.region (live_after scene live steps))
-load_finds scene live steps party opens idle =
-    ap (λ now. (load (left_by scene steps) now).outcome) idle ∙ ap Loaded (position_used scene live steps opens)

@@ -97,12 +97,8 @@ stretch_stands region state live steps none stands fitting =
     subst (StandsFor region (bump_after region state steps).position) (stretch_grows region state live steps none)
     (steps_make region state live steps stands fitting).stands
 
-pub live_grows : (scene : BumpScene) (live : List Chunk) (steps : List BumpStep) → HasNoClear steps →
-    live_after scene live steps ≡ live ++ chunks_won (history_of scene steps)
-live_grows scene live steps = stretch_grows scene.region (opening_state scene) live steps
-
 -- the chunks won from a healthy state on are a sound list
-sound_from : (region : Region) (state : BumpState) (steps : List BumpStep) → IsHealthy region state → HasNoClear steps →
+pub sound_from : (region : Region) (state : BumpState) (steps : List BumpStep) → IsHealthy region state → HasNoClear steps →
     IsSound region (chunks_won (bump_history region state steps))
 sound_from region state steps healthy none =
     let live = healthy.live in
@@ -118,8 +114,3 @@ sound_from region state steps healthy none =
       StandsFor-end region position (live ++ won) after,
       StandsFor-within region position (live ++ won) after,
     ))
-
-pub won_sound : (scene : BumpScene) (before stretch : List BumpStep) → scene.opening ≤ scene.region.size → HasNoClear stretch →
-    IsSound scene.region (chunks_won (stretch_after scene before stretch))
-won_sound scene before stretch within none =
-    sound_from scene.region (left_by scene before) stretch (healthy_after scene before within) none

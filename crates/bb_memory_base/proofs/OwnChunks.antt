@@ -98,18 +98,6 @@ interleaved_since scene position party log live own = allowed_grow scene live ow
 
 -- LOGS THAT AGREE
 
-pub own_sound : (scene : BumpScene) (position : ℕ) (logs : List BumpLog) (party : ℕ) (log : BumpLog) →
-    scene.opening ≤ scene.region.size → LogsAgree scene position logs → HasLog logs party log →
-    IsSound scene.region (chunks_won log)
-own_sound scene position logs party log within agree own =
-    interleaved_own scene position party log within (interleaved scene position logs party log agree own)
-
-pub older_apart : (scene : BumpScene) (position : ℕ) (logs : List BumpLog) (party : ℕ) (log : BumpLog) (live : List Chunk) →
-    OpensWith scene live → LogsAgree scene position logs → HasLog logs party log →
-    All (λ older. All (AreApart older) (chunks_won log)) live
-older_apart scene position logs party log live opens agree own =
-    interleaved_older scene position party log live opens (interleaved scene position logs party log agree own)
-
 pub agreed_since : (scene : BumpScene) (position : ℕ) (logs : List BumpLog) (live : List Chunk)
     (agree : LogsAgree scene position logs) →
     live_after scene live agree.steps ≡ live ++ chunks_won (history_of scene agree.steps)

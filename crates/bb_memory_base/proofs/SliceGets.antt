@@ -74,8 +74,3 @@ pub slice_get-lent : {X : Type 0} (xs : List X) (i : ℕ) (lent : Option (Bor X)
     option_copied lent ≡ slice_get xs i
 slice_get-lent xs i None is = sym (slice_get_past xs i is.3)
 slice_get-lent xs i (Some x) is = sym (slice_get_read xs (length xs) i x.now refl is.3.0 is.1)
-
--- and so is what is copied of it
-pub slice_get-copied : {X : Type 0} (xs ys : List X) (i : ℕ) (lent : Option (Bor X)) (copied : Option X) →
-    copied ≡ option_copied lent → IsItemAt xs i lent → xs ≡ ys → slice_get ys i ≡ copied
-slice_get-copied xs ys i lent copied is lends same = sym (is ∙ slice_get-lent xs i lent lends ∙ ap (λ zs. slice_get zs i) same)
