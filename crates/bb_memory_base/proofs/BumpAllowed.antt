@@ -1,7 +1,7 @@
 -- Lists of steps that are all allowed: they have no clear, and no step of a party that isn't there.
 use Rattle.std.proofs.Common.{◌≡◌, ◌≢◌, ℕ, ◌<◌, ◌≤◌, List, [], ◌∷◌, length, refl, sym, ap, ◌∙◌, arith, Bool, true, false}
 use Rattle.std.proofs.Common.{Option, Some, None}
-use Rattle.std.specs.Prelude.{slice_get, ◌==◌, if◌then◌else◌, is_some}
+use Rattle.std.specs.Prelude.{slice_get, if◌then◌else◌, is_some}
 use Rattle.std.proofs.lemmas.List.{length-replicate}
 use Rattle.std.proofs.lemmas.List.Elements.{All-head, All-nil, All-tail}
 use Rattle.bb_memory_base.specs.Chunk.{Region}

@@ -1,9 +1,9 @@
 -- A party's log says what the party is in, and a step adds to it alone.
-use Rattle.std.proofs.Common.{◌≡◌, ◌≢◌, ℕ, zero, suc, ◌<◌, List, [], ◌∷◌, ◌++◌, append-nil, refl, sym}
-use Rattle.std.proofs.Common.{ap, ◌∙◌, subst, arith, ⊎_elim, ◌⊎◌, Bool, true, false, Option, Some, None}
-use Rattle.std.specs.Prelude.{slice_get, slice_set, ◌==◌, if◌then◌else◌, option_map}
-use Rattle.std.specs.List.{All, AllByRecursion}
-use Rattle.std.proofs.lemmas.List.Elements.{All-push, recursion_from_All}
+use Rattle.std.proofs.Common.{◌≡◌, ◌≢◌, ℕ, ◌<◌, List, [], ◌∷◌, ◌++◌, refl, sym}
+use Rattle.std.proofs.Common.{ap, ◌∙◌, subst, arith, Bool, true, false, Option, Some, None}
+use Rattle.std.specs.Prelude.{slice_get, ◌==◌, if◌then◌else◌, option_map}
+use Rattle.std.specs.List.{All}
+use Rattle.std.proofs.lemmas.List.Elements.{All-push}
 use Rattle.std.proofs.lemmas.Option.{same_Some, slice_get_within, get_or_from_slice_get}
 use Rattle.bb_memory_base.specs.Chunk.{Region, Chunk, Layout}
 use Rattle.bb_memory_base.specs.BumpMachine.{OngoingCall, BumpState, BumpMove, BumpScene, opening_state, chunk_at, fits}
@@ -14,7 +14,7 @@ use Rattle.bb_memory_base.specs.BumpHistory.{BumpEntry, BumpLog, entry_of, entry
 use Rattle.bb_memory_base.specs.BumpHistory.{bump_history, history_of, is_by, entries_by, log_of}
 use Rattle.bb_memory_base.specs.BumpLogs.{seen_at, call_after, call_through, call_in}
 use Rattle.bb_memory_base.specs.BumpLogs.{IsAllowed, AllAllowed, HasLog, LogsAgree, with_entry}
-use Rattle.bb_memory_base.proofs.SliceGets.{slice_get-set_other, slice_get-set_same, slice_get-replicate}
+use Rattle.bb_memory_base.proofs.SliceGets.{slice_get-replicate}
 use Rattle.bb_memory_base.proofs.Logs.{logs-push}
 use Rattle.bb_memory_base.proofs.BumpAllowed.{none_allowed}
 use Rattle.bb_memory_base.proofs.BumpSteps.{same_from_test, test_same, test_apart, StepView, step_view, sees, refuses_read}

@@ -14,7 +14,7 @@ use Rattle.bb_memory_base.proofs.BumpSteps.{test_same, StepView, step_view, sees
 use Rattle.bb_memory_base.proofs.BumpSteps.{loses, refuses_loss, loads, clears, passes, others_stay, written}
 use Rattle.bb_memory_base.proofs.BumpSteps.{each_call-set, idle_or_in_call, in_call_or_idle, one_call}
 use Rattle.bb_memory_base.proofs.BumpRuns.{bump_after-append, chunk_at-above}
-use Rattle.bb_memory_base.proofs.BumpStretches.{IsClear, not_clear, healthy_after, position_rises, stretch_rises}
+use Rattle.bb_memory_base.proofs.BumpStretches.{IsClear, not_clear, healthy_after, stretch_rises}
 
 -- WHAT A CALL HAS SEEN
 

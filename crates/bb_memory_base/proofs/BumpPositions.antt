@@ -15,8 +15,7 @@ use Rattle.bb_memory_base.specs.BumpLogs.{IsAllowed, AllAllowed, HasLog, LogsAgr
 use Rattle.bb_memory_base.specs.BumpLogs.{HasPositionUpTo, position_in, greater_of, greatest_in, seen_in, call_in}
 use Rattle.bb_memory_base.proofs.LiveLists.{StandsFor-within}
 use Rattle.bb_memory_base.proofs.SliceGets.{slice_get-replicated}
-use Rattle.bb_memory_base.proofs.BumpSteps.{test_same, StepView, step_view, sees, refuses_read}
-use Rattle.bb_memory_base.proofs.BumpSteps.{wins, loses, refuses_loss, loads, clears, passes}
+use Rattle.bb_memory_base.proofs.BumpSteps.{StepView, step_view, wins, clears, passes}
 use Rattle.bb_memory_base.proofs.BumpRuns.{chunk_at-above, calls_stand, fitting_after, fitting_at_opening}
 use Rattle.bb_memory_base.proofs.BumpStretches.{healthy_after, stretch_rises}
 use Rattle.bb_memory_base.proofs.BumpLosses.{SeesNoMore, stretch_sees}

@@ -3,13 +3,11 @@ use Rattle.std.proofs.Common.{◌≡◌, ℕ, ◌+◌, ◌<◌, ◌≤◌, List,
 use Rattle.std.proofs.Common.{ap, ◌∙◌, subst, arith, true, false, Option, Some, None, Ok, Err}
 use Rattle.std.proofs.lemmas.Bool.{leb-true, leb-false}
 use Rattle.bb_memory_base.specs.Chunk.{Region, region_end, Chunk, chunk_end, Layout, OutOfMemory}
-use Rattle.bb_memory_base.specs.LiveList.{IsSound}
 use Rattle.bb_memory_base.specs.Object.{appended}
 use Rattle.bb_memory_base.specs.BumpObject.{StandsFor, chunk_at_or_after, next_chunk, used_space}
-use Rattle.bb_memory_base.specs.BumpMachine.{OngoingCall, BumpState, BumpMove, BumpScene, IsIdle, AllFitting, chunk_at, fits}
-use Rattle.bb_memory_base.specs.BumpMachine.{position_behind, load, opening_state, bump_step, bump_after, left_by, BumpStep, Load}
-use Rattle.bb_memory_base.specs.BumpMachine.{Wins, RefusedAtLoss, Loaded}
-use Rattle.bb_memory_base.specs.BumpHistory.{outcome_after}
+use Rattle.bb_memory_base.specs.BumpMachine.{OngoingCall, BumpState, BumpMove, BumpScene, AllFitting, chunk_at, fits}
+use Rattle.bb_memory_base.specs.BumpMachine.{position_behind, opening_state, bump_step, bump_after, left_by, BumpStep}
+use Rattle.bb_memory_base.specs.BumpMachine.{Wins, RefusedAtLoss}
 use Rattle.bb_memory_base.specs.BumpCalls.{BumpCall, Allocate, ClearAll, IsCallRun, left_by_calls, layout_in, asked_by}
 use Rattle.bb_memory_base.specs.BumpCalls.{decided, bump_calls, calls_of, calls_after, OpensWith, live_after}
 use Rattle.bb_memory_base.proofs.LeastPlaces.{least_place-is}

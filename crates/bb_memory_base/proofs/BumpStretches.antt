@@ -5,12 +5,11 @@ use Rattle.bb_memory_base.specs.LiveList.{IsSound}
 use Rattle.bb_memory_base.specs.BumpObject.{end_of_last, StandsFor}
 use Rattle.bb_memory_base.specs.BumpMachine.{BumpState, BumpMove, BumpScene, AllFitting, chunk_at, opening_state, bump_step}
 use Rattle.bb_memory_base.specs.BumpMachine.{bump_after, left_by, BumpStep, Read, Exchange, Load, Clear, Wins, RefusedAtLoss}
-use Rattle.bb_memory_base.specs.BumpHistory.{bump_history, history_of, stretch_after, HasNoClear, won_at, chunks_won}
-use Rattle.bb_memory_base.specs.BumpCalls.{asked_by, bump_calls, decided, layout_in, left_by_calls, live_after}
+use Rattle.bb_memory_base.specs.BumpHistory.{bump_history, HasNoClear, won_at, chunks_won}
+use Rattle.bb_memory_base.specs.BumpCalls.{asked_by, bump_calls, decided, layout_in, left_by_calls}
 use Rattle.bb_memory_base.proofs.LiveLists.{end_of_last-above, end_of_last-append, in_order-rest}
 use Rattle.bb_memory_base.proofs.LiveLists.{sound_from_order, stands_for_some, StandsFor-end, StandsFor-within}
-use Rattle.bb_memory_base.proofs.BumpSteps.{StepView, step_view, sees, refuses_read, wins, loses}
-use Rattle.bb_memory_base.proofs.BumpSteps.{refuses_loss, clears}
+use Rattle.bb_memory_base.proofs.BumpSteps.{StepView, step_view, wins, refuses_loss, clears}
 use Rattle.bb_memory_base.proofs.BumpRuns.{chunk_at-above, calls_stand, steps_make}
 use Rattle.bb_memory_base.proofs.BumpRuns.{fitting_after, fitting_at_opening, left_by_calls-append}
 

@@ -9,14 +9,13 @@ use Rattle.bb_memory_base.specs.BumpObject.{end_of_last, IsInOrder, StandsFor}
 use Rattle.bb_memory_base.specs.BumpMachine.{BumpScene, left_by, opening_state, BumpStep}
 use Rattle.bb_memory_base.specs.BumpCalls.{OpensWith, live_after}
 use Rattle.bb_memory_base.specs.BumpHistory.{BumpEntry, BumpLog, history_of, is_by, entries_by, won_at, chunks_won}
-use Rattle.bb_memory_base.specs.BumpLogs.{AllAllowed, HasLog, Interleaving, LogsAgree}
+use Rattle.bb_memory_base.specs.BumpLogs.{AllAllowed, Interleaving, LogsAgree}
 use Rattle.bb_memory_base.proofs.LiveLists.{all_above, apart_from_order, end_of_last-above, in_order-append}
 use Rattle.bb_memory_base.proofs.LiveLists.{in_order-front, in_order-rest, stands_for_some}
 use Rattle.bb_memory_base.proofs.BumpMeetings.{all_in_log, all_map, all_rest, apart_behind, in_order-below}
 use Rattle.bb_memory_base.proofs.BumpRuns.{fitting_at_opening}
 use Rattle.bb_memory_base.proofs.BumpStretches.{stretch_grows, stretch_stands}
 use Rattle.bb_memory_base.proofs.BumpAllowed.{no_clear_when_allowed}
-use Rattle.bb_memory_base.proofs.BumpPositions.{interleaved}
 
 in_order_lower : (v w : ℕ) (xs : List Chunk) → v ≤ w → IsInOrder w xs → IsInOrder v xs
 in_order_lower v w [] le ordered = tt

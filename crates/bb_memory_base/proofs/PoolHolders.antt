@@ -9,7 +9,7 @@ use Rattle.bb_memory_base.specs.PoolMachine.{opening_state, left_by, PoolOutcome
 use Rattle.bb_memory_base.specs.PoolHistory.{entry_of, PoolLog, PoolEntry, pool_history, is_by, entries_by, log_of}
 use Rattle.bb_memory_base.specs.PoolLogs.{held_after, IsHeldAfter}
 use Rattle.bb_memory_base.proofs.SliceSets.{slice_get-same, slice_get-set_other, slice_get-set_same}
-use Rattle.bb_memory_base.proofs.PoolSteps.{StepKind, takes, takes_at, loses, is_refused, gives, misses, passes, detaches}
+use Rattle.bb_memory_base.proofs.PoolSteps.{StepKind, takes, takes_at, gives, detaches}
 use Rattle.bb_memory_base.proofs.PoolSteps.{attaches, kind_of, same_from_test, test_same, test_apart}
 
 abbrev is_holder : ℕ → Option Flag → Bool

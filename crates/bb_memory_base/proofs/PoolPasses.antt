@@ -11,8 +11,8 @@ use Rattle.bb_memory_base.specs.PoolMachine.{opening_state, Flag, Free, PoolStep
 use Rattle.bb_memory_base.specs.PoolHistory.{entry_of, PoolEntry, pool_history, history_of}
 use Rattle.bb_memory_base.specs.PoolCalls.{IsLossAt, LosesAt, IsRefusedAt, FoundHeld, IsHeldInRun, MissesAt}
 use Rattle.bb_memory_base.proofs.SliceSets.{slice_get-same, slice_get-set_other, slice_get-set_same}
-use Rattle.bb_memory_base.proofs.PoolSteps.{IsNext, StepKind, takes, takes_at, loses, is_refused, gives, misses, passes, detaches}
-use Rattle.bb_memory_base.proofs.PoolSteps.{attaches, kind_of, length-left_by, length-step, next_of_idle}
+use Rattle.bb_memory_base.proofs.PoolSteps.{IsNext, StepKind, takes, takes_at, loses, is_refused, misses}
+use Rattle.bb_memory_base.proofs.PoolSteps.{kind_of, length-left_by, length-step, next_of_idle}
 use Rattle.bb_memory_base.proofs.PoolFlags.{taken_within}
 use Rattle.bb_memory_base.proofs.PoolRuns.{taken_is_held}
 

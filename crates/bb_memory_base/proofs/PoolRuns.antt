@@ -1,6 +1,6 @@
 -- The takings and returns of a pool machine are a run of the pool object.
 use Rattle.std.proofs.Common.{◌≡◌, ◌≢◌, ℕ, zero, suc, ◌<◌, ◌↔◌, List, [], ◌∷◌, ◌++◌, length, replicate}
-use Rattle.std.proofs.Common.{refl, sym, ap, ◌∙◌, subst, arith, Bool, Option, Some, None, inl, inr}
+use Rattle.std.proofs.Common.{refl, sym, ap, ◌∙◌, subst, arith, Option, Some, None, inl, inr}
 use Rattle.std.specs.Prelude.{take, drop, slice_get, slice_set, remove, if◌then◌else◌}
 use Rattle.std.specs.List.{AllByRecursion}
 use Rattle.std.proofs.lemmas.Bool.{cases_eq}
@@ -12,9 +12,8 @@ use Rattle.bb_memory_base.specs.LiveList.{IsSound}
 use Rattle.bb_memory_base.specs.Run.{IsRun}
 use Rattle.bb_memory_base.specs.PoolGeometry.{PoolGeometry, bucket_place, IsPoolGeometry}
 use Rattle.bb_memory_base.specs.PoolObject.{IsAt, IsHeld, IsWithin, MayGive, chunk_in}
-use Rattle.bb_memory_base.specs.PoolMachine.{PoolScene, PoolState, PoolMove, IsFlag, IsHolder, IsTaken, pool_step}
-use Rattle.bb_memory_base.specs.PoolMachine.{pool_after, opening_state, left_by, Flag, Free, HeldBy, Detached, PoolStep}
-use Rattle.bb_memory_base.specs.PoolMachine.{PoolOutcome}
+use Rattle.bb_memory_base.specs.PoolMachine.{PoolScene, PoolState, PoolMove, IsFlag, IsHolder, IsTaken, pool_step, pool_after}
+use Rattle.bb_memory_base.specs.PoolMachine.{opening_state, left_by, Flag, Free, HeldBy, Detached, PoolStep, PoolOutcome}
 use Rattle.bb_memory_base.specs.PoolHistory.{PoolLog, history_of, pool_history, outcomes_of}
 use Rattle.bb_memory_base.specs.PoolLogs.{is_taken}
 use Rattle.bb_memory_base.specs.PoolCalls.{IsCallRun, PoolCall, AreAsked, IsPoolRun}
@@ -24,8 +23,7 @@ use Rattle.bb_memory_base.proofs.PoolGeometries.{bucket_place-apart}
 use Rattle.bb_memory_base.proofs.PoolLists.{AreInBuckets, AreInBuckets-empty, AreInBuckets-push, AreInBuckets-remove}
 use Rattle.bb_memory_base.proofs.PoolLists.{sound_from_buckets, count_at, count_at-push_same, count_at-push_other}
 use Rattle.bb_memory_base.proofs.PoolLists.{count_at-remove_same, count_at-remove_other, at_from_count, count_from_at}
-use Rattle.bb_memory_base.proofs.PoolSteps.{StepKind, takes, takes_at, loses, is_refused, gives, misses, passes, kind_of}
-use Rattle.bb_memory_base.proofs.PoolSteps.{detaches, attaches}
+use Rattle.bb_memory_base.proofs.PoolSteps.{StepKind, takes, takes_at, gives, kind_of, detaches, attaches}
 
 -- STATES AND LISTS
 

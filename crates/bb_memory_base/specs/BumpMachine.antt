@@ -119,9 +119,7 @@ moved state party turn = record {
 -- a read by a party that is idle (Some None), in a call (Some (Some call)) or not there (None)
 abbrev pub read : Region → BumpState → ℕ → Layout → Option (Option OngoingCall) → BumpMove
 read region state party layout (Some None) =
-    if layout.size == 0
-    then passed state
-    else moved state party (read_move region state.position layout)
+    if layout.size == 0 then passed state else moved state party (read_move region state.position layout)
 read region state party layout _ = passed state
 
 abbrev pub exchange : Region → BumpState → ℕ → Option (Option OngoingCall) → BumpMove
@@ -137,10 +135,7 @@ abbrev pub bump_step : Region → BumpState → BumpStep → BumpMove
 bump_step region state (Read party layout) = read region state party layout (slice_get state.calls party)
 bump_step region state (Exchange party) = exchange region state party (slice_get state.calls party)
 bump_step region state (Load party) = load state (slice_get state.calls party)
-bump_step region state Clear = record {
-  outcome = Cleared;
-  state = record { position = 0; calls = state.calls };
-}
+bump_step region state Clear = record { outcome = Cleared; state = record { position = 0; calls = state.calls } }
 
 -- the state that a list of steps leaves
 abbrev pub bump_after : Region → BumpState → List BumpStep → BumpState

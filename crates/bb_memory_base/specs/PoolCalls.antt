@@ -21,8 +21,7 @@ PoolCall geometry old layout (Gives bucket) new =
 PoolCall geometry old layout _ new = new ≡ old
 
 -- a layout for each step, which is asked for where that step is a taking
-pub record AreAsked (geometry : PoolGeometry) (steps : List PoolStep)
-    (layouts : List Layout) : Type 0 where
+pub record AreAsked (geometry : PoolGeometry) (steps : List PoolStep) (layouts : List Layout) : Type 0 where
   pub one_a_step : length layouts ≡ length steps
   pub within : All (IsWithin geometry.bucket) layouts
 

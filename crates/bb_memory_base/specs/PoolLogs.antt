@@ -88,8 +88,7 @@ pub record Interleaving (scene : PoolScene) (party : ℕ) (log : PoolLog) : Type
   pub logged : log_of scene steps party ≡ log
 
 -- an interleaving of both parties' logs with some logs of the others
-pub record CommonInterleaving (scene : PoolScene) (party : ℕ) (log : PoolLog) (other : ℕ)
-    (other_log : PoolLog) : Type 0 where
+pub record CommonInterleaving (scene : PoolScene) (party : ℕ) (log : PoolLog) (other : ℕ) (other_log : PoolLog) : Type 0 where
   pub steps : List PoolStep
   pub allowed : AllAllowed (history_of scene steps)
   pub logged : log_of scene steps party ≡ log

@@ -40,8 +40,7 @@ pub record MayBeGrown (live : List Chunk) (position : ℕ) (old : Layout) (chunk
   pub aligned : chunk.place % old.align ≡ 0
 
 -- to shrink it, the old size is within what is reserved for it, too
-pub record MayBeShrunk (reserved : ℕ → ℕ) (live : List Chunk) (position : ℕ)
-    (old : Layout) (chunk : Chunk) : Type 0 where
+pub record MayBeShrunk (reserved : ℕ → ℕ) (live : List Chunk) (position : ℕ) (old : Layout) (chunk : Chunk) : Type 0 where
   pub grown : MayBeGrown live position old chunk
   pub within : old.size ≤ reserved chunk.place
 

@@ -4,8 +4,7 @@ use Rattle.bb_memory_base.proofs.BumpMeetings.{chunks_apart, common_apart}
 use Rattle.bb_memory_base.proofs.BumpPositions.{position_above_log, seen_below, alone_exact, position_risen, position_within}
 use Rattle.bb_memory_base.proofs.BumpPositions.{call_sees, call_fits, interleaved, both_interleaved, interleaving_stands}
 use Rattle.bb_memory_base.proofs.BumpRuns.{calls_run}
-use Rattle.bb_memory_base.proofs.OwnChunks.{agreed_since, agreed_stands}
-use Rattle.bb_memory_base.proofs.OwnChunks.{interleaved_own, interleaved_older, interleaved_since}
+use Rattle.bb_memory_base.proofs.OwnChunks.{agreed_since, agreed_stands, interleaved_own, interleaved_older, interleaved_since}
 use Rattle.std.proofs.Common.{None}
 use Rattle.bb_memory_base.proofs.BumpBounds.{call_grows, seen_grows, won_grows}
 use Rattle.bb_memory_base.proofs.BumpWholes.{ends_by, whole_bounds}
