@@ -12,7 +12,7 @@ use Rattle.bb_memory_base.specs.BumpHistory.{BumpEntry, BumpLog, history_of, log
 abbrev pub seen_at : ℕ → OngoingCall → OngoingCall
 seen_at position call = record { layout = call.layout; seen = position }
 
--- what a party is in after an outcome of its own step: a read that sees a position begins a call, a loss at which the layout fits
+-- the call of a party after an outcome of its own step: a read that sees a position begins one, a loss at which the layout fits
 -- goes on with it, and a win or a refusal ends it
 abbrev pub call_left : BumpOutcome → BumpStep → Option OngoingCall → Option OngoingCall
 call_left (Sees position) (Read party layout) call = Some (record { layout = layout; seen = position })
@@ -32,7 +32,7 @@ call_through call log = fold call_after call log
 abbrev pub call_in : BumpLog → Option OngoingCall
 call_in log = call_through None log
 
--- WHAT A PARTY HAS SEEN
+-- POSITIONS THAT A PARTY HAS SEEN
 
 -- the position that a step found, or that its win made
 abbrev pub position_in : Region → BumpOutcome → Option ℕ
@@ -59,7 +59,7 @@ greater_of seen None = seen
 abbrev pub greatest_in : Region → ℕ → BumpLog → ℕ
 greatest_in region seen log = fold (λ most entry. greater_of most (position_in region entry.outcome)) seen log
 
--- what a party with this log has seen: the greatest position in it, or the opening where it is empty
+-- the position that a party with this log has seen: the greatest one in it, or the opening where the log is empty
 abbrev pub seen_in : BumpScene → BumpLog → ℕ
 seen_in scene log = greatest_in scene.region scene.opening log
 

@@ -22,7 +22,7 @@ pub record BumpState : Type 0 where
   pub position : ℕ
   pub calls : List (Option OngoingCall)
 
--- where a machine begins: its region, the position that it opens at, and how many parties it has
+-- the beginning of a machine: its region, the position that it opens at, and how many parties it has
 pub record BumpScene : Type 0 where
   pub region : Region
   pub opening : ℕ
@@ -44,7 +44,7 @@ IsInCall state party call = slice_get state.calls party ≡ Some (Some call)
 abbrev pub chunk_at : Region → ℕ → Layout → Chunk
 chunk_at region position layout = chunk_at_or_after (region.start + position) layout
 
--- that chunk ends inside the region
+-- the chunk of a layout at a position ends inside the region
 abbrev pub fits : Region → ℕ → Layout → Bool
 fits region position layout = nat_le (chunk_end (chunk_at region position layout)) (region_end region)
 
@@ -62,7 +62,7 @@ AllFitting region state = (party : ℕ) (call : OngoingCall) → IsInCall state 
 
 -- STEPS
 
--- what a step of a party answers, and what it makes of the position and of the party's call
+-- the answer to a step of a party, and the position and the party's call after it
 pub record PartyMove : Type 0 where
   pub outcome : BumpOutcome
   pub position : ℕ
@@ -100,7 +100,7 @@ exchange_move region position call =
     then ending (Wins chunk) (position_behind region chunk)
     else loss_move region position call.layout
 
--- what a step answers, and what it leaves
+-- the answer to a step, and the state after it
 pub record BumpMove : Type 0 where
   pub outcome : BumpOutcome
   pub state : BumpState

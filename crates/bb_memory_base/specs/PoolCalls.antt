@@ -9,7 +9,7 @@ use Rattle.bb_memory_base.specs.PoolMachine.{PoolScene, left_by, IsInCall, PoolS
 use Rattle.bb_memory_base.specs.PoolMachine.{RefusedAtLoss, Gives, Misses}
 use Rattle.bb_memory_base.specs.PoolHistory.{PoolLog, entry_of, outcomes_of, history_of}
 
--- What a step with this outcome is to the object, which goes from `old` to `new`.
+-- The call of the object that a step with this outcome is; the object goes from `old` to `new`.
 abbrev pub PoolCall : PoolGeometry → List Chunk → Layout → PoolOutcome → List Chunk → Type 0
 -- a taking is a request for the layout, which is answered with the bucket's chunk
 PoolCall geometry old layout (Takes bucket) new =

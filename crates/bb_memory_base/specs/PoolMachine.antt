@@ -18,7 +18,7 @@ pub record PoolState : Type 0 where
   pub flags : List Flag
   pub calls : List (Option ℕ)
 
--- where a machine begins: the buckets, and how many parties it has
+-- the beginning of a machine: its buckets, and how many parties it has
 pub record PoolScene : Type 0 where
   pub geometry : PoolGeometry
   pub parties : ℕ
@@ -60,7 +60,7 @@ IsInCall state party bucket = slice_get state.calls party ≡ Some (Some bucket)
 
 -- STEPS
 
--- what a step answers, and the state that it leaves
+-- the answer to a step, and the state after it
 pub record PoolMove : Type 0 where
   pub outcome : PoolOutcome
   pub state : PoolState

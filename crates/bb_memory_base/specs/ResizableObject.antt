@@ -18,7 +18,7 @@ pub record ResizableObject : Type 1 where
   pub base : Object
   -- how much is reserved for the chunk at a place, in bytes
   pub reserved : ℕ → ℕ
-  -- what it may answer on a live list to a resize of the chunk at a place, from an old layout to a new one
+  -- answers that the object may give on a live list to a resize of the chunk at a place, from an old layout to a new one
   pub may_grow : List Chunk → ℕ → Layout → Layout → Result Chunk AllocationGrowError → Type 0
   pub may_shrink : List Chunk → ℕ → Layout → Layout → Result Chunk AllocationShrinkError → Type 0
 
