@@ -1,6 +1,7 @@
 -- Lists of steps that are all allowed: they have no clear, and no step of a party that isn't there.
-use Rattle.std.proofs.Common.{◌≡◌, ℕ, ◌<◌, ◌≤◌, List, [], ◌∷◌, length, refl, ap, ◌∙◌, arith, Bool, false, Option, Some, None}
-use Rattle.std.specs.Prelude.{slice_get, ◌==◌, if◌then◌else◌, is_some}
+use Rattle.std.proofs.Common.{◌≡◌, ◌≢◌, ℕ, ◌<◌, ◌≤◌, List, [], ◌∷◌, length, refl, sym, ap, ◌∙◌, arith, Bool, true, false}
+use Rattle.std.proofs.Common.{Option, Some, None}
+use Rattle.std.specs.Prelude.{slice_get, if◌then◌else◌, is_some}
 use Rattle.std.proofs.lemmas.List.{length-replicate}
 use Rattle.std.proofs.lemmas.List.Elements.{All-head, All-nil, All-tail}
 use Rattle.bb_memory_base.specs.Chunk.{Region}
@@ -10,7 +11,7 @@ use Rattle.bb_memory_base.specs.BumpHistory.{BumpEntry, BumpLog, entry_at, bump_
 use Rattle.bb_memory_base.specs.BumpHistory.{history_of, is_by, entries_by, log_of, HasNoClear}
 use Rattle.bb_memory_base.specs.BumpLogs.{IsAllowed, AllAllowed}
 use Rattle.bb_memory_base.proofs.SliceGets.{length-set_at, slice_get-some}
-use Rattle.bb_memory_base.proofs.BumpSteps.{test_apart, StepView, step_view, sees, refuses_read}
+use Rattle.bb_memory_base.proofs.BumpSteps.{same_from_test, test_same, StepView, step_view, sees, refuses_read}
 use Rattle.bb_memory_base.proofs.BumpSteps.{wins, loses, refuses_loss, loads, clears, passes}
 
 -- no step at all is allowed
@@ -49,6 +50,49 @@ no_clear_when_allowed region state (step ∷ steps) allowed =
     no_clear_first region state step steps (first_allowed region state step steps allowed)
     (no_clear_when_allowed region (bump_step region state step).state steps (rest_allowed region state step steps allowed))
 
+-- WHOSE A STEP IS
+
+-- an allowed step is that of a party that is there
+pub record HasOwner (state : BumpState) (step : BumpStep) : Type 0 where
+  pub party : ℕ
+  pub there : party < length state.calls
+  pub own : is_by party step ≡ true
+
+owned : (state : BumpState) (step : BumpStep) (party : ℕ) (now : Option OngoingCall) →
+    slice_get state.calls party ≡ Some now → is_by party step ≡ true → HasOwner state step
+owned state step party now at own =
+    record { party = party; there = slice_get-some state.calls party (ap is_some at); own = own }
+
+pub owner_of : (region : Region) (state : BumpState) (step : BumpStep) (move : BumpMove) → StepView region state step move →
+    IsAllowed move.outcome → HasOwner state step
+owner_of region state step move (sees party layout idle asks fit) allowed =
+    owned state step party None idle (test_same party party refl)
+owner_of region state step move (refuses_read party layout idle asks fit) allowed =
+    owned state step party None idle (test_same party party refl)
+owner_of region state step move (wins party call is same) allowed =
+    owned state step party (Some call) is (test_same party party refl)
+owner_of region state step move (loses party call is apart fit) allowed =
+    owned state step party (Some call) is (test_same party party refl)
+owner_of region state step move (refuses_loss party call is apart fit) allowed =
+    owned state step party (Some call) is (test_same party party refl)
+owner_of region state step move (loads party idle) allowed = owned state step party None idle (test_same party party refl)
+owner_of region state step move clears allowed = absurd allowed
+owner_of region state step move (passes other) allowed = absurd allowed
+
+-- a step is one party's alone
+pub one_party : (party other : ℕ) (step : BumpStep) → party ≢ other → is_by party step ≡ true → is_by other step ≡ true → ⊥
+one_party party other (Read p layout) apart own others = apart (sym (same_from_test p party own) ∙ same_from_test p other others)
+one_party party other (Exchange p) apart own others = apart (sym (same_from_test p party own) ∙ same_from_test p other others)
+one_party party other (Load p) apart own others = apart (sym (same_from_test p party own) ∙ same_from_test p other others)
+one_party party other Clear apart own others = cc
+
+not_by : (party other : ℕ) (step : BumpStep) → party ≢ other → is_by party step ≡ true → is_by other step ≡ false
+not_by party other step apart own = not_true (is_by other step) (one_party party other step apart own)
+  where
+    not_true : (test : Bool) → ¬ (test ≡ true) → test ≡ false
+    not_true false not = refl
+    not_true true not = absurd (not refl)
+
 -- NOBODY ELSE
 
 -- no step changes how many parties there are
@@ -59,34 +103,14 @@ parties_stay region state step move (refuses_read party layout idle asks fit) = 
 parties_stay region state step move (wins party call is same) = length-set_at state.calls party _
 parties_stay region state step move (loses party call is apart fit) = length-set_at state.calls party _
 parties_stay region state step move (refuses_loss party call is apart fit) = length-set_at state.calls party _
-parties_stay region state step move (loads party idle) = refl
-parties_stay region state step move clears = refl
-parties_stay region state step move (passes other) = refl
-
--- a party that is there isn't one behind all that are
-is_another : (state : BumpState) (other party : ℕ) (now : Option OngoingCall) → slice_get state.calls other ≡ Some now →
-    length state.calls ≤ party → (other == party) ≡ false
-is_another state other party now there past =
-    let below : other < length state.calls = slice_get-some state.calls other (ap is_some there) in
-    test_apart other party (λ same. omega (arith, same, below, past))
+parties_stay region state step move _ = refl
 
 -- an allowed step is that of a party that is there
 step_is_another : (region : Region) (state : BumpState) (step : BumpStep) (move : BumpMove) (party : ℕ) →
     StepView region state step move → IsAllowed move.outcome → length state.calls ≤ party → is_by party step ≡ false
-step_is_another region state step move party (sees other layout idle asks fit) allowed past =
-    is_another state other party None idle past
-step_is_another region state step move party (refuses_read other layout idle asks fit) allowed past =
-    is_another state other party None idle past
-step_is_another region state step move party (wins other call is same) allowed past =
-    is_another state other party (Some call) is past
-step_is_another region state step move party (loses other call is apart fit) allowed past =
-    is_another state other party (Some call) is past
-step_is_another region state step move party (refuses_loss other call is apart fit) allowed past =
-    is_another state other party (Some call) is past
-step_is_another region state step move party (loads other idle) allowed past =
-    is_another state other party None idle past
-step_is_another region state step move party clears allowed past = absurd allowed
-step_is_another region state step move party (passes other) allowed past = absurd allowed
+step_is_another region state step move party view allowed past =
+    let owner = owner_of region state step move view allowed in
+    not_by owner.party party step (λ same. omega (arith, owner.there, past, same)) owner.own
 
 none_by : (region : Region) (state : BumpState) (steps : List BumpStep) (party : ℕ) → length state.calls ≤ party →
     AllAllowed (bump_history region state steps) → entries_by party (bump_history region state steps) ≡ []

@@ -1,10 +1,10 @@
 -- A party's log says what the party is in, and a step adds to it alone.
-use Rattle.std.proofs.Common.{◌≡◌, ◌≢◌, ℕ, zero, suc, ◌<◌, List, [], ◌∷◌, ◌++◌, append-nil, refl, sym}
-use Rattle.std.proofs.Common.{ap, ◌∙◌, subst, arith, ⊎_elim, ◌⊎◌, Bool, true, false, Option, Some, None}
-use Rattle.std.specs.Prelude.{slice_get, slice_set, ◌==◌, if◌then◌else◌, option_map}
-use Rattle.std.specs.List.{All, AllByRecursion}
-use Rattle.std.proofs.lemmas.List.Elements.{All-push, recursion_from_All}
-use Rattle.std.proofs.lemmas.Option.{same_Some}
+use Rattle.std.proofs.Common.{◌≡◌, ◌≢◌, ℕ, ◌<◌, List, [], ◌∷◌, ◌++◌, refl, sym}
+use Rattle.std.proofs.Common.{ap, ◌∙◌, subst, arith, Bool, true, false, Option, Some, None}
+use Rattle.std.specs.Prelude.{slice_get, ◌==◌, if◌then◌else◌, option_map}
+use Rattle.std.specs.List.{All}
+use Rattle.std.proofs.lemmas.List.Elements.{All-push}
+use Rattle.std.proofs.lemmas.Option.{same_Some, slice_get_within, get_or_from_slice_get}
 use Rattle.bb_memory_base.specs.Chunk.{Region, Chunk, Layout}
 use Rattle.bb_memory_base.specs.BumpMachine.{OngoingCall, BumpState, BumpMove, BumpScene, opening_state, chunk_at, fits}
 use Rattle.bb_memory_base.specs.BumpMachine.{position_behind, read_move, exchange_move, ending, seeing, passed, moved, read}
@@ -14,7 +14,8 @@ use Rattle.bb_memory_base.specs.BumpHistory.{BumpEntry, BumpLog, entry_of, entry
 use Rattle.bb_memory_base.specs.BumpHistory.{bump_history, history_of, is_by, entries_by, log_of}
 use Rattle.bb_memory_base.specs.BumpLogs.{seen_at, call_after, call_through, call_in}
 use Rattle.bb_memory_base.specs.BumpLogs.{IsAllowed, AllAllowed, HasLog, LogsAgree, with_entry}
-use Rattle.bb_memory_base.proofs.SliceGets.{slice_get-set_other, slice_get-set_same, slice_get-replicate}
+use Rattle.bb_memory_base.proofs.SliceGets.{slice_get-replicate}
+use Rattle.bb_memory_base.proofs.Logs.{logs-push}
 use Rattle.bb_memory_base.proofs.BumpAllowed.{none_allowed}
 use Rattle.bb_memory_base.proofs.BumpSteps.{same_from_test, test_same, test_apart, StepView, step_view, sees, refuses_read}
 use Rattle.bb_memory_base.proofs.BumpSteps.{wins, loses, refuses_loss, loads, clears, passes, others_stay, written}
@@ -89,25 +90,10 @@ after-push : (region : Region) (state : BumpState) (steps : List BumpStep) (step
 after-push region state [] step = refl
 after-push region state (first ∷ steps) step = after-push region (bump_step region state first).state steps step
 
-own-append : (own : Bool) (entry : BumpEntry) (xs ys : BumpLog) →
-    (if own then entry ∷ (xs ++ ys) else xs ++ ys) ≡ (if own then entry ∷ xs else xs) ++ ys
-own-append true entry xs ys = refl
-own-append false entry xs ys = refl
-
-log-push : (party : ℕ) (history : BumpLog) (entry : BumpEntry) →
-    entries_by party (history ++ entry ∷ []) ≡ entries_by party history ++ (if is_by party entry.step then entry ∷ [] else [])
-log-push party [] entry = refl
-log-push party (first ∷ history) entry =
-    ap (λ (log : BumpLog). if is_by party first.step then first ∷ log else log) (log-push party history entry)
-    ∙ own-append (is_by party first.step) first (entries_by party history) (if is_by party entry.step then entry ∷ [] else [])
-
-same_or_apart : (m n : ℕ) → (m ≡ n) ⊎ (m ≢ n)
-same_or_apart m n = grind arith
-
 -- an allowed step of a party adds its entry to the party's log, and to no other
 agree_step : (scene : BumpScene) (position : ℕ) (logs : List BumpLog) (party : ℕ) (log : BumpLog) (step : BumpStep)
     (agree : LogsAgree scene position logs) →
-    HasLog logs party log → is_by party step ≡ true → ((other : ℕ) → other ≢ party → is_by other step ≡ false) →
+    HasLog logs party log → is_by party step ≡ true → ((other : ℕ) → party ≢ other → is_by other step ≡ false) →
     let move = bump_step scene.region (left_by scene agree.steps) step in
     IsAllowed move.outcome → LogsAgree scene move.state.position (with_entry logs party log (entry_of step move.outcome))
 agree_step scene position logs party log step agree at own others allowed =
@@ -121,26 +107,8 @@ agree_step scene position logs party log step agree at own others allowed =
       allowed = subst AllAllowed (sym longer)
           (All-push (λ (e : BumpEntry). IsAllowed e.outcome) history entry agree.allowed allowed);
       leaves = ap (λ (left : BumpState). left.position) (after-push scene.region state agree.steps step);
-      each = λ other there is.
-          let added : log_of scene (agree.steps ++ step ∷ []) other ≡
-          entries_by other history ++ (if is_by other step then entry ∷ [] else []) =
-          ap (entries_by other) longer ∙ log-push other history entry in
-          ⊎_elim
-          (λ (same : other ≡ party).
-          let now : slice_get (slice_set logs party (log ++ entry ∷ [])) other ≡ Some (log ++ entry ∷ []) =
-          ap (slice_get (slice_set logs party (log ++ entry ∷ []))) same
-          ∙ slice_get-set_same logs party (log ++ entry ∷ []) log at in
-          added
-          ∙ ap (λ (mine : Bool). entries_by other history ++ (if mine then entry ∷ [] else []))
-          (ap (λ (p : ℕ). is_by p step) same ∙ own)
-          ∙ ap (λ (before : BumpLog). before ++ entry ∷ []) (agree.each other log (ap (slice_get logs) same ∙ at))
-          ∙ same_Some _ _ (sym now ∙ is))
-          (λ (apart : other ≢ party).
-          added
-          ∙ ap (λ (mine : Bool). entries_by other history ++ (if mine then entry ∷ [] else [])) (others other apart)
-          ∙ append-nil (entries_by other history)
-          ∙ agree.each other there (sym (slice_get-set_other logs party other (log ++ entry ∷ []) apart) ∙ is))
-          (same_or_apart other party);
+      each = λ other found there. ap (entries_by other) longer
+          ∙ logs-push (λ p e. is_by p e.step) logs party log history entry at own others agree.each other found there;
     }
 
 -- EACH KIND OF STEP
@@ -168,12 +136,7 @@ pub agreed_call : (scene : BumpScene) (position : ℕ) (logs : List BumpLog) (pa
     HasLog logs party log → party < scene.parties → call_in log ≡ call →
     slice_get (left_by scene agree.steps).calls party ≡ Some call
 agreed_call scene position logs party log call agree at within is =
-    party_call scene agree.steps party within
-    ∙ ap (λ (own : BumpLog). Some (call_in own)) (agree.each party log at) ∙ ap Some is
-
--- the step is the party's, and no other's
-not_others : (party other : ℕ) → other ≢ party → (party == other) ≡ false
-not_others party other apart = test_apart party other (λ same. apart (sym same))
+    party_call scene agree.steps party within ∙ ap (λ (own : BumpLog). Some (call_in own)) (agree.each party log at) ∙ ap Some is
 
 pub read_agrees : (scene : BumpScene) (position : ℕ) (logs : List BumpLog) (party : ℕ) (log : BumpLog) (layout : Layout) →
     LogsAgree scene position logs → HasLog logs party log → party < scene.parties → call_in log ≡ None → 0 < layout.size →
@@ -191,7 +154,7 @@ read_agrees scene position logs party log layout agree at within is asks =
     let fitting = fits region state.position layout in
     let allowed = subst (λ (move : BumpMove). IsAllowed move.outcome) (sym moves) (read_allowed state.position layout fitting) in
     let step = agree_step scene position logs party log (Read party layout) agree at (test_same party party refl)
-    (not_others party) allowed in
+    (test_apart party) allowed in
     let made = subst (λ (move : BumpMove). LogsAgree scene move.state.position
     (with_entry logs party log (entry_of (Read party layout) move.outcome))) moves step in
     let kept = subst (λ (left : ℕ). LogsAgree scene left
@@ -215,7 +178,7 @@ exchange_agrees scene position logs party log call agree at within is =
     (exchange_allowed state.position (position_behind region chunk) chunk call.layout (state.position == call.seen)
     (fits region state.position call.layout)) in
     let step =
-    agree_step scene position logs party log (Exchange party) agree at (test_same party party refl) (not_others party) allowed in
+    agree_step scene position logs party log (Exchange party) agree at (test_same party party refl) (test_apart party) allowed in
     let made = subst (λ (move : BumpMove). LogsAgree scene move.state.position
     (with_entry logs party log (entry_of (Exchange party) move.outcome))) moves step in
     subst (λ (found : ℕ). LogsAgree scene (exchange_move region found call).position
@@ -231,7 +194,7 @@ load_agrees scene position logs party log agree at within is =
     ap (load state) idle in
     let allowed = subst (λ (move : BumpMove). IsAllowed move.outcome) (sym moves) tt in
     let step =
-    agree_step scene position logs party log (Load party) agree at (test_same party party refl) (not_others party) allowed in
+    agree_step scene position logs party log (Load party) agree at (test_same party party refl) (test_apart party) allowed in
     let made = subst (λ (move : BumpMove). LogsAgree scene move.state.position
     (with_entry logs party log (entry_of (Load party) move.outcome))) moves step in
     subst (λ (found : ℕ). LogsAgree scene found (with_entry logs party log (entry_of (Load party) (Loaded found))))
@@ -239,17 +202,12 @@ load_agrees scene position logs party log agree at within is =
 
 -- AT THE OPENING
 
-element_of_all : {X : Type 0} (P : X → Type 0) (xs : List X) (i : ℕ) (x : X) → AllByRecursion P xs → slice_get xs i ≡ Some x → P x
-element_of_all P [] i x all at = absurd (cc)
-element_of_all P (y ∷ ys) zero x all at = subst P (same_Some y x at) all.0
-element_of_all P (y ∷ ys) (suc i) x all at = element_of_all P ys i x all.1 at
-
 -- logs that are all empty agree with the opening
 pub opening_agrees : (scene : BumpScene) (logs : List BumpLog) → All (λ log. log ≡ []) logs → LogsAgree scene scene.opening logs
 opening_agrees scene logs empty = record {
   steps = [];
   allowed = none_allowed;
   leaves = refl;
-  each = λ party log at. sym (element_of_all (λ (log : BumpLog). log ≡ []) logs party log
-      (recursion_from_All (λ log. log ≡ []) logs empty) at);
+  each = λ party log at.
+      sym (empty party log (slice_get_within logs party log at)) ∙ get_or_from_slice_get logs party log log at;
 }

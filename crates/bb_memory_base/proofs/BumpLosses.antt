@@ -12,9 +12,9 @@ use Rattle.bb_memory_base.specs.BumpHistory.{is_by, HasNoClear, is_loss, is_begi
 use Rattle.bb_memory_base.proofs.LiveLists.{StandsFor-within}
 use Rattle.bb_memory_base.proofs.BumpSteps.{test_same, StepView, step_view, sees, refuses_read, wins}
 use Rattle.bb_memory_base.proofs.BumpSteps.{loses, refuses_loss, loads, clears, passes, others_stay, written}
-use Rattle.bb_memory_base.proofs.BumpSteps.{call_written, idle_or_in_call, in_call_or_idle, one_call}
+use Rattle.bb_memory_base.proofs.BumpSteps.{each_call-set, idle_or_in_call, in_call_or_idle, one_call}
 use Rattle.bb_memory_base.proofs.BumpRuns.{bump_after-append, chunk_at-above}
-use Rattle.bb_memory_base.proofs.BumpStretches.{IsClear, not_clear, healthy_after, position_rises, stretch_rises}
+use Rattle.bb_memory_base.proofs.BumpStretches.{IsClear, not_clear, healthy_after, stretch_rises}
 
 -- WHAT A CALL HAS SEEN
 
@@ -25,37 +25,23 @@ SeesNoMore state party = (call : OngoingCall) → IsInCall state party call → 
 less_when_apart : (position old seen : ℕ) → position ≢ old → old ≡ seen → seen ≤ position → seen < position
 less_when_apart position old seen apart same below = grind (arith, apart)
 
-own_sees : (region : Region) (state : BumpState) (step : BumpStep) (move : BumpMove) (party : ℕ) →
-    StepView region state step move →
-    ¬ IsClear step → is_by party step ≡ true → SeesNoMore state party → SeesNoMore move.state party
-own_sees region state step move party (sees other layout idle asks fit) not by below = λ call is.
-    let same = same_Some _ call (call_written state other party None
-    (Some (record { layout = layout; seen = state.position })) call by idle is) in
-    omega (arith, ap (λ (c : OngoingCall). c.seen) same)
-own_sees region state step move party (refuses_read other layout idle asks fit) not by below = λ call is.
-    let none : None ≡ Some call = call_written state other party None None call by idle is in absurd (cc)
-own_sees region state step move party (wins other old at same) not by below = λ call is.
-    let none : None ≡ Some call = call_written state other party (Some old) None call by at is in absurd (cc)
-own_sees region state step move party (loses other old at apart fit) not by below = λ call is.
-    let same = same_Some _ call (call_written state other party (Some old)
-    (Some (record { layout = old.layout; seen = state.position })) call by at is) in
-    omega (arith, ap (λ (c : OngoingCall). c.seen) same)
-own_sees region state step move party (refuses_loss other old at apart fit) not by below = λ call is.
-    let none : None ≡ Some call = call_written state other party (Some old) None call by at is in absurd (cc)
-own_sees region state step move party (loads other idle) not by below = below
-own_sees region state step move party clears not by below = absurd (not tt)
-own_sees region state step move party (passes other) not by below = below
-
-step_sees : (region : Region) (state : BumpState) (step : BumpStep) (party : ℕ) (own : Bool) →
-    is_by party step ≡ own → ¬ IsClear step →
-    SeesNoMore state party → SeesNoMore (bump_step region state step).state party
-step_sees region state step party true by not below =
-    own_sees region state step (bump_step region state step) party (step_view region state step) not by below
-step_sees region state step party false by not below = λ call is.
-    let move = bump_step region state step in
-    let view = step_view region state step in
-    let before = below call (sym (others_stay region state step move party view by) ∙ is) in
-    omega (arith, before, position_rises region state step move view not)
+step_sees : (region : Region) (state : BumpState) (step : BumpStep) (move : BumpMove) (party : ℕ) →
+    StepView region state step move → ¬ IsClear step → SeesNoMore state party → SeesNoMore move.state party
+step_sees region state step move party (sees other layout idle asks fit) not below =
+    each_call-set (λ call. call.seen ≤ state.position) state.calls other party
+    (Some (record { layout = layout; seen = state.position })) below (omega arith)
+step_sees region state step move party (refuses_read other layout idle asks fit) not below =
+    each_call-set (λ call. call.seen ≤ state.position) state.calls other party None below tt
+step_sees region state step move party (wins other old at same) not below =
+    each_call-set (λ call. call.seen ≤ move.state.position) state.calls other party None
+    (λ call is. omega (arith, below call is, chunk_at-above region state.position old.layout)) tt
+step_sees region state step move party (loses other old at apart fit) not below =
+    each_call-set (λ call. call.seen ≤ state.position) state.calls other party
+    (Some (record { layout = old.layout; seen = state.position })) below (omega arith)
+step_sees region state step move party (refuses_loss other old at apart fit) not below =
+    each_call-set (λ call. call.seen ≤ state.position) state.calls other party None below tt
+step_sees region state step move party clears not below = absurd (not tt)
+step_sees region state step move party _ not below = below
 
 pub stretch_sees : (region : Region) (state : BumpState) (steps : List BumpStep) (party : ℕ) →
     HasNoClear steps → SeesNoMore state party →
@@ -64,7 +50,7 @@ stretch_sees region state [] party none below = below
 stretch_sees region state (step ∷ steps) party none below =
     let parts = not_clear step steps none in
     stretch_sees region (bump_step region state step).state steps party parts.1
-    (step_sees region state step party (is_by party step) refl parts.0 below)
+    (step_sees region state step (bump_step region state step) party (step_view region state step) parts.0 below)
 
 pub idle_sees : (state : BumpState) (party : ℕ) → IsIdle state party → SeesNoMore state party
 idle_sees state party idle = λ call is.
@@ -91,10 +77,6 @@ own_call_turn : (region : Region) (state : BumpState) (step : BumpStep) (move : 
     StepView region state step move →
     ¬ IsClear step → is_by party step ≡ true → IsInCall state party call → call.seen ≤ state.position →
     CallTurn move.state party call (weight true (is_loss move.outcome))
-own_call_turn region state step move party call (sees other layout idle asks fit) not by is below =
-    absurd (idle_or_in_call state other party call by idle is)
-own_call_turn region state step move party call (refuses_read other layout idle asks fit) not by is below =
-    absurd (idle_or_in_call state other party call by idle is)
 own_call_turn region state step move party call (wins other old at same) not by is below =
     ends (written state other party (Some old) None by at) (omega (arith, chunk_at-above region state.position old.layout))
 own_call_turn region state step move party call (loses other old at apart fit) not by is below =
@@ -106,10 +88,14 @@ own_call_turn region state step move party call (refuses_loss other old at apart
     let own = ap (λ (c : OngoingCall). c.seen) (one_call state other party old call by at is) in
     let less : call.seen < state.position = less_when_apart state.position old.seen call.seen apart own below in
     ends (written state other party (Some old) None by at) (omega arith)
-own_call_turn region state step move party call (loads other idle) not by is below =
-    absurd (idle_or_in_call state other party call by idle is)
 own_call_turn region state step move party call clears not by is below = absurd (not tt)
 own_call_turn region state step move party call (passes other) not by is below = goes_on call is (omega arith)
+own_call_turn region state step move party call (sees other layout idle asks fit) not by is below =
+    absurd (idle_or_in_call state other party call by idle is)
+own_call_turn region state step move party call (refuses_read other layout idle asks fit) not by is below =
+    absurd (idle_or_in_call state other party call by idle is)
+own_call_turn region state step move party call (loads other idle) not by is below =
+    absurd (idle_or_in_call state other party call by idle is)
 
 call_turn : (region : Region) (state : BumpState) (step : BumpStep) (party : ℕ) (call : OngoingCall) (own : Bool) →
     is_by party step ≡ own → ¬ IsClear step → IsInCall state party call → call.seen ≤ state.position →
@@ -215,7 +201,7 @@ call_loses_little region state (step ∷ steps) party call none below is few =
     as (λ _. losses_from region state (step ∷ steps) party + call.seen ≤ (bump_after region next steps).position) [
       | goes_on later at more ↦
           let rest = call_loses_little region next steps party later parts.1
-          (step_sees region state step party (is_by party step) refl parts.0 below) at none_later in
+          (step_sees region state step (bump_step region state step) party (step_view region state step) parts.0 below) at none_later in
           omega (arith, count, more, rest)
       | ends at more ↦
           let rest = idle_loses_nothing region next steps party parts.1 at none_later in
@@ -237,7 +223,7 @@ one_call_loses_little region state (step ∷ steps) party none now few =
           let rest = one_call_loses_little region next steps party parts.1 later (omega (arith, begun, few)) in
           omega (arith, count, lost, rest)
       | begins call is lost one ↦
-          let below = step_sees region state step party (is_by party step) refl parts.0 (idle_sees state party now) in
+          let below = step_sees region state step (bump_step region state step) party (step_view region state step) parts.0 (idle_sees state party now) in
           let rest = call_loses_little region next steps party call parts.1 below is (omega (arith, begun, few, one)) in
           omega (arith, count, lost, rest)
     ]

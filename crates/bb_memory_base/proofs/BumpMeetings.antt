@@ -1,18 +1,17 @@
 -- What two parties' logs say of one another: their chunks are apart.
-use Rattle.std.proofs.Common.{◌≡◌, ◌≢◌, ℕ, ◌≤◌, List, [], ◌∷◌, ◌++◌, refl, sym, ◌∙◌, subst, arith, Bool, true, false}
+use Rattle.std.proofs.Common.{◌≡◌, ◌≢◌, ℕ, ◌≤◌, List, [], ◌∷◌, ◌++◌, refl, subst, arith, Bool, true, false}
 use Rattle.std.specs.Prelude.{if◌then◌else◌}
 use Rattle.std.specs.List.{All, AllByRecursion}
 use Rattle.std.proofs.lemmas.List.Elements.{All-from_recursion}
 use Rattle.bb_memory_base.specs.Chunk.{Chunk, chunk_end, AreApart}
 use Rattle.bb_memory_base.specs.BumpObject.{end_of_last, IsInOrder}
-use Rattle.bb_memory_base.specs.BumpMachine.{BumpScene, opening_state, BumpStep, Read, Exchange, Load, Clear}
+use Rattle.bb_memory_base.specs.BumpMachine.{BumpScene, opening_state}
 use Rattle.bb_memory_base.specs.BumpHistory.{BumpEntry, BumpLog, history_of, is_by, entries_by, won_at, chunks_won}
 use Rattle.bb_memory_base.specs.BumpLogs.{HasLog, LogsAgree, CommonInterleaving}
 use Rattle.bb_memory_base.proofs.LiveLists.{all_above, end_of_last-above, in_order-front, in_order-rest, stands_for_some}
-use Rattle.bb_memory_base.proofs.BumpSteps.{same_from_test}
 use Rattle.bb_memory_base.proofs.BumpRuns.{fitting_at_opening}
 use Rattle.bb_memory_base.proofs.BumpStretches.{stretch_stands}
-use Rattle.bb_memory_base.proofs.BumpAllowed.{no_clear_when_allowed}
+use Rattle.bb_memory_base.proofs.BumpAllowed.{no_clear_when_allowed, one_party}
 use Rattle.bb_memory_base.proofs.BumpPositions.{both_interleaved}
 
 -- FACTS OF EACH CHUNK
@@ -107,13 +106,6 @@ apart_entry false true entry log other_log one from_other from_own rest =
     apart_turned (won ++ chunks_won other_log) (chunks_won log)
     (apart_append won (chunks_won other_log) (chunks_won log) from_own
     (apart_turned (chunks_won log) (chunks_won other_log) rest))
-
--- a step is one party's alone
-one_party : (party other : ℕ) (step : BumpStep) → party ≢ other → is_by party step ≡ true → is_by other step ≡ true → ⊥
-one_party party other (Read p layout) apart own others = apart (sym (same_from_test p party own) ∙ same_from_test p other others)
-one_party party other (Exchange p) apart own others = apart (sym (same_from_test p party own) ∙ same_from_test p other others)
-one_party party other (Load p) apart own others = apart (sym (same_from_test p party own) ∙ same_from_test p other others)
-one_party party other Clear apart own others = cc
 
 logs_apart : (v party other : ℕ) (history : BumpLog) → party ≢ other → IsInOrder v (chunks_won history) →
     AllApart (chunks_won (entries_by party history)) (chunks_won (entries_by other history))

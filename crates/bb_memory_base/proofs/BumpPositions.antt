@@ -14,13 +14,12 @@ use Rattle.bb_memory_base.specs.BumpCalls.{OpensWith, live_after}
 use Rattle.bb_memory_base.specs.BumpLogs.{IsAllowed, AllAllowed, HasLog, LogsAgree, Interleaving, CommonInterleaving}
 use Rattle.bb_memory_base.specs.BumpLogs.{HasPositionUpTo, position_in, greater_of, greatest_in, seen_in, call_in}
 use Rattle.bb_memory_base.proofs.LiveLists.{StandsFor-within}
-use Rattle.bb_memory_base.proofs.SliceGets.{slice_get-replicated, slice_get-single}
-use Rattle.bb_memory_base.proofs.BumpSteps.{test_same, StepView, step_view, sees, refuses_read}
-use Rattle.bb_memory_base.proofs.BumpSteps.{wins, loses, refuses_loss, loads, clears, passes}
+use Rattle.bb_memory_base.proofs.SliceGets.{slice_get-replicated}
+use Rattle.bb_memory_base.proofs.BumpSteps.{StepView, step_view, wins, clears, passes}
 use Rattle.bb_memory_base.proofs.BumpRuns.{chunk_at-above, calls_stand, fitting_after, fitting_at_opening}
 use Rattle.bb_memory_base.proofs.BumpStretches.{healthy_after, stretch_rises}
 use Rattle.bb_memory_base.proofs.BumpLosses.{SeesNoMore, stretch_sees}
-use Rattle.bb_memory_base.proofs.BumpAllowed.{first_allowed, rest_allowed, no_clear_when_allowed, parties_stay}
+use Rattle.bb_memory_base.proofs.BumpAllowed.{first_allowed, rest_allowed, no_clear_when_allowed, parties_stay, owner_of}
 use Rattle.bb_memory_base.proofs.BumpLogs.{agreed_call}
 
 -- POSITIONS IN A LOG
@@ -29,21 +28,17 @@ use Rattle.bb_memory_base.proofs.BumpLogs.{agreed_call}
 pub step_leaves : (region : Region) (state : BumpState) (step : BumpStep) (move : BumpMove) → StepView region state step move →
     IsAllowed move.outcome →
     greater_of state.position (position_in region move.outcome) ≡ move.state.position
-step_leaves region state step move (sees party layout idle asks fit) allowed = omega arith
-step_leaves region state step move (refuses_read party layout idle asks fit) allowed = omega arith
 step_leaves region state step move (wins party call is same) allowed =
     omega (arith, chunk_at-above region state.position call.layout)
-step_leaves region state step move (loses party call is apart fit) allowed = omega arith
-step_leaves region state step move (refuses_loss party call is apart fit) allowed = omega arith
-step_leaves region state step move (loads party idle) allowed = omega arith
 step_leaves region state step move clears allowed = absurd allowed
 step_leaves region state step move (passes other) allowed = absurd allowed
+step_leaves region state step move _ allowed = omega arith
 
-below_greater : (seen bound : ℕ) (found : Option ℕ) → greater_of seen found ≤ bound → IfSome found (λ position. position ≤ bound)
+pub below_greater : (seen bound : ℕ) (found : Option ℕ) → greater_of seen found ≤ bound → IfSome found (λ position. position ≤ bound)
 below_greater seen bound None below = tt
 below_greater seen bound (Some position) below = omega arith
 
-greater_below : (seen bound : ℕ) (found : Option ℕ) → seen ≤ bound → IfSome found (λ position. position ≤ bound) →
+pub greater_below : (seen bound : ℕ) (found : Option ℕ) → seen ≤ bound → IfSome found (λ position. position ≤ bound) →
     greater_of seen found ≤ bound
 greater_below seen bound None below found_below = below
 greater_below seen bound (Some position) below found_below = omega arith
@@ -152,22 +147,11 @@ seen_below scene position logs party log agree at =
 
 -- where there is one party, each allowed step of a party is its own
 own_alone : (region : Region) (state : BumpState) (step : BumpStep) (move : BumpMove) → StepView region state step move →
-    IsAllowed move.outcome →
-    length state.calls ≡ 1 → is_by 0 step ≡ true
-own_alone region state step move (sees party layout idle asks fit) allowed one =
-    test_same party 0 (slice_get-single state.calls party None one idle)
-own_alone region state step move (refuses_read party layout idle asks fit) allowed one =
-    test_same party 0 (slice_get-single state.calls party None one idle)
-own_alone region state step move (wins party call is same) allowed one =
-    test_same party 0 (slice_get-single state.calls party (Some call) one is)
-own_alone region state step move (loses party call is apart fit) allowed one =
-    test_same party 0 (slice_get-single state.calls party (Some call) one is)
-own_alone region state step move (refuses_loss party call is apart fit) allowed one =
-    test_same party 0 (slice_get-single state.calls party (Some call) one is)
-own_alone region state step move (loads party idle) allowed one =
-    test_same party 0 (slice_get-single state.calls party None one idle)
-own_alone region state step move clears allowed one = absurd allowed
-own_alone region state step move (passes other) allowed one = absurd allowed
+    IsAllowed move.outcome → length state.calls ≡ 1 → is_by 0 step ≡ true
+own_alone region state step move view allowed one =
+    let owner = owner_of region state step move view allowed in
+    let none : owner.party ≡ 0 = omega (arith, owner.there, one) in
+    ap (λ (p : ℕ). is_by p step) (sym none) ∙ owner.own
 
 greatest_alone : (region : Region) (state : BumpState) (steps : List BumpStep) → length state.calls ≡ 1 →
     AllAllowed (bump_history region state steps) →

@@ -3,13 +3,11 @@ use Rattle.std.proofs.Common.{◌≡◌, ℕ, ◌+◌, ◌<◌, ◌≤◌, List,
 use Rattle.std.proofs.Common.{ap, ◌∙◌, subst, arith, true, false, Option, Some, None, Ok, Err}
 use Rattle.std.proofs.lemmas.Bool.{leb-true, leb-false}
 use Rattle.bb_memory_base.specs.Chunk.{Region, region_end, Chunk, chunk_end, Layout, OutOfMemory}
-use Rattle.bb_memory_base.specs.LiveList.{IsSound}
 use Rattle.bb_memory_base.specs.Object.{appended}
 use Rattle.bb_memory_base.specs.BumpObject.{StandsFor, chunk_at_or_after, next_chunk, used_space}
-use Rattle.bb_memory_base.specs.BumpMachine.{OngoingCall, BumpState, BumpMove, BumpScene, IsIdle, AllFitting, chunk_at, fits}
-use Rattle.bb_memory_base.specs.BumpMachine.{position_behind, load, opening_state, bump_step, bump_after, left_by, BumpStep, Load}
-use Rattle.bb_memory_base.specs.BumpMachine.{Wins, RefusedAtLoss, Loaded}
-use Rattle.bb_memory_base.specs.BumpHistory.{outcome_after}
+use Rattle.bb_memory_base.specs.BumpMachine.{OngoingCall, BumpState, BumpMove, BumpScene, AllFitting, chunk_at, fits}
+use Rattle.bb_memory_base.specs.BumpMachine.{position_behind, opening_state, bump_step, bump_after, left_by, BumpStep}
+use Rattle.bb_memory_base.specs.BumpMachine.{Wins, RefusedAtLoss}
 use Rattle.bb_memory_base.specs.BumpCalls.{BumpCall, Allocate, ClearAll, IsCallRun, left_by_calls, layout_in, asked_by}
 use Rattle.bb_memory_base.specs.BumpCalls.{decided, bump_calls, calls_of, calls_after, OpensWith, live_after}
 use Rattle.bb_memory_base.proofs.LeastPlaces.{least_place-is}
@@ -135,7 +133,7 @@ step_makes region state live step move (passes other) stands fitting = call_none
 
 -- ANY LIST OF STEPS
 
-steps_make : (region : Region) (state : BumpState) (live : List Chunk) (steps : List BumpStep) →
+pub steps_make : (region : Region) (state : BumpState) (live : List Chunk) (steps : List BumpStep) →
     StandsFor region state.position live →
     AllFitting region state → MakesCalls region live (bump_calls region state steps) (bump_after region state steps).position
 steps_make region state live [] stands fitting = call_none region live state.position stands
@@ -154,8 +152,7 @@ pub bump_after-append : (region : Region) (state : BumpState) (first more : List
 bump_after-append region state [] more = refl
 bump_after-append region state (step ∷ first) more = bump_after-append region (bump_step region state step).state first more
 
-bump_calls-append : (region : Region) (state : BumpState) (first more : List BumpStep) →
-    bump_calls region state (first ++ more)
+bump_calls-append : (region : Region) (state : BumpState) (first more : List BumpStep) → bump_calls region state (first ++ more)
     ≡ bump_calls region state first ++ bump_calls region (bump_after region state first) more
 bump_calls-append region state [] more = refl
 bump_calls-append region state (step ∷ first) more =
@@ -210,13 +207,3 @@ calls_stand scene live steps opens = (scene_makes scene live steps opens).stands
 pub position_used : (scene : BumpScene) (live : List Chunk) (steps : List BumpStep) → OpensWith scene live →
     (left_by scene steps).position ≡ used_space scene.region (live_after scene live steps)
 position_used scene live steps opens = (calls_stand scene live steps opens).used
-
-pub live_sound : (scene : BumpScene) (live : List Chunk) (steps : List BumpStep) → OpensWith scene live →
-    IsSound scene.region (live_after scene live steps)
-live_sound scene live steps opens = (calls_stand scene live steps opens).sound
-
-pub load_finds : (scene : BumpScene) (live : List Chunk) (steps : List BumpStep) (party : ℕ) → OpensWith scene live →
-    IsIdle (left_by scene steps) party →
-    outcome_after scene steps (Load party) ≡ Loaded (used_space scene.region (live_after scene live steps))
-load_finds scene live steps party opens idle =
-    ap (λ now. (load (left_by scene steps) now).outcome) idle ∙ ap Loaded (position_used scene live steps opens)

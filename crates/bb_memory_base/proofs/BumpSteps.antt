@@ -1,5 +1,5 @@
 -- What a step of the bump machine may do, case by case.
-use Rattle.std.proofs.Common.{◌≡◌, ◌≢◌, ℕ, ◌<◌, refl, sym, ap, ◌∙◌, subst, arith, Bool, true, false, Option, Some, None, inl, inr}
+use Rattle.std.proofs.Common.{◌≡◌, ◌≢◌, ℕ, ◌<◌, List, refl, sym, ap, ◌∙◌, subst, arith, Bool, true, false, Option, Some, None, inl, inr}
 use Rattle.std.specs.Prelude.{slice_get, slice_set, ◌==◌, if◌then◌else◌, IfSome}
 use Rattle.std.proofs.lemmas.Bool.Decides.{nat_tests}
 use Rattle.std.proofs.lemmas.Option.{same_Some}
@@ -64,10 +64,9 @@ idle_view region state party layout false false idle size fit =
 
 read_view : (region : Region) (state : BumpState) (party : ℕ) (layout : Layout) (now : Option (Option OngoingCall)) →
     slice_get state.calls party ≡ now → StepView region state (Read party layout) (read region state party layout now)
-read_view region state party layout None is = passes (Read party layout)
-read_view region state party layout (Some (Some call)) is = passes (Read party layout)
 read_view region state party layout (Some None) is =
     idle_view region state party layout (layout.size == 0) (fits region state.position layout) is refl refl
+read_view region state party layout _ is = passes (Read party layout)
 
 call_view : (region : Region) (state : BumpState) (party : ℕ) (call : OngoingCall) (same fitting : Bool) →
     IsInCall state party call → (state.position == call.seen) ≡ same → fits region state.position call.layout ≡ fitting →
@@ -84,16 +83,14 @@ call_view region state party call false false is same fit =
 
 exchange_view : (region : Region) (state : BumpState) (party : ℕ) (now : Option (Option OngoingCall)) →
     slice_get state.calls party ≡ now → StepView region state (Exchange party) (exchange region state party now)
-exchange_view region state party None is = passes (Exchange party)
-exchange_view region state party (Some None) is = passes (Exchange party)
 exchange_view region state party (Some (Some call)) is =
     call_view region state party call (state.position == call.seen) (fits region state.position call.layout) is refl refl
+exchange_view region state party _ is = passes (Exchange party)
 
 load_view : (region : Region) (state : BumpState) (party : ℕ) (now : Option (Option OngoingCall)) →
     slice_get state.calls party ≡ now → StepView region state (Load party) (load state now)
-load_view region state party None is = passes (Load party)
-load_view region state party (Some (Some call)) is = passes (Load party)
 load_view region state party (Some None) is = loads party is
+load_view region state party _ is = passes (Load party)
 
 pub step_view : (region : Region) (state : BumpState) (step : BumpStep) → StepView region state step (bump_step region state step)
 step_view region state (Read party layout) = read_view region state party layout (slice_get state.calls party) refl
@@ -103,22 +100,19 @@ step_view region state Clear = clears
 
 -- PARTIES
 
+other_set : (state : BumpState) (other party : ℕ) (now : Option OngoingCall) → (other == party) ≡ false →
+    slice_get (slice_set state.calls other now) party ≡ slice_get state.calls party
+other_set state other party now by = slice_get-set_other state.calls other party now (λ same. apart_from_test other party by (sym same))
+
 -- a step of another party leaves a party as it is
 pub others_stay : (region : Region) (state : BumpState) (step : BumpStep) (move : BumpMove) (party : ℕ) →
     StepView region state step move → is_by party step ≡ false → slice_get move.state.calls party ≡ slice_get state.calls party
-others_stay region state step move party (sees other layout idle asks fit) by =
-    slice_get-set_other state.calls other party _ (λ same. apart_from_test other party by (sym same))
-others_stay region state step move party (refuses_read other layout idle asks fit) by =
-    slice_get-set_other state.calls other party _ (λ same. apart_from_test other party by (sym same))
-others_stay region state step move party (wins other call is same) by =
-    slice_get-set_other state.calls other party _ (λ same. apart_from_test other party by (sym same))
-others_stay region state step move party (loses other call is apart fit) by =
-    slice_get-set_other state.calls other party _ (λ same. apart_from_test other party by (sym same))
-others_stay region state step move party (refuses_loss other call is apart fit) by =
-    slice_get-set_other state.calls other party _ (λ same. apart_from_test other party by (sym same))
-others_stay region state step move party (loads other idle) by = refl
-others_stay region state step move party clears by = refl
-others_stay region state step move party (passes other) by = refl
+others_stay region state step move party (sees other layout idle asks fit) by = other_set state other party _ by
+others_stay region state step move party (refuses_read other layout idle asks fit) by = other_set state other party _ by
+others_stay region state step move party (wins other call is same) by = other_set state other party _ by
+others_stay region state step move party (loses other call is apart fit) by = other_set state other party _ by
+others_stay region state step move party (refuses_loss other call is apart fit) by = other_set state other party _ by
+others_stay region state step move party _ by = refl
 
 -- what is written to a party's place is then there
 pub written : (state : BumpState) (other party : ℕ) (was now : Option OngoingCall) → (other == party) ≡ true →
@@ -126,13 +120,6 @@ pub written : (state : BumpState) (other party : ℕ) (was now : Option OngoingC
 written state other party was now by is =
     ap (slice_get (slice_set state.calls other now)) (sym (same_from_test other party by))
     ∙ slice_get-set_same state.calls other now was is
-
--- the call of a party whose place was written
-pub call_written : (state : BumpState) (other party : ℕ) (was now : Option OngoingCall) (call : OngoingCall) →
-    (other == party) ≡ true → slice_get state.calls other ≡ Some was →
-    slice_get (slice_set state.calls other now) party ≡ Some (Some call) → now ≡ Some call
-call_written state other party was now call by is in_call =
-    same_Some now (Some call) (sym (written state other party was now by is) ∙ in_call)
 
 -- a party isn't both idle and in a call
 pub idle_or_in_call : (state : BumpState) (other party : ℕ) (call : OngoingCall) → (other == party) ≡ true → IsIdle state other →
@@ -159,37 +146,33 @@ in_call_or_idle state other party call by is idle =
 
 -- CALLS THAT FIT
 
--- what is written fits, and so each call fits afterwards
-pub all_fitting-set : (region : Region) (state : BumpState) (position party : ℕ) (now : Option OngoingCall) →
-    AllFitting region state → IfSome now (IsFitting region) →
-    AllFitting region (record { position = position; calls = slice_set state.calls party now })
-all_fitting-set region state position party None old new = λ other call is.
-    elim (slice_get-set state.calls party other None (Some call) is) [
-      | inl before ↦ old other call before
-      | inr now ↦ let none : None ≡ Some call = now.1 in absurd (cc)
-    ]
-all_fitting-set region state position party (Some written) old new = λ other call is.
-    elim (slice_get-set state.calls party other (Some written) (Some call) is) [
-      | inl before ↦ old other call before
-      | inr now ↦ subst (IsFitting region) (same_Some written call now.1) new
+-- a fact of each call that a party may be in holds of it afterwards, where it holds of what is written
+pub each_call-set : (P : OngoingCall → Type 0) (calls : List (Option OngoingCall)) (party other : ℕ) (now : Option OngoingCall) →
+    ((call : OngoingCall) → slice_get calls other ≡ Some (Some call) → P call) → IfSome now P →
+    (call : OngoingCall) → slice_get (slice_set calls party now) other ≡ Some (Some call) → P call
+each_call-set P calls party other None old new call is = elim (slice_get-set calls party other None (Some call) is) [
+  | inl before ↦ old call before
+  | inr now ↦ let none : None ≡ Some call = now.1 in absurd (cc)
+]
+each_call-set P calls party other (Some written) old new call is =
+    elim (slice_get-set calls party other (Some written) (Some call) is) [
+      | inl before ↦ old call before
+      | inr now ↦ subst P (same_Some written call now.1) new
     ]
 
 -- each call fits after a step
 pub all_fitting-step : (region : Region) (state : BumpState) (step : BumpStep) (move : BumpMove) →
-    StepView region state step move →
-    AllFitting region state → AllFitting region move.state
-all_fitting-step region state step move (sees party layout idle asks fit) old =
-    all_fitting-set region state state.position party (Some (record { layout = layout; seen = state.position })) old
+    StepView region state step move → AllFitting region state → AllFitting region move.state
+all_fitting-step region state step move (sees party layout idle asks fit) old = λ other.
+    each_call-set (IsFitting region) state.calls party other (Some (record { layout = layout; seen = state.position })) (old other)
     (record { asks = asks; fitting = fit })
-all_fitting-step region state step move (refuses_read party layout idle asks fit) old =
-    all_fitting-set region state state.position party None old tt
-all_fitting-step region state step move (wins party call is same) old =
-    all_fitting-set region state (position_behind region (chunk_at region state.position call.layout)) party None old tt
-all_fitting-step region state step move (loses party call is apart fit) old =
-    all_fitting-set region state state.position party (Some (record { layout = call.layout; seen = state.position })) old
-    (record { asks = (old party call is).asks; fitting = fit })
-all_fitting-step region state step move (refuses_loss party call is apart fit) old =
-    all_fitting-set region state state.position party None old tt
-all_fitting-step region state step move (loads party idle) old = old
-all_fitting-step region state step move clears old = old
-all_fitting-step region state step move (passes other) old = old
+all_fitting-step region state step move (refuses_read party layout idle asks fit) old = λ other.
+    each_call-set (IsFitting region) state.calls party other None (old other) tt
+all_fitting-step region state step move (wins party call is same) old = λ other.
+    each_call-set (IsFitting region) state.calls party other None (old other) tt
+all_fitting-step region state step move (loses party call is apart fit) old = λ other.
+    each_call-set (IsFitting region) state.calls party other (Some (record { layout = call.layout; seen = state.position }))
+    (old other) (record { asks = (old party call is).asks; fitting = fit })
+all_fitting-step region state step move (refuses_loss party call is apart fit) old = λ other.
+    each_call-set (IsFitting region) state.calls party other None (old other) tt
+all_fitting-step region state step move _ old = old

@@ -5,13 +5,12 @@ use Rattle.bb_memory_base.specs.LiveList.{IsSound}
 use Rattle.bb_memory_base.specs.BumpObject.{end_of_last, StandsFor}
 use Rattle.bb_memory_base.specs.BumpMachine.{BumpState, BumpMove, BumpScene, AllFitting, chunk_at, opening_state, bump_step}
 use Rattle.bb_memory_base.specs.BumpMachine.{bump_after, left_by, BumpStep, Read, Exchange, Load, Clear, Wins, RefusedAtLoss}
-use Rattle.bb_memory_base.specs.BumpHistory.{bump_history, history_of, stretch_after, HasNoClear, won_at, chunks_won}
-use Rattle.bb_memory_base.specs.BumpCalls.{asked_by, bump_calls, decided, layout_in, left_by_calls, live_after}
+use Rattle.bb_memory_base.specs.BumpHistory.{bump_history, HasNoClear, won_at, chunks_won}
+use Rattle.bb_memory_base.specs.BumpCalls.{asked_by, bump_calls, decided, layout_in, left_by_calls}
 use Rattle.bb_memory_base.proofs.LiveLists.{end_of_last-above, end_of_last-append, in_order-rest}
 use Rattle.bb_memory_base.proofs.LiveLists.{sound_from_order, stands_for_some, StandsFor-end, StandsFor-within}
-use Rattle.bb_memory_base.proofs.BumpSteps.{StepView, step_view, sees, refuses_read, wins, loses}
-use Rattle.bb_memory_base.proofs.BumpSteps.{refuses_loss, loads, clears, passes, all_fitting-step}
-use Rattle.bb_memory_base.proofs.BumpRuns.{StandsFor-won, chunk_at-above, fits_when_seen, calls_stand}
+use Rattle.bb_memory_base.proofs.BumpSteps.{StepView, step_view, wins, refuses_loss, clears}
+use Rattle.bb_memory_base.proofs.BumpRuns.{chunk_at-above, calls_stand, steps_make}
 use Rattle.bb_memory_base.proofs.BumpRuns.{fitting_after, fitting_at_opening, left_by_calls-append}
 
 abbrev pub IsClear : BumpStep → Type 0
@@ -43,55 +42,24 @@ healthy_after scene steps within =
 
 -- ONE STEP
 
--- the list grows by what is won
-step_stands : (region : Region) (state : BumpState) (live : List Chunk) (step : BumpStep) (move : BumpMove) →
-    StepView region state step move →
-    ¬ IsClear step → StandsFor region state.position live → AllFitting region state →
-    StandsFor region move.state.position (live ++ won_at move.outcome)
-step_stands region state live step move (sees party layout idle asks fit) not stands fitting =
-    subst (StandsFor region state.position) (sym (append-nil live)) stands
-step_stands region state live step move (refuses_read party layout idle asks fit) not stands fitting =
-    subst (StandsFor region state.position) (sym (append-nil live)) stands
-step_stands region state live step move (wins party call is same) not stands fitting =
-    StandsFor-won region state.position live call.layout stands
-    (fits_when_seen region state call same (fitting party call is).fitting)
-step_stands region state live step move (loses party call is apart fit) not stands fitting =
-    subst (StandsFor region state.position) (sym (append-nil live)) stands
-step_stands region state live step move (refuses_loss party call is apart fit) not stands fitting =
-    subst (StandsFor region state.position) (sym (append-nil live)) stands
-step_stands region state live step move (loads party idle) not stands fitting =
-    subst (StandsFor region state.position) (sym (append-nil live)) stands
-step_stands region state live step move clears not stands fitting = absurd (not tt)
-step_stands region state live step move (passes other) not stands fitting =
-    subst (StandsFor region state.position) (sym (append-nil live)) stands
-
--- so does the object's list, whatever it is
+-- the object's list grows by what is won, whatever it is
 step_grows : (region : Region) (state : BumpState) (live : List Chunk) (step : BumpStep) (move : BumpMove) →
     StepView region state step move → ¬ IsClear step →
     left_by_calls live (decided move.outcome (asked_by state step)) ≡ live ++ won_at move.outcome
-step_grows region state live step move (sees party layout idle asks fit) not = sym (append-nil live)
-step_grows region state live step move (refuses_read party layout idle asks fit) not = sym (append-nil live)
 step_grows region state live step move (wins party call is same) not =
     ap (λ now. left_by_calls live (decided (Wins (chunk_at region state.position call.layout)) (layout_in now))) is
-step_grows region state live step move (loses party call is apart fit) not = sym (append-nil live)
 step_grows region state live step move (refuses_loss party call is apart fit) not =
     ap (λ now. left_by_calls live (decided (RefusedAtLoss state.position) (layout_in now))) is ∙ sym (append-nil live)
-step_grows region state live step move (loads party idle) not = sym (append-nil live)
 step_grows region state live step move clears not = absurd (not tt)
-step_grows region state live step move (passes other) not = sym (append-nil live)
+step_grows region state live step move _ not = sym (append-nil live)
 
 -- the position doesn't fall
 pub position_rises : (region : Region) (state : BumpState) (step : BumpStep) (move : BumpMove) → StepView region state step move →
     ¬ IsClear step → state.position ≤ move.state.position
-position_rises region state step move (sees party layout idle asks fit) not = omega arith
-position_rises region state step move (refuses_read party layout idle asks fit) not = omega arith
 position_rises region state step move (wins party call is same) not =
     omega (arith, chunk_at-above region state.position call.layout)
-position_rises region state step move (loses party call is apart fit) not = omega arith
-position_rises region state step move (refuses_loss party call is apart fit) not = omega arith
-position_rises region state step move (loads party idle) not = omega arith
 position_rises region state step move clears not = absurd (not tt)
-position_rises region state step move (passes other) not = omega arith
+position_rises region state step move _ not = omega arith
 
 -- OVER A STRETCH
 
@@ -107,21 +75,6 @@ stretch_rises region state (step ∷ steps) none =
       stretch_rises region move.state steps parts.1,
     )
 
-pub stretch_stands : (region : Region) (state : BumpState) (live : List Chunk) (steps : List BumpStep) → HasNoClear steps →
-    StandsFor region state.position live → AllFitting region state →
-    StandsFor region (bump_after region state steps).position (live ++ chunks_won (bump_history region state steps))
-stretch_stands region state live [] none stands fitting = subst (StandsFor region state.position) (sym (append-nil live)) stands
-stretch_stands region state live (step ∷ steps) none stands fitting =
-    let parts = not_clear step steps none in
-    let move = bump_step region state step in
-    let view = step_view region state step in
-    let won = won_at move.outcome in
-    let rest = stretch_stands region move.state (live ++ won) steps parts.1
-    (step_stands region state live step move view parts.0 stands fitting)
-    (all_fitting-step region state step move view fitting) in
-    subst (StandsFor region (bump_after region move.state steps).position)
-    (append_assoc live won (chunks_won (bump_history region move.state steps))) rest
-
 pub stretch_grows : (region : Region) (state : BumpState) (live : List Chunk) (steps : List BumpStep) → HasNoClear steps →
     left_by_calls live (bump_calls region state steps) ≡ live ++ chunks_won (bump_history region state steps)
 stretch_grows region state live [] none = sym (append-nil live)
@@ -135,12 +88,16 @@ stretch_grows region state live (step ∷ steps) none =
     ∙ ap (λ (list : List Chunk). list ++ later) (step_grows region state live step move (step_view region state step) parts.0)
     ∙ append_assoc live (won_at move.outcome) later
 
-pub live_grows : (scene : BumpScene) (live : List Chunk) (steps : List BumpStep) → HasNoClear steps →
-    live_after scene live steps ≡ live ++ chunks_won (history_of scene steps)
-live_grows scene live steps = stretch_grows scene.region (opening_state scene) live steps
+-- a position that stands for a list then stands for it with the chunks won behind it
+pub stretch_stands : (region : Region) (state : BumpState) (live : List Chunk) (steps : List BumpStep) → HasNoClear steps →
+    StandsFor region state.position live → AllFitting region state →
+    StandsFor region (bump_after region state steps).position (live ++ chunks_won (bump_history region state steps))
+stretch_stands region state live steps none stands fitting =
+    subst (StandsFor region (bump_after region state steps).position) (stretch_grows region state live steps none)
+    (steps_make region state live steps stands fitting).stands
 
 -- the chunks won from a healthy state on are a sound list
-sound_from : (region : Region) (state : BumpState) (steps : List BumpStep) → IsHealthy region state → HasNoClear steps →
+pub sound_from : (region : Region) (state : BumpState) (steps : List BumpStep) → IsHealthy region state → HasNoClear steps →
     IsSound region (chunks_won (bump_history region state steps))
 sound_from region state steps healthy none =
     let live = healthy.live in
@@ -156,8 +113,3 @@ sound_from region state steps healthy none =
       StandsFor-end region position (live ++ won) after,
       StandsFor-within region position (live ++ won) after,
     ))
-
-pub won_sound : (scene : BumpScene) (before stretch : List BumpStep) → scene.opening ≤ scene.region.size → HasNoClear stretch →
-    IsSound scene.region (chunks_won (stretch_after scene before stretch))
-won_sound scene before stretch within none =
-    sound_from scene.region (left_by scene before) stretch (healthy_after scene before within) none

@@ -1,34 +1,27 @@
 -- What the logs of all parties say of the position, and what a log says of where its own chunks end.
-use Rattle.std.proofs.Common.{◌≡◌, ℕ, ◌+◌, ◌<◌, ◌≤◌, List, [], ◌∷◌, ◌++◌, length, refl, sym, ap}
+use Rattle.std.proofs.Common.{◌≡◌, ℕ, ◌+◌, ◌<◌, ◌≤◌, List, [], ◌∷◌, ◌++◌, length, sym}
 use Rattle.std.proofs.Common.{subst, arith, Bool, true, false, Option, Some, None}
-use Rattle.std.specs.Prelude.{if◌then◌else◌, is_some, IfSome, slice_get}
+use Rattle.std.specs.Prelude.{if◌then◌else◌, IfSome}
 use Rattle.std.specs.List.{All, AllByRecursion}
 use Rattle.std.proofs.lemmas.List.{length-replicate}
 use Rattle.std.proofs.lemmas.List.Elements.{All-from_recursion}
 use Rattle.bb_memory_base.specs.Chunk.{Region, Chunk, chunk_end}
-use Rattle.bb_memory_base.specs.BumpMachine.{OngoingCall, BumpState, BumpMove, BumpScene, opening_state, bump_step, bump_after}
-use Rattle.bb_memory_base.specs.BumpMachine.{BumpStep, BumpOutcome, Sees, RefusedAtRead, Wins, Loses, RefusedAtLoss, Loaded}
-use Rattle.bb_memory_base.specs.BumpMachine.{Cleared, Passed}
+use Rattle.bb_memory_base.specs.BumpMachine.{BumpState, BumpScene, opening_state, bump_step, bump_after}
+use Rattle.bb_memory_base.specs.BumpMachine.{BumpStep, BumpOutcome, Wins}
 use Rattle.bb_memory_base.specs.BumpHistory.{BumpEntry, BumpLog, entry_at, bump_history, is_by, entries_by, won_at}
 use Rattle.bb_memory_base.specs.BumpHistory.{chunks_won, log_of}
-use Rattle.bb_memory_base.specs.BumpLogs.{IsAllowed, AllAllowed, HasLog, LogsAgree}
+use Rattle.bb_memory_base.specs.BumpLogs.{AllAllowed, HasLog, LogsAgree}
 use Rattle.bb_memory_base.specs.BumpLogs.{HasPositionUpTo, position_in, greater_of, greatest_in, seen_in}
-use Rattle.bb_memory_base.proofs.SliceGets.{slice_get-some}
-use Rattle.bb_memory_base.proofs.BumpSteps.{test_same, StepView, step_view, sees, refuses_read}
-use Rattle.bb_memory_base.proofs.BumpSteps.{wins, loses, refuses_loss, loads, clears, passes}
+use Rattle.bb_memory_base.proofs.BumpSteps.{step_view}
+pub use Rattle.bb_memory_base.proofs.BumpAllowed.{owner_of}
 use Rattle.bb_memory_base.proofs.BumpAllowed.{first_allowed, rest_allowed, parties_stay}
-use Rattle.bb_memory_base.proofs.BumpPositions.{step_leaves}
+use Rattle.bb_memory_base.proofs.BumpPositions.{step_leaves, below_greater, greater_below}
 
 -- WHAT A LOG HAS SEEN
 
 pub greater_of-above : (seen : ℕ) (found : Option ℕ) → seen ≤ greater_of seen found
 greater_of-above seen None = omega arith
 greater_of-above seen (Some position) = omega arith
-
-greater_of-found : (seen bound : ℕ) (found : Option ℕ) → greater_of seen found ≤ bound →
-    IfSome found (λ position. position ≤ bound)
-greater_of-found seen bound None below = tt
-greater_of-found seen bound (Some position) below = omega arith
 
 greatest_in-above : (region : Region) (seen : ℕ) (log : BumpLog) → seen ≤ greatest_in region seen log
 greatest_in-above region seen [] = omega arith
@@ -46,7 +39,7 @@ pub up_to_greatest : (region : Region) (seen bound : ℕ) (log : BumpLog) → gr
 up_to_greatest region seen bound [] below = tt
 up_to_greatest region seen bound (entry ∷ log) below =
     let found = position_in region entry.outcome in (
-      greater_of-found seen bound found (omega (arith, greatest_in-above region (greater_of seen found) log, below)),
+      below_greater seen bound found (omega (arith, greatest_in-above region (greater_of seen found) log, below)),
       up_to_greatest region (greater_of seen found) bound log below,
     )
 
@@ -55,13 +48,7 @@ won_up_to : (region : Region) (bound : ℕ) (outcome : BumpOutcome) (rest : List
     AllByRecursion (λ (chunk : Chunk). chunk_end chunk ≤ region.start + bound) rest →
     AllByRecursion (λ (chunk : Chunk). chunk_end chunk ≤ region.start + bound) (won_at outcome ++ rest)
 won_up_to region bound (Wins chunk) rest here more = (omega (arith, here), more)
-won_up_to region bound (Sees position) rest here more = more
-won_up_to region bound (RefusedAtRead position) rest here more = more
-won_up_to region bound (Loses position) rest here more = more
-won_up_to region bound (RefusedAtLoss position) rest here more = more
-won_up_to region bound (Loaded position) rest here more = more
-won_up_to region bound Cleared rest here more = more
-won_up_to region bound Passed rest here more = more
+won_up_to region bound _ rest here more = more
 
 chunks_up_to : (region : Region) (bound : ℕ) (log : BumpLog) → AllByRecursion (HasPositionUpTo bound region) log →
     AllByRecursion (λ (chunk : Chunk). chunk_end chunk ≤ region.start + bound) (chunks_won log)
@@ -78,33 +65,6 @@ ends_by scene log bound below =
 
 -- ALL LOGS
 
--- an allowed step is that of a party that is there
-pub record HasOwner (state : BumpState) (step : BumpStep) : Type 0 where
-  pub party : ℕ
-  pub there : party < length state.calls
-  pub own : is_by party step ≡ true
-
-owned : (state : BumpState) (step : BumpStep) (party : ℕ) (now : Option OngoingCall) →
-    slice_get state.calls party ≡ Some now → is_by party step ≡ true → HasOwner state step
-owned state step party now at own =
-    record { party = party; there = slice_get-some state.calls party (ap is_some at); own = own }
-
-pub owner_of : (region : Region) (state : BumpState) (step : BumpStep) (move : BumpMove) → StepView region state step move →
-    IsAllowed move.outcome → HasOwner state step
-owner_of region state step move (sees party layout idle asks fit) allowed =
-    owned state step party None idle (test_same party party refl)
-owner_of region state step move (refuses_read party layout idle asks fit) allowed =
-    owned state step party None idle (test_same party party refl)
-owner_of region state step move (wins party call is same) allowed =
-    owned state step party (Some call) is (test_same party party refl)
-owner_of region state step move (loses party call is apart fit) allowed =
-    owned state step party (Some call) is (test_same party party refl)
-owner_of region state step move (refuses_loss party call is apart fit) allowed =
-    owned state step party (Some call) is (test_same party party refl)
-owner_of region state step move (loads party idle) allowed = owned state step party None idle (test_same party party refl)
-owner_of region state step move clears allowed = absurd allowed
-owner_of region state step move (passes other) allowed = absurd allowed
-
 first_own : (P : BumpEntry → Type 0) (own : Bool) (entry : BumpEntry) (log : BumpLog) → own ≡ true →
     AllByRecursion P (if own then entry ∷ log else log) → P entry
 first_own P true entry log is all = all.0
@@ -114,11 +74,6 @@ rest_own : (P : BumpEntry → Type 0) (own : Bool) (entry : BumpEntry) (log : Bu
     AllByRecursion P (if own then entry ∷ log else log) → AllByRecursion P log
 rest_own P true entry log all = all.1
 rest_own P false entry log all = all
-
-next_below : (state : ℕ) (bound : ℕ) (found : Option ℕ) → state ≤ bound → IfSome found (λ position. position ≤ bound) →
-    greater_of state found ≤ bound
-next_below state bound None below found_below = below
-next_below state bound (Some position) below found_below = omega arith
 
 -- where no log of a party that is there has a greater position, none is left
 stays_below : (region : Region) (state : BumpState) (steps : List BumpStep) (bound : ℕ) →
@@ -138,7 +93,7 @@ stays_below region state (step ∷ steps) bound allowed below logs =
     let found = first_own (HasPositionUpTo bound region) (is_by owner.party step) entry (entries_by owner.party later) owner.own
     (logs owner.party owner.there) in
     let leaves = step_leaves region state step move view here in
-    let next = next_below state.position bound (position_in region move.outcome) below found in
+    let next = greater_below state.position bound (position_in region move.outcome) below found in
     stays_below region move.state steps bound rest (omega (arith, leaves, next))
     (λ party there. rest_own (HasPositionUpTo bound region) (is_by party step) entry (entries_by party later)
     (logs party (omega (arith, there, parties_stay region state step move view))))

@@ -52,8 +52,7 @@ module _ {X : Type 0} (group measure : X → ℕ) where
   abbrev without : X → List ℕ → List ℕ
   without x sums = less sums (group x) (measure x)
 
-  left : (x : X) (sums : List ℕ) (number : ℕ) →
-      get_or (without x sums) number 0 ≡ get_or sums number 0 - share number x
+  left : (x : X) (sums : List ℕ) (number : ℕ) → get_or (without x sums) number 0 ≡ get_or sums number 0 - share number x
   left x sums number = ⊎_elim
       (λ same. subst (λ k. get_or (without x sums) k 0 ≡ get_or sums k 0 - share k x) same
       (less-there sums (group x) (measure x) ∙ ap (λ n. get_or sums (group x) 0 - n) (sym (own x))))
@@ -78,8 +77,7 @@ module _ {X : Type 0} (group measure : X → ℕ) where
       sum_by measure xs ≡ sum sums
   together [] sums all = zeros sums all
   together (x ∷ xs) sums all =
-      let below : measure x ≤ get_or sums (group x) 0 =
-      omega (arith, own x, all (group x), sum_by-cons (share (group x)) x xs) in
+      let below : measure x ≤ get_or sums (group x) 0 = omega (arith, own x, all (group x), sum_by-cons (share (group x)) x xs) in
       let rest = together xs (without x sums)
       (λ number. omega (arith, left x sums number, all number, sum_by-cons (share number) x xs)) in
       omega (arith, rest, less-sum sums (group x) (measure x) below, sum_by-cons measure x xs)

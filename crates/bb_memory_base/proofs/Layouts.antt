@@ -1,5 +1,5 @@
 -- Which layouts there are.
-use Rattle.std.proofs.Common.{◌≡◌, ℕ, suc, ◌+◌, ◌-◌, ◌*◌, ◌/◌, ◌%◌, ◌^◌, ◌<◌, ◌≤◌, ◌↔◌, arith, refl, sym, ap, ◌∙◌, inl, inr}
+use Rattle.std.proofs.Common.{◌≡◌, ℕ, suc, ◌+◌, ◌-◌, ◌*◌, ◌/◌, ◌%◌, ◌^◌, ◌<◌, ◌≤◌, ◌↔◌, ⊎_elim, arith, refl, sym, ap, ◌∙◌, inl, inr}
 use Rattle.std.proofs.Common.{div-add-mod', pow_pos, pow_mono, pow-add, pow-suc}
 use Rattle.std.proofs.Math.Nat.{mul_assoc}
 use Rattle.std.proofs.lemmas.Bool.{cases_lt}
@@ -10,6 +10,7 @@ use Rattle.std.specs.Int.{IsPowerOfTwo}
 use mathlib.Core.HLevel.{is_prop→PathP}
 use Rattle.bb_memory_base.specs.LeastPlace.{least_place}
 use Rattle.bb_memory_base.specs.Chunk.{Layout}
+use Rattle.bb_memory_base.specs.UsualLayout.{IsUsual}
 use Rattle.bb_memory_base.proofs.PowersOfTwo.{power_of_two-from_test, power_of_two-test, power_of_two-positive}
 
 -- a layout is a power of two, and a size that is small enough once it is rounded up to that
@@ -26,13 +27,12 @@ layout-plain size align = (
 
 -- of two powers of two the lower one divides the higher one
 power-divides : (low high : ℕ) → IsPowerOfTwo low → IsPowerOfTwo high → low ≤ high → (k : ℕ) × (high ≡ k * low)
-power-divides low high p q le =
-    elim (cases_lt q.0 p.0) [
-      | inl below ↦ absurd (omega (arith, p.1, q.1, pow_pos q.0, pow-suc 2 q.0, pow_mono {i = suc q.0} {j = p.0} (omega arith)))
-      | inr above ↦
-          let parts : q.0 ≡ (q.0 - p.0) + p.0 = omega arith in
-          (2 ^ (q.0 - p.0), q.1 ∙ ap (λ j. 2 ^ j) parts ∙ pow-add 2 (q.0 - p.0) p.0 ∙ ap (λ m. 2 ^ (q.0 - p.0) * m) (sym p.1))
-    ]
+power-divides low high p q le = elim (cases_lt q.0 p.0) [
+  | inl below ↦ absurd (omega (arith, p.1, q.1, pow_pos q.0, pow-suc 2 q.0, pow_mono {i = suc q.0} {j = p.0} (omega arith)))
+  | inr above ↦
+      let parts : q.0 ≡ (q.0 - p.0) + p.0 = omega arith in
+      (2 ^ (q.0 - p.0), q.1 ∙ ap (λ j. 2 ^ j) parts ∙ pow-add 2 (q.0 - p.0) p.0 ∙ ap (λ m. 2 ^ (q.0 - p.0) * m) (sym p.1))
+]
 
 -- a multiple of an alignment is one of each smaller alignment
 pub multiple : (place : ℕ) (layout wider : Layout) → layout.align ≤ wider.align → place % wider.align ≡ 0 →
@@ -63,3 +63,30 @@ same_layout a b size align = λ i. record {
   align = align i;
   valid = is_prop→PathP (λ j. IsLayout (size j) (align j)) (λ j. hlevel props) a.valid b.valid i;
 }
+
+-- USUAL LAYOUTS
+
+usual-at : (size align k : ℕ) → size ≤ 2 ^ 62 → 0 < align → align ≤ 4096 → align ≡ 2 ^ k → IsLayout size align
+usual-at size align k small positive low power = record {
+  power_of_two = power_of_two-test align (k, power);
+  positive = positive;
+  fits = omega arith;
+}
+
+-- usual layouts are accepted
+pub usual-accepted : (size align : ℕ) → IsUsual size align → IsLayout size align
+usual-accepted size align usual =
+    let small = usual.small in
+    ⊎_elim (λ e. usual-at size align 0 small (omega (arith, e)) (omega (arith, e)) e)
+    (⊎_elim (λ e. usual-at size align 1 small (omega (arith, e)) (omega (arith, e)) e)
+    (⊎_elim (λ e. usual-at size align 2 small (omega (arith, e)) (omega (arith, e)) e)
+    (⊎_elim (λ e. usual-at size align 3 small (omega (arith, e)) (omega (arith, e)) e)
+    (⊎_elim (λ e. usual-at size align 4 small (omega (arith, e)) (omega (arith, e)) e)
+    (⊎_elim (λ e. usual-at size align 5 small (omega (arith, e)) (omega (arith, e)) e)
+    (⊎_elim (λ e. usual-at size align 6 small (omega (arith, e)) (omega (arith, e)) e)
+    (⊎_elim (λ e. usual-at size align 7 small (omega (arith, e)) (omega (arith, e)) e)
+    (⊎_elim (λ e. usual-at size align 8 small (omega (arith, e)) (omega (arith, e)) e)
+    (⊎_elim (λ e. usual-at size align 9 small (omega (arith, e)) (omega (arith, e)) e)
+    (⊎_elim (λ e. usual-at size align 10 small (omega (arith, e)) (omega (arith, e)) e)
+    (⊎_elim (λ e. usual-at size align 11 small (omega (arith, e)) (omega (arith, e)) e)
+    (λ e. usual-at size align 12 small (omega (arith, e)) (omega (arith, e)) e)))))))))))) usual.power

@@ -10,12 +10,12 @@ pub mod BumpRuns
 pub mod BumpSteps
 pub mod BumpStretches
 pub mod BumpWholes
-pub mod FirstPositions
 pub mod GroupSums
 pub mod Layouts
 pub mod LeastPlaces
 pub mod LiveBytes
 pub mod LiveLists
+pub mod Logs
 pub mod OwnChunks
 pub mod PoolFlags
 pub mod PoolGeometries
@@ -23,7 +23,6 @@ pub mod PoolHolders
 pub mod PoolLists
 pub mod PoolLogEntries
 pub mod PoolLogFacts
-pub mod PoolLogRuns
 pub mod PoolLogSteps
 pub mod PoolPasses
 pub mod PoolRuns
@@ -34,6 +33,4 @@ pub mod PowersOfTwo
 pub mod Runs
 pub mod SliceGets
 pub mod SliceSets
-pub mod SplitBytes
-pub mod UsualLayouts
 mod Written

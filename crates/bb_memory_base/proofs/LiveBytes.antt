@@ -47,8 +47,7 @@ set_here f g (c ∷ cs) zero chunk bytes at is others =
     ap (λ x. x ∷ map f cs) (ap f first ∙ is)
     ∙ ap (λ l. bytes ∷ l) (map_same f g cs (λ k d there. others (suc k) d (λ no. omega (arith, no)) there))
 set_here f g (c ∷ cs) (suc i) chunk bytes at is others =
-    ap (λ x. x ∷ map f cs) (others zero c (λ no. omega (arith, no)) refl)
-    ∙ ap (λ l. g c ∷ l)
+    ap (λ x. x ∷ map f cs) (others zero c (λ no. omega (arith, no)) refl) ∙ ap (λ l. g c ∷ l)
     (set_here f g cs i chunk bytes at is (λ k d differ there. others (suc k) d (λ same. differ (omega (arith, same))) there))
 
 -- each other chunk of the list keeps its bytes

@@ -50,8 +50,7 @@ all_end_by v w live ordered end = All-from_recursion (λ chunk. chunk_end chunk 
 all_apart : (one : Chunk) (live : List Chunk) →
     AllByRecursion (λ chunk. chunk_end one ≤ chunk.place) live → AllByRecursion (AreApart one) live
 all_apart one [] above = tt
-all_apart one (chunk ∷ live) (here, rest) =
-    ((λ shared. omega (arith, shared.1.1, shared.2.0, here)), all_apart one live rest)
+all_apart one (chunk ∷ live) (here, rest) = ((λ shared. omega (arith, shared.1.1, shared.2.0, here)), all_apart one live rest)
 
 pub apart_from_order : (v : ℕ) (live : List Chunk) → IsInOrder v live → AllPairs AreApart live
 apart_from_order v [] ordered = λ i j d before within. absurd (omega arith)
@@ -81,8 +80,7 @@ sound_from_order region v live le ordered end = record {
 -- where the list ends is what is used, from the region's start on
 pub StandsFor-end : (region : Region) (position : ℕ) (live : List Chunk) → StandsFor region position live →
     region.start + position ≡ end_of_last region.start live
-StandsFor-end region position live stands =
-    omega (arith, stands.used, end_of_last-above region.start live stands.in_order)
+StandsFor-end region position live stands = omega (arith, stands.used, end_of_last-above region.start live stands.in_order)
 
 -- chunks inside a region end inside it
 end_of_last-within : (region : Region) (v : ℕ) (live : List Chunk) → v ≤ region_end region →

@@ -9,14 +9,13 @@ use Rattle.bb_memory_base.specs.BumpObject.{end_of_last, IsInOrder, StandsFor}
 use Rattle.bb_memory_base.specs.BumpMachine.{BumpScene, left_by, opening_state, BumpStep}
 use Rattle.bb_memory_base.specs.BumpCalls.{OpensWith, live_after}
 use Rattle.bb_memory_base.specs.BumpHistory.{BumpEntry, BumpLog, history_of, is_by, entries_by, won_at, chunks_won}
-use Rattle.bb_memory_base.specs.BumpLogs.{AllAllowed, HasLog, Interleaving, LogsAgree}
+use Rattle.bb_memory_base.specs.BumpLogs.{AllAllowed, Interleaving, LogsAgree}
 use Rattle.bb_memory_base.proofs.LiveLists.{all_above, apart_from_order, end_of_last-above, in_order-append}
 use Rattle.bb_memory_base.proofs.LiveLists.{in_order-front, in_order-rest, stands_for_some}
 use Rattle.bb_memory_base.proofs.BumpMeetings.{all_in_log, all_map, all_rest, apart_behind, in_order-below}
 use Rattle.bb_memory_base.proofs.BumpRuns.{fitting_at_opening}
 use Rattle.bb_memory_base.proofs.BumpStretches.{stretch_grows, stretch_stands}
 use Rattle.bb_memory_base.proofs.BumpAllowed.{no_clear_when_allowed}
-use Rattle.bb_memory_base.proofs.BumpPositions.{interleaved}
 
 in_order_lower : (v w : ℕ) (xs : List Chunk) → v ≤ w → IsInOrder w xs → IsInOrder v xs
 in_order_lower v w [] le ordered = tt
@@ -97,18 +96,6 @@ pub interleaved_since : (scene : BumpScene) (position party : ℕ) (log : BumpLo
 interleaved_since scene position party log live own = allowed_grow scene live own.steps own.allowed
 
 -- LOGS THAT AGREE
-
-pub own_sound : (scene : BumpScene) (position : ℕ) (logs : List BumpLog) (party : ℕ) (log : BumpLog) →
-    scene.opening ≤ scene.region.size → LogsAgree scene position logs → HasLog logs party log →
-    IsSound scene.region (chunks_won log)
-own_sound scene position logs party log within agree own =
-    interleaved_own scene position party log within (interleaved scene position logs party log agree own)
-
-pub older_apart : (scene : BumpScene) (position : ℕ) (logs : List BumpLog) (party : ℕ) (log : BumpLog) (live : List Chunk) →
-    OpensWith scene live → LogsAgree scene position logs → HasLog logs party log →
-    All (λ older. All (AreApart older) (chunks_won log)) live
-older_apart scene position logs party log live opens agree own =
-    interleaved_older scene position party log live opens (interleaved scene position logs party log agree own)
 
 pub agreed_since : (scene : BumpScene) (position : ℕ) (logs : List BumpLog) (live : List Chunk)
     (agree : LogsAgree scene position logs) →

@@ -10,8 +10,7 @@ use Rattle.bb_memory_base.specs.PoolMachine.{pool_after, opening_state, left_by,
 use Rattle.bb_memory_base.specs.PoolHistory.{PoolEntry, PoolLog, entry_of, history_of, pool_history}
 use Rattle.bb_memory_base.specs.PoolLogs.{WasDetached}
 use Rattle.bb_memory_base.proofs.SliceSets.{slice_get-set_other, slice_get-set_same}
-use Rattle.bb_memory_base.proofs.PoolSteps.{StepKind, takes, takes_at, loses, is_refused, gives, misses, passes}
-use Rattle.bb_memory_base.proofs.PoolSteps.{detaches, attaches, calls-step, kind_of}
+use Rattle.bb_memory_base.proofs.PoolSteps.{StepKind, takes, takes_at, gives, detaches, attaches, calls-step, kind_of}
 
 -- at the opening no flag is taken
 free_at_opening : (n bucket : ℕ) (flag : Flag) → slice_get (replicate n Free) bucket ≡ Some flag → flag ≡ Free
@@ -70,10 +69,7 @@ detached_step state step move bucket (detaches other at taken others) now = elim
 ]
 detached_step state step move bucket (attaches other at idle detached) now =
     inl (detached_set state at bucket Detached (HeldBy other) detached (somebody other) now)
-detached_step state step move bucket (loses other at next taken more) now = inl now
-detached_step state step move bucket (is_refused other at next taken last) now = inl now
-detached_step state step move bucket (misses other at idle taken) now = inl now
-detached_step state step move bucket (passes other) now = inl now
+detached_step state step move bucket _ now = inl now
 
 -- WHERE THERE IS NO OTHER PARTY
 

@@ -1,7 +1,6 @@
 -- A pool's flags, and which of them are taken.
 use Rattle.std.proofs.Common.{◌≡◌, ℕ, zero, suc, ◌<◌, length, List, [], ◌∷◌, map, refl, sym, ap, ◌∙◌, Bool, true, false, Option}
-use Rattle.std.proofs.Common.{Some, None}
-use Rattle.std.proofs.Common.{inl, inr}
+use Rattle.std.proofs.Common.{Some, None, inl, inr}
 use Rattle.std.specs.Prelude.{◌⊎◌, slice_get, slice_set}
 use Rattle.std.proofs.lemmas.Option.{same_Some, slice_get_within}
 use Rattle.bb_memory_base.specs.PoolMachine.{PoolState, IsFlag, IsTaken, Flag, Free, HeldBy, Detached}
@@ -52,11 +51,10 @@ taken_from_flag state flags bucket same taken =
 -- and the other way round
 pub flag_from_taken : (state : PoolState) (flags : List Bool) (bucket : ℕ) → taken_flags state ≡ flags →
     IsTaken state bucket → slice_get flags bucket ≡ Some true
-flag_from_taken state flags bucket same taken =
-    ap (λ (f : List Bool). slice_get f bucket) (sym same) ∙ elim taken [
-      | inl held ↦ shown (HeldBy held.0) held.1
-      | inr detached ↦ shown Detached detached
-    ]
+flag_from_taken state flags bucket same taken = ap (λ (f : List Bool). slice_get f bucket) (sym same) ∙ elim taken [
+  | inl held ↦ shown (HeldBy held.0) held.1
+  | inr detached ↦ shown Detached detached
+]
   where
     shown : (flag : Flag) → IsFlag state bucket flag → slice_get (taken_flags state) bucket ≡ Some (is_taken flag)
     shown flag is =
@@ -75,8 +73,7 @@ pub taken_flags-set : (flags : List Flag) (bucket : ℕ) (flag : Flag) →
     map is_taken (slice_set flags bucket flag) ≡ slice_set (map is_taken flags) bucket (is_taken flag)
 taken_flags-set [] bucket flag = refl
 taken_flags-set (f ∷ flags) zero flag = refl
-taken_flags-set (f ∷ flags) (suc bucket) flag =
-    ap (λ (taken : List Bool). is_taken f ∷ taken) (taken_flags-set flags bucket flag)
+taken_flags-set (f ∷ flags) (suc bucket) flag = ap (λ (taken : List Bool). is_taken f ∷ taken) (taken_flags-set flags bucket flag)
 
 -- the same ones are where a flag is set that was as taken before
 pub taken_flags-again : (flags : List Flag) (bucket : ℕ) (before after : Flag) → slice_get flags bucket ≡ Some before →

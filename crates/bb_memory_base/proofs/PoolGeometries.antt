@@ -19,8 +19,7 @@ first_place-above region bucket = (least_place-is region.start bucket.align buck
 -- of two buckets the lower one ends before the higher one begins
 pub bucket_place-after : (geometry : PoolGeometry) (i j : ℕ) → i < j →
     bucket_place geometry i + stride geometry.bucket ≤ bucket_place geometry j
-bucket_place-after geometry i j below =
-    omega (arith, mul-le-mul_right {m = i + 1} {n = j} (stride geometry.bucket) (omega arith))
+bucket_place-after geometry i j below = omega (arith, mul-le-mul_right {m = i + 1} {n = j} (stride geometry.bucket) (omega arith))
 
 -- two buckets have different places
 pub bucket_place-apart : (geometry : PoolGeometry) → IsPoolGeometry geometry → (i j : ℕ) → i ≢ j →
@@ -59,9 +58,7 @@ bucket_place-aligned geometry i =
     let positive : 0 < align = geometry.bucket.valid.positive in
     let first = (least_place-is geometry.region.start align positive).multiple in
     let step = (least_place-is geometry.bucket.size align positive).multiple in
-    let strides : i * stride geometry.bucket ≡ i * step.0 * align =
-    ap (λ n. i * n) step.1 ∙ sym (mul_assoc i step.0 align) in
+    let strides : i * stride geometry.bucket ≡ i * step.0 * align = ap (λ n. i * n) step.1 ∙ sym (mul_assoc i step.0 align) in
     let whole : bucket_place geometry i ≡ first.0 * align + (i * step.0 * align + 0) = omega (arith, first.1, strides) in
-    ap (λ n. n % align) whole
-    ∙ mul-add-mod_self_right first.0 align (i * step.0 * align + 0)
+    ap (λ n. n % align) whole ∙ mul-add-mod_self_right first.0 align (i * step.0 * align + 0)
     ∙ mod-mul-add (i * step.0) align 0 positive

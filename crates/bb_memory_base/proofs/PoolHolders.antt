@@ -1,7 +1,7 @@
 -- Who holds a bucket stands in the logs.
 use Rattle.std.proofs.Common.{◌≡◌, ℕ, zero, suc, List, [], ◌∷◌, ◌↔◌, replicate, refl, sym}
 use Rattle.std.proofs.Common.{ap, ◌∙◌, Bool, true, false, Option, Some, None, inl, inr}
-use Rattle.std.specs.Prelude.{slice_get, ◌==◌, if◌then◌else◌, fold}
+use Rattle.std.specs.Prelude.{slice_get, slice_set, ◌==◌, if◌then◌else◌, fold}
 use Rattle.std.proofs.lemmas.Bool.{cases_eq}
 use Rattle.std.proofs.lemmas.Option.{same_Some}
 use Rattle.bb_memory_base.specs.PoolMachine.{PoolScene, PoolState, PoolMove, IsFlag, IsHolder, IsDetached, pool_step, pool_after}
@@ -9,7 +9,7 @@ use Rattle.bb_memory_base.specs.PoolMachine.{opening_state, left_by, PoolOutcome
 use Rattle.bb_memory_base.specs.PoolHistory.{entry_of, PoolLog, PoolEntry, pool_history, is_by, entries_by, log_of}
 use Rattle.bb_memory_base.specs.PoolLogs.{held_after, IsHeldAfter}
 use Rattle.bb_memory_base.proofs.SliceSets.{slice_get-same, slice_get-set_other, slice_get-set_same}
-use Rattle.bb_memory_base.proofs.PoolSteps.{StepKind, takes, takes_at, loses, is_refused, gives, misses, passes, detaches}
+use Rattle.bb_memory_base.proofs.PoolSteps.{StepKind, takes, takes_at, gives, detaches}
 use Rattle.bb_memory_base.proofs.PoolSteps.{attaches, kind_of, same_from_test, test_same, test_apart}
 
 abbrev is_holder : ℕ → Option Flag → Bool
@@ -23,6 +23,23 @@ held_through bucket held log = fold (λ held entry. held_after bucket held entry
 either_way : (mine held : Bool) → (if mine then held else held) ≡ held
 either_way true held = refl
 either_way false held = refl
+
+-- where a flag is set, and at its own bucket the same holds, whether a party holds a bucket changes as the flags do
+held_set : (state : PoolState) (at bucket party other : ℕ) (held now : Bool) (before after : Flag) → IsFlag state at before →
+    (held ≡ is_holder party (Some before) → (if other == party then now else held) ≡ is_holder party (Some after)) →
+    held ≡ is_holder party (slice_get state.flags bucket) →
+    (if other == party then (if at == bucket then now else held) else held)
+    ≡ is_holder party (slice_get (slice_set state.flags at after) bucket)
+held_set state at bucket party other held now before after there here was = elim (cases_eq at bucket) [
+  | inl same ↦
+      ap (λ (b : Bool). if other == party then (if b then now else held) else held) (test_same at bucket same)
+      ∙ here (was ∙ ap (is_holder party) (slice_get-same state.flags at bucket (Some before) same there))
+      ∙ sym (ap (is_holder party) (slice_get-set_same state.flags at bucket after before same there))
+  | inr apart ↦
+      ap (λ (b : Bool). if other == party then (if b then now else held) else held) (test_apart at bucket apart)
+      ∙ either_way (other == party) held ∙ was
+      ∙ sym (ap (is_holder party) (slice_get-set_other state.flags at bucket after apart))
+]
 
 when_taken : (mine held : Bool) → held ≡ false → (if mine then true else held) ≡ mine
 when_taken true held e = refl
@@ -40,79 +57,17 @@ held_by party bucket held step outcome = if is_by party step then held_after buc
 step_holds : (state : PoolState) (step : PoolStep) (move : PoolMove) (party bucket : ℕ) (held : Bool) →
     StepKind state step move → held ≡ is_holder party (slice_get state.flags bucket) →
     held_by party bucket held step move.outcome ≡ is_holder party (slice_get move.state.flags bucket)
-step_holds state step move party bucket held (takes other at next free) before = elim (cases_eq at bucket) [
-  | inl same ↦
-      let was = slice_get-same state.flags at bucket (Some Free) same free in
-      let now = slice_get-set_same state.flags at bucket (HeldBy other) Free same free in
-      ap (λ (b : Bool). if other == party then (if b then true else held) else held) (test_same at bucket same)
-      ∙ when_taken (other == party) held (before ∙ ap (is_holder party) was)
-      ∙ sym (ap (is_holder party) now)
-  | inr apart ↦
-      let now = slice_get-set_other state.flags at bucket (HeldBy other) apart in
-      ap (λ (b : Bool). if other == party then (if b then true else held) else held) (test_apart at bucket apart)
-      ∙ either_way (other == party) held ∙ before
-      ∙ sym (ap (is_holder party) now)
-]
-step_holds state step move party bucket held (takes_at other at idle free) before = elim (cases_eq at bucket) [
-  | inl same ↦
-      let was = slice_get-same state.flags at bucket (Some Free) same free in
-      let now = slice_get-set_same state.flags at bucket (HeldBy other) Free same free in
-      ap (λ (b : Bool). if other == party then (if b then true else held) else held) (test_same at bucket same)
-      ∙ when_taken (other == party) held (before ∙ ap (is_holder party) was)
-      ∙ sym (ap (is_holder party) now)
-  | inr apart ↦
-      let now = slice_get-set_other state.flags at bucket (HeldBy other) apart in
-      ap (λ (b : Bool). if other == party then (if b then true else held) else held) (test_apart at bucket apart)
-      ∙ either_way (other == party) held ∙ before
-      ∙ sym (ap (is_holder party) now)
-]
-step_holds state step move party bucket held (gives other at taken) before = elim (cases_eq at bucket) [
-  | inl same ↦
-      let was = slice_get-same state.flags at bucket (Some (HeldBy other)) same taken in
-      let now = slice_get-set_same state.flags at bucket Free (HeldBy other) same taken in
-      ap (λ (b : Bool). if other == party then (if b then false else held) else held) (test_same at bucket same)
-      ∙ when_returned (other == party) held (before ∙ ap (is_holder party) was)
-      ∙ sym (ap (is_holder party) now)
-  | inr apart ↦
-      let now = slice_get-set_other state.flags at bucket Free apart in
-      ap (λ (b : Bool). if other == party then (if b then false else held) else held) (test_apart at bucket apart)
-      ∙ either_way (other == party) held ∙ before
-      ∙ sym (ap (is_holder party) now)
-]
-step_holds state step move party bucket held (detaches other at taken others) before = elim (cases_eq at bucket) [
-  | inl same ↦
-      let was = slice_get-same state.flags at bucket (Some (HeldBy other)) same taken in
-      let now = slice_get-set_same state.flags at bucket Detached (HeldBy other) same taken in
-      ap (λ (b : Bool). if other == party then (if b then false else held) else held) (test_same at bucket same)
-      ∙ when_returned (other == party) held (before ∙ ap (is_holder party) was)
-      ∙ sym (ap (is_holder party) now)
-  | inr apart ↦
-      let now = slice_get-set_other state.flags at bucket Detached apart in
-      ap (λ (b : Bool). if other == party then (if b then false else held) else held) (test_apart at bucket apart)
-      ∙ either_way (other == party) held ∙ before
-      ∙ sym (ap (is_holder party) now)
-]
-step_holds state step move party bucket held (attaches other at idle detached) before = elim (cases_eq at bucket) [
-  | inl same ↦
-      let was = slice_get-same state.flags at bucket (Some Detached) same detached in
-      let now = slice_get-set_same state.flags at bucket (HeldBy other) Detached same detached in
-      ap (λ (b : Bool). if other == party then (if b then true else held) else held) (test_same at bucket same)
-      ∙ when_taken (other == party) held (before ∙ ap (is_holder party) was)
-      ∙ sym (ap (is_holder party) now)
-  | inr apart ↦
-      let now = slice_get-set_other state.flags at bucket (HeldBy other) apart in
-      ap (λ (b : Bool). if other == party then (if b then true else held) else held) (test_apart at bucket apart)
-      ∙ either_way (other == party) held ∙ before
-      ∙ sym (ap (is_holder party) now)
-]
-step_holds state step move party bucket held (loses other at next taken more) before =
-    either_way (other == party) held ∙ before
-step_holds state step move party bucket held (is_refused other at next taken last) before =
-    either_way (other == party) held ∙ before
-step_holds state step move party bucket held (misses other at idle taken) before =
-    either_way (other == party) held ∙ before
-step_holds state step move party bucket held (passes other) before =
-    either_way (is_by party step) held ∙ before
+step_holds state step move party bucket held (takes other at next free) =
+    held_set state at bucket party other held true Free (HeldBy other) free (when_taken (other == party) held)
+step_holds state step move party bucket held (takes_at other at idle free) =
+    held_set state at bucket party other held true Free (HeldBy other) free (when_taken (other == party) held)
+step_holds state step move party bucket held (gives other at taken) =
+    held_set state at bucket party other held false (HeldBy other) Free taken (when_returned (other == party) held)
+step_holds state step move party bucket held (detaches other at taken others) =
+    held_set state at bucket party other held false (HeldBy other) Detached taken (when_returned (other == party) held)
+step_holds state step move party bucket held (attaches other at idle detached) =
+    held_set state at bucket party other held true Detached (HeldBy other) detached (when_taken (other == party) held)
+step_holds state step move party bucket held _ = λ before. either_way (is_by party step) held ∙ before
 
 held_through-log : (party bucket : ℕ) (held mine : Bool) (entry : PoolEntry) (log : PoolLog) →
     held_through bucket held (if mine then entry ∷ log else log) ≡
@@ -137,15 +92,13 @@ nobody_holds zero party bucket = refl
 nobody_holds (suc n) party zero = refl
 nobody_holds (suc n) party (suc bucket) = nobody_holds n party bucket
 
-holder_from_test : (party : ℕ) (found : Option Flag) → is_holder party found ≡ true →
-    found ≡ Some (HeldBy party)
+holder_from_test : (party : ℕ) (found : Option Flag) → is_holder party found ≡ true → found ≡ Some (HeldBy party)
 holder_from_test party None e = absurd (cc)
 holder_from_test party (Some Free) e = absurd (cc)
 holder_from_test party (Some Detached) e = absurd (cc)
 holder_from_test party (Some (HeldBy holder)) e = ap (λ (h : ℕ). Some (HeldBy h)) (same_from_test holder party e)
 
-test_from_holder : (party : ℕ) (found : Option Flag) → found ≡ Some (HeldBy party) →
-    is_holder party found ≡ true
+test_from_holder : (party : ℕ) (found : Option Flag) → found ≡ Some (HeldBy party) → is_holder party found ≡ true
 test_from_holder party found e = ap (is_holder party) e ∙ test_same party party refl
 
 -- a flag's holder is the party whose log holds the bucket

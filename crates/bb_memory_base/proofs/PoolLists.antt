@@ -104,8 +104,7 @@ AreInBuckets-push geometry live layout i may buckets =
           apart_from_buckets geometry other chunk there in_bucket differ);
     }
 
-all-remove : {X : Type 0} (P : X → Type 0) (xs : List X) (n : ℕ) → AllByRecursion P xs →
-    AllByRecursion P (remove xs n)
+all-remove : {X : Type 0} (P : X → Type 0) (xs : List X) (n : ℕ) → AllByRecursion P xs → AllByRecursion P (remove xs n)
 all-remove P [] zero each = tt
 all-remove P [] (suc n) each = tt
 all-remove P (x ∷ xs) zero (here, rest) = rest
@@ -143,13 +142,11 @@ count_at-append place (c ∷ live) chunk = omega (arith, count_at-append place l
 -- one more chunk has the place of the chunk that is appended
 pub count_at-push_same : (place : ℕ) (live : List Chunk) (chunk : Chunk) → chunk.place ≡ place →
     count_at place (live ++ chunk ∷ []) ≡ count_at place live + 1
-count_at-push_same place live chunk placed =
-    omega (arith, count_at-append place live chunk, one_if-same chunk.place place placed)
+count_at-push_same place live chunk placed = omega (arith, count_at-append place live chunk, one_if-same chunk.place place placed)
 
 pub count_at-push_other : (place : ℕ) (live : List Chunk) (chunk : Chunk) → chunk.place ≢ place →
     count_at place (live ++ chunk ∷ []) ≡ count_at place live
-count_at-push_other place live chunk apart =
-    omega (arith, count_at-append place live chunk, one_if-apart chunk.place place apart)
+count_at-push_other place live chunk apart = omega (arith, count_at-append place live chunk, one_if-apart chunk.place place apart)
 
 count_at-without : (place q position : ℕ) (live : List Chunk) → IsAt live position q →
     count_at place (remove live position) + one_if (q == place) ≡ count_at place live
@@ -187,11 +184,9 @@ here_or_later c live place true test rest some =
 here_or_later c live place false test rest some = later c live place (rest (omega arith))
 
 -- a chunk has the place just where their number isn't 0
-pub at_from_count : (place : ℕ) (live : List Chunk) → 0 < count_at place live →
-    (position : ℕ) × IsAt live position place
+pub at_from_count : (place : ℕ) (live : List Chunk) → 0 < count_at place live → (position : ℕ) × IsAt live position place
 at_from_count place [] some = absurd (omega arith)
 at_from_count place (c ∷ live) some = here_or_later c live place (c.place == place) refl (at_from_count place live) some
 
-pub count_from_at : (place position : ℕ) (live : List Chunk) → IsAt live position place →
-    0 < count_at place live
+pub count_from_at : (place position : ℕ) (live : List Chunk) → IsAt live position place → 0 < count_at place live
 count_from_at place position live at = omega (arith, count_at-remove_same place position live at)

@@ -1,17 +1,17 @@
 -- A party's log says where its pass is, and a step of the party adds to it alone.
-use Rattle.std.proofs.Common.{◌≡◌, ◌≢◌, ℕ, zero, suc, ◌+◌, ◌<◌, List, [], ◌∷◌, ◌++◌, replicate, append-nil}
+use Rattle.std.proofs.Common.{◌≡◌, ◌≢◌, ℕ, zero, suc, ◌+◌, ◌<◌, List, [], ◌∷◌, ◌++◌, replicate}
 use Rattle.std.proofs.Common.{refl, sym, ap, ◌∙◌, subst, arith, Bool, true, false, Option, Some, None, inl, inr}
 use Rattle.std.specs.Prelude.{slice_get, slice_set, ◌==◌, if◌then◌else◌, fold, All}
 use Rattle.std.proofs.lemmas.Bool.{cases_eq}
-use Rattle.std.proofs.lemmas.Option.{same_Some}
 use Rattle.std.proofs.lemmas.List.Elements.{All-push}
 use Rattle.bb_memory_base.specs.PoolMachine.{PoolScene, PoolState, PoolMove, pool_step, pool_after, opening_state, left_by}
-use Rattle.bb_memory_base.specs.PoolMachine.{PoolStep, Try, GiveBack, TryAt, Detach, Attach, PoolOutcome}
+use Rattle.bb_memory_base.specs.PoolMachine.{PoolStep, PoolOutcome}
 use Rattle.bb_memory_base.specs.PoolHistory.{entry_of, PoolLog, PoolEntry, pool_history, is_by, entries_by, history_of, log_of}
 use Rattle.bb_memory_base.specs.PoolLogs.{HasLog, pass_after, pass_in, taken_flags, IsAllowed, LogsAgree, with_entry}
-use Rattle.bb_memory_base.proofs.SliceSets.{slice_get-same, slice_get-set_other, slice_get-set_same}
-use Rattle.bb_memory_base.proofs.PoolSteps.{IsNext, StepKind, takes, takes_at, loses, is_refused, gives, misses, detaches}
-use Rattle.bb_memory_base.proofs.PoolSteps.{attaches, passes, kind_of, next_of_idle, test_same, test_apart}
+use Rattle.bb_memory_base.proofs.Logs.{logs-push}
+use Rattle.bb_memory_base.proofs.SliceSets.{slice_get-set_other, slice_get-set_same}
+use Rattle.bb_memory_base.proofs.PoolSteps.{IsNext, StepKind, takes, takes_at, loses, is_refused}
+use Rattle.bb_memory_base.proofs.PoolSteps.{kind_of, next_of_idle, test_same, test_apart}
 
 -- WHERE A PASS IS
 
@@ -39,24 +39,14 @@ pass_by party pass step outcome = if is_by party step then pass_after pass outco
 step_pass : (state : PoolState) (step : PoolStep) (move : PoolMove) (party : ℕ) (pass : Option ℕ) →
     StepKind state step move → slice_get state.calls party ≡ Some pass →
     slice_get move.state.calls party ≡ Some (pass_by party pass step move.outcome)
-step_pass state step move party pass (takes other bucket next free) there =
-    pass-set state other party bucket pass None next there
+step_pass state step move party pass (takes other bucket next free) there = pass-set state other party bucket pass None next there
 step_pass state step move party pass (loses other bucket next taken more) there =
     pass-set state other party bucket pass (Some (bucket + 1)) next there
 step_pass state step move party pass (is_refused other bucket next taken last) there =
     pass-set state other party bucket pass None next there
-step_pass state step move party pass (gives other bucket taken) there =
-    there ∙ ap Some (sym (kept_pass (other == party) pass))
 step_pass state step move party pass (takes_at other bucket idle free) there =
     pass-set state other party 0 pass None (next_of_idle state other idle) there
-step_pass state step move party pass (misses other bucket idle taken) there =
-    there ∙ ap Some (sym (kept_pass (other == party) pass))
-step_pass state step move party pass (detaches other bucket taken others) there =
-    there ∙ ap Some (sym (kept_pass (other == party) pass))
-step_pass state step move party pass (attaches other bucket idle detached) there =
-    there ∙ ap Some (sym (kept_pass (other == party) pass))
-step_pass state step move party pass (passes other) there =
-    there ∙ ap Some (sym (kept_pass (is_by party step) pass))
+step_pass state step move party pass _ there = there ∙ ap Some (sym (kept_pass (is_by party step) pass))
 
 abbrev pass_through : Option ℕ → PoolLog → Option ℕ
 pass_through pass log = fold (λ pass entry. pass_after pass entry.outcome) pass log
@@ -67,8 +57,7 @@ pass_through-log : (pass : Option ℕ) (mine : Bool) (entry : PoolEntry) (log : 
 pass_through-log pass true entry log = refl
 pass_through-log pass false entry log = refl
 
-steps_pass : (state : PoolState) (steps : List PoolStep) (party : ℕ) (pass : Option ℕ) →
-    slice_get state.calls party ≡ Some pass →
+steps_pass : (state : PoolState) (steps : List PoolStep) (party : ℕ) (pass : Option ℕ) → slice_get state.calls party ≡ Some pass →
     slice_get (pool_after state steps).calls party ≡ Some (pass_through pass (entries_by party (pool_history state steps)))
 steps_pass state [] party pass there = there
 steps_pass state (step ∷ steps) party pass there =
@@ -78,8 +67,7 @@ steps_pass state (step ∷ steps) party pass there =
     steps_pass move.state steps party (pass_by party pass step move.outcome) now
     ∙ ap Some (pass_through-log pass (is_by party step) (entry_of step move.outcome) log)
 
-idle_at_opening : (n party : ℕ) → party < n →
-    ◌≡◌ {A = Option (Option ℕ)} (slice_get (replicate n None) party) (Some None)
+idle_at_opening : (n party : ℕ) → party < n → ◌≡◌ {A = Option (Option ℕ)} (slice_get (replicate n None) party) (Some None)
 idle_at_opening zero party made = absurd (omega arith)
 idle_at_opening (suc n) zero made = refl
 idle_at_opening (suc n) (suc party) made = idle_at_opening n party (omega arith)
@@ -87,13 +75,11 @@ idle_at_opening (suc n) (suc party) made = idle_at_opening n party (omega arith)
 -- the pass of a party that was made stands in its log
 pub log_pass : (scene : PoolScene) (steps : List PoolStep) (party : ℕ) → party < scene.parties →
     slice_get (left_by scene steps).calls party ≡ Some (pass_in (log_of scene steps party))
-log_pass scene steps party made =
-    steps_pass (opening_state scene) steps party None (idle_at_opening scene.parties party made)
+log_pass scene steps party made = steps_pass (opening_state scene) steps party None (idle_at_opening scene.parties party made)
 
 -- ONE MORE STEP
 
-history-push : (state : PoolState) (steps : List PoolStep) (step : PoolStep) →
-    pool_history state (steps ++ step ∷ []) ≡
+history-push : (state : PoolState) (steps : List PoolStep) (step : PoolStep) → pool_history state (steps ++ step ∷ []) ≡
     pool_history state steps ++ entry_of step (pool_step (pool_after state steps) step).outcome ∷ []
 history-push state [] step = refl
 history-push state (first ∷ steps) step =
@@ -105,71 +91,14 @@ after-push : (state : PoolState) (steps : List PoolStep) (step : PoolStep) →
 after-push state [] step = refl
 after-push state (first ∷ steps) step = after-push (pool_step state first).state steps step
 
--- an entry where it is the party's, and else nothing
-abbrev only_if : Bool → PoolEntry → PoolLog
-only_if mine entry = if mine then entry ∷ [] else []
-
-cons_if : (mine : Bool) (entry : PoolEntry) (xs ys : PoolLog) →
-    (if mine then entry ∷ (xs ++ ys) else xs ++ ys) ≡ (if mine then entry ∷ xs else xs) ++ ys
-cons_if true entry xs ys = refl
-cons_if false entry xs ys = refl
-
-log-push : (party : ℕ) (history : PoolLog) (entry : PoolEntry) →
-    entries_by party (history ++ entry ∷ []) ≡ entries_by party history ++ only_if (is_by party entry.step) entry
-log-push party [] entry = refl
-log-push party (first ∷ history) entry =
-    let mine : Bool = is_by party first.step in
-    ap (λ (log : PoolLog). if mine then first ∷ log else log) (log-push party history entry)
-    ∙ cons_if mine first (entries_by party history) (only_if (is_by party entry.step) entry)
-
--- the step is the party's, and no other's
-pub record IsStepOf (party : ℕ) (step : PoolStep) : Type 0 where
-  mine : is_by party step ≡ true
-  others : (other : ℕ) → party ≢ other → is_by other step ≡ false
-
-pub try_is_of : (party : ℕ) → IsStepOf party (Try party)
-try_is_of party = record { mine = test_same party party refl; others = test_apart party }
-
-pub try_at_is_of : (party bucket : ℕ) → IsStepOf party (TryAt party bucket)
-try_at_is_of party bucket = record { mine = test_same party party refl; others = test_apart party }
-
-pub give_is_of : (party bucket : ℕ) → IsStepOf party (GiveBack party bucket)
-give_is_of party bucket = record { mine = test_same party party refl; others = test_apart party }
-
-pub detach_is_of : (party bucket : ℕ) → IsStepOf party (Detach party bucket)
-detach_is_of party bucket = record { mine = test_same party party refl; others = test_apart party }
-
-pub attach_is_of : (party bucket : ℕ) → IsStepOf party (Attach party bucket)
-attach_is_of party bucket = record { mine = test_same party party refl; others = test_apart party }
-
--- after the step of a party each log has grown by what was that party's
-logs-push : (logs : List PoolLog) (party : ℕ) (log : PoolLog) (step : PoolStep) (history : PoolLog) (entry : PoolEntry) →
-    HasLog logs party log → IsStepOf party step → entry.step ≡ step →
-    ((other : ℕ) (found : PoolLog) → HasLog logs other found → entries_by other history ≡ found) →
-    (other : ℕ) (found : PoolLog) → slice_get (with_entry logs party log entry) other ≡ Some found →
-    entries_by other (history ++ entry ∷ []) ≡ found
-logs-push logs party log step history entry at of same each other found there =
-    let Grown : Bool → Type 0 = λ b. entries_by other (history ++ entry ∷ []) ≡ entries_by other history ++ only_if b entry in
-    let grown : Grown (is_by other step) = subst (λ s. Grown (is_by other s)) same (log-push other history entry) in
-    elim (cases_eq party other) [
-      | inl here ↦
-          let mine : Grown true = subst Grown (ap (λ p. is_by p step) (sym here) ∙ of.mine) grown in
-          let was = each other log (slice_get-same logs party other (Some log) here at) in
-          let now = slice_get-set_same logs party other (log ++ entry ∷ []) log here at in
-          mine ∙ ap (λ l. l ++ entry ∷ []) was ∙ same_Some (log ++ entry ∷ []) found (sym now ∙ there)
-      | inr apart ↦
-          let others : Grown false = subst Grown (of.others other apart) grown in
-          let kept = slice_get-set_other logs party other (log ++ entry ∷ []) apart in
-          others ∙ append-nil (entries_by other history) ∙ each other found (sym kept ∙ there)
-    ]
-
 -- the step of a party that makes this move leaves flags and logs that agree again
 pub agree_on : (scene : PoolScene) (flags : List Bool) (logs : List PoolLog) (party : ℕ) (log : PoolLog) (step : PoolStep)
-    (agree : LogsAgree scene flags logs) → HasLog logs party log → IsStepOf party step →
+    (agree : LogsAgree scene flags logs) → HasLog logs party log →
+    is_by party step ≡ true → ((other : ℕ) → party ≢ other → is_by other step ≡ false) →
     (move : PoolMove) → pool_step (left_by scene agree.steps) step ≡ move → IsAllowed move.outcome →
     (new : List Bool) → taken_flags move.state ≡ new →
     LogsAgree scene new (with_entry logs party log (entry_of step move.outcome))
-agree_on scene flags logs party log step agree at of move is allowed new leaves =
+agree_on scene flags logs party log step agree at mine others move is allowed new leaves =
     let opening : PoolState = opening_state scene in
     let history : PoolLog = history_of scene agree.steps in
     let entry : PoolEntry = entry_of step move.outcome in
@@ -180,6 +109,6 @@ agree_on scene flags logs party log step agree at of move is allowed new leaves 
       steps = agree.steps ++ step ∷ [];
       allowed = subst (All Allowed) (sym longer) (All-push Allowed history entry agree.allowed allowed);
       leaves = ap taken_flags (after-push opening agree.steps step) ∙ ap (λ (m : PoolMove). taken_flags m.state) is ∙ leaves;
-      each = λ other found there.
-          ap (entries_by other) longer ∙ logs-push logs party log step history entry at of refl agree.each other found there;
+      each = λ other found there. ap (entries_by other) longer
+          ∙ logs-push (λ p e. is_by p e.step) logs party log history entry at mine others agree.each other found there;
     }

@@ -1,13 +1,13 @@
 -- What follows where a pool's flags and logs agree.
 use Rattle.std.proofs.Common.{◌≡◌, ◌≢◌, ℕ, zero, suc, ◌+◌, ◌<◌, ◌≤◌, List, [], ◌∷◌, length, replicate, refl}
 use Rattle.std.proofs.Common.{sym, ap, ◌∙◌, subst, arith, Bool, true, false, Option, Some, None, inl, inr}
-use Rattle.std.specs.Prelude.{◌⊎◌, slice_get, slice_set, if◌then◌else◌}
+use Rattle.std.specs.Prelude.{◌⊎◌, slice_get, if◌then◌else◌}
 use Rattle.std.specs.List.{AllByRecursion}
 use Rattle.std.proofs.lemmas.Bool.{cases_eq, cases_lt}
 use Rattle.std.proofs.lemmas.Option.{same_Some, none-some}
 use Rattle.std.proofs.lemmas.List.{length-map}
 use Rattle.std.proofs.lemmas.List.Elements.{recursion_from_All}
-use Rattle.bb_memory_base.specs.PoolMachine.{PoolScene, PoolState, PoolMove, IsFlag, IsHolder, IsDetached, pool_step}
+use Rattle.bb_memory_base.specs.PoolMachine.{PoolScene, PoolState, PoolMove, IsFlag, IsHolder, IsDetached, pool_step, taking, with_flag, with_pass}
 use Rattle.bb_memory_base.specs.PoolMachine.{opening_state, left_by, Flag, Free, HeldBy, Detached, PoolStep, Try, TryAt, Takes}
 use Rattle.bb_memory_base.specs.PoolHistory.{entry_of, PoolLog, PoolEntry, pool_history, is_by, entries_by, history_of, log_of}
 use Rattle.bb_memory_base.specs.PoolLogs.{AllAllowed, CommonInterleaving, HasLog, IsHeldAfter, Interleaving, IsAllowed}
@@ -32,27 +32,44 @@ tries_is_another : (state : PoolState) (other party bucket : ℕ) → IsNext sta
 tries_is_another state other party bucket next absent same =
     none-some next.pass (sym absent.nowhere ∙ slice_get-same state.calls other party (Some next.pass) same next.there)
 
+-- who holds a bucket is another, too
+holds_is_another : (state : PoolState) (other party bucket : ℕ) → IsHolder state bucket other → IsAbsent state party →
+    other ≢ party
+holds_is_another state other party bucket taken absent same =
+    absent.holds bucket (taken ∙ ap (λ (h : ℕ). Some (HeldBy h)) same)
+
 -- what another's pass becomes leaves the party nowhere
-still_nowhere : (state : PoolState) (other party : ℕ) (pass : Option ℕ) → other ≢ party → IsAbsent state party →
-    slice_get (slice_set state.calls other pass) party ≡ None
-still_nowhere state other party pass apart absent = slice_get-set_other state.calls other party pass apart ∙ absent.nowhere
+absent-pass : (state : PoolState) (other party : ℕ) (pass : Option ℕ) → other ≢ party → IsAbsent state party →
+    IsAbsent (with_pass state other pass) party
+absent-pass state other party pass apart absent = record {
+  nowhere = slice_get-set_other state.calls other party pass apart ∙ absent.nowhere;
+  holds = absent.holds;
+}
 
 -- a holder that is another leaves the party with nothing
-still_no_holder : (state : PoolState) (bucket party b : ℕ) (before after : Flag) → IsFlag state bucket before →
-    ¬ (after ≡ HeldBy party) → IsAbsent state party →
-    ¬ (slice_get (slice_set state.flags bucket after) b ≡ Some (HeldBy party))
-still_no_holder state bucket party b before after there another absent now = elim (cases_eq bucket b) [
-  | inl same ↦
-      let set = slice_get-set_same state.flags bucket b after before same there in
-      another (same_Some after (HeldBy party) (sym set ∙ now))
-  | inr apart ↦ absent.holds b (sym (slice_get-set_other state.flags bucket b after apart) ∙ now)
-]
+absent-flag : (state : PoolState) (bucket party : ℕ) (before after : Flag) → IsFlag state bucket before →
+    ¬ (after ≡ HeldBy party) → IsAbsent state party → IsAbsent (with_flag state bucket after) party
+absent-flag state bucket party before after there another absent = record {
+  nowhere = absent.nowhere;
+  holds = λ b now. elim (cases_eq bucket b) [
+    | inl same ↦
+        let set = slice_get-set_same state.flags bucket b after before same there in
+        another (same_Some after (HeldBy party) (sym set ∙ now))
+    | inr apart ↦ absent.holds b (sym (slice_get-set_other state.flags bucket b after apart) ∙ now)
+  ];
+}
 
 same_party : (other party : ℕ) → HeldBy other ≡ HeldBy party → other ≡ party
 same_party other party same = cc
 
 holder_is_another : (other party : ℕ) → other ≢ party → ¬ (HeldBy other ≡ HeldBy party)
 holder_is_another other party apart same = apart (same_party other party same)
+
+absent-taken : (state : PoolState) (other party bucket : ℕ) → IsFlag state bucket Free → other ≢ party → IsAbsent state party →
+    IsAbsent (taking state other bucket).state party
+absent-taken state other party bucket free apart absent =
+    absent-pass (with_flag state bucket (HeldBy other)) other party None apart
+    (absent-flag state bucket party Free (HeldBy other) free (holder_is_another other party apart) absent)
 
 free_holds_none : (party : ℕ) → ¬ (Free ≡ HeldBy party)
 free_holds_none party same = absurd (cc)
@@ -64,60 +81,30 @@ absent_step : (state : PoolState) (step : PoolStep) (move : PoolMove) (party : �
     IsAllowed move.outcome → IsAbsent state party → (is_by party step ≡ false) × IsAbsent move.state party
 absent_step state step move party (takes other bucket next free) allowed absent =
     let apart = tries_is_another state other party bucket next absent in
-    let another = holder_is_another other party apart in (
-      test_apart other party apart,
-      record {
-        nowhere = still_nowhere state other party None apart absent;
-        holds = λ b. still_no_holder state bucket party b Free (HeldBy other) free another absent;
-      },
-    )
-absent_step state step move party (loses other bucket next taken more) allowed absent =
-    let apart = tries_is_another state other party bucket next absent in (
-      test_apart other party apart,
-      record { nowhere = still_nowhere state other party (Some (bucket + 1)) apart absent; holds = absent.holds },
-    )
-absent_step state step move party (is_refused other bucket next taken last) allowed absent =
-    let apart = tries_is_another state other party bucket next absent in (
-      test_apart other party apart,
-      record { nowhere = still_nowhere state other party None apart absent; holds = absent.holds },
-    )
-absent_step state step move party (gives other bucket taken) allowed absent =
-    let apart : other ≢ party = λ same. absent.holds bucket (taken ∙ ap (λ (h : ℕ). Some (HeldBy h)) same) in (
-      test_apart other party apart,
-      record {
-        nowhere = absent.nowhere;
-        holds = λ b. still_no_holder state bucket party b (HeldBy other) Free taken (free_holds_none party) absent;
-      },
-    )
-absent_step state step move party (detaches other bucket taken others) allowed absent =
-    let apart : other ≢ party = λ same. absent.holds bucket (taken ∙ ap (λ (h : ℕ). Some (HeldBy h)) same) in (
-      test_apart other party apart,
-      record {
-        nowhere = absent.nowhere;
-        holds = λ b. still_no_holder state bucket party b (HeldBy other) Detached taken (detached_holds_none party) absent;
-      },
-    )
-absent_step state step move party (attaches other bucket idle detached) allowed absent =
-    let apart = tries_is_another state other party 0 (next_of_idle state other idle) absent in
-    let another = holder_is_another other party apart in (
-      test_apart other party apart,
-      record {
-        nowhere = absent.nowhere;
-        holds = λ b. still_no_holder state bucket party b Detached (HeldBy other) detached another absent;
-      },
-    )
+    (test_apart other party apart, absent-taken state other party bucket free apart absent)
 absent_step state step move party (takes_at other bucket idle free) allowed absent =
     let apart = tries_is_another state other party 0 (next_of_idle state other idle) absent in
-    let another = holder_is_another other party apart in (
-      test_apart other party apart,
-      record {
-        nowhere = still_nowhere state other party None apart absent;
-        holds = λ b. still_no_holder state bucket party b Free (HeldBy other) free another absent;
-      },
-    )
-absent_step state step move party (misses other bucket idle taken) allowed absent =
+    (test_apart other party apart, absent-taken state other party bucket free apart absent)
+absent_step state step move party (loses other bucket next taken more) allowed absent =
+    let apart = tries_is_another state other party bucket next absent in
+    (test_apart other party apart, absent-pass state other party (Some (bucket + 1)) apart absent)
+absent_step state step move party (is_refused other bucket next taken last) allowed absent =
+    let apart = tries_is_another state other party bucket next absent in
+    (test_apart other party apart, absent-pass state other party None apart absent)
+absent_step state step move party (gives other bucket taken) allowed absent = (
+  test_apart other party (holds_is_another state other party bucket taken absent),
+  absent-flag state bucket party (HeldBy other) Free taken (free_holds_none party) absent,
+)
+absent_step state step move party (detaches other bucket taken others) allowed absent = (
+  test_apart other party (holds_is_another state other party bucket taken absent),
+  absent-flag state bucket party (HeldBy other) Detached taken (detached_holds_none party) absent,
+)
+absent_step state step move party (attaches other bucket idle detached) allowed absent =
     let apart = tries_is_another state other party 0 (next_of_idle state other idle) absent in
-    (test_apart other party apart, absent)
+    let another = holder_is_another other party apart in
+    (test_apart other party apart, absent-flag state bucket party Detached (HeldBy other) detached another absent)
+absent_step state step move party (misses other bucket idle taken) allowed absent =
+    (test_apart other party (tries_is_another state other party 0 (next_of_idle state other idle) absent), absent)
 absent_step state step move party (passes other) allowed absent = absurd allowed
 
 absent_steps : (state : PoolState) (steps : List PoolStep) (party : ℕ) → IsAbsent state party →
@@ -128,8 +115,7 @@ absent_steps state (step ∷ steps) party absent (here, rest) =
     let move : PoolMove = pool_step state step in
     let now = absent_step state step move party (kind_of state step) here absent in
     let log : PoolLog = entries_by party (pool_history move.state steps) in
-    ap (λ (b : Bool). if b then entry_of step move.outcome ∷ log else log) now.0
-    ∙ absent_steps move.state steps party now.1 rest
+    ap (λ (b : Bool). if b then entry_of step move.outcome ∷ log else log) now.0 ∙ absent_steps move.state steps party now.1 rest
 
 none_past : (n party : ℕ) → n ≤ party → ◌≡◌ {A = Option (Option ℕ)} (slice_get (replicate n None) party) None
 none_past zero party past = refl
@@ -154,18 +140,12 @@ first_kind : (scene : PoolScene) (step : PoolStep) (move : PoolMove) → StepKin
     (party : ℕ) × (bucket : ℕ) × ((step ≡ Try party) ⊎ (step ≡ TryAt party bucket)) × (move.outcome ≡ Takes bucket)
 first_kind scene step move (takes party bucket next free) allowed = (party, bucket, inl refl, refl)
 first_kind scene step move (takes_at party bucket idle free) allowed = (party, bucket, inr refl, refl)
-first_kind scene step move (misses party bucket idle taken) allowed =
-    absurd (none_taken_at_opening scene bucket taken)
-first_kind scene step move (loses party bucket next taken more) allowed =
-    absurd (none_taken_at_opening scene bucket taken)
-first_kind scene step move (is_refused party bucket next taken last) allowed =
-    absurd (none_taken_at_opening scene bucket taken)
-first_kind scene step move (gives party bucket taken) allowed =
-    absurd (none_held_at_opening scene bucket party taken)
-first_kind scene step move (detaches party bucket taken others) allowed =
-    absurd (none_held_at_opening scene bucket party taken)
-first_kind scene step move (attaches party bucket idle detached) allowed =
-    absurd (none_detached_at_opening scene bucket detached)
+first_kind scene step move (misses party bucket idle taken) allowed = absurd (none_taken_at_opening scene bucket taken)
+first_kind scene step move (loses party bucket next taken more) allowed = absurd (none_taken_at_opening scene bucket taken)
+first_kind scene step move (is_refused party bucket next taken last) allowed = absurd (none_taken_at_opening scene bucket taken)
+first_kind scene step move (gives party bucket taken) allowed = absurd (none_held_at_opening scene bucket party taken)
+first_kind scene step move (detaches party bucket taken others) allowed = absurd (none_held_at_opening scene bucket party taken)
+first_kind scene step move (attaches party bucket idle detached) allowed = absurd (none_detached_at_opening scene bucket detached)
 first_kind scene step move (passes other) allowed = absurd allowed
 
 -- where all steps are allowed, the first takes a bucket
@@ -268,8 +248,7 @@ taken_is_held_alone scene flags logs log bucket agree one at taken =
 pub length-flags : (scene : PoolScene) (flags : List Bool) (logs : List PoolLog) →
     LogsAgree scene flags logs → length flags ≡ scene.geometry.buckets
 length-flags scene flags logs agree =
-    ap (λ (f : List Bool). length f) (sym agree.leaves)
-    ∙ length-map (left_by scene agree.steps).flags is_taken
+    ap (λ (f : List Bool). length f) (sym agree.leaves) ∙ length-map (left_by scene agree.steps).flags is_taken
     ∙ length-left_by scene agree.steps
 
 -- DETACHED BUCKETS

@@ -14,12 +14,11 @@ use Rattle.bb_memory_base.specs.PoolHistory.{entry_of, PoolLog, PoolEntry}
 use Rattle.bb_memory_base.specs.PoolLogs.{HasLog, held_after, pass_in, next_bucket, loss_at}
 use Rattle.bb_memory_base.specs.PoolLogs.{is_taken, IsAllowed, IsHeldAfter, IsDetachedAfter, LogsAgree, with_entry}
 use Rattle.bb_memory_base.proofs.SliceSets.{slice_get-set_other, slice_get-set_same}
-use Rattle.bb_memory_base.proofs.PoolSteps.{calls-left_by, test_below, length-left_by, test_same}
+use Rattle.bb_memory_base.proofs.PoolSteps.{calls-left_by, test_below, length-left_by, test_same, test_apart}
 use Rattle.bb_memory_base.proofs.PoolHolders.{holder_in_log}
 use Rattle.bb_memory_base.proofs.PoolFlags.{free_from_flag, taken_from_flag, taken_flags-again, taken_flags-set}
 use Rattle.bb_memory_base.proofs.PoolLogFacts.{held_is_taken, logs_apart, detached_from_logs}
-use Rattle.bb_memory_base.proofs.PoolLogEntries.{log_pass, try_is_of, try_at_is_of, give_is_of, detach_is_of, attach_is_of}
-use Rattle.bb_memory_base.proofs.PoolLogEntries.{agree_on}
+use Rattle.bb_memory_base.proofs.PoolLogEntries.{log_pass, agree_on}
 
 -- THE KINDS OF STEP
 
@@ -32,8 +31,7 @@ tries scene flags logs party log bucket agree made at next found is =
     let state : PoolState = left_by scene agree.steps in
     let pass : slice_get state.calls party ≡ Some (pass_in log) =
     log_pass scene agree.steps party made ∙ ap (λ (l : PoolLog). Some (pass_in l)) (agree.each party log at) in
-    ap (try_next state party) pass
-    ∙ ap (λ (b : ℕ). try_flag state party b (slice_get state.flags b)) next
+    ap (try_next state party) pass ∙ ap (λ (b : ℕ). try_flag state party b (slice_get state.flags b)) next
     ∙ ap (try_flag state party bucket) is
 
 pub take_agrees : (scene : PoolScene) (flags : List Bool) (logs : List PoolLog) (party : ℕ) (log : PoolLog) (bucket : ℕ) →
@@ -47,7 +45,7 @@ take_agrees scene flags logs party log bucket agree made at next free =
     let leaves = taken_flags-set state.flags bucket (HeldBy party)
     ∙ ap (λ (f : List Bool). slice_set f bucket true) agree.leaves in
     let new : List Bool = slice_set flags bucket true in
-    agree_on scene flags logs party log (Try party) agree at (try_is_of party) (taking state party bucket) is tt new leaves
+    agree_on scene flags logs party log (Try party) agree at (test_same party party refl) (test_apart party) (taking state party bucket) is tt new leaves
 
 -- it loses a taken one
 tries_taken : (state : PoolState) (party bucket : ℕ) → IsTaken state bucket →
@@ -68,10 +66,10 @@ loss_agrees : (scene : PoolScene) (flags : List Bool) (logs : List PoolLog) (par
     LogsAgree scene flags (with_entry logs party log (entry_of (Try party) (if more then Loses bucket else RefusedAtLoss bucket)))
 loss_agrees scene flags logs party log bucket agree at true is =
     let move : PoolMove = move_of (Loses bucket) (with_pass (left_by scene agree.steps) party (Some (bucket + 1))) in
-    agree_on scene flags logs party log (Try party) agree at (try_is_of party) move is tt flags agree.leaves
+    agree_on scene flags logs party log (Try party) agree at (test_same party party refl) (test_apart party) move is tt flags agree.leaves
 loss_agrees scene flags logs party log bucket agree at false is =
     let move : PoolMove = move_of (RefusedAtLoss bucket) (with_pass (left_by scene agree.steps) party None) in
-    agree_on scene flags logs party log (Try party) agree at (try_is_of party) move is tt flags agree.leaves
+    agree_on scene flags logs party log (Try party) agree at (test_same party party refl) (test_apart party) move is tt flags agree.leaves
 
 pub lose_agrees : (scene : PoolScene) (flags : List Bool) (logs : List PoolLog) (party : ℕ) (log : PoolLog) (bucket : ℕ) →
     LogsAgree scene flags logs → party < scene.parties → HasLog logs party log →
@@ -118,7 +116,7 @@ take_at_agrees scene flags logs party log bucket agree made at idle free =
     ∙ ap (λ (f : List Bool). slice_set f bucket true) agree.leaves in
     let step : PoolStep = TryAt party bucket in
     let new : List Bool = slice_set flags bucket true in
-    agree_on scene flags logs party log step agree at (try_at_is_of party bucket) (taking state party bucket) is tt new leaves
+    agree_on scene flags logs party log step agree at (test_same party party refl) (test_apart party) (taking state party bucket) is tt new leaves
 
 pub miss_agrees : (scene : PoolScene) (flags : List Bool) (logs : List PoolLog) (party : ℕ) (log : PoolLog) (bucket : ℕ) →
     LogsAgree scene flags logs → party < scene.parties → HasLog logs party log →
@@ -131,7 +129,7 @@ miss_agrees scene flags logs party log bucket agree made at idle taken =
     ∙ tries_taken_one state party bucket (taken_from_flag state flags bucket agree.leaves taken) in
     let step : PoolStep = TryAt party bucket in
     let move : PoolMove = move_of (Misses bucket) state in
-    agree_on scene flags logs party log step agree at (try_at_is_of party bucket) move is tt flags agree.leaves
+    agree_on scene flags logs party log step agree at (test_same party party refl) (test_apart party) move is tt flags agree.leaves
 
 pub give_agrees : (scene : PoolScene) (flags : List Bool) (logs : List PoolLog) (party : ℕ) (log : PoolLog) (bucket : ℕ) →
     LogsAgree scene flags logs → HasLog logs party log → IsHeldAfter log bucket →
@@ -145,7 +143,7 @@ give_agrees scene flags logs party log bucket agree at holds =
     let leaves = taken_flags-set state.flags bucket Free ∙ ap (λ (f : List Bool). slice_set f bucket false) agree.leaves in
     let step : PoolStep = GiveBack party bucket in
     let new : List Bool = slice_set flags bucket false in
-    agree_on scene flags logs party log step agree at (give_is_of party bucket) (return_of state bucket) is tt new leaves
+    agree_on scene flags logs party log step agree at (test_same party party refl) (test_apart party) (return_of state bucket) is tt new leaves
 
 held-push : (bucket : ℕ) (held : Bool) (log : PoolLog) (entry : PoolEntry) →
     fold (λ (h : Bool) (e : PoolEntry). held_after bucket h e.outcome) held (log ++ entry ∷ []) ≡
@@ -177,7 +175,7 @@ detach_agrees scene flags logs party log bucket agree others at holds =
     ∙ ap (λ (b : Bool). if b then detaching state bucket else passed state) more in
     let leaves = taken_flags-again state.flags bucket (HeldBy party) Detached found refl ∙ agree.leaves in
     let step : PoolStep = Detach party bucket in
-    agree_on scene flags logs party log step agree at (detach_is_of party bucket) (detaching state bucket) is tt flags leaves
+    agree_on scene flags logs party log step agree at (test_same party party refl) (test_apart party) (detaching state bucket) is tt flags leaves
 
 -- which is detached then
 pub detached_after : (scene : PoolScene) (flags : List Bool) (logs : List PoolLog) (party : ℕ) (log : PoolLog) (bucket : ℕ) →
@@ -212,7 +210,7 @@ attach_agrees scene flags logs party log bucket agree all made at idle moving =
     let leaves = taken_flags-again state.flags bucket Detached (HeldBy party) found refl ∙ agree.leaves in
     let step : PoolStep = Attach party bucket in
     let move : PoolMove = attaching state party bucket in
-    agree_on scene flags logs party log step agree at (attach_is_of party bucket) move is tt flags leaves
+    agree_on scene flags logs party log step agree at (test_same party party refl) (test_apart party) move is tt flags leaves
 
 -- THE OPENING
 

@@ -11,8 +11,8 @@ use Rattle.bb_memory_base.specs.PoolMachine.{opening_state, Flag, Free, PoolStep
 use Rattle.bb_memory_base.specs.PoolHistory.{entry_of, PoolEntry, pool_history, history_of}
 use Rattle.bb_memory_base.specs.PoolCalls.{IsLossAt, LosesAt, IsRefusedAt, FoundHeld, IsHeldInRun, MissesAt}
 use Rattle.bb_memory_base.proofs.SliceSets.{slice_get-same, slice_get-set_other, slice_get-set_same}
-use Rattle.bb_memory_base.proofs.PoolSteps.{IsNext, StepKind, takes, takes_at, loses, is_refused, gives, misses, passes, detaches}
-use Rattle.bb_memory_base.proofs.PoolSteps.{attaches, kind_of, length-left_by, length-step, next_of_idle}
+use Rattle.bb_memory_base.proofs.PoolSteps.{IsNext, StepKind, takes, takes_at, loses, is_refused, misses}
+use Rattle.bb_memory_base.proofs.PoolSteps.{kind_of, length-left_by, length-step, next_of_idle}
 use Rattle.bb_memory_base.proofs.PoolFlags.{taken_within}
 use Rattle.bb_memory_base.proofs.PoolRuns.{taken_is_held}
 
@@ -42,23 +42,15 @@ same_party party other same = cc
 
 -- each bucket is lost before a refusal, or at it
 at_refusal : (state : PoolState) (step : PoolStep) (move : PoolMove) (party last bucket : ℕ) →
-    StepKind state step move → step ≡ Try party → move.outcome ≡ RefusedAtLoss last →
-    bucket < length state.flags →
+    StepKind state step move → step ≡ Try party → move.outcome ≡ RefusedAtLoss last → bucket < length state.flags →
     (bucket < progress_of (slice_get state.calls party)) ⊎ IsLossAt bucket move.outcome
-at_refusal state step move party last bucket (takes other taken next free) by refusal below = absurd (cc)
-at_refusal state step move party last bucket (loses other lost next taken more) by refusal below = absurd (cc)
-at_refusal state step move party last bucket (gives other returned taken) by refusal below = absurd (cc)
-at_refusal state step move party last bucket (takes_at other taken idle free) by refusal below = absurd (cc)
-at_refusal state step move party last bucket (misses other missed idle taken) by refusal below = absurd (cc)
-at_refusal state step move party last bucket (detaches other sent taken others) by refusal below = absurd (cc)
-at_refusal state step move party last bucket (attaches other received idle detached) by refusal below = absurd (cc)
-at_refusal state step move party last bucket (passes other) by refusal below = absurd (cc)
 at_refusal state step move party last bucket (is_refused other lost next taken none) by refusal below =
     let at = progress_next state other party lost (same_party other party by) next in
     elim (below_or_at bucket lost (omega arith)) [
       | inl before ↦ inl (omega arith)
       | inr same ↦ inr same
     ]
+at_refusal state step move party last bucket _ by refusal below = absurd (cc)
 
 -- a pass that is over has lost none
 over : (state : PoolState) (other party bucket next : ℕ) → IsNext state other next →
@@ -79,13 +71,8 @@ at_progress state step move party bucket (takes other taken next free) less =
     inl (over state other party bucket taken next less)
 at_progress state step move party bucket (is_refused other lost next taken none) less =
     inl (over state other party bucket lost next less)
-at_progress state step move party bucket (gives other returned taken) less = inl less
 at_progress state step move party bucket (takes_at other taken idle free) less =
     inl (over state other party bucket 0 (next_of_idle state other idle) less)
-at_progress state step move party bucket (misses other missed idle taken) less = inl less
-at_progress state step move party bucket (detaches other sent taken others) less = inl less
-at_progress state step move party bucket (attaches other received idle detached) less = inl less
-at_progress state step move party bucket (passes other) less = inl less
 at_progress state step move party bucket (loses other lost next taken more) less = elim (cases_eq other party) [
   | inl same ↦
       let after = slice_get-set_same state.calls other party (Some (lost + 1)) next.pass same next.there in
@@ -100,21 +87,14 @@ at_progress state step move party bucket (loses other lost next taken more) less
   | inr apart ↦
       inl (omega (arith, ap progress_of (slice_get-set_other state.calls other party (Some (lost + 1)) apart), less))
 ]
+at_progress state step move party bucket _ less = inl less
 
 -- what is lost is taken
 taken_at_loss : (state : PoolState) (step : PoolStep) (move : PoolMove) (bucket : ℕ) → StepKind state step move →
     IsLossAt bucket move.outcome → IsTaken state bucket
-taken_at_loss state step move bucket (takes other taken next free) lost = absurd lost
-taken_at_loss state step move bucket (gives other returned taken) lost = absurd lost
-taken_at_loss state step move bucket (takes_at other taken idle free) lost = absurd lost
-taken_at_loss state step move bucket (misses other missed idle taken) lost = absurd lost
-taken_at_loss state step move bucket (detaches other sent taken others) lost = absurd lost
-taken_at_loss state step move bucket (attaches other received idle detached) lost = absurd lost
-taken_at_loss state step move bucket (passes other) lost = absurd lost
-taken_at_loss state step move bucket (loses other at next taken more) lost =
-    subst (IsTaken state) lost taken
-taken_at_loss state step move bucket (is_refused other at next taken none) lost =
-    subst (IsTaken state) lost taken
+taken_at_loss state step move bucket (loses other at next taken more) lost = subst (IsTaken state) lost taken
+taken_at_loss state step move bucket (is_refused other at next taken none) lost = subst (IsTaken state) lost taken
+taken_at_loss state step move bucket _ lost = absurd lost
 
 -- ONE PASS
 
@@ -147,8 +127,7 @@ after_first : (state : PoolState) (step : PoolStep) (steps : List PoolStep) (par
 after_first state step steps party last rest zero after within = absurd (omega arith)
 after_first state step steps party last rest (suc j) after within = rest j (omega arith)
 
-entry_parts : (step other : PoolStep) (outcome found : PoolOutcome) →
-    Some (entry_of step outcome) ≡ Some (entry_of other found) →
+entry_parts : (step other : PoolStep) (outcome found : PoolOutcome) → Some (entry_of step outcome) ≡ Some (entry_of other found) →
     (step ≡ other) × (outcome ≡ found)
 entry_parts step other outcome found same =
     let parts = same_Some (entry_of step outcome) (entry_of other found) same in
@@ -254,16 +233,8 @@ same_missed bucket other same = cc
 -- what is missed is taken
 taken_at_miss : (state : PoolState) (step : PoolStep) (move : PoolMove) (bucket : ℕ) → StepKind state step move →
     move.outcome ≡ Misses bucket → IsTaken state bucket
-taken_at_miss state step move bucket (takes other taken next free) is = absurd (cc)
-taken_at_miss state step move bucket (takes_at other taken idle free) is = absurd (cc)
-taken_at_miss state step move bucket (loses other lost next taken more) is = absurd (cc)
-taken_at_miss state step move bucket (is_refused other lost next taken none) is = absurd (cc)
-taken_at_miss state step move bucket (gives other returned taken) is = absurd (cc)
-taken_at_miss state step move bucket (detaches other sent taken others) is = absurd (cc)
-taken_at_miss state step move bucket (attaches other received idle detached) is = absurd (cc)
-taken_at_miss state step move bucket (passes other) is = absurd (cc)
-taken_at_miss state step move bucket (misses other at idle taken) is =
-    subst (IsTaken state) (same_missed at bucket is) taken
+taken_at_miss state step move bucket (misses other at idle taken) is = subst (IsTaken state) (same_missed at bucket is) taken
+taken_at_miss state step move bucket _ is = absurd (cc)
 
 taken_where_missed : (state : PoolState) (steps : List PoolStep) (party bucket k : ℕ) →
     MissesAt (pool_history state steps) party bucket k → IsTaken (pool_after state (take k steps)) bucket

@@ -1,6 +1,6 @@
 -- The takings and returns of a pool machine are a run of the pool object.
-use Rattle.std.proofs.Common.{◌≡◌, ℕ, zero, suc, ◌<◌, ◌↔◌, List, [], ◌∷◌, ◌++◌, length, replicate}
-use Rattle.std.proofs.Common.{refl, sym, ap, ◌∙◌, subst, arith, Bool, Option, Some, None, inl, inr}
+use Rattle.std.proofs.Common.{◌≡◌, ◌≢◌, ℕ, zero, suc, ◌<◌, ◌↔◌, List, [], ◌∷◌, ◌++◌, length, replicate}
+use Rattle.std.proofs.Common.{refl, sym, ap, ◌∙◌, subst, arith, Option, Some, None, inl, inr}
 use Rattle.std.specs.Prelude.{take, drop, slice_get, slice_set, remove, if◌then◌else◌}
 use Rattle.std.specs.List.{AllByRecursion}
 use Rattle.std.proofs.lemmas.Bool.{cases_eq}
@@ -12,9 +12,8 @@ use Rattle.bb_memory_base.specs.LiveList.{IsSound}
 use Rattle.bb_memory_base.specs.Run.{IsRun}
 use Rattle.bb_memory_base.specs.PoolGeometry.{PoolGeometry, bucket_place, IsPoolGeometry}
 use Rattle.bb_memory_base.specs.PoolObject.{IsAt, IsHeld, IsWithin, MayGive, chunk_in}
-use Rattle.bb_memory_base.specs.PoolMachine.{PoolScene, PoolState, PoolMove, IsFlag, IsHolder, IsTaken, with_flag, pool_step}
-use Rattle.bb_memory_base.specs.PoolMachine.{pool_after, opening_state, left_by, Flag, Free, HeldBy, Detached, PoolStep}
-use Rattle.bb_memory_base.specs.PoolMachine.{PoolOutcome}
+use Rattle.bb_memory_base.specs.PoolMachine.{PoolScene, PoolState, PoolMove, IsFlag, IsHolder, IsTaken, pool_step, pool_after}
+use Rattle.bb_memory_base.specs.PoolMachine.{opening_state, left_by, Flag, Free, HeldBy, Detached, PoolStep, PoolOutcome}
 use Rattle.bb_memory_base.specs.PoolHistory.{PoolLog, history_of, pool_history, outcomes_of}
 use Rattle.bb_memory_base.specs.PoolLogs.{is_taken}
 use Rattle.bb_memory_base.specs.PoolCalls.{IsCallRun, PoolCall, AreAsked, IsPoolRun}
@@ -24,8 +23,7 @@ use Rattle.bb_memory_base.proofs.PoolGeometries.{bucket_place-apart}
 use Rattle.bb_memory_base.proofs.PoolLists.{AreInBuckets, AreInBuckets-empty, AreInBuckets-push, AreInBuckets-remove}
 use Rattle.bb_memory_base.proofs.PoolLists.{sound_from_buckets, count_at, count_at-push_same, count_at-push_other}
 use Rattle.bb_memory_base.proofs.PoolLists.{count_at-remove_same, count_at-remove_other, at_from_count, count_from_at}
-use Rattle.bb_memory_base.proofs.PoolSteps.{StepKind, takes, takes_at, loses, is_refused, gives, misses, passes, kind_of}
-use Rattle.bb_memory_base.proofs.PoolSteps.{detaches, attaches}
+use Rattle.bb_memory_base.proofs.PoolSteps.{StepKind, takes, takes_at, gives, kind_of, detaches, attaches}
 
 -- STATES AND LISTS
 
@@ -40,21 +38,21 @@ weight_of_taken state bucket taken = elim taken [
 ]
 
 -- the list has one chunk in each bucket whose flag is taken, and no other
-record Matches (geometry : PoolGeometry) (state : PoolState) (live : List Chunk) : Type 0 where
-  flags : (bucket : ℕ) → bucket < geometry.buckets →
-      count_at (bucket_place geometry bucket) live ≡ taken_weight (slice_get state.flags bucket)
-  size : length state.flags ≡ geometry.buckets
+record Matches (geometry : PoolGeometry) (flags : List Flag) (live : List Chunk) : Type 0 where
+  each : (bucket : ℕ) → bucket < geometry.buckets →
+      count_at (bucket_place geometry bucket) live ≡ taken_weight (slice_get flags bucket)
+  size : length flags ≡ geometry.buckets
   buckets : AreInBuckets geometry live
 
 module _ (geometry : PoolGeometry) (is : IsPoolGeometry geometry) where
   -- a bucket whose flag is free may be given
   may_give : (state : PoolState) (live : List Chunk) (layout : Layout) (bucket : ℕ) →
-      Matches geometry state live → IsWithin geometry.bucket layout →
+      Matches geometry state.flags live → IsWithin geometry.bucket layout →
       IsFlag state bucket Free → MayGive geometry live layout bucket
   may_give state live layout bucket matches within free =
       let within_flags = slice_get_within state.flags bucket Free free in
       let below : bucket < geometry.buckets = omega (arith, within_flags, matches.size) in
-      let none : count_at (bucket_place geometry bucket) live ≡ 0 = matches.flags bucket below ∙ ap taken_weight free in
+      let none : count_at (bucket_place geometry bucket) live ≡ 0 = matches.each bucket below ∙ ap taken_weight free in
       record {
         within = within;
         bucket = below;
@@ -62,61 +60,67 @@ module _ (geometry : PoolGeometry) (is : IsPoolGeometry geometry) where
       }
 
   -- a bucket whose flag is taken has a chunk
-  held_from_flag : (state : PoolState) (live : List Chunk) (bucket : ℕ) → Matches geometry state live → IsTaken state bucket →
-      IsHeld geometry live bucket
+  held_from_flag : (state : PoolState) (live : List Chunk) (bucket : ℕ) → Matches geometry state.flags live →
+      IsTaken state bucket → IsHeld geometry live bucket
   held_from_flag state live bucket matches taken =
       let within_flags = taken_within state bucket taken in
       let below : bucket < geometry.buckets = omega (arith, within_flags, matches.size) in
-      let one : count_at (bucket_place geometry bucket) live ≡ 1 = matches.flags bucket below
-      ∙ weight_of_taken state bucket taken in
+      let one : count_at (bucket_place geometry bucket) live ≡ 1 = matches.each bucket below ∙ weight_of_taken state bucket taken in
       at_from_count (bucket_place geometry bucket) live (omega arith)
 
-  flags-take : (state : PoolState) (live : List Chunk) (layout : Layout) (party bucket : ℕ) →
-      Matches geometry state live → IsFlag state bucket Free → (b : ℕ) →
-      b < geometry.buckets →
-      count_at (bucket_place geometry b) (live ++ chunk_in geometry bucket layout ∷ []) ≡
-      taken_weight (slice_get (slice_set state.flags bucket (HeldBy party)) b)
-  flags-take state live layout party bucket matches free b below =
-      let place : ℕ = bucket_place geometry b in
-      let chunk : Chunk = chunk_in geometry bucket layout in
-      elim (cases_eq bucket b) [
-        | inl same ↦
-            let more = count_at-push_same place live chunk (ap (bucket_place geometry) same) in
-            let now = ap taken_weight (slice_get-set_same state.flags bucket b (HeldBy party) Free same free) in
-            let before = ap taken_weight (slice_get-same state.flags bucket b (Some Free) same free) in
-            omega (arith, matches.flags b below, more, now, before)
-        | inr apart ↦
-            let kept = count_at-push_other place live chunk (bucket_place-apart geometry is bucket b apart) in
-            let now = ap taken_weight (slice_get-set_other state.flags bucket b (HeldBy party) apart) in
-            omega (arith, matches.flags b below, kept, now)
-      ]
+  -- a flag is set, and the chunks in its bucket are as many as it then says, and in each other bucket as many as before
+  flag_set : (flags : List Flag) (live new : List Chunk) (bucket : ℕ) (before after : Flag) → Matches geometry flags live →
+      slice_get flags bucket ≡ Some before →
+      (count_at (bucket_place geometry bucket) live ≡ taken_weight (Some before) →
+      count_at (bucket_place geometry bucket) new ≡ taken_weight (Some after)) →
+      ((b : ℕ) → bucket ≢ b → count_at (bucket_place geometry b) new ≡ count_at (bucket_place geometry b) live) →
+      AreInBuckets geometry new → Matches geometry (slice_set flags bucket after) new
+  flag_set flags live new bucket before after matches there here others buckets = record {
+    each = λ b below. elim (cases_eq bucket b) [
+      | inl same ↦
+          let In : ℕ → Flag → List Chunk → Type 0 =
+          λ i flag list. count_at (bucket_place geometry i) list ≡ taken_weight (Some flag) in
+          let was = matches.each b below ∙ ap taken_weight (slice_get-same flags bucket b (Some before) same there) in
+          let now = here (subst (λ i. In i before live) (sym same) was) in
+          subst (λ i. In i after new) same now
+          ∙ sym (ap taken_weight (slice_get-set_same flags bucket b after before same there))
+      | inr apart ↦
+          others b apart ∙ matches.each b below ∙ sym (ap taken_weight (slice_get-set_other flags bucket b after apart))
+    ];
+    size = length-set flags bucket after ∙ matches.size;
+    buckets = buckets;
+  }
 
-  flags-give : (state : PoolState) (live : List Chunk) (bucket party position : ℕ) →
-      Matches geometry state live → IsHolder state bucket party →
-      IsAt live position (bucket_place geometry bucket) → (b : ℕ) → b < geometry.buckets →
-      count_at (bucket_place geometry b) (remove live position) ≡
-      taken_weight (slice_get (slice_set state.flags bucket Free) b)
-  flags-give state live bucket party position matches held at b below =
-      let place : ℕ = bucket_place geometry b in
-      elim (cases_eq bucket b) [
-        | inl same ↦
-            let At : ℕ → Type 0 = λ i. IsAt live position (bucket_place geometry i) in
-            let less = count_at-remove_same place position live (subst At same at) in
-            let now = ap taken_weight (slice_get-set_same state.flags bucket b Free (HeldBy party) same held) in
-            let before = ap taken_weight (slice_get-same state.flags bucket b (Some (HeldBy party)) same held) in
-            omega (arith, matches.flags b below, less, now, before)
-        | inr apart ↦
-            let other = bucket_place-apart geometry is bucket b apart in
-            let kept = count_at-remove_other place (bucket_place geometry bucket) position live at other in
-            let now = ap taken_weight (slice_get-set_other state.flags bucket b Free apart) in
-            omega (arith, matches.flags b below, kept, now)
-      ]
+  -- a free one is taken, and its chunk is given
+  flag_taken : (state : PoolState) (live : List Chunk) (layout : Layout) (party bucket : ℕ) →
+      Matches geometry state.flags live → IsWithin geometry.bucket layout → IsFlag state bucket Free →
+      Matches geometry (slice_set state.flags bucket (HeldBy party)) (live ++ chunk_in geometry bucket layout ∷ [])
+  flag_taken state live layout party bucket matches within free =
+      let chunk : Chunk = chunk_in geometry bucket layout in
+      let may = may_give state live layout bucket matches within free in
+      flag_set state.flags live (live ++ chunk ∷ []) bucket Free (HeldBy party) matches free
+      (λ none. omega (arith, none, count_at-push_same (bucket_place geometry bucket) live chunk refl))
+      (λ b apart. count_at-push_other (bucket_place geometry b) live chunk (bucket_place-apart geometry is bucket b apart))
+      (AreInBuckets-push geometry live layout bucket may matches.buckets)
+
+  -- one that a party holds is free again, and its chunk is taken out
+  flag_freed : (state : PoolState) (live : List Chunk) (bucket party position : ℕ) →
+      Matches geometry state.flags live → IsHolder state bucket party → position < length live →
+      IsAt live position (bucket_place geometry bucket) →
+      Matches geometry (slice_set state.flags bucket Free) (remove live position)
+  flag_freed state live bucket party position matches held within at =
+      let place : ℕ = bucket_place geometry bucket in
+      flag_set state.flags live (remove live position) bucket (HeldBy party) Free matches held
+      (λ one. omega (arith, one, count_at-remove_same place position live at))
+      (λ b apart. count_at-remove_other (bucket_place geometry b) place position live at
+      (bucket_place-apart geometry is bucket b apart))
+      (AreInBuckets-remove geometry live position within matches.buckets)
 
   -- ONE STEP
 
   -- what a step does is a call of the object, for each layout that it may ask for
   step_calls : (old : PoolState) (live : List Chunk) (layout : Layout) (step : PoolStep) (move : PoolMove) →
-      StepKind old step move → Matches geometry old live → IsWithin geometry.bucket layout →
+      StepKind old step move → Matches geometry old.flags live → IsWithin geometry.bucket layout →
       (new : List Chunk) × PoolCall geometry live layout move.outcome new
   step_calls old live layout step move (takes party bucket next free) matches within =
       let may = may_give old live layout bucket matches within free in
@@ -128,78 +132,33 @@ module _ (geometry : PoolGeometry) (is : IsPoolGeometry geometry) where
       let there : IsHeld geometry live bucket = held_from_flag old live bucket matches (inl (party, held)) in
       let within_live = slice_get_within live there.0 there.1.chunk there.1.there in
       (remove live there.0, (there.0, there.1, record { within = within_live; leaves = refl }))
-  step_calls old live layout step move (loses party bucket next taken more) matches within = (live, refl)
-  step_calls old live layout step move (is_refused party bucket next taken last) matches within = (live, refl)
-  step_calls old live layout step move (misses party bucket idle taken) matches within = (live, refl)
-  step_calls old live layout step move (detaches party bucket held others) matches within = (live, refl)
-  step_calls old live layout step move (attaches party bucket idle detached) matches within = (live, refl)
-  step_calls old live layout step move (passes other) matches within = (live, refl)
-
-  -- the parties' passes decide nothing
-  same_flags : (old new : PoolState) (live : List Chunk) → old.flags ≡ new.flags → Matches geometry old live →
-      Matches geometry new live
-  same_flags old new live same matches = record {
-    flags = λ b below. matches.flags b below ∙ ap (λ (flags : List Flag). taken_weight (slice_get flags b)) same;
-    size = ap (λ (flags : List Flag). length flags) (sym same) ∙ matches.size;
-    buckets = matches.buckets;
-  }
-
-  -- nor does who holds a taken bucket
-  taken_again : (old : PoolState) (live : List Chunk) (bucket : ℕ) (before after : Flag) → Matches geometry old live →
-      IsFlag old bucket before → is_taken before ≡ is_taken after → Matches geometry (with_flag old bucket after) live
-  taken_again old live bucket before after matches there alike = record {
-    flags = λ b below. elim (cases_eq bucket b) [
-      | inl same ↦
-          let was = ap taken_weight (slice_get-same old.flags bucket b (Some before) same there) in
-          let now = ap taken_weight (slice_get-set_same old.flags bucket b after before same there) in
-          matches.flags b below ∙ was ∙ ap (λ (b : Bool). if b then 1 else 0) alike ∙ sym now
-      | inr apart ↦
-          matches.flags b below ∙ sym (ap taken_weight (slice_get-set_other old.flags bucket b after apart))
-    ];
-    size = length-set old.flags bucket after ∙ matches.size;
-    buckets = matches.buckets;
-  }
+  step_calls old live layout step move _ matches within = (live, refl)
 
   -- whichever such call it is, the list has again a chunk in each bucket that is taken
   step_matches : (old : PoolState) (live new : List Chunk) (layout : Layout) (step : PoolStep)
-      (move : PoolMove) → StepKind old step move → Matches geometry old live →
-      PoolCall geometry live layout move.outcome new → Matches geometry move.state new
+      (move : PoolMove) → StepKind old step move → Matches geometry old.flags live →
+      PoolCall geometry live layout move.outcome new → Matches geometry move.state.flags new
   step_matches old live new layout step move (takes party bucket next free) matches call =
-      let may : MayGive geometry live layout bucket = may_give old live layout bucket matches call.answers.1.within free in
-      subst (Matches geometry move.state) (sym call.leaves) (record {
-        flags = flags-take old live layout party bucket matches free;
-        size = length-set old.flags bucket (HeldBy party) ∙ matches.size;
-        buckets = AreInBuckets-push geometry live layout bucket may matches.buckets;
-      })
+      subst (Matches geometry move.state.flags) (sym call.leaves)
+      (flag_taken old live layout party bucket matches call.answers.1.within free)
   step_matches old live new layout step move (takes_at party bucket idle free) matches call =
-      let may : MayGive geometry live layout bucket = may_give old live layout bucket matches call.answers.1.within free in
-      subst (Matches geometry move.state) (sym call.leaves) (record {
-        flags = flags-take old live layout party bucket matches free;
-        size = length-set old.flags bucket (HeldBy party) ∙ matches.size;
-        buckets = AreInBuckets-push geometry live layout bucket may matches.buckets;
-      })
+      subst (Matches geometry move.state.flags) (sym call.leaves)
+      (flag_taken old live layout party bucket matches call.answers.1.within free)
   step_matches old live new layout step move (gives party bucket held) matches (position, at, released) =
-      subst (Matches geometry move.state) (sym released.leaves) (record {
-        flags = flags-give old live bucket party position matches held at;
-        size = length-set old.flags bucket Free ∙ matches.size;
-        buckets = AreInBuckets-remove geometry live position released.within matches.buckets;
-      })
-  step_matches old live new layout step move (loses party bucket next taken more) matches call =
-      subst (Matches geometry move.state) (sym call) (same_flags old move.state live refl matches)
-  step_matches old live new layout step move (is_refused party bucket next taken last) matches call =
-      subst (Matches geometry move.state) (sym call) (same_flags old move.state live refl matches)
-  step_matches old live new layout step move (misses party bucket idle taken) matches call =
-      subst (Matches geometry old) (sym call) matches
+      subst (Matches geometry move.state.flags) (sym released.leaves)
+      (flag_freed old live bucket party position matches held released.within at)
   step_matches old live new layout step move (detaches party bucket held others) matches call =
-      subst (Matches geometry move.state) (sym call) (taken_again old live bucket (HeldBy party) Detached matches held refl)
+      subst (Matches geometry move.state.flags) (sym call) (flag_set old.flags live live bucket (HeldBy party) Detached matches held
+      (λ one. one) (λ b apart. refl) matches.buckets)
   step_matches old live new layout step move (attaches party bucket idle detached) matches call =
-      subst (Matches geometry move.state) (sym call) (taken_again old live bucket Detached (HeldBy party) matches detached refl)
-  step_matches old live new layout step move (passes other) matches call = subst (Matches geometry old) (sym call) matches
+      subst (Matches geometry move.state.flags) (sym call) (flag_set old.flags live live bucket Detached (HeldBy party) matches detached
+      (λ one. one) (λ b apart. refl) matches.buckets)
+  step_matches old live new layout step move _ matches call = subst (Matches geometry old.flags) (sym call) matches
 
   -- LISTS OF STEPS
 
   steps_call : (old : PoolState) (live : List Chunk) (steps : List PoolStep) (layouts : List Layout) →
-      Matches geometry old live → length layouts ≡ length steps →
+      Matches geometry old.flags live → length layouts ≡ length steps →
       AllByRecursion (IsWithin geometry.bucket) layouts →
       (new : List Chunk) × IsRun (PoolCall geometry) live layouts (outcomes_of (pool_history old steps)) new
   steps_call old live [] [] matches same within = (live, refl)
@@ -213,10 +172,10 @@ module _ (geometry : PoolGeometry) (is : IsPoolGeometry geometry) where
       (others.0, (first.0, first.1, others.1))
 
   steps_match : (old : PoolState) (live new : List Chunk) (steps : List PoolStep) (layouts : List Layout) →
-      Matches geometry old live →
+      Matches geometry old.flags live →
       IsRun (PoolCall geometry) live layouts (outcomes_of (pool_history old steps)) new →
-      Matches geometry (pool_after old steps) new
-  steps_match old live new [] [] matches run = subst (Matches geometry old) (sym run) matches
+      Matches geometry (pool_after old steps).flags new
+  steps_match old live new [] [] matches run = subst (Matches geometry old.flags) (sym run) matches
   steps_match old live new [] (layout ∷ layouts) matches run = absurd run
   steps_match old live new (step ∷ steps) [] matches run = absurd run
   steps_match old live new (step ∷ steps) (layout ∷ layouts) matches (mid, first, rest) =
@@ -231,10 +190,9 @@ free_at_opening zero bucket = refl
 free_at_opening (suc n) zero = refl
 free_at_opening (suc n) (suc bucket) = free_at_opening n bucket
 
-opening_matches : (scene : PoolScene) →
-    Matches scene.geometry (opening_state scene) []
+opening_matches : (scene : PoolScene) → Matches scene.geometry (opening_state scene).flags []
 opening_matches scene = record {
-  flags = λ bucket below. sym (free_at_opening scene.geometry.buckets bucket);
+  each = λ bucket below. sym (free_at_opening scene.geometry.buckets bucket);
   size = length-replicate scene.geometry.buckets Free;
   buckets = AreInBuckets-empty scene.geometry;
 }
@@ -249,7 +207,7 @@ pool_run scene steps layouts is asked =
 
 run_matches : (scene : PoolScene) (steps : List PoolStep) (layouts : List Layout)
     (live : List Chunk) → IsPoolGeometry scene.geometry → IsPoolRun scene steps layouts live →
-    Matches scene.geometry (left_by scene steps) live
+    Matches scene.geometry (left_by scene steps).flags live
 run_matches scene steps layouts live is run =
     let opening : PoolState = opening_state scene in
     steps_match scene.geometry is opening [] live steps layouts (opening_matches scene) run
@@ -267,11 +225,11 @@ pub taken_is_held : (scene : PoolScene) (steps : List PoolStep) (layouts : List 
     IsTaken (left_by scene steps) bucket ↔ IsHeld scene.geometry live bucket
 taken_is_held scene steps layouts live bucket is run below =
     let state : PoolState = left_by scene steps in
-    let matches : Matches scene.geometry state live = run_matches scene steps layouts live is run in (
+    let matches : Matches scene.geometry state.flags live = run_matches scene steps layouts live is run in (
       λ taken. held_from_flag scene.geometry is state live bucket matches taken,
       λ held.
           let some = count_from_at (bucket_place scene.geometry bucket) held.0 live held.1 in
-          taken_from_weight state bucket (slice_get state.flags bucket) refl (omega (arith, matches.flags bucket below, some)),
+          taken_from_weight state bucket (slice_get state.flags bucket) refl (omega (arith, matches.each bucket below, some)),
     )
 
 pub run_is_sound : (scene : PoolScene) (steps : List PoolStep) (layouts : List Layout)

@@ -28,14 +28,11 @@ next_of_idle state party idle = record { pass = None; there = idle; at = refl }
 pub data StepKind (state : PoolState) : PoolStep → PoolMove → Type 0 where
   takes : (party bucket : ℕ) → IsNext state party bucket → IsFlag state bucket Free →
       StepKind state (Try party) (taking state party bucket)
-  loses : (party bucket : ℕ) → IsNext state party bucket → IsTaken state bucket →
-      bucket + 1 < length state.flags →
+  loses : (party bucket : ℕ) → IsNext state party bucket → IsTaken state bucket → bucket + 1 < length state.flags →
       StepKind state (Try party) (move_of (Loses bucket) (with_pass state party (Some (bucket + 1))))
-  is_refused : (party bucket : ℕ) → IsNext state party bucket → IsTaken state bucket →
-      length state.flags ≤ bucket + 1 →
+  is_refused : (party bucket : ℕ) → IsNext state party bucket → IsTaken state bucket → length state.flags ≤ bucket + 1 →
       StepKind state (Try party) (move_of (RefusedAtLoss bucket) (with_pass state party None))
-  gives : (party bucket : ℕ) → IsHolder state bucket party →
-      StepKind state (GiveBack party bucket) (return_of state bucket)
+  gives : (party bucket : ℕ) → IsHolder state bucket party → StepKind state (GiveBack party bucket) (return_of state bucket)
   takes_at : (party bucket : ℕ) → IsIdle state party → IsFlag state bucket Free →
       StepKind state (TryAt party bucket) (taking state party bucket)
   misses : (party bucket : ℕ) → IsIdle state party → IsTaken state bucket →
@@ -101,14 +98,11 @@ kind_of_return state party bucket holder true test held =
     gives party bucket (held ∙ ap (λ (h : ℕ). Some (HeldBy h)) (same_from_test holder party test))
 kind_of_return state party bucket holder false test held = passes (GiveBack party bucket)
 
-kind_of_give : (state : PoolState) (party bucket : ℕ) (found : Option Flag) →
-    slice_get state.flags bucket ≡ found →
+kind_of_give : (state : PoolState) (party bucket : ℕ) (found : Option Flag) → slice_get state.flags bucket ≡ found →
     StepKind state (GiveBack party bucket) (give_flag state party bucket found)
-kind_of_give state party bucket None is = passes (GiveBack party bucket)
-kind_of_give state party bucket (Some Free) is = passes (GiveBack party bucket)
-kind_of_give state party bucket (Some Detached) is = passes (GiveBack party bucket)
 kind_of_give state party bucket (Some (HeldBy holder)) is =
     kind_of_return state party bucket holder (holder == party) refl is
+kind_of_give state party bucket _ is = passes (GiveBack party bucket)
 
 kind_of_one : (state : PoolState) (party bucket : ℕ) (found : Option Flag) → IsIdle state party →
     slice_get state.flags bucket ≡ found → StepKind state (TryAt party bucket) (try_one state party bucket found)
@@ -117,19 +111,15 @@ kind_of_one state party bucket (Some Free) idle is = takes_at party bucket idle 
 kind_of_one state party bucket (Some (HeldBy holder)) idle is = misses party bucket idle (inl (holder, is))
 kind_of_one state party bucket (Some Detached) idle is = misses party bucket idle (inr is)
 
-kind_of_try_at : (state : PoolState) (party bucket : ℕ) (found : Option (Option ℕ)) →
-    slice_get state.calls party ≡ found →
+kind_of_try_at : (state : PoolState) (party bucket : ℕ) (found : Option (Option ℕ)) → slice_get state.calls party ≡ found →
     StepKind state (TryAt party bucket) (try_at state party bucket found)
-kind_of_try_at state party bucket None is = passes (TryAt party bucket)
-kind_of_try_at state party bucket (Some None) is =
-    kind_of_one state party bucket (slice_get state.flags bucket) is refl
-kind_of_try_at state party bucket (Some (Some next)) is = passes (TryAt party bucket)
+kind_of_try_at state party bucket (Some None) is = kind_of_one state party bucket (slice_get state.flags bucket) is refl
+kind_of_try_at state party bucket _ is = passes (TryAt party bucket)
 
 kind_of_others : (state : PoolState) (party bucket : ℕ) (others : Bool) → nat_lt 1 (length state.calls) ≡ others →
     IsHolder state bucket party →
     StepKind state (Detach party bucket) (if others then detaching state bucket else passed state)
-kind_of_others state party bucket true test held =
-    detaches party bucket held (less_from_test 1 (length state.calls) test)
+kind_of_others state party bucket true test held = detaches party bucket held (less_from_test 1 (length state.calls) test)
 kind_of_others state party bucket false test held = passes (Detach party bucket)
 
 kind_of_detach_of : (state : PoolState) (party bucket holder : ℕ) (same : Bool) → (holder == party) ≡ same →
@@ -140,30 +130,21 @@ kind_of_detach_of state party bucket holder true test held =
     (held ∙ ap (λ (h : ℕ). Some (HeldBy h)) (same_from_test holder party test))
 kind_of_detach_of state party bucket holder false test held = passes (Detach party bucket)
 
-kind_of_detach : (state : PoolState) (party bucket : ℕ) (found : Option Flag) →
-    slice_get state.flags bucket ≡ found →
+kind_of_detach : (state : PoolState) (party bucket : ℕ) (found : Option Flag) → slice_get state.flags bucket ≡ found →
     StepKind state (Detach party bucket) (detach_flag state party bucket found)
-kind_of_detach state party bucket None is = passes (Detach party bucket)
-kind_of_detach state party bucket (Some Free) is = passes (Detach party bucket)
-kind_of_detach state party bucket (Some Detached) is = passes (Detach party bucket)
 kind_of_detach state party bucket (Some (HeldBy holder)) is =
     kind_of_detach_of state party bucket holder (holder == party) refl is
+kind_of_detach state party bucket _ is = passes (Detach party bucket)
 
 kind_of_attach_flag : (state : PoolState) (party bucket : ℕ) (found : Option Flag) → IsIdle state party →
-    slice_get state.flags bucket ≡ found →
-    StepKind state (Attach party bucket) (attach_flag state party bucket found)
-kind_of_attach_flag state party bucket None idle is = passes (Attach party bucket)
-kind_of_attach_flag state party bucket (Some Free) idle is = passes (Attach party bucket)
+    slice_get state.flags bucket ≡ found → StepKind state (Attach party bucket) (attach_flag state party bucket found)
 kind_of_attach_flag state party bucket (Some Detached) idle is = attaches party bucket idle is
-kind_of_attach_flag state party bucket (Some (HeldBy holder)) idle is = passes (Attach party bucket)
+kind_of_attach_flag state party bucket _ idle is = passes (Attach party bucket)
 
-kind_of_attach : (state : PoolState) (party bucket : ℕ) (found : Option (Option ℕ)) →
-    slice_get state.calls party ≡ found →
+kind_of_attach : (state : PoolState) (party bucket : ℕ) (found : Option (Option ℕ)) → slice_get state.calls party ≡ found →
     StepKind state (Attach party bucket) (attach state party bucket found)
-kind_of_attach state party bucket None is = passes (Attach party bucket)
-kind_of_attach state party bucket (Some None) is =
-    kind_of_attach_flag state party bucket (slice_get state.flags bucket) is refl
-kind_of_attach state party bucket (Some (Some next)) is = passes (Attach party bucket)
+kind_of_attach state party bucket (Some None) is = kind_of_attach_flag state party bucket (slice_get state.flags bucket) is refl
+kind_of_attach state party bucket _ is = passes (Attach party bucket)
 
 -- each step is of some kind
 pub kind_of : (state : PoolState) (step : PoolStep) → StepKind state step (pool_step state step)
@@ -185,8 +166,7 @@ length-step state step move (attaches party bucket idle detached) = length-set s
 length-step state step move _ = refl
 
 -- steps leave as many flags as there were
-pub length-after : (state : PoolState) (steps : List PoolStep) →
-    length (pool_after state steps).flags ≡ length state.flags
+pub length-after : (state : PoolState) (steps : List PoolStep) → length (pool_after state steps).flags ≡ length state.flags
 length-after state [] = refl
 length-after state (step ∷ steps) =
     let move : PoolMove = pool_step state step in
@@ -194,8 +174,7 @@ length-after state (step ∷ steps) =
 
 -- there are always as many flags as buckets
 pub length-left_by : (scene : PoolScene) (steps : List PoolStep) → length (left_by scene steps).flags ≡ scene.geometry.buckets
-length-left_by scene steps =
-    length-after (opening_state scene) steps ∙ length-replicate {A = Flag} scene.geometry.buckets Free
+length-left_by scene steps = length-after (opening_state scene) steps ∙ length-replicate {A = Flag} scene.geometry.buckets Free
 
 -- HOW MANY PARTIES THERE ARE
 
@@ -207,8 +186,7 @@ calls-step state step move (loses party bucket next taken more) = length-set sta
 calls-step state step move (is_refused party bucket next taken last) = length-set state.calls party None
 calls-step state step move _ = refl
 
-calls-after : (state : PoolState) (steps : List PoolStep) →
-    length (pool_after state steps).calls ≡ length state.calls
+calls-after : (state : PoolState) (steps : List PoolStep) → length (pool_after state steps).calls ≡ length state.calls
 calls-after state [] = refl
 calls-after state (step ∷ steps) =
     let move : PoolMove = pool_step state step in
@@ -216,5 +194,4 @@ calls-after state (step ∷ steps) =
 
 -- there are always as many parties as were made
 pub calls-left_by : (scene : PoolScene) (steps : List PoolStep) → length (left_by scene steps).calls ≡ scene.parties
-calls-left_by scene steps =
-    calls-after (opening_state scene) steps ∙ length-replicate {A = Option ℕ} scene.parties None
+calls-left_by scene steps = calls-after (opening_state scene) steps ∙ length-replicate {A = Option ℕ} scene.parties None

@@ -39,14 +39,13 @@ power_of_two-positive n power = omega (arith, power.1, pow_pos power.0)
 
 -- a power of two below 2 ^ 64 divides 2 ^ 64
 pub power_of_two-divides : (n : ℕ) → IsPowerOfTwo n → n < 2 ^ 64 → (k : ℕ) × (2 ^ 64 ≡ k * n)
-power_of_two-divides n power small =
-    elim (cases_lt power.0 64) [
-      | inl low ↦
-          let parts : 64 ≡ (64 - power.0) + power.0 = omega arith in
-          let back = ap (λ (m : ℕ). 2 ^ (64 - power.0) * m) (sym power.1) in
-          (2 ^ (64 - power.0), ap (λ j. 2 ^ j) parts ∙ pow-add 2 (64 - power.0) power.0 ∙ back)
-      | inr high ↦ absurd (omega (arith, power.1, pow_mono high))
-    ]
+power_of_two-divides n power small = elim (cases_lt power.0 64) [
+  | inl low ↦
+      let parts : 64 ≡ (64 - power.0) + power.0 = omega arith in
+      let back = ap (λ (m : ℕ). 2 ^ (64 - power.0) * m) (sym power.1) in
+      (2 ^ (64 - power.0), ap (λ j. 2 ^ j) parts ∙ pow-add 2 (64 - power.0) power.0 ∙ back)
+  | inr high ↦ absurd (omega (arith, power.1, pow_mono high))
+]
 
 -- to clear the bits below a power of two takes the rest away
 pub power_of_two-clears : (n align : ℕ) → IsPowerOfTwo align → align < 2 ^ 64 → n < 2 ^ 64 →

@@ -13,8 +13,7 @@ pub IsRun-push : {S C R : Type 0} (step : S → C → R → S → Type 0) (old m
     (commands : List C) (replies : List R) (command : C) (reply : R) →
     IsRun step old commands replies mid → step mid command reply new →
     IsRun step old (commands ++ command ∷ []) (replies ++ reply ∷ []) new
-IsRun-push step old mid new [] [] command reply same next =
-    (new, subst (λ state. step state command reply new) same next, refl)
+IsRun-push step old mid new [] [] command reply same next = (new, subst (λ state. step state command reply new) same next, refl)
 IsRun-push step old mid new (c ∷ commands) (r ∷ replies) command reply (then, first, rest) next =
     (then, first, IsRun-push step then mid new commands replies command reply rest next)
 IsRun-push step old mid new [] (r ∷ replies) command reply none next = absurd none

@@ -1,6 +1,6 @@
 -- Reads of a list at a position, after a write or a push and in a list of one value.
 use Rattle.std.proofs.Common.{◌≡◌, ◌≢◌, ℕ, zero, suc, ◌<◌, List, [], ◌∷◌, ◌++◌, length}
-use Rattle.std.proofs.Common.{replicate, refl, sym, ap, ◌∙◌, arith, Option, Some, None, IsSome, ◌⊎◌, inl, inr}
+use Rattle.std.proofs.Common.{replicate, refl, sym, ap, arith, Option, Some, None, IsSome, ◌⊎◌, inl, inr}
 use Rattle.std.specs.Prelude.{slice_get, slice_set, option_copied}
 use Rattle.std.specs.Slice.{IsItemAt}
 use Rattle.std.proofs.lemmas.Option.{slice_get_past, slice_get_read}
@@ -45,13 +45,6 @@ length-set_at [] i x = refl
 length-set_at (y ∷ ys) zero x = refl
 length-set_at (y ∷ ys) (suc i) x = ap suc (length-set_at ys i x)
 
--- a list of one element has it at position 0
-pub slice_get-single : {X : Type 0} (xs : List X) (i : ℕ) (x : X) → length xs ≡ 1 → slice_get xs i ≡ Some x → i ≡ 0
-slice_get-single [] i x one is = absurd (omega arith)
-slice_get-single (y ∷ ys) zero x one is = refl
-slice_get-single (y ∷ []) (suc i) x one is = absurd (cc)
-slice_get-single (y ∷ z ∷ ys) (suc i) x one is = absurd (omega arith)
-
 -- a place at which a list has something is one of the list
 pub slice_get-some : {X : Type 0} (xs : List X) (i : ℕ) → IsSome (slice_get xs i) → i < length xs
 slice_get-some [] i some = cc
@@ -81,9 +74,3 @@ pub slice_get-lent : {X : Type 0} (xs : List X) (i : ℕ) (lent : Option (Bor X)
     option_copied lent ≡ slice_get xs i
 slice_get-lent xs i None is = sym (slice_get_past xs i is.3)
 slice_get-lent xs i (Some x) is = sym (slice_get_read xs (length xs) i x.now refl is.3.0 is.1)
-
--- and so is what is copied of it
-pub slice_get-copied : {X : Type 0} (xs ys : List X) (i : ℕ) (lent : Option (Bor X)) (copied : Option X) →
-    copied ≡ option_copied lent → IsItemAt xs i lent → xs ≡ ys → slice_get ys i ≡ copied
-slice_get-copied xs ys i lent copied is lends same =
-    sym (is ∙ slice_get-lent xs i lent lends ∙ ap (λ zs. slice_get zs i) same)

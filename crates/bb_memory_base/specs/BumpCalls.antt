@@ -15,15 +15,13 @@ pub data BumpCall : Type 0 where
 
 -- From `old` the bump object may make this call, and goes on to `new`. A clear empties every list, also the empty one.
 abbrev pub CallStep : Region → List Chunk → BumpCall → List Chunk → Type 0
-CallStep region old (Allocate layout answer) new =
-    Allocates (bump_object region) old layout answer new
+CallStep region old (Allocate layout answer) new = Allocates (bump_object region) old layout answer new
 CallStep region old ClearAll new = new ≡ []
 
 -- the calls, one after another, are a run of the bump object from `old` to `new`
 abbrev pub IsCallRun : Region → List Chunk → List BumpCall → List Chunk → Type 0
 IsCallRun region old [] new = new ≡ old
-IsCallRun region old (call ∷ calls) new =
-    (mid : List Chunk) × CallStep region old call mid × IsCallRun region mid calls new
+IsCallRun region old (call ∷ calls) new = (mid : List Chunk) × CallStep region old call mid × IsCallRun region mid calls new
 
 -- the list that these calls leave: chunks are appended, and a clear empties it
 abbrev pub left_by_calls : List Chunk → List BumpCall → List Chunk

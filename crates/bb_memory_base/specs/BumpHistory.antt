@@ -16,7 +16,7 @@ entry_of step outcome = record { step = step; outcome = outcome }
 abbrev pub BumpLog : Type 0
 BumpLog = List BumpEntry
 
--- what a step in this state is entered as
+-- the entry of a step that is taken in this state
 abbrev pub entry_at : Region → BumpState → BumpStep → BumpEntry
 entry_at region state step = entry_of step (bump_step region state step).outcome
 
@@ -37,7 +37,7 @@ stretch_after scene before stretch = bump_history scene.region (left_by scene be
 abbrev pub outcomes_of : BumpLog → List BumpOutcome
 outcomes_of history = map (λ entry. entry.outcome) history
 
--- what a step answers that comes after these
+-- the answer to a step that comes after these
 abbrev pub outcome_after : BumpScene → List BumpStep → BumpStep → BumpOutcome
 outcome_after scene steps step = (bump_step scene.region (left_by scene steps) step).outcome
 

@@ -12,11 +12,10 @@ use Rattle.bb_memory_base.specs.BumpHistory.{BumpEntry, BumpLog, history_of, log
 abbrev pub seen_at : ℕ → OngoingCall → OngoingCall
 seen_at position call = record { layout = call.layout; seen = position }
 
--- what a party is in after an outcome of its own step: a read that sees a position begins a call, a loss at which the layout fits
+-- the call of a party after an outcome of its own step: a read that sees a position begins one, a loss at which the layout fits
 -- goes on with it, and a win or a refusal ends it
 abbrev pub call_left : BumpOutcome → BumpStep → Option OngoingCall → Option OngoingCall
-call_left (Sees position) (Read party layout) call =
-    Some (record { layout = layout; seen = position })
+call_left (Sees position) (Read party layout) call = Some (record { layout = layout; seen = position })
 call_left (Loses position) step call = option_map (λ ongoing. seen_at position ongoing) call
 call_left (Wins chunk) step call = None
 call_left (RefusedAtRead position) step call = None
@@ -33,7 +32,7 @@ call_through call log = fold call_after call log
 abbrev pub call_in : BumpLog → Option OngoingCall
 call_in log = call_through None log
 
--- WHAT A PARTY HAS SEEN
+-- POSITIONS THAT A PARTY HAS SEEN
 
 -- the position that a step found, or that its win made
 abbrev pub position_in : Region → BumpOutcome → Option ℕ
@@ -47,12 +46,10 @@ position_in region _ = None
 
 -- the entry's position, if it has one, is at least this, and at most this
 abbrev pub HasPositionFrom : ℕ → Region → BumpEntry → Type 0
-HasPositionFrom least region entry =
-    IfSome (position_in region entry.outcome) (λ position. least ≤ position)
+HasPositionFrom least region entry = IfSome (position_in region entry.outcome) (λ position. least ≤ position)
 
 abbrev pub HasPositionUpTo : ℕ → Region → BumpEntry → Type 0
-HasPositionUpTo most region entry =
-    IfSome (position_in region entry.outcome) (λ position. position ≤ most)
+HasPositionUpTo most region entry = IfSome (position_in region entry.outcome) (λ position. position ≤ most)
 
 abbrev pub greater_of : ℕ → Option ℕ → ℕ
 greater_of seen (Some position) = max seen position
@@ -60,10 +57,9 @@ greater_of seen None = seen
 
 -- the greatest of a position and those in a log
 abbrev pub greatest_in : Region → ℕ → BumpLog → ℕ
-greatest_in region seen log =
-    fold (λ most entry. greater_of most (position_in region entry.outcome)) seen log
+greatest_in region seen log = fold (λ most entry. greater_of most (position_in region entry.outcome)) seen log
 
--- what a party with this log has seen: the greatest position in it, or the opening where it is empty
+-- the position that a party with this log has seen: the greatest one in it, or the opening where the log is empty
 abbrev pub seen_in : BumpScene → BumpLog → ℕ
 seen_in scene log = greatest_in scene.region scene.opening log
 
@@ -96,8 +92,7 @@ with_entry logs party log entry = slice_set logs party (log ++ entry ∷ [])
 
 -- an interleaving of this party's log with some logs of the others, which leaves this position: a list of steps, each
 -- allowed, that has as the party's steps exactly its log, in order
-pub record Interleaving (scene : BumpScene) (party : ℕ) (log : BumpLog) (position : ℕ)
-    : Type 0 where
+pub record Interleaving (scene : BumpScene) (party : ℕ) (log : BumpLog) (position : ℕ) : Type 0 where
   pub steps : List BumpStep
   pub allowed : AllAllowed (history_of scene steps)
   pub leaves : (left_by scene steps).position ≡ position

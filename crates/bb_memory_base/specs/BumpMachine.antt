@@ -22,7 +22,7 @@ pub record BumpState : Type 0 where
   pub position : ℕ
   pub calls : List (Option OngoingCall)
 
--- where a machine begins: its region, the position that it opens at, and how many parties it has
+-- the beginning of a machine: its region, the position that it opens at, and how many parties it has
 pub record BumpScene : Type 0 where
   pub region : Region
   pub opening : ℕ
@@ -44,10 +44,9 @@ IsInCall state party call = slice_get state.calls party ≡ Some (Some call)
 abbrev pub chunk_at : Region → ℕ → Layout → Chunk
 chunk_at region position layout = chunk_at_or_after (region.start + position) layout
 
--- that chunk ends inside the region
+-- the chunk of a layout at a position ends inside the region
 abbrev pub fits : Region → ℕ → Layout → Bool
-fits region position layout =
-    nat_le (chunk_end (chunk_at region position layout)) (region_end region)
+fits region position layout = nat_le (chunk_end (chunk_at region position layout)) (region_end region)
 
 -- the position that ends with a chunk
 abbrev pub position_behind : Region → Chunk → ℕ
@@ -59,12 +58,11 @@ pub record IsFitting (region : Region) (call : OngoingCall) : Type 0 where
   pub fitting : fits region call.seen call.layout ≡ true
 
 abbrev pub AllFitting : Region → BumpState → Type 0
-AllFitting region state =
-    (party : ℕ) (call : OngoingCall) → IsInCall state party call → IsFitting region call
+AllFitting region state = (party : ℕ) (call : OngoingCall) → IsInCall state party call → IsFitting region call
 
 -- STEPS
 
--- what a step of a party answers, and what it makes of the position and of the party's call
+-- the answer to a step of a party, and the position and the party's call after it
 pub record PartyMove : Type 0 where
   pub outcome : BumpOutcome
   pub position : ℕ
@@ -102,7 +100,7 @@ exchange_move region position call =
     then ending (Wins chunk) (position_behind region chunk)
     else loss_move region position call.layout
 
--- what a step answers, and what it leaves
+-- the answer to a step, and the state after it
 pub record BumpMove : Type 0 where
   pub outcome : BumpOutcome
   pub state : BumpState
@@ -121,14 +119,11 @@ moved state party turn = record {
 -- a read by a party that is idle (Some None), in a call (Some (Some call)) or not there (None)
 abbrev pub read : Region → BumpState → ℕ → Layout → Option (Option OngoingCall) → BumpMove
 read region state party layout (Some None) =
-    if layout.size == 0
-    then passed state
-    else moved state party (read_move region state.position layout)
+    if layout.size == 0 then passed state else moved state party (read_move region state.position layout)
 read region state party layout _ = passed state
 
 abbrev pub exchange : Region → BumpState → ℕ → Option (Option OngoingCall) → BumpMove
-exchange region state party (Some (Some call)) =
-    moved state party (exchange_move region state.position call)
+exchange region state party (Some (Some call)) = moved state party (exchange_move region state.position call)
 exchange region state party _ = passed state
 
 abbrev pub load : BumpState → Option (Option OngoingCall) → BumpMove
@@ -137,14 +132,10 @@ load state _ = passed state
 
 -- one atomic step
 abbrev pub bump_step : Region → BumpState → BumpStep → BumpMove
-bump_step region state (Read party layout) =
-    read region state party layout (slice_get state.calls party)
+bump_step region state (Read party layout) = read region state party layout (slice_get state.calls party)
 bump_step region state (Exchange party) = exchange region state party (slice_get state.calls party)
 bump_step region state (Load party) = load state (slice_get state.calls party)
-bump_step region state Clear = record {
-  outcome = Cleared;
-  state = record { position = 0; calls = state.calls };
-}
+bump_step region state Clear = record { outcome = Cleared; state = record { position = 0; calls = state.calls } }
 
 -- the state that a list of steps leaves
 abbrev pub bump_after : Region → BumpState → List BumpStep → BumpState

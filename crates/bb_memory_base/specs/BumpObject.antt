@@ -19,15 +19,14 @@ chunk_at_or_after v layout = record { place = least_place v layout.align; len = 
 abbrev pub next_chunk : Region → List Chunk → Layout → Chunk
 next_chunk region live layout = chunk_at_or_after (end_of_last region.start live) layout
 
--- What the bump object may answer, and when.
+-- Answers that the bump object may give, and when.
 abbrev pub MayAllocate : Region → List Chunk → Layout → Result Chunk AllocationError → Type 0
 MayAllocate region live layout (Ok chunk) =
-    (0 < layout.size) × (chunk_end chunk ≤ region_end region)
-    × (chunk ≡ next_chunk region live layout)
+    (0 < layout.size) × (chunk_end chunk ≤ region_end region) × (chunk ≡ next_chunk region live layout)
 MayAllocate region live layout (Err SizeIsZero) = layout.size ≡ 0
 MayAllocate region live layout (Err OutOfMemory) =
     (0 < layout.size) × (region_end region < chunk_end (next_chunk region live layout))
--- it never refuses so
+-- no request is refused so
 MayAllocate region live layout (Err SizeTooLarge) = ⊥
 MayAllocate region live layout (Err AlignmentFailure) = ⊥
 

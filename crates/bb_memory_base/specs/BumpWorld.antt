@@ -44,27 +44,26 @@ opened region parties =
 abbrev pub in_state : BumpWorld → BumpState → BumpWorld
 in_state world state = record { region = world.region; state = state }
 
--- what the machine answers to a step, and the world that it leaves
+-- the machine's answer to a step, and the world after it
 abbrev pub outcome_of : BumpWorld → BumpStep → BumpOutcome
 outcome_of world step = (bump_step world.region world.state step).outcome
 
 abbrev pub after_step : BumpWorld → BumpStep → BumpWorld
 after_step world step = in_state world (bump_step world.region world.state step).state
 
--- what a call that takes a step answers, and the world that it leaves
+-- the answer of a call that takes a step, and the world after it
 pub record Steps (old : BumpWorld) (step : BumpStep) (answer : BumpOutcome) (new : BumpWorld) : Type 0 where
   pub outcome : answer ≡ outcome_of old step
   pub state : new ≡ after_step old step
 
--- the same of a list of steps
+-- the answers to a list of steps
 abbrev pub outcomes_of : BumpWorld → List BumpStep → List BumpOutcome
-outcomes_of world steps =
-    histories.outcomes_of (histories.bump_history world.region world.state steps)
+outcomes_of world steps = histories.outcomes_of (histories.bump_history world.region world.state steps)
 
 abbrev pub after_steps : BumpWorld → List BumpStep → BumpWorld
 after_steps world steps = in_state world (bump_after world.region world.state steps)
 
--- what a call that takes them all answers; where memory is refused for the answers, it takes none
+-- the answers of a call that takes a list of steps; where memory is refused for them, no step is taken
 pub record Replays {Z E : Type 0} (old : BumpWorld) (steps : List BumpStep) (answer : Result (Vec BumpOutcome Z) E)
     (new : BumpWorld) : Type 0 where
   pub outcomes : IfOk answer (λ found. found.items ≡ outcomes_of old steps)

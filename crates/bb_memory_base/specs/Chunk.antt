@@ -23,11 +23,11 @@ pub record IsChunk (chunk : Chunk) : Type 0 where
 abbrev pub Covers : Chunk → ℕ → Type 0
 Covers chunk n = (chunk.place ≤ n) × (n < chunk_end chunk)
 
--- it begins at or behind the other's place, and ends at or before its end
+-- a part of a chunk begins at or behind the chunk's place, and ends at or before its end
 abbrev pub IsPart : Chunk → Chunk → Type 0
 IsPart part whole = (whole.place ≤ part.place) × (chunk_end part ≤ chunk_end whole)
 
--- they share a number
+-- two chunks share a number
 abbrev pub Overlap : Chunk → Chunk → Type 0
 Overlap one other = (n : ℕ) × Covers one n × Covers other n
 

@@ -1,4 +1,4 @@
--- Where a layout's first chunk begins in a region.
+-- The place of a layout's first chunk in a region.
 use Rattle.std.specs.Prelude.{ℕ}
 use Rattle.bb_memory_base.specs.Chunk.{Region, Layout}
 use Rattle.bb_memory_base.specs.LeastPlace.{least_place}

@@ -16,8 +16,7 @@ abbrev pub bytes_before : HeldBytes → Chunk → List ℕ
 bytes_before held chunk = take (chunk.place - held.start) held.bytes
 
 abbrev pub bytes_in : HeldBytes → Chunk → List ℕ
-bytes_in held chunk =
-    slice_range held.bytes (chunk.place - held.start) (chunk.place - held.start + chunk.len)
+bytes_in held chunk = slice_range held.bytes (chunk.place - held.start) (chunk.place - held.start + chunk.len)
 
 abbrev pub bytes_behind : HeldBytes → Chunk → List ℕ
 bytes_behind held chunk = drop (chunk.place - held.start + chunk.len) held.bytes
@@ -38,12 +37,12 @@ ZeroesOnly old new chunk = ChangesOnly old new chunk (replicate chunk.len 0)
 abbrev pub first_part : ℕ → Chunk → Chunk
 first_part size chunk = record { place = chunk.place; len = size }
 
--- where a chunk is answered, this part of it is zeroed alone, and a refusal leaves every byte
+-- an answered chunk has this part of it zeroed, and nothing else; a refusal leaves every byte
 pub record ZeroesAnswered {Error : Type 0} (part : Chunk → Chunk) (old new : HeldBytes)
     (answer : Result Chunk Error) : Type 0 where
   pub zeroed : IfOk answer (λ chunk. ZeroesOnly old new (part chunk))
   pub still : OnErr answer (new ≡ old)
 
--- what a chunk has behind its first bytes
+-- the rest of a chunk behind its first bytes
 abbrev pub part_behind : ℕ → Chunk → Chunk
 part_behind size chunk = record { place = chunk.place + size; len = chunk.len - size }

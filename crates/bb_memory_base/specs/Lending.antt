@@ -1,4 +1,4 @@
--- What becomes of a region whose chunk was lent.
+-- The bytes of a region after one of its chunks was lent.
 use Rattle.std.specs.Prelude.{ℕ, ◌+◌, ◌-◌, List, ◌++◌, take, drop, length}
 use Rattle.std.specs.Borrow.{Lends, MutBor, Fml, u8, Array}
 use Rattle.bb_memory_base.specs.Chunk.{Chunk}

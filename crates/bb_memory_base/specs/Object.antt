@@ -3,14 +3,13 @@ use Rattle.std.specs.Prelude.{◌≡◌, ℕ, ◌<◌, Bool, true, false, List, 
 use Rattle.bb_memory_base.specs.Chunk.{Chunk, Layout, AllocationError}
 
 pub record Object : Type 1 where
-  -- whether a release gives back all chunks at once
+  -- a release gives back all chunks at once, or one
   pub release_empties : Bool
-  -- what it may answer to a request for a layout on a live list
+  -- answers that the object may give to a request for a layout on a live list
   pub may_allocate : List Chunk → Layout → Result Chunk AllocationError → Type 0
 
 abbrev pub object_of : Bool → (List Chunk → Layout → Result Chunk AllocationError → Type 0) → Object
-object_of release_empties may_allocate =
-    record { release_empties = release_empties; may_allocate = may_allocate }
+object_of release_empties may_allocate = record { release_empties = release_empties; may_allocate = may_allocate }
 
 -- the list after an answer: a chunk is appended, and a refusal changes nothing
 abbrev pub appended : List Chunk → Result Chunk AllocationError → List Chunk
@@ -29,12 +28,11 @@ pub record Allocates (object : Object) (old : List Chunk) (layout : Layout)
   pub leaves : new ≡ appended old answer
 
 -- from `old` the chunk at a position is given back, and the object goes on to `new`
-pub record Releases (object : Object) (old : List Chunk) (position : ℕ) (new : List Chunk)
-    : Type 0 where
+pub record Releases (object : Object) (old : List Chunk) (position : ℕ) (new : List Chunk) : Type 0 where
   pub within : position < length old
   pub leaves : new ≡ released object.release_empties old position
 
--- WHAT MAY BE SAID OF ALL ITS ANSWERS
+-- ALL ANSWERS
 
 -- there is an answer to each request on each live list
 abbrev pub AnswersAll : Object → Type 0

@@ -28,36 +28,32 @@ LacksRoom region layout =
     (region_end region ≤ first_place region layout)
     ⊎ (region_end region < first_place region layout + layout.size)
 
--- What the one-chunk object may answer to a request, and when.
+-- Answers that the one-chunk object may give to a request, and when.
 abbrev pub MayAllocate : Region → List Chunk → Layout → Result Chunk AllocationError → Type 0
 MayAllocate region live layout (Ok chunk) =
     (live ≡ []) × HasRoom region layout × (chunk ≡ rest_from region (first_place region layout))
 MayAllocate region live layout (Err OutOfMemory) = (live ≢ []) ⊎ LacksRoom region layout
--- it never refuses so
+-- no call is refused so
 MayAllocate region live layout (Err SizeIsZero) = ⊥
 MayAllocate region live layout (Err SizeTooLarge) = ⊥
 MayAllocate region live layout (Err AlignmentFailure) = ⊥
 
--- What it may answer where the chunk at a place is to grow from an old layout to a new one, and when.
+-- Answers that it may give where the chunk at a place is to grow from an old layout to a new one, and when.
 abbrev pub MayGrow : Region → ℕ → Layout → Layout → Result Chunk AllocationGrowError → Type 0
 MayGrow region place old new (Ok grown) =
-    (old.size < new.size) × (new.align ≤ old.align) × (new.size ≤ reserved_at region place)
-    × (grown ≡ rest_from region place)
+    (old.size < new.size) × (new.align ≤ old.align) × (new.size ≤ reserved_at region place) × (grown ≡ rest_from region place)
 MayGrow region place old new (Err grow.GrowWouldShrink) = new.size ≤ old.size
-MayGrow region place old new (Err grow.AlignmentFailure) =
-    (old.size < new.size) × (old.align < new.align)
+MayGrow region place old new (Err grow.AlignmentFailure) = (old.size < new.size) × (old.align < new.align)
 MayGrow region place old new (Err grow.OutOfMemory) =
     (old.size < new.size) × (new.align ≤ old.align) × (reserved_at region place < new.size)
 
--- What it may answer where that chunk is to shrink, and when: it then has exactly the new size.
+-- Answers that it may give where that chunk is to shrink, and when: it then has exactly the new size.
 abbrev pub MayShrink : ℕ → Layout → Layout → Result Chunk AllocationShrinkError → Type 0
 MayShrink place old new (Ok shrunk) =
-    (new.size < old.size) × (new.align ≤ old.align)
-    × (shrunk ≡ record { place = place; len = new.size })
+    (new.size < old.size) × (new.align ≤ old.align) × (shrunk ≡ record { place = place; len = new.size })
 MayShrink place old new (Err shrink.ShrinkWouldGrow) = old.size ≤ new.size
-MayShrink place old new (Err shrink.AlignmentFailure) =
-    (new.size < old.size) × (old.align < new.align)
--- it never refuses so
+MayShrink place old new (Err shrink.AlignmentFailure) = (new.size < old.size) × (old.align < new.align)
+-- no call is refused so
 MayShrink place old new (Err shrink.SizeIsZero) = ⊥
 
 -- the list decides nothing for a resize

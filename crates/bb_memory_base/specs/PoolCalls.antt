@@ -9,33 +9,29 @@ use Rattle.bb_memory_base.specs.PoolMachine.{PoolScene, left_by, IsInCall, PoolS
 use Rattle.bb_memory_base.specs.PoolMachine.{RefusedAtLoss, Gives, Misses}
 use Rattle.bb_memory_base.specs.PoolHistory.{PoolLog, entry_of, outcomes_of, history_of}
 
--- What a step with this outcome is to the object, which goes from `old` to `new`.
+-- The call of the object that a step with this outcome is; the object goes from `old` to `new`.
 abbrev pub PoolCall : PoolGeometry → List Chunk → Layout → PoolOutcome → List Chunk → Type 0
 -- a taking is a request for the layout, which is answered with the bucket's chunk
 PoolCall geometry old layout (Takes bucket) new =
     Allocates (pool_object geometry).base old layout (Ok (chunk_in geometry bucket layout)) new
 -- a return is the release of the chunk at the bucket's place
 PoolCall geometry old layout (Gives bucket) new =
-    (position : ℕ) × IsAt old position (bucket_place geometry bucket)
-    × Releases (pool_object geometry).base old position new
+    (position : ℕ) × IsAt old position (bucket_place geometry bucket) × Releases (pool_object geometry).base old position new
 -- any other step is no call
 PoolCall geometry old layout _ new = new ≡ old
 
 -- a layout for each step, which is asked for where that step is a taking
-pub record AreAsked (geometry : PoolGeometry) (steps : List PoolStep)
-    (layouts : List Layout) : Type 0 where
+pub record AreAsked (geometry : PoolGeometry) (steps : List PoolStep) (layouts : List Layout) : Type 0 where
   pub one_a_step : length layouts ≡ length steps
   pub within : All (IsWithin geometry.bucket) layouts
 
 -- The calls of a history are a run of the pool object, from `old` to `new`.
 abbrev pub IsCallRun : PoolGeometry → List Chunk → List Layout → PoolLog → List Chunk → Type 0
-IsCallRun geometry old layouts history new =
-    IsRun (PoolCall geometry) old layouts (outcomes_of history) new
+IsCallRun geometry old layouts history new = IsRun (PoolCall geometry) old layouts (outcomes_of history) new
 
 -- the takings and returns of the steps are a run of the pool object, from the empty list to this one
 abbrev pub IsPoolRun : PoolScene → List PoolStep → List Layout → List Chunk → Type 0
-IsPoolRun scene steps layouts live =
-    IsCallRun scene.geometry [] layouts (history_of scene steps) live
+IsPoolRun scene steps layouts live = IsCallRun scene.geometry [] layouts (history_of scene steps) live
 
 -- REFUSED PASSES
 
@@ -69,8 +65,7 @@ IsHeldInRun scene steps bucket =
 
 -- The pass that is refused at step `last` found this bucket held: at some step of the pass the party lost the bucket, which was
 -- held then in the run.
-pub record FoundHeld (scene : PoolScene) (steps : List PoolStep) (party last bucket : ℕ)
-    : Type 0 where
+pub record FoundHeld (scene : PoolScene) (steps : List PoolStep) (party last bucket : ℕ) : Type 0 where
   pub step : ℕ
   pub before : step ≤ last
   pub one_pass : IsOnePass scene steps party step last
@@ -81,5 +76,4 @@ pub record FoundHeld (scene : PoolScene) (steps : List PoolStep) (party last buc
 
 -- entry k of the history is the party's, and a miss of this bucket
 abbrev pub MissesAt : PoolLog → ℕ → ℕ → ℕ → Type 0
-MissesAt history party bucket k =
-    slice_get history k ≡ Some (entry_of (TryAt party bucket) (Misses bucket))
+MissesAt history party bucket k = slice_get history k ≡ Some (entry_of (TryAt party bucket) (Misses bucket))

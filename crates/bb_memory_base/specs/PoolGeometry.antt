@@ -17,7 +17,7 @@ pool_geometry region bucket buckets = record { region = region; bucket = bucket;
 abbrev pub stride : Layout → ℕ
 stride bucket = least_place bucket.size bucket.align
 
--- where bucket i is: bucket 0 at the first place, and each further one a stride behind
+-- the place of bucket i: the first place for bucket 0, and a stride more for each further one
 abbrev pub bucket_place : PoolGeometry → ℕ → ℕ
 bucket_place geometry i = first_place geometry.region geometry.bucket + i * stride geometry.bucket
 
@@ -35,10 +35,9 @@ pub record IsCut (whole : Region) (layout : Layout) (geometry : PoolGeometry) : 
   pub bucket : geometry.bucket ≡ layout
   pub filled : FillsRegion geometry
 
--- the same with the smaller of its number of buckets and a fixed pool's constant
+-- a geometry with the smaller of its number of buckets and a fixed pool's constant
 abbrev pub at_most : ℕ → PoolGeometry → PoolGeometry
-at_most constant geometry =
-    pool_geometry geometry.region geometry.bucket (min geometry.buckets constant)
+at_most constant geometry = pool_geometry geometry.region geometry.bucket (min geometry.buckets constant)
 
 -- a bucket has a byte, and the region has room for each of its buckets
 pub record IsPoolGeometry (geometry : PoolGeometry) : Type 0 where

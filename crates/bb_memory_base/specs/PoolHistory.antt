@@ -18,8 +18,7 @@ PoolLog = List PoolEntry
 -- the entries of a list of steps, in order
 abbrev pub pool_history : PoolState → List PoolStep → PoolLog
 pool_history state [] = []
-pool_history state (step ∷ steps) =
-    entry_of step (pool_step state step).outcome ∷ pool_history (pool_step state step).state steps
+pool_history state (step ∷ steps) = entry_of step (pool_step state step).outcome ∷ pool_history (pool_step state step).state steps
 
 -- the history of a list of steps from the opening
 abbrev pub history_of : PoolScene → List PoolStep → PoolLog

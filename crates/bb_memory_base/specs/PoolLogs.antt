@@ -1,13 +1,13 @@
--- What a party's log says, and when a pool's flags and its parties' logs agree.
+-- Parties' logs: what a log says of its party, and when a pool's flags and its parties' logs agree.
 use Rattle.std.specs.Prelude.{ℕ, ◌+◌, ◌≡◌, ◌==◌, Bool, true, false, nat_lt, if◌then◌else◌}
 use Rattle.std.specs.Prelude.{List, [], ◌∷◌, ◌++◌, Option, Some, None, All, Any, fold, map, slice_get, slice_set, unwrap_or}
 use Rattle.bb_memory_base.specs.PoolMachine.{PoolScene, PoolState, left_by, Flag, Free, PoolStep, PoolOutcome, Takes, Loses}
 use Rattle.bb_memory_base.specs.PoolMachine.{RefusedAtLoss, Gives, Passed, Detaches, Attaches}
 use Rattle.bb_memory_base.specs.PoolHistory.{PoolEntry, PoolLog, history_of, log_of}
 
--- WHAT A LOG SAYS
+-- BUCKETS AND PASSES IN A LOG
 
--- whether a bucket is held after an outcome, where it was held before it or not
+-- a bucket is held after an outcome, given that it was held before it or not
 abbrev pub held_after : ℕ → Bool → PoolOutcome → Bool
 held_after bucket held (Takes other) = if other == bucket then true else held
 held_after bucket held (Gives other) = if other == bucket then false else held
@@ -38,13 +38,13 @@ pass_in log = fold (λ pass entry. pass_after pass entry.outcome) None log
 abbrev pub next_bucket : PoolLog → ℕ
 next_bucket log = unwrap_or (pass_in log) 0
 
--- what a loss at a bucket is, of so many
+-- the outcome of a loss at a bucket, of so many
 abbrev pub loss_at : ℕ → ℕ → PoolOutcome
 loss_at buckets bucket = if nat_lt (bucket + 1) buckets then Loses bucket else RefusedAtLoss bucket
 
 -- FLAGS AND LOGS
 
--- which flags are taken
+-- a flag is taken where a party holds the bucket, or the bucket is detached
 abbrev pub is_taken : Flag → Bool
 is_taken Free = false
 is_taken _ = true
@@ -72,8 +72,7 @@ pub record LogsAgree (scene : PoolScene) (flags : List Bool) (logs : List PoolLo
   pub each : (party : ℕ) (log : PoolLog) → HasLog logs party log → log_of scene steps party ≡ log
 
 -- a bucket is detached, as flags and logs say it: its flag is taken, and it is held after no party's log
-pub record IsDetachedAfter (flags : List Bool) (logs : List PoolLog) (bucket : ℕ)
-    : Type 0 where
+pub record IsDetachedAfter (flags : List Bool) (logs : List PoolLog) (bucket : ℕ) : Type 0 where
   pub taken : slice_get flags bucket ≡ Some true
   pub no_holder : (party : ℕ) (log : PoolLog) → HasLog logs party log → ¬ IsHeldAfter log bucket
 
@@ -89,8 +88,7 @@ pub record Interleaving (scene : PoolScene) (party : ℕ) (log : PoolLog) : Type
   pub logged : log_of scene steps party ≡ log
 
 -- an interleaving of both parties' logs with some logs of the others
-pub record CommonInterleaving (scene : PoolScene) (party : ℕ) (log : PoolLog) (other : ℕ)
-    (other_log : PoolLog) : Type 0 where
+pub record CommonInterleaving (scene : PoolScene) (party : ℕ) (log : PoolLog) (other : ℕ) (other_log : PoolLog) : Type 0 where
   pub steps : List PoolStep
   pub allowed : AllAllowed (history_of scene steps)
   pub logged : log_of scene steps party ≡ log

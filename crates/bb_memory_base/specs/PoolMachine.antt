@@ -18,15 +18,14 @@ pub record PoolState : Type 0 where
   pub flags : List Flag
   pub calls : List (Option ℕ)
 
--- where a machine begins: the buckets, and how many parties it has
+-- the beginning of a machine: its buckets, and how many parties it has
 pub record PoolScene : Type 0 where
   pub geometry : PoolGeometry
   pub parties : ℕ
 
 -- the flags of so many buckets are free, and so many parties are idle
 abbrev pub all_free : ℕ → ℕ → PoolState
-all_free buckets parties =
-    record { flags = replicate buckets Free; calls = replicate parties None }
+all_free buckets parties = record { flags = replicate buckets Free; calls = replicate parties None }
 
 -- at the opening all flags are free, and every party is idle
 abbrev pub opening_state : PoolScene → PoolState
@@ -61,7 +60,7 @@ IsInCall state party bucket = slice_get state.calls party ≡ Some (Some bucket)
 
 -- STEPS
 
--- what a step answers, and the state that it leaves
+-- the answer to a step, and the state after it
 pub record PoolMove : Type 0 where
   pub outcome : PoolOutcome
   pub state : PoolState
@@ -71,18 +70,15 @@ move_of outcome state = record { outcome = outcome; state = state }
 
 -- the bucket's flag is now this
 abbrev pub with_flag : PoolState → ℕ → Flag → PoolState
-with_flag state bucket flag =
-    record { flags = slice_set state.flags bucket flag; calls = state.calls }
+with_flag state bucket flag = record { flags = slice_set state.flags bucket flag; calls = state.calls }
 
 -- the party's pass is now this
 abbrev pub with_pass : PoolState → ℕ → Option ℕ → PoolState
-with_pass state party pass =
-    record { flags = state.flags; calls = slice_set state.calls party pass }
+with_pass state party pass = record { flags = state.flags; calls = slice_set state.calls party pass }
 
 -- the party takes a free flag, and its pass ends
 abbrev pub taking : PoolState → ℕ → ℕ → PoolMove
-taking state party bucket =
-    move_of (Takes bucket) (with_pass (with_flag state bucket (HeldBy party)) party None)
+taking state party bucket = move_of (Takes bucket) (with_pass (with_flag state bucket (HeldBy party)) party None)
 
 -- the party finds a flag taken: its pass moves to the next bucket, or is refused and ends where there is none
 abbrev pub loss : PoolState → ℕ → ℕ → PoolMove
@@ -114,8 +110,7 @@ try_next state party None = passed state
 
 -- a party gives back a bucket, of whose flag this is found
 abbrev pub give_flag : PoolState → ℕ → ℕ → Option Flag → PoolMove
-give_flag state party bucket (Some (HeldBy holder)) =
-    if holder == party then return_of state bucket else passed state
+give_flag state party bucket (Some (HeldBy holder)) = if holder == party then return_of state bucket else passed state
 give_flag state party bucket _ = passed state
 
 -- a party's exchange on the flag of one bucket, of which this is found: it misses a taken one, and nothing changes
@@ -126,8 +121,7 @@ try_one state party bucket None = passed state
 
 -- a party whose pass this is tries one bucket, as it may where it is idle
 abbrev pub try_at : PoolState → ℕ → ℕ → Option (Option ℕ) → PoolMove
-try_at state party bucket (Some None) =
-    try_one state party bucket (slice_get state.flags bucket)
+try_at state party bucket (Some None) = try_one state party bucket (slice_get state.flags bucket)
 try_at state party bucket _ = passed state
 
 -- the holder detaches the bucket, whose flag stays taken
@@ -136,19 +130,16 @@ detaching state bucket = move_of (Detaches bucket) (with_flag state bucket Detac
 
 -- the holder may do so where there is another party to attach the bucket
 abbrev pub detach : PoolState → ℕ → PoolMove
-detach state bucket =
-    if nat_lt 1 (length state.calls) then detaching state bucket else passed state
+detach state bucket = if nat_lt 1 (length state.calls) then detaching state bucket else passed state
 
 -- a party detaches a bucket, of whose flag this is found, as only its holder may
 abbrev pub detach_flag : PoolState → ℕ → ℕ → Option Flag → PoolMove
-detach_flag state party bucket (Some (HeldBy holder)) =
-    if holder == party then detach state bucket else passed state
+detach_flag state party bucket (Some (HeldBy holder)) = if holder == party then detach state bucket else passed state
 detach_flag state party bucket _ = passed state
 
 -- the party attaches a detached bucket, and holds it then. The flag stays taken
 abbrev pub attaching : PoolState → ℕ → ℕ → PoolMove
-attaching state party bucket =
-    move_of (Attaches bucket) (with_flag state bucket (HeldBy party))
+attaching state party bucket = move_of (Attaches bucket) (with_flag state bucket (HeldBy party))
 
 -- a party attaches a bucket, of whose flag this is found, as it may where the bucket is detached
 abbrev pub attach_flag : PoolState → ℕ → ℕ → Option Flag → PoolMove
@@ -157,21 +148,16 @@ attach_flag state party bucket _ = passed state
 
 -- a party whose pass this is attaches a bucket, as it may where it is idle
 abbrev pub attach : PoolState → ℕ → ℕ → Option (Option ℕ) → PoolMove
-attach state party bucket (Some None) =
-    attach_flag state party bucket (slice_get state.flags bucket)
+attach state party bucket (Some None) = attach_flag state party bucket (slice_get state.flags bucket)
 attach state party bucket _ = passed state
 
 -- one atomic step
 abbrev pub pool_step : PoolState → PoolStep → PoolMove
 pool_step state (Try party) = try_next state party (slice_get state.calls party)
-pool_step state (GiveBack party bucket) =
-    give_flag state party bucket (slice_get state.flags bucket)
-pool_step state (TryAt party bucket) =
-    try_at state party bucket (slice_get state.calls party)
-pool_step state (Detach party bucket) =
-    detach_flag state party bucket (slice_get state.flags bucket)
-pool_step state (Attach party bucket) =
-    attach state party bucket (slice_get state.calls party)
+pool_step state (GiveBack party bucket) = give_flag state party bucket (slice_get state.flags bucket)
+pool_step state (TryAt party bucket) = try_at state party bucket (slice_get state.calls party)
+pool_step state (Detach party bucket) = detach_flag state party bucket (slice_get state.flags bucket)
+pool_step state (Attach party bucket) = attach state party bucket (slice_get state.calls party)
 
 -- the state that a list of steps leaves
 abbrev pub pool_after : PoolState → List PoolStep → PoolState

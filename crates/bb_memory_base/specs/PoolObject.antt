@@ -28,45 +28,40 @@ abbrev pub chunk_in : PoolGeometry → ℕ → Layout → Chunk
 chunk_in geometry i layout = record { place = bucket_place geometry i; len = layout.size }
 
 -- a request for the layout may get bucket i, as its size and alignment are small enough, and the bucket isn't held
-pub record MayGive (geometry : PoolGeometry) (live : List Chunk) (layout : Layout) (i : ℕ)
-    : Type 0 where
+pub record MayGive (geometry : PoolGeometry) (live : List Chunk) (layout : Layout) (i : ℕ) : Type 0 where
   pub within : IsWithin geometry.bucket layout
   pub bucket : i < geometry.buckets
   pub free : ¬ IsHeld geometry live i
 
--- What the pool object may answer, and when.
+-- Answers that the pool object may give, and when.
 abbrev pub MayAllocate : PoolGeometry → List Chunk → Layout → Result Chunk AllocationError → Type 0
 -- any bucket that isn't held
-MayAllocate geometry live layout (Ok chunk) =
-    (i : ℕ) × MayGive geometry live layout i × (chunk ≡ chunk_in geometry i layout)
+MayAllocate geometry live layout (Ok chunk) = (i : ℕ) × MayGive geometry live layout i × (chunk ≡ chunk_in geometry i layout)
 MayAllocate geometry live layout (Err SizeTooLarge) = geometry.bucket.size < layout.size
 MayAllocate geometry live layout (Err AlignmentFailure) =
     (layout.size ≤ geometry.bucket.size) × (geometry.bucket.align < layout.align)
 MayAllocate geometry live layout (Err OutOfMemory) =
     IsWithin geometry.bucket layout × ((i : ℕ) → i < geometry.buckets → IsHeld geometry live i)
--- it never refuses so
+-- no call is refused so
 MayAllocate geometry live layout (Err SizeIsZero) = ⊥
 
--- What it may answer where the chunk at a place is to grow from an old layout to a new one, and when: it then has exactly the
--- new size.
+-- Answers that it may give where the chunk at a place is to grow from an old layout to a new one, and when: it then has exactly
+-- the new size.
 abbrev pub MayGrow : Layout → ℕ → Layout → Layout → Result Chunk AllocationGrowError → Type 0
 MayGrow bucket place old new (Ok grown) =
     (old.size < new.size) × IsWithin bucket new × (grown ≡ record { place = place; len = new.size })
 MayGrow bucket place old new (Err grow.GrowWouldShrink) = new.size ≤ old.size
-MayGrow bucket place old new (Err grow.AlignmentFailure) =
-    (old.size < new.size) × (bucket.align < new.align)
+MayGrow bucket place old new (Err grow.AlignmentFailure) = (old.size < new.size) × (bucket.align < new.align)
 MayGrow bucket place old new (Err grow.OutOfMemory) =
     (old.size < new.size) × (new.align ≤ bucket.align) × (bucket.size < new.size)
 
--- What it may answer where that chunk is to shrink, and when.
+-- Answers that it may give where that chunk is to shrink, and when.
 abbrev pub MayShrink : Layout → ℕ → Layout → Layout → Result Chunk AllocationShrinkError → Type 0
 MayShrink bucket place old new (Ok shrunk) =
-    (new.size < old.size) × (new.align ≤ bucket.align)
-    × (shrunk ≡ record { place = place; len = new.size })
+    (new.size < old.size) × (new.align ≤ bucket.align) × (shrunk ≡ record { place = place; len = new.size })
 MayShrink bucket place old new (Err shrink.ShrinkWouldGrow) = old.size ≤ new.size
-MayShrink bucket place old new (Err shrink.AlignmentFailure) =
-    (new.size < old.size) × (bucket.align < new.align)
--- it never refuses so
+MayShrink bucket place old new (Err shrink.AlignmentFailure) = (new.size < old.size) × (bucket.align < new.align)
+-- no call is refused so
 MayShrink bucket place old new (Err shrink.SizeIsZero) = ⊥
 
 -- A bucket is reserved for its chunk, whole. The list decides nothing for a resize, and a release closes up.

@@ -19,26 +19,26 @@ IsPoolWorld world = length world.flags < 2 ^ 32
 abbrev pub opened : ℕ → ℕ → PoolWorld
 opened buckets parties = all_free buckets parties
 
--- what the machine answers to a step, and the world that it leaves
+-- the machine's answer to a step, and the world after it
 abbrev pub outcome_of : PoolWorld → PoolStep → PoolOutcome
 outcome_of world step = (pool_step world step).outcome
 
 abbrev pub after_step : PoolWorld → PoolStep → PoolWorld
 after_step world step = (pool_step world step).state
 
--- what a call that takes a step answers, and the world that it leaves
+-- the answer of a call that takes a step, and the world after it
 pub record Steps (old : PoolWorld) (step : PoolStep) (answer : PoolOutcome) (new : PoolWorld) : Type 0 where
   pub outcome : answer ≡ outcome_of old step
   pub state : new ≡ after_step old step
 
--- the same of a list of steps
+-- the answers to a list of steps
 abbrev pub outcomes_of : PoolWorld → List PoolStep → List PoolOutcome
 outcomes_of world steps = histories.outcomes_of (histories.pool_history world steps)
 
 abbrev pub after_steps : PoolWorld → List PoolStep → PoolWorld
 after_steps world steps = pool_after world steps
 
--- what a call that takes them all answers; where memory is refused for the answers, it takes none
+-- the answers of a call that takes a list of steps; where memory is refused for them, no step is taken
 pub record Replays {Z E : Type 0} (old : PoolWorld) (steps : List PoolStep) (answer : Result (Vec PoolOutcome Z) E)
     (new : PoolWorld) : Type 0 where
   pub outcomes : IfOk answer (λ found. found.items ≡ outcomes_of old steps)

@@ -2,7 +2,7 @@
 -- greatest one.
 use Rattle.std.specs.Prelude.{ℕ, ◌+◌, ◌<◌, ◌^◌}
 
--- where it starts, and how many bytes it has
+-- the start of a region, and how many bytes it has
 pub record Region : Type 0 where
   pub start : ℕ
   pub size : ℕ
@@ -13,7 +13,7 @@ region_at start size = record { start = start; size = size }
 abbrev pub region_end : Region → ℕ
 region_end region = region.start + region.size
 
--- it doesn't start at 0, and its end is a number of the machine
+-- a region doesn't start at 0, and its end is a number of the machine
 pub record IsRegion (region : Region) : Type 0 where
   pub start : 0 < region.start
   pub end : region_end region < 2 ^ 64

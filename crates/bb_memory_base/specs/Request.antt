@@ -1,4 +1,4 @@
--- What calls promise that ask for a chunk, give one back or ask for a longer one: all that `allocate`, `deallocate` and `grow`
+-- Promises of calls that ask for a chunk, give one back or ask for a longer one: all that `allocate`, `deallocate` and `grow`
 -- say, for calls that do as these do and more.
 use Rattle.std.specs.Prelude.{◌≡◌, ℕ, ◌%◌, ◌<◌, ◌≤◌, Bool, List, [], ◌∷◌, ◌++◌, Some, Result, IfOk, OnErr, slice_get, slice_set}
 use Rattle.bb_memory_base.specs.Chunk.{Region, Chunk, IsInside, Layout, AllocationError}
@@ -13,14 +13,14 @@ pub record Requested {Allocator Geometry Note : Type 0} (stands_for : Allocator 
     (note_of : Allocator → Note) (note_after : Geometry → Layout → Note → Note)
     (takes : Allocator → Layout → Result Chunk AllocationError → Allocator → Type 0)
     (old : Allocator) (layout : Layout) (result : Result Chunk AllocationError) (new : Allocator) : Type 0 where
-  -- of each live list that it stood for: the answer is allowed there, and it stands for the list afterwards
+  -- each live list that `old` stood for: the answer is allowed there, and `new` stands for the list after it
   pub answer : (live : List Chunk) → stands_for old live → may_allocate (geometry_of old) live layout result
   pub appended : IfOk result (λ chunk. (live : List Chunk) → stands_for old live → stands_for new (live ++ chunk ∷ []))
   pub kept : OnErr result ((live : List Chunk) → stands_for old live → stands_for new live)
   -- the chunk may be given back, and fits
   pub given : IfOk result (λ chunk. may_release new chunk.place)
   pub fits : IfOk result (Fits (region_of (geometry_of old)) layout)
-  -- of the allocator
+  -- the allocator
   pub geometry : geometry_of new ≡ geometry_of old
   pub note : note_of new ≡ note_after (geometry_of old) layout (note_of old)
   pub value : takes old layout result new
@@ -30,10 +30,10 @@ pub record Returned {Allocator Geometry Note : Type 0} (empties : Bool) (stands_
     (geometry_of : Allocator → Geometry) (note_of : Allocator → Note)
     (frees : Allocator → ℕ → Layout → Allocator → Type 0)
     (old : Allocator) (place : ℕ) (layout : Layout) (new : Allocator) : Type 0 where
-  -- of each live list that it stood for, with a chunk at the place
+  -- each live list that `old` stood for, with a chunk at the place
   pub released : (live : List Chunk) (position : ℕ) (chunk : Chunk) → stands_for old live
       → slice_get live position ≡ Some chunk → chunk.place ≡ place → stands_for new (released empties live position)
-  -- of the allocator
+  -- the allocator
   pub geometry : geometry_of new ≡ geometry_of old
   pub note : note_of new ≡ note_of old
   pub value : frees old place layout new
@@ -43,20 +43,19 @@ pub record Returned {Allocator Geometry Note : Type 0} (empties : Bool) (stands_
 pub record Grown {Allocator : Type 0} (stands_for : Allocator → List Chunk → Type 0) (region : Region) (reserved : ℕ)
     (may_grow : List Chunk → ℕ → Layout → Layout → Result Chunk AllocationGrowError → Type 0)
     (grows : Allocator → ℕ → Layout → Layout → Result Chunk AllocationGrowError → Allocator → Type 0)
-    (old : Allocator) (place : ℕ) (from to : Layout) (result : Result Chunk AllocationGrowError) (new : Allocator)
-    : Type 0 where
-  -- of each live list that it stood for, with a chunk at the place
+    (old : Allocator) (place : ℕ) (from to : Layout) (result : Result Chunk AllocationGrowError) (new : Allocator) : Type 0 where
+  -- each live list that `old` stood for, with a chunk at the place
   pub answer : (live : List Chunk) (position : ℕ) (chunk : Chunk) → stands_for old live
       → slice_get live position ≡ Some chunk → chunk.place ≡ place → may_grow live place from to result
   pub resized : IfOk result (λ grown. (live : List Chunk) (position : ℕ) (chunk : Chunk) → stands_for old live
       → slice_get live position ≡ Some chunk → chunk.place ≡ place → stands_for new (slice_set live position grown))
-  -- of the chunk
+  -- the chunk
   pub same_place : IfOk result (λ grown. grown.place ≡ place)
   pub aligned : IfOk result (λ grown. grown.place % to.align ≡ 0)
   pub longer : IfOk result (λ grown. from.size < grown.len)
   pub long_enough : IfOk result (λ grown. to.size ≤ grown.len)
   pub within : IfOk result (λ grown. grown.len ≤ reserved)
   pub inside : IfOk result (IsInside region)
-  -- of the allocator
+  -- the allocator
   pub still : new ≡ old
   pub value : grows old place from to result new

@@ -18,7 +18,7 @@ pub record ResizableObject : Type 1 where
   pub base : Object
   -- how much is reserved for the chunk at a place, in bytes
   pub reserved : ℕ → ℕ
-  -- what it may answer on a live list to a resize of the chunk at a place, from an old layout to a new one
+  -- answers that the object may give on a live list to a resize of the chunk at a place, from an old layout to a new one
   pub may_grow : List Chunk → ℕ → Layout → Layout → Result Chunk AllocationGrowError → Type 0
   pub may_shrink : List Chunk → ℕ → Layout → Layout → Result Chunk AllocationShrinkError → Type 0
 
@@ -27,51 +27,42 @@ abbrev pub resizable_object_of :
     (List Chunk → ℕ → Layout → Layout → Result Chunk AllocationGrowError → Type 0) →
     (List Chunk → ℕ → Layout → Layout → Result Chunk AllocationShrinkError → Type 0) →
     ResizableObject
-resizable_object_of may_allocate reserved may_grow may_shrink =
-    record {
-      base = object_of false may_allocate;
-      reserved = reserved;
-      may_grow = may_grow;
-      may_shrink = may_shrink;
-    }
+resizable_object_of may_allocate reserved may_grow may_shrink = record {
+  base = object_of false may_allocate;
+  reserved = reserved;
+  may_grow = may_grow;
+  may_shrink = may_shrink;
+}
 
 -- the chunk at the position may be grown from this layout: its place is a multiple of the old alignment
-pub record MayBeGrown (live : List Chunk) (position : ℕ) (old : Layout) (chunk : Chunk)
-    : Type 0 where
+pub record MayBeGrown (live : List Chunk) (position : ℕ) (old : Layout) (chunk : Chunk) : Type 0 where
   pub at : slice_get live position ≡ Some chunk
   pub aligned : chunk.place % old.align ≡ 0
 
 -- to shrink it, the old size is within what is reserved for it, too
-pub record MayBeShrunk (reserved : ℕ → ℕ) (live : List Chunk) (position : ℕ)
-    (old : Layout) (chunk : Chunk) : Type 0 where
+pub record MayBeShrunk (reserved : ℕ → ℕ) (live : List Chunk) (position : ℕ) (old : Layout) (chunk : Chunk) : Type 0 where
   pub grown : MayBeGrown live position old chunk
   pub within : old.size ≤ reserved chunk.place
 
 -- a resize keeps the place, and changes that chunk's length alone
-pub record Resizes (live : List Chunk) (position : ℕ) (chunk resized : Chunk) (new : List Chunk)
-    : Type 0 where
+pub record Resizes (live : List Chunk) (position : ℕ) (chunk resized : Chunk) (new : List Chunk) : Type 0 where
   pub place : resized.place ≡ chunk.place
   pub leaves : new ≡ slice_set live position resized
 
 -- From `old` the object may give this reply to the command, and goes on to `new`.
 abbrev pub ResizableStep : ResizableObject → List Chunk → Command → Reply → List Chunk → Type 0
-ResizableStep object old (Allocate layout) answer new =
-    Step object.base old (Allocate layout) answer new
-ResizableStep object old (Release position) answer new =
-    Step object.base old (Release position) answer new
+ResizableStep object old (Allocate layout) answer new = Step object.base old (Allocate layout) answer new
+ResizableStep object old (Release position) answer new = Step object.base old (Release position) answer new
 ResizableStep object old (Grow position from to) (reply.Chunk resized) new =
-    (chunk : Chunk) × MayBeGrown old position from chunk
-    × object.may_grow old chunk.place from to (Ok resized)
+    (chunk : Chunk) × MayBeGrown old position from chunk × object.may_grow old chunk.place from to (Ok resized)
     × Resizes old position chunk resized new
 ResizableStep object old (Grow position from to) (reply.GrowRefused error) new =
-    (chunk : Chunk) × MayBeGrown old position from chunk
-    × object.may_grow old chunk.place from to (Err error) × (new ≡ old)
+    (chunk : Chunk) × MayBeGrown old position from chunk × object.may_grow old chunk.place from to (Err error) × (new ≡ old)
 -- a resize whose condition fails is passed over
 ResizableStep object old (Grow position from to) reply.Passed new =
     ((chunk : Chunk) → ¬ MayBeGrown old position from chunk) × (new ≡ old)
 ResizableStep object old (Shrink position from to) (reply.Chunk resized) new =
-    (chunk : Chunk) × MayBeShrunk object.reserved old position from chunk
-    × object.may_shrink old chunk.place from to (Ok resized)
+    (chunk : Chunk) × MayBeShrunk object.reserved old position from chunk × object.may_shrink old chunk.place from to (Ok resized)
     × Resizes old position chunk resized new
 ResizableStep object old (Shrink position from to) (reply.ShrinkRefused error) new =
     (chunk : Chunk) × MayBeShrunk object.reserved old position from chunk

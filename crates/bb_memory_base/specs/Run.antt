@@ -12,10 +12,8 @@ use Rattle.bb_memory_base.specs.declared.allocator.Reply.TheVariants as reply
 
 -- From `old` the object may give this reply to the command, and goes on to `new`.
 abbrev pub Step : Object → List Chunk → Command → Reply → List Chunk → Type 0
-Step object old (Allocate layout) (reply.Chunk chunk) new =
-    Allocates object old layout (Ok chunk) new
-Step object old (Allocate layout) (reply.Refused error) new =
-    Allocates object old layout (Err error) new
+Step object old (Allocate layout) (reply.Chunk chunk) new = Allocates object old layout (Ok chunk) new
+Step object old (Allocate layout) (reply.Refused error) new = Allocates object old layout (Err error) new
 Step object old (Release position) reply.Released new = Releases object old position new
 -- a position that the list doesn't have is passed over, and so is every resize
 Step object old (Release position) reply.Passed new = (length old ≤ position) × (new ≡ old)
@@ -24,7 +22,7 @@ Step object old (Shrink position from to) reply.Passed new = new ≡ old
 -- no other reply is given
 Step object old command other new = ⊥
 
--- These replies to these commands, one step after another. What a step goes on from is a live list here, and a book of
+-- Replies to commands, one step after another. A step goes on from a live list here, and from a book of
 -- samples in a crate above.
 abbrev pub IsRun : {S C R : Type 0} → (S → C → R → S → Type 0) → S → List C → List R → S → Type 0
 IsRun step old [] [] new = new ≡ old
@@ -39,16 +37,16 @@ EachGiven Suits commands replies =
     (i : ℕ) (layout : Layout) (chunk : Chunk) → slice_get commands i ≡ Some (Allocate layout) →
     slice_get replies i ≡ Some (reply.Chunk chunk) → Suits layout chunk
 
--- What a command makes of an allocator's note, where a request makes `after` of it: no other command changes it.
+-- An allocator's note after a command, where a request makes `after` of it: no other command changes it.
 abbrev pub note_after_command : {Note : Type 0} → (Layout → Note → Note) → Note → Command → Note
 note_after_command after note (Allocate layout) = after layout note
 note_after_command after note other = note
 
--- what these commands make of it, one after the other
+-- the note after these commands, one after the other
 abbrev pub note_after_run : {Note : Type 0} → (Layout → Note → Note) → Note → List Command → Note
 note_after_run after note commands = fold (note_after_command after) note commands
 
--- What a command that was applied is replied, and what it leaves, by the words of `BaseAllocator`: the reply and the live list
+-- The reply to an applied command, and what the command leaves, by the words of `BaseAllocator`: the reply and the live list
 -- are a step of these, a chunk that was replied to a request fits, the allocator stands for the list, has the geometry that it
 -- had, and keeps the command's note. The list is at most one longer, and has lost no room.
 pub record Applies {Allocator Geometry Note Alloc : Type 0} (stands_for : Allocator → List Chunk → Type 0)
@@ -64,7 +62,7 @@ pub record Applies {Allocator Geometry Note Alloc : Type 0} (stands_for : Alloca
   pub len : vec_len left ≤ vec_len live + 1
   pub capacity : vec_capacity live ≤ vec_capacity left
 
--- What an allocator answers to a list of commands, and what it leaves. The replies and the live list are a run by these steps;
+-- The replies of an allocator to a list of commands, and what it leaves. The replies and the live list are a run by these steps;
 -- the allocator stands for the list that is left, which is sound, and has the geometry that it had; each chunk that was replied
 -- to a request fits. Where memory was refused, nothing was applied.
 pub record AnswersRun {Allocator Geometry Alloc Error : Type 0} (stands_for : Allocator → List Chunk → Type 0)

@@ -1,8 +1,9 @@
 //! Runs of commands over any allocator.
-ghost use Rattle.std.specs.Prelude.{◌≡◌, ◌<◌, OnOk, vec_len, vec_capacity};
+ghost use Rattle.std.specs.Prelude.{◌≡◌, ◌<◌, OnOk, IfSome, None, vec_len, vec_capacity};
+ghost use Rattle.bb_memory_base.specs.Chunk.{Chunk};
 ghost use Rattle.bb_memory_base.specs.Object.{object_of};
 ghost use Rattle.bb_memory_base.specs.Run.{AnswersRun, Applies, Step, note_after_run};
-ghost use Rattle.bb_memory_base.specs.ResizableObject.{ResizableStep, resizable_object_of};
+ghost use Rattle.bb_memory_base.specs.ResizableObject.{MayBeGrown, ResizableStep, resizable_object_of};
 
 use super::{Allocator, BaseAllocator, Command, Reply};
 use crate::layout::{Chunk, Layout};
@@ -104,6 +105,15 @@ pub fn run_base<A: BaseAllocator>(
     Ok(replies)
 }
 
+/// Returns the chunk at a position of a live list, where its place is a multiple of the layout's alignment.
+fn aligned_at(live: &[Chunk], position: usize, layout: Layout) -> Option<Chunk>
+    ensures there { IfSome result (MayBeGrown live.now position layout) }
+    ensures nowhere { result ≡ None → (chunk : Chunk) → ¬ MayBeGrown live.now position layout chunk }
+{
+    let chunk = live.get(position).copied()?;
+    (chunk.place() % layout.align() == 0).then_some(chunk)
+}
+
 /// Grows the chunk at a position, where its place is a multiple of the old alignment.
 fn apply_grow<A: Allocator>(
     allocator: &mut A,
@@ -119,12 +129,9 @@ fn apply_grow<A: Allocator>(
         (A.may_grow (A.figures allocator.old)) (A.may_shrink (A.figures allocator.old))))
         (Command.Grow position old new) result allocator.old allocator.new live.old live.new }
 {
-    let Some(chunk) = live.get(position).copied() else {
+    let Some(chunk) = aligned_at(live, position, old) else {
         return Reply::Passed;
     };
-    if chunk.place() % old.align() != 0 {
-        return Reply::Passed;
-    }
     match allocator.grow(chunk.place(), old, new) {
         Ok(grown) => {
             live[position] = grown;
@@ -149,14 +156,13 @@ fn apply_shrink<A: Allocator>(
         (A.may_grow (A.figures allocator.old)) (A.may_shrink (A.figures allocator.old))))
         (Command.Shrink position old new) result allocator.old allocator.new live.old live.new }
 {
-    let Some(chunk) = live.get(position).copied() else {
+    let Some(chunk) = aligned_at(live, position, old) else {
         return Reply::Passed;
     };
-    let place = chunk.place();
-    if place % old.align() != 0 || old.size() > allocator.reserved(place) {
+    if old.size() > allocator.reserved(chunk.place()) {
         return Reply::Passed;
     }
-    match allocator.shrink(place, old, new) {
+    match allocator.shrink(chunk.place(), old, new) {
         Ok(shrunk) => {
             live[position] = shrunk;
             Reply::Chunk(shrunk)

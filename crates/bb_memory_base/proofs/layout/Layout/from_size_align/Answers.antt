@@ -1,7 +1,6 @@
 use Rattle.std.proofs.Common.{sym, arith}
 use Rattle.bb_memory_base.proofs.PowersOfTwo.{power_of_two-from_test}
-use Rattle.bb_memory_base.proofs.Layouts.{layout-plain}
-use Rattle.bb_memory_base.proofs.UsualLayouts.{usual-accepted}
+use Rattle.bb_memory_base.proofs.Layouts.{layout-plain, usual-accepted}
 use Rattle.bb_memory_base.proofs.layout.Layout.from_size_align.Goals as goal
 
 pub round_up-requires : goal.round_up-requires

@@ -1,9 +1,8 @@
 use Rattle.std.proofs.Common.{rules, ◌≡◌}
 use Rattle.bb_memory_base.specs.Lending.{written}
 use Rattle.bb_memory_base.proofs.Written.{written-changes}
-use Rattle.bb_memory_base.proofs.ApartBytes.{apart-kept}
+use Rattle.bb_memory_base.proofs.ApartBytes.{apart-kept, extended-bytes}
 use Rattle.bb_memory_base.proofs.LiveBytes.{others_kept, contents_set, contents_given}
-use Rattle.bb_memory_base.proofs.SplitBytes.{extended-bytes}
 use Rattle.bb_memory_base.proofs.region.Region.write.Goals as goal
 
 pub returns-clause-changes : goal.returns-clause-changes

@@ -7,83 +7,51 @@ use Rattle.bb_memory_base.proofs.PoolLogEntries.{log_pass}
 use Rattle.bb_memory_base.proofs.PoolLogSteps.{opening_agrees, take_agrees, lose_agrees, give_agrees}
 use Rattle.bb_memory_base.proofs.PoolLogSteps.{detach_agrees, detached_after, miss_agrees, take_at_agrees, attach_agrees}
 use Rattle.bb_memory_base.proofs.PoolHolders.{one_holder}
-use Rattle.bb_memory_base.proofs.PoolLogRuns.{flags_run}
-use Rattle.bb_memory_base.proofs.PoolRuns.{pool_run}
+use Rattle.bb_memory_base.proofs.PoolFlags.{taken_from_flag, flag_from_taken}
+use Rattle.bb_memory_base.proofs.PoolRuns.{pool_run, taken_is_held}
+use Rattle.bb_memory_base.specs.PoolMachine.{left_by}
 use Rattle.bb_memory_base.proofs.PoolLogFacts.{first_takes, taken_is_held_whole}
 use Rattle.bb_memory_base.proofs.steps.pool.pool_log_theorem.Goals as goal
 
-pub returns-clause-opening : goal.returns-clause-opening
-returns-clause-opening c = opening_agrees
-
-pub returns-clause-take : goal.returns-clause-take
-returns-clause-take c = take_agrees
-
-pub returns-clause-lose : goal.returns-clause-lose
-returns-clause-lose c = lose_agrees
-
-pub returns-clause-take_at : goal.returns-clause-take_at
-returns-clause-take_at c = take_at_agrees
-
-pub returns-clause-miss : goal.returns-clause-miss
-returns-clause-miss c = miss_agrees
-
-pub returns-clause-give : goal.returns-clause-give
-returns-clause-give c = give_agrees
-
-pub returns-clause-detach : goal.returns-clause-detach
-returns-clause-detach c = λ scene flags logs party log bucket agree others at holds. (
-  detach_agrees scene flags logs party log bucket agree others at holds,
-  detached_after scene flags logs party log bucket agree others at holds,
-)
-
-pub returns-clause-attach : goal.returns-clause-attach
-returns-clause-attach c = attach_agrees
-
-pub returns-clause-detached : goal.returns-clause-detached
-returns-clause-detached c = detached_from_logs
-
-pub returns-clause-call : goal.returns-clause-call
-returns-clause-call c = log_pass
-
-pub returns-clause-apart : goal.returns-clause-apart
-returns-clause-apart c = logs_apart
-
-pub returns-clause-free : goal.returns-clause-free
-returns-clause-free c = free_not_held
-
-pub returns-clause-held : goal.returns-clause-held
-returns-clause-held c = held_is_taken
-
-pub returns-clause-alone : goal.returns-clause-alone
-returns-clause-alone c = taken_is_held_alone
-
-pub returns-clause-count : goal.returns-clause-count
-returns-clause-count c = length-flags
-
-pub returns-clause-nobody_else : goal.returns-clause-nobody_else
-returns-clause-nobody_else c = nobody_else
-
-pub returns-clause-interleaved : goal.returns-clause-interleaved
-returns-clause-interleaved c = interleaved_log
-
-pub returns-clause-both_interleaved : goal.returns-clause-both_interleaved
-returns-clause-both_interleaved c = interleaved_logs
-
-pub returns-clause-run : goal.returns-clause-run
-returns-clause-run c = flags_run
-
-pub returns-clause-interleaved_run : goal.returns-clause-interleaved_run
-returns-clause-interleaved_run c =
-    λ scene party log layouts is interleaving asked. pool_run scene interleaving.steps layouts is asked
-
-pub returns-clause-interleaved_apart : goal.returns-clause-interleaved_apart
-returns-clause-interleaved_apart c = λ scene party log other other_log bucket both held other_held.
-    one_holder scene both.steps party other bucket
-    (subst (λ (l : PoolLog). IsHeldAfter l bucket) (sym both.logged) held)
-    (subst (λ (l : PoolLog). IsHeldAfter l bucket) (sym both.other_logged) other_held)
-
-pub returns-clause-whole : goal.returns-clause-whole
-returns-clause-whole c = taken_is_held_whole
-
-pub returns-clause-first : goal.returns-clause-first
-returns-clause-first c = first_takes
+pub returns : goal.returns
+returns c = record {
+  call = log_pass;
+  opening = opening_agrees;
+  take = take_agrees;
+  lose = lose_agrees;
+  take_at = take_at_agrees;
+  miss = miss_agrees;
+  give = give_agrees;
+  detach = λ scene flags logs party log bucket agree others at holds. (
+    detach_agrees scene flags logs party log bucket agree others at holds,
+    detached_after scene flags logs party log bucket agree others at holds,
+  );
+  attach = attach_agrees;
+  detached = detached_from_logs;
+  apart = logs_apart;
+  alone = taken_is_held_alone;
+  whole = taken_is_held_whole;
+  free = free_not_held;
+  held = held_is_taken;
+  first = first_takes;
+  count = length-flags;
+  nobody_else = nobody_else;
+  interleaved = interleaved_log;
+  both_interleaved = interleaved_logs;
+  run = λ scene flags logs layouts is agree asked.
+      let run = pool_run scene agree.steps layouts is asked in
+      let state = left_by scene agree.steps in (
+        run.0,
+        run.1,
+        λ bucket below.
+            let same = taken_is_held scene agree.steps layouts run.0 bucket is run.1 below in (
+              λ flag. same.0 (taken_from_flag state flags bucket agree.leaves flag),
+              λ held. flag_from_taken state flags bucket agree.leaves (same.1 held),
+            ),
+      );
+  interleaved_run = λ scene party log layouts is interleaving asked. pool_run scene interleaving.steps layouts is asked;
+  interleaved_apart = λ scene party log other other_log bucket both held other_held.
+      one_holder scene both.steps party other bucket
+      (subst (λ (l : PoolLog). IsHeldAfter l bucket) (sym both.logged) held)
+      (subst (λ (l : PoolLog). IsHeldAfter l bucket) (sym both.other_logged) other_held);
+}

@@ -6,8 +6,7 @@ use Rattle.bb_memory_base.proofs.steps.bump_world.BumpWorld.call_of.Goals as goa
 
 pub returns-clause-value : goal.returns-clause-value
 returns-clause-value c =
-    c.call_at.ensures
-    ∙ ap (λ calls. slice_get calls c.args.party) c.deref.ensures.value
+    c.call_at.ensures ∙ ap (λ calls. slice_get calls c.args.party) c.deref.ensures.value
     ∙ ap (λ (world : BumpWorld). slice_get world.state.calls c.args.party) c.self.view_is
 
 pub returns-clause-fitting : goal.returns-clause-fitting

@@ -1,7 +1,7 @@
 use Rattle.std.proofs.Common.{◌≤◌, ap, subst, Some, IfSome, sym}
 use Rattle.bb_memory_base.specs.BumpMachine.{PartyMove, IsFitting}
 use Rattle.bb_memory_base.specs.BumpWorld.{BumpWorld, world_of}
-use Rattle.bb_memory_base.proofs.BumpSteps.{all_fitting-set}
+use Rattle.bb_memory_base.proofs.BumpSteps.{each_call-set}
 use Rattle.bb_memory_base.proofs.steps.bump_world.BumpWorld.exchange.Goals as goal
 
 pub of_exchange-turn-requires-clause-call : goal.of_exchange-turn-requires-clause-call
@@ -16,7 +16,6 @@ invariant_of-self c =
     record {
       region = c.self.invariant.region;
       within = subst (λ (turn : PartyMove). turn.position ≤ old.region.size) left c.of_exchange-turn.ensures.within;
-      fitting = all_fitting-set old.region old.state c.turn.inside.position c.args.party c.turn.inside.call
-          c.self.invariant.fitting
-          (subst (λ (turn : PartyMove). IfSome turn.call (IsFitting old.region)) left c.of_exchange-turn.ensures.fitting);
+      fitting = λ other. each_call-set (IsFitting old.region) old.state.calls c.args.party other c.turn.inside.call
+          (c.self.invariant.fitting other) (subst (λ (turn : PartyMove). IfSome turn.call (IsFitting old.region)) left c.of_exchange-turn.ensures.fitting);
     }

@@ -1,7 +1,7 @@
 use Rattle.std.proofs.Common.{subst, IfSome, sym}
 use Rattle.bb_memory_base.specs.BumpMachine.{PartyMove, IsFitting}
 use Rattle.bb_memory_base.specs.BumpWorld.{world_of}
-use Rattle.bb_memory_base.proofs.BumpSteps.{all_fitting-set}
+use Rattle.bb_memory_base.proofs.BumpSteps.{each_call-set}
 use Rattle.bb_memory_base.proofs.steps.bump_world.BumpWorld.read.Goals as goal
 
 pub invariant_of-self : goal.invariant_of-self
@@ -10,8 +10,7 @@ invariant_of-self c =
     record {
       region = c.self.invariant.region;
       within = c.self.invariant.within;
-      fitting = all_fitting-set old.region old.state c.self.inside.position c.args.party c.turn.inside.call
-          c.self.invariant.fitting
-          (subst (λ (turn : PartyMove). IfSome turn.call (IsFitting old.region))
+      fitting = λ other. each_call-set (IsFitting old.region) old.state.calls c.args.party other c.turn.inside.call
+          (c.self.invariant.fitting other) (subst (λ (turn : PartyMove). IfSome turn.call (IsFitting old.region))
           (sym c.turn.view_is) c.of_read-turn.ensures.fitting);
     }
