@@ -3,72 +3,61 @@ use Rattle.std.proofs.Common.{◌≡◌, ◌≤◌, ℕ, arith, List, [], ◌++�
 use Rattle.std.specs.Prelude.{All}
 use Rattle.std.proofs.lemmas.List.{length-replicate}
 use Rattle.std.proofs.lemmas.List.Elements.{All-replicate}
-use Rattle.atomic_table.specs.Table.{Splits, Joins, opening}
+use Rattle.atomic_table.specs.Table.{Splits, Joins, State, opening}
 use Rattle.bb_memory_base.specs.PoolMachine.{PoolScene}
 use Rattle.bb_memory_base.specs.PoolHistory.{PoolEntry, PoolLog}
 use Rattle.bb_memory_base.proofs.PoolLogSteps.{opening_agrees}
 use Rattle.bb_memory.specs.FlagWords.{HaveFlags, words_for}
-use Rattle.bb_memory_core.specs.Seats.{both_detached, both_of, first_detached, first_of, others_detached, others_of}
-use Rattle.bb_memory.specs.SharedPoolRule.{SeatView, WordsAndLogsAgree, all_parties, nobody}
+use Rattle.bb_memory_core.specs.Seats.{AreSeated, both_detached, both_of, first_detached, first_of, others_detached, others_of}
+use Rattle.bb_memory.specs.SharedPoolRule.{AreDetached, SeatView, WordsAndLogsAgree, all_parties, nobody}
 use Rattle.bb_memory.proofs.FlagWords.{all_free}
 use Rattle.bb_memory_core.proofs.Seatings.{seated_joined, seated_opening, seated_others, seated_split}
 use Rattle.bb_memory.proofs.SharedPoolDetached.{both_parts, times_of-parts, detached_joined, detached_split}
 
-pub gives_first : (scene : PoolScene) (seat : ℕ) (view : SeatView) →
-    Splits (WordsAndLogsAgree scene) seat view (others_of view) (first_of view)
-gives_first scene seat view state rule at = record {
+-- the rule with other views
+reseated : (scene : PoolScene) (state : State ℕ SeatView) (rule : WordsAndLogsAgree scene state) (views : List SeatView) →
+    AreSeated scene.parties rule.logs views → AreDetached rule.flags rule.logs views →
+    WordsAndLogsAgree scene record { words = state.words; homes = state.homes; views = views }
+reseated scene state rule views seated detached = record {
   flags = rule.flags;
   logs = rule.logs;
   agree = rule.agree;
   words = rule.words;
   one_a_party = rule.one_a_party;
-  seated = seated_others scene.parties rule.logs state.views seat view rule.seated at;
-  detached = detached_split rule.flags rule.logs state.views seat view (others_of view) (first_of view) (λ bucket. omega arith)
-      rule.detached at;
+  seated = seated;
+  detached = detached;
 }
+
+pub gives_first : (scene : PoolScene) (seat : ℕ) (view : SeatView) →
+    Splits (WordsAndLogsAgree scene) seat view (others_of view) (first_of view)
+gives_first scene seat view state rule at = reseated scene state rule _
+    (seated_others scene.parties rule.logs state.views seat view rule.seated at)
+    (detached_split rule.flags rule.logs state.views seat view (others_of view) (first_of view) (λ bucket. omega arith)
+    rule.detached at)
 
 pub gathers : (scene : PoolScene) (seat other : ℕ) (view guest : SeatView) →
     Joins (WordsAndLogsAgree scene) seat view other guest (both_of view guest) nobody
-gathers scene seat other view guest state rule at apart there = record {
-  flags = rule.flags;
-  logs = rule.logs;
-  agree = rule.agree;
-  words = rule.words;
-  one_a_party = rule.one_a_party;
-  seated = seated_joined scene.parties rule.logs state.views seat view other guest
-      view.scene nobody.scene [] rule.seated at apart there;
-  detached = detached_joined rule.flags rule.logs state.views seat other view guest (both_of view guest) nobody refl
-      (λ bucket. omega arith) rule.detached at there;
-}
+gathers scene seat other view guest state rule at apart there = reseated scene state rule _
+    (seated_joined scene.parties rule.logs state.views seat view other guest view.scene nobody.scene [] rule.seated at apart there)
+    (detached_joined rule.flags rule.logs state.views seat other view guest (both_of view guest) nobody refl
+    (λ bucket. omega arith) rule.detached at there)
 
 -- what is detached goes to a seat of its own, and to the seat of another
 pub gives_detached : (scene : PoolScene) (seat : ℕ) (view : SeatView) →
     Splits (WordsAndLogsAgree scene) seat view (others_detached view) (first_detached view)
-gives_detached scene seat view state rule at = record {
-  flags = rule.flags;
-  logs = rule.logs;
-  agree = rule.agree;
-  words = rule.words;
-  one_a_party = rule.one_a_party;
-  seated = seated_split scene.parties rule.logs state.views seat view
-      (others_detached view) (first_detached view) (λ number. omega arith) (λ have. (have, tt)) rule.seated at;
-  detached = detached_split rule.flags rule.logs state.views seat view (others_detached view) (first_detached view)
-      (λ bucket. let parts = times_of-parts bucket view.detached in omega arith) rule.detached at;
-}
+gives_detached scene seat view state rule at = reseated scene state rule _
+    (seated_split scene.parties rule.logs state.views seat view (others_detached view) (first_detached view)
+    (λ number. omega arith) (λ have. (have, tt)) rule.seated at)
+    (detached_split rule.flags rule.logs state.views seat view (others_detached view) (first_detached view)
+    (λ bucket. let parts = times_of-parts bucket view.detached in omega arith) rule.detached at)
 
 pub takes_in : (scene : PoolScene) (seat other : ℕ) (view guest : SeatView) →
     Joins (WordsAndLogsAgree scene) seat view other guest (both_detached view guest) nobody
-takes_in scene seat other view guest state rule at apart there = record {
-  flags = rule.flags;
-  logs = rule.logs;
-  agree = rule.agree;
-  words = rule.words;
-  one_a_party = rule.one_a_party;
-  seated = seated_joined scene.parties rule.logs state.views seat view other guest
-      view.scene nobody.scene (guest.detached ++ view.detached) rule.seated at apart there;
-  detached = detached_joined rule.flags rule.logs state.views seat other view guest (both_detached view guest) nobody refl
-      (both_parts guest.detached view.detached) rule.detached at there;
-}
+takes_in scene seat other view guest state rule at apart there = reseated scene state rule _
+    (seated_joined scene.parties rule.logs state.views seat view other guest view.scene nobody.scene
+    (guest.detached ++ view.detached) rule.seated at apart there)
+    (detached_joined rule.flags rule.logs state.views seat other view guest (both_detached view guest) nobody refl
+    (both_parts guest.detached view.detached) rule.detached at there)
 
 -- THE OPENING
 

@@ -59,6 +59,13 @@ IsPool-with_flag pool is i flag = record {
   flags = length-set_at pool.held i flag ∙ is.flags;
 }
 
+-- a held bucket's place is that of one of the buckets
+pub held_bucket_below : (pool : Pool) (place : ℕ) → length pool.held ≡ pool.geometry.buckets → HoldsPlace pool place →
+    (i : ℕ) × (i < pool.geometry.buckets) × (place ≡ bucket_place pool.geometry i)
+held_bucket_below pool place flags holds =
+    let (i, has, there) = bucket_held_at pool place holds in
+    (i, omega (arith, slice_get_within pool.held i true has, flags), there)
+
 -- LISTS
 
 -- a list stands for what is held where its chunks are in held buckets, no two in one, and each held bucket has one

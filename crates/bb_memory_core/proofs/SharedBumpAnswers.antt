@@ -1,7 +1,7 @@
 -- What a request that has ended says of its answer and of its party.
-use Rattle.std.proofs.Common.{◌≡◌, ℕ, ◌+◌, ◌<◌, ◌≤◌, List, [], ◌++◌, length, sym, ap, ◌∙◌}
-use Rattle.std.proofs.Common.{subst, append-nil, arith, Option, Some, None, Ok, Err}
-use Rattle.std.specs.Prelude.{MatchOption, drop, max}
+use Rattle.std.proofs.Common.{◌≡◌, ℕ, ◌+◌, ◌<◌, ◌≤◌, List, [], ◌∷◌, ◌++◌, length, sym, ap, ◌∙◌}
+use Rattle.std.proofs.Common.{subst, append-nil, arith, Result, Ok, Err}
+use Rattle.std.specs.Prelude.{IfOk, OnErr, drop, max}
 use Rattle.std.proofs.lemmas.Bool.{leb-false}
 use Rattle.std.proofs.Math.Seq.{drop-append_seam}
 use Rattle.std.proofs.lemmas.List.Elements.{All-nil}
@@ -13,6 +13,7 @@ use Rattle.bb_memory_base.specs.BumpMachine.{BumpScene, chunk_at}
 use Rattle.bb_memory_base.specs.BumpHistory.{BumpLog, chunks_won, losses_in}
 use Rattle.bb_memory_base.specs.BumpLogs.{HasPositionFrom, HasPositionUpTo, seen_in}
 use Rattle.bb_memory_base.specs.declared.layout.Layout.{Layout}
+use Rattle.bb_memory_base.specs.declared.allocator.AllocationError.{AllocationError}
 use Rattle.bb_memory_base.specs.declared.allocator.AllocationError.TheVariants.{OutOfMemory}
 use Rattle.bb_memory_base.proofs.BumpBounds.{won_grows}
 use Rattle.bb_memory_base.proofs.LiveLists.{StandsFor-end}
@@ -68,13 +69,16 @@ nothing_lost party added most same =
 
 -- REQUESTS THAT MADE STEPS
 
--- what a request that made steps has added
-pub ended_by : (scene : BumpScene) (number : ℕ) (log : BumpLog) (met : ℕ) (layout : Layout) (new : Me ℕ SeatView)
-    (answer : Option Chunk) →
-    MatchOption answer (HasRefused scene number log met layout new) (HasWon scene number log met layout new) →
-    (added : BumpLog) × HasEnded scene number log met added new
-ended_by scene number log met layout new None refused = (refused.added, refused.ended)
-ended_by scene number log met layout new (Some chunk) won = (won.added, won.ended)
+-- what a request has of its answer and its party
+pub record Says (scene : BumpScene) (party new : BumpParty) (layout : Layout) (told : Result Chunk AllocationError)
+    : Type 0 where
+  pub answer : MayTake party layout told new
+  pub found : (other : BumpLog) → new ≡ with_entries party other → IsFoundBy party other
+  pub losses : (other : BumpLog) → new ≡ with_entries party other → losses_in other ≤ scene.region.size
+  pub won : IfOk told (λ chunk. chunks_won new.log ≡ chunks_won party.log ++ chunk ∷ [])
+  pub none_won : OnErr told (chunks_won new.log ≡ chunks_won party.log)
+  pub floor : IfOk told (λ chunk. scene.region.start + floor_of party ≤ chunk.place)
+  pub alone : scene.parties ≡ 1 → IsAnsweredAt scene.region (seen_by party) layout told
 
 -- a party before a request and after it, by its fields
 module _ (scene : BumpScene) (table was : TableId) (number : ℕ) (old new : Me ℕ SeatView) (party : BumpParty)
@@ -92,20 +96,20 @@ module _ (scene : BumpScene) (table was : TableId) (number : ℕ) (old new : Me 
       entries_added table was number (number_of old.0) scene added old new party same ended.seat.seat.is ended.still
       view_is scene_is
 
-  pub found_by : (added : BumpLog) → HasEnded scene (number_of old.0) (view_log old.0) (met_by old.0) added new →
+  found_by : (added : BumpLog) → HasEnded scene (number_of old.0) (view_log old.0) (met_by old.0) added new →
       (other : BumpLog) → party_in table number new.0 ≡ with_entries party other → IsFoundBy party other
   found_by added ended other is =
       subst (IsFoundBy party) (sym (added_once party added other (sym is ∙ then added ended)))
       (counted_found scene (view_log old.0) (met_by old.0) added party ended.counted scene_is log_is met_is)
 
-  pub lost_by : (added : BumpLog) → HasEnded scene (number_of old.0) (view_log old.0) (met_by old.0) added new →
+  lost_by : (added : BumpLog) → HasEnded scene (number_of old.0) (view_log old.0) (met_by old.0) added new →
       (other : BumpLog) → party_in table number new.0 ≡ with_entries party other → losses_in other ≤ scene.region.size
   lost_by added ended other is =
       subst (λ (entries : BumpLog). losses_in entries ≤ scene.region.size)
       (sym (added_once party added other (sym is ∙ then added ended))) ended.counted.losses
 
   -- the chunks that its log has won
-  pub won_by : (added : BumpLog) (won : List Chunk) →
+  won_by : (added : BumpLog) (won : List Chunk) →
       HasEnded scene (number_of old.0) (view_log old.0) (met_by old.0) added new →
       chunks_won added ≡ won → chunks_won (view_log new.0) ≡ chunks_won party.log ++ won
   won_by added won ended won_is =
@@ -113,56 +117,54 @@ module _ (scene : BumpScene) (table was : TableId) (number : ℕ) (old new : Me 
       ∙ won_grows party.log added
       ∙ ap (λ (chunks : List Chunk). chunks_won party.log ++ chunks) won_is
 
-  -- a chunk lies behind the party's floor
-  pub behind_floor : (layout : Layout) (chunk : Chunk) →
-      HasWon scene (number_of old.0) (view_log old.0) (met_by old.0) layout new chunk →
-      party.allocator.scene.region.start + floor_of party ≤ chunk.place
-  behind_floor layout chunk won =
-      subst (λ (x : BumpScene × BumpLog × ℕ). x.0.region.start + max (seen_in x.0 x.1) x.2 ≤ chunk.place)
-      (λ i. (sym scene_is i, log_is i, met_is i)) won.behind
-
-  -- where the party is the only one, the answer is the object's at what it had seen
-  module _ (layout : Layout) (asks : 0 < layout.size) (one : scene.parties ≡ 1) where
-    pub alone_won : (chunk : Chunk) → HasWon scene (number_of old.0) (view_log old.0) (met_by old.0) layout new chunk →
-        IsAnsweredAt party.allocator.scene.region (seen_by party) layout (Ok chunk)
-    alone_won chunk won =
-        subst (λ (x : BumpScene × BumpLog). IsAnsweredAt x.0.region (seen_in x.0 x.1) layout (Ok chunk))
-        (λ i. (sym scene_is i, log_is i))
-        (λ live stands. let end = StandsFor-end scene.region (seen_in scene (view_log old.0)) live stands in
-        (asks, won.below, won.alone one ∙ ap (λ (v : ℕ). chunk_at_or_after v layout) (omega (arith, end))))
-
-    pub alone_refused : HasRefused scene (number_of old.0) (view_log old.0) (met_by old.0) layout new →
-        IsAnsweredAt party.allocator.scene.region (seen_by party) layout (Err OutOfMemory)
-    alone_refused refused =
-        let seen = seen_in scene (view_log old.0) in
-        subst (λ (x : BumpScene × BumpLog). IsAnsweredAt x.0.region (seen_in x.0 x.1) layout (Err OutOfMemory))
-        (λ i. (sym scene_is i, log_is i))
-        (λ live stands. let end = StandsFor-end scene.region seen live stands in
-        let same : chunk_end (chunk_at scene.region seen layout) ≡ chunk_end (next_chunk scene.region live layout) =
-        ap (λ (v : ℕ). chunk_end (chunk_at_or_after v layout)) (omega (arith, end)) in
-        let past = leb-false (chunk_end (chunk_at scene.region seen layout)) (region_end scene.region) (refused.alone one) in
-        (asks, omega (arith, same, past)))
-
-  -- what the request may be answered
+  -- a request of this layout by the party
   module _ (layout : Layout) (asks : 0 < layout.size) (own : number_of old.0 ≡ number) where
     told_to : number_of old.0 ≡ party.number
     told_to = own ∙ ap (λ (p : BumpParty). p.number) view_is
 
-    pub answers_won : (chunk : Chunk) → HasWon scene (number_of old.0) (view_log old.0) (met_by old.0) layout new chunk →
-        MayTake party layout (Ok chunk) (party_in table number new.0)
-    answers_won chunk won = (
-      asks,
-      won.added,
-      subst (λ (x : BumpScene × ℕ). IsWon x.0.region x.1 layout won.added chunk) (λ i. (sym scene_is i, told_to i)) won.won,
-      then won.added won.ended,
-    )
+    pub says_won : (chunk : Chunk) → HasWon scene (number_of old.0) (view_log old.0) (met_by old.0) layout new chunk →
+        Says scene party (party_in table number new.0) layout (Ok chunk)
+    says_won chunk won = record {
+      answer = (
+        asks,
+        won.added,
+        subst (λ (x : BumpScene × ℕ). IsWon x.0.region x.1 layout won.added chunk) (λ i. (sym scene_is i, told_to i)) won.won,
+        then won.added won.ended,
+      );
+      found = found_by won.added won.ended;
+      losses = lost_by won.added won.ended;
+      won = won_by won.added (chunk ∷ []) won.ended won.chunks;
+      none_won = tt;
+      floor = subst (λ (x : BumpScene × BumpLog × ℕ). scene.region.start + max (seen_in x.0 x.1) x.2 ≤ chunk.place)
+          (λ i. (sym scene_is i, log_is i, met_is i)) won.behind;
+      alone = λ one. subst (λ (x : BumpScene × BumpLog). IsAnsweredAt scene.region (seen_in x.0 x.1) layout (Ok chunk))
+          (λ i. (sym scene_is i, log_is i))
+          (λ live stands. let end = StandsFor-end scene.region (seen_in scene (view_log old.0)) live stands in
+          (asks, won.below, won.alone one ∙ ap (λ (v : ℕ). chunk_at_or_after v layout) (omega (arith, end))));
+    }
 
-    pub answers_refused : HasRefused scene (number_of old.0) (view_log old.0) (met_by old.0) layout new →
-        MayTake party layout (Err OutOfMemory) (party_in table number new.0)
-    answers_refused refused = (
-      asks,
-      refused.added,
-      subst (λ (x : BumpScene × ℕ). IsRefused x.0.region x.1 layout refused.added)
-          (λ i. (sym scene_is i, told_to i)) refused.refused,
-      then refused.added refused.ended,
-    )
+    pub says_refused : HasRefused scene (number_of old.0) (view_log old.0) (met_by old.0) layout new →
+        Says scene party (party_in table number new.0) layout (Err OutOfMemory)
+    says_refused refused = record {
+      answer = (
+        asks,
+        refused.added,
+        subst (λ (x : BumpScene × ℕ). IsRefused x.0.region x.1 layout refused.added)
+            (λ i. (sym scene_is i, told_to i)) refused.refused,
+        then refused.added refused.ended,
+      );
+      found = found_by refused.added refused.ended;
+      losses = lost_by refused.added refused.ended;
+      won = tt;
+      none_won = won_by refused.added [] refused.ended refused.chunks ∙ append-nil (chunks_won party.log);
+      floor = tt;
+      alone = λ one.
+          let seen = seen_in scene (view_log old.0) in
+          subst (λ (x : BumpScene × BumpLog). IsAnsweredAt scene.region (seen_in x.0 x.1) layout (Err OutOfMemory))
+          (λ i. (sym scene_is i, log_is i))
+          (λ live stands. let end = StandsFor-end scene.region seen live stands in
+          let same : chunk_end (chunk_at scene.region seen layout) ≡ chunk_end (next_chunk scene.region live layout) =
+          ap (λ (v : ℕ). chunk_end (chunk_at_or_after v layout)) (omega (arith, end)) in
+          let past = leb-false (chunk_end (chunk_at scene.region seen layout)) (region_end scene.region) (refused.alone one) in
+          (asks, omega (arith, same, past)));
+    }

@@ -1,18 +1,18 @@
 -- What the last state says to a seat.
-use Rattle.std.proofs.Common.{◌≡◌, ℕ, List, [], ◌∷◌, sym, ap, ◌∙◌, subst, arith}
+use Rattle.std.proofs.Common.{◌≡◌, ◌≤◌, ℕ, List, [], ◌∷◌, sym, ap, ◌∙◌, subst, arith}
 use mathlib.Core.Option.{some, some-injective}
 use lib.ListN.{get_elem?}
 use Rattle.atomic_table.specs.Seated.{TableId}
 use Rattle.atomic_table.specs.Table.{Final, Me, Seen}
 use Rattle.bb_memory_base.specs.BumpMachine.{BumpScene}
 use Rattle.bb_memory_base.specs.BumpHistory.{BumpLog}
-use Rattle.bb_memory_base.specs.BumpLogs.{HasLog}
+use Rattle.bb_memory_base.specs.BumpLogs.{HasLog, Interleaving, seen_in}
 use Rattle.bb_memory_base.proofs.BumpPositions.{alone_exact, interleaved, seen_below}
 use Rattle.bb_memory_base.proofs.BumpWholes.{ends_by}
 use Rattle.bb_memory_core.specs.Seats.{numbered, view_log}
-use Rattle.bb_memory_core.specs.SharedBump.{BumpParty}
+use Rattle.bb_memory_core.specs.SharedBump.{BumpParty, HasChunksWithin}
 use Rattle.bb_memory_core.specs.SharedBumpRule.{IsPartySeat, NumberedLog, SeatView, WordsAndLogsAgree, met_by, party_in}
-use Rattle.bb_memory_core.specs.SharedBumpSteps.{TellsLast, TellsMeeting}
+use Rattle.bb_memory_core.specs.SharedBumpSteps.{TellsMeeting}
 use Rattle.bb_memory_core.proofs.SharedBumpMeetings.{told_by}
 
 pub closes : (scene : BumpScene) (seat : ℕ) (view : SeatView) (words homes : List ℕ) (position : ℕ) →
@@ -25,6 +25,17 @@ closes scene seat view words homes position last at =
     let found : rule.position ≡ position =
     some-injective _ _ (ap (λ (l : List ℕ). get_elem? l 0) (sym rule.words ∙ last.2) ∙ at) in
     subst (TellsMeeting scene view.parties (met_by view)) found (told_by scene state rule seat view last.1.1)
+
+-- The last position, to a party with this log: it is at least what the party had seen and what its last meeting had found, and
+-- at most the size. Some interleaving leaves it, and it is exactly what the party had seen where there is no other.
+pub record TellsLast (scene : BumpScene) (number : ℕ) (log : BumpLog) (met last : ℕ)
+    : Type 0 where
+  pub interleaved : Interleaving scene number log last
+  pub seen : seen_in scene log ≤ last
+  pub above : met ≤ last
+  pub within : last ≤ scene.region.size
+  pub exact : scene.parties ≡ 1 → last ≡ seen_in scene log
+  pub chunks : HasChunksWithin scene.region log last
 
 -- what it says to a party alone
 pub last_known : (scene : BumpScene) (number : ℕ) (log : BumpLog) (met last : ℕ) →

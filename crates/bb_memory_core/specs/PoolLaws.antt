@@ -46,13 +46,6 @@ held_at_bucket pool place i has there =
     (ap (begins_held pool place) (let e : get_or (range_with_len 0 count) i 0 ≡ i =
     omega (arith, get_or-range_with_len 0 count i 0 below) in e) ∙ begins)
 
--- so it is that of one of the buckets
-pub held_bucket_below : (pool : Pool) (place : ℕ) → length pool.held ≡ pool.geometry.buckets → HoldsPlace pool place →
-    (i : ℕ) × (i < pool.geometry.buckets) × (place ≡ bucket_place pool.geometry i)
-held_bucket_below pool place flags holds =
-    let (i, has, there) = bucket_held_at pool place holds in
-    (i, omega (arith, slice_get_within pool.held i true has, flags), there)
-
 -- LIVE LISTS
 
 -- what stands at a position of it has the place of a held bucket

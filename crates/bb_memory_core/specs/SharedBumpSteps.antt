@@ -6,7 +6,7 @@ use Rattle.atomic_table.specs.Table.{Me, Step}
 use Rattle.bb_memory_base.specs.Chunk.{Region, region_end, Chunk, IsInside, chunk_end}
 use Rattle.bb_memory_base.specs.BumpMachine.{BumpScene, OngoingCall, chunk_at, fits, read_move, exchange_move}
 use Rattle.bb_memory_base.specs.BumpHistory.{BumpLog, chunks_won, entry_of, losses_in}
-use Rattle.bb_memory_base.specs.BumpLogs.{HasPositionFrom, CommonInterleaving, Interleaving, HasPositionUpTo, LogsAgree, call_in}
+use Rattle.bb_memory_base.specs.BumpLogs.{HasPositionFrom, CommonInterleaving, HasPositionUpTo, LogsAgree, call_in}
 use Rattle.bb_memory_base.specs.BumpLogs.{seen_in}
 use Rattle.bb_memory_base.specs.declared.layout.Layout.{Layout}
 use Rattle.bb_memory_base.specs.declared.steps.bump.BumpStep.{BumpStep}
@@ -70,17 +70,6 @@ pub record TellsTwo (scene : BumpScene) (number : ℕ) (log : BumpLog) (other : 
   pub seen : (seen_in scene log ≤ found) × (seen_in scene other_log ≤ found)
   pub within : found ≤ scene.region.size
   pub chunks : HasChunksWithin scene.region log found × HasChunksWithin scene.region other_log found
-
--- The last position, to a party with this log: it is at least what the party had seen and what its last meeting had found, and
--- at most the size. Some interleaving leaves it, and it is exactly what the party had seen where there is no other.
-pub record TellsLast (scene : BumpScene) (number : ℕ) (log : BumpLog) (met last : ℕ)
-    : Type 0 where
-  pub interleaved : Interleaving scene number log last
-  pub seen : seen_in scene log ≤ last
-  pub above : met ≤ last
-  pub within : last ≤ scene.region.size
-  pub exact : scene.parties ≡ 1 → last ≡ seen_in scene log
-  pub chunks : HasChunksWithin scene.region log last
 
 -- THE STEPS AS THE TABLE KNOWS THEM
 

@@ -1,50 +1,29 @@
-use Rattle.std.proofs.Common.{ap, sym, subst, ℕ, ◌∙◌, arith}
-use Rattle.bb_memory_base.specs.BumpMachine.{BumpScene}
+use Rattle.std.proofs.Common.{ap, sym, subst, ◌∙◌, arith}
 use Rattle.bb_memory_base.specs.BumpLogs.{seen_in}
-use Rattle.bb_memory_core.specs.SharedBump.{HasChunksWithin}
-use Rattle.bb_memory_core.proofs.SharedBumpClosings.{last_of}
+use Rattle.bb_memory_core.proofs.SharedBumpClosings.{TellsLast, last_of}
 use Rattle.bb_memory_core.proofs.shared_bump.SharedBumpAllocator.into_owner.Goals as goal
+
+last : (c : goal.After-at_position) →
+    TellsLast c.args.self.scene c.args.party.number c.args.party.log c.args.party.met c.at_position.result.used
+last c =
+    let found = last_of c.party.inside.seat.table_id c.self.inside.position.scene c.args.self.scene c.party.inside.number
+    c.party.inside.seat.me c.args.party c.close-used.result c.party.invariant c.party.view_is
+    (ap (λ b. b.scene) c.self.view_is) c.close-used.ensures.last in
+    subst (TellsLast c.args.self.scene c.args.party.number c.args.party.log c.args.party.met)
+    (sym (ap (λ b. b.used) c.at_position.ensures)) found
 
 pub returns-clause-seen : goal.returns-clause-seen
 returns-clause-seen c =
-    let last =
-    last_of c.party.inside.seat.table_id c.self.inside.position.scene c.args.self.scene c.party.inside.number
-    c.party.inside.seat.me
-    c.args.party c.close-used.result c.party.invariant c.party.view_is (ap (λ b. b.scene) c.self.view_is)
-    c.close-used.ensures.last in
-    let own = ap (λ b. b.scene) c.requires.party in
-    let used = ap (λ b. b.used) c.at_position.ensures in
-    let same = ap (λ (s : BumpScene). seen_in s c.args.party.log) own in omega (arith, last.seen, same, used)
+    let same = ap (λ b. seen_in b.scene c.args.party.log) c.requires.party in omega (arith, (last c).seen, same)
 
 pub returns-clause-floor : goal.returns-clause-floor
 returns-clause-floor c =
-    let last =
-    last_of c.party.inside.seat.table_id c.self.inside.position.scene c.args.self.scene c.party.inside.number
-    c.party.inside.seat.me
-    c.args.party c.close-used.result c.party.invariant c.party.view_is (ap (λ b. b.scene) c.self.view_is)
-    c.close-used.ensures.last in
-    let own = ap (λ b. b.scene) c.requires.party in
-    let used = ap (λ b. b.used) c.at_position.ensures in
-    let same = ap (λ (s : BumpScene). seen_in s c.args.party.log) own in omega (arith, last.seen, last.above, same, used)
+    let same = ap (λ b. seen_in b.scene c.args.party.log) c.requires.party in
+    omega (arith, (last c).seen, (last c).above, same)
 
 pub returns-clause-exact : goal.returns-clause-exact
 returns-clause-exact c = λ one.
-    let last =
-    last_of c.party.inside.seat.table_id c.self.inside.position.scene c.args.self.scene c.party.inside.number
-    c.party.inside.seat.me
-    c.args.party c.close-used.result c.party.invariant c.party.view_is (ap (λ b. b.scene) c.self.view_is)
-    c.close-used.ensures.last in
-    let own = ap (λ b. b.scene) c.requires.party in
-    let used = ap (λ b. b.used) c.at_position.ensures in
-    used ∙ last.exact one ∙ ap (λ (s : BumpScene). seen_in s c.args.party.log) (sym own)
+    (last c).exact one ∙ sym (ap (λ b. seen_in b.scene c.args.party.log) c.requires.party)
 
 pub returns-clause-behind : goal.returns-clause-behind
-returns-clause-behind c =
-    let last =
-    last_of c.party.inside.seat.table_id c.self.inside.position.scene c.args.self.scene c.party.inside.number
-    c.party.inside.seat.me
-    c.args.party c.close-used.result c.party.invariant c.party.view_is (ap (λ b. b.scene) c.self.view_is)
-    c.close-used.ensures.last in
-    let own = ap (λ b. b.scene) c.requires.party in
-    let used = ap (λ b. b.used) c.at_position.ensures in
-    subst (λ (n : ℕ). HasChunksWithin c.args.self.scene.region c.args.party.log n) (sym used) last.chunks
+returns-clause-behind c = (last c).chunks

@@ -1,6 +1,7 @@
 use Rattle.std.proofs.Common.{rules, refl, subst}
 use Rattle.bb_memory_core.specs.NumberSet.{Has}
-use Rattle.bb_memory_core.specs.PoolLaws.{bucket_held_at, held_at_bucket, held_bucket_below}
+use Rattle.bb_memory_core.specs.PoolLaws.{bucket_held_at, held_at_bucket}
+use Rattle.bb_memory_core.proofs.Pools.{held_bucket_below}
 use Rattle.bb_memory_core.proofs.pool_allocator.bucket_pool.BucketPool.held_number.Goals as goal
 
 pub returns-in_err-number-clause-held : goal.returns-in_err-number-clause-held

@@ -4,7 +4,7 @@ use Rattle.bb_memory_base.specs.Chunk.{Chunk}
 use Rattle.bb_memory_base.specs.PoolObject.{MayGrow}
 use Rattle.bb_memory_base.specs.declared.layout.Layout.{Layout}
 use Rattle.bb_memory_base.specs.declared.allocator.AllocationGrowError.{AllocationGrowError}
-use Rattle.bb_memory_core.specs.PoolLaws.{held_bucket_below}
+use Rattle.bb_memory_core.proofs.Pools.{held_bucket_below}
 use Rattle.bb_memory_core.proofs.PoolCalls.{MayGrow-resized}
 use Rattle.bb_memory_core.proofs.pool_allocator.bucket_pool.BucketPoolAllocator.grow.Goals as goal
 
