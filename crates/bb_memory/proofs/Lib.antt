@@ -7,7 +7,7 @@ mod SharedPoolLaws
 mod SharedPoolMeetings
 mod SharedPoolParties
 mod SharedPoolPasses
-pub mod SharedPoolRounds
+pub mod SharedPoolNextFit
 mod SharedPoolSeats
 mod SharedPoolDetached
 pub mod SharedPoolTries

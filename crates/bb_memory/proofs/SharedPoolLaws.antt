@@ -26,8 +26,8 @@ use Rattle.bb_memory_base.proofs.PoolSteps.{length-left_by}
 use Rattle.bb_memory_core.specs.Pool.{AreAStrideApart}
 use Rattle.bb_memory.specs.SharedPool.{AreInterleaved, HasFoundAllHeld, IsHistoryRun, IsParty, PoolParty}
 use Rattle.bb_memory.specs.SharedPool.{SharedPool, TakenBucket, chunk_of, losses, refused_pass}
-use Rattle.bb_memory.specs.SharedPoolRounds.{HasMissedAll, at_turn, miss_at, misses, refused_round}
-use Rattle.bb_memory.proofs.SharedPoolRounds.{turn_at}
+use Rattle.bb_memory.specs.SharedPoolNextFit.{HasMissedAll, probed, miss_at, misses, refused_search}
+use Rattle.bb_memory.proofs.SharedPoolNextFit.{probe_at}
 
 pub history_run : (party : PoolParty) (is : IsParty party) (layouts : List Layout) →
     AreAsked party.allocator.scene.geometry is.interleaved.steps layouts →
@@ -170,31 +170,31 @@ history_refused party is before after some has =
 
 -- REFUSED ROUNDS
 
--- the misses of a round are those before a turn, the one at it, and others
-misses-split : (buckets party first turn count : ℕ) → turn < count →
-    let tried = at_turn buckets first turn in
+-- the misses of a search are those before a probe, the one at it, and others
+misses-split : (buckets party first probe count : ℕ) → probe < count →
+    let tried = probed buckets first probe in
     (rest : PoolLog)
     × (misses buckets party first count
-    ≡ misses buckets party first turn ++ entry_of (TryAt party tried) (Misses tried) ∷ rest)
-misses-split buckets party first turn zero below = absurd (omega arith)
-misses-split buckets party first turn (suc count) below = elim (cases_lt turn count) [
+    ≡ misses buckets party first probe ++ entry_of (TryAt party tried) (Misses tried) ∷ rest)
+misses-split buckets party first probe zero below = absurd (omega arith)
+misses-split buckets party first probe (suc count) below = elim (cases_lt probe count) [
   | inl before ↦
-      let split = misses-split buckets party first turn count before in
-      let tried = at_turn buckets first turn in
-      let end : PoolLog = miss_at party (at_turn buckets first count) in (
+      let split = misses-split buckets party first probe count before in
+      let tried = probed buckets first probe in
+      let end : PoolLog = miss_at party (probed buckets first count) in (
         split.0 ++ end,
         ap (λ (log : PoolLog). log ++ end) split.1
-            ∙ append_assoc (misses buckets party first turn) (entry_of (TryAt party tried) (Misses tried) ∷ split.0) end,
+            ∙ append_assoc (misses buckets party first probe) (entry_of (TryAt party tried) (Misses tried) ∷ split.0) end,
       )
   | inr not_before ↦
-      let same : turn ≡ count = omega arith in (
+      let same : probe ≡ count = omega arith in (
         [],
-        ap (λ (t : ℕ). misses buckets party first t ++ miss_at party (at_turn buckets first t)) (sym same),
+        ap (λ (t : ℕ). misses buckets party first t ++ miss_at party (probed buckets first t)) (sym same),
       )
 ]
 
 pub history_missed : (party : PoolParty) (is : IsParty party) (before after : PoolLog) (first : ℕ) →
-    party.log ≡ (before ++ refused_round party.allocator.scene.geometry.buckets party.number first) ++ after →
+    party.log ≡ (before ++ refused_search party.allocator.scene.geometry.buckets party.number first) ++ after →
     HasMissedAll party is before first
 history_missed party is before after first has bucket below =
     let scene = party.allocator.scene in
@@ -202,14 +202,14 @@ history_missed party is before after first has bucket below =
     let steps = is.interleaved.steps in
     let history = history_of scene steps in
     let number = party.number in
-    let at = turn_at buckets first bucket below in
-    let earlier : PoolLog = misses buckets number first at.turn in
-    let tried = at_turn buckets first at.turn in
+    let at = probe_at buckets first bucket below in
+    let earlier : PoolLog = misses buckets number first at.probe in
+    let tried = probed buckets first at.probe in
     let entry : PoolEntry = entry_of (TryAt number tried) (Misses tried) in
-    let split = misses-split buckets number first at.turn buckets at.before_end in
+    let split = misses-split buckets number first at.probe buckets at.before_end in
     let log_is : party.log ≡ (before ++ earlier) ++ entry ∷ (split.0 ++ after) =
     has
-    ∙ append_assoc before (refused_round buckets number first) after
+    ∙ append_assoc before (refused_search buckets number first) after
     ∙ ap (λ (log : PoolLog). before ++ (log ++ after)) split.1
     ∙ ap (λ (log : PoolLog). before ++ log) (append_assoc earlier (entry ∷ split.0) after)
     ∙ sym (append_assoc before earlier (entry ∷ (split.0 ++ after))) in
@@ -218,12 +218,12 @@ history_missed party is before after first has bucket below =
     let missed : MissesAt history number bucket last.place =
     subst (λ (b : ℕ). slice_get history last.place ≡ Some (entry_of (TryAt number b) (Misses b))) at.there last.there in
     record {
-      turn = at.turn;
+      probe = at.probe;
       step = last.place;
-      its_turn = ap (λ (k : ℕ). entries_by number (take k history)) (add-one last.place)
+      its_probe = ap (λ (k : ℕ). entries_by number (take k history)) (add-one last.place)
           ∙ last.up_to
           ∙ append_assoc before earlier (entry ∷ [])
-          ∙ ap (λ (t : ℕ). before ++ misses buckets number first t) (sym (add-one at.turn));
+          ∙ ap (λ (t : ℕ). before ++ misses buckets number first t) (sym (add-one at.probe));
       missed = missed;
       held = (missed_is_held scene steps number bucket last.place is.scene.geometry missed).2;
     }

@@ -10,7 +10,7 @@ use Rattle.bb_memory_base.specs.declared.steps.pool.PoolStep.TheVariants.{Detach
 use Rattle.bb_memory_base.specs.declared.steps.pool.PoolOutcome.TheVariants.{Detaches}
 use Rattle.bb_memory_core.specs.Seats.{alone, number_of, view_log}
 use Rattle.bb_memory.specs.SharedPool.{IsParty, IsSharedScene, PoolParty, SharedPool, detach_entry, return_entry, with_entries}
-use Rattle.bb_memory.specs.SharedPoolRounds.{hint_in, part_of}
+use Rattle.bb_memory.specs.SharedPoolNextFit.{hint_in, part_of}
 use Rattle.bb_memory.specs.SharedPoolRule.{IsDetachedAt, IsPartySeat, IsSeatOfIdle, SeatView, party_in, pool_in}
 use Rattle.bb_memory.specs.SharedPoolSteps.{HasEnded, HasDetachedAt, TellsReturn}
 use Rattle.bb_memory.proofs.SharedPoolTries.{hint-append, hint_through, idle_after_one, idle_after_return}

@@ -8,7 +8,7 @@ use Rattle.bb_memory_base.specs.PoolLogs.{held_after, IsHeldAfter, pass_after, p
 use Rattle.bb_memory_base.specs.declared.steps.pool.PoolStep.TheVariants.{Try}
 use Rattle.bb_memory_base.specs.declared.steps.pool.PoolOutcome.TheVariants.{Takes, Loses, RefusedAtLoss}
 use Rattle.bb_memory_base.proofs.PoolHolders.{held_through}
-use Rattle.bb_memory.specs.SharedPoolRounds.{hint_after}
+use Rattle.bb_memory.specs.SharedPoolNextFit.{hint_after}
 use Rattle.bb_memory.specs.SharedPool.{detach_entry, losses, taking_pass, refused_pass, return_entry}
 
 abbrev pass_through : Option ℕ → PoolLog → Option ℕ

@@ -172,8 +172,8 @@ pub record Serves (pool : SharedPool) (old : PoolParty) (layout : Layout) (answe
   pub aligned : IfOk answer (λ bucket. (chunk_of bucket).place % layout.align ≡ 0)
   pub exact_size : IfOk answer (λ bucket. (chunk_of bucket).len ≡ layout.size)
 
--- The same of a round. With one party it is refused exactly where each bucket is held after that party's log.
-pub record ServesRound (pool : SharedPool) (old : PoolParty) (layout : Layout) (answer : Result TakenBucket AllocationError)
+-- The same of a search. With one party it is refused exactly where each bucket is held after that party's log.
+pub record ServesNextFit (pool : SharedPool) (old : PoolParty) (layout : Layout) (answer : Result TakenBucket AllocationError)
     (new : PoolParty) : Type 0 where
   pub serves : Serves pool old layout answer new
   pub alone : pool.scene.parties ≡ 1 → IsWithin pool.scene.geometry.bucket layout →

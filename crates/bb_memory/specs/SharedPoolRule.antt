@@ -13,7 +13,7 @@ use Rattle.bb_memory_base.specs.PoolLogs.{Interleaving, IsHeldAfter, IsDetachedA
 use Rattle.bb_memory_base.specs.declared.layout.Layout.{Layout}
 use Rattle.bb_memory.specs.FlagWords.{HaveFlags, words_for}
 use Rattle.bb_memory.specs.SharedPool.{PoolParty, IsSharedScene, SharedPool, scene_at}
-use Rattle.bb_memory.specs.SharedPoolRounds.{hint_in}
+use Rattle.bb_memory.specs.SharedPoolNextFit.{hint_in}
 use Rattle.bb_memory_core.specs.Seats.{AreSeated, HasRoomFor, IsAt, Numbered, Seat, alone, carrying, fresh_from, number_of}
 use Rattle.bb_memory_core.specs.Seats.{numbered}
 use Rattle.bb_memory_core.specs.Seats.{standing_for, times_detached, view_log}

@@ -1,4 +1,4 @@
--- What each step on a shared pool's words tells the party that makes it, and passes and rounds as they stand at their party's
+-- What each step on a shared pool's words tells the party that makes it, and passes and searches as they stand at their party's
 -- seat.
 use Rattle.std.specs.Prelude.{◌≡◌, ◌≢◌, ℕ, ◌<◌, ◌≤◌, Bool, List, [], ◌∷◌, ◌++◌, length}
 use Rattle.atomic_table.specs.Seated.{TableId}
@@ -11,7 +11,7 @@ use Rattle.bb_memory_base.specs.declared.steps.pool.PoolOutcome.TheVariants.{Tak
 use Rattle.bb_memory.specs.FlagWords.{bucket_of}
 use Rattle.bb_memory_core.specs.Seats.{HaveLogs, alone_with, number_of, times_in, view_log}
 use Rattle.bb_memory.specs.SharedPool.{AreAllHeldAfter, detach_entry, refused_pass, return_entry, attach_entry, taking_pass}
-use Rattle.bb_memory.specs.SharedPoolRounds.{at_turn, miss_at, refused_round, taking_at, taking_round}
+use Rattle.bb_memory.specs.SharedPoolNextFit.{probed, miss_at, refused_search, taking_at, taking_search}
 use Rattle.bb_memory.specs.SharedPoolRule.{IsSeatOf, IsSeatOfIdle, NumberedLog, SeatView}
 
 -- WHAT A STEP TELLS
@@ -151,14 +151,14 @@ pub record HasRefused (scene : PoolScene) (number : ℕ) (log : PoolLog) (new : 
 
 -- ROUNDS
 
--- a round took this bucket at a turn, and it wasn't held after the log before
+-- a search took this bucket at a probe, and it wasn't held after the log before
 pub record HasTakenFrom (scene : PoolScene) (number : ℕ) (log : PoolLog) (first : ℕ)
     (new : Me ℕ SeatView) (bucket : ℕ) : Type 0 where
-  pub turn : ℕ
-  pub before_end : turn < scene.geometry.buckets
-  pub there : at_turn scene.geometry.buckets first turn ≡ bucket
+  pub probe : ℕ
+  pub before_end : probe < scene.geometry.buckets
+  pub there : probed scene.geometry.buckets first probe ≡ bucket
   pub ended : HasEnded scene number log
-      (taking_round scene.geometry.buckets number first turn) new
+      (taking_search scene.geometry.buckets number first probe) new
   pub below : bucket < scene.geometry.buckets
   pub free : ¬ IsHeldAfter log bucket
 
@@ -166,5 +166,5 @@ pub record HasTakenFrom (scene : PoolScene) (number : ℕ) (log : PoolLog) (firs
 pub record HasRefusedFrom (scene : PoolScene) (number : ℕ) (log : PoolLog) (first : ℕ)
     (new : Me ℕ SeatView) : Type 0 where
   pub ended : HasEnded scene number log
-      (refused_round scene.geometry.buckets number first) new
+      (refused_search scene.geometry.buckets number first) new
   pub held : scene.parties ≡ 1 → AreAllHeldAfter log scene.geometry.buckets

@@ -7,7 +7,7 @@
 //!
 //! - `shared_pool`: pools that threads share.
 //!   - `flags`, `rule`, `party`, `meeting` and `all_parties`: as those of the bump, with a word for each bucket.
-//!   - `buckets`: the pool itself, and a request by a pass. `rounds`: requests that begin elsewhere than at bucket 0.
+//!   - `buckets`: the pool itself, and a request by a pass. `next_fit`: requests that begin at the party's hint.
 //!   - `bucket`: what a request answers. `by_number`: buckets by number and by place.
 //!   - `detached`: buckets on their way from one party to another.
 //!   - `fixed_size`: the pool of at most a constant of buckets.

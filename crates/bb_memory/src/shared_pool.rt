@@ -14,7 +14,7 @@ ghost use Rattle.bb_memory_core.specs.HeldBuckets.{IsCutAtMost};
 ghost use Rattle.bb_memory_core.specs.Pool.{AreAStrideApart, MayBeCut};
 ghost use Rattle.bb_memory.specs.SharedPool.{AreFresh, AreInterleaved, HasFoundAllHeld, IsHistoryRun};
 ghost use Rattle.bb_memory.specs.SharedPool.{IsParty, PoolParty, TakenBucket, chunk_of, refused_pass};
-ghost use Rattle.bb_memory.specs.SharedPoolRounds.{HasMissedAll, refused_round};
+ghost use Rattle.bb_memory.specs.SharedPoolNextFit.{HasMissedAll, refused_search};
 
 mod all_parties;
 mod bucket;
@@ -24,8 +24,8 @@ mod detached;
 mod fixed_size;
 mod flags;
 mod meeting;
+mod next_fit;
 mod party;
-mod rounds;
 mod rule;
 
 pub use crate::allocator::{AllocationError, AllocationGrowError, AllocationShrinkError};
@@ -42,8 +42,8 @@ use std::alloc::Global;
 /// Gives buckets of one layout to any number of threads. The pool is made for some number of parties, and each thread that
 /// takes or gives back buckets has one of them. No call waits for another, and none takes memory once the pool is made.
 ///
-/// Of the two requests, `allocate_near` is the one to begin with: it tries the buckets from where its party has been last, so
-/// what is held elsewhere costs it nothing. `allocate` tries them from bucket 0 each time.
+/// Of the two requests, `allocate_next_fit` is the one to begin with: its search begins at the party's hint, so what is held
+/// elsewhere costs it nothing. `allocate` tries the buckets from bucket 0 each time.
 ///
 /// What a call promises is told by the party's log: the list of the atomic steps that the party made, each with what it found.
 /// Some interleaving of each party's log with some logs of the others is always one that the pool machine allows. A user who has
@@ -150,11 +150,11 @@ pub fn shared_pool_law()
         let beginning = before ++ refused_pass buckets party.number in
         0 < buckets → party.log ≡ beginning ++ after → HasFoundAllHeld party is beginning }
 
-    // Wherever the log has a round that was refused, that round has missed each bucket, which was
+    // Wherever the log has a search that was refused, that search has missed each bucket, which was
     // held in the run then, each at a step of its own.
     ensures missed { (party : PoolParty) (is : IsParty party) (before after : PoolLog) (first : ℕ)
         → let buckets = party.allocator.scene.geometry.buckets in
-        party.log ≡ (before ++ refused_round buckets party.number first) ++ after
+        party.log ≡ (before ++ refused_search buckets party.number first) ++ after
         → HasMissedAll party is before first }
 
     // Two parties that met have one history together, whose takings and returns are a run too: one

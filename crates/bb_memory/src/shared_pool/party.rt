@@ -12,7 +12,7 @@ use std::marker::Model;
 pub struct PoolParty {
     pub(super) number: u32,
     pub(super) seat: Seat<u8, View>,
-    /// The bucket at which the party's next round begins.
+    /// The bucket at which the party's next search begins.
     pub(super) hint: u32,
 }
 

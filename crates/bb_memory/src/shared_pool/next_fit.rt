@@ -1,8 +1,8 @@
-//! Takings by a round, which needn't begin at bucket 0.
+//! Next fit: requests whose search begins where the party's last one ended.
 ghost use Rattle.std.specs.Prelude.{◌≡◌, ◌+◌, ◌<◌, ◌^◌, IfSome, MatchOption};
 ghost use Rattle.bb_memory_core.specs.Seats.{Stays, number_of, view_log};
-ghost use Rattle.bb_memory.specs.SharedPool.{ServesRound};
-ghost use Rattle.bb_memory.specs.SharedPoolRounds.{MayTakeFrom, at_turn, hint_of, part_of};
+ghost use Rattle.bb_memory.specs.SharedPool.{ServesNextFit};
+ghost use Rattle.bb_memory.specs.SharedPoolNextFit.{MayTakeFrom, probed, hint_of, part_of};
 ghost use Rattle.bb_memory.specs.SharedPoolRule.{IsIdleAt};
 ghost use Rattle.bb_memory.specs.SharedPoolSteps.{HasRefusedFrom, HasTakenFrom};
 
@@ -14,18 +14,18 @@ use crate::allocator::AllocationError;
 use crate::layout::Layout;
 use atomic_table::Seat;
 
-/// The bucket that a round over so many buckets, which begins at bucket `first`, tries at a turn.
-fn at_turn(buckets: u32, first: u32, turn: u32) -> u32
-    requires { turn < buckets }
-    ensures value { result ≡ at_turn buckets first turn }
+/// The bucket that a probe tries, in a search over so many buckets that begins at bucket `first`.
+fn probed(buckets: u32, first: u32, probe: u32) -> u32
+    requires { probe < buckets }
+    ensures value { result ≡ probed buckets first probe }
     ensures below { result < buckets }
 {
     let start = if first < buckets { first } else { 0 };
     let ahead = buckets - start;
-    if turn < ahead {
-        start + turn
+    if probe < ahead {
+        start + probe
     } else {
-        turn - ahead
+        probe - ahead
     }
 }
 
@@ -39,8 +39,8 @@ impl<const CAPPED: usize, const MOST: usize> SharedBucketPool<CAPPED, MOST> {
         (before / self.number_of_parties() as u64) as u32
     }
 
-    /// One whole round: an exchange on each flag from bucket `first` up, and then on those below it, until one is taken.
-    fn round(&self, seat: &mut Seat<u8, View>, first: u32) -> Option<u32>
+    /// One whole search: an exchange on each flag from bucket `first` up, and then on those below it, until one is taken.
+    fn next_fit(&self, seat: &mut Seat<u8, View>, first: u32) -> Option<u32>
         requires { IsIdleAt self.now seat.old.table_id seat.old.me }
         ensures told { Stays seat.old.table_id seat.new.table_id (MatchOption result
             (HasRefusedFrom self.now.scene (number_of seat.old.me.0) (view_log seat.old.me.0)
@@ -50,8 +50,8 @@ impl<const CAPPED: usize, const MOST: usize> SharedBucketPool<CAPPED, MOST> {
         ensures fits { IfSome result (λ bucket. bucket + 1 < 2 ^ 32) }
     {
         let count = self.number_of_buckets();
-        for turn in 0..count {
-            let bucket = at_turn(count, first, turn);
+        for probe in 0..count {
+            let bucket = probed(count, first, probe);
             if self.flags.try_at(seat, bucket) {
                 return Some(bucket);
             }
@@ -60,12 +60,12 @@ impl<const CAPPED: usize, const MOST: usize> SharedBucketPool<CAPPED, MOST> {
     }
 
     /// Takes a bucket for the party, as `allocate` does, but tries the buckets in another order: after the same tests of size and
-    /// alignment it makes one round, one exchange on each flag, until one is taken. The round begins where the party has been
-    /// last: at the bucket that it gave back, or behind the one that it took; before both, in a part of the pool of its own. It
-    /// goes on to the last bucket, and then from bucket 0 up. It is refused with `OutOfMemory` where each bucket is missed.
-    /// Where other parties step meanwhile, that doesn't mean that all buckets were held at one moment. The party has to be this
-    /// pool's.
-    pub fn allocate_near(
+    /// alignment it probes each flag once, by one exchange, until one is taken. The search begins at the party's hint: at the
+    /// bucket that the party gave back last, or behind the one that it took last, whichever came later; before both, at the first
+    /// bucket of a part of the pool of its own. The search goes on to the last bucket, and then from bucket 0 up. It is refused
+    /// with `OutOfMemory` where each probe misses. Where other parties step meanwhile, that doesn't mean that all buckets were
+    /// held at one moment. The party has to be this pool's.
+    pub fn allocate_next_fit(
         &self,
         party: &mut PoolParty,
         layout: Layout,
@@ -73,7 +73,7 @@ impl<const CAPPED: usize, const MOST: usize> SharedBucketPool<CAPPED, MOST> {
         requires party { party.old.allocator ≡ self.now }
         ensures answer { MayTakeFrom (hint_of party.old) party.old layout result party.new }
         ensures party { party.new.allocator ≡ self.now }
-        ensures serves { ServesRound self.now party.old layout result party.new }
+        ensures serves { ServesNextFit self.now party.old layout result party.new }
     {
         // What holds of the party is known from here on, also where no step is made.
         let _ = &party.number;
@@ -84,7 +84,7 @@ impl<const CAPPED: usize, const MOST: usize> SharedBucketPool<CAPPED, MOST> {
         if layout.align() > bucket.align() {
             return Err(AllocationError::AlignmentFailure);
         }
-        match self.round(&mut party.seat, party.hint) {
+        match self.next_fit(&mut party.seat, party.hint) {
             Some(number) => {
                 party.hint = number + 1;
                 Ok(Bucket {

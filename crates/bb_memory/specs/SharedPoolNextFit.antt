@@ -1,5 +1,5 @@
--- Requests of a shared pool's party that try each bucket from one on: what they add to the party's log, and what they may be
--- answered.
+-- Next fit: requests of a shared pool's party that probe each bucket from the party's hint on, what they add to the party's log,
+-- and what they may be answered.
 use Rattle.std.specs.Prelude.{◌≡◌, ℕ, zero, suc, ◌+◌, ◌*◌, ◌/◌, ◌%◌, ◌<◌, ◌≤◌, nat_lt, if◌then◌else◌, [], ◌∷◌, ◌++◌}
 use Rattle.std.specs.Prelude.{Result, Ok, Err, fold, take}
 use Rattle.bb_memory_base.specs.PoolObject.{IsWithin}
@@ -41,51 +41,51 @@ hint_of party = hint_in party.allocator.scene party.number party.log
 abbrev pub taking_at : ℕ → ℕ → PoolLog
 taking_at party bucket = entry_of (TryAt party bucket) (Takes bucket) ∷ []
 
--- one step, which misses it
+-- one step, which misses this bucket
 abbrev pub miss_at : ℕ → ℕ → PoolLog
 miss_at party bucket = entry_of (TryAt party bucket) (Misses bucket) ∷ []
 
--- where a round over so many buckets begins: at this one, or at bucket 0 where there is none of this number
+-- where a search over so many buckets begins: at this one, or at bucket 0 where there is none of this number
 abbrev pub start_of : ℕ → ℕ → ℕ
 start_of buckets first = if nat_lt first buckets then first else 0
 
--- the bucket that it tries at a turn, counted from 0: behind the last bucket comes bucket 0
-abbrev pub at_turn : ℕ → ℕ → ℕ → ℕ
-at_turn buckets first turn = (start_of buckets first + turn) % buckets
+-- the bucket that a probe tries, counted from 0: behind the last bucket comes bucket 0
+abbrev pub probed : ℕ → ℕ → ℕ → ℕ
+probed buckets first probe = (start_of buckets first + probe) % buckets
 
--- a party's misses at so many turns of a round, from turn 0 up
+-- a party's misses at so many probes of a search, from probe 0 up
 abbrev pub misses : ℕ → ℕ → ℕ → ℕ → PoolLog
 misses buckets party first zero = []
-misses buckets party first (suc turn) =
-    misses buckets party first turn ++ miss_at party (at_turn buckets first turn)
+misses buckets party first (suc probe) =
+    misses buckets party first probe ++ miss_at party (probed buckets first probe)
 
--- a round that takes a bucket at a turn: misses at the turns before, and its taking
-abbrev pub taking_round : ℕ → ℕ → ℕ → ℕ → PoolLog
-taking_round buckets party first turn =
-    misses buckets party first turn ++ taking_at party (at_turn buckets first turn)
+-- a search that takes a bucket at a probe: misses at the probes before, and the taking
+abbrev pub taking_search : ℕ → ℕ → ℕ → ℕ → PoolLog
+taking_search buckets party first probe =
+    misses buckets party first probe ++ taking_at party (probed buckets first probe)
 
--- a round that is refused: a miss at each bucket
-abbrev pub refused_round : ℕ → ℕ → ℕ → PoolLog
-refused_round buckets party first = misses buckets party first buckets
+-- a search that is refused: a miss at each bucket
+abbrev pub refused_search : ℕ → ℕ → ℕ → PoolLog
+refused_search buckets party first = misses buckets party first buckets
 
 -- WHAT A REQUEST MAY BE ANSWERED
 
--- a round of the party's took this bucket at some turn, and left the party so
-pub record TakesInRound (party : PoolParty) (first bucket : ℕ) (new : PoolParty) : Type 0 where
-  pub turn : ℕ
-  pub before_end : turn < party.allocator.scene.geometry.buckets
-  pub there : at_turn party.allocator.scene.geometry.buckets first turn ≡ bucket
+-- a search of the party's took this bucket at some probe, and left the party so
+pub record TakesBySearch (party : PoolParty) (first bucket : ℕ) (new : PoolParty) : Type 0 where
+  pub probe : ℕ
+  pub before_end : probe < party.allocator.scene.geometry.buckets
+  pub there : probed party.allocator.scene.geometry.buckets first probe ≡ bucket
   pub adds : let buckets = party.allocator.scene.geometry.buckets in
-      new ≡ with_entries party (taking_round buckets party.number first turn)
+      new ≡ with_entries party (taking_search buckets party.number first probe)
 
--- What a party's request may be answered whose round begins at this bucket, and what the party is then.
+-- What a party's request may be answered whose search begins at this bucket, and what the party is then.
 abbrev pub MayTakeFrom : ℕ → PoolParty → Layout → Result TakenBucket AllocationError → PoolParty
     → Type 0
--- a round: it took some bucket
+-- a search, which took some bucket
 MayTakeFrom first party layout (Ok bucket) new =
     MayTakeBucket party layout bucket.number
     × (bucket ≡ taken_bucket party.allocator bucket.number layout.size)
-    × TakesInRound party first bucket.number new
+    × TakesBySearch party first bucket.number new
 -- no step
 MayTakeFrom first party layout (Err SizeTooLarge) new =
     (party.allocator.scene.geometry.bucket.size < layout.size) × (new ≡ party)
@@ -93,31 +93,31 @@ MayTakeFrom first party layout (Err AlignmentFailure) new =
     (layout.size ≤ party.allocator.scene.geometry.bucket.size)
     × (party.allocator.scene.geometry.bucket.align < layout.align)
     × (new ≡ party)
--- one whole round: it missed each bucket
+-- one whole search, which missed each bucket
 MayTakeFrom first party layout (Err OutOfMemory) new =
     let buckets = party.allocator.scene.geometry.buckets in
     IsWithin party.allocator.scene.geometry.bucket layout
-    × (new ≡ with_entries party (refused_round buckets party.number first))
+    × (new ≡ with_entries party (refused_search buckets party.number first))
 -- it never refuses so
 MayTakeFrom first party layout (Err SizeIsZero) new = ⊥
 
 -- WHAT A REFUSED ROUND HAS FOUND
 
--- In the party's interleaving there is this step of the round that follows these entries: at some turn of it, the party missed
+-- In the party's interleaving there is this step of the search that follows these entries: at some probe of it, the party missed
 -- the bucket, which was held then in the run.
-pub record MissesInRound (party : PoolParty) (is : IsParty party) (before : PoolLog)
+pub record MissesInSearch (party : PoolParty) (is : IsParty party) (before : PoolLog)
     (first bucket : ℕ) : Type 0 where
-  pub turn : ℕ
+  pub probe : ℕ
   pub step : ℕ
-  pub its_turn : let history = history_of party.allocator.scene is.interleaved.steps in
+  pub its_probe : let history = history_of party.allocator.scene is.interleaved.steps in
       let buckets = party.allocator.scene.geometry.buckets in
       entries_by party.number (take (step + 1) history)
-      ≡ before ++ misses buckets party.number first (turn + 1)
+      ≡ before ++ misses buckets party.number first (probe + 1)
   pub missed : let history = history_of party.allocator.scene is.interleaved.steps in
       MissesAt history party.number bucket step
   pub held : IsHeldInRun party.allocator.scene (take step is.interleaved.steps) bucket
 
--- the round has found each bucket held in the run, each at a step of its own, as a miss is of one bucket
+-- the search has found each bucket held in the run, each at a step of its own, as a miss is of one bucket
 abbrev pub HasMissedAll : (party : PoolParty) → IsParty party → PoolLog → ℕ → Type 0
 HasMissedAll party is before first = (bucket : ℕ)
-    → bucket < party.allocator.scene.geometry.buckets → MissesInRound party is before first bucket
+    → bucket < party.allocator.scene.geometry.buckets → MissesInSearch party is before first bucket

@@ -5,12 +5,12 @@ use Rattle.bb_memory_base.specs.PoolLogs.{IsHeldAfter}
 use Rattle.bb_memory_base.specs.declared.layout.Layout.{Layout}
 use Rattle.bb_memory_core.specs.Seats.{number_of, view_log}
 use Rattle.bb_memory.specs.SharedPool.{AreAllHeldAfter, PoolParty, SharedPool}
-use Rattle.bb_memory.specs.SharedPoolRounds.{refused_round, taking_round}
+use Rattle.bb_memory.specs.SharedPoolNextFit.{refused_search, taking_search}
 use Rattle.bb_memory_core.proofs.Measures.{bucket-inside}
 use Rattle.bb_memory_core.proofs.PoolCalls.{bucket_place-multiple}
 use Rattle.bb_memory.proofs.SharedPoolParties.{is_party, party_with, seated_then}
-use Rattle.bb_memory.proofs.SharedPoolRounds.{hint-misses, hint-round, others_held_from, round_is_held, still_held_from}
-use Rattle.bb_memory.proofs.shared_pool.buckets.SharedBucketPool.allocate_near.Goals as goal
+use Rattle.bb_memory.proofs.SharedPoolNextFit.{hint-misses, hint_by_search, others_held_from, search_is_held, still_held_from}
+use Rattle.bb_memory.proofs.shared_pool.buckets.SharedBucketPool.allocate_next_fit.Goals as goal
 
 pub invariant_of-party : goal.invariant_of-party
 invariant_of-party g c =
@@ -18,8 +18,8 @@ invariant_of-party g c =
     let own = ap (λ (p : PoolParty). p.allocator) c.party.view_is ∙ c.requires.party in
     let me = party.seat.me in
     seated_then c.args.self.now party.seat.table_id me party.number party.hint c.party.invariant own
-    c.round.new.seat.me _ (c.in-Some.number + 1)
-    (hint-round c.args.self.now.scene.geometry.buckets (number_of me.0) party.hint c.in-Some.ensures.told.step.turn
+    c.next_fit.new.seat.me _ (c.in-Some.number + 1)
+    (hint_by_search c.args.self.now.scene.geometry.buckets (number_of me.0) party.hint c.in-Some.ensures.told.step.probe
     c.in-Some.number party.hint c.in-Some.ensures.told.step.there)
     c.in-Some.ensures.told.step.ended
 
@@ -30,7 +30,7 @@ invariant_of-party-in-None g c =
     let me = party.seat.me in
     let buckets = c.args.self.now.scene.geometry.buckets in
     seated_then c.args.self.now party.seat.table_id me party.number party.hint c.party.invariant own
-    c.round.new.seat.me _ party.hint (hint-misses buckets (number_of me.0) party.hint buckets party.hint)
+    c.next_fit.new.seat.me _ party.hint (hint-misses buckets (number_of me.0) party.hint buckets party.hint)
     c.in-None.ensures.told.step.ended
 
 pub returns-in-Some-clause-party : goal.returns-in-Some-clause-party
@@ -40,9 +40,9 @@ returns-in-Some-clause-party g c =
     let own = ap (λ (p : PoolParty). p.allocator) c.party.view_is ∙ c.requires.party in
     let took = c.in-Some.ensures.told.step in
     let logged = party_with pool party.seat.table_id party.seat.me party.number party.hint c.party.invariant own
-    (λ (n : ℕ). taking_round pool.scene.geometry.buckets n c.party.inside.hint took.turn) c.round.new.seat.table_id
-    c.round.new.seat.me
-    c.args.party.now c.party.view_is c.round.ensures.told.table took.ended in
+    (λ (n : ℕ). taking_search pool.scene.geometry.buckets n c.party.inside.hint took.probe) c.next_fit.new.seat.table_id
+    c.next_fit.new.seat.me
+    c.args.party.now c.party.view_is c.next_fit.ensures.told.table took.ended in
     ap (λ (p : PoolParty). p.allocator) logged ∙ c.requires.party
 
 pub returns-in-None-clause-party : goal.returns-in-None-clause-party
@@ -51,15 +51,15 @@ returns-in-None-clause-party g c =
     let party = c.party.inside in
     let own = ap (λ (p : PoolParty). p.allocator) c.party.view_is ∙ c.requires.party in
     let logged = party_with pool party.seat.table_id party.seat.me party.number party.hint c.party.invariant own
-    (λ (n : ℕ). refused_round pool.scene.geometry.buckets n c.party.inside.hint) c.round.new.seat.table_id c.round.new.seat.me
-    c.args.party.now c.party.view_is c.round.ensures.told.table c.in-None.ensures.told.step.ended in
+    (λ (n : ℕ). refused_search pool.scene.geometry.buckets n c.party.inside.hint) c.next_fit.new.seat.table_id c.next_fit.new.seat.me
+    c.args.party.now c.party.view_is c.next_fit.ensures.told.table c.in-None.ensures.told.step.ended in
     ap (λ (p : PoolParty). p.allocator) logged ∙ c.requires.party
 
 pub returns-in-Some-clause-serves : goal.returns-in-Some-clause-serves
 returns-in-Some-clause-serves g c =
     let scene : PoolScene = c.args.self.now.scene in
     let old = c.args.party.now in
-    let new = c.round.new.seat in
+    let new = c.next_fit.new.seat in
     let party = c.party.inside in
     let me = party.seat.me in
     let took = c.in-Some.ensures.told.step in
@@ -67,8 +67,8 @@ returns-in-Some-clause-serves g c =
     let own = ap (λ (p : PoolParty). p.allocator) c.party.view_is ∙ c.requires.party in
     let buckets = pool.scene.geometry.buckets in
     let logged = party_with pool party.seat.table_id me party.number party.hint c.party.invariant own
-    (λ (n : ℕ). taking_round buckets n c.party.inside.hint took.turn) new.table_id new.me old c.party.view_is
-    c.round.ensures.told.table
+    (λ (n : ℕ). taking_search buckets n c.party.inside.hint took.probe) new.table_id new.me old c.party.view_is
+    c.next_fit.ensures.told.table
     took.ended in
     let geometry = subst (λ (p : SharedPool). IsPoolGeometry p.scene.geometry) own c.party.invariant.shared.geometry in
     let bucket = c.bucket-bucket.ensures ∙ ap (λ (x : PoolGeometry). x.bucket) c.geometry.ensures.value
@@ -81,10 +81,10 @@ returns-in-Some-clause-serves g c =
         number = ap (λ (p : PoolParty). p.number) c.party.view_is;
         is_party = is_party new.table_id party.number _ new.me (invariant_of-party g c);
         held = subst (λ (p : PoolParty). IsHeldAfter p.log c.in-Some.number) (sym logged)
-            (round_is_held buckets old.number c.party.inside.hint took.turn c.in-Some.number old.log took.there);
+            (search_is_held buckets old.number c.party.inside.hint took.probe c.in-Some.number old.log took.there);
         still_held = λ other held.
-            still_held_from scene (number_of me.0) (view_log me.0) c.party.inside.hint new.me c.round.result other
-            c.round.ensures.told.step (rw (← c.party.view_is) at held);
+            still_held_from scene (number_of me.0) (view_log me.0) c.party.inside.hint new.me c.next_fit.result other
+            c.next_fit.ensures.told.step (rw (← c.party.view_is) at held);
         others = λ other apart held.
             subst (λ (p : PoolParty). IsHeldAfter p.log other) c.party.view_is
             (others_held_from scene (number_of me.0) (view_log me.0) c.party.inside.hint new.me (Some c.in-Some.number) other
@@ -103,7 +103,7 @@ returns-in-Some-clause-serves g c =
 
 pub returns-in-None-clause-serves : goal.returns-in-None-clause-serves
 returns-in-None-clause-serves g c =
-    let new = c.round.new.seat in
+    let new = c.next_fit.new.seat in
     let party = c.party.inside in
     let me = party.seat.me in
     let lost = c.in-None.ensures.told.step in
@@ -115,8 +115,8 @@ returns-in-None-clause-serves g c =
         is_party = is_party new.table_id party.number _ new.me (invariant_of-party-in-None g c);
         held = tt;
         still_held = λ other held.
-            still_held_from c.args.self.now.scene (number_of me.0) (view_log me.0) c.party.inside.hint new.me c.round.result
-            other c.round.ensures.told.step (rw (← c.party.view_is) at held);
+            still_held_from c.args.self.now.scene (number_of me.0) (view_log me.0) c.party.inside.hint new.me c.next_fit.result
+            other c.next_fit.ensures.told.step (rw (← c.party.view_is) at held);
         others = λ other apart held.
             subst (λ (p : PoolParty). IsHeldAfter p.log other) c.party.view_is
             (others_held_from c.args.self.now.scene (number_of me.0) (view_log me.0) c.party.inside.hint new.me None other
