@@ -32,9 +32,9 @@ fn ask_next_fit(pool: &SharedPoolAllocator, worker: &mut PoolParty, layout: Layo
     let _ = pool.allocate_next_fit(worker, layout);
 }
 
-/// Four workers take a bucket each, all at once, and meet when they are back: one list of steps has all their logs and nothing
-/// else, and a flag is taken exactly where one of them holds the bucket, or it is detached. It is refused only where memory
-/// was.
+/// Runs four workers, which take a bucket each, all at once. They meet when they are back: one list of steps has all their logs
+/// and nothing else, and a flag is taken exactly where one of them holds the bucket, or it is detached. It is refused only where
+/// memory was.
 pub fn four_workers<R: Threads + Sync>(
     rt: &R,
     alloc: Global,
@@ -54,7 +54,7 @@ pub fn four_workers<R: Threads + Sync>(
     Ok((pool, back))
 }
 
-/// These parties take a bucket each, all at once, and come back.
+/// Runs a thread for each party, which takes a bucket, and joins them all.
 fn take_one_each<R: Threads + Sync>(
     rt: &R,
     pool: &SharedPoolAllocator,
@@ -67,7 +67,8 @@ fn take_one_each<R: Threads + Sync>(
     thread::map_vec(rt, parties, &|party| take_one(pool, party, layout))
 }
 
-/// A pool of four parties. It is refused only where memory was, since a pool may be made of this region and bucket.
+/// Makes a pool of eight buckets for four parties. It is refused only where memory was, since a pool may be made of this region
+/// and bucket.
 #[tactic(auto, unfolding(bb_memory_base::specs::LeastPlace::least_place))]
 fn pool_of_four(alloc: Global) -> Result<(SharedPoolAllocator, Vec<PoolParty>), AllocError>
     ensures parties { IfOk result (λ made. AreFresh made.0 4 made.1.items) }

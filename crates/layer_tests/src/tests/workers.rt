@@ -11,7 +11,7 @@ use std::thread::Threads;
 use uses::bump_workers::carved_by_four;
 use uses::pool_workers::four_workers;
 
-/// How much of 1024 bytes is used when four threads have asked for so many each, or none where memory was refused.
+/// Returns how much of 1024 bytes is used when four threads have asked for so many each, or none where memory was refused.
 fn used_by_four<R: Threads + Sync>(rt: &R, alloc: Global, size: usize) -> Option<usize> {
     let asked = Layout::from_size_align(size, 4).ok()?;
     let again = carved_by_four(rt, alloc, BumpAllocator::new(4096, 1024), asked).ok()?;
