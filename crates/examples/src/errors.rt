@@ -6,7 +6,7 @@ use bb_memory::pool_allocator::PoolAllocator;
 use std::alloc::Global;
 use thiserror::Error;
 
-/// Why nothing was given.
+/// Refusals of both, by their cause.
 #[derive(Debug, Drop, Error)]
 pub enum GiveError {
     #[error("layout: {0}")]
@@ -15,14 +15,14 @@ pub enum GiveError {
     Refused(#[from] AllocationError),
 }
 
-/// By an error of the user's own.
+/// Goes by an error of the user's own.
 pub fn by_enum() -> Result<usize, GiveError> {
     let layout = Layout::from_size_align(48, 4)?;
     let mut bump = BumpAllocator::new(4096, 1024);
     Ok(bump.allocate(layout)?.place())
 }
 
-/// A pool, as a user opens one.
+/// Opens a pool, as a user does.
 pub fn open(alloc: Global, bucket: Layout) -> Result<PoolAllocator<Global>, GiveError> {
     if !PoolAllocator::can_make(bucket, 4096, 1024) {
         return Err(GiveError::Refused(AllocationError::OutOfMemory));

@@ -1,8 +1,8 @@
 //! Examples of the documents, proved: straight-line calls with literals. Contracts alone decide each `prove!`, and this crate has
 //! no proof files.
 //!
-//! The modules: `first`, a file for each kind of allocator, `errors`, how the errors go through `?`, and `comments`, the examples of
-//! the libraries' comments.
+//! The modules: `first`, a file for each kind of allocator, `errors`, how the errors go through `?`, and `comments`, the examples
+//! of the libraries' comments.
 #![tactic(auto)]
 
 pub mod bump;

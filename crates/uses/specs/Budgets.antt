@@ -10,7 +10,7 @@ pub record Budgeted (A : Type 0) : Type 0 where
   pub budget : ℕ
   pub out : ℕ
 
--- its geometry, and how many chunks may be out
+-- the geometry of such an allocator, and how many chunks may be out
 pub record Limited (G : Type 0) : Type 0 where
   pub inner : G
   pub budget : ℕ

@@ -16,19 +16,19 @@ pub record ByteVector : Type 0 where
   pub capacity : ℕ
   pub len : ℕ
 
--- its bytes in a region, wherever that starts
+-- a vector's bytes in a region, wherever that starts
 abbrev pub contents : HeldBytes → ByteVector → List ℕ
 contents held vector =
     bytes_in held (record { place = held.start + vector.offset; len = vector.len })
 
--- it lies in a live chunk of the allocator whose region this is, and which may release this
+-- the vector lies in a live chunk of the allocator whose region this is, and which may release this
 pub record LivesIn (region : Region) (may_release : ℕ → Type 0) (held : HeldBytes)
     (vector : ByteVector) : Type 0 where
   pub same_region : held_region held ≡ region
   pub live : may_release (held.start + vector.offset)
   pub inside : vector.offset + vector.capacity ≤ length held.bytes
 
--- one byte more stands behind the others, and the region begins and ends where it did
+-- a byte more stands behind the others, and the region begins and ends where it did
 pub record IsPushed (here there : HeldBytes) (old : ByteVector) (byte : ℕ) (new : ByteVector)
     : Type 0 where
   pub behind : contents there new ≡ contents here old ++ byte ∷ []
@@ -43,7 +43,7 @@ abbrev pub KeepsOthers : HeldBytes → ByteVector → HeldBytes → Type 0
 KeepsOthers here vector there = (another : Chunk) → IsInside (held_region here) another
     → AreApart (next_byte here vector) another → bytes_in there another ≡ bytes_in here another
 
--- so it may be answered where a chunk of so many bytes is to grow by one: not every two layouts rule it out
+-- the answer may be given where a chunk of so many bytes is to grow by one: not every two layouts rule it out
 pub record MayGrowByOne (may_grow : Layout → Layout → Result Chunk AllocationGrowError → Type 0)
     (size : ℕ) (answer : Result Chunk AllocationGrowError) : Type 0 where
   pub may : ¬ ((old new : Layout) → IsOfBytes old size → IsOfBytes new (size + 1)

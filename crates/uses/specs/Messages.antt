@@ -2,7 +2,7 @@
 use Rattle.std.specs.Prelude.{◌≡◌, ℕ, Ok}
 use Rattle.bb_memory_base.specs.declared.layout.Layout.{Layout}
 use Rattle.bb_memory.specs.SharedPool.{PoolParty, TakenBucket, attach_entry, detach_entry, return_entry, with_entries}
-use Rattle.bb_memory.specs.SharedPoolRounds.{MayTakeFrom, hint_of}
+use Rattle.bb_memory.specs.SharedPoolNextFit.{MayTakeFrom, hint_of}
 
 -- The sender's log has the steps of one request, which took the message's bucket, then the step that detached it, and no other:
 -- not every party that may be left by such a request rules that out.

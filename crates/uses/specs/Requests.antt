@@ -21,7 +21,7 @@ pub record MayAnswer (may_answer : Answers) (size : ℕ) (answer : Result Chunk 
     : Type 0 where
   pub may : ¬ ((layout : Layout) → IsOfBytes layout size → ¬ may_answer layout answer)
 
--- it may be answered by a longer chunk
+-- a request may be answered by a longer chunk
 pub record MayGiveLonger (may_answer : Answers) (size : ℕ) : Type 0 where
   pub may : ¬ ((layout : Layout) (chunk : Chunk) → IsOfBytes layout size → size < chunk.len
       → ¬ may_answer layout (Ok chunk))
@@ -41,7 +41,7 @@ IsUnasked (insert.Layout error) = Unit {0}
 IsUnasked (insert.List error) = Unit {0}
 IsUnasked _ = ⊥
 
--- one chunk more is out, of exactly so many bytes, which the allocator may give
+-- a further chunk is out, of exactly so many bytes, which the allocator may give
 pub record HasOneMore (may_answer : Answers) (size : ℕ) (old new : List Chunk) : Type 0 where
   pub chunk : Chunk
   pub exact : chunk.len ≡ size

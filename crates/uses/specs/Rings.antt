@@ -58,7 +58,7 @@ abbrev pub IsUnasked : SendError → Type 0
 IsUnasked (send.List error) = Unit {0}
 IsUnasked _ = ⊥
 
--- One reader is done with the oldest message, of which this tells whether it was the last one: then the message leaves, and its
+-- A reader is done with the oldest message, of which this tells whether it was the last one: then the message leaves, and its
 -- chunk with it.
 pub record Finishes {A G : Type 0} (geometry_of : A → G) (old : Ring A) (result : Bool)
     (new : Ring A) : Type 0 where
@@ -92,7 +92,7 @@ abbrev pub Returned : List Sample → Bool → List Sample → Type 0
 Returned old true new = HasLeft old new
 Returned old false new = WaitsOn old new
 
--- one reader has returned the oldest sample, for the last time or not
+-- a reader has returned the oldest sample, for the last time or not
 pub record ReturnsOldest {A G : Type 0} (geometry_of : A → G) (old : LoanBook A) (last : Bool)
     (new : LoanBook A) : Type 0 where
   pub out : Returned old.book.out last new.book.out

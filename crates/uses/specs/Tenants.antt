@@ -38,7 +38,7 @@ used_by tenant leases = sum_by (bytes_for tenant) leases
 abbrev pub limit_of : List ℕ → ℕ → ℕ
 limit_of limits tenant = slice_index_or limits tenant 0
 
--- this tenant holds the chunk at this place
+-- a tenant holds the chunk at a place
 abbrev pub is_lease_of : ℕ → ℕ → Lease → Bool
 is_lease_of tenant place lease = nat_eq lease.tenant tenant && nat_eq lease.chunk.place place
 
@@ -46,11 +46,11 @@ is_lease_of tenant place lease = nat_eq lease.tenant tenant && nat_eq lease.chun
 abbrev pub lease_at : ℕ → ℕ → List Lease → Option ℕ
 lease_at tenant place leases = position (is_lease_of tenant place) leases
 
--- one tenant more, which uses nothing
+-- a further tenant, which uses nothing
 abbrev pub with_tenant : {A : Type 0} → Tenancy A → ℕ → Tenancy A
 with_tenant old limit = record old { limits = old.limits ++ limit ∷ [] }
 
--- one lease more, and one less, with the allocator that gave the chunk or took it back
+-- a lease more, and a lease less, with the allocator that gave the chunk or took it back
 abbrev pub with_lease : {A : Type 0} → Tenancy A → A → Lease → Tenancy A
 with_lease old allocator lease = record old {
   allocator = allocator;

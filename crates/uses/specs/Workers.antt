@@ -4,7 +4,7 @@ use Rattle.bb_memory_base.specs.PoolLogs.{IsHeldAfter}
 use Rattle.bb_memory_base.specs.declared.allocator.AllocationError.{AllocationError}
 use Rattle.bb_memory_base.specs.declared.layout.Layout.{Layout}
 use Rattle.bb_memory.specs.SharedPool.{SharedPool, PoolParty, TakenBucket}
-use Rattle.bb_memory.specs.SharedPoolRounds.{MayTakeFrom, hint_of}
+use Rattle.bb_memory.specs.SharedPoolNextFit.{MayTakeFrom, hint_of}
 
 -- the party still holds each bucket that it held
 abbrev pub KeepsBuckets : PoolParty → PoolParty → Type 0
@@ -21,23 +21,23 @@ pub record Asks {P A : Type 0} (may_take : P → Layout → A → P → Type 0) 
   pub answer : A
   pub asked : may_take old layout answer new
 
--- the answer of a request near the bucket that the party had last, and the party then
-pub record MayTakeNear (old : PoolParty) (layout : Layout) (answer : Result TakenBucket AllocationError) (new : PoolParty)
+-- the answer of a request by next fit, and the party then
+pub record MayTakeNextFit (old : PoolParty) (layout : Layout) (answer : Result TakenBucket AllocationError) (new : PoolParty)
     : Type 0 where
   pub taken : MayTakeFrom (hint_of old) old layout answer new
 
 -- the party has asked so once
-abbrev pub AsksNear : Layout → PoolParty → PoolParty → Type 0
-AsksNear = Asks MayTakeNear
+abbrev pub AsksNextFit : Layout → PoolParty → PoolParty → Type 0
+AsksNextFit = Asks MayTakeNextFit
 
--- the party's last steps are a request near the bucket that it had last
-pub record HasAskedNear (layout : Layout) (party : PoolParty) : Type 0 where
+-- the party's last steps are a request by next fit
+pub record HasAskedNextFit (layout : Layout) (party : PoolParty) : Type 0 where
   pub before : PoolParty
   pub answer : Result TakenBucket AllocationError
-  pub asked : MayTakeNear before layout answer party
+  pub asked : MayTakeNextFit before layout answer party
 
--- as many parties come back as went out, all of them this pool's, and each has asked near the bucket that it had last
+-- as many parties come back as went out, all of them this pool's, and each has asked by next fit
 pub record AllComeBack (layout : Layout) (pool : SharedPool) (old new : List PoolParty) : Type 0 where
   pub theirs : All (λ party. party.allocator ≡ pool) new
   pub all : length new ≡ length old
-  pub asked : All (HasAskedNear layout) new
+  pub asked : All (HasAskedNextFit layout) new

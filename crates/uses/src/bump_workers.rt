@@ -24,8 +24,8 @@ pub fn carve(shared: &SharedBumpAllocator, party: BumpParty, layout: Layout) -> 
     party
 }
 
-/// Four workers ask a bump for a chunk each, all at once. Then it is one owner's again, and what is used of it is exactly the
-/// greatest position that one of the four has seen. It is refused only where memory was.
+/// Runs four workers, which ask a bump for a chunk each, all at once. Then it is one owner's again, and what is used of it is
+/// exactly the greatest position that one of the four has seen. It is refused only where memory was.
 pub fn carved_by_four<R: Threads + Sync>(
     rt: &R,
     alloc: Global,

@@ -11,7 +11,7 @@ use bb_memory_base::region::Region;
 use std::marker::Model;
 use thiserror::Error;
 
-/// Why a byte wasn't pushed.
+/// Refusals of `push`, by their cause.
 #[derive(Debug, Clone, Copy, Error)]
 pub enum PushError {
     #[error("too long: {0}")]
@@ -42,7 +42,7 @@ impl Model for ByteVec {
 }
 
 impl ByteVec {
-    /// No bytes, in a chunk of a region.
+    /// Makes an empty vector in a chunk of a region.
     pub fn new(region: &Region, chunk: Chunk) -> ByteVec
         requires { region.now.start ≤ chunk.place }
         ensures place { region.now.start + result.offset ≡ chunk.place }
@@ -55,14 +55,14 @@ impl ByteVec {
         }
     }
 
-    /// How many bytes.
+    /// Returns the number of bytes.
     pub fn len(&self) -> usize
         ensures { result ≡ self.now.len }
     {
         self.len
     }
 
-    /// A byte.
+    /// Returns the byte at a position.
     pub fn get(&self, region: &Region, at: usize) -> u8
         requires at { at < self.now.len }
         requires inside { self.now.offset + self.now.capacity ≤ length region.now.bytes }
@@ -102,7 +102,7 @@ impl ByteVec {
         }
     }
 
-    /// One more byte, for which the chunk is grown where it is full. A refusal keeps all, and comes only where the chunk is full,
+    /// Appends a byte, for which a full chunk is grown. A refusal keeps all, and comes only where the chunk is full,
     /// as `reserve` refuses.
     pub fn push<A: Allocator>(
         &mut self,

@@ -31,7 +31,7 @@ impl<A: BaseAllocator + Drop> ChunkBudget<A> {
     ghost use Rattle.std.specs.Prelude.{◌≡◌, ◌≤◌, [], List, length};
     ghost use Rattle.bb_memory_base.specs.Chunk.{Chunk};
 
-    /// A budget of so many chunks, over an allocator that has nothing out.
+    /// Makes a budget of so many chunks, over an allocator that has nothing out.
     pub fn new(inner: A, budget: usize) -> Self
         requires { A.stands_for inner [] }
         ensures value { result ≡ record { inner = inner; budget = budget; out = 0 } }
@@ -44,7 +44,7 @@ impl<A: BaseAllocator + Drop> ChunkBudget<A> {
         }
     }
 
-    /// How many chunks are out: as many as each live list has that it stands for, and never more than the budget.
+    /// Returns the number of chunks that are out: as many as each live list has that it stands for, and at most the budget.
     pub fn out(&self) -> usize
         ensures value { result ≡ self.now.out }
         ensures within { result ≤ self.now.budget }
@@ -86,7 +86,7 @@ impl<A: BaseAllocator + Drop> BaseAllocator for ChunkBudget<A> {
 
     ghost note_after = { λ _ _ note. note };
 
-    /// As the allocator below answers, but `OutOfMemory` where the budget is spent.
+    /// Allocates from the allocator below. It fails with `OutOfMemory` where the budget is spent.
     fn allocate(&mut self, layout: Layout) -> Result<Chunk, AllocationError> {
         if self.out == self.budget {
             return Err(AllocationError::OutOfMemory);

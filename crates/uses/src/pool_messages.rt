@@ -3,7 +3,7 @@ ghost use Rattle.std.specs.Prelude.{◌≡◌, ◌<◌, Err, IfErr, IfOk};
 ghost use Rattle.bb_memory_base.specs.PoolLogs.{IsHeldAfter};
 ghost use Rattle.bb_memory.specs.SharedPool.{MayTakeBucket, chunk_of};
 ghost use Rattle.uses.specs.Messages.{Sends, having_received};
-ghost use Rattle.uses.specs.Workers.{KeepsBuckets, MayTakeNear};
+ghost use Rattle.uses.specs.Workers.{KeepsBuckets, MayTakeNextFit};
 
 use bb_memory::allocator::AllocationError;
 use bb_memory::layout::{Chunk, Layout};
@@ -28,9 +28,9 @@ pub fn send(
     ensures keeps { KeepsBuckets sender.old sender.new }
     ensures others { KeepsBuckets sender.new sender.old }
     ensures refused { IfErr result
-        (λ error. MayTakeNear sender.old layout (Err error) sender.new) }
+        (λ error. MayTakeNextFit sender.old layout (Err error) sender.new) }
 {
-    let bucket = pool.allocate_near(sender, layout)?;
+    let bucket = pool.allocate_next_fit(sender, layout)?;
     Ok(pool.detach(sender, bucket))
 }
 

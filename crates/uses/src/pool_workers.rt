@@ -1,7 +1,7 @@
 //! Threads that take buckets of one pool, and what is known once all of them are back.
 ghost use Rattle.std.specs.Prelude.{◌≡◌, All, IfOk, length};
 ghost use Rattle.bb_memory.specs.SharedPool.{AreFresh, HaveMet, HoldApart, PoolParty};
-ghost use Rattle.uses.specs.Workers.{AllComeBack, AsksNear, ComesBack, HasAskedNear};
+ghost use Rattle.uses.specs.Workers.{AllComeBack, AsksNextFit, ComesBack, HasAskedNextFit};
 
 use bb_memory::layout::Layout;
 use bb_memory::pool_allocator::pool_count_law;
@@ -10,31 +10,31 @@ use std::alloc::{AllocError, Global};
 use std::thread;
 use std::thread::Threads;
 
-/// Takes a bucket near the one that the party had last, where one is free, and hands the party back. The token ends here, so the
-/// bucket stays the party's, with those that it had.
+/// Takes a bucket by next fit, where one is free, and hands the party back. The token ends here, so the bucket stays the party's,
+/// with those that it had.
 pub fn take_one(pool: &SharedPoolAllocator, party: PoolParty, layout: Layout) -> PoolParty
     requires { party.allocator ≡ pool.now }
     ensures back { ComesBack pool.entry.now party result }
-    ensures once { AsksNear layout party result }
-    ensures asked { HasAskedNear layout result }
+    ensures once { AsksNextFit layout party result }
+    ensures asked { HasAskedNextFit layout result }
 {
     let mut party = party;
-    ask_near(pool, &mut party, layout);
+    ask_next_fit(pool, &mut party, layout);
     party
 }
 
-/// The worker asks for a bucket near the one that it had last.
-fn ask_near(pool: &SharedPoolAllocator, worker: &mut PoolParty, layout: Layout)
+/// Asks for a bucket by next fit.
+fn ask_next_fit(pool: &SharedPoolAllocator, worker: &mut PoolParty, layout: Layout)
     requires { worker.old.allocator ≡ pool.now }
     ensures back { ComesBack pool.now worker.old worker.new }
-    ensures asked { AsksNear layout worker.old worker.new }
+    ensures asked { AsksNextFit layout worker.old worker.new }
 {
-    let _ = pool.allocate_near(worker, layout);
+    let _ = pool.allocate_next_fit(worker, layout);
 }
 
-/// Four workers take a bucket each, all at once, and meet when they are back: one list of steps has all their logs and nothing
-/// else, and a flag is taken exactly where one of them holds the bucket, or it is detached. It is refused only where memory
-/// was.
+/// Runs four workers, which take a bucket each, all at once. They meet when they are back: one list of steps has all their logs
+/// and nothing else, and a flag is taken exactly where one of them holds the bucket, or it is detached. It is refused only where
+/// memory was.
 pub fn four_workers<R: Threads + Sync>(
     rt: &R,
     alloc: Global,
@@ -46,7 +46,7 @@ pub fn four_workers<R: Threads + Sync>(
     ensures theirs { IfOk result (λ made. All (λ party. party.allocator ≡ made.0) made.1.items) }
     ensures met { IfOk result (λ made. HaveMet made.0.scene made.1.items) }
     ensures apart { IfOk result (λ made. HoldApart made.1.items) }
-    ensures asked { IfOk result (λ made. All (HasAskedNear layout) made.1.items) }
+    ensures asked { IfOk result (λ made. All (HasAskedNextFit layout) made.1.items) }
 {
     let (pool, parties) = pool_of_four(alloc)?;
     let mut back = take_one_each(rt, &pool, parties, layout)?;
@@ -54,7 +54,7 @@ pub fn four_workers<R: Threads + Sync>(
     Ok((pool, back))
 }
 
-/// These parties take a bucket each, all at once, and come back.
+/// Runs a thread for each party, which takes a bucket, and joins them all.
 fn take_one_each<R: Threads + Sync>(
     rt: &R,
     pool: &SharedPoolAllocator,
@@ -67,7 +67,8 @@ fn take_one_each<R: Threads + Sync>(
     thread::map_vec(rt, parties, &|party| take_one(pool, party, layout))
 }
 
-/// A pool of four parties. It is refused only where memory was, since a pool may be made of this region and bucket.
+/// Makes a pool of eight buckets for four parties. It is refused only where memory was, since a pool may be made of this region
+/// and bucket.
 #[tactic(auto, unfolding(bb_memory_base::specs::LeastPlace::least_place))]
 fn pool_of_four(alloc: Global) -> Result<(SharedPoolAllocator, Vec<PoolParty>), AllocError>
     ensures parties { IfOk result (λ made. AreFresh made.0 4 made.1.items) }

@@ -21,7 +21,7 @@ use std::alloc::{AllocError, Global};
 use std::marker::Model;
 use thiserror::Error;
 
-/// Why a message wasn't sent.
+/// Refusals of `send`, by their cause.
 #[derive(Debug, Drop, Error)]
 pub enum SendError {
     #[error("no memory for the list of messages")]
@@ -57,8 +57,8 @@ impl<A: Allocator + Drop> Model for MessageRing<A> {
 }
 
 impl<A: Allocator + Drop> MessageRing<A> {
-    /// No messages, for so many readers each, at least one. No sample of the loan book is out, its allocator gives chunks of
-    /// exactly the asked size, as the pools do, and the region is the allocator's.
+    /// Makes an empty ring, for so many readers each, at least one. No sample of the loan book is out, its allocator gives chunks
+    /// of exactly the asked size, as the pools do, and the region is the allocator's.
     pub fn new(alloc: Global, book: LoanBook<A>, region: Region, readers: u32) -> Self
         requires fresh { book.book.out ≡ [] }
         requires exact { GivesExactly A.may_allocate }
@@ -82,7 +82,7 @@ impl<A: Allocator + Drop> MessageRing<A> {
         }
     }
 
-    /// How many messages wait.
+    /// Returns the number of messages that wait.
     pub fn waiting(&self) -> usize
         ensures { result ≡ length self.now.messages }
     {
@@ -123,7 +123,7 @@ impl<A: Allocator + Drop> MessageRing<A> {
         Ok(())
     }
 
-    /// One reader is done with the oldest message. It answers whether that was the last one: then the message leaves, and its
+    /// Finishes the oldest message for one reader. It answers whether that was the last one: then the message leaves, and its
     /// chunk goes back.
     #[tactic(auto, using(std::proofs::lemmas::Option::get_or_from_slice_get))]
     pub fn finish(&mut self) -> bool
@@ -139,7 +139,7 @@ impl<A: Allocator + Drop> MessageRing<A> {
         last
     }
 
-    /// The oldest message, as it was sent, where one waits.
+    /// Returns the oldest message, as it was sent, where one waits.
     pub fn front(&self) -> Option<&[u8]>
         ensures some { IfSome result (λ bytes. slice_get self.now.messages 0 ≡ Some bytes.now) }
         ensures none { IfNone result (self.now.messages ≡ []) }

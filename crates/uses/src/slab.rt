@@ -16,7 +16,7 @@ use std::alloc::{AllocError, Global};
 use std::marker::Model;
 use thiserror::Error;
 
-/// Why a record wasn't stored.
+/// Refusals of `insert`, by their cause.
 #[derive(Debug, Drop, Error)]
 pub enum InsertError {
     #[error("no memory for the list of records")]
@@ -56,7 +56,7 @@ impl<A: Allocator + Drop> Model for Slab<A> {
 }
 
 impl<A: Allocator + Drop> Slab<A> {
-    /// No records. The allocator has nothing out, and the region is the allocator's.
+    /// Makes an empty slab. The allocator has nothing out, and the region is the allocator's.
     pub fn new(alloc: Global, allocator: A, region: Region) -> Self
         requires fresh { A.stands_for allocator [] }
         requires same_region { held_region region ≡ A.region_of (A.geometry allocator) }
@@ -70,7 +70,7 @@ impl<A: Allocator + Drop> Slab<A> {
         }
     }
 
-    /// How many records there are, each in a chunk of its own.
+    /// Returns the number of records, each in a chunk of its own.
     pub fn len(&self) -> usize
         ensures records { result ≡ length self.now.records }
         ensures chunks { result ≡ length self.now.chunks }
@@ -100,7 +100,7 @@ impl<A: Allocator + Drop> Slab<A> {
         Ok(())
     }
 
-    /// The bytes of a record.
+    /// Returns the bytes of a record.
     pub fn read(&self, position: usize) -> &[u8]
         requires { position < length self.now.records }
         ensures { slice_get self.now.records position ≡ Some result.now }
@@ -145,7 +145,7 @@ fn overwrite(region: &mut Region, chunks: &Vec<Chunk>, position: usize, bytes: &
     region.write(chunk, bytes);
 }
 
-/// The chunk at a position.
+/// Returns the chunk at a position.
 fn chunk_at(chunks: &Vec<Chunk>, position: usize) -> Chunk
     requires { position < length chunks.now.items }
     ensures { slice_get chunks.now.items position ≡ Some result }

@@ -17,7 +17,7 @@ use std::alloc::{AllocError, Global};
 use std::marker::Model;
 use thiserror::Error;
 
-/// Why a tenant wasn't admitted.
+/// Refusals of `admit`, by their cause.
 #[derive(Debug, Drop, Error)]
 pub enum AdmitError {
     #[error("the limits would exceed the whole")]
@@ -26,7 +26,7 @@ pub enum AdmitError {
     List(AllocError),
 }
 
-/// Why a tenant wasn't given a chunk.
+/// Refusals of `allocate`, by their cause.
 #[derive(Debug, Drop, Error)]
 pub enum LeaseError {
     #[error("no tenant has this number")]
@@ -41,7 +41,7 @@ pub enum LeaseError {
     TooLong,
 }
 
-/// The tenant holds no chunk at the place.
+/// Refusal of `deallocate`: the tenant holds no chunk at the place.
 #[derive(Debug, Drop, Error)]
 #[error("the tenant holds no chunk at this place")]
 pub struct NotHeld {}
@@ -60,7 +60,7 @@ impl Grouped for Lease {
 }
 
 impl Lease {
-    /// How many of its bytes are this tenant's: all or none.
+    /// Returns how many of its bytes are this tenant's: all or none.
     fn bytes_for(&self, tenant: usize) -> usize
         ensures { result ≡ bytes_for tenant self.now }
     {
@@ -111,7 +111,7 @@ impl<A: Allocator + Drop> Model for Tenants<A> {
 }
 
 impl<A: Allocator + Drop> Tenants<A> {
-    /// No tenants. The allocator has nothing out, and all limits together will be at most `whole` bytes.
+    /// Makes no tenants yet. The allocator has nothing out, and all limits together will be at most `whole` bytes.
     pub fn new(alloc: Global, allocator: A, whole: usize) -> Self
         requires fresh { A.stands_for allocator [] }
         ensures empty { result
@@ -147,7 +147,7 @@ impl<A: Allocator + Drop> Tenants<A> {
         Ok(number)
     }
 
-    /// How many bytes all limits may be together.
+    /// Returns how many bytes all limits may be together.
     pub fn whole(&self) -> usize
         ensures value { result ≡ self.now.whole }
         ensures within { sum self.now.limits ≤ result }
@@ -155,7 +155,7 @@ impl<A: Allocator + Drop> Tenants<A> {
         self.whole
     }
 
-    /// A tenant's limit in bytes, and 0 of a number that is no tenant's.
+    /// Returns a tenant's limit in bytes, and 0 of a number that is no tenant's.
     pub fn limit(&self, tenant: usize) -> usize
         ensures { result ≡ limit_of self.now.limits tenant }
     {
@@ -165,7 +165,7 @@ impl<A: Allocator + Drop> Tenants<A> {
         }
     }
 
-    /// How many bytes a tenant uses: those of the chunks that it holds, which are within its limit.
+    /// Returns how many bytes a tenant uses: those of the chunks that it holds, which are within its limit.
     pub fn used(&self, tenant: usize) -> usize
         ensures value { result ≡ used_by tenant self.now.leases }
         ensures within { result ≤ limit_of self.now.limits tenant }
@@ -178,8 +178,8 @@ impl<A: Allocator + Drop> Tenants<A> {
             .sum()
     }
 
-    /// How many bytes are out: those of all chunks that the allocator has given. Whatever list has what each tenant uses, this is
-    /// its sum; and it is within the whole.
+    /// Returns how many bytes are out: those of all chunks that the allocator has given. Whatever list has what each tenant uses,
+    /// this is its sum; and it is within the whole.
     pub fn out(&self) -> usize
         ensures value { result ≡ bytes_out self.now.leases }
         ensures within { result ≤ self.now.whole }
@@ -235,7 +235,7 @@ impl<A: Allocator + Drop> Tenants<A> {
         Ok(chunk)
     }
 
-    /// How many bytes are left of a tenant's limit, where these are enough for a layout.
+    /// Returns how many bytes are left of a tenant's limit, where these are enough for a layout.
     fn left_for(&self, tenant: usize, layout: Layout) -> Result<usize, LeaseError>
         ensures left { IfOk result
             (λ left. used_by tenant self.now.leases + left ≡ limit_of self.now.limits tenant) }
@@ -283,7 +283,7 @@ impl<A: Allocator + Drop> Tenants<A> {
     }
 }
 
-/// How many bytes the leases have. They are within what is promised.
+/// Returns how many bytes the leases have. They are within what is promised.
 fn out_within(leases: &Vec<Lease>, promised: usize) -> usize
     requires { bytes_out leases.now.items ≤ promised }
     ensures value { result ≡ bytes_out leases.now.items }
@@ -293,7 +293,7 @@ fn out_within(leases: &Vec<Lease>, promised: usize) -> usize
     leases.iter().map(|lease| lease.chunk.len()).sum()
 }
 
-/// The position of the lease of the chunk at a place, where the tenant holds it.
+/// Returns the position of the lease of the chunk at a place, where the tenant holds it.
 fn lease_of(leases: &Vec<Lease>, tenant: usize, place: usize) -> Option<usize>
     ensures first { result ≡ lease_at tenant place leases.now.items }
     ensures there { IfSome result (λ position. (lease : Lease)

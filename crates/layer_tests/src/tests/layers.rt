@@ -75,15 +75,6 @@ fn of_record(bytes: &[u8]) -> Words<'static> {
     ("record", numbers)
 }
 
-fn of_insertion(error: InsertError) -> Words<'static> {
-    match error {
-        InsertError::List(_) => alone("no-memory"),
-        InsertError::Layout(_) => alone("Layout"),
-        InsertError::Refused(error) => of_refusal(error),
-        InsertError::NoExactChunk => alone("NoExactChunk"),
-    }
-}
-
 /// Returns whether a record of this length is at the position.
 fn has_record<A: Allocator + Drop>(slab: &Slab<A>, position: usize, len: usize) -> bool
     ensures { IsTrue result
@@ -99,7 +90,10 @@ impl<A: Allocator + Drop> Layer for Slab<A> {
         match call.0 {
             "insert" => match self.insert(&bytes_of([second, third, fourth])[..first.min(3)]) {
                 Ok(()) => alone("done"),
-                Err(error) => of_insertion(error),
+                Err(InsertError::List(_)) => alone("no-memory"),
+                Err(InsertError::Layout(_)) => alone("Layout"),
+                Err(InsertError::Refused(error)) => of_refusal(error),
+                Err(InsertError::NoExactChunk) => alone("NoExactChunk"),
             },
             "write" if has_record(self, first, second.min(3)) => {
                 self.write(first, &bytes_of([third, fourth, fifth])[..second.min(3)]);
@@ -179,7 +173,6 @@ impl<A: Allocator + Drop> Layer for Renting<A> {
             "limit" => counted("is", self.tenants.limit(first)),
             "out" => counted("is", self.tenants.out()),
             "whole" => counted("is", self.tenants.whole()),
-            "count" => counted("is", self.tenants.count()),
             _ => alone("no-call"),
         }
     }
@@ -193,12 +186,15 @@ pub(super) struct Spending<A: Allocator + Drop> {
 }
 
 impl<A: Allocator + Drop> Model for Spending<A> {
+    ghost use Rattle.std.specs.Prelude.{◌≡◌, length};
+
     // Nothing is told of spending.
     ghost Value = { Unit {0} };
 
     ghost view = { λ _. tt };
 
-    ghost invariant = { λ s. ⟦<ChunkBudget<A> as BaseAllocator>⟧.stands_for s.budget s.live.items };
+    ghost invariant = { λ s. A.stands_for s.budget.inner s.live.items
+        × (length s.live.items ≡ s.budget.out) };
 }
 
 impl<A: Allocator + Drop> Spending<A> {
@@ -215,18 +211,11 @@ impl<A: Allocator + Drop> Spending<A> {
     /// Runs a command.
     fn run(&mut self, command: Command) -> Words<'static> {
         match run_full(&mut self.budget, &mut self.live, &[command]) {
-            Ok(replies) => replies
-                .first()
-                .map_or(alone("no-reply"), |reply| of_reply(*reply)),
+            Ok(replies) => match replies.first() {
+                Some(reply) => of_reply(*reply),
+                None => alone("no-reply"),
+            },
             Err(_) => alone("no-memory"),
-        }
-    }
-
-    /// Returns the bytes that are reserved for a live chunk.
-    fn reserved(&self, at: usize) -> Words<'static> {
-        match self.live.get(at) {
-            Some(chunk) => counted("is", self.budget.reserved(chunk.place())),
-            None => alone("none"),
         }
     }
 }
@@ -244,11 +233,14 @@ fn command_of(call: Words<'_>) -> Option<Command> {
 }
 
 impl<A: Allocator + Drop> Layer for Spending<A> {
-    /// `alloc SIZE`, `free AT`, `grow AT OLD NEW`, `shrink AT OLD NEW`, `reserved AT`, and `out` of the budget.
+    /// `alloc SIZE`, `free AT`, `grow AT OLD NEW`, `shrink AT OLD NEW`, `reserved` (of the first live chunk), and `out`.
     fn answer(&mut self, call: Words<'_>) -> Words<'static> {
         match (call.0, command_of(call)) {
-            ("reserved", _) => self.reserved(call.1[0]),
-            ("out", _) => ("is", [self.budget.out(), self.budget.budget(), 0, 0, 0, 0]),
+            ("reserved", _) => match self.live.first() {
+                Some(chunk) => counted("is", self.budget.reserved(chunk.place())),
+                None => alone("none"),
+            },
+            ("out", _) => counted("is", self.budget.out()),
             (_, Some(command)) => self.run(command),
             _ => alone("no-call"),
         }

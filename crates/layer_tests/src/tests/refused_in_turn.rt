@@ -46,9 +46,7 @@ fn zeros(alloc: Global, start: usize, size: usize) -> Option<Region>
 }
 
 /// Makes an empty slab.
-fn slab(alloc: Global) -> Option<Slab<TestPool>>
-    ensures { IfSome result (λ slab. slab.records ≡ []) }
-{
+fn slab(alloc: Global) -> Option<Slab<TestPool>> {
     Some(Slab::new(alloc, buckets_of(128)?, zeros(alloc, 4096, 1024)?))
 }
 
@@ -92,7 +90,7 @@ fn tenants<A: Allocator + Drop>(alloc: Global, allocator: A, whole: usize) -> Re
 
 const LIMITS: &str = "\
 limits stay within the whole | alloc 0 1 = NoTenant; admit 301 = OverWhole; admit 200 = tenant 0; admit 101 = OverWhole; \
-    admit 100 = tenant 1; admit 1 = OverWhole; admit 0 = tenant 2; whole = is 300; count = is 3; limit 0 = is 200; \
+    admit 100 = tenant 1; admit 1 = OverWhole; admit 0 = tenant 2; whole = is 300; limit 0 = is 200; \
     limit 1 = is 100; limit 3 = is 0; alloc 3 0 = NoTenant; alloc 2 1 = OverLimit
 tenants use their own limits | admit 150 = tenant 0; admit 100 = tenant 1; alloc 0 100 = chunk 100; used 0 = is 100; \
     used 1 = is 0; alloc 0 51 = OverLimit; used 0 = is 100; alloc 0 50 = chunk 50; used 0 = is 150; alloc 0 1 = OverLimit; \
@@ -122,11 +120,11 @@ fn budget(alloc: Global) -> Option<Spending<TestPool>> {
 }
 
 const BUDGET: &str = "\
-a spent budget refuses before the pool | alloc 129 = SizeTooLarge; out = is 0 2; alloc 10 = chunk 4096 10; \
-    alloc 10 = chunk 4224 10; out = is 2 2; alloc 129 = OutOfMemory; free 1 = released; out = is 1 2; alloc 10 = chunk 4224 10; \
-    alloc 10 = OutOfMemory; out = is 2 2
-a resize spends nothing | alloc 10 = chunk 4096 10; grow 0 10 20 = chunk 4096 20; reserved 0 = is 128; \
-    shrink 0 20 10 = chunk 4096 10; out = is 1 2";
+a spent budget refuses before the pool | alloc 129 = SizeTooLarge; out = is 0; alloc 10 = chunk 4096 10; \
+    alloc 10 = chunk 4224 10; out = is 2; alloc 129 = OutOfMemory; free 1 = released; out = is 1; alloc 10 = chunk 4224 10; \
+    alloc 10 = OutOfMemory; out = is 2
+a resize spends nothing | alloc 10 = chunk 4096 10; grow 0 10 20 = chunk 4096 20; reserved = is 128; \
+    shrink 0 20 10 = chunk 4096 10; out = is 1";
 
 #[test]
 fn budgets(rt: HostRuntime) {

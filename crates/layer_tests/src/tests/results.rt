@@ -1,9 +1,8 @@
-//! Errors through `?`, and blocks of the heap.
+//! Errors through `?`.
 use super::layers::check;
 use bb_memory::layout::Layout;
 use bb_memory::pool_allocator::{AllocationError, PoolAllocator};
 use examples::errors::{GiveError, by_enum, open};
-use examples::heap::grown;
 use std::alloc::Global;
 use std::test::Fail;
 
@@ -19,9 +18,4 @@ fn errors_go_through(rt: HostRuntime) -> Result<(), Fail> {
     check(&rt, pool.number_of_buckets() == 8);
     check(&rt, is_refused(open(rt.alloc(), Layout::empty())));
     Ok(())
-}
-
-#[test]
-fn heap_block_grows(rt: HostRuntime) {
-    check(&rt, grown(rt.alloc()).is_ok());
 }

@@ -6,11 +6,12 @@ use bb_memory::bump_allocator::BumpAllocator;
 use bb_memory::layout::Layout;
 use bb_memory::shared_pool::{PoolParty, SharedPoolAllocator};
 use std::alloc::Global;
+use std::test::Fail;
 use std::thread::Threads;
 use uses::bump_workers::carved_by_four;
 use uses::pool_workers::four_workers;
 
-/// How much of 1024 bytes is used when four threads have asked for so many each, or none where memory was refused.
+/// Returns how much of 1024 bytes is used when four threads have asked for so many each, or none where memory was refused.
 fn used_by_four<R: Threads + Sync>(rt: &R, alloc: Global, size: usize) -> Option<usize> {
     let asked = Layout::from_size_align(size, 4).ok()?;
     let again = carved_by_four(rt, alloc, BumpAllocator::new(4096, 1024), asked).ok()?;
@@ -32,8 +33,7 @@ fn keeps_one(pool: &SharedPoolAllocator, party: &mut PoolParty, asked: Layout) -
     pool.allocate(party, asked).is_ok()
 }
 
-/// Takes five buckets more for the last of these parties, and answers for each whether there was one. None is where there is no
-/// party.
+/// Takes five buckets more for the last of these parties, if there is one, and returns for each whether it was given.
 fn five_more(
     pool: &SharedPoolAllocator,
     mut parties: Vec<PoolParty>,
@@ -51,15 +51,12 @@ fn five_more(
     ])
 }
 
-/// Takes five more for one of four workers when each has kept a bucket of eight.
-fn left_of_four<R: Threads + Sync>(rt: &R, alloc: Global, asked: Layout) -> Option<[bool; 5]> {
-    let (pool, parties) = four_workers(rt, alloc, asked).ok()?;
-    five_more(&pool, parties, asked)
-}
-
+/// Each of four workers has kept a bucket of eight.
 #[test]
-fn four_keep_a_bucket_each(rt: HostRuntime) {
-    let asked = Layout::from_size_align(100, 4).unwrap();
-    let four = Some([true, true, true, true, false]);
-    check(&rt, left_of_four(&rt, rt.alloc(), asked) == four);
+fn four_keep_a_bucket_each(rt: HostRuntime) -> Result<(), Fail> {
+    let asked = Layout::from_size_align(100, 4)?;
+    let (pool, parties) = four_workers(&rt, rt.alloc(), asked)?;
+    let left = five_more(&pool, parties, asked);
+    check(&rt, left == Some([true, true, true, true, false]));
+    Ok(())
 }
