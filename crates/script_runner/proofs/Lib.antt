@@ -1,11 +1,9 @@
-mod Appending
-mod Cutting
 mod Layouts
 mod LineWords
 mod Numbers
 mod PoolShows
 mod ScriptLines
-mod Sends
+mod Sending
 mod Tables
 mod Telling
 mod WholeLines

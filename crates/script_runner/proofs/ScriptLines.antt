@@ -8,8 +8,9 @@ use Rattle.std.proofs.lemmas.Option.{none-some}
 use Rattle.script_runner.proofs.LineWords.{words_same}
 use Rattle.script_runner.specs.Words.{Words, AreWords}
 use Rattle.script_runner.specs.engine.Rules.{Rules}
-use Rattle.script_runner.specs.engine.Script.{IsTextOf, IsFirstUnreadable}
-use Rattle.script_runner.specs.engine.Transcript.{IsLineText}
+use Rattle.script_runner.specs.engine.Rules.{IsLine, line_text}
+use Rattle.script_runner.specs.declared.engine.script.Line.{Line}
+use Rattle.script_runner.specs.engine.Transcript.{IsLineText, IsFirstUnreadable}
 use Rattle.script_runner.specs.declared.engine.script.Line.TheVariants.{Command, Show}
 
 -- what stands after a list
@@ -18,22 +19,20 @@ slice_get_at [] y ys = refl
 slice_get_at (x ∷ xs) y ys = slice_get_at xs y ys
 
 -- after lines that are read, one that isn't is the first
-pub first_unreadable : {A : Type 0} (IsAllowed : A → Type 0) (text_of : A → List ℕ) (lines after : List (List ℕ))
-    (before : List A) (line : List ℕ) (index : ℕ) →
-    lines ≡ map text_of before ++ line ∷ after → All IsAllowed before → index ≡ length before
-    → ¬ IsTextOf IsAllowed text_of line →
-    IsFirstUnreadable (IsTextOf IsAllowed text_of) lines index
-first_unreadable {A} IsAllowed text_of lines after before line index same all counted unreadable =
-    let Reads : List ℕ → Type 0 = IsTextOf IsAllowed text_of in
-    let front : List (List ℕ) = map text_of before in
-    let at : length front ≡ index = length-map before text_of ∙ sym counted in
-    let read : All Reads front =
-    All-map Reads text_of before
-    (All-weaker IsAllowed (λ value. Reads (text_of value)) (λ value allowed. (value, allowed, refl)) before all) in
+pub first_unreadable : {S O C R : Type 0} (rules : Rules S O C R) (lines after : List (List ℕ)) (before : List (Line C))
+    (line : List ℕ) (index : ℕ) → lines ≡ map (line_text rules) before ++ line ∷ after → All (IsLine rules) before
+    → index ≡ length before → ¬ IsLineText rules line → IsFirstUnreadable (IsLineText rules) lines index
+first_unreadable rules lines after before line index same all counted unreadable =
+    let front : List (List ℕ) = map (line_text rules) before in
+    let at : length front ≡ index = length-map before (line_text rules) ∙ sym counted in
+    let read : All (IsLineText rules) front =
+    All-map (IsLineText rules) (line_text rules) before
+    (All-weaker (IsLine rules) (λ value. IsLineText rules (line_text rules value)) (λ value allowed. (value, allowed, refl))
+    before all) in
     let taken : take index lines ≡ front = ap (take index) same ∙ take_at front (line ∷ after) index at in
     let got : slice_get lines index ≡ Some line =
     ap (slice_get lines) (sym at) ∙ (ap (λ ls. slice_get ls (length front)) same ∙ slice_get_at front line after) in
-    (subst (All Reads) (sym taken) read, line, got, unreadable)
+    (subst (All (IsLineText rules)) (sym taken) read, line, got, unreadable)
 
 -- one line more is read
 pub lines_more : {A : Type 0} (text_of : A → List ℕ) (before grown : List A) (value : A) (lines rest : List (List ℕ))

@@ -1,22 +1,19 @@
 -- Tables of kinds, and which kind a first line has.
 use Rattle.std.proofs.Common.{◌≡◌, ◌-◌, ◌+◌, ℕ, zero, suc, true, List, [], ◌∷◌, inl, inr, ◌⊎◌, All, take, not}
-use Rattle.std.proofs.Common.{Option, Some, None, IfSome, IfNone, refl, ap, arith}
+use Rattle.std.proofs.Common.{Some, None, refl, ap, arith}
 use Rattle.std.specs.Prelude.{slice_get}
 use Rattle.std.specs.Str.{bytes_eq}
 use Rattle.std.proofs.lemmas.Bool.{and_parts, both_ways, not-true}
 use Rattle.std.proofs.lemmas.Option.{none-some}
 use Rattle.std.proofs.lemmas.Slice.Eq.{bytes_eq-Decides}
-use Rattle.std.specs.Io.KnownBytes.{Appends, Keeps}
 use Rattle.script_runner.proofs.LineWords.{words_same}
-use Rattle.script_runner.proofs.Telling.{not_done, not_unreadable, read_unreadable, read_done}
-use Rattle.script_runner.specs.Status.{IsCutShort}
-use Rattle.script_runner.specs.declared.status.Status.TheVariants.{Done, Unreadable}
-use Rattle.script_runner.specs.engine.Script.{Batches, IsFirstUnreadable}
+use Rattle.script_runner.specs.declared.engine.driving.Outcome.{Outcome}
+use Rattle.script_runner.specs.declared.engine.driving.Outcome.TheVariants.{Answered, Unreadable, OutOfMemory}
+use Rattle.script_runner.specs.declared.engine.script.Line.{Line}
 use Rattle.script_runner.specs.Words.{Words, MayStand, AreWords, words_text}
 use Rattle.script_runner.specs.engine.Rules.{Rules, Kind, kind, SomeOf, header_words, is_new}
-use Rattle.script_runner.specs.declared.status.Status.{Status}
-use Rattle.script_runner.specs.Inputs.{Ends, HasHeader, HasHeaderOf, IsScriptOf, AreReadable, IsUnreadableAt, BeginsOutputOf}
-use Rattle.script_runner.specs.engine.Transcript.{IsLineText, AreScript, IsPlayed, IsBegun, AppendsPart, unreadable_text}
+use Rattle.script_runner.specs.Inputs.{HasHeader, HasHeaderOf, IsScriptOf, IsAnsweredBy, IsOutcome, AreReadable, IsUnreadableAt}
+use Rattle.script_runner.specs.engine.Transcript.{IsLineText, IsFirstUnreadable, AreScript, IsPlayed}
 
 -- what holds of some kind, in other words
 some-map : (table : List Kind) (P Q : Kind → Type 0) → ((one : Kind) → P one → Q one) → SomeOf table P → SomeOf table Q
@@ -119,7 +116,7 @@ further_unread P (x ∷ xs) (suc index) line got all =
     further_unread P xs index line got (λ k d below. all (suc k) d (omega (arith, below)))
 
 -- behind a first line of a kind, its first unreadable line is the first
-unreadable_here : {S O C R : Type 0} (rules : Rules S O C R) (header : O) (rest : List (List ℕ)) (index : ℕ)
+pub unreadable_here : {S O C R : Type 0} (rules : Rules S O C R) (header : O) (rest : List (List ℕ)) (index : ℕ)
     → rules.is_header header → MayStand (header_words rules header) → IsFirstUnreadable (IsLineText rules) rest index
     → IsUnreadableAt (kind rules ∷ []) (words_text (header_words rules header) ∷ rest) (index + 2)
 unreadable_here rules header rest index allowed stand (before, line, got, unread) =
@@ -160,21 +157,6 @@ unreadable_wider one others first rest number stand test (early, unread) = (
   ],
 )
 
-begun_wider : (one : Kind) (others : List Kind) (first : Words) (rest : List (List ℕ)) (sent : List ℕ) → MayStand first
-    → is_new first.name others ≡ true → BeginsOutputOf (one ∷ []) (words_text first ∷ rest) sent
-    → BeginsOutputOf (one ∷ others) (words_text first ∷ rest) sent
-begun_wider one others first rest sent stand test (inl (inl begun)) = inl (inl begun)
-begun_wider one others first rest sent stand test (inl (inr none)) = absurd none
-begun_wider one others first rest sent stand test (inr (number, unread, begins)) =
-    inr (number, unreadable_wider one others first rest number stand test unread, begins)
-
-begun_later : (one : Kind) (others : List Kind) (first : List ℕ) (rest : List (List ℕ)) (sent : List ℕ)
-    → (HasHeaderOf (first ∷ rest) one → ⊥)
-    → BeginsOutputOf others (first ∷ rest) sent → BeginsOutputOf (one ∷ others) (first ∷ rest) sent
-begun_later one others first rest sent no_header (inl begun) = inl (inr begun)
-begun_later one others first rest sent no_header (inr (number, is_unreadable, begins)) =
-    inr (number, unreadable_later one others first rest number no_header is_unreadable, begins)
-
 -- words that are read as no header of a kind are none of its first lines
 pub no_header : {S O C R : Type 0} (rules : Rules S O C R) (first : Words) (rest : List (List ℕ)) → MayStand first
     → ((header : O) → rules.is_header header → first.name ≡ rules.name → first.numbers ≡ rules.header_numbers header
@@ -184,126 +166,39 @@ no_header rules first rest stand each (header, after, starts) =
     let same = header_same (kind rules) first rest header after stand starts in
     none-some header (each header starts.allowed same.0 same.1)
 
--- how a run on the lines behind an unreadable line of a kind ends
-pub ends_unreadable : {S O C R : Type 0} (rules : Rules S O C R) (header : O) (rest : List (List ℕ)) (index : ℕ)
-    (old new : Option (List ℕ)) (status : Status) → rules.is_header header → MayStand (header_words rules header)
-    → IsFirstUnreadable (IsLineText rules) rest index
-    → (status ≡ Unreadable → Appends old new (unreadable_text (index + 2)))
-    → (IsCutShort status → AppendsPart old new (unreadable_text (index + 2)))
-    → (status ≡ Unreadable) ⊎ IsCutShort status
-    → Ends (kind rules ∷ []) (words_text (header_words rules header) ∷ rest) old new status
-ends_unreadable rules header rest index old new status allowed stand first whole part either =
-    let unread = unreadable_here rules header rest index allowed stand first in
-    record {
-      done = λ is. absurd (not_done status is either);
-      unreadable = λ is. (index + 2, unread, whole is);
-      cut_short = λ short. let (sent, begins, wrote) = part short in inr (sent, inr (index + 2, unread, begins), wrote);
-      input_read = read_unreadable status either;
-    }
+-- the text that is played answers the lines of the header and the script
+pub answered_here : {S O C R : Type 0} (rules : Rules S O C R) (header : O) (rest : List (List ℕ)) (script : List (Line C))
+    (text : List ℕ) → rules.is_header header → MayStand (header_words rules header) → AreScript rules rest script
+    → (first : S) × (last : S) × rules.starts header first × IsPlayed rules first script text last
+    → SomeOf (kind rules ∷ []) (IsAnsweredBy (words_text (header_words rules header) ∷ rest) text)
+answered_here rules header rest script text allowed stand read (first, last, starts, played) =
+    inl (
+      header,
+      rest,
+      record { allowed = allowed; stand = stand; cut = refl },
+      script,
+      first,
+      last,
+      read,
+      starts,
+      played,
+    )
 
--- and on a script
-pub ends_answered : {S O C R : Type 0} (rules : Rules S O C R) (header : O) (rest : List (List ℕ)) (script : Batches C)
-    (old new : Option (List ℕ)) (status : Status) → rules.is_header header → MayStand (header_words rules header)
-    → AreScript rules rest script
-    → (status ≡ Done → (first : S) × (last : S) × (text : List ℕ) × rules.starts header first
-    × IsPlayed rules first script text last × Appends old new text)
-    → (IsCutShort status → Keeps old new ⊎ ((first : S) × (sent : List ℕ) × rules.starts header first
-    × IsBegun rules first script sent × Appends old new sent))
-    → (status ≡ Done) ⊎ IsCutShort status
-    → Ends (kind rules ∷ []) (words_text (header_words rules header) ∷ rest) old new status
-ends_answered rules header rest script old new status allowed stand read whole part either = record {
-  done = λ is.
-      let (first, last, text, starts, played, wrote) = whole is in (
-        text,
-        inl (
-          header,
-          rest,
-          record { allowed = allowed; stand = stand; cut = refl },
-          script,
-          first,
-          last,
-          read,
-          starts,
-          played,
-        ),
-        wrote,
-      );
-  unreadable = λ is. absurd (not_unreadable status is either);
-  cut_short = λ short. elim (part short) [
-    | inl kept ↦ inl kept
-    | inr (first, sent, starts, begun, wrote) ↦
-        inr (
-          sent,
-          inl (inl (
-            header,
-            rest,
-            record { allowed = allowed; stand = stand; cut = refl },
-            script,
-            first,
-            read,
-            starts,
-            begun,
-          )),
-          wrote,
-        )
-  ];
-  input_read = read_done status either;
-}
+-- an outcome by one kind is so by a table with others of other names
+pub outcome_wider : (one : Kind) (others : List Kind) (first : Words) (rest : List (List ℕ)) (made : Outcome)
+    → MayStand first → is_new first.name others ≡ true → IsOutcome (one ∷ []) (words_text first ∷ rest) made
+    → IsOutcome (one ∷ others) (words_text first ∷ rest) made
+outcome_wider one others first rest (Answered texts) stand test (inl here) = inl here
+outcome_wider one others first rest (Answered texts) stand test (inr none) = absurd none
+outcome_wider one others first rest (Unreadable number) stand test unread =
+    unreadable_wider one others first rest number stand test unread
+outcome_wider one others first rest OutOfMemory stand test made = tt
 
--- and by a table with others of other names
-pub ends_wider : (one : Kind) (others : List Kind) (first : Words) (rest : List (List ℕ)) (old new : Option (List ℕ))
-    (status : Status) → MayStand first → is_new first.name others ≡ true
-    → Ends (one ∷ []) (words_text first ∷ rest) old new status → Ends (one ∷ others) (words_text first ∷ rest) old new status
-ends_wider one others first rest old new status stand test ends = record {
-  done = λ is.
-      let (text, answered, wrote) = ends.done is in
-      (text, elim answered [ inl here ↦ inl here | inr none ↦ absurd none ], wrote);
-  unreadable = λ is.
-      let (number, unread, wrote) = ends.unreadable is in
-      (number, unreadable_wider one others first rest number stand test unread, wrote);
-  cut_short = λ is. elim (ends.cut_short is) [
-    | inl kept ↦ inl kept
-    | inr (sent, begun, wrote) ↦ inr (sent, begun_wider one others first rest sent stand test begun, wrote)
-  ];
-  input_read = ends.input_read;
-}
-
--- and by a table with one more kind that doesn't read the first line
-pub ends_later : (made : Option Status) (one : Kind) (others : List Kind) (first : List ℕ) (rest : List (List ℕ))
-    (old new : Option (List ℕ)) → (HasHeaderOf (first ∷ rest) one → ⊥)
-    → IfSome made (Ends others (first ∷ rest) old new) → IfSome made (Ends (one ∷ others) (first ∷ rest) old new)
-ends_later None one others first rest old new no_header ends = tt
-ends_later (Some status) one others first rest old new no_header ends = record {
-  done = λ is. let (text, answered, wrote) = ends.done is in (text, inr answered, wrote);
-  unreadable = λ is.
-      let (number, unread, wrote) = ends.unreadable is in
-      (number, unreadable_later one others first rest number no_header unread, wrote);
-  cut_short = λ is. elim (ends.cut_short is) [
-    | inl kept ↦ inl kept
-    | inr (sent, begun, wrote) ↦ inr (sent, begun_later one others first rest sent no_header begun, wrote)
-  ];
-  input_read = ends.input_read;
-}
-
--- what no other kind reads, and this one doesn't, none does
-pub none_later : {T S O C R : Type 0} (made : Option T) (rules : Rules S O C R) (others : List Kind) (first : List ℕ)
-    (rest : List (List ℕ)) → (HasHeaderOf (first ∷ rest) (kind rules) → ⊥)
-    → IfNone made (SomeOf others (HasHeaderOf (first ∷ rest)) → ⊥)
-    → IfNone made (SomeOf (kind rules ∷ others) (HasHeaderOf (first ∷ rest)) → ⊥)
-none_later None rules others first rest no_header none = elim [
-  | inl here ↦ no_header here
-  | inr there ↦ none there
-]
-none_later (Some value) rules others first rest no_header none = tt
-
--- a first line that is unreadable, which is told
-pub ends_first : (table : List Kind) (lines : List (List ℕ)) (old new : Option (List ℕ)) (status : Status)
-    → IsUnreadableAt table lines 1 → (status ≡ Unreadable → Appends old new (unreadable_text 1))
-    → (IsCutShort status → AppendsPart old new (unreadable_text 1))
-    → (status ≡ Unreadable) ⊎ IsCutShort status → Ends table lines old new status
-ends_first table lines old new status unread whole part either = record {
-  done = λ is. absurd (not_done status is either);
-  unreadable = λ is. (1, unread, whole is);
-  cut_short = λ short. let (sent, begins, wrote) = part short in inr (sent, inr (1, unread, begins), wrote);
-  input_read = read_unreadable status either;
-}
+-- an outcome by others is so by a table with one more kind that doesn't read the first line
+pub outcome_later : (one : Kind) (others : List Kind) (first : List ℕ) (rest : List (List ℕ)) (made : Outcome)
+    → (HasHeaderOf (first ∷ rest) one → ⊥) → IsOutcome others (first ∷ rest) made
+    → IsOutcome (one ∷ others) (first ∷ rest) made
+outcome_later one others first rest (Answered texts) none answered = inr answered
+outcome_later one others first rest (Unreadable number) none unread =
+    unreadable_later one others first rest number none unread
+outcome_later one others first rest OutOfMemory none made = tt

@@ -1,101 +1,59 @@
--- What is told of batches.
-use Rattle.std.proofs.Common.{ℕ, List, [], ◌∷◌, ◌++◌, sym, ap, ◌∙◌, refl, subst, ◌≡◌, ◌+◌, ◌<◌, ◌≤◌, length, take, Option, Some}
+-- Texts one after another, and what is told of lines.
+use Rattle.std.proofs.Common.{ℕ, ◌+◌, ◌<◌, ◌≡◌, List, [], ◌∷◌, ◌++◌, length, take, drop, get_or, sym, ap, ◌∙◌, refl, subst}
 use Rattle.std.specs.List.{flat_map}
-use Rattle.std.specs.Prelude.{slice_get}
-use Rattle.std.proofs.Common.{inl, inr, ◌⊎◌}
-use Rattle.std.specs.Io.KnownBytes.{Appends}
-use Rattle.std.proofs.lemmas.List.{append_assoc, append-nil, take_more, take_all}
-use Rattle.std.proofs.lemmas.Option.{get_or_from_slice_get, slice_get_within}
-use Rattle.script_runner.specs.Status.{IsCutShort}
-use Rattle.script_runner.specs.declared.status.Status.{Status}
-use Rattle.script_runner.specs.declared.status.Status.TheVariants.{Done, Unreadable, InputFailed}
-use Rattle.script_runner.specs.engine.Script.{Batches}
-use Rattle.script_runner.specs.engine.Transcript.{AppendsPart}
-use Rattle.script_runner.proofs.Appending.{appends_again}
-use Rattle.script_runner.proofs.Sends.{begins_after, begins_all}
-use Rattle.script_runner.specs.engine.Transcript.{IsTold, IsPlayed, IsSoFar, IsBegun}
+use Rattle.std.proofs.lemmas.List.{append_assoc, append-nil, take_more, take-append-drop, drop_more}
+use Rattle.std.proofs.lemmas.Grind.{flat_map-append}
 use Rattle.script_runner.specs.engine.Rules.{Rules}
+use Rattle.script_runner.specs.declared.engine.script.Line.{Line}
+use Rattle.script_runner.specs.engine.Transcript.{IsStep, IsTold}
 
--- what is told, one batch longer
-pub IsTold-push : {S O C R : Type 0} (rules : Rules S O C R) (old mid new : S) (batches : List (List C))
-    (batch : List C) (text : List ℕ) (replies : List R) →
-    IsTold rules old batches text mid → rules.runs mid batch replies new →
-    IsTold rules old (batches ++ batch ∷ []) (text ++ (flat_map rules.reply_text replies ++ rules.state_text new)) new
-IsTold-push rules old mid new [] batch text replies (same, none) step =
-    let more : List ℕ = flat_map rules.reply_text replies ++ rules.state_text new in (
-      new,
-      replies,
-      [],
-      subst (λ s. rules.runs s batch replies new) same step,
-      (refl, refl),
-      ap (λ t. t ++ more) none ∙ sym (ap (λ l. flat_map rules.reply_text replies ++ l) (append-nil (rules.state_text new))),
-    )
-IsTold-push rules old mid new (b ∷ batches) batch text replies (m, rs, rest, first, told, e) step =
-    let more : List ℕ = flat_map rules.reply_text replies ++ rules.state_text new in (
-      m,
-      rs,
-      rest ++ more,
-      first,
-      IsTold-push rules m mid new batches batch rest replies told step,
-      ap (λ t. t ++ more) e ∙ (append_assoc (flat_map rules.reply_text rs) (rules.state_text m ++ rest) more
-          ∙ ap (λ l. flat_map rules.reply_text rs ++ l) (append_assoc (rules.state_text m) rest more)),
-    )
+-- one text more
+pub texts_push : {V : Type 0} (bytes : V → List ℕ) (before grown : List V) (value : V) (text : List ℕ)
+    → grown ≡ before ++ value ∷ [] → bytes value ≡ text → flat_map bytes grown ≡ flat_map bytes before ++ text
+texts_push bytes before grown value text longer is =
+    ap (flat_map bytes) longer ∙ (flat_map-append bytes before (value ∷ [])
+    ∙ ap (λ l. flat_map bytes before ++ l) (append-nil (bytes value) ∙ is))
 
--- what is told up to an index, and of the batch there
-pub told_more : {S O C R : Type 0} (rules : Rules S O C R) (start mid end : S) (shown : List (List C)) (index : ℕ)
-    (batch : List C) (text : List ℕ) (replies : List R) →
-    slice_get shown index ≡ Some batch → IsTold rules start (take index shown) text mid → rules.runs mid batch replies end →
-    IsTold rules start (take (index + 1) shown) (text ++ (flat_map rules.reply_text replies ++ rules.state_text end)) end
-told_more rules start mid end shown index batch text replies here told run =
-    let below : index < length shown = slice_get_within shown index batch here in
-    let longer : take (index + 1) shown ≡ take index shown ++ batch ∷ [] =
-    take_more shown index batch below
-    ∙ ap (λ b. take index shown ++ b ∷ []) (get_or_from_slice_get shown index batch batch here) in
-    rw longer (IsTold-push rules start mid end (take index shown) batch text replies told run)
+-- the texts up to an item, and then its own
+pub texts_more : {X : Type 0} (text_of : X → List ℕ) (items : List X) (index : ℕ) (item : X) → index < length items
+    → item ≡ get_or items index item →
+    flat_map text_of (take (index + 1) items) ≡ flat_map text_of (take index items) ++ text_of item
+texts_more text_of items index item below is =
+    texts_push text_of (take index items) (take (index + 1) items) (get_or items index item) (text_of item)
+    (take_more items index item below) (ap text_of (sym is))
 
--- what is told of all batches that are shown, and of the last
-pub played : {S O C R : Type 0} (rules : Rules S O C R) (start mid end : S) (script : Batches C) (index : ℕ)
-    (text : List ℕ) (replies : List R) →
-    length script.shown ≤ index → IsTold rules start (take index script.shown) text mid → rules.runs mid script.last replies end →
-    IsPlayed rules start script (text ++ flat_map rules.reply_text replies) end
-played rules start mid end script index text replies past told run =
-    (mid, text, replies, rw (take_all index script.shown past) at told, run, refl)
+-- the texts up to an item, its own and those after it
+pub texts_at : {X : Type 0} (text_of : X → List ℕ) (items : List X) (index : ℕ) (item : X) → index < length items
+    → item ≡ get_or items index item →
+    flat_map text_of items ≡ flat_map text_of (take index items) ++ (text_of item ++ flat_map text_of (drop (index + 1) items))
+texts_at text_of items index item below is =
+    ap (flat_map text_of) (sym (take-append-drop index items))
+    ∙ (flat_map-append text_of (take index items) (drop index items)
+    ∙ ap (λ l. flat_map text_of (take index items) ++ l)
+    (ap (flat_map text_of) (drop_more items index item below)
+    ∙ ap (λ x. text_of x ++ flat_map text_of (drop (index + 1) items)) (sym is)))
 
--- what is sent of a part begins what is told so far
-pub begun_part : {S O C R : Type 0} (rules : Rules S O C R) (start end : S) (script : Batches C)
-    (old mid new : Option (List ℕ)) (whole front part rest : List ℕ) →
-    whole ≡ front ++ (part ++ rest) → IsSoFar rules start script whole end → Appends old mid front → AppendsPart mid new part →
-    (sent : List ℕ) × IsBegun rules start script sent × Appends old new sent
-begun_part rules start end script old mid new whole front part rest same so_far before (sent, begins, wrote) = (
-  front ++ sent,
-  (whole, end, rw same (begins_after front sent part rest begins), so_far),
-  appends_again old mid new front sent before wrote,
+-- a line more is told
+pub told_more : {S O C R : Type 0} (rules : Rules S O C R) (start mid end : S) (waiting before left : List C)
+    (lines : List (Line C)) (line : Line C) (front added : List ℕ)
+    → IsTold rules start waiting lines front mid before → IsStep rules mid before line added end left
+    → IsTold rules start waiting (lines ++ line ∷ []) (front ++ added) end left
+told_more rules start mid end waiting before left [] line front added (same, kept, none) step = (
+  end,
+  left,
+  added,
+  [],
+  subst (λ s. IsStep rules s waiting line added end left) same
+      (subst (λ w. IsStep rules mid w line added end left) kept step),
+  (refl, refl, refl),
+  ap (λ t. t ++ added) none ∙ sym (append-nil added),
 )
-
--- what is sent and is all of it begins it
-pub begun_all : {S O C R : Type 0} (rules : Rules S O C R) (start end : S) (script : Batches C)
-    (old new : Option (List ℕ)) (whole : List ℕ) →
-    IsSoFar rules start script whole end → Appends old new whole → (sent : List ℕ) × IsBegun rules start script sent
-    × Appends old new sent
-begun_all rules start end script old new whole so_far wrote = (whole, (whole, end, begins_all whole, so_far), wrote)
-
--- statuses are apart
-pub not_done : (status : Status) → status ≡ Done → (status ≡ Unreadable) ⊎ IsCutShort status → ⊥
-not_done status is (inl other) = cc
-not_done status is (inr (inl other)) = cc
-not_done status is (inr (inr other)) = cc
-
-pub not_unreadable : (status : Status) → status ≡ Unreadable → (status ≡ Done) ⊎ IsCutShort status → ⊥
-not_unreadable status is (inl other) = cc
-not_unreadable status is (inr (inl other)) = cc
-not_unreadable status is (inr (inr other)) = cc
-
-pub read_unreadable : (status : Status) → (status ≡ Unreadable) ⊎ IsCutShort status → status ≡ InputFailed → ⊥
-read_unreadable status (inl other) is = cc
-read_unreadable status (inr (inl other)) is = cc
-read_unreadable status (inr (inr other)) is = cc
-
-pub read_done : (status : Status) → (status ≡ Done) ⊎ IsCutShort status → status ≡ InputFailed → ⊥
-read_done status (inl other) is = cc
-read_done status (inr (inl other)) is = cc
-read_done status (inr (inr other)) is = cc
+told_more rules start mid end waiting before left (one ∷ lines) line front added (m, later, first, rest, told, more, e) step = (
+  m,
+  later,
+  first,
+  rest ++ added,
+  told,
+  told_more rules m mid end later before left lines line rest added more step,
+  ap (λ t. t ++ added) e ∙ append_assoc first rest added,
+)

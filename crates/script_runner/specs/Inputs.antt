@@ -1,5 +1,6 @@
 -- What is written of an input.
 use Rattle.std.specs.Prelude.{ℕ, ◌≡◌, ◌≢◌, ◌-◌, ◌⊎◌, List, [], ◌∷◌, All, Option, IfSome, take}
+use Rattle.std.specs.List.{flat_map}
 use Rattle.std.specs.Io.KnownBytes.{Keeps, Appends}
 use Rattle.script_runner.specs.kinds.Bump.{bump_rules}
 use Rattle.script_runner.specs.kinds.BumpSteps.{bump_step_rules}
@@ -14,8 +15,10 @@ use Rattle.script_runner.specs.declared.status.Status.TheVariants.{Done, Unreada
 use Rattle.script_runner.specs.engine.Lines.{lines_of}
 use Rattle.script_runner.specs.Words.{MayStand, words_text}
 use Rattle.script_runner.specs.engine.Rules.{Kind, kind, SomeOf, header_words}
-use Rattle.script_runner.specs.engine.Script.{Batches}
-use Rattle.script_runner.specs.engine.Transcript.{Begins, AreScript, IsPlayed, IsBegun, IsLineText, unreadable_text}
+use Rattle.script_runner.specs.declared.engine.driving.Outcome.{Outcome}
+use Rattle.script_runner.specs.declared.engine.driving.Outcome.TheVariants as outcome
+use Rattle.script_runner.specs.declared.engine.script.Line.{Line}
+use Rattle.script_runner.specs.engine.Transcript.{Begins, AreScript, IsPlayed, IsLineText, unreadable_text}
 
 -- the lines are a first line of this kind, that says this of what is to be made, and the rest
 pub record HasHeader (kind : Kind) (lines : List (List ℕ))
@@ -39,15 +42,8 @@ IsScriptOf lines kind =
 abbrev pub IsAnsweredBy : List (List ℕ) → List ℕ → Kind → Type 0
 IsAnsweredBy lines text kind =
     (header : kind.Header) × (rest : List (List ℕ)) × HasHeader kind lines header rest
-    × (script : Batches kind.Command) × (first : kind.State) × (last : kind.State) × AreScript kind.rules rest script
+    × (script : List (Line kind.Command)) × (first : kind.State) × (last : kind.State) × AreScript kind.rules rest script
     × kind.rules.starts header first × IsPlayed kind.rules first script text last
-
--- the lines are a script of this kind, and the bytes begin what it is answered
-abbrev pub IsBegunBy : List (List ℕ) → List ℕ → Kind → Type 0
-IsBegunBy lines sent kind =
-    (header : kind.Header) × (rest : List (List ℕ)) × HasHeader kind lines header rest
-    × (script : Batches kind.Command) × (first : kind.State) × AreScript kind.rules rest script
-    × kind.rules.starts header first × IsBegun kind.rules first script sent
 
 -- the lines are a script of some kind
 abbrev pub AreReadable : List Kind → List (List ℕ) → Type 0
@@ -60,20 +56,11 @@ IsUnreadableAt table lines number =
     ((number ≡ 1) ⊎ AreReadable table (take (number - 1) lines))
     × ¬ AreReadable table (take number lines)
 
--- the bytes begin what is written of the lines, be they readable or not
-abbrev pub BeginsOutputOf : List Kind → List (List ℕ) → List ℕ → Type 0
-BeginsOutputOf table lines sent =
-    SomeOf table (IsBegunBy lines sent)
-    ⊎ ((number : ℕ) × IsUnreadableAt table lines number × Begins sent (unreadable_text number))
-
--- how a run on the lines ends, and what it writes
-pub record Ends (table : List Kind) (lines : List (List ℕ)) (old new : Option (List ℕ)) (status : Status) : Type 0 where
-  pub done : status ≡ Done → (text : List ℕ) × SomeOf table (IsAnsweredBy lines text) × Appends old new text
-  pub unreadable : status ≡ Unreadable
-      → (number : ℕ) × IsUnreadableAt table lines number × Appends old new (unreadable_text number)
-  pub cut_short : IsCutShort status
-      → Keeps old new ⊎ ((sent : List ℕ) × BeginsOutputOf table lines sent × Appends old new sent)
-  pub input_read : status ≢ InputFailed
+-- the outcome of checking and running the lines
+abbrev pub IsOutcome : List Kind → List (List ℕ) → Outcome → Type 0
+IsOutcome table lines (outcome.Answered texts) = SomeOf table (IsAnsweredBy lines (flat_map (λ text. text.items) texts.items))
+IsOutcome table lines (outcome.Unreadable number) = IsUnreadableAt table lines number
+IsOutcome table lines outcome.OutOfMemory = Unit {0}
 
 -- the kinds of scripts
 abbrev pub kinds : List Kind
@@ -95,9 +82,23 @@ IsAnswered input text = SomeOf kinds (IsAnsweredBy (lines_of input) text)
 abbrev pub IsUnreadable : List ℕ → ℕ → Type 0
 IsUnreadable input number = IsUnreadableAt kinds (lines_of input) number
 
--- the bytes begin what is written of the input, be it readable or not
+-- the text is what is written of the input, be it readable or not
+abbrev pub IsOutput : List ℕ → List ℕ → Type 0
+IsOutput input text =
+    IsAnswered input text ⊎ ((number : ℕ) × IsUnreadable input number × (text ≡ unreadable_text number))
+
+-- the bytes begin what is written of the input
 abbrev pub BeginsOutput : List ℕ → List ℕ → Type 0
-BeginsOutput input sent = BeginsOutputOf kinds (lines_of input) sent
+BeginsOutput input sent = (text : List ℕ) × IsOutput input text × Begins sent text
+
+-- how a run on an input ends, and what it writes
+pub record Ends (input : List ℕ) (old new : Option (List ℕ)) (status : Status) : Type 0 where
+  pub done : status ≡ Done → (text : List ℕ) × IsAnswered input text × Appends old new text
+  pub unreadable : status ≡ Unreadable
+      → (number : ℕ) × IsUnreadable input number × Appends old new (unreadable_text number)
+  pub cut_short : IsCutShort status
+      → Keeps old new ⊎ ((sent : List ℕ) × BeginsOutput input sent × Appends old new sent)
+  pub input_read : status ≢ InputFailed
 
 -- the input is all that is left of a reader's bytes, where these are known
 abbrev pub IsLeft : List ℕ → Option (List ℕ) → Type 0

@@ -4,6 +4,7 @@ use Rattle.std.specs.Fmt.{decimal}
 use Rattle.bb_memory_base.specs.Chunk.{Region, region_at}
 use Rattle.script_runner.specs.declared.words.Bounds.{Bounds}
 use Rattle.script_runner.specs.declared.words.Numbers.{Numbers}
+use Rattle.script_runner.specs.declared.words.Text.{Text}
 use Rattle.script_runner.specs.declared.words.Numbers.TheVariants.{Zero, One, Two, Three, Four, Five}
 
 -- a name, and the numbers behind it
@@ -34,6 +35,10 @@ words_text words = words.name ++ numbers_text (list_of words.numbers)
 -- `NAME NUMBER ..`, and then a text
 abbrev pub words_then : List ℕ → Numbers → List ℕ → List ℕ
 words_then name numbers text = words_text (words name numbers) ++ text
+
+-- the bytes of a text
+abbrev pub text_bytes : Text → List ℕ
+text_bytes text = words_then text.name.now text.numbers text.end.now
 
 -- each of them may be written
 abbrev pub AreNumbers : List ℕ → Type 0

@@ -1,5 +1,4 @@
 -- From the lines of a script of any kind to the lines of its replies.
 pub mod Lines
 pub mod Rules
-pub mod Script
 pub mod Transcript

@@ -8,18 +8,16 @@ pub mod one_chunk;
 pub mod pool;
 pub mod pool_steps;
 
-use crate::engine::driving::{Driven, drive};
+use crate::engine::driving::{Driven, Outcome, drive};
 use crate::kinds::allocators::Live;
 use crate::kinds::loan_pool::LoanPool;
 use crate::kinds::pool::Fixed;
-use crate::status::Status;
 use crate::words::Numbers;
 use bb_memory_core::bump_allocator::BumpAllocator;
 use bb_memory_core::one_chunk_allocator::OneChunkAllocator;
 use bb_memory_core::pool_allocator::PoolAllocator;
 use bb_memory_core::steps::{BumpWorld, PoolWorld};
 use std::alloc::Global;
-use std::io::Write;
 
 /// The kinds of scripts, in the order in which a header is tried: a row for each, and then the rows behind it.
 pub type AllKinds = (Live<BumpAllocator>, FromOneChunk);
@@ -38,29 +36,19 @@ type FromLoanPool = (LoanPool, ());
 
 /// Kinds of scripts, one after another.
 pub trait Kinds {
-    ghost use Rattle.std.specs.Prelude.{◌≡◌, ◌∷◌, List, IfNone, IfSome, true};
-    ghost use Rattle.script_runner.specs.Inputs.{HasHeaderOf, Ends};
+    ghost use Rattle.std.specs.Prelude.{◌≡◌, ◌∷◌, List, true};
+    ghost use Rattle.script_runner.specs.Inputs.{IsOutcome};
     ghost use Rattle.script_runner.specs.Words.{words, words_text, MayStand};
     ghost use Rattle.script_runner.specs.engine.Lines.{lines_of};
-    ghost use Rattle.script_runner.specs.engine.Rules.{Kind, SomeOf, are_apart};
+    ghost use Rattle.script_runner.specs.engine.Rules.{Kind, are_apart};
 
     ghost table: { List Kind };
 
-    /// Checks and runs the script of a header of these words and the bytes behind it, where one of the kinds reads the header.
-    fn run<W: Write>(
-        alloc: Global,
-        name: &[u8],
-        numbers: Numbers,
-        rest: &[u8],
-        writer: &mut W,
-    ) -> Option<Status>
+    /// Checks and runs the script of a first line of these words and the bytes behind it.
+    fn run(alloc: Global, name: &[u8], numbers: Numbers, rest: &[u8]) -> Outcome
         requires apart { are_apart table ≡ true }
         requires stand { MayStand (words name.now numbers) }
-        ensures none { IfNone result
-            (¬ SomeOf table (HasHeaderOf (words_text (words name.now numbers) ∷ lines_of rest.now))) }
-        ensures untouched { IfNone result (writer.new ≡ writer.old) }
-        ensures ends { IfSome result (Ends table (words_text (words name.now numbers) ∷ lines_of rest.now)
-            (W.contents writer.old) (W.contents writer.new)) };
+        ensures { IsOutcome table (words_text (words name.now numbers) ∷ lines_of rest.now) result };
 }
 
 impl Kinds for () {
@@ -68,8 +56,8 @@ impl Kinds for () {
 
     ghost table = { [] };
 
-    fn run<W: Write>(_: Global, _: &[u8], _: Numbers, _: &[u8], _: &mut W) -> Option<Status> {
-        None
+    fn run(_: Global, _: &[u8], _: Numbers, _: &[u8]) -> Outcome {
+        Outcome::Unreadable(1)
     }
 }
 
@@ -79,16 +67,10 @@ impl<K: Driven, Others: Kinds> Kinds for (K, Others) {
 
     ghost table = { kind K.rules ∷ Others.table };
 
-    fn run<W: Write>(
-        alloc: Global,
-        name: &[u8],
-        numbers: Numbers,
-        rest: &[u8],
-        writer: &mut W,
-    ) -> Option<Status> {
+    fn run(alloc: Global, name: &[u8], numbers: Numbers, rest: &[u8]) -> Outcome {
         match K::read_header(name, numbers) {
-            Some(header) => Some(drive::<K, W>(alloc, header, rest, writer)),
-            None => Others::run(alloc, name, numbers, rest, writer),
+            Some(header) => drive::<K>(alloc, header, rest),
+            None => Others::run(alloc, name, numbers, rest),
         }
     }
 }

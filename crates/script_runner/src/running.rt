@@ -1,17 +1,19 @@
 //! From the bytes of a script to the bytes that it is answered.
-ghost use Rattle.std.specs.Prelude.{◌≡◌, ◌⊎◌, ℕ, List, true};
+ghost use Rattle.std.specs.Prelude.{◌≡◌, ◌⊎◌, ℕ, List, IfErr, true};
+ghost use Rattle.std.specs.List.{flat_map};
 ghost use Rattle.std.specs.Io.KnownBytes.{Keeps, Appends};
 ghost use Rattle.script_runner.specs.Status.{IsCutShort};
-ghost use Rattle.script_runner.specs.Inputs.{IsAnswered, IsUnreadable, BeginsOutput, IsLeft, Ends, kinds};
+ghost use Rattle.script_runner.specs.Inputs.{IsAnswered, IsUnreadable, BeginsOutput, IsLeft, IsOutcome, Ends, kinds};
+ghost use Rattle.script_runner.specs.declared.status.Status.TheVariants.{OutputFailed};
 ghost use Rattle.script_runner.specs.engine.Lines.{lines_of};
 ghost use Rattle.script_runner.specs.engine.Rules.{are_apart};
-ghost use Rattle.script_runner.specs.engine.Transcript.{unreadable_text};
+ghost use Rattle.script_runner.specs.engine.Transcript.{Sends, unreadable_text};
 
-use crate::engine::driving::tell_unreadable;
+use crate::engine::driving::Outcome;
 use crate::engine::script::first_line;
 use crate::kinds::{AllKinds, Kinds};
 use crate::status::Status;
-use crate::words::words;
+use crate::words::{Numbers, words, write_words};
 use std::alloc::Global;
 use std::io::{ErrorKind, Read, Write};
 
@@ -34,32 +36,88 @@ pub fn run<R: Read + Drop, W: Write>(alloc: Global, mut reader: R, writer: &mut 
 {
     let mut input = Vec::new(alloc);
     match reader.read_to_end(&mut input) {
-        Ok(_) => run_kinds(alloc, &input, writer),
+        Ok(_) => answer(alloc, &input, writer),
         Err(e) if e.kind() == ErrorKind::OutOfMemory => Status::OutOfMemory,
         Err(_) => Status::InputFailed,
     }
 }
 
-/// Checks every line of an input, and then runs it, by the table of all kinds.
-fn run_kinds<W: Write>(alloc: Global, input: &[u8], writer: &mut W) -> Status
-    ensures { Ends kinds (lines_of input.now) (W.contents writer.old) (W.contents writer.new) result }
+/// Checks every line of an input, runs it, and then writes its texts.
+fn answer<W: Write>(alloc: Global, input: &[u8], writer: &mut W) -> Status
+    ensures { Ends input.now (W.contents writer.old) (W.contents writer.new) result }
 {
-    run_input::<AllKinds, W>(alloc, input, writer)
+    match outcome_of(alloc, input) {
+        Outcome::Answered(texts) => match send_all(&texts, writer) {
+            Ok(()) => Status::Done,
+            Err(status) => status,
+        },
+        Outcome::Unreadable(number) => {
+            let mut line = Vec::new(alloc);
+            let numbers = Numbers::One(number);
+            let Ok(()) = write_words(b"line", numbers, b": refused\n", &mut line) else {
+                return Status::OutOfMemory;
+            };
+            match send_all(&[line], writer) {
+                Ok(()) => Status::Unreadable,
+                Err(status) => status,
+            }
+        }
+        Outcome::OutOfMemory => Status::OutOfMemory,
+    }
+}
+
+/// Checks every line of an input, and then runs it, by the table of all kinds.
+fn outcome_of(alloc: Global, input: &[u8]) -> Outcome
+    ensures { IsOutcome kinds (lines_of input.now) result }
+{
+    outcome_by::<AllKinds>(alloc, input)
 }
 
 /// Checks every line of an input, and then runs it, by a table of kinds.
-fn run_input<K: Kinds, W: Write>(alloc: Global, input: &[u8], writer: &mut W) -> Status
+fn outcome_by<K: Kinds>(alloc: Global, input: &[u8]) -> Outcome
     requires { are_apart K.table ≡ true }
-    ensures { Ends K.table (lines_of input.now) (W.contents writer.old) (W.contents writer.new) result }
+    ensures { IsOutcome K.table (lines_of input.now) result }
 {
     let Some((first, rest)) = first_line(input) else {
-        return tell_unreadable(alloc, 1, writer);
+        return Outcome::Unreadable(1);
     };
-    let Some((name, numbers)) = words(first) else {
-        return tell_unreadable(alloc, 1, writer);
-    };
-    match K::run(alloc, name, numbers, rest, writer) {
-        Some(status) => status,
-        None => tell_unreadable(alloc, 1, writer),
+    match words(first) {
+        Some((name, numbers)) => K::run(alloc, name, numbers, rest),
+        None => Outcome::Unreadable(1),
     }
+}
+
+/// Writes texts one after another and flushes, or where that fails a beginning of them.
+fn send_all<W: Write>(texts: &[Vec<u8>], writer: &mut W) -> Result<(), Status>
+    ensures sent { Sends (W.contents writer.old) (W.contents writer.new)
+        (flat_map (λ text. text.items) texts.now) result }
+    ensures failed { IfErr result (λ status. status ≡ OutputFailed) }
+{
+    for text in texts {
+        send(text, writer)?;
+    }
+    match writer.flush() {
+        Ok(()) => Ok(()),
+        Err(_) => Err(Status::OutputFailed),
+    }
+}
+
+/// Writes bytes, or where that fails a beginning of them.
+fn send<W: Write>(bytes: &[u8], writer: &mut W) -> Result<(), Status>
+    ensures sent { Sends (W.contents writer.old) (W.contents writer.new) bytes.now result }
+    ensures failed { IfErr result (λ status. status ≡ OutputFailed) }
+{
+    let mut left = bytes;
+    for _ in 0..u64::MAX {
+        if left.is_empty() {
+            return Ok(());
+        }
+        match writer.write(left) {
+            Ok(0) => return Err(Status::OutputFailed),
+            Ok(count) => left = &left[count..],
+            Err(e) if e.kind() == ErrorKind::Interrupted => {}
+            Err(_) => return Err(Status::OutputFailed),
+        }
+    }
+    Err(Status::OutputFailed)
 }

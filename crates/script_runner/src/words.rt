@@ -1,16 +1,17 @@
 //! The words of a line: a name, and numbers in decimal, with a space between each two.
 ghost use Rattle.std.specs.Prelude.{◌≡◌, ◌≢◌, ◌↔◌, ◌^◌, ◌<◌, ◌++◌, ◌∷◌, [], ℕ, All, IsTrue, Some};
-ghost use Rattle.std.specs.Prelude.{IfNone, IfSome, OnOk, length, slice_index};
+ghost use Rattle.std.specs.Prelude.{IfNone, IfOk, IfSome, OnOk, codes, length, slice_index};
 ghost use Rattle.std.specs.Fmt.{decimal};
 ghost use Rattle.std.specs.Option.{SomeIff};
 ghost use Rattle.std.specs.Str.Parse.{AllDigits, digits_value};
 ghost use Rattle.bb_memory_base.specs.Chunk.{IsRegion};
 ghost use Rattle.bb_memory_base.specs.declared.layout.Layout.{Layout};
-ghost use Rattle.script_runner.specs.Words.{Words, words, list_of, AreWords, StartsWith, numbers_text, IsParty};
+ghost use Rattle.script_runner.specs.Words.{Words, words, words_then, text_bytes, list_of, AreWords, StartsWith, IsParty};
 ghost use Rattle.script_runner.specs.Words.{region_of, bounds_numbers};
 
 use bb_memory_core::layout::Layout;
 use bb_memory_core::region::Region;
+use std::alloc::{AllocError, Global};
 use std::io;
 use std::io::Write;
 
@@ -41,6 +42,21 @@ impl Numbers {
             Numbers::Three(a, b, c) => Some(Numbers::Four(a, b, c, last)),
             Numbers::Four(a, b, c, d) => Some(Numbers::Five(a, b, c, d, last)),
             Numbers::Five(..) => None,
+        }
+    }
+
+    /// Takes off the first number, where there is one.
+    fn split_first(self) -> Option<(usize, Numbers)>
+        ensures more { IfSome result (λ (first, rest). list_of self ≡ first ∷ list_of rest) }
+        ensures none { IfNone result (list_of self ≡ []) }
+    {
+        match self {
+            Numbers::Zero => None,
+            Numbers::One(a) => Some((a, Numbers::Zero)),
+            Numbers::Two(a, b) => Some((a, Numbers::One(b))),
+            Numbers::Three(a, b, c) => Some((a, Numbers::Two(b, c))),
+            Numbers::Four(a, b, c, d) => Some((a, Numbers::Three(b, c, d))),
+            Numbers::Five(a, b, c, d, e) => Some((a, Numbers::Four(b, c, d, e))),
         }
     }
 }
@@ -111,14 +127,58 @@ fn value(digits: &[u8]) -> Option<usize>
     Some(value)
 }
 
+/// A text to write: a name and numbers, and then an end.
+#[derive(Clone, Copy)]
+pub struct Text {
+    pub name: &'static [u8],
+    pub numbers: Numbers,
+    pub end: &'static [u8],
+}
+
+/// Returns a text of a name and a line feed.
+pub fn name_line(name: &'static [u8]) -> Text
+    ensures { text_bytes result ≡ words_then name.now Numbers.Zero (codes "\n") }
+{
+    Text {
+        name,
+        numbers: Numbers::Zero,
+        end: b"\n",
+    }
+}
+
+/// Returns a text of a name and a number, and then an end.
+pub fn number_text(name: &'static [u8], number: usize, end: &'static [u8]) -> Text
+    ensures { text_bytes result ≡ words_then name.now (Numbers.One number) end.now }
+{
+    Text {
+        name,
+        numbers: Numbers::One(number),
+        end,
+    }
+}
+
+impl Text {
+    /// Returns the bytes of the text.
+    pub fn written(self, alloc: Global) -> Result<Vec<u8>, AllocError>
+        ensures { IfOk result (λ line. line.items ≡ text_bytes self) }
+    {
+        let mut line = Vec::new(alloc);
+        match write_words(self.name, self.numbers, self.end, &mut line) {
+            Ok(()) => Ok(line),
+            Err(_) => Err(AllocError),
+        }
+    }
+}
+
 /// Writes a name and numbers, and then a text.
-pub fn write_words(name: &[u8], numbers: &[usize], end: &[u8], line: &mut Vec<u8>) -> io::Result<()>
-    ensures { OnOk result (line.new.items
-        ≡ line.old.items ++ ((name.now ++ numbers_text numbers.now) ++ end.now)) }
+pub fn write_words(name: &[u8], numbers: Numbers, end: &[u8], line: &mut Vec<u8>) -> io::Result<()>
+    ensures { OnOk result (line.new.items ≡ line.old.items ++ words_then name.now numbers end.now) }
 {
     line.write_all(name)?;
-    for number in numbers {
+    let mut left = numbers;
+    while let Some((number, rest)) = left.split_first() {
         write!(line, " {number}")?;
+        left = rest;
     }
     line.write_all(end)
 }

@@ -13,7 +13,7 @@ use Rattle.bb_memory_base.specs.declared.allocator.Reply.{Reply}
 use Rattle.bb_memory_base.specs.declared.allocator.Reply.TheVariants as reply
 use Rattle.script_runner.specs.Words.{Words, words, words_then}
 use Rattle.script_runner.specs.declared.words.Numbers.{Numbers}
-use Rattle.script_runner.specs.declared.words.Numbers.TheVariants.{One, Two, Five}
+use Rattle.script_runner.specs.declared.words.Numbers.TheVariants.{Zero, One, Two, Five}
 use Rattle.script_runner.specs.engine.Rules.{Rules}
 
 -- the words that write a command
@@ -24,30 +24,34 @@ command_words (Grow position old new) = words (codes "grow") (Five position old.
 command_words (Shrink position old new) = words (codes "shrink") (Five position old.size old.align new.size new.align)
 
 -- a refusal is written by its name
-abbrev pub refusal_line : AllocationError → List ℕ
-refusal_line refused.SizeIsZero = codes "SizeIsZero\n"
-refusal_line refused.SizeTooLarge = codes "SizeTooLarge\n"
-refusal_line refused.AlignmentFailure = codes "AlignmentFailure\n"
-refusal_line refused.OutOfMemory = codes "OutOfMemory\n"
+abbrev pub refusal_name : AllocationError → List ℕ
+refusal_name refused.SizeIsZero = codes "SizeIsZero"
+refusal_name refused.SizeTooLarge = codes "SizeTooLarge"
+refusal_name refused.AlignmentFailure = codes "AlignmentFailure"
+refusal_name refused.OutOfMemory = codes "OutOfMemory"
 
-abbrev pub grow_refusal_line : AllocationGrowError → List ℕ
-grow_refusal_line grow.GrowWouldShrink = codes "GrowWouldShrink\n"
-grow_refusal_line grow.AlignmentFailure = codes "AlignmentFailure\n"
-grow_refusal_line grow.OutOfMemory = codes "OutOfMemory\n"
+abbrev pub grow_refusal_name : AllocationGrowError → List ℕ
+grow_refusal_name grow.GrowWouldShrink = codes "GrowWouldShrink"
+grow_refusal_name grow.AlignmentFailure = codes "AlignmentFailure"
+grow_refusal_name grow.OutOfMemory = codes "OutOfMemory"
 
-abbrev pub shrink_refusal_line : AllocationShrinkError → List ℕ
-shrink_refusal_line shrink.ShrinkWouldGrow = codes "ShrinkWouldGrow\n"
-shrink_refusal_line shrink.AlignmentFailure = codes "AlignmentFailure\n"
-shrink_refusal_line shrink.SizeIsZero = codes "SizeIsZero\n"
+abbrev pub shrink_refusal_name : AllocationShrinkError → List ℕ
+shrink_refusal_name shrink.ShrinkWouldGrow = codes "ShrinkWouldGrow"
+shrink_refusal_name shrink.AlignmentFailure = codes "AlignmentFailure"
+shrink_refusal_name shrink.SizeIsZero = codes "SizeIsZero"
+
+-- a line of one name
+abbrev pub name_line : List ℕ → List ℕ
+name_line name = words_then name Zero (codes "\n")
 
 -- the line of a reply
 abbrev pub reply_line : Reply → List ℕ
 reply_line (reply.Chunk chunk) = words_then (codes "chunk") (Two chunk.place chunk.len) (codes "\n")
-reply_line reply.Released = codes "released\n"
-reply_line reply.Passed = codes "passed\n"
-reply_line (reply.Refused error) = refusal_line error
-reply_line (reply.GrowRefused error) = grow_refusal_line error
-reply_line (reply.ShrinkRefused error) = shrink_refusal_line error
+reply_line reply.Released = name_line (codes "released")
+reply_line reply.Passed = name_line (codes "passed")
+reply_line (reply.Refused error) = name_line (refusal_name error)
+reply_line (reply.GrowRefused error) = name_line (grow_refusal_name error)
+reply_line (reply.ShrinkRefused error) = name_line (shrink_refusal_name error)
 
 -- an allocator that a script drives, and the chunks that it has out
 pub record LiveState (A : Type 0) : Type 0 where

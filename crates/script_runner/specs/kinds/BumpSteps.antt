@@ -6,6 +6,7 @@ use Rattle.bb_memory_base.specs.declared.steps.bump.BumpOutcome.{BumpOutcome}
 use Rattle.bb_memory_base.specs.declared.steps.bump.BumpOutcome.TheVariants as outcome
 use Rattle.bb_memory_base.specs.declared.steps.bump.BumpStep.{BumpStep}
 use Rattle.bb_memory_base.specs.declared.steps.bump.BumpStep.TheVariants.{Read, Exchange, Load, Clear}
+use Rattle.script_runner.specs.kinds.Allocators.{name_line}
 use Rattle.script_runner.specs.Words.{Words, words, words_then, IsParty, region_of, bounds_numbers}
 use Rattle.script_runner.specs.declared.words.Bounds.{Bounds}
 use Rattle.script_runner.specs.declared.words.Numbers.TheVariants.{Zero, One, Two, Three}
@@ -33,8 +34,8 @@ outcome_line (outcome.Wins chunk) = words_then (codes "wins") (Two chunk.place c
 outcome_line (outcome.Loses position) = words_then (codes "loses") (One position) (codes "\n")
 outcome_line (outcome.RefusedAtLoss position) = words_then (codes "loses") (One position) (codes " refused OutOfMemory\n")
 outcome_line (outcome.Loaded position) = words_then (codes "used") (One position) (codes "\n")
-outcome_line outcome.Cleared = codes "cleared\n"
-outcome_line outcome.Passed = codes "passed\n"
+outcome_line outcome.Cleared = name_line (codes "cleared")
+outcome_line outcome.Passed = name_line (codes "passed")
 
 -- the outcomes are those of the steps, and the world is the one that they leave
 abbrev pub StepsRun : BumpWorld → List BumpStep → List BumpOutcome → BumpWorld → Type 0

@@ -16,7 +16,7 @@ use Rattle.script_runner.specs.Words.{Words, words, words_then}
 use Rattle.script_runner.specs.declared.words.Numbers.TheVariants.{One, Two, Three}
 use Rattle.script_runner.specs.declared.kinds.pool.PoolPlan.{PoolPlan}
 use Rattle.script_runner.specs.kinds.Pool.{IsPoolPlan, pool_numbers, BeginsPool}
-use Rattle.script_runner.specs.kinds.Allocators.{refusal_line}
+use Rattle.script_runner.specs.kinds.Allocators.{refusal_name, name_line}
 use Rattle.script_runner.specs.engine.Rules.{Rules}
 
 -- a number that counts readers has at most 32 bits
@@ -32,24 +32,24 @@ call_words (GiveBack id) = words (codes "back") (One id)
 call_words (IsOut id) = words (codes "out") (One id)
 
 -- a refusal is written by its name, and the pool's by the name that the pool gave it
-abbrev pub loan_refusal_line : LoanError → List ℕ
-loan_refusal_line refused.Size = codes "Size\n"
-loan_refusal_line refused.IdsExhausted = codes "IdsExhausted\n"
-loan_refusal_line refused.Memory = codes "Memory\n"
-loan_refusal_line (refused.Allocation error) = refusal_line error
-loan_refusal_line refused.UnknownSample = codes "UnknownSample\n"
-loan_refusal_line refused.AlreadyPublished = codes "AlreadyPublished\n"
-loan_refusal_line refused.NoReaders = codes "NoReaders\n"
+abbrev pub loan_refusal_name : LoanError → List ℕ
+loan_refusal_name refused.Size = codes "Size"
+loan_refusal_name refused.IdsExhausted = codes "IdsExhausted"
+loan_refusal_name refused.Memory = codes "Memory"
+loan_refusal_name (refused.Allocation error) = refusal_name error
+loan_refusal_name refused.UnknownSample = codes "UnknownSample"
+loan_refusal_name refused.AlreadyPublished = codes "AlreadyPublished"
+loan_refusal_name refused.NoReaders = codes "NoReaders"
 
 -- the line of a reply
 abbrev pub loan_reply_line : LoanReply → List ℕ
 loan_reply_line (reply.Loaned id chunk) = words_then (codes "loan") (Three id chunk.place chunk.len) (codes "\n")
-loan_reply_line reply.Published = codes "published\n"
-loan_reply_line reply.Returned = codes "returned\n"
-loan_reply_line reply.Kept = codes "kept\n"
-loan_reply_line (reply.Out true) = codes "yes\n"
-loan_reply_line (reply.Out false) = codes "no\n"
-loan_reply_line (reply.Refused error) = loan_refusal_line error
+loan_reply_line reply.Published = name_line (codes "published")
+loan_reply_line reply.Returned = name_line (codes "returned")
+loan_reply_line reply.Kept = name_line (codes "kept")
+loan_reply_line (reply.Out true) = name_line (codes "yes")
+loan_reply_line (reply.Out false) = name_line (codes "no")
+loan_reply_line (reply.Refused error) = name_line (loan_refusal_name error)
 
 -- the replies are a run of a book over the pool object of the pool's geometry, none is that a record found no memory, and
 -- the pool stands for exactly the chunks of the samples that are out

@@ -9,6 +9,7 @@ use Rattle.bb_memory_base.specs.declared.steps.pool.PoolOutcome.TheVariants as o
 use Rattle.bb_memory_base.specs.declared.steps.pool.PoolStep.{PoolStep}
 use Rattle.bb_memory_base.specs.declared.steps.pool.PoolStep.TheVariants.{Try, GiveBack}
 use Rattle.script_runner.specs.engine.Rules.{Rules}
+use Rattle.script_runner.specs.kinds.Allocators.{name_line}
 use Rattle.script_runner.specs.Words.{Words, words, words_text, words_then, IsParty}
 use Rattle.script_runner.specs.declared.words.Numbers.TheVariants.{Zero, One, Two}
 
@@ -40,7 +41,7 @@ outcome_line (outcome.Takes bucket) = words_then (codes "takes") (One bucket) (c
 outcome_line (outcome.Loses bucket) = words_then (codes "loses") (One bucket) (codes "\n")
 outcome_line (outcome.RefusedAtLoss bucket) = words_then (codes "loses") (One bucket) (codes " refused OutOfMemory\n")
 outcome_line (outcome.Gives bucket) = words_then (codes "gives") (One bucket) (codes "\n")
-outcome_line outcome.Passed = codes "passed\n"
+outcome_line outcome.Passed = name_line (codes "passed")
 outcome_line (outcome.Misses bucket) = words_then (codes "misses") (One bucket) (codes "\n")
 outcome_line (outcome.Detaches bucket) = words_then (codes "detaches") (One bucket) (codes "\n")
 outcome_line (outcome.Attaches bucket) = words_then (codes "attaches") (One bucket) (codes "\n")

@@ -1,17 +1,17 @@
 //! Allocators that a script drives: what all of them share.
-ghost use Rattle.std.specs.Prelude.{◌≡◌, ◌++◌, OnOk, codes};
-ghost use Rattle.script_runner.specs.Words.{words_then};
-ghost use Rattle.script_runner.specs.kinds.Allocators.{refusal_line, grow_refusal_line, shrink_refusal_line};
+ghost use Rattle.std.specs.Prelude.{◌≡◌, IfSome, Some, codes};
+ghost use Rattle.bb_memory_base.specs.declared.allocator.Command.{Command};
+ghost use Rattle.script_runner.specs.Words.{words_then, text_bytes};
+ghost use Rattle.script_runner.specs.kinds.Allocators.{command_words, refusal_name, grow_refusal_name, shrink_refusal_name};
 
 use crate::engine::driving::Driven;
-use crate::words::{Numbers, is, layout, write_words};
+use crate::words::{Numbers, Text, is, layout, name_line};
 use bb_memory_core::allocator::{
     AllocationError, AllocationGrowError, AllocationShrinkError, Command, Reply,
 };
 use bb_memory_core::layout::Chunk;
 use std::alloc::{AllocError, Global};
 use std::io;
-use std::io::Write;
 use std::marker::Model;
 
 /// An allocator that a script drives: how it is made by a header, run, and shown.
@@ -102,38 +102,21 @@ impl<A: Scripted> Driven for Live<A> {
     }
 
     fn read(name: &[u8], numbers: Numbers) -> Option<Command> {
-        match numbers {
-            Numbers::One(position) if is(name, b"free") => { Some(Command::Release(position)) }
-            Numbers::Two(size, align) if is(name, b"alloc") => {
-                Some(Command::Allocate(layout(size, align)?))
-            }
-            Numbers::Five(position, old_size, old_align, size, align) => {
-                let old = layout(old_size, old_align)?;
-                let new = layout(size, align)?;
-                if is(name, b"grow") {
-                    Some(Command::Grow(position, old, new))
-                } else if is(name, b"shrink") {
-                    Some(Command::Shrink(position, old, new))
-                } else {
-                    None
-                }
-            }
-            _ => None,
-        }
+        command(name, numbers)
     }
 
     fn run(&mut self, _alloc: Global, commands: &[Command]) -> Result<Vec<Reply>, AllocError> {
         self.allocator.run(&mut self.live, commands)
     }
 
-    fn write_reply(reply: &Reply, line: &mut Vec<u8>) -> io::Result<()> {
+    fn reply_text(reply: &Reply) -> Text {
         match reply {
-            Reply::Chunk(chunk) => write_chunk(b"chunk", chunk, line),
-            Reply::Released => line.write_all(b"released\n"),
-            Reply::Passed => line.write_all(b"passed\n"),
-            Reply::Refused(error) => line.write_all(refusal(error)),
-            Reply::GrowRefused(error) => line.write_all(grow_refusal(error)),
-            Reply::ShrinkRefused(error) => line.write_all(shrink_refusal(error)),
+            Reply::Chunk(chunk) => chunk_text(b"chunk", *chunk),
+            Reply::Released => name_line(b"released"),
+            Reply::Passed => name_line(b"passed"),
+            Reply::Refused(error) => name_line(refusal(*error)),
+            Reply::GrowRefused(error) => name_line(grow_refusal(*error)),
+            Reply::ShrinkRefused(error) => name_line(shrink_refusal(*error)),
         }
     }
 
@@ -142,42 +125,69 @@ impl<A: Scripted> Driven for Live<A> {
     }
 }
 
-/// Writes `NAME PLACE LEN` and a line feed.
-pub fn write_chunk(name: &[u8], chunk: &Chunk, line: &mut Vec<u8>) -> io::Result<()>
-    ensures { OnOk result (line.new.items ≡ line.old.items
-        ++ words_then name.now (Numbers.Two chunk.now.place chunk.now.len) (codes "\n")) }
+/// Reads the words of a command.
+fn command(name: &[u8], numbers: Numbers) -> Option<Command>
+    ensures written { IfSome result (λ command. (name.now ≡ (command_words command).name)
+        × (numbers ≡ (command_words command).numbers)) }
+    ensures each { (command : Command) → name.now ≡ (command_words command).name
+        → numbers ≡ (command_words command).numbers → result ≡ Some command }
 {
-    write_words(name, &[chunk.place(), chunk.len()], b"\n", line)
-}
-
-/// Returns the line of a refused request.
-pub fn refusal(error: &AllocationError) -> &'static [u8]
-    ensures { result.now ≡ refusal_line error.now }
-{
-    match error {
-        AllocationError::SizeIsZero => b"SizeIsZero\n",
-        AllocationError::SizeTooLarge => b"SizeTooLarge\n",
-        AllocationError::AlignmentFailure => b"AlignmentFailure\n",
-        AllocationError::OutOfMemory => b"OutOfMemory\n",
+    match numbers {
+        Numbers::One(position) if is(name, b"free") => Some(Command::Release(position)),
+        Numbers::Two(size, align) if is(name, b"alloc") => match layout(size, align) {
+            Some(layout) => Some(Command::Allocate(layout)),
+            None => None,
+        },
+        Numbers::Five(position, old_size, old_align, size, align) => {
+            match (layout(old_size, old_align), layout(size, align)) {
+                (Some(old), Some(new)) if is(name, b"grow") => Some(Command::Grow(position, old, new)),
+                (Some(old), Some(new)) if is(name, b"shrink") => Some(Command::Shrink(position, old, new)),
+                _ => None,
+            }
+        }
+        _ => None,
     }
 }
 
-fn grow_refusal(error: &AllocationGrowError) -> &'static [u8]
-    ensures { result.now ≡ grow_refusal_line error.now }
+/// Returns `NAME PLACE LEN` and a line feed.
+pub fn chunk_text(name: &'static [u8], chunk: Chunk) -> Text
+    ensures { text_bytes result ≡ words_then name.now (Numbers.Two chunk.place chunk.len) (codes "\n") }
 {
-    match error {
-        AllocationGrowError::GrowWouldShrink => b"GrowWouldShrink\n",
-        AllocationGrowError::AlignmentFailure => b"AlignmentFailure\n",
-        AllocationGrowError::OutOfMemory => b"OutOfMemory\n",
+    Text {
+        name,
+        numbers: Numbers::Two(chunk.place(), chunk.len()),
+        end: b"\n",
     }
 }
 
-fn shrink_refusal(error: &AllocationShrinkError) -> &'static [u8]
-    ensures { result.now ≡ shrink_refusal_line error.now }
+/// Returns the name of a refused request.
+pub fn refusal(error: AllocationError) -> &'static [u8]
+    ensures { result.now ≡ refusal_name error }
 {
     match error {
-        AllocationShrinkError::ShrinkWouldGrow => b"ShrinkWouldGrow\n",
-        AllocationShrinkError::AlignmentFailure => b"AlignmentFailure\n",
-        AllocationShrinkError::SizeIsZero => b"SizeIsZero\n",
+        AllocationError::SizeIsZero => b"SizeIsZero",
+        AllocationError::SizeTooLarge => b"SizeTooLarge",
+        AllocationError::AlignmentFailure => b"AlignmentFailure",
+        AllocationError::OutOfMemory => b"OutOfMemory",
+    }
+}
+
+fn grow_refusal(error: AllocationGrowError) -> &'static [u8]
+    ensures { result.now ≡ grow_refusal_name error }
+{
+    match error {
+        AllocationGrowError::GrowWouldShrink => b"GrowWouldShrink",
+        AllocationGrowError::AlignmentFailure => b"AlignmentFailure",
+        AllocationGrowError::OutOfMemory => b"OutOfMemory",
+    }
+}
+
+fn shrink_refusal(error: AllocationShrinkError) -> &'static [u8]
+    ensures { result.now ≡ shrink_refusal_name error }
+{
+    match error {
+        AllocationShrinkError::ShrinkWouldGrow => b"ShrinkWouldGrow",
+        AllocationShrinkError::AlignmentFailure => b"AlignmentFailure",
+        AllocationShrinkError::SizeIsZero => b"SizeIsZero",
     }
 }

@@ -1,12 +1,11 @@
 //! A bump world that a script drives by its steps.
 
 use crate::engine::driving::Driven;
-use crate::kinds::allocators::write_chunk;
-use crate::words::{Bounds, Numbers, PARTIES, is, layout, party_of, region, write_words};
+use crate::kinds::allocators::chunk_text;
+use crate::words::{Bounds, Numbers, PARTIES, Text, is, layout, name_line, number_text, party_of, region, write_words};
 use bb_memory_core::steps::{BumpOutcome, BumpStep, BumpWorld};
 use std::alloc::{AllocError, Global};
 use std::io;
-use std::io::Write;
 
 impl Driven for BumpWorld {
     ghost use Rattle.std.specs.Prelude.{true};
@@ -38,20 +37,16 @@ impl Driven for BumpWorld {
     fn read(name: &[u8], numbers: Numbers) -> Option<BumpStep> {
         match numbers {
             Numbers::Zero if is(name, b"clear") => Some(BumpStep::Clear),
-            Numbers::One(party) => {
-                let party = party_of(party)?;
-                if is(name, b"exchange") {
-                    Some(BumpStep::Exchange { party })
-                } else if is(name, b"load") {
-                    Some(BumpStep::Load { party })
-                } else {
-                    None
-                }
-            }
+            Numbers::One(party) => match party_of(party) {
+                Some(party) if is(name, b"exchange") => Some(BumpStep::Exchange { party }),
+                Some(party) if is(name, b"load") => Some(BumpStep::Load { party }),
+                _ => None,
+            },
             Numbers::Three(party, size, align) if is(name, b"read") => {
-                let party = party_of(party)?;
-                let layout = layout(size, align)?;
-                Some(BumpStep::Read { party, layout })
+                match (party_of(party), layout(size, align)) {
+                    (Some(party), Some(layout)) => Some(BumpStep::Read { party, layout }),
+                    _ => None,
+                }
             }
             _ => None,
         }
@@ -61,24 +56,20 @@ impl Driven for BumpWorld {
         self.replay(steps)
     }
 
-    fn write_reply(outcome: &BumpOutcome, line: &mut Vec<u8>) -> io::Result<()> {
+    fn reply_text(outcome: &BumpOutcome) -> Text {
         match outcome {
-            BumpOutcome::Sees(used) => write_words(b"sees", &[*used], b"\n", line),
-            BumpOutcome::RefusedAtRead(used) => {
-                write_words(b"sees", &[*used], b" refused OutOfMemory\n", line)
-            }
-            BumpOutcome::Wins(chunk) => write_chunk(b"wins", chunk, line),
-            BumpOutcome::Loses(used) => write_words(b"loses", &[*used], b"\n", line),
-            BumpOutcome::RefusedAtLoss(used) => {
-                write_words(b"loses", &[*used], b" refused OutOfMemory\n", line)
-            }
-            BumpOutcome::Loaded(used) => write_words(b"used", &[*used], b"\n", line),
-            BumpOutcome::Cleared => line.write_all(b"cleared\n"),
-            BumpOutcome::Passed => line.write_all(b"passed\n"),
+            BumpOutcome::Sees(used) => number_text(b"sees", *used, b"\n"),
+            BumpOutcome::RefusedAtRead(used) => number_text(b"sees", *used, b" refused OutOfMemory\n"),
+            BumpOutcome::Wins(chunk) => chunk_text(b"wins", *chunk),
+            BumpOutcome::Loses(used) => number_text(b"loses", *used, b"\n"),
+            BumpOutcome::RefusedAtLoss(used) => number_text(b"loses", *used, b" refused OutOfMemory\n"),
+            BumpOutcome::Loaded(used) => number_text(b"used", *used, b"\n"),
+            BumpOutcome::Cleared => name_line(b"cleared"),
+            BumpOutcome::Passed => name_line(b"passed"),
         }
     }
 
     fn write_state(&self, line: &mut Vec<u8>) -> io::Result<()> {
-        write_words(b"used", &[self.used_space()], b"\n", line)
+        write_words(b"used", Numbers::One(self.used_space()), b"\n", line)
     }
 }

@@ -1,16 +1,15 @@
 //! A loan book over a pool that a script drives.
 ghost use Rattle.std.specs.Prelude.{◌≡◌};
-ghost use Rattle.script_runner.specs.kinds.LoanPool.{loan_refusal_line};
+ghost use Rattle.script_runner.specs.kinds.LoanPool.{loan_refusal_name};
 
 use crate::engine::driving::Driven;
 use crate::kinds::allocators::refusal;
 use crate::kinds::pool::{PoolPlan, pool_of, pool_plan};
-use crate::words::{Numbers, is, small, write_words};
+use crate::words::{Numbers, Text, is, name_line, small};
 use bb_memory_core::pool_allocator::PoolAllocator;
 use loan_book::{LoanBook, LoanCall, LoanError, LoanReply, run_loans};
 use std::alloc::{AllocError, Global};
 use std::io;
-use std::io::Write;
 
 /// A loan book over a pool.
 pub type LoanPool = LoanBook<PoolAllocator<Global>>;
@@ -58,7 +57,10 @@ impl Driven for LoanPool {
                 }
             }
             Numbers::Two(id, readers) if is(name, b"publish") => {
-                Some(LoanCall::Publish(id as u64, small(readers)?))
+                match small(readers) {
+                    Some(readers) => Some(LoanCall::Publish(id as u64, readers)),
+                    None => None,
+                }
             }
             _ => None,
         }
@@ -72,18 +74,19 @@ impl Driven for LoanPool {
         Ok(replies)
     }
 
-    fn write_reply(reply: &LoanReply, line: &mut Vec<u8>) -> io::Result<()> {
+    fn reply_text(reply: &LoanReply) -> Text {
         match reply {
-            LoanReply::Loaned(id, chunk) => {
-                let numbers = [*id as usize, chunk.place(), chunk.len()];
-                write_words(b"loan", &numbers, b"\n", line)
-            }
-            LoanReply::Published => line.write_all(b"published\n"),
-            LoanReply::Returned => line.write_all(b"returned\n"),
-            LoanReply::Kept => line.write_all(b"kept\n"),
-            LoanReply::Out(true) => line.write_all(b"yes\n"),
-            LoanReply::Out(false) => line.write_all(b"no\n"),
-            LoanReply::Refused(error) => line.write_all(loan_refusal(error)),
+            LoanReply::Loaned(id, chunk) => Text {
+                name: b"loan",
+                numbers: Numbers::Three(*id as usize, chunk.place(), chunk.len()),
+                end: b"\n",
+            },
+            LoanReply::Published => name_line(b"published"),
+            LoanReply::Returned => name_line(b"returned"),
+            LoanReply::Kept => name_line(b"kept"),
+            LoanReply::Out(true) => name_line(b"yes"),
+            LoanReply::Out(false) => name_line(b"no"),
+            LoanReply::Refused(error) => name_line(loan_refusal(*error)),
         }
     }
 
@@ -92,16 +95,16 @@ impl Driven for LoanPool {
     }
 }
 
-fn loan_refusal(error: &LoanError) -> &'static [u8]
-    ensures { result.now ≡ loan_refusal_line error.now }
+fn loan_refusal(error: LoanError) -> &'static [u8]
+    ensures { result.now ≡ loan_refusal_name error }
 {
     match error {
-        LoanError::Size => b"Size\n",
-        LoanError::IdsExhausted => b"IdsExhausted\n",
-        LoanError::Memory => b"Memory\n",
+        LoanError::Size => b"Size",
+        LoanError::IdsExhausted => b"IdsExhausted",
+        LoanError::Memory => b"Memory",
         LoanError::Allocation(error) => refusal(error),
-        LoanError::UnknownSample => b"UnknownSample\n",
-        LoanError::AlreadyPublished => b"AlreadyPublished\n",
-        LoanError::NoReaders => b"NoReaders\n",
+        LoanError::UnknownSample => b"UnknownSample",
+        LoanError::AlreadyPublished => b"AlreadyPublished",
+        LoanError::NoReaders => b"NoReaders",
     }
 }

@@ -1,11 +1,10 @@
 //! A pool world that a script drives by its steps.
 ghost use Rattle.std.specs.Prelude.{◌≡◌, ◌++◌, OnOk};
 ghost use Rattle.std.specs.List.{flat_map};
-ghost use Rattle.script_runner.specs.Words.{words_then};
 ghost use Rattle.script_runner.specs.kinds.PoolSteps.{flag_text};
 
 use crate::engine::driving::Driven;
-use crate::words::{Numbers, PARTIES, is, party_of, small, write_words};
+use crate::words::{Numbers, PARTIES, Text, is, name_line, number_text, party_of, small, write_words};
 use bb_memory_core::steps::{PoolOutcome, PoolStep, PoolWorld};
 use std::alloc::{AllocError, Global};
 use std::io;
@@ -48,15 +47,14 @@ impl Driven for PoolWorld {
 
     fn read(name: &[u8], numbers: Numbers) -> Option<PoolStep> {
         match numbers {
-            Numbers::One(party) if is(name, b"try") => {
-                let party = party_of(party)?;
-                Some(PoolStep::Try { party })
-            }
-            Numbers::Two(party, bucket) if is(name, b"give") => {
-                let party = party_of(party)?;
-                let bucket = small(bucket)?;
-                Some(PoolStep::GiveBack { party, bucket })
-            }
+            Numbers::One(party) if is(name, b"try") => match party_of(party) {
+                Some(party) => Some(PoolStep::Try { party }),
+                None => None,
+            },
+            Numbers::Two(party, bucket) if is(name, b"give") => match (party_of(party), small(bucket)) {
+                (Some(party), Some(bucket)) => Some(PoolStep::GiveBack { party, bucket }),
+                _ => None,
+            },
             _ => None,
         }
     }
@@ -65,18 +63,18 @@ impl Driven for PoolWorld {
         self.replay(steps)
     }
 
-    fn write_reply(outcome: &PoolOutcome, line: &mut Vec<u8>) -> io::Result<()> {
+    fn reply_text(outcome: &PoolOutcome) -> Text {
         match outcome {
-            PoolOutcome::Takes(bucket) => write_bucket(b"takes", *bucket, b"\n", line),
-            PoolOutcome::Loses(bucket) => write_bucket(b"loses", *bucket, b"\n", line),
+            PoolOutcome::Takes(bucket) => number_text(b"takes", *bucket as usize, b"\n"),
+            PoolOutcome::Loses(bucket) => number_text(b"loses", *bucket as usize, b"\n"),
             PoolOutcome::RefusedAtLoss(bucket) => {
-                write_bucket(b"loses", *bucket, b" refused OutOfMemory\n", line)
+                number_text(b"loses", *bucket as usize, b" refused OutOfMemory\n")
             }
-            PoolOutcome::Gives(bucket) => write_bucket(b"gives", *bucket, b"\n", line),
-            PoolOutcome::Passed => line.write_all(b"passed\n"),
-            PoolOutcome::Misses(bucket) => write_bucket(b"misses", *bucket, b"\n", line),
-            PoolOutcome::Detaches(bucket) => write_bucket(b"detaches", *bucket, b"\n", line),
-            PoolOutcome::Attaches(bucket) => write_bucket(b"attaches", *bucket, b"\n", line),
+            PoolOutcome::Gives(bucket) => number_text(b"gives", *bucket as usize, b"\n"),
+            PoolOutcome::Passed => name_line(b"passed"),
+            PoolOutcome::Misses(bucket) => number_text(b"misses", *bucket as usize, b"\n"),
+            PoolOutcome::Detaches(bucket) => number_text(b"detaches", *bucket as usize, b"\n"),
+            PoolOutcome::Attaches(bucket) => number_text(b"attaches", *bucket as usize, b"\n"),
         }
     }
 
@@ -87,20 +85,13 @@ impl Driven for PoolWorld {
     }
 }
 
-fn write_bucket(name: &[u8], bucket: u32, end: &[u8], line: &mut Vec<u8>) -> io::Result<()>
-    ensures { OnOk result (line.new.items ≡ line.old.items
-        ++ words_then name.now (Numbers.One bucket) end.now) }
-{
-    write_words(name, &[bucket as usize], end, line)
-}
-
 /// Writes the holder of each bucket.
 fn write_holders(world: &PoolWorld, line: &mut Vec<u8>) -> io::Result<()>
     ensures { OnOk result (line.new.items ≡ line.old.items ++ flat_map flag_text world.now.flags) }
 {
     for bucket in 0..world.number_of_buckets() {
         match world.holder(bucket) {
-            Some(party) => write_words(b"", &[party as usize], b"", line)?,
+            Some(party) => write_words(b"", Numbers::One(party as usize), b"", line)?,
             None => line.write_all(b" -")?,
         }
     }

@@ -6,24 +6,24 @@ pub returns-in-Ok-clause-done : goal.returns-in-Ok-clause-done
 returns-in-Ok-clause-done g c e =
     let left : IsLeft c.read_to_end.new.buf.items (g.R.Read.remaining c.args.reader) =
     rw c.new-input.ensures.items at c.in-Ok.ensures.bytes in
-    let (text, answered, wrote) = (rw c.deref.ensures.value at c.run_kinds.ensures.done) e in
+    let (text, answered, wrote) = (rw c.deref.ensures.value at c.answer.ensures.done) e in
     (c.read_to_end.new.buf.items, text, left, answered, wrote)
 
 pub returns-in-Ok-clause-unreadable : goal.returns-in-Ok-clause-unreadable
 returns-in-Ok-clause-unreadable g c e =
     let left : IsLeft c.read_to_end.new.buf.items (g.R.Read.remaining c.args.reader) =
     rw c.new-input.ensures.items at c.in-Ok.ensures.bytes in
-    let (number, unreadable, wrote) = (rw c.deref.ensures.value at c.run_kinds.ensures.unreadable) e in
+    let (number, unreadable, wrote) = (rw c.deref.ensures.value at c.answer.ensures.unreadable) e in
     (c.read_to_end.new.buf.items, number, left, unreadable, wrote)
 
 pub returns-in-Ok-clause-cut_short : goal.returns-in-Ok-clause-cut_short
 returns-in-Ok-clause-cut_short g c short =
     let left : IsLeft c.read_to_end.new.buf.items (g.R.Read.remaining c.args.reader) =
     rw c.new-input.ensures.items at c.in-Ok.ensures.bytes in
-    elim ((rw c.deref.ensures.value at c.run_kinds.ensures.cut_short) short) [
+    elim ((rw c.deref.ensures.value at c.answer.ensures.cut_short) short) [
       | inl kept ↦ inl kept
       | inr (sent, begins, wrote) ↦ inr (c.read_to_end.new.buf.items, sent, left, begins, wrote)
     ]
 
 pub returns-in-Ok-clause-input_failed : goal.returns-in-Ok-clause-input_failed
-returns-in-Ok-clause-input_failed g c e = absurd (c.run_kinds.ensures.input_read e)
+returns-in-Ok-clause-input_failed g c e = absurd (c.answer.ensures.input_read e)

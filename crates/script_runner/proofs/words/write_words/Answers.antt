@@ -1,19 +1,26 @@
-use Rattle.std.proofs.Common.{◌<◌, ◌++◌, ◌∷◌, ◌∙◌, List, ℕ, ap, get_or, length, take}
+use Rattle.std.proofs.Common.{◌≡◌, ◌++◌, List, ℕ, ap, append_assoc, append-nil, sym, ◌∙◌, ◌∷◌}
 use Rattle.std.specs.Fmt.{decimal}
-use Rattle.std.proofs.lemmas.List.{append_assoc}
-use Rattle.script_runner.specs.Words.{numbers_text}
-use Rattle.script_runner.proofs.LineWords.{numbers_text-take}
+use Rattle.script_runner.specs.Words.{list_of, numbers_text}
 use Rattle.script_runner.proofs.words.write_words.Goals as goal
+
+pub loop-number-init : goal.loop-number-init
+loop-number-init c =
+    let numbers : List ℕ = numbers_text (list_of c.args.numbers) in
+    ap (λ l. l ++ numbers) c.in_ok-write_all.ensures.bytes ∙ append_assoc c.args.line.now.items c.args.name.now numbers
 
 pub loop-number-preserved : goal.loop-number-preserved
 loop-number-preserved c =
-    let ns = c.args.numbers.now in
-    let index = c.loop-number.number-index in
-    let below : index < length ns = c.loop-number-test.true in
-    let name = c.args.name.now in
-    let old = c.args.line.now.items in
-    let before = numbers_text (take index ns) in
-    let text : List ℕ = 32 ∷ decimal (get_or ns index 0) in
-    rw (numbers_text-take ns index below)
-    (c.in_ok-write.ensures.bytes ∙ (ap (λ l. l ++ text) c.loop-number.invariant
-    ∙ (append_assoc old (name ++ before) text ∙ ap (λ l. old ++ l) (append_assoc name before text))))
+    let line : List ℕ = c.loop-number.line.items in
+    let rest : List ℕ = numbers_text (list_of c.in-Some.rest) in
+    ap (λ l. l ++ rest) c.in_ok-write.ensures.bytes
+    ∙ (append_assoc line (32 ∷ decimal c.in-Some.number) rest
+    ∙ (ap (λ ns. line ++ numbers_text ns) (sym c.in-Some.ensures.more) ∙ c.loop-number.invariant))
+
+pub returns : goal.returns
+returns c =
+    let line : List ℕ = c.loop-number.line.items in
+    let whole : List ℕ = c.args.name.now ++ numbers_text (list_of c.args.numbers) in
+    let is : line ≡ c.args.line.now.items ++ whole =
+    sym (append-nil line)
+    ∙ (ap (λ ns. line ++ numbers_text ns) (sym c.in_default.ensures.none) ∙ c.loop-number.invariant) in
+    rw (is, append_assoc c.args.line.now.items whole c.args.end.now) at c.write_all-2.ensures.bytes

@@ -1,7 +1,12 @@
-use Rattle.std.proofs.Common.{◌≡◌, ◌++◌, take}
-use Rattle.script_runner.specs.Words.{numbers_text}
+use Rattle.std.proofs.Common.{◌≡◌, ◌++◌, length}
+use Rattle.script_runner.specs.Words.{list_of, numbers_text}
 use Rattle.script_runner.proofs.words.write_words.Given as goal
 
--- the name and the numbers so far are written
+-- what is written and the numbers left are the name and all numbers
 abbrev pub invariant-loop-number : goal.invariant-loop-number
-invariant-loop-number l = l.line.items ≡ l.fn.line.items ++ (l.name ++ numbers_text (take l.number-index l.numbers))
+invariant-loop-number l =
+    l.line.items ++ numbers_text (list_of l.left)
+    ≡ l.fn.line.items ++ (l.name ++ numbers_text (list_of l.fn.numbers))
+
+abbrev pub decreases-loop-number : goal.decreases-loop-number
+decreases-loop-number l = length (list_of l.left)

@@ -1,10 +1,9 @@
-use Rattle.std.proofs.Common.{take}
+use Rattle.std.proofs.Common.{◌≡◌, ◌++◌, take}
 use Rattle.std.specs.List.{flat_map}
-use Rattle.std.specs.Io.KnownBytes.{Appends}
 use Rattle.script_runner.proofs.engine.driving.tell.Given as goal
 
--- the lines of the replies so far are written
+-- the texts of the replies so far are added
 abbrev pub invariant-loop-reply : goal.invariant-loop-reply
 invariant-loop-reply g l =
-    Appends (g.W.Write.contents l.fn.writer) (g.W.Write.contents l.writer)
-    (flat_map g.K.Driven.rules.reply_text (take l.reply-index l.replies))
+    flat_map (λ text. text.items) l.texts.items
+    ≡ flat_map (λ text. text.items) l.fn.texts.items ++ flat_map g.K.Driven.rules.reply_text (take l.reply-index l.reply-items)

@@ -3,7 +3,6 @@ use Rattle.std.proofs.lemmas.List.Elements.{All-push, All-same}
 use Rattle.std.proofs.lemmas.List.{length_push}
 use Rattle.script_runner.specs.engine.Lines.{lines_of}
 use Rattle.script_runner.specs.engine.Rules.{IsLine, line_text}
-use Rattle.script_runner.specs.engine.Script.{script_lines}
 use Rattle.script_runner.proofs.ScriptLines.{first_unreadable, lines_more}
 use Rattle.script_runner.proofs.engine.script.read_script.Goals as goal
 
@@ -11,10 +10,10 @@ pub returns-in_default-read_line-clause-unreadable : goal.returns-in_default-rea
 returns-in_default-read_line-clause-unreadable g c =
     let rules = g.K.Driven.rules in
     let line : List ℕ = c.in-Some.line.now in
-    let lines = script_lines c.loop-line.script in
+    let lines = c.loop-line.script.items in
     let before = map (line_text rules) lines in
     let none = rw c.in_default-read_line.is at c.read_line.ensures.unreadable in
-    first_unreadable (IsLine rules) (line_text rules) (lines_of c.args.input.now) (lines_of c.in-Some.rest.now) lines line
+    first_unreadable rules (lines_of c.args.input.now) (lines_of c.in-Some.rest.now) lines line
     c.loop-line.index
     (c.loop-line.invariant.read ∙ ap (λ ls. before ++ ls) c.in-Some.ensures.cut) c.loop-line.invariant.allowed
     c.loop-line.invariant.counted none
@@ -22,11 +21,11 @@ returns-in_default-read_line-clause-unreadable g c =
 pub loop-line-preserved : goal.loop-line-preserved
 loop-line-preserved g c =
     let rules = g.K.Driven.rules in
-    let lines = script_lines c.loop-line.script in
-    let grown = script_lines c.push.new.self in
+    let lines = c.loop-line.script.items in
+    let grown = c.push.new.self.items in
     let before = map (line_text rules) lines in
     let line = c.in-Some-read_line.line in
-    let pushed : grown ≡ lines ++ line ∷ [] = c.in_ok-push.ensures.added in
+    let pushed : grown ≡ lines ++ line ∷ [] = c.in_ok-push.ensures.items in
     let counted : length grown ≡ length (lines ++ line ∷ []) = ap length pushed in
     let written = c.in-Some-read_line.ensures.written in
     let found = c.loop-line.invariant.read ∙ ap (λ ls. before ++ ls) c.in-Some.ensures.cut in

@@ -3,7 +3,7 @@ use Rattle.std.proofs.lemmas.Bool.{and_parts}
 use Rattle.script_runner.specs.Words.{MayStand, words, words_text}
 use Rattle.script_runner.specs.engine.Lines.{lines_of}
 use Rattle.script_runner.specs.engine.Rules.{kind, header_words, is_new, are_apart}
-use Rattle.script_runner.proofs.Tables.{ends_wider, ends_later, none_later, no_header}
+use Rattle.script_runner.proofs.Tables.{outcome_wider, outcome_later, no_header}
 use Rattle.script_runner.proofs.kinds.Tuple2Kinds.run.Goals as goal
 
 pub drive-requires-clause-stand : goal.drive-requires-clause-stand
@@ -11,33 +11,26 @@ drive-requires-clause-stand g c =
     let (allowed, name, numbers) = c.in-Some.ensures.written in
     subst MayStand (ap₂ words name numbers) c.requires.stand
 
-pub returns-in-Some-clause-ends : goal.returns-in-Some-clause-ends
-returns-in-Some-clause-ends g c =
+pub run-requires-clause-apart : goal.run-requires-clause-apart
+run-requires-clause-apart g c =
+    (and_parts (is_new g.K.Driven.rules.name g.Others.Kinds.table) (are_apart g.Others.Kinds.table) c.requires.apart).1
+
+pub returns-in-Some : goal.returns-in-Some
+returns-in-Some g c =
     let rules = g.K.Driven.rules in
     let others = g.Others.Kinds.table in
     let apart = and_parts (is_new rules.name others) (are_apart others) c.requires.apart in
     let (allowed, name, numbers) = c.in-Some.ensures.written in
     let first = words c.args.name.now c.args.numbers in
     let same : header_words rules c.in-Some.header ≡ first = sym (ap₂ words name numbers) in
-    ends_wider (kind rules) others first (lines_of c.args.rest.now)
-    (g.W.Write.contents c.args.writer.now) (g.W.Write.contents c.drive.new.writer) c.drive.result c.requires.stand
+    outcome_wider (kind rules) others first (lines_of c.args.rest.now) c.drive.result c.requires.stand
     (subst (λ w. is_new w.name others ≡ true) same apart.0) (rw same at c.drive.ensures)
 
-pub returns-in-None-clause-none : goal.returns-in-None-clause-none
-returns-in-None-clause-none g c =
+pub returns-in-None : goal.returns-in-None
+returns-in-None g c =
     let rules = g.K.Driven.rules in
     let rest = lines_of c.args.rest.now in
     let first = words c.args.name.now c.args.numbers in
     let none = rw c.in-None.is at c.read_header.ensures.each in
-    none_later c.run.result rules g.Others.Kinds.table (words_text first) rest
-    (no_header rules first rest c.requires.stand none) c.run.ensures.none
-
-pub returns-in-None-clause-ends : goal.returns-in-None-clause-ends
-returns-in-None-clause-ends g c =
-    let rules = g.K.Driven.rules in
-    let rest = lines_of c.args.rest.now in
-    let first = words c.args.name.now c.args.numbers in
-    let none = rw c.in-None.is at c.read_header.ensures.each in
-    ends_later c.run.result (kind rules) g.Others.Kinds.table (words_text first) rest
-    (g.W.Write.contents c.args.writer.now) (g.W.Write.contents c.run.new.writer)
-    (no_header rules first rest c.requires.stand none) c.run.ensures.ends
+    outcome_later (kind rules) g.Others.Kinds.table (words_text first) rest c.run.result
+    (no_header rules first rest c.requires.stand none) c.run.ensures

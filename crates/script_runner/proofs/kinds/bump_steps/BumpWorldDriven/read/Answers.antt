@@ -3,15 +3,16 @@ use Rattle.script_runner.proofs.Layouts.{reads_three}
 use Rattle.bb_memory_base.specs.declared.steps.bump.BumpStep.TheVariants.{Read}
 use Rattle.script_runner.proofs.kinds.bump_steps.BumpWorldDriven.read.Goals as goal
 
-pub returns-in_err-layout-in-Three-clause-each : goal.returns-in_err-layout-in-Three-clause-each
-returns-in_err-layout-in-Three-clause-each c step is name numbers =
-    c.from_residual-in_err-layout-in-Three.ensures
-    ∙ reads_three None c.in-Three.party c.in-Three.size c.in-Three.align step c.in_err-layout-in-Three.ensures.each
-    (sym c.in-Three.is ∙ numbers)
+pub returns-in-Some-Some-clause-each : goal.returns-in-Some-Some-clause-each
+returns-in-Some-Some-clause-each c step is name numbers =
+    let three = c.in-Three in
+    let both = c.in-Some-Some in
+    ap (λ party. Some (Read party both.layout)) (rw both.is-0 at c.party_of-in-Three.ensures).1
+    ∙ reads_three (Some both.layout) three.party three.size three.align step (rw both.is-1 at c.layout.ensures.each)
+    (sym three.is ∙ numbers)
 
-pub returns-in_ok-layout-in-Three-clause-each : goal.returns-in_ok-layout-in-Three-clause-each
-returns-in_ok-layout-in-Three-clause-each c step is name numbers =
-    let layout = c.in_ok-layout-in-Three.layout in
-    ap (λ party. Some (Read party layout)) c.in_ok-party-in-Three.ensures.1
-    ∙ reads_three (Some layout) c.in-Three.party c.in-Three.size c.in-Three.align step c.in_ok-layout-in-Three.ensures.each
-    (sym c.in-Three.is ∙ numbers)
+pub returns-in_default-2-clause-each : goal.returns-in_default-2-clause-each
+returns-in_default-2-clause-each c step is name numbers =
+    let three = c.in-Three in
+    reads_three None three.party three.size three.align step (rw c.in_default-2.is-1 at c.layout.ensures.each)
+    (sym three.is ∙ numbers)

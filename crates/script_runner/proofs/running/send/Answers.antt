@@ -1,8 +1,8 @@
 use Rattle.std.proofs.Common.{◌++◌, take, ap, sym, ◌∙◌}
-use Rattle.script_runner.proofs.Appending.{appends_again, appends_kept}
-use Rattle.script_runner.proofs.Sends.{sent_more}
-use Rattle.script_runner.proofs.engine.driving.send.Goals as goal
-use Rattle.script_runner.proofs.engine.driving.send.Goals.{in-Ok, in-Err}
+use Rattle.script_runner.proofs.Sending.{appends_again, appends_kept}
+use Rattle.script_runner.proofs.Sending.{sent_more}
+use Rattle.script_runner.proofs.running.send.Goals as goal
+use Rattle.script_runner.proofs.running.send.Goals.{in-Ok, in-Err}
 
 pub loop-preserved : goal.loop-preserved
 loop-preserved g c =

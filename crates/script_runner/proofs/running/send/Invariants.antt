@@ -1,6 +1,6 @@
 use Rattle.std.proofs.Common.{◌≡◌, ◌++◌, ℕ, List}
 use Rattle.std.specs.Io.KnownBytes.{Appends}
-use Rattle.script_runner.proofs.engine.driving.send.Given as goal
+use Rattle.script_runner.proofs.running.send.Given as goal
 
 -- what isn't left is written
 abbrev pub invariant-loop : goal.invariant-loop

@@ -1,0 +1,39 @@
+use Rattle.std.proofs.Common.{◌≡◌, ◌+◌, ◌++◌, ◌∷◌, [], ap, refl, sym, take, take_all, ◌∙◌}
+use Rattle.std.specs.List.{flat_map}
+use Rattle.std.proofs.lemmas.List.{take_more}
+use Rattle.script_runner.proofs.Telling.{told_more}
+use Rattle.script_runner.proofs.engine.driving.answer.Goals as goal
+
+pub loop-line-init : goal.loop-line-init
+loop-line-init g c = (refl, c.new-waiting.ensures.items, ap (flat_map (λ t. t.items)) c.new-texts.ensures.items)
+
+pub loop-line-preserved : goal.loop-line-preserved
+loop-line-preserved g c =
+    let script = c.args.script.now in
+    let i = c.loop-line.line-index in
+    let line = c.line-item.result in
+    let (added, step, grown) = c.in_ok-take.ensures in
+    let longer : take (i + 1) script ≡ take i script ++ line ∷ [] =
+    take_more script i line c.loop-line-test.true ∙ ap (λ x. take i script ++ x ∷ []) (sym c.line-item.is) in
+    rw (longer, grown)
+    (told_more g.K.Driven.rules c.in_ok-driven.driven c.loop-line.driven c.take.new.driven [] c.loop-line.waiting.items
+    c.take.new.waiting.items (take i script) line (flat_map (λ t. t.items) c.loop-line.texts.items) added
+    c.loop-line.invariant step)
+
+pub returns : goal.returns
+returns g c =
+    let (replies, runs, told) = c.in_ok-tell.ensures in
+    let all = take_all c.loop-line.line-index c.args.script.now c.loop-line-test.false in (
+      c.in_ok-driven.driven,
+      c.tell.new.driven,
+      c.in_ok-driven.ensures,
+      (
+        c.loop-line.driven,
+        c.loop-line.waiting.items,
+        flat_map (λ t. t.items) c.loop-line.texts.items,
+        replies,
+        rw all at c.loop-line.invariant,
+        rw c.deref.ensures.value at runs,
+        told,
+      ),
+    )

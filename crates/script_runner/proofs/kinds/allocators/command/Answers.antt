@@ -1,0 +1,39 @@
+use Rattle.std.proofs.Common.{◌∙◌, refl, sym, None, Some}
+use Rattle.script_runner.proofs.Layouts.{reads_two, old_made, new_made, reads_grow, reads_shrink}
+use Rattle.script_runner.proofs.kinds.allocators.command.Goals as goal
+
+pub returns-in-Some-clause-each : goal.returns-in-Some-clause-each
+returns-in-Some-clause-each c command name numbers =
+    reads_two (Some c.in-Some.layout) c.in-Two.size c.in-Two.align command c.in-Some.ensures.each (sym c.in-Two.is ∙ numbers)
+
+pub returns-in-None-clause-each : goal.returns-in-None-clause-each
+returns-in-None-clause-each c command name numbers =
+    reads_two None c.in-Two.size c.in-Two.align command c.in-None.ensures.each (sym c.in-Two.is ∙ numbers)
+
+pub returns-in-Some-Some-clause-each : goal.returns-in-Some-Some-clause-each
+returns-in-Some-Some-clause-each c command name numbers =
+    let five = c.in-Five in
+    reads_grow five.position five.old_size five.old_align five.size five.align c.in-Some-Some.old c.in-Some-Some.new
+    c.args.name.now command (rw c.in-Some-Some.is-0 at c.layout-in-Five.ensures.each)
+    (rw c.in-Some-Some.is-1 at c.layout-in-Five-2.ensures.each) (c.if-is-3.ensures.0 refl) name
+    (sym five.is ∙ numbers)
+
+pub returns-in-Some-Some-2-clause-each : goal.returns-in-Some-Some-2-clause-each
+returns-in-Some-Some-2-clause-each c command name numbers =
+    let five = c.in-Five in
+    reads_shrink five.position five.old_size five.old_align five.size five.align c.in-Some-Some-2.old c.in-Some-Some-2.new
+    c.args.name.now command (rw c.in-Some-Some-2.is-0 at c.layout-in-Five.ensures.each)
+    (rw c.in-Some-Some-2.is-1 at c.layout-in-Five-2.ensures.each) (c.if-is-4.ensures.0 refl) name
+    (sym five.is ∙ numbers)
+
+pub returns-in_default-2-2-clause-each : goal.returns-in_default-2-2-clause-each
+returns-in_default-2-2-clause-each c command name numbers =
+    let five = c.in-Five in
+    new_made five.position five.old_size five.old_align five.size five.align command
+    (rw c.in_default-2.is-1 at c.layout-in-Five-2.ensures.each) (sym five.is ∙ numbers)
+
+pub returns-in_default-2-3-clause-each : goal.returns-in_default-2-3-clause-each
+returns-in_default-2-3-clause-each c command name numbers =
+    let five = c.in-Five in
+    old_made five.position five.old_size five.old_align five.size five.align command
+    (rw c.in_default-2.is-0 at c.layout-in-Five.ensures.each) (sym five.is ∙ numbers)

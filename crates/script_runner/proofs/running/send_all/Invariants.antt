@@ -1,0 +1,10 @@
+use Rattle.std.proofs.Common.{take}
+use Rattle.std.specs.List.{flat_map}
+use Rattle.std.specs.Io.KnownBytes.{Appends}
+use Rattle.script_runner.proofs.running.send_all.Given as goal
+
+-- the texts so far are written
+abbrev pub invariant-loop-text : goal.invariant-loop-text
+invariant-loop-text g l =
+    Appends (g.W.Write.contents l.fn.writer) (g.W.Write.contents l.writer)
+    (flat_map (λ text. text.items) (take l.text-index l.texts))
