@@ -1,5 +1,6 @@
 //! Finds the installed C library: in the folder that `BB_MEMORY_LIB_DIR` names, else by `bb_memory.pc`, which is looked for
-//! where `pkg-config` would. The archive is linked where it is there, with `BB_MEMORY_LINK=dylib` the shared library.
+//! where `pkg-config` would. The archive is linked where it is there, with `BB_MEMORY_LINK=dylib` the shared library. Where no
+//! library is found, a warning says so: `cargo check` and `cargo doc` need none, and a program isn't linked.
 use std::env;
 use std::fs;
 use std::path::{Path, PathBuf};
@@ -13,13 +14,23 @@ const STANDARD_FOLDERS: [&str; 5] = [
     "/usr/lib64/pkgconfig",
 ];
 
+/// The ABI that this crate's declarations are of: `BB_ABI` of the header.
+const ABI: &str = "1";
+
 fn main() {
-    for name in ["BB_MEMORY_LIB_DIR", "BB_MEMORY_LINK", "PKG_CONFIG_PATH"] {
+    for name in ["BB_MEMORY_LIB_DIR", "BB_MEMORY_LINK", "PKG_CONFIG_PATH", "DOCS_RS"] {
         println!("cargo::rerun-if-env-changed={name}");
     }
-    let folder = match env::var_os("BB_MEMORY_LIB_DIR") {
-        Some(folder) => PathBuf::from(folder),
-        None => folder_by_pkg_config(),
+    if env::var_os("DOCS_RS").is_some() {
+        return;
+    }
+    let named = env::var_os("BB_MEMORY_LIB_DIR").map(PathBuf::from);
+    let Some(folder) = named.or_else(folder_by_pkg_config) else {
+        println!(
+            "cargo::warning=the C library bb_memory isn't found, so programs aren't linked: unpack or install it below DIR, and \
+             set PKG_CONFIG_PATH=DIR/lib/pkgconfig or BB_MEMORY_LIB_DIR=DIR/lib"
+        );
+        return;
     };
     let shared = env::var("BB_MEMORY_LINK").is_ok_and(|word| word == "dylib");
     let archive = folder.join("libbb_memory.a");
@@ -34,33 +45,31 @@ fn main() {
 }
 
 /// The folder of the library that the first `bb_memory.pc` names.
-fn folder_by_pkg_config() -> PathBuf {
+fn folder_by_pkg_config() -> Option<PathBuf> {
     let told = env::var_os("PKG_CONFIG_PATH").unwrap_or_default();
     let folders = env::split_paths(&told).chain(STANDARD_FOLDERS.map(PathBuf::from));
-    for file in folders.map(|folder| folder.join("bb_memory.pc")) {
-        if let Ok(text) = fs::read_to_string(&file) {
-            println!("cargo::rerun-if-changed={}", file.display());
-            return folder_of(&file, &text);
-        }
-    }
-    panic!(
-        "the C library bb_memory isn't found: install it by `make -C crates/bb_memory_c install PREFIX=DIR`, \
-         and set PKG_CONFIG_PATH=DIR/lib/pkgconfig or BB_MEMORY_LIB_DIR=DIR/lib"
-    );
+    folders.map(|folder| folder.join("bb_memory.pc")).find_map(|file| {
+        let text = fs::read_to_string(&file).ok()?;
+        println!("cargo::rerun-if-changed={}", file.display());
+        Some(folder_of(&file, &text))
+    })
 }
 
-/// The folder that this text of `bb_memory.pc` names. The library has to be of the minor version of this crate.
+/// The folder that this text of `bb_memory.pc` names. The library has to be of this crate's ABI, and no older than the crate.
 fn folder_of(file: &Path, text: &str) -> PathBuf {
     let value = |name: &str| {
         let found = text.lines().find_map(|line| line.strip_prefix(name));
         found.unwrap_or_else(|| panic!("{}: no line {name}", file.display()))
     };
-    let version = value("Version: ");
-    let minor = concat!(env!("CARGO_PKG_VERSION_MAJOR"), ".", env!("CARGO_PKG_VERSION_MINOR"), ".");
+    let numbers =
+        |version: &str| version.split('.').map(|it| it.parse().ok()).collect::<Option<Vec<u32>>>();
+    let (abi, version, own) = (value("abi="), value("Version: "), env!("CARGO_PKG_VERSION"));
     assert!(
-        version.starts_with(minor),
-        "{}: version {version}, but this crate is for {minor}x",
+        abi == ABI && numbers(version) >= numbers(own),
+        "{}: version {version} of ABI {abi}, but this crate needs {own} or a later one of ABI {ABI}",
         file.display()
     );
-    PathBuf::from(value("libdir=").replace("${prefix}", value("prefix=")))
+    let here = file.parent().unwrap_or(Path::new(".")).display().to_string();
+    let prefix = value("prefix=").replace("${pcfiledir}", &here);
+    PathBuf::from(value("libdir=").replace("${prefix}", &prefix))
 }

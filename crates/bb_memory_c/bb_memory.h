@@ -45,7 +45,9 @@
 //   `join` fixed, may run beside other calls with the handle but `destroy` and `leave` (examples/c/places.c tries it; the
 //   proofs are of one call at a time).
 // - A call that takes two handles is passed two. A party leaves what it joined, and attaches buckets of its own pool.
-// - No function is called from a signal handler, or in a child that a process of several threads forked.
+// - No function is called from a signal handler, which may have interrupted a call with the handle, or `malloc`; nor in a child
+//   that a process of several threads forked, whose `malloc` may be locked by a thread that the child hasn't. Behind a fork
+//   parent and child have a copy of each handle; over a region that both map one of them goes on.
 // - A region is the host's as long as chunks in it are used, and until then no other allocator is made over it. No two allocators
 //   have a byte in common, but where one lies in a chunk of the other: a pool over a chunk of a bump is meant to work. That chunk
 //   then serves nothing else, and isn't given back before its pool is done with.
@@ -54,11 +56,14 @@
 // No function reads or writes a byte of a region. Chunks that are out lie inside the region, at multiples of the asked alignment,
 // and never overlap. Sizes and alignments are in bytes. The numbers are tested, so none breaks an allocator: a place at which
 // nothing is held is answered by a code, that is a wild place, and a second return as long as the place was not given anew. A
-// return after that takes the chunk from its new holder, so the host returns each chunk once.
-//
-// A Rust program has these calls in the crate of bindings/rust, or declares them itself, as examples/c/from_rust.rs does.
+// return after that takes the chunk from its new holder, so the host returns each chunk once. MemorySanitizer doesn't see what
+// the library writes: a host tells it by `__msan_unpoison` of each struct that a call returned or filled.
 #ifndef BB_MEMORY_H
 #define BB_MEMORY_H
+
+#if !defined(__x86_64__) || defined(__ILP32__) || !defined(__linux__)
+#error "bb_memory is built for Linux on x86-64 alone"
+#endif
 
 #include <stdbool.h>
 #include <stddef.h>
@@ -69,11 +74,15 @@ extern "C" {
 #endif
 
 // The version of this library, as text and by its numbers. The last of them grows with each version, for `#if`.
-#define BB_VERSION "0.12.0"
+#define BB_VERSION "0.13.0"
 #define BB_VERSION_MAJOR 0
-#define BB_VERSION_MINOR 12
+#define BB_VERSION_MINOR 13
 #define BB_VERSION_PATCH 0
 #define BB_VERSION_NUMBER (BB_VERSION_MAJOR * 10000 + BB_VERSION_MINOR * 100 + BB_VERSION_PATCH)
+// The shared library's SONAME is `libbb_memory.so.` and this number. It grows with a version in which a function is gone, or the
+// type of one, the fields of a struct or the number of a code changes; it stays where functions and codes are added. A program
+// runs with each library of its number, from the version on with which it was linked.
+#define BB_ABI 1
 
 // The address of a byte: a place is where a region or a chunk begins, and an address is a place that is handed in alone. The
 // functions see their numbers alone. A host whose places are other numbers, such as offsets, defines BB_PLACES_ARE_NUMBERS above
@@ -174,6 +183,13 @@ typedef struct bb_answer { uint32_t code; bb_place place; size_t len; } bb_answe
 // A number that was asked for; of a place, its number.
 typedef struct bb_figure { uint32_t code; size_t number; } bb_figure;
 
+// The size and the alignment of a type, for a pool's `init` and for a request: `bb_pool_allocate(&pool, BB_OF(message))`.
+#ifdef __cplusplus
+#define BB_OF(type) sizeof(type), alignof(type)
+#else
+#define BB_OF(type) sizeof(type), __alignof__(type)
+#endif
+
 // Each kind has a `destroy`, which frees what is behind its handle. The handle is empty then: it may be initialized again. The
 // answer is BB_UNINITIALIZED where it was empty already. The bytes of chunks that are out stay the host's.
 //
@@ -262,16 +278,29 @@ bb_figure bb_pool_holds(bb_pool *, bb_address place);
 // passed. Each bucket is looked at, so this takes longer the more buckets there are.
 struct bb_pool_info { size_t start_address, size, bucket_size, max_alignment, number_of_buckets, held_buckets; };
 uint32_t bb_pool_info(bb_pool *, struct bb_pool_info *);
-// Where the bucket of this number begins, from 0 on; and the number of the bucket that begins at this place. It is held or not.
-// BB_NOT_A_BUCKET where there is none. So processes that map a region at different addresses may pass numbers to one another.
+// Where the bucket of this number begins, from 0 on; and the number of the bucket that begins at this place, held or not.
+// BB_NOT_A_BUCKET where there is none. A second process that maps the region has no pool of its own over it: it reads bucket
+// `number` at base + number * BB_STRIDE(bucket_size, bucket_align), where base is its address of bucket 0. Where the alignment is
+// greater than a page, bucket 0 is as far behind the mapping's start as in the first process (examples/c/processes.c).
 bb_figure bb_pool_place_at(const bb_pool *, uint32_t number);
 bb_figure bb_pool_number_at(const bb_pool *, bb_address place);
+// As `bb_pool_init`, and BB_NO_BUCKET also where there is room for less than `buckets`: a start that isn't a multiple of the
+// alignment costs a bucket. Refused, the handle is empty.
+BB_MUST_USE static inline uint32_t bb_pool_init_at_least(bb_pool *pool, size_t bucket_size, size_t bucket_align, bb_place start,
+                                                         size_t size, uint32_t buckets) {
+    struct bb_pool_info info;
+    uint32_t code = bb_pool_init(pool, bucket_size, bucket_align, start, size);
+    if (code != BB_OK) return code;
+    if (bb_pool_info(pool, &info) == BB_OK && info.number_of_buckets >= buckets) return BB_OK;
+    bb_pool_destroy(pool);
+    return BB_NO_BUCKET;
+}
 
 // PARTIES: what threads share is initialized for some number of parties. `join` makes a party, behind a handle of its own, for
-// one thread at a time; no call of a party waits for another. `leave` ends it, and the next `join` makes it again. One thread at
-// a time calls `join`, `leave`, `reset` or `destroy` of what is shared; parties may be used meanwhile. What is shared stays as
-// long as its own handle or one of its parties does. A party that is destroyed instead of leaving can't join again, and what it
-// holds stays held for good.
+// one thread at a time; no call of a party waits for another. A thread ends by `leave`, and the next `join` makes the party
+// again. One thread at a time calls `join`, `leave`, `reset` or `destroy` of what is shared; parties may be used meanwhile. What is
+// shared stays as long as its own handle or one of its parties does. A party that is destroyed instead of leaving can't join
+// again, and what it holds stays held for good.
 
 // BB_INVALID_ARGUMENT where the start is 0, start plus size exceeds SIZE_MAX, or there is no party.
 BB_MUST_USE uint32_t bb_shared_bump_init(bb_shared_bump *, bb_place start, size_t size, uint32_t parties);
@@ -316,11 +345,25 @@ bb_figure bb_pool_party_holds(bb_pool_party *, bb_address place);
 uint32_t bb_pool_party_info(bb_pool_party *, struct bb_pool_info *);
 bb_figure bb_pool_party_place_at(const bb_pool_party *, uint32_t number);
 bb_figure bb_pool_party_number_at(const bb_pool_party *, bb_address place);
+// As `bb_pool_init_at_least`. A party joins and leaves, which tells the number of buckets.
+BB_MUST_USE static inline uint32_t bb_shared_pool_init_at_least(bb_shared_pool *pool, size_t bucket_size, size_t bucket_align,
+                                                                bb_place start, size_t size, uint32_t parties, uint32_t buckets) {
+    bb_pool_party party = BB_EMPTY;
+    struct bb_pool_info info;
+    uint32_t code = bb_shared_pool_init(pool, bucket_size, bucket_align, start, size, parties);
+    if (code != BB_OK) return code;
+    code = bb_shared_pool_join(pool, &party);
+    if (code == BB_OK && (bb_pool_party_info(&party, &info) != BB_OK || info.number_of_buckets < buckets)) code = BB_NO_BUCKET;
+    bb_shared_pool_leave(pool, &party);
+    if (code != BB_OK) bb_shared_pool_destroy(pool);
+    return code;
+}
 
 // DETACHED BUCKETS: in a pool of at least two parties a party may detach a bucket that it holds. The bucket goes into a
 // `bb_detached`, and no party holds it. Whoever has the `bb_detached` attaches the bucket by a party of the same pool, in any
-// thread, and gives it back there: so the receiver of a message returns it (examples/c/returns.c). While it is detached, threads
-// may read the chunk, if the host orders that. Neither call takes memory or waits.
+// thread, and gives it back there: so the receiver of a message returns it (examples/c/returns.c). While it is detached, several
+// threads may read the chunk, as the host says, and the last of them attaches it (examples/c/pubsub.c). Neither call takes memory
+// or waits.
 //
 // A `bb_detached` is initialized once, and serves one bucket after another: a queue has one for each of its slots. A bucket that
 // is in a destroyed one stays detached for good. A `bb_detached` keeps no pool: behind the pool's end it is only destroyed.

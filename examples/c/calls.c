@@ -252,6 +252,22 @@ static void run_no_bucket(void) {
     EXPECT(bb_pool_destroy(&pool) == BB_OK);
 }
 
+// Fewer buckets than asked for are refused, and nothing is behind the handle then.
+static void run_at_least(void) {
+    bb_pool pool = BB_EMPTY;
+    bb_shared_pool shared = BB_EMPTY;
+    bb_pool_party party = BB_EMPTY;
+    EXPECT(bb_pool_init_at_least(&pool, 64, 64, 4097, 64 * 16, 16) == BB_NO_BUCKET);
+    EXPECT(bb_pool_init_at_least(&pool, 64, 3, 4096, 64 * 16, 1) == BB_INVALID_LAYOUT);
+    EXPECT(bb_pool_init_at_least(&pool, 64, 64, 4096, 64 * 16, 16) == BB_OK && same(of_pool(&pool).number_of_buckets, 16));
+    EXPECT(bb_pool_init_at_least(&pool, 64, 64, 4096, 64 * 16, 16) == BB_ALREADY_INITIALIZED && bb_pool_destroy(&pool) == BB_OK);
+    EXPECT(bb_shared_pool_init_at_least(&shared, 64, 64, 4097, 64 * 16, 2, 16) == BB_NO_BUCKET);
+    EXPECT(bb_shared_pool_init_at_least(&shared, 64, 64, 4097, 64 * 16, 0, 15) == BB_INVALID_ARGUMENT);
+    EXPECT(bb_shared_pool_init_at_least(&shared, 64, 64, 4097, 64 * 16, 1, 15) == BB_OK);
+    EXPECT(bb_shared_pool_join(&shared, &party) == BB_OK && same(of_pool_party(&party).number_of_buckets, 15));
+    EXPECT(bb_shared_pool_leave(&shared, &party) == BB_OK && bb_shared_pool_destroy(&shared) == BB_OK);
+}
+
 // Asks `malloc` for at most so many bytes.
 #define WITHIN(MOST, MAKE)                          \
     do {                                            \
@@ -376,8 +392,12 @@ static void run_refused_memory(void) {
     WITH_EACH_REFUSED(bb_bump_destroy(&bump), bb_bump_init(&bump, 4096, 1024));
     WITH_EACH_REFUSED(bb_one_chunk_destroy(&one), bb_one_chunk_init(&one, 4096, 1024));
     WITH_EACH_REFUSED(bb_pool_destroy(&pool), bb_pool_init(&pool, 128, 8, 4096, 1024));
+    EXPECT(bb_pool_destroy(&pool) == BB_OK);
+    WITH_EACH_REFUSED(bb_pool_destroy(&pool), bb_pool_init_at_least(&pool, 128, 8, 4096, 1024, 8));
     WITH_EACH_REFUSED(bb_shared_bump_destroy(&shared_bump), bb_shared_bump_init(&shared_bump, 4096, 1024, 2));
     WITH_EACH_REFUSED(bb_shared_pool_destroy(&shared_pool), bb_shared_pool_init(&shared_pool, 128, 8, 4096, 1024, 2));
+    EXPECT(bb_shared_pool_destroy(&shared_pool) == BB_OK);
+    WITH_EACH_REFUSED(bb_shared_pool_destroy(&shared_pool), bb_shared_pool_init_at_least(&shared_pool, 128, 8, 4096, 1024, 2, 8));
     bb_bump_party bump_partys[2] = {BB_EMPTY, BB_EMPTY};
     bb_pool_party pool_partys[2] = {BB_EMPTY, BB_EMPTY};
     for (size_t at = 0; at < 2; at++) {
@@ -563,6 +583,7 @@ int main(void) {
     run_numbers();
     run_starts();
     run_no_bucket();
+    run_at_least();
     run_memory();
     run_freed_pool_party();
     run_freed_bump_party();

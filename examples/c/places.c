@@ -60,7 +60,8 @@ int main(void) {
     expect(bb_shared_pool_join(&shared, &party) == BB_OK, "a party joins");
     struct bb_pool_info of_pool, of_party;
     expect(bb_pool_info(&pool, &of_pool) == BB_OK && bb_pool_party_info(&party, &of_party) == BB_OK, "both have figures");
-    expect(pthread_barrier_init(&start, NULL, 2) == 0 && pthread_create(&thread, NULL, allocate, NULL) == 0, "a thread starts");
+    expect(pthread_barrier_init(&start, NULL, 2) == 0, "two can wait for one another");
+    expect(pthread_create(&thread, NULL, allocate, NULL) == 0, "a thread starts");
     pthread_barrier_wait(&start);
     find_places(of_pool.start_address, of_party.start_address);
     expect(pthread_join(thread, NULL) == 0, "it ends");

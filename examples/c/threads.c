@@ -201,10 +201,6 @@ int main(void) {
     bb_shared_bump bump = BB_EMPTY;
     make(&pool, &bump);
     one_by_one();
-    // The parties keep the pool and the bump.
-    expect(bb_shared_pool_destroy(&pool) == BB_OK, "a pool's handle is destroyed");
-    expect(bb_shared_pool_destroy(&pool) == BB_UNINITIALIZED, "and only once");
-
     pthread_t threads[THREADS];
     expect(pthread_barrier_init(&start, NULL, THREADS) == 0, "threads can wait for one another");
     for (size_t number = 0; number < THREADS; number++)
@@ -221,10 +217,10 @@ int main(void) {
     expect(bb_bump_party_info(&workers[0].bump, &bytes) == BB_OK && bytes.free_space == 0, "all of the bump is used");
     expect(bb_bump_party_allocate(&workers[0].bump, 1, 1).code == BB_OUT_OF_MEMORY, "the bump is full");
     for (size_t number = 0; number < THREADS; number++) {
-        expect(bb_pool_party_destroy(&workers[number].pool) == BB_OK, "a party is destroyed");
-        expect(bb_bump_party_destroy(&workers[number].bump) == BB_OK, "a party is destroyed");
+        expect(bb_shared_pool_leave(&pool, &workers[number].pool) == BB_OK, "a party leaves");
+        expect(bb_shared_bump_leave(&bump, &workers[number].bump) == BB_OK, "a party leaves");
     }
-    expect(bb_shared_bump_destroy(&bump) == BB_OK, "a bump's handle is freed");
+    expect(bb_shared_pool_destroy(&pool) == BB_OK && bb_shared_bump_destroy(&bump) == BB_OK, "both are destroyed");
     puts("threads: every chunk kept what its thread wrote");
     return 0;
 }

@@ -1,5 +1,8 @@
 //! The calls that allocators have in common.
-use crate::error::{AllocationError, AllocationGrowError, AllocationShrinkError};
+use crate::error::{
+    AllocationError, AllocationGrowError, AllocationShrinkError, DeallocationError,
+};
+use crate::ffi::PoolInfo;
 use core::alloc::Layout;
 use core::ptr::NonNull;
 
@@ -72,19 +75,59 @@ pub trait Allocator: BaseAllocator {
     ) -> Result<NonNull<[u8]>, AllocationShrinkError>;
 }
 
-/// Defines an allocator over a region. In brackets stand the parameters in front of the region and behind it.
-macro_rules! allocator {
-    (
-        $(#[$about:meta])*
-        $name:ident [$($front:ident: $front_type:ty)?] [$($last:ident: $last_type:ty)?]
-        by $init:ident[$($layout:expr),*], $destroy:ident
-    ) => {
-        $(#[$about])*
-        #[derive(Debug)]
-        pub struct $name<'region> {
-            owned: Owned<'region>,
-        }
+/// Writes a getter of each of these figures.
+macro_rules! getters {
+    ($($figure:ident $about:literal)*) => {
+        $(
+            #[doc = concat!("Returns ", $about)]
+            fn $figure(&self) -> usize {
+                self.info().$figure
+            }
+        )*
+    };
+}
 
+/// Gives buckets of one layout: a [`PoolAllocator`](crate::PoolAllocator), or a [`PoolParty`](crate::PoolParty) of a pool that
+/// threads share. A function over `&impl Pool` takes either.
+pub trait Pool: BaseAllocator {
+    /// Returns all figures. Each bucket is looked at.
+    fn info(&self) -> PoolInfo;
+
+    /// Returns whether a held bucket begins here; of a party, one that it holds.
+    fn holds(&self, ptr: NonNull<u8>) -> bool;
+
+    /// Gives back the held bucket that begins here, and refuses where none does; of a party, none that it holds.
+    ///
+    /// # Safety
+    ///
+    /// Nothing reads or writes its bytes from now on.
+    unsafe fn try_deallocate(&self, ptr: NonNull<u8>) -> Result<(), DeallocationError>;
+
+    /// Returns where the bucket of this number begins, from 0 on, held or not; `None` where there is no such bucket.
+    fn place_at(&self, number: u32) -> Option<NonNull<u8>>;
+
+    /// Returns the number of the bucket that begins here, held or not; `None` where none does.
+    fn number_at(&self, ptr: NonNull<u8>) -> Option<u32>;
+
+    /// Returns the layout of a bucket.
+    fn bucket(&self) -> Layout;
+
+    getters! {
+        start_address "the address of bucket 0."
+        size "the bytes of the region, padding in front included."
+        bucket_size "the bytes of a bucket, as they were asked for."
+        max_alignment "the greatest alignment that a request may have."
+        number_of_buckets "the number of buckets."
+        held_buckets "the number of buckets that are held; of a party, that it holds."
+    }
+}
+
+/// Writes how an allocator is made over a region. In brackets stand the parameters in front of the region and behind it.
+macro_rules! over_region {
+    (
+        $name:ident [$($front:ident: $front_type:ty)?] [$($last:ident: $last_type:ty = $told:expr)?]
+        by $init:ident[$($layout:expr),*], $destroy:ident: $owned:ident => $made:expr
+    ) => {
         impl<'region> $name<'region> {
             /// Makes it over this region, which is its own and its parties' as long as one of them lives.
             pub fn over(
@@ -109,19 +152,31 @@ macro_rules! allocator {
                 size: usize,
                 $($last: $last_type,)?
             ) -> Result<Self, InitError> {
+                $(let $last = $told;)?
                 // SAFETY: both functions are of this kind.
-                let owned = unsafe {
+                let $owned = unsafe {
                     Owned::init(ptr, ffi::$destroy, |handle, start| {
                         ffi::$init(handle, $($layout,)* start, size $(, $last)?)
                     })?
                 };
-                Ok($name { owned })
+                $made
             }
         }
     };
 }
 
-/// Writes `info`, and a getter of each figure.
+/// Shows what has figures by them.
+macro_rules! shown {
+    ($name:ident) => {
+        impl fmt::Debug for $name<'_> {
+            fn fmt(&self, f: &mut fmt::Formatter<'_>) -> fmt::Result {
+                f.debug_tuple(stringify!($name)).field(&self.info()).finish()
+            }
+        }
+    };
+}
+
+/// Writes `info`, a getter of each figure, and how they are shown.
 macro_rules! figures {
     ($name:ident: $info:ident by $call:ident: $($figure:ident: $type:ty),*) => {
         impl $name<'_> {
@@ -139,31 +194,14 @@ macro_rules! figures {
                 }
             )*
         }
+
+        shown! { $name }
     };
 }
 
-/// Writes the calls of what knows its chunks by their places.
-macro_rules! keeps {
-    ($name:ident: $allocate:ident $deallocate:ident $holds:ident) => {
-        impl $name<'_> {
-            /// Returns whether a chunk that is out begins here; of a party of a pool, one that it holds.
-            pub fn holds(&self, ptr: NonNull<u8>) -> bool {
-                // SAFETY: the function is of this kind, and no other call has the handle, here and below.
-                is_so(unsafe { ffi::$holds(self.owned.handle(), ptr.as_ptr().cast()) })
-            }
-
-            /// Gives back the chunk that begins here, and tells where none does.
-            ///
-            /// # Safety
-            ///
-            /// Nothing reads or writes its bytes from now on.
-            pub unsafe fn try_deallocate(&self, ptr: NonNull<u8>) -> Result<(), DeallocationError> {
-                // SAFETY: as above.
-                let code = unsafe { ffi::$deallocate(self.owned.handle(), ptr.as_ptr().cast()) };
-                DeallocationError::unless_ok(code)
-            }
-        }
-
+/// Writes the calls of what knows a chunk by its place, and has `try_deallocate`.
+macro_rules! base {
+    ($name:ident: $allocate:ident) => {
         impl BaseAllocator for $name<'_> {
             fn allocate(&self, layout: Layout) -> Result<NonNull<[u8]>, AllocationError> {
                 // SAFETY: the function is of this kind.
@@ -180,28 +218,47 @@ macro_rules! keeps {
 
 /// Writes the calls of what is cut into buckets.
 macro_rules! buckets {
-    ($name:ident: $info:ident $place_at:ident $number_at:ident) => {
-        figures! {
-            $name: PoolInfo by $info: start_address: usize, size: usize, bucket_size: usize, max_alignment: usize,
-            number_of_buckets: usize, held_buckets: usize
-        }
+    ($name:ident: $allocate:ident $deallocate:ident $holds:ident $info:ident $place_at:ident $number_at:ident) => {
+        base! { $name: $allocate }
 
-        impl $name<'_> {
-            /// Returns where the bucket of this number begins, from 0 on, held or not; `None` where there is no such bucket.
-            pub fn place_at(&self, number: u32) -> Option<NonNull<u8>> {
+        impl Pool for $name<'_> {
+            fn info(&self) -> ffi::PoolInfo {
+                let mut info = ffi::PoolInfo::default();
                 // SAFETY: the function is of this kind, and no other call has the handle, here and below.
+                expect_ok(unsafe { ffi::$info(self.owned.handle(), &mut info) });
+                info
+            }
+
+            fn holds(&self, ptr: NonNull<u8>) -> bool {
+                // SAFETY: as above.
+                is_so(unsafe { ffi::$holds(self.owned.handle(), ptr.as_ptr().cast()) })
+            }
+
+            unsafe fn try_deallocate(&self, ptr: NonNull<u8>) -> Result<(), DeallocationError> {
+                // SAFETY: as above.
+                let code = unsafe { ffi::$deallocate(self.owned.handle(), ptr.as_ptr().cast()) };
+                DeallocationError::unless_ok(code)
+            }
+
+            fn place_at(&self, number: u32) -> Option<NonNull<u8>> {
+                // SAFETY: as above.
                 let told = unsafe { ffi::$place_at(self.owned.handle(), number) };
                 number_if(ffi::NOT_A_BUCKET, told).map(|place| self.owned.at(place))
             }
 
-            /// Returns the number of the bucket that begins here, held or not; `None` where none does.
-            pub fn number_at(&self, ptr: NonNull<u8>) -> Option<u32> {
+            fn number_at(&self, ptr: NonNull<u8>) -> Option<u32> {
                 // SAFETY: as above. A bucket's number is a `u32`.
                 let told = unsafe { ffi::$number_at(self.owned.handle(), ptr.as_ptr().cast()) };
                 number_if(ffi::NOT_A_BUCKET, told).map(|number| number as u32)
             }
+
+            fn bucket(&self) -> Layout {
+                self.bucket
+            }
         }
+
+        shown! { $name }
     };
 }
 
-pub(crate) use {allocator, buckets, figures, keeps};
+pub(crate) use {base, buckets, figures, over_region, shown};

@@ -114,7 +114,7 @@ error! {
 error! {
     /// Why no party joined.
     JoinError {
-        /// Each party has joined, or was dropped: a dropped one can't join again.
+        /// Each party has joined, and none was dropped since.
         NoParty = NO_PARTY: "no party is left to join",
         /// `malloc` refused.
         MallocRefused = MALLOC_REFUSED: "malloc refused",
@@ -124,8 +124,6 @@ error! {
 error! {
     /// Why a bucket wasn't detached. Its party holds it still, if it did.
     DetachError {
-        /// The pool has no other party.
-        OneParty = ONE_PARTY: "the pool has no other party",
         /// The place isn't that of a bucket which this party holds.
         NotHeld = NOT_HELD: "nothing is held at the place",
         /// The length is greater than the bucket's size.
@@ -138,7 +136,7 @@ error! {
 error! {
     /// Why a bump that threads share wasn't reset. It is as it was.
     ResetError {
-        /// Not each party has left; for good where one was dropped.
+        /// Not each party was dropped.
         PartiesJoined = PARTIES_JOINED: "not each party has left",
         /// `malloc` refused.
         MallocRefused = MALLOC_REFUSED: "malloc refused",

@@ -87,7 +87,6 @@ pub const MALLOC_REFUSED: u32 = 14;
 pub const MORE_THAN_RESERVED: u32 = 15;
 pub const NO_BUCKET: u32 = 16;
 pub const PARTIES_JOINED: u32 = 18;
-pub const ONE_PARTY: u32 = 19;
 pub const DETACHED_FULL: u32 = 20;
 pub const NOT_A_BUCKET: u32 = 22;
 
@@ -116,7 +115,6 @@ functions! {
     bb_bump_allocate(usize, usize) -> Answer;
     bb_bump_deallocate() -> u32;
     bb_bump_info(*mut BumpInfo) -> u32;
-
     bb_one_chunk_init(*const c_void, usize) -> u32;
     bb_one_chunk_destroy() -> u32;
     bb_one_chunk_allocate(usize, usize) -> Answer;
@@ -125,7 +123,6 @@ functions! {
     bb_one_chunk_shrink(*const c_void, usize, usize, usize, usize) -> Answer;
     bb_one_chunk_holds(*const c_void) -> Figure;
     bb_one_chunk_info(*mut OneChunkInfo) -> u32;
-
     bb_pool_init(usize, usize, *const c_void, usize) -> u32;
     bb_pool_destroy() -> u32;
     bb_pool_allocate(usize, usize) -> Answer;
@@ -134,7 +131,6 @@ functions! {
     bb_pool_info(*mut PoolInfo) -> u32;
     bb_pool_place_at(u32) -> Figure;
     bb_pool_number_at(*const c_void) -> Figure;
-
     bb_shared_bump_init(*const c_void, usize, u32) -> u32;
     bb_shared_bump_destroy() -> u32;
     bb_shared_bump_join(*mut Handle) -> u32;
@@ -143,7 +139,6 @@ functions! {
     bb_bump_party_destroy() -> u32;
     bb_bump_party_allocate(usize, usize) -> Answer;
     bb_bump_party_info(*mut BumpInfo) -> u32;
-
     bb_shared_pool_init(usize, usize, *const c_void, usize, u32) -> u32;
     bb_shared_pool_destroy() -> u32;
     bb_shared_pool_join(*mut Handle) -> u32;
@@ -155,7 +150,6 @@ functions! {
     bb_pool_party_info(*mut PoolInfo) -> u32;
     bb_pool_party_place_at(u32) -> Figure;
     bb_pool_party_number_at(*const c_void) -> Figure;
-
     bb_detached_init() -> u32;
     bb_detached_destroy() -> u32;
     bb_detached_is_full() -> Figure;

@@ -1,15 +1,17 @@
 #![doc = include_str!("../README.md")]
-#![no_std]
+#![cfg_attr(feature = "allocator_api", feature(allocator_api))]
 #![deny(missing_docs)]
 
 mod allocator;
+#[cfg(feature = "allocator_api")]
+mod core_api;
 mod error;
 mod ffi;
 mod owned;
 mod owners;
 mod shared;
 
-pub use allocator::{Allocator, BaseAllocator};
+pub use allocator::{Allocator, BaseAllocator, Pool};
 pub use error::{
     AllocationError, AllocationGrowError, AllocationShrinkError, DeallocationError, DetachError,
     InitError, JoinError, ResetError,

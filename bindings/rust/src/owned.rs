@@ -4,20 +4,20 @@ use crate::ffi::{self, Handle};
 use core::alloc::Layout;
 use core::cell::UnsafeCell;
 use core::ffi::c_void;
-use core::fmt;
 use core::marker::PhantomData;
 use core::mem::MaybeUninit;
+use core::ops::Deref;
 use core::ptr::NonNull;
-use core::sync::atomic::{AtomicUsize, Ordering};
+use std::alloc;
+use std::sync::{Arc, Mutex, MutexGuard, PoisonError};
 
-/// A handle that isn't empty, where its region starts, and how it is destroyed. A call writes what is behind the handle, so no two
-/// threads may call at once: the cell makes it `!Sync`. What is behind it belongs to no thread. What was made has a number of its
-/// own, which its parties have, too.
+/// A handle that isn't empty, where its region starts, and how it is destroyed. A call writes what is behind the handle, so no
+/// two threads may call at once: the cell makes it `!Sync`. What is behind it belongs to no thread.
 pub struct Owned<'region> {
     handle: UnsafeCell<Handle>,
     start: NonNull<u8>,
-    number: usize,
     destroy: ffi::Destroy,
+    memory: Option<Memory>,
     region: PhantomData<&'region mut [MaybeUninit<u8>]>,
 }
 
@@ -26,66 +26,40 @@ unsafe impl Send for Owned<'_> {}
 
 impl<'region> Owned<'region> {
     /// Returns what `init` makes behind an empty handle, over a region that starts here.
-    ///
     /// # Safety
-    ///
     /// `init` calls the `init` of a kind with the handle that it is handed, and `destroy` is of that kind.
     pub unsafe fn init(
         start: NonNull<u8>,
         destroy: ffi::Destroy,
         init: impl FnOnce(*mut Handle, *const c_void) -> u32,
     ) -> Result<Self, InitError> {
-        static MADE: AtomicUsize = AtomicUsize::new(0);
         let mut handle = Handle::EMPTY;
         match init(&mut handle, start.as_ptr().cast()) {
-            ffi::OK => Ok(Owned {
-                handle: UnsafeCell::new(handle),
-                start,
-                number: MADE.fetch_add(1, Ordering::Relaxed),
-                destroy,
-                region: PhantomData,
-            }),
+            ffi::OK => Ok(Owned::of(handle, start, destroy)),
             code => Err(InitError::of(code)),
         }
     }
 
+    fn of(handle: Handle, start: NonNull<u8>, destroy: ffi::Destroy) -> Self {
+        let handle = UnsafeCell::new(handle);
+        Owned { handle, start, destroy, memory: None, region: PhantomData }
+    }
+
     /// Returns a party of what threads share.
-    ///
     /// # Safety
-    ///
-    /// `join` and `destroy` are of this kind and its parties'.
-    pub unsafe fn join(
-        &self,
-        join: ffi::Parties,
-        destroy: ffi::Destroy,
-    ) -> Result<Self, JoinError> {
+    /// The functions are of this kind and its parties'.
+    pub unsafe fn join(&self, by: &Joining) -> Result<Self, JoinError> {
         let mut handle = Handle::EMPTY;
         // SAFETY: the function is of this kind, no other call has one of the handles, and they are two.
-        match unsafe { join(self.handle(), &mut handle) } {
-            ffi::OK => Ok(Owned { handle: UnsafeCell::new(handle), destroy, ..*self }),
+        match unsafe { (by.join)(self.handle(), &mut handle) } {
+            ffi::OK => Ok(Owned::of(handle, self.start, by.destroy)),
             code => Err(JoinError::of(code)),
         }
     }
 
-    /// Panics where the party is another allocator's.
-    pub fn expect_own(&self, party: &Owned<'_>) {
-        assert_eq!(self.number, party.number, "the party is another allocator's");
-    }
-
-    /// Ends a party, with all that it holds. It panics where the party is another allocator's.
-    ///
-    /// # Safety
-    ///
-    /// `leave` is of this kind.
-    pub unsafe fn leave(&self, party: Owned<'region>, leave: ffi::Parties) {
-        self.expect_own(&party);
-        // SAFETY: as of `join`; and the party is this one's.
-        expect_ok(unsafe { leave(self.handle(), party.handle()) });
-    }
-
-    /// Returns the number of what was made, which a party shares with what it joined.
-    pub fn number(&self) -> usize {
-        self.number
+    /// Takes the region's memory along, which is freed behind what is over it.
+    pub fn keep(&mut self, memory: Memory) {
+        self.memory = Some(memory);
     }
 
     /// Returns the handle's address, for one call.
@@ -109,9 +83,7 @@ impl<'region> Owned<'region> {
     }
 
     /// Asks for a chunk.
-    ///
     /// # Safety
-    ///
     /// `allocate` is of this kind.
     pub unsafe fn allocate(
         &self,
@@ -124,16 +96,101 @@ impl<'region> Owned<'region> {
     }
 }
 
-impl fmt::Debug for Owned<'_> {
-    fn fmt(&self, f: &mut fmt::Formatter<'_>) -> fmt::Result {
-        f.debug_struct("Owned").field("start", &self.start).finish_non_exhaustive()
-    }
-}
-
 impl Drop for Owned<'_> {
     fn drop(&mut self) {
         // SAFETY: the function is of this kind, and the handle isn't used again. Of a party that left it is empty.
         unsafe { (self.destroy)(self.handle.get_mut()) };
+    }
+}
+
+/// A region of the crate's own.
+pub struct Memory {
+    pub start: NonNull<u8>,
+    pub layout: Layout,
+}
+
+// SAFETY: the memory belongs to no thread.
+unsafe impl Send for Memory {}
+
+impl Memory {
+    /// Returns memory for just so many buckets, with `InvalidArgument` where there is no such region.
+    pub fn of_buckets(bucket: Layout, buckets: u32) -> Result<Memory, InitError> {
+        let bytes = bucket.pad_to_align().size().checked_mul(buckets as usize);
+        Memory::of_bytes(bytes.unwrap_or(0), bucket.align())
+    }
+
+    /// Returns memory of this size at a multiple of `align`.
+    pub fn of_bytes(size: usize, align: usize) -> Result<Memory, InitError> {
+        let layout =
+            Layout::from_size_align(size, align).map_err(|_| InitError::InvalidArgument)?;
+        if size == 0 {
+            return Err(InitError::InvalidArgument);
+        }
+        // SAFETY: the size isn't 0.
+        let start = NonNull::new(unsafe { alloc::alloc(layout) });
+        start.map(|start| Memory { start, layout }).ok_or(InitError::MallocRefused)
+    }
+}
+
+impl Drop for Memory {
+    fn drop(&mut self) {
+        // SAFETY: it was allocated by this layout, and what was over it is destroyed.
+        unsafe { alloc::dealloc(self.start.as_ptr(), self.layout) };
+    }
+}
+
+/// The functions of a kind's parties.
+pub struct Joining {
+    pub join: ffi::Parties,
+    pub leave: ffi::Parties,
+    pub destroy: ffi::Destroy,
+}
+
+/// What threads share. A pool has a party of its own, which gives back buckets that nobody attaches.
+pub struct Common<'region> {
+    pub keeper: Option<Owned<'region>>,
+    pub owned: Owned<'region>,
+}
+
+/// Shares what threads share. Parties join and leave under the lock.
+pub type Shared<'region> = Arc<Mutex<Common<'region>>>;
+
+/// Returns what is shared, for calls that one thread at a time makes. None of them panics behind a half of its work.
+pub fn lock<'lock, 'region>(shared: &'lock Shared<'region>) -> MutexGuard<'lock, Common<'region>> {
+    shared.lock().unwrap_or_else(PoisonError::into_inner)
+}
+
+/// A party, which leaves what it joined when it is dropped.
+pub struct Member<'region> {
+    owned: Owned<'region>,
+    pub of: Shared<'region>,
+    by: &'static Joining,
+}
+
+impl<'region> Member<'region> {
+    /// Joins.
+    /// # Safety
+    /// The functions are of the kind that is shared.
+    pub unsafe fn join(of: &Shared<'region>, by: &'static Joining) -> Result<Self, JoinError> {
+        // SAFETY: as the caller says.
+        let owned = unsafe { lock(of).owned.join(by)? };
+        Ok(Member { owned, of: Arc::clone(of), by })
+    }
+}
+
+impl<'region> Deref for Member<'region> {
+    type Target = Owned<'region>;
+
+    fn deref(&self) -> &Owned<'region> {
+        &self.owned
+    }
+}
+
+impl Drop for Member<'_> {
+    fn drop(&mut self) {
+        let common = lock(&self.of);
+        // SAFETY: the function is of this kind, the party is of what it leaves, and no other call has one of the two handles.
+        expect_ok(unsafe { (self.by.leave)(common.owned.handle(), self.owned.handle()) });
     }
 }
 

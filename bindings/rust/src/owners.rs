@@ -1,51 +1,56 @@
 //! The allocators with one owner.
-use crate::allocator::{Allocator, allocator, buckets, figures, keeps};
+use crate::allocator::{Allocator, Pool, base, buckets, figures, over_region, shown};
 use crate::error::{
     AllocationError, AllocationGrowError, AllocationShrinkError, DeallocationError, InitError,
 };
-use crate::owned::{Owned, expect_ok, is_so, number_if};
+use crate::owned::{Memory, Owned, expect_ok, is_so, number_if};
 use crate::{BaseAllocator, ffi};
 use core::alloc::Layout;
+use core::fmt;
 use core::mem::MaybeUninit;
 use core::ptr::NonNull;
 
-allocator! {
-    /// Gives one chunk after another, and takes all of them back at once. It refuses size 0.
-    ///
-    /// ```
-    /// use bb_memory::{BaseAllocator, BumpAllocator};
-    /// use core::alloc::Layout;
-    ///
-    /// let mut region = Box::new_uninit_slice(1024);
-    /// let bump = BumpAllocator::over(&mut region)?;
-    /// let chunk = bump.allocate(Layout::new::<[u64; 6]>())?;
-    /// assert_eq!(chunk.len(), 48);
-    /// // The chunk is ours, aligned and long enough.
-    /// unsafe { chunk.cast::<u64>().write(7) };
-    /// assert!(bump.used_space() >= 48);
-    /// # Ok::<(), Box<dyn std::error::Error>>(())
-    /// ```
-    ///
-    /// It doesn't outlive its region, and no two threads may see it at once:
-    ///
-    /// ```compile_fail,E0597
-    /// # use bb_memory::BumpAllocator;
-    /// let bump = {
-    ///     let mut region = Box::new_uninit_slice(1024);
-    ///     BumpAllocator::over(&mut region).unwrap()
-    /// };
-    /// drop(bump);
-    /// ```
-    ///
-    /// ```compile_fail,E0277
-    /// # use bb_memory::BumpAllocator;
-    /// let mut region = Box::new_uninit_slice(1024);
-    /// let bump = BumpAllocator::over(&mut region).unwrap();
-    /// std::thread::scope(|scope| {
-    ///     scope.spawn(|| bump.used_space());
-    /// });
-    /// ```
-    BumpAllocator [] [] by bb_bump_init[], bb_bump_destroy
+/// Gives one chunk after another, and takes all of them back at once. It refuses size 0.
+///
+/// ```
+/// use bb_memory::{BaseAllocator, BumpAllocator};
+/// use core::alloc::Layout;
+///
+/// let mut region = Box::new_uninit_slice(1024);
+/// let bump = BumpAllocator::over(&mut region)?;
+/// let chunk = bump.allocate(Layout::new::<[u64; 6]>())?;
+/// assert_eq!(chunk.len(), 48);
+/// // The chunk is ours, aligned and long enough.
+/// unsafe { chunk.cast::<u64>().write(7) };
+/// assert!(bump.used_space() >= 48);
+/// # Ok::<(), Box<dyn std::error::Error>>(())
+/// ```
+///
+/// It doesn't outlive its region, and no two threads may see it at once:
+///
+/// ```compile_fail,E0597
+/// # use bb_memory::BumpAllocator;
+/// let bump = {
+///     let mut region = Box::new_uninit_slice(1024);
+///     BumpAllocator::over(&mut region).unwrap()
+/// };
+/// drop(bump);
+/// ```
+///
+/// ```compile_fail,E0277
+/// # use bb_memory::BumpAllocator;
+/// let mut region = Box::new_uninit_slice(1024);
+/// let bump = BumpAllocator::over(&mut region).unwrap();
+/// std::thread::scope(|scope| {
+///     scope.spawn(|| bump.used_space());
+/// });
+/// ```
+pub struct BumpAllocator<'region> {
+    pub(crate) owned: Owned<'region>,
+}
+
+over_region! {
+    BumpAllocator [] [] by bb_bump_init[], bb_bump_destroy: owned => Ok(BumpAllocator { owned })
 }
 
 figures! {
@@ -64,33 +69,55 @@ impl BaseAllocator for BumpAllocator<'_> {
     }
 }
 
-allocator! {
-    /// Gives all of its region, from the first multiple of the asked alignment on, to one request at a time.
-    ///
-    /// ```
-    /// use bb_memory::{Allocator, BaseAllocator, OneChunkAllocator};
-    /// use core::alloc::Layout;
-    ///
-    /// let mut region = Box::new_uninit_slice(1024);
-    /// let one = OneChunkAllocator::over(&mut region)?;
-    /// let (asked, less) = (Layout::new::<[u64; 6]>(), Layout::new::<[u64; 4]>());
-    /// let chunk = one.allocate(asked)?;
-    /// assert!(chunk.len() >= 48 && !one.has_chunk_available());
-    /// // The chunk is ours, and what is behind the new size isn't used again.
-    /// let shrunk = unsafe { one.shrink(chunk.cast(), asked, less)? };
-    /// assert_eq!(shrunk.len(), 32);
-    /// # Ok::<(), Box<dyn std::error::Error>>(())
-    /// ```
-    OneChunkAllocator [] [] by bb_one_chunk_init[], bb_one_chunk_destroy
+/// Gives all of its region, from the first multiple of the asked alignment on, to one request at a time.
+///
+/// ```
+/// use bb_memory::{Allocator, BaseAllocator, OneChunkAllocator};
+/// use core::alloc::Layout;
+///
+/// let mut region = Box::new_uninit_slice(1024);
+/// let one = OneChunkAllocator::over(&mut region)?;
+/// let (asked, less) = (Layout::new::<[u64; 6]>(), Layout::new::<[u64; 4]>());
+/// let chunk = one.allocate(asked)?;
+/// assert!(chunk.len() >= 48 && !one.has_chunk_available());
+/// // The chunk is ours, and what is behind the new size isn't used again.
+/// let shrunk = unsafe { one.shrink(chunk.cast(), asked, less)? };
+/// assert_eq!(shrunk.len(), 32);
+/// # Ok::<(), Box<dyn std::error::Error>>(())
+/// ```
+pub struct OneChunkAllocator<'region> {
+    owned: Owned<'region>,
+}
+
+over_region! {
+    OneChunkAllocator [] [] by bb_one_chunk_init[], bb_one_chunk_destroy: owned => Ok(OneChunkAllocator { owned })
 }
 
 figures! {
     OneChunkAllocator: OneChunkInfo by bb_one_chunk_info: start_address: usize, size: usize, has_chunk_available: bool
 }
 
-keeps! { OneChunkAllocator: bb_one_chunk_allocate bb_one_chunk_deallocate bb_one_chunk_holds }
+base! { OneChunkAllocator: bb_one_chunk_allocate }
 
 impl OneChunkAllocator<'_> {
+    /// Returns whether the chunk that is out begins here.
+    pub fn holds(&self, ptr: NonNull<u8>) -> bool {
+        // SAFETY: the function is of this kind, and no other call has the handle, here and below.
+        is_so(unsafe { ffi::bb_one_chunk_holds(self.owned.handle(), ptr.as_ptr().cast()) })
+    }
+
+    /// Gives back the chunk that begins here, and refuses where none does.
+    ///
+    /// # Safety
+    ///
+    /// Nothing reads or writes its bytes from now on.
+    pub unsafe fn try_deallocate(&self, ptr: NonNull<u8>) -> Result<(), DeallocationError> {
+        // SAFETY: as above.
+        let code =
+            unsafe { ffi::bb_one_chunk_deallocate(self.owned.handle(), ptr.as_ptr().cast()) };
+        DeallocationError::unless_ok(code)
+    }
+
     fn resize(
         &self,
         resize: ffi::Resize,
@@ -128,29 +155,56 @@ impl Allocator for OneChunkAllocator<'_> {
     }
 }
 
-allocator! {
-    /// Gives buckets of one layout. What it knows of its buckets is in memory of `malloc`.
-    ///
-    /// ```
-    /// use bb_memory::{BaseAllocator, PoolAllocator};
-    /// use core::alloc::Layout;
-    ///
-    /// let mut region = Box::new_uninit_slice(1024);
-    /// let bucket = Layout::from_size_align(128, 1)?;
-    /// let pool = PoolAllocator::over(bucket, &mut region)?;
-    /// let chunk = pool.allocate(Layout::new::<[u8; 48]>())?;
-    /// assert_eq!(chunk.len(), 48);
-    /// let number = pool.number_at(chunk.cast()).unwrap();
-    /// assert_eq!(pool.place_at(number), Some(chunk.cast()));
-    /// // The chunk isn't used again.
-    /// unsafe { pool.deallocate(chunk.cast(), bucket) };
-    /// assert!(!pool.holds(chunk.cast()));
-    /// # Ok::<(), Box<dyn std::error::Error>>(())
-    /// ```
-    PoolAllocator [bucket_layout: Layout] []
-    by bb_pool_init[bucket_layout.size(), bucket_layout.align()], bb_pool_destroy
+/// Gives buckets of one layout. What it knows of its buckets is in memory of `malloc`.
+///
+/// ```
+/// use bb_memory::{BaseAllocator, Pool, PoolAllocator};
+/// use core::alloc::Layout;
+///
+/// let mut region = Box::new_uninit_slice(1024);
+/// let bucket = Layout::from_size_align(128, 1)?;
+/// let pool = PoolAllocator::over(bucket, &mut region)?;
+/// let chunk = pool.allocate(Layout::new::<[u8; 48]>())?;
+/// assert_eq!(chunk.len(), 48);
+/// let number = pool.number_at(chunk.cast()).unwrap();
+/// assert_eq!(pool.place_at(number), Some(chunk.cast()));
+/// // The chunk isn't used again.
+/// unsafe { pool.deallocate(chunk.cast(), bucket) };
+/// assert!(!pool.holds(chunk.cast()));
+/// # Ok::<(), Box<dyn std::error::Error>>(())
+/// ```
+pub struct PoolAllocator<'region> {
+    owned: Owned<'region>,
+    pub(crate) bucket: Layout,
 }
 
-keeps! { PoolAllocator: bb_pool_allocate bb_pool_deallocate bb_pool_holds }
+impl PoolAllocator<'static> {
+    /// Makes a pool of just so many buckets in memory of its own, which is freed with it: no chunk is used behind its end.
+    /// `InvalidArgument` where there are none, or no such memory can be.
+    ///
+    /// ```
+    /// use bb_memory::{Pool, PoolAllocator};
+    /// use core::alloc::Layout;
+    ///
+    /// let pool = PoolAllocator::with_buckets(Layout::new::<[u64; 4]>(), 16)?;
+    /// std::thread::spawn(move || assert_eq!(pool.number_of_buckets(), 16)).join().unwrap();
+    /// # Ok::<(), Box<dyn std::error::Error>>(())
+    /// ```
+    pub fn with_buckets(bucket: Layout, buckets: u32) -> Result<Self, InitError> {
+        let memory = Memory::of_buckets(bucket, buckets)?;
+        let (start, size) = (memory.start, memory.layout.size());
+        // SAFETY: nothing else uses the memory, which lives as long as the pool.
+        let mut pool = unsafe { PoolAllocator::new(bucket, start, size)? };
+        pool.owned.keep(memory);
+        Ok(pool)
+    }
+}
 
-buckets! { PoolAllocator: bb_pool_info bb_pool_place_at bb_pool_number_at }
+over_region! {
+    PoolAllocator [bucket: Layout] [] by bb_pool_init[bucket.size(), bucket.align()], bb_pool_destroy:
+    owned => Ok(PoolAllocator { owned, bucket })
+}
+
+buckets! {
+    PoolAllocator: bb_pool_allocate bb_pool_deallocate bb_pool_holds bb_pool_info bb_pool_place_at bb_pool_number_at
+}

@@ -1,54 +1,50 @@
-//! What threads share: each thread is a party, which joins and leaves.
-use crate::allocator::{allocator, buckets, figures, keeps};
+//! What threads share: each thread is a party, which joins, and leaves when it is dropped.
+use crate::allocator::{Pool, base, buckets, figures, over_region, shown};
 use crate::error::{
     AllocationError, DeallocationError, DetachError, InitError, JoinError, ResetError,
     no_such_answer,
 };
-use crate::owned::{Owned, expect_ok, is_so, number_if};
+use crate::owned::{
+    Common, Joining, Member, Memory, Owned, Shared, expect_ok, is_so, lock, number_if,
+};
 use crate::{BaseAllocator, ffi};
 use core::alloc::Layout;
+use core::fmt;
 use core::mem::MaybeUninit;
 use core::ptr::NonNull;
+use std::sync::{Arc, Mutex};
 
-allocator! {
-    /// A bump that threads share: it is made for some number of parties, each of which can join. No call of a party waits for
-    /// another's. A party that left ([`leave`](SharedBumpAllocator::leave)) can join again. Chunks go back all at once, by
-    /// [`reset`](SharedBumpAllocator::reset), when each party has left.
-    ///
-    /// ```
-    /// use bb_memory::SharedBumpAllocator;
-    /// use core::alloc::Layout;
-    ///
-    /// let mut region = Box::new_uninit_slice(1024);
-    /// let bump = SharedBumpAllocator::over(&mut region, 2)?;
-    /// let parties = [bump.join()?, bump.join()?];
-    /// std::thread::scope(|scope| {
-    ///     for party in parties {
-    ///         scope.spawn(move || assert!(party.allocate(Layout::new::<u64>()).is_ok()));
-    ///     }
-    /// });
-    /// # Ok::<(), Box<dyn std::error::Error>>(())
-    /// ```
-    SharedBumpAllocator [] [parties: u32] by bb_shared_bump_init[], bb_shared_bump_destroy
+static BUMP_PARTIES: Joining = Joining {
+    join: ffi::bb_shared_bump_join,
+    leave: ffi::bb_shared_bump_leave,
+    destroy: ffi::bb_bump_party_destroy,
+};
+
+static POOL_PARTIES: Joining = Joining {
+    join: ffi::bb_shared_pool_join,
+    leave: ffi::bb_shared_pool_leave,
+    destroy: ffi::bb_pool_party_destroy,
+};
+
+/// A bump that threads share: it is made for some number of parties, each of which can join. No call of a party waits for
+/// another's. A party leaves when it is dropped, and then one can join again. Chunks go back all at once, by
+/// [`reset`](SharedBumpAllocator::reset), when each party has left. A clone is of the same bump.
+#[derive(Clone)]
+pub struct SharedBumpAllocator<'region> {
+    shared: Shared<'region>,
+}
+
+over_region! {
+    SharedBumpAllocator [] [parties: u32 = number_of(parties, 0)?] by bb_shared_bump_init[], bb_shared_bump_destroy:
+    owned => Ok(SharedBumpAllocator { shared: Arc::new(Mutex::new(Common { keeper: None, owned })) })
 }
 
 impl<'region> SharedBumpAllocator<'region> {
-    /// Makes a party. The bump stays as long as it or one of its parties does.
+    /// Makes a party, with [`NoParty`](JoinError::NoParty) where each has joined.
     pub fn join(&self) -> Result<BumpParty<'region>, JoinError> {
-        let (join, destroy) = (ffi::bb_shared_bump_join, ffi::bb_bump_party_destroy);
-        // SAFETY: both functions are of this kind and its parties'.
-        let owned = unsafe { self.owned.join(join, destroy)? };
+        // SAFETY: the functions are of this kind and its parties'.
+        let owned = unsafe { Member::join(&self.shared, &BUMP_PARTIES)? };
         Ok(BumpParty { owned })
-    }
-
-    /// Ends a party of this bump, which may join again. The chunks that it took stay used.
-    ///
-    /// # Panics
-    ///
-    /// Where the party is another bump's.
-    pub fn leave(&self, party: BumpParty<'region>) {
-        // SAFETY: the function is of this kind.
-        unsafe { self.owned.leave(party.owned, ffi::bb_shared_bump_leave) }
     }
 
     /// Starts again over the region, with as many parties: nothing is used. Each party has to have left.
@@ -58,14 +54,33 @@ impl<'region> SharedBumpAllocator<'region> {
     /// No chunk is used that was given before.
     pub unsafe fn reset(&self) -> Result<(), ResetError> {
         // SAFETY: the function is of this kind, and no other call has the handle.
-        ResetError::unless_ok(unsafe { ffi::bb_shared_bump_reset(self.owned.handle()) })
+        let code = unsafe { ffi::bb_shared_bump_reset(lock(&self.shared).owned.handle()) };
+        ResetError::unless_ok(code)
     }
 }
 
-/// A party of a [`SharedBumpAllocator`], for one thread at a time. It refuses size 0.
-#[derive(Debug)]
+impl SharedBumpAllocator<'static> {
+    /// Makes a bump of so many bytes, from a multiple of 64 on, in memory of its own. That is freed behind the bump and its
+    /// parties: no chunk is used then. `InvalidArgument` where there is no byte, or no such memory can be.
+    pub fn with_bytes(size: usize, parties: u32) -> Result<Self, InitError> {
+        let memory = Memory::of_bytes(size, 64)?;
+        // SAFETY: nothing else uses the memory, which lives as long as the bump and its parties.
+        let bump = unsafe { SharedBumpAllocator::new(memory.start, size, parties)? };
+        lock(&bump.shared).owned.keep(memory);
+        Ok(bump)
+    }
+}
+
+impl fmt::Debug for SharedBumpAllocator<'_> {
+    fn fmt(&self, f: &mut fmt::Formatter<'_>) -> fmt::Result {
+        f.debug_struct("SharedBumpAllocator").finish_non_exhaustive()
+    }
+}
+
+/// A party of a [`SharedBumpAllocator`], for one thread at a time. It refuses size 0. Dropped, it leaves; the chunks that it took
+/// stay used.
 pub struct BumpParty<'region> {
-    owned: Owned<'region>,
+    pub(crate) owned: Member<'region>,
 }
 
 impl BumpParty<'_> {
@@ -81,151 +96,150 @@ figures! {
     total_space: usize
 }
 
-allocator! {
-    /// A pool that threads share: it is made for some number of parties, each of which can join. No call of a party waits for
-    /// another's. A party that left ([`leave`](SharedPoolAllocator::leave), or with what it holds
-    /// [`leave_with_buckets`](SharedPoolAllocator::leave_with_buckets)) can join again.
-    ///
-    /// ```
-    /// use bb_memory::{BaseAllocator, SharedPoolAllocator};
-    /// use core::alloc::Layout;
-    ///
-    /// let mut region = Box::new_uninit_slice(1024);
-    /// let bucket = Layout::from_size_align(128, 8)?;
-    /// let pool = SharedPoolAllocator::over(bucket, &mut region, 2)?;
-    /// let parties = [pool.join()?, pool.join()?];
-    /// std::thread::scope(|scope| {
-    ///     for party in parties {
-    ///         scope.spawn(move || {
-    ///             let chunk = party.allocate(Layout::new::<u64>()).unwrap();
-    ///             // The chunk is this thread's until it gives it back.
-    ///             unsafe {
-    ///                 chunk.cast::<u64>().write(7);
-    ///                 party.deallocate(chunk.cast(), Layout::new::<u64>());
-    ///             }
-    ///         });
-    ///     }
-    /// });
-    /// # Ok::<(), Box<dyn std::error::Error>>(())
-    /// ```
-    SharedPoolAllocator [bucket_layout: Layout] [parties: u32]
-    by bb_shared_pool_init[bucket_layout.size(), bucket_layout.align()], bb_shared_pool_destroy
+/// A pool that threads share: it is made for some number of parties, each of which can join. No call of a party waits for
+/// another's. A party leaves when it is dropped, with what it holds, and then one can join again. A clone is of the same pool.
+///
+/// ```
+/// use bb_memory::{BaseAllocator, SharedPoolAllocator};
+/// use core::alloc::Layout;
+///
+/// let pool = SharedPoolAllocator::with_buckets(Layout::new::<u64>(), 16, 2)?;
+/// let threads = [pool.join()?, pool.join()?].map(|party| {
+///     std::thread::spawn(move || {
+///         let chunk = party.allocate(Layout::new::<u64>()).unwrap();
+///         // The chunk is this thread's until it gives it back.
+///         unsafe {
+///             chunk.cast::<u64>().write(7);
+///             party.deallocate(chunk.cast(), Layout::new::<u64>());
+///         }
+///     })
+/// });
+/// for thread in threads {
+///     thread.join().unwrap();
+/// }
+/// # Ok::<(), Box<dyn std::error::Error>>(())
+/// ```
+#[derive(Clone)]
+pub struct SharedPoolAllocator<'region> {
+    shared: Shared<'region>,
+    bucket: Layout,
+}
+
+over_region! {
+    SharedPoolAllocator [bucket: Layout] [parties: u32 = number_of(parties, 1)?]
+    by bb_shared_pool_init[bucket.size(), bucket.align()], bb_shared_pool_destroy: owned => Self::kept(owned, bucket)
+}
+
+/// Returns how many parties something is made for: a pool has one more, which gives back what nobody attaches.
+fn number_of(parties: u32, keepers: u32) -> Result<u32, InitError> {
+    let number = parties.checked_add(keepers).ok_or(InitError::InvalidArgument)?;
+    if parties > 0 { Ok(number) } else { Err(InitError::InvalidArgument) }
 }
 
 impl<'region> SharedPoolAllocator<'region> {
-    /// Makes a party. The pool stays as long as it or one of its parties does.
+    fn kept(owned: Owned<'region>, bucket: Layout) -> Result<Self, InitError> {
+        // SAFETY: the functions are of this kind and its parties'.
+        let keeper = unsafe { owned.join(&POOL_PARTIES) };
+        // No party has joined yet, so only `malloc` refuses.
+        let keeper = Some(keeper.map_err(|_| InitError::MallocRefused)?);
+        Ok(SharedPoolAllocator { shared: Arc::new(Mutex::new(Common { keeper, owned })), bucket })
+    }
+
+    /// Makes a party, with [`NoParty`](JoinError::NoParty) where each has joined.
     pub fn join(&self) -> Result<PoolParty<'region>, JoinError> {
-        let (join, destroy) = (ffi::bb_shared_pool_join, ffi::bb_pool_party_destroy);
-        // SAFETY: both functions are of this kind and its parties'.
-        let owned = unsafe { self.owned.join(join, destroy)? };
-        Ok(PoolParty { owned })
+        // SAFETY: the functions are of this kind and its parties'.
+        let owned = unsafe { Member::join(&self.shared, &POOL_PARTIES)? };
+        Ok(PoolParty { owned, bucket: self.bucket })
     }
+}
 
-    /// Ends a party of this pool that holds nothing. It may join again. A party that holds a bucket is handed back as it was.
-    ///
-    /// # Panics
-    ///
-    /// Where the party is another pool's.
-    pub fn leave(&self, party: PoolParty<'region>) -> Result<(), PoolParty<'region>> {
-        self.owned.expect_own(&party.owned);
-        if party.held_buckets() > 0 {
-            return Err(party);
+impl SharedPoolAllocator<'static> {
+    /// Makes a pool of just so many buckets in memory of its own, so that its parties go into any thread. The memory is freed
+    /// behind the pool, its parties and its detached buckets: no chunk is used then. `InvalidArgument` where there is no bucket,
+    /// or no such memory can be.
+    pub fn with_buckets(bucket: Layout, buckets: u32, parties: u32) -> Result<Self, InitError> {
+        let memory = Memory::of_buckets(bucket, buckets)?;
+        let (start, size) = (memory.start, memory.layout.size());
+        // SAFETY: nothing else uses the memory, which lives as long as the pool and what is of it.
+        let pool = unsafe { SharedPoolAllocator::new(bucket, start, size, parties)? };
+        lock(&pool.shared).owned.keep(memory);
+        Ok(pool)
+    }
+}
+
+impl fmt::Debug for SharedPoolAllocator<'_> {
+    fn fmt(&self, f: &mut fmt::Formatter<'_>) -> fmt::Result {
+        let mut info = ffi::PoolInfo::default();
+        if let Some(keeper) = &lock(&self.shared).keeper {
+            // SAFETY: the function is of this kind, and no other call has the handle.
+            expect_ok(unsafe { ffi::bb_pool_party_info(keeper.handle(), &mut info) });
         }
-        // SAFETY: the party holds no chunk.
-        unsafe { self.leave_with_buckets(party) };
-        Ok(())
-    }
-
-    /// Ends a party of this pool, with what it holds: each of its buckets is given back, and it may join again.
-    ///
-    /// # Safety
-    ///
-    /// No chunk that the party holds is used any more.
-    ///
-    /// # Panics
-    ///
-    /// Where the party is another pool's.
-    pub unsafe fn leave_with_buckets(&self, party: PoolParty<'region>) {
-        // SAFETY: the function is of this kind.
-        unsafe { self.owned.leave(party.owned, ffi::bb_shared_pool_leave) }
+        let mut shown = f.debug_struct("SharedPoolAllocator");
+        shown.field("bucket", &self.bucket).field("number_of_buckets", &info.number_of_buckets);
+        shown.finish_non_exhaustive()
     }
 }
 
-/// A party of a [`SharedPoolAllocator`], for one thread at a time. A bucket is given back through the
-/// party that holds it: the one that took it, or one that attached it. What a dropped party holds stays held for good.
-///
-/// ```compile_fail,E0277
-/// # use bb_memory::SharedPoolAllocator;
-/// # use core::alloc::Layout;
-/// let mut region = Box::new_uninit_slice(1024);
-/// let pool = SharedPoolAllocator::over(Layout::new::<u64>(), &mut region, 2).unwrap();
-/// let party = pool.join().unwrap();
-/// std::thread::scope(|scope| {
-///     scope.spawn(|| party.number_of_buckets());
-/// });
-/// ```
-#[derive(Debug)]
+/// A party of a [`SharedPoolAllocator`], for one thread at a time. A bucket is given back through the party that holds it: the
+/// one that took it, or one that attached it. Dropped, also by a panic, it leaves: each bucket that it holds is given back, and
+/// its chunks aren't used any more.
 pub struct PoolParty<'region> {
-    owned: Owned<'region>,
+    owned: Member<'region>,
+    pub(crate) bucket: Layout,
 }
 
-keeps! { PoolParty: bb_pool_party_allocate bb_pool_party_deallocate bb_pool_party_holds }
+buckets! {
+    PoolParty: bb_pool_party_allocate bb_pool_party_deallocate bb_pool_party_holds bb_pool_party_info
+    bb_pool_party_place_at bb_pool_party_number_at
+}
 
-buckets! { PoolParty: bb_pool_party_info bb_pool_party_place_at bb_pool_party_number_at }
-
-/// A detached bucket, or none: what carries a bucket from one party of a [`SharedPoolAllocator`] to
-/// another, which gives it back. It is made once, and serves one bucket after another; it borrows nothing, so it goes along with
-/// a message. The bucket in a dropped one stays detached for good.
+/// A detached bucket, or none: what carries a bucket from one party of a [`SharedPoolAllocator`] to another, which gives it back.
+/// It is made once, and serves one bucket after another, along with messages. The bucket in a dropped one is given back.
 ///
 /// ```
 /// use bb_memory::{BaseAllocator, DetachedBucket, SharedPoolAllocator};
 /// use core::alloc::Layout;
 /// use std::sync::mpsc::sync_channel;
 ///
-/// let mut region = Box::new_uninit_slice(1024);
 /// let message = Layout::new::<u64>();
-/// let pool = SharedPoolAllocator::over(message, &mut region, 2)?;
+/// let pool = SharedPoolAllocator::with_buckets(message, 16, 2)?;
 /// let (sender, receiver) = (pool.join()?, pool.join()?);
 /// let (full, taken) = sync_channel::<DetachedBucket>(1);
 /// let mut detached = DetachedBucket::new()?;
-/// std::thread::scope(|scope| {
-///     scope.spawn(move || {
-///         let chunk = sender.allocate(message).unwrap().cast::<u64>();
-///         // The chunk is this thread's until it detaches it.
-///         unsafe {
-///             chunk.write(7);
-///             sender.detach(chunk.cast(), 8, &mut detached).unwrap();
-///         }
-///         full.send(detached).unwrap();
-///     });
-///     scope.spawn(move || {
-///         let chunk = receiver.attach(&mut taken.recv().unwrap()).unwrap();
-///         // Now it is this thread's, which gives it back.
-///         unsafe {
-///             assert_eq!(chunk.cast::<u64>().read(), 7);
-///             receiver.deallocate(chunk.cast(), message);
-///         }
-///     });
+/// let sending = std::thread::spawn(move || {
+///     let chunk = sender.allocate(message).unwrap().cast::<u64>();
+///     // The chunk is this thread's until it detaches it.
+///     unsafe {
+///         chunk.write(7);
+///         sender.detach(chunk.cast(), 8, &mut detached).unwrap();
+///     }
+///     full.send(detached).unwrap();
 /// });
+/// let chunk = receiver.attach(&mut taken.recv()?).unwrap();
+/// // Now it is this thread's, which gives it back.
+/// unsafe {
+///     assert_eq!(chunk.cast::<u64>().read(), 7);
+///     receiver.deallocate(chunk.cast(), message);
+/// }
+/// sending.join().unwrap();
 /// # Ok::<(), Box<dyn std::error::Error>>(())
 /// ```
-#[derive(Debug)]
-pub struct DetachedBucket {
+pub struct DetachedBucket<'region> {
     owned: Owned<'static>,
-    /// The number of the pool of which the bucket is that is in it.
-    pool: Option<usize>,
+    /// The pool of which the bucket is that is in it.
+    of: Option<Shared<'region>>,
 }
 
-impl DetachedBucket {
+impl DetachedBucket<'_> {
     /// Makes a `DetachedBucket` with no bucket in it, for a bucket of any pool.
-    pub fn new() -> Result<DetachedBucket, InitError> {
+    pub fn new() -> Result<Self, InitError> {
         // SAFETY: both functions are of this kind.
         let owned = unsafe {
             Owned::init(NonNull::dangling(), ffi::bb_detached_destroy, |it, _| {
                 ffi::bb_detached_init(it)
             })?
         };
-        Ok(DetachedBucket { owned, pool: None })
+        Ok(DetachedBucket { owned, of: None })
     }
 
     /// Returns whether a bucket is in it.
@@ -233,42 +247,63 @@ impl DetachedBucket {
         // SAFETY: the function is of this kind, and no other call has the handle.
         is_so(unsafe { ffi::bb_detached_is_full(self.owned.handle()) })
     }
+
+    /// Returns the chunk that is attached by a party of the bucket's pool.
+    fn attach_by(&mut self, party: &Owned<'_>) -> NonNull<[u8]> {
+        // SAFETY: both handles are of their kinds, no other call has one of them, and the bucket is of the party's pool.
+        let answer = unsafe { ffi::bb_pool_party_attach(party.handle(), self.owned.handle()) };
+        party.chunk(answer).unwrap_or_else(|code| no_such_answer(code))
+    }
 }
 
-impl PoolParty<'_> {
-    /// Detaches the bucket at this place, which this party holds, with a chunk of `len` bytes. It is then in `detached`, which has
-    /// to have none. Whoever has that attaches it.
+impl fmt::Debug for DetachedBucket<'_> {
+    fn fmt(&self, f: &mut fmt::Formatter<'_>) -> fmt::Result {
+        f.debug_struct("DetachedBucket").field("is_full", &self.is_full()).finish()
+    }
+}
+
+impl Drop for DetachedBucket<'_> {
+    fn drop(&mut self) {
+        let Some(of) = self.of.take() else { return };
+        if let Some(keeper) = &lock(&of).keeper {
+            let place = self.attach_by(keeper).cast::<u8>().as_ptr().cast();
+            // SAFETY: the function is of this kind; and no party holds the bucket, so nobody uses its chunk any more.
+            expect_ok(unsafe { ffi::bb_pool_party_deallocate(keeper.handle(), place) });
+        }
+    }
+}
+
+impl<'region> PoolParty<'region> {
+    /// Detaches the bucket at this place, which this party holds, with a chunk of `len` bytes. It is then in `detached`, which
+    /// has to have none. Whoever has that attaches it. Meanwhile several threads may read the chunk.
     ///
     /// # Safety
     ///
-    /// The chunk isn't written any more by who doesn't attach it.
+    /// The chunk isn't written any more by who doesn't attach it, and isn't read behind the end of `detached`.
     pub unsafe fn detach(
         &self,
         ptr: NonNull<u8>,
         len: usize,
-        detached: &mut DetachedBucket,
+        detached: &mut DetachedBucket<'region>,
     ) -> Result<(), DetachError> {
         let (party, place) = (self.owned.handle(), ptr.as_ptr().cast());
         // SAFETY: both handles are of their kinds, no other call has one of them, and they are two.
         let code = unsafe { ffi::bb_pool_party_detach(party, place, len, detached.owned.handle()) };
         DetachError::unless_ok(code)?;
-        detached.pool = Some(self.owned.number());
+        detached.of = Some(Arc::clone(&self.owned.of));
         Ok(())
     }
 
-    /// Attaches the bucket that is in `detached`: this party holds it, with the chunk that is returned. Returns `None` where none is
-    /// in it.
+    /// Attaches the bucket that is in `detached`: this party holds it, with the chunk that is returned. Returns `None` where none
+    /// is in it.
     ///
     /// # Panics
     ///
-    /// Where the bucket is another pool's.
-    pub fn attach(&self, detached: &mut DetachedBucket) -> Option<NonNull<[u8]>> {
-        let pool = detached.pool?;
-        assert_eq!(pool, self.owned.number(), "the bucket is another pool's");
-        detached.pool = None;
-        let (party, from) = (self.owned.handle(), detached.owned.handle());
-        // SAFETY: as of `detach`; and the bucket is of the party's pool.
-        let chunk = self.owned.chunk(unsafe { ffi::bb_pool_party_attach(party, from) });
-        Some(chunk.unwrap_or_else(|code| no_such_answer(code)))
+    /// Where the bucket is another pool's, which stays in `detached`.
+    pub fn attach(&self, detached: &mut DetachedBucket<'region>) -> Option<NonNull<[u8]>> {
+        let pool = detached.of.as_ref()?;
+        assert!(Arc::ptr_eq(pool, &self.owned.of), "the bucket is another pool's");
+        detached.of = None;
+        Some(detached.attach_by(&self.owned))
     }
 }

@@ -1,7 +1,7 @@
 //! The allocators with one owner: each answer and each refusal, at the border of the C library.
 use bb_memory::{
     AllocationError, AllocationGrowError, AllocationShrinkError, Allocator, BaseAllocator,
-    BumpAllocator, DeallocationError, InitError, OneChunkAllocator, PoolAllocator,
+    BumpAllocator, DeallocationError, InitError, OneChunkAllocator, Pool, PoolAllocator,
 };
 use std::alloc::Layout;
 use std::mem::MaybeUninit;
@@ -169,8 +169,43 @@ fn what_cannot_be_is_refused() {
     // SAFETY: nothing is made, since such a region would end behind the last address.
     refuses(unsafe { BumpAllocator::new(start, usize::MAX) }, InitError::InvalidArgument);
     assert_eq!(InitError::MallocRefused.to_string(), "malloc refused");
+    refuses(PoolAllocator::with_buckets(layout(8, 8), 0), InitError::InvalidArgument);
+    refuses(PoolAllocator::with_buckets(layout(0, 8), 4), InitError::InvalidArgument);
+    let most = layout(isize::MAX as usize / 2, 1);
+    refuses(PoolAllocator::with_buckets(most, u32::MAX - 1), InitError::InvalidArgument);
+}
+
+#[test]
+fn what_is_made_shows_its_figures() {
+    let mut region = Region::new();
     let one = OneChunkAllocator::over(&mut region.0).unwrap();
-    assert!(format!("{one:?}").starts_with("OneChunkAllocator"));
+    let shown = format!("{one:?}");
+    assert!(
+        shown.starts_with("OneChunkAllocator(OneChunkInfo { start_address: ")
+            && shown.contains("size: 1024")
+    );
+    let pool = PoolAllocator::with_buckets(layout(64, 16), 3).unwrap();
+    assert!(pool.allocate(layout(1, 1)).is_ok());
+    let shown = format!("{pool:?}");
+    assert!(
+        shown.ends_with("max_alignment: 16, number_of_buckets: 3, held_buckets: 1 })"),
+        "{shown}"
+    );
+}
+
+#[test]
+fn a_pool_has_memory_of_its_own() {
+    let pool = PoolAllocator::with_buckets(layout(40, 64), 5).unwrap();
+    let used = std::thread::spawn(move || {
+        let chunks: Vec<_> =
+            (0..5).map(|_| pool.allocate_zeroed(layout(40, 64)).unwrap()).collect();
+        assert!(
+            chunks.iter().all(|chunk| is_zero(*chunk) && chunk.cast::<u8>().addr().get() % 64 == 0)
+        );
+        refuses(pool.allocate(layout(1, 1)), AllocationError::OutOfMemory);
+        (pool.number_of_buckets(), pool.held_buckets(), pool.size(), pool.start_address() % 64)
+    });
+    assert_eq!(used.join().unwrap(), (5, 5, 320, 0));
 }
 
 #[test]

@@ -1,7 +1,7 @@
 //! What threads share: each thread is a party, which it takes along.
 use bb_memory::{
     AllocationError, BaseAllocator, BumpParty, DeallocationError, DetachError, DetachedBucket,
-    InitError, JoinError, PoolParty, ResetError, SharedBumpAllocator, SharedPoolAllocator,
+    InitError, JoinError, Pool, PoolParty, ResetError, SharedBumpAllocator, SharedPoolAllocator,
 };
 use std::alloc::Layout;
 use std::ptr::NonNull;
@@ -91,61 +91,69 @@ fn every_byte_of_a_shared_bump_is_given_once() {
 
 #[test]
 fn a_shared_bump_is_reset_when_each_party_has_left() {
-    let mut region = Box::new_uninit_slice(64);
-    let bump = SharedBumpAllocator::over(&mut region, 2).unwrap();
+    let bump = SharedBumpAllocator::with_bytes(64, 2).unwrap();
     let (one, other) = (bump.join().unwrap(), bump.join().unwrap());
     assert!(one.allocate(Layout::new::<[u8; 64]>()).is_ok());
-    assert_eq!(other.info().free_space, 0);
+    assert_eq!((other.info().free_space, other.start_address() % 64), (0, 0));
     // SAFETY: no chunk is used, here and below.
     let reset = || unsafe { bump.reset() };
     refuses(reset(), ResetError::PartiesJoined);
-    bump.leave(other);
+    drop(other);
     refuses(reset(), ResetError::PartiesJoined);
-    bump.leave(one);
+    assert!(thread::spawn(move || one.info().free_space).join().is_ok());
     assert_eq!(reset(), Ok(()));
     let party = bump.join().unwrap();
     assert_eq!((party.used_space(), party.total_space()), (0, 64));
-    // A dropped party doesn't come back.
-    drop(party);
-    refuses(reset(), ResetError::PartiesJoined);
+    assert!(format!("{bump:?} {party:?}").contains("used_space: 0"));
 }
 
 #[test]
-fn a_party_leaves_with_what_it_holds() {
-    let mut region = Box::new_uninit_slice(64 * 3);
-    let pool = SharedPoolAllocator::over(bucket(), &mut region, 2).unwrap();
+fn threads_that_come_and_go_lose_nothing() {
+    let pool = SharedPoolAllocator::with_buckets(bucket(), 3, 2).unwrap();
     let kept = pool.join().unwrap();
     let chunk = kept.allocate(bucket()).unwrap().cast::<u8>();
-    for _ in 0..1_000 {
-        let worker = pool.join().unwrap();
-        let worker = thread::scope(|scope| {
-            let working = scope.spawn(move || {
-                assert!(worker.allocate(bucket()).is_ok());
-                worker
-            });
-            working.join().unwrap()
+    for round in 0..1_000 {
+        let pool = pool.clone();
+        let working = thread::spawn(move || {
+            let worker = pool.join().unwrap();
+            refuses(pool.join(), JoinError::NoParty);
+            // SAFETY: the chunk isn't used.
+            unsafe {
+                let chunk = worker.allocate(bucket()).unwrap().cast();
+                worker.detach(chunk, 64, &mut DetachedBucket::new().unwrap()).unwrap();
+            }
+            assert!(worker.allocate(bucket()).is_ok() && worker.allocate(bucket()).is_ok());
+            refuses(worker.allocate(bucket()), AllocationError::OutOfMemory);
+            // A panic without the text of one, so that the test says nothing.
+            if round % 2 == 0 {
+                std::panic::resume_unwind(Box::new("a worker"));
+            }
         });
-        // What holds a bucket leaves by the other call alone.
-        let worker = pool.leave(worker).unwrap_err();
-        assert_eq!(worker.held_buckets(), 1);
-        // SAFETY: the bucket isn't used.
-        unsafe { pool.leave_with_buckets(worker) };
+        assert_eq!(working.join().is_err(), round % 2 == 0);
     }
     assert!(kept.holds(chunk) && kept.held_buckets() == 1);
-    // SAFETY: as above.
-    assert_eq!(unsafe { kept.try_deallocate(chunk) }, Ok(()));
-    assert!(pool.leave(kept).is_ok());
-    let _parties = (pool.join().unwrap(), pool.join().unwrap());
-    refuses(pool.join(), JoinError::NoParty);
+    let other = pool.join().unwrap();
+    assert!(other.allocate(bucket()).is_ok() && other.allocate(bucket()).is_ok());
+    drop((kept, other));
+    assert_eq!(pool.join().unwrap().held_buckets(), 0);
+    assert!(format!("{pool:?}").contains("number_of_buckets: 3"));
 }
 
 #[test]
-#[should_panic(expected = "the party is another allocator's")]
-fn a_party_does_not_leave_another_pool() {
-    let (mut mine, mut other) = (Box::new_uninit_slice(64), Box::new_uninit_slice(64));
-    let mine = SharedPoolAllocator::over(bucket(), &mut mine, 1).unwrap();
-    let other = SharedPoolAllocator::over(bucket(), &mut other, 1).unwrap();
-    let _ = mine.leave(other.join().unwrap());
+fn the_memory_lives_as_long_as_what_is_of_the_pool() {
+    let pool = SharedPoolAllocator::with_buckets(bucket(), 1, 1).unwrap();
+    let party = pool.join().unwrap();
+    let mut detached = DetachedBucket::new().unwrap();
+    drop(pool);
+    let chunk = party.allocate(bucket()).unwrap().cast::<u64>();
+    // SAFETY: the chunk is this thread's until it is detached, and then read as long as it is.
+    unsafe {
+        chunk.write(7);
+        party.detach(chunk.cast(), 64, &mut detached).unwrap();
+        drop(party);
+        assert_eq!(chunk.read(), 7);
+    }
+    assert!(detached.is_full());
 }
 
 #[test]
@@ -197,7 +205,7 @@ fn a_receiver_gives_back_what_it_was_sent() {
 
 #[test]
 fn what_one_party_holds_is_not_anothers() {
-    let (mut region, mut small) = (Box::new_uninit_slice(64 * 2), Box::new_uninit_slice(64));
+    let mut region = Box::new_uninit_slice(64 * 2);
     let pool = SharedPoolAllocator::over(bucket(), &mut region, 2).unwrap();
     let (mine, other) = (pool.join().unwrap(), pool.join().unwrap());
     let mut detached = DetachedBucket::new().unwrap();
@@ -207,12 +215,8 @@ fn what_one_party_holds_is_not_anothers() {
     assert_eq!((mine.holds(chunk), other.holds(chunk)), (true, false));
     let number = mine.number_at(chunk).unwrap();
     assert_eq!((other.place_at(number), other.place_at(2)), (Some(chunk), None));
-    let alone = SharedPoolAllocator::over(bucket(), &mut small, 1).unwrap();
-    let elsewhere = alone.join().unwrap();
-    let there = elsewhere.allocate(bucket()).unwrap().cast::<u8>();
     // SAFETY: no chunk is used.
     unsafe {
-        refuses(elsewhere.detach(there, 64, &mut detached), DetachError::OneParty);
         refuses(other.detach(chunk, 64, &mut detached), DetachError::NotHeld);
         refuses(mine.detach(chunk, 65, &mut detached), DetachError::SizeTooLarge);
         assert_eq!(mine.detach(chunk, 64, &mut detached), Ok(()));
@@ -244,4 +248,7 @@ fn nothing_is_made_for_no_party() {
     let mut region = Box::new_uninit_slice(64);
     refuses(SharedBumpAllocator::over(&mut region, 0), InitError::InvalidArgument);
     refuses(SharedPoolAllocator::over(bucket(), &mut region, 0), InitError::InvalidArgument);
+    refuses(SharedPoolAllocator::over(bucket(), &mut region, u32::MAX), InitError::InvalidArgument);
+    refuses(SharedPoolAllocator::with_buckets(bucket(), 0, 1), InitError::InvalidArgument);
+    refuses(SharedBumpAllocator::with_bytes(0, 1), InitError::InvalidArgument);
 }

@@ -1,0 +1,77 @@
+//! `core::alloc::Allocator`, so that `Box`, `Vec` and others lie in a region. A collection's return to a bump does nothing.
+use crate::{BaseAllocator, BumpAllocator, BumpParty, PoolAllocator, PoolParty, ffi};
+use core::alloc::{AllocError, Allocator, Layout};
+use core::ptr::{self, NonNull};
+
+type Chunk = Result<NonNull<[u8]>, AllocError>;
+
+/// Implements the trait for what gives buckets. A chunk is resized in its bucket, and in no other.
+macro_rules! in_buckets {
+    ($name:ident) => {
+        // SAFETY: a bucket is the caller's until it is given back, and its bytes stay as long as the allocator lives.
+        unsafe impl Allocator for $name<'_> {
+            fn allocate(&self, layout: Layout) -> Chunk {
+                BaseAllocator::allocate(self, layout).map_err(|_| AllocError)
+            }
+
+            unsafe fn deallocate(&self, ptr: NonNull<u8>, layout: Layout) {
+                // SAFETY: the caller gave the chunk back.
+                unsafe { BaseAllocator::deallocate(self, ptr, layout) }
+            }
+
+            unsafe fn grow(&self, ptr: NonNull<u8>, _old: Layout, new: Layout) -> Chunk {
+                fits(
+                    ptr,
+                    new,
+                    new.size() <= self.bucket.size() && new.align() <= self.bucket.align(),
+                )
+            }
+
+            unsafe fn grow_zeroed(&self, ptr: NonNull<u8>, old: Layout, new: Layout) -> Chunk {
+                // SAFETY: the chunk is the caller's; so is its bucket, up to the new size.
+                unsafe {
+                    let chunk = self.grow(ptr, old, new)?;
+                    ptr.add(old.size()).write_bytes(0, new.size() - old.size());
+                    Ok(chunk)
+                }
+            }
+
+            unsafe fn shrink(&self, ptr: NonNull<u8>, _old: Layout, new: Layout) -> Chunk {
+                fits(ptr, new, new.align() <= self.bucket.align())
+            }
+        }
+    };
+}
+
+/// Implements the trait for what gives one chunk behind another. A grown chunk is a new one, a shrunk one stays where it is.
+macro_rules! in_bump {
+    ($name:ident: $allocate:ident) => {
+        // SAFETY: a chunk is the caller's until `BumpAllocator::deallocate` or `reset`, which are unsafe while it is used.
+        unsafe impl Allocator for $name<'_> {
+            fn allocate(&self, layout: Layout) -> Chunk {
+                if layout.size() == 0 {
+                    let nowhere = NonNull::new(ptr::without_provenance_mut(layout.align()));
+                    return fits(nowhere.ok_or(AllocError)?, layout, true);
+                }
+                // SAFETY: the function is of this kind.
+                unsafe { self.owned.allocate(ffi::$allocate, layout) }.map_err(|_| AllocError)
+            }
+
+            unsafe fn deallocate(&self, _ptr: NonNull<u8>, _layout: Layout) {}
+
+            unsafe fn shrink(&self, ptr: NonNull<u8>, _old: Layout, new: Layout) -> Chunk {
+                fits(ptr, new, ptr.addr().get() % new.align() == 0)
+            }
+        }
+    };
+}
+
+fn fits(ptr: NonNull<u8>, new: Layout, fits: bool) -> Chunk {
+    let chunk = NonNull::slice_from_raw_parts(ptr, new.size());
+    fits.then_some(chunk).ok_or(AllocError)
+}
+
+in_buckets! { PoolAllocator }
+in_buckets! { PoolParty }
+in_bump! { BumpAllocator: bb_bump_allocate }
+in_bump! { BumpParty: bb_bump_party_allocate }

@@ -1,0 +1,198 @@
+// C++17 over bb_memory.h, whose rules and codes hold here too: owners that destroy what they initialized, parties that leave when
+// they end, `std::unique_ptr` that gives its bucket back, and `std::pmr::memory_resource` over a bump, a pool and a party.
+// Refusals are values of an enum. Only a memory resource throws, `std::bad_alloc`, as containers ask of it.
+//
+//     alignas(64) static unsigned char region[BB_BYTES_FOR(64, 64, 16)];
+//
+//     bb::shared_pool pool;                                          // outlives its parties
+//     if (pool.init(64, 64, region, sizeof region, 2) != bb::error::ok) return;
+//     bb::pool_party party;                                          // one for each thread
+//     if (pool.join(party) != bb::error::ok) return;
+//     auto number = bb::make<int>(party.get(), 7);                   // empty where the pool refuses
+//     bb::pool_resource nodes(party.get());
+//     std::pmr::list<int> numbers({1, 2, 3}, &nodes);
+// `get()` is the handle for each function of bb_memory.h.
+#ifndef BB_MEMORY_HPP
+#define BB_MEMORY_HPP
+
+#include <cstddef>
+#include <cstdint>
+#include <memory>
+#include <memory_resource>
+#include <mutex>
+#include <new>
+#include <type_traits>
+#include <utility>
+
+#include "bb_memory.h"
+
+namespace bb {
+
+// The codes of bb_memory.h.
+enum class [[nodiscard]] error : std::uint32_t {
+    ok = BB_OK, size_is_zero = BB_SIZE_IS_ZERO, size_too_large = BB_SIZE_TOO_LARGE,
+    alignment_failure = BB_ALIGNMENT_FAILURE, out_of_memory = BB_OUT_OF_MEMORY,
+    grow_would_shrink = BB_GROW_WOULD_SHRINK, shrink_would_grow = BB_SHRINK_WOULD_GROW,
+    invalid_layout = BB_INVALID_LAYOUT, uninitialized = BB_UNINITIALIZED, not_held = BB_NOT_HELD,
+    already_initialized = BB_ALREADY_INITIALIZED, invalid_argument = BB_INVALID_ARGUMENT, no_party = BB_NO_PARTY,
+    layout_mismatch = BB_LAYOUT_MISMATCH, malloc_refused = BB_MALLOC_REFUSED,
+    more_than_reserved = BB_MORE_THAN_RESERVED, no_bucket = BB_NO_BUCKET, parties_joined = BB_PARTIES_JOINED,
+    one_party = BB_ONE_PARTY, detached_full = BB_DETACHED_FULL, detached_empty = BB_DETACHED_EMPTY,
+    not_a_bucket = BB_NOT_A_BUCKET,
+};
+
+inline const char *text(error code) noexcept { return bb_text(static_cast<std::uint32_t>(code)); }
+
+// Owns a handle, which is empty until `init` and when it was moved from.
+template <class Handle, auto Init, auto Destroy>
+class owner {
+  public:
+    owner() noexcept = default;
+    owner(owner &&other) noexcept : handle_(std::exchange(other.handle_, Handle BB_EMPTY)) {}
+    owner &operator=(owner &&other) noexcept {
+        owner moved(std::move(other));
+        std::swap(handle_, moved.handle_);
+        return *this;
+    }
+    ~owner() { Destroy(&handle_); }
+    // Takes the arguments of the kind's `init` in bb_memory.h, behind the handle.
+    template <class... Arguments>
+    error init(Arguments... arguments) noexcept { return static_cast<error>(Init(&handle_, arguments...)); }
+    Handle *get() noexcept { return &handle_; }
+    const Handle *get() const noexcept { return &handle_; }
+
+  private:
+    Handle handle_ BB_EMPTY;
+};
+
+using bump = owner<bb_bump, bb_bump_init, bb_bump_destroy>;
+using one_chunk = owner<bb_one_chunk, bb_one_chunk_init, bb_one_chunk_destroy>;
+using pool = owner<bb_pool, bb_pool_init, bb_pool_destroy>;
+using detached = owner<bb_detached, bb_detached_init, bb_detached_destroy>;
+
+// Owns what threads share, outlives its parties, and doesn't move. Parties join and leave under its lock, in any thread.
+template <class Handle, auto Init, auto Destroy, class PartyHandle, auto Join, auto Leave>
+class shared : public owner<Handle, Init, Destroy> {
+  public:
+    // Leaves when it ends: each bucket that it holds is given back then, and none of its chunks is used any more.
+    class party {
+      public:
+        party() noexcept = default;
+        party(party &&other) noexcept
+            : of_(std::exchange(other.of_, nullptr)), handle_(std::exchange(other.handle_, PartyHandle BB_EMPTY)) {}
+        party &operator=(party &&other) noexcept {
+            party moved(std::move(other));
+            std::swap(of_, moved.of_);
+            std::swap(handle_, moved.handle_);
+            return *this;
+        }
+        ~party() { leave(); }
+        void leave() noexcept {
+            if (shared *of = std::exchange(of_, nullptr)) {
+                std::lock_guard<std::mutex> lock(of->lock_);
+                Leave(of->get(), &handle_);
+            }
+        }
+        PartyHandle *get() noexcept { return &handle_; }
+        const PartyHandle *get() const noexcept { return &handle_; }
+
+      private:
+        friend class shared;
+        shared *of_ = nullptr;
+        PartyHandle handle_ BB_EMPTY;
+    };
+
+    shared() noexcept = default;
+    shared(shared &&) = delete;
+    error join(party &into) noexcept {
+        std::lock_guard<std::mutex> lock(lock_);
+        error code = static_cast<error>(Join(this->get(), &into.handle_));
+        if (code == error::ok) into.of_ = this;
+        return code;
+    }
+
+  private:
+    std::mutex lock_;
+};
+
+using shared_bump = shared<bb_shared_bump, bb_shared_bump_init, bb_shared_bump_destroy, bb_bump_party, bb_shared_bump_join,
+                           bb_shared_bump_leave>;
+using shared_pool = shared<bb_shared_pool, bb_shared_pool_init, bb_shared_pool_destroy, bb_pool_party, bb_shared_pool_join,
+                           bb_shared_pool_leave>;
+using bump_party = shared_bump::party;
+using pool_party = shared_pool::party;
+
+// The calls that `make` and the resources choose by a handle's type.
+inline bb_answer allocate(bb_bump *of, std::size_t size, std::size_t align) { return bb_bump_allocate(of, size, align); }
+inline bb_answer allocate(bb_bump_party *of, std::size_t size, std::size_t align) {
+    return bb_bump_party_allocate(of, size, align);
+}
+inline bb_answer allocate(bb_pool *of, std::size_t size, std::size_t align) { return bb_pool_allocate(of, size, align); }
+inline bb_answer allocate(bb_pool_party *of, std::size_t size, std::size_t align) {
+    return bb_pool_party_allocate(of, size, align);
+}
+inline error deallocate(bb_pool *to, void *place) { return static_cast<error>(bb_pool_deallocate(to, place)); }
+inline error deallocate(bb_pool_party *to, void *place) { return static_cast<error>(bb_pool_party_deallocate(to, place)); }
+
+// Destroys a T, and gives its bucket back. With `void` it gives back alone.
+template <class T, class Handle>
+struct give_back {
+    Handle *to;
+    void operator()(T *place) const noexcept {
+        if constexpr (!std::is_void_v<T>) place->~T();
+        static_cast<void>(bb::deallocate(to, place));
+    }
+};
+template <class T, class Handle>
+using unique = std::unique_ptr<T, give_back<T, Handle>>;
+
+// Makes a T in a bucket of a pool or of a party's pool, which outlives it; empty where the pool refuses.
+template <class T, class Handle, class... Arguments>
+unique<T, Handle> make(Handle *from, Arguments &&...arguments) {
+    bb_answer given = bb::allocate(from, sizeof(T), alignof(T));
+    if (given.code != BB_OK) return unique<T, Handle>(nullptr, {from});
+    unique<void, Handle> bucket(given.place, {from});
+    T *made = ::new (bucket.get()) T(std::forward<Arguments>(arguments)...);
+    bucket.release();
+    return unique<T, Handle>(made, {from});
+}
+
+// A resource over a bump or a party of one, which outlives it. No chunk goes back alone.
+template <class Handle>
+class bump_resource final : public std::pmr::memory_resource {
+  public:
+    explicit bump_resource(Handle *from) noexcept : from_(from) {}
+
+  private:
+    void *do_allocate(std::size_t size, std::size_t align) override {
+        bb_answer given = bb::allocate(from_, size == 0 ? 1 : size, align);
+        return given.code == BB_OK ? given.place : std::pmr::null_memory_resource()->allocate(size, align);
+    }
+    void do_deallocate(void *, std::size_t, std::size_t) noexcept override {}
+    bool do_is_equal(const std::pmr::memory_resource &other) const noexcept override { return this == &other; }
+    Handle *from_;
+};
+
+// A resource over a pool or a party of one, which outlives it. Upstream serves what the pool refuses, and throws where it can't.
+template <class Handle>
+class pool_resource final : public std::pmr::memory_resource {
+  public:
+    explicit pool_resource(Handle *from, std::pmr::memory_resource *upstream = std::pmr::null_memory_resource()) noexcept
+        : from_(from), upstream_(upstream) {}
+
+  private:
+    void *do_allocate(std::size_t size, std::size_t align) override {
+        bb_answer given = bb::allocate(from_, size, align);
+        return given.code == BB_OK ? given.place : upstream_->allocate(size, align);
+    }
+    void do_deallocate(void *place, std::size_t size, std::size_t align) override {
+        if (bb::deallocate(from_, place) != error::ok) upstream_->deallocate(place, size, align);
+    }
+    bool do_is_equal(const std::pmr::memory_resource &other) const noexcept override { return this == &other; }
+    Handle *from_;
+    std::pmr::memory_resource *upstream_;
+};
+
+}  // namespace bb
+
+#endif

@@ -1,0 +1,175 @@
+// Containers of the standard library that live in a bump, in a pool and in a pool that threads share, by std::pmr; values that
+// give their buckets back when they end; and parties that leave when their threads end.
+#include <cstdio>
+#include <cstdlib>
+#include <list>
+#include <map>
+#include <stdexcept>
+#include <string>
+#include <thread>
+#include <vector>
+
+#include "bb_memory.hpp"
+
+namespace {
+
+constexpr std::size_t bucket = 64, buckets = 128;
+alignas(bucket) unsigned char region[BB_BYTES_FOR(bucket, bucket, buckets)];
+
+void expect(bool holds, const char *what) {
+    if (!holds) {
+        std::fprintf(stderr, "containers: not so: %s\n", what);
+        std::exit(1);
+    }
+}
+
+void expect_ok(bb::error code) { expect(code == bb::error::ok, bb::text(code)); }
+
+template <class Call>
+bool throws_bad_alloc(Call call) {
+    try {
+        call();
+    } catch (const std::bad_alloc &) {
+        return true;
+    }
+    return false;
+}
+
+std::size_t held(bb_pool *pool) {
+    struct bb_pool_info info;
+    expect(bb_pool_info(pool, &info) == BB_OK, "a pool has figures");
+    return info.held_buckets;
+}
+
+std::size_t held(bb_pool_party *party) {
+    struct bb_pool_info info;
+    expect(bb_pool_party_info(party, &info) == BB_OK, "a party has figures");
+    return info.held_buckets;
+}
+
+// Strings of any length lie one behind another in a bump.
+void strings_in_a_bump() {
+    bb::bump bump;
+    expect(bump.init(nullptr, 64) == bb::error::invalid_argument, "a region doesn't start at 0");
+    expect_ok(bump.init(region, sizeof region));
+    bb::bump_resource lines_of(bump.get());
+    std::pmr::vector<std::pmr::string> lines(&lines_of);
+    for (int number = 0; number < 20; number++)
+        lines.emplace_back("a line that a string keeps in memory of its own, number " + std::to_string(number));
+    expect(lines[7].back() == '7' && lines[7].get_allocator().resource() == &lines_of, "each line is there");
+    expect(throws_bad_alloc([&] { std::pmr::vector<char> all(sizeof region, &lines_of); }), "a full bump throws");
+    lines_of.deallocate(lines_of.allocate(0, 1), 0, 1);
+    struct bb_bump_info info;
+    expect(bb_bump_info(bump.get(), &info) == BB_OK && info.used_space > 20 * 56, "the bump has them");
+}
+
+// Nodes of one size are buckets of a pool. What it can't serve comes from upstream.
+void nodes_in_a_pool() {
+    bb::pool pool;
+    expect(bb_pool_init_at_least(pool.get(), bucket, bucket, region + 1, sizeof region - 1, buckets) == BB_NO_BUCKET,
+           "a start that isn't aligned costs a bucket");
+    expect_ok(pool.init(bucket, bucket, region, sizeof region));
+    bb::pool_resource nodes(pool.get());
+    std::pmr::map<int, int> squares(&nodes);
+    for (int number = 0; number < 100; number++)
+        squares[number] = number * number;
+    expect(squares[99] == 9801 && held(pool.get()) == 100, "each node has a bucket");
+    expect(throws_bad_alloc([&] {
+               for (int number = 100; number < 200; number++)
+                   squares[number] = 0;
+           }), "a full pool throws");
+    squares.clear();
+    expect(held(pool.get()) == 0, "each bucket is back");
+
+    bb::pool_resource with_heap(pool.get(), std::pmr::new_delete_resource());
+    std::pmr::vector<int> grows(&with_heap);
+    for (int number = 0; number < 1000; number++)
+        grows.push_back(number);
+    expect(grows[999] == 999 && held(pool.get()) == 0, "a vector that outgrew its bucket gave it back");
+    bb::pool moved(std::move(pool));
+    expect(pool.get()->made == false && held(moved.get()) == 0, "an owner moves");
+}
+
+struct message {
+    static int alive;
+    int number;
+    explicit message(int of) : number(of) {
+        if (of < 0) throw std::invalid_argument("a number of a message");
+        alive++;
+    }
+    message(const message &) = delete;
+    ~message() { alive--; }
+};
+int message::alive = 0;
+
+void values_in_a_pool() {
+    bb::pool pool;
+    expect_ok(pool.init(BB_OF(message), region, sizeof(message)));
+    {
+        auto first = bb::make<message>(pool.get(), 7);
+        auto second = bb::make<message>(pool.get(), 8);
+        expect(first && first->number == 7 && !second && message::alive == 1, "the pool has one bucket");
+    }
+    expect(message::alive == 0 && held(pool.get()) == 0, "a value gives its bucket back");
+    bool thrown = false;
+    try {
+        static_cast<void>(bb::make<message>(pool.get(), -1));
+    } catch (const std::invalid_argument &) {
+        thrown = true;
+    }
+    expect(thrown && held(pool.get()) == 0, "a constructor that throws loses no bucket");
+}
+
+// Threads come and go: each has a party, which leaves when the thread ends, also with buckets that it didn't give back.
+void lists_in_threads() {
+    bb::shared_pool pool;
+    expect_ok(pool.init(bucket, bucket, region, sizeof region, 2));
+    for (int round = 0; round < 50; round++) {
+        std::vector<std::thread> threads;
+        for (int number = 0; number < 2; number++)
+            threads.emplace_back([&pool, number] {
+                bb::pool_party party;
+                expect_ok(pool.join(party));
+                bb::pool_resource nodes(party.get());
+                std::pmr::list<int> list(30, number, &nodes);
+                for (int each : list)
+                    expect(each == number, "a node has what its thread wrote");
+                expect(held(party.get()) == 30, "each node has a bucket");
+                auto left_behind = bb::make<int>(party.get(), number);
+                expect(left_behind.release() != nullptr, "a value isn't given back");
+            });
+        for (auto &thread : threads)
+            thread.join();
+    }
+    bb::pool_party last, moved;
+    expect_ok(pool.join(last));
+    moved = std::move(last);
+    bb::pool_resource nodes(moved.get());
+    std::pmr::list<int> list(buckets, 1, &nodes);
+    expect(held(moved.get()) == buckets, "every bucket came back");
+}
+
+void words_in_a_shared_bump() {
+    bb::shared_bump bump;
+    expect_ok(bump.init(region, sizeof region, 1));
+    {
+        bb::bump_party party;
+        expect_ok(bump.join(party));
+        bb::bump_resource words_of(party.get());
+        std::pmr::vector<std::uint64_t> words(100, 7, &words_of);
+        expect(words[99] == 7 && bb_shared_bump_reset(bump.get()) == BB_PARTIES_JOINED, "a party has joined");
+    }
+    expect(bb_shared_bump_reset(bump.get()) == BB_OK, "it left");
+}
+
+}  // namespace
+
+int main() {
+    strings_in_a_bump();
+    nodes_in_a_pool();
+    values_in_a_pool();
+    lists_in_threads();
+    words_in_a_shared_bump();
+    std::puts("containers: every bucket came back");
+    return 0;
+}

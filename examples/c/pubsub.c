@@ -1,0 +1,199 @@
+// Publish and subscribe over one pool, without a copy: each message goes to each of several readers, who read its bucket where it
+// lies, and the last of them gives the bucket back by a party of its own. A publisher that finds no bucket waits for a return. A
+// thread of statistics reads what the host counts. One lock orders queues and figures; the parties' calls need none.
+#define _POSIX_C_SOURCE 200809L
+#include <pthread.h>
+#include <stdint.h>
+#include <stdio.h>
+#include <stdlib.h>
+#include <string.h>
+#include <time.h>
+
+#include "bb_memory.h"
+
+enum { PUBLISHERS = 2, SUBSCRIBERS = 3, BUCKETS = 12, MESSAGES = 5000, TEXT = 48 };
+
+typedef struct { uint32_t publisher, number; unsigned char text[TEXT]; } message;
+// A message on its way: a bucket, and how many readers didn't release it yet.
+typedef struct slot {
+    bb_detached detached;
+    const message *read;
+    unsigned readers;
+    struct slot *next;
+} slot;
+
+typedef struct { slot *at[BUCKETS]; size_t first, count; } queue;
+typedef struct { size_t held, most_held, published, delivered; } figures;
+
+static uint64_t region[BB_BYTES_FOR(sizeof(message), 8, BUCKETS) / 8];
+static bb_shared_pool pool = BB_EMPTY;
+static slot slots[BUCKETS];  // as many as buckets, so who has a bucket finds one, and no queue is ever full
+static bb_pool_party publishing[PUBLISHERS], subscribing[SUBSCRIBERS];
+
+static struct {
+    pthread_mutex_t lock;
+    pthread_cond_t changed;
+    slot *idle;
+    queue to[SUBSCRIBERS];
+    figures count;
+    bool closed;
+} hub = {PTHREAD_MUTEX_INITIALIZER, PTHREAD_COND_INITIALIZER, NULL, {{{NULL}, 0, 0}}, {0, 0, 0, 0}, false};
+
+static void expect(int holds, const char *what) {
+    if (!holds) {
+        fprintf(stderr, "pubsub: not so: %s\n", what);
+        exit(1);
+    }
+}
+
+static void lock(void) { pthread_mutex_lock(&hub.lock); }
+static void unlock(void) { pthread_mutex_unlock(&hub.lock); }
+
+static void join_and_start(bb_pool_party *party, pthread_t *thread, void *(*call)(void *), size_t number) {
+    expect(bb_shared_pool_join(&pool, party) == BB_OK, "a party joins");
+    expect(pthread_create(thread, NULL, call, (void *)(uintptr_t)number) == 0, "its thread starts");
+}
+
+static void end_and_leave(bb_pool_party *party, pthread_t thread) {
+    expect(pthread_join(thread, NULL) == 0, "a thread ends");
+    expect(bb_shared_pool_leave(&pool, party) == BB_OK, "its party leaves");
+}
+
+static unsigned char byte_of(uint32_t publisher, uint32_t number) { return (unsigned char)(publisher * 61 + number * 7 + 1); }
+// A bucket for a message, which is counted under the lock. A return that comes behind the refusal ends the wait.
+static message *take(bb_pool_party *party) {
+    while (true) {
+        bb_answer given = bb_pool_party_allocate(party, BB_OF(message));
+        expect(given.code == BB_OK || given.code == BB_OUT_OF_MEMORY, "a bucket is given, or none is free");
+        lock();
+        if (given.code == BB_OK) {
+            hub.count.held++;
+            if (hub.count.held > hub.count.most_held) hub.count.most_held = hub.count.held;
+            unlock();
+            return (message *)given.place;
+        }
+        if (hub.count.held == BUCKETS) pthread_cond_wait(&hub.changed, &hub.lock);
+        unlock();
+    }
+}
+
+// From here on no party holds the bucket, and each subscriber may read it.
+static void publish(bb_pool_party *party, message *written) {
+    lock();
+    slot *on_its_way = hub.idle;
+    hub.idle = on_its_way->next;
+    on_its_way->read = written;
+    on_its_way->readers = SUBSCRIBERS;
+    expect(bb_pool_party_detach(party, written, sizeof *written, &on_its_way->detached) == BB_OK, "a bucket is detached");
+    for (size_t at = 0; at < SUBSCRIBERS; at++) {
+        queue *to = &hub.to[at];
+        to->at[(to->first + to->count++) % BUCKETS] = on_its_way;
+    }
+    hub.count.published++;
+    pthread_cond_broadcast(&hub.changed);
+    unlock();
+}
+
+static void *publisher(void *argument) {
+    uint32_t self = (uint32_t)(uintptr_t)argument;
+    for (uint32_t number = 0; number < MESSAGES; number++) {
+        message *written = take(&publishing[self]);
+        written->publisher = self;
+        written->number = number;
+        memset(written->text, byte_of(self, number), TEXT);
+        publish(&publishing[self], written);
+    }
+    return NULL;
+}
+
+// The last reader attaches the bucket, and gives it back.
+static void release(bb_pool_party *party, slot *been_read) {
+    lock();
+    hub.count.delivered++;
+    if (--been_read->readers == 0) {
+        bb_answer mine = bb_pool_party_attach(party, &been_read->detached);
+        expect(mine.code == BB_OK && mine.place == (const void *)been_read->read, "the last reader has the bucket");
+        expect(bb_pool_party_deallocate(party, mine.place) == BB_OK, "a bucket is given back");
+        been_read->next = hub.idle;
+        hub.idle = been_read;
+        hub.count.held--;
+        pthread_cond_broadcast(&hub.changed);
+    }
+    unlock();
+}
+
+// The next message to this subscriber, or NULL behind the last one.
+static slot *next_to(size_t self) {
+    queue *from = &hub.to[self];
+    slot *next = NULL;
+    lock();
+    while (from->count == 0 && !hub.closed)
+        pthread_cond_wait(&hub.changed, &hub.lock);
+    if (from->count > 0) {
+        next = from->at[from->first];
+        from->first = (from->first + 1) % BUCKETS;
+        from->count--;
+    }
+    unlock();
+    return next;
+}
+
+static void *subscriber(void *argument) {
+    size_t self = (size_t)(uintptr_t)argument;
+    uint32_t expected[PUBLISHERS] = {0};
+    for (slot *next; (next = next_to(self)) != NULL; release(&subscribing[self], next)) {
+        const message *read = next->read;
+        expect(read->publisher < PUBLISHERS && read->number == expected[read->publisher]++, "messages come once and in order");
+        for (size_t at = 0; at < TEXT; at++)
+            expect(read->text[at] == byte_of(read->publisher, read->number), "a message is what its publisher wrote");
+    }
+    return NULL;
+}
+
+static void *statistics(void *argument) {
+    struct timespec pause = {0, 1000000};
+    for (bool ends = false; !ends; nanosleep(&pause, NULL)) {
+        lock();
+        figures now = hub.count;
+        ends = hub.closed && now.held == 0;
+        unlock();
+        expect(now.held <= now.most_held && now.most_held <= BUCKETS, "no more is held than there is");
+        expect(now.delivered <= now.published * SUBSCRIBERS, "no message came that wasn't sent");
+    }
+    return argument;
+}
+
+int main(void) {
+    pthread_t publishers[PUBLISHERS], subscribers[SUBSCRIBERS], of_statistics;
+    expect(bb_shared_pool_init(&pool, BB_OF(message), region, sizeof region, PUBLISHERS + SUBSCRIBERS) == BB_OK, "it is there");
+    for (size_t at = 0; at < BUCKETS; at++) {
+        expect(bb_detached_init(&slots[at].detached) == BB_OK, "a slot has a bb_detached");
+        slots[at].next = hub.idle;
+        hub.idle = &slots[at];
+    }
+    expect(pthread_create(&of_statistics, NULL, statistics, NULL) == 0, "a thread starts");
+    for (size_t at = 0; at < SUBSCRIBERS; at++)
+        join_and_start(&subscribing[at], &subscribers[at], subscriber, at);
+    for (size_t at = 0; at < PUBLISHERS; at++)
+        join_and_start(&publishing[at], &publishers[at], publisher, at);
+    for (size_t at = 0; at < PUBLISHERS; at++)
+        end_and_leave(&publishing[at], publishers[at]);
+    lock();
+    hub.closed = true;
+    pthread_cond_broadcast(&hub.changed);
+    unlock();
+    for (size_t at = 0; at < SUBSCRIBERS; at++)
+        end_and_leave(&subscribing[at], subscribers[at]);
+    expect(pthread_join(of_statistics, NULL) == 0, "statistics end when nothing is held");
+    expect(hub.count.delivered == (size_t)PUBLISHERS * MESSAGES * SUBSCRIBERS, "each message came to each");
+
+    bb_pool_party last = BB_EMPTY;
+    expect(bb_shared_pool_join(&pool, &last) == BB_OK, "a party joins");
+    for (size_t at = 0; at < BUCKETS; at++) {
+        expect(bb_pool_party_allocate(&last, BB_OF(message)).code == BB_OK, "every bucket is back");
+        expect(bb_detached_destroy(&slots[at].detached) == BB_OK, "a bb_detached is destroyed");
+    }
+    expect(bb_shared_pool_leave(&pool, &last) == BB_OK && bb_shared_pool_destroy(&pool) == BB_OK, "the pool is destroyed");
+    printf("pubsub: %d messages to %d readers each, without a copy\n", PUBLISHERS * MESSAGES, SUBSCRIBERS);
+    return 0;
+}
