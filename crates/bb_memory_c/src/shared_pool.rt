@@ -126,7 +126,7 @@ impl Gives for JoinedPool {
     ghost may_give = { GivesChunk };
 
     fn give(&mut self, layout: Layout) -> Result<Chunk, AllocationError> {
-        let bucket = self.pool.allocate_near(&mut self.party, layout)?;
+        let bucket = self.pool.allocate_next_fit(&mut self.party, layout)?;
         let (number, chunk) = (bucket.number(), bucket.chunk());
         self.held[number as usize] = true;
         Ok(chunk)
@@ -334,7 +334,7 @@ pub extern "C" fn bb_pool_party_destroy(alloc: Global, handle: &mut PoolPartyHan
 }
 
 /// Asks for a chunk of `size` bytes at a multiple of `align`, in a bucket that isn't held, by one round over the buckets that
-/// begins near the one that the party had last.
+/// begins at the hint: behind the bucket that the party had last.
 #[unsafe(no_mangle)]
 pub extern "C" fn bb_pool_party_allocate(
     handle: &mut PoolPartyHandle,
