@@ -63,7 +63,7 @@ pub record MayGrowAt (held : Type 0) (place : ℕ) (old : Layout) : Type 0 where
   pub is_held : held
   pub aligned : place % old.align ≡ 0
 
--- a chunk is held at the place, as `MayGrowAt`, and the old size is at most what is reserved for it
+-- and the old size is at most what is reserved for it
 pub record MayShrinkAt (held : Type 0) (place reserved : ℕ) (old : Layout) : Type 0 where
   pub is_held : held
   pub aligned : place % old.align ≡ 0
@@ -77,7 +77,7 @@ pub record TellsGrow (held : Type 0) (place : ℕ) (old : Layout)
   pub misfit : held → ¬ MayGrowAt held place old → told ≡ refused layout_mismatch
   pub nothing : ¬ held → told ≡ refused not_held
 
--- What C is told where the chunk at a place is to shrink.
+-- The same where it is to shrink.
 pub record TellsShrink (held : Type 0) (place reserved : ℕ) (old : Layout)
     (may : Result Chunk AllocationShrinkError → Type 0) (told : Answer) : Type 0 where
   pub answered : MayShrinkAt held place reserved old
@@ -85,7 +85,7 @@ pub record TellsShrink (held : Type 0) (place reserved : ℕ) (old : Layout)
   pub misfit : held → ¬ MayShrinkAt held place reserved old → told ≡ refused layout_mismatch
   pub nothing : ¬ held → told ≡ refused not_held
 
--- an answer by which all stays
+-- this is answered, and all stays
 pub record AnswersStill {X : Type 0} (old new : X) (answered : Type 0) : Type 0 where
   pub answer : answered
   pub still : new ≡ old

@@ -1,4 +1,4 @@
-//! Answers as C sees them.
+//! What C sees of an answer.
 ghost use Rattle.std.specs.Prelude.{◌≡◌, if◌then◌else◌};
 ghost use Rattle.bb_memory_c.specs.Answers.{answer_of, figure_of, grow_answer, no_figure, refused, shrink_answer};
 
@@ -66,7 +66,7 @@ impl Answer {
         }
     }
 
-    /// Turns the answer to a request into C's.
+    /// What a request was answered.
     pub(crate) fn of(answer: Result<Chunk, AllocationError>) -> Answer
         ensures { result ≡ answer_of answer }
     {
@@ -83,7 +83,7 @@ impl Answer {
         }
     }
 
-    /// Turns the answer to a grow into C's.
+    /// What a grow was answered.
     pub(crate) fn of_grow(answer: Result<Chunk, AllocationGrowError>) -> Answer
         ensures { result ≡ grow_answer answer }
     {
@@ -101,7 +101,7 @@ impl Answer {
         }
     }
 
-    /// Turns the answer to a shrink into C's.
+    /// What a shrink was answered.
     pub(crate) fn of_shrink(answer: Result<Chunk, AllocationShrinkError>) -> Answer
         ensures { result ≡ shrink_answer answer }
     {
@@ -131,7 +131,7 @@ impl Figure {
         }
     }
 
-    /// Turns a `bool` into 1 or 0.
+    /// Whether it is so: 1 or 0.
     pub(crate) fn whether(is: bool) -> Figure
         ensures { result ≡ figure_of (if is then 1 else 0) }
     {
