@@ -13,8 +13,8 @@ const FREED_MARK: usize = 100_043;
 
 const REFUSED_MARK: usize = 100_049;
 
-/// Whether a request of so many bytes is granted, here or at a second trial: a sweep that refuses one request alone refuses
-/// no mark.
+/// Tests that a request of so many bytes is granted, here or at a second trial: a sweep that refuses one request alone refuses no
+/// mark.
 fn is_granted(alloc: Global, bytes: usize) -> bool {
     Vec::<u8>::with_capacity(alloc, bytes).is_ok() || Vec::<u8>::with_capacity(alloc, bytes).is_ok()
 }
@@ -29,12 +29,12 @@ pub fn none_was_asked(alloc: Global) -> bool {
     is_granted(alloc, SECOND_MARK)
 }
 
-/// Whether memory was given back since the making.
+/// Tests that memory was given back since the making.
 pub fn some_was_freed(alloc: Global) -> bool {
     is_granted(alloc, FREED_MARK)
 }
 
-/// Whether a request for memory was refused since the test began. A test accepts want of memory only where this is true.
+/// Tests that a request for memory was refused since the test began. A test accepts want of memory only where this is true.
 pub fn some_was_refused(alloc: Global) -> bool {
     !is_granted(alloc, REFUSED_MARK)
 }

@@ -19,7 +19,7 @@ abbrev pub as_word : Bool → ℕ
 as_word false = 0
 as_word true = 1
 
--- these words have these flags, each in its bucket's word
+-- the words have the flags, each in its bucket's word
 abbrev pub HaveFlags : List ℕ → List Bool → Type 0
 HaveFlags words flags = (bucket : ℕ) (flag : Bool) → slice_get flags bucket ≡ Some flag →
     slice_get words (word_of bucket) ≡ Some (as_word flag)

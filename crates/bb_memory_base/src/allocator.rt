@@ -1,4 +1,4 @@
-//! What allocators over a region promise, and runs of commands over any of them.
+//! The promises of allocators over a region, and runs of commands over any of them.
 mod places;
 mod run;
 
@@ -55,7 +55,7 @@ pub enum AllocationShrinkError {
     SizeIsZero,
 }
 
-/// What is asked of an allocator. The number is a position in the live list, from 0.
+/// A command to an allocator. The number is a position in the live list, from 0.
 #[derive(Debug, Clone, Copy, PartialEq, Eq)]
 pub enum Command {
     /// Asks for a chunk.
@@ -68,7 +68,7 @@ pub enum Command {
     Shrink(usize, Layout, Layout),
 }
 
-/// What is answered to a command.
+/// The reply to a command.
 #[derive(Debug, Clone, Copy, PartialEq, Eq)]
 pub enum Reply {
     /// The chunk that was given, or the resized one.
@@ -91,7 +91,7 @@ pub enum Reply {
 /// *stands for* a live list where its state may be the result of having given exactly those chunks. Every clause holds
 /// for each list that the allocator stands for, and each allocator stands for at least one.
 ///
-/// What it may answer is stated by an object that holds live chunks alone (`geometry`, `may_allocate`), so that a
+/// The answers that it may give are stated by an object that holds live chunks alone (`geometry`, `may_allocate`), so that a
 /// crate may bring an allocator with an object of its own.
 pub trait BaseAllocator {
     ghost use Rattle.std.specs.Prelude.{◌≡◌, ◌∷◌, ◌++◌, ◌≤◌, ◌%◌, ℕ, Some, [], List, Result, Ok, Bool, IfOk, OnErr, slice_get};
@@ -101,19 +101,19 @@ pub trait BaseAllocator {
     ghost use Rattle.bb_memory_base.specs.Request.{Requested};
     ghost use Rattle.bb_memory_base.specs.HeldBytes.{held_region, ZeroesAnswered};
 
-    /// Whether a release gives back all chunks at once.
+    /// True where a release gives back all chunks at once.
     const RELEASE_EMPTIES: bool;
 
     ghost RELEASE_EMPTIES: { Bool };
 
-    /// What is fixed when an allocator is made: its region, and whatever else its answers depend on.
+    /// The facts that are fixed when an allocator is made: its region, and whatever else its answers depend on.
     ghost Geometry: { Type 0 };
 
     ghost geometry: { Self → Geometry };
 
     ghost region_of: { Geometry → Region };
 
-    /// What an allocator of this geometry may answer to a request on a live list.
+    /// The answers that an allocator of this geometry may give to a request on a live list.
     ghost may_allocate: { Geometry → List Chunk → Layout → Result Chunk AllocationError → Type 0 };
 
     /// The allocator stands for this live list.
@@ -122,21 +122,21 @@ pub trait BaseAllocator {
     /// The chunk at this place may be given back.
     ghost may_release: { Self → ℕ → Type 0 };
 
-    /// What an allocator keeps of the requests that were made of it, beside the chunks that are out. One that promises nothing
-    /// of the kind has `Unit {0}` here.
+    /// The note that an allocator keeps of the requests that were made of it, beside the chunks that are out. One that promises
+    /// nothing of the kind has `Unit {0}` here.
     ghost Note: { Type 0 };
 
     ghost note: { Self → Note };
 
-    /// What a request for a layout makes of the note, whatever is answered to it.
+    /// The note after a request for a layout, whatever is answered to it.
     ghost note_after: { Geometry → Layout → Note → Note };
 
-    /// What a request says by the value alone: of the allocator as it was, the layout, the answer, and the allocator as it is
-    /// then. One that leaves it out says no more than the clauses below.
+    /// The promise of a request by the value alone: of the allocator as it was, the layout, the answer, and the allocator as it
+    /// is then. One that leaves it out says no more than the clauses below.
     ghost takes: { Self → Layout → Result Chunk AllocationError → Self
         → Type 0 } = { λ old layout result new. Unit {0} };
 
-    /// What a release says by the value alone: of the allocator as it was, the place, the layout, and the allocator as it is
+    /// The promise of a release by the value alone: of the allocator as it was, the place, the layout, and the allocator as it is
     /// then.
     ghost frees: { Self → ℕ → Layout → Self → Type 0 } = { λ old place layout new. Unit {0} };
 
@@ -202,7 +202,7 @@ pub trait BaseAllocator {
             → stands_for self.now live → may_allocate (geometry self.now) live layout (Ok chunk)
             → layout.size ≤ chunk.len };
 
-    /// What stands at a position of such a list may be given back.
+    /// The chunk at a position of such a list may be given back.
     ghost releases: { (allocator : Self) (live : List Chunk) (position : ℕ) (chunk : Chunk)
         → stands_for allocator live → slice_get live position ≡ Some chunk
         → may_release allocator chunk.place };
@@ -224,7 +224,7 @@ pub trait Allocator: BaseAllocator {
     ghost use Rattle.bb_memory_base.specs.declared.allocator.AllocationGrowError.{AllocationGrowError};
     ghost use Rattle.bb_memory_base.specs.declared.allocator.AllocationShrinkError.{AllocationShrinkError};
 
-    /// What the answers to resizes depend on. The geometry fixes it, by the law below.
+    /// The figures that the answers to resizes depend on. The geometry fixes it, by the law below.
     ghost Figures: { Type 0 };
 
     ghost figures: { Self → Figures };
@@ -232,7 +232,7 @@ pub trait Allocator: BaseAllocator {
     /// How many bytes are reserved for the chunk at a place.
     ghost reserved_at: { Figures → ℕ → ℕ };
 
-    /// What an allocator of these figures may answer on a live list to a resize of the chunk at a place, from an old
+    /// The answers that an allocator of these figures may give on a live list to a resize of the chunk at a place, from an old
     /// layout to a new one.
     ghost may_grow: { Figures → List Chunk → ℕ → Layout → Layout
         → Result Chunk AllocationGrowError → Type 0 };
@@ -240,7 +240,7 @@ pub trait Allocator: BaseAllocator {
     ghost may_shrink: { Figures → List Chunk → ℕ → Layout → Layout
         → Result Chunk AllocationShrinkError → Type 0 };
 
-    /// What a call of `grow` says by the value alone: of the allocator as it was, the place, the old layout and the new one, the
+    /// The promise of `grow` by the value alone: of the allocator as it was, the place, the old layout and the new one, the
     /// answer, and the allocator as it is then. One that leaves it out says no more than the clauses below.
     ghost grows: { Self → ℕ → Layout → Layout → Result Chunk AllocationGrowError → Self
         → Type 0 } = { λ one place old new result after. Unit {0} };
@@ -338,7 +338,7 @@ pub trait Allocator: BaseAllocator {
         → Self.stands_for allocator live → slice_get live position ≡ Some chunk
         → chunk.len ≤ reserved_at (figures allocator) chunk.place };
 
-    /// What may be given back stands in each such list.
+    /// A chunk that may be given back stands in each such list.
     ghost only_live: { (allocator : Self) (live : List Chunk) (place : ℕ)
         → Self.stands_for allocator live → Self.may_release allocator place
         → (position : ℕ) × (chunk : Chunk)

@@ -1,4 +1,4 @@
-//! What `==` says of the types of this crate.
+//! The law of `==` of the types of this crate.
 ghost use Rattle.std.specs.Prelude.{◌≡◌, ◌↔◌, IsTrue};
 ghost use Rattle.bb_memory_base.specs.Chunk.{Chunk, Layout, AllocationError};
 ghost use Rattle.bb_memory_base.specs.declared.layout.LayoutError.{LayoutError};

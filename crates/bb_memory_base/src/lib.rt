@@ -1,5 +1,5 @@
-//! What every allocator of this workspace stands on: layouts, chunks, regions, the traits of allocators, runs of commands,
-//! and the machines of atomic steps.
+//! The ground that every allocator of this workspace stands on: layouts, chunks, regions, the traits of allocators, runs of
+//! commands, and the machines of atomic steps.
 //!
 //! The modules, in the order in which to read them:
 //!

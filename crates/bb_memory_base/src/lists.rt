@@ -88,7 +88,7 @@ pub trait Grouped {
     ghost measure: { Self → ℕ };
 }
 
-/// What all items have is what the groups have together, and within the bounds of the groups together.
+/// Says that all items have what the groups have together, which is within the bounds of the groups together.
 pub fn group_law<T: Grouped>()
     ensures together { (items : List T) (sums : List ℕ)
         → ((number : ℕ) → (sum_by (λ item. if T.group item == number then T.measure item else 0) items

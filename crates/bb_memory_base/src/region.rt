@@ -52,7 +52,7 @@ impl Region {
         Region { start, bytes }
     }
 
-    /// Whether there is a region of `len` bytes from `start` on: the start is greater than 0, and start plus length at most
+    /// Tests that there is a region of `len` bytes from `start` on: the start is greater than 0, and start plus length at most
     /// `usize::MAX`.
     pub fn can_make(start: usize, len: usize) -> bool
         ensures { IsTrue result ↔ IsRegion (region_at start len) }
@@ -145,9 +145,9 @@ impl Region {
     }
 }
 
-/// What [`Region::chunk_mut`] says of the bytes that it lends, in plain words: once bytes as many as the chunk's are written
-/// there, the chunk has these, and every other byte is as it was, so each chunk inside that is apart from it keeps its bytes.
-/// It does nothing: its contract is the law.
+/// Says in plain words what [`Region::chunk_mut`] promises of the bytes that it lends: once bytes as many as the chunk's are
+/// written there, the chunk has these, and every other byte is as it was, so each chunk inside that is apart from it keeps its
+/// bytes. It does nothing: its contract is the law.
 pub fn region_law()
     ensures written { (held : HeldBytes) (chunk : Chunk) (bytes : List ℕ)
         → IsInside (held_region held) chunk → length bytes ≡ chunk.len
@@ -158,8 +158,8 @@ pub fn region_law()
         → bytes_in new other ≡ bytes_in old other }
 {}
 
-/// What the chunks of a sound list hold, while one of them is written: its contents are set, and those of the others stay. It
-/// does nothing: its contract is the law.
+/// Says what the chunks of a sound list hold, while one of them is written: its contents are set, and those of the others stay.
+/// It does nothing: its contract is the law.
 pub fn live_bytes_law()
     ensures inside { (held : HeldBytes) (live : List Chunk) (i : ℕ) (chunk : Chunk)
         → IsSound (held_region held) live → slice_get live i ≡ Some chunk

@@ -9,10 +9,10 @@ use Rattle.bb_memory.specs.Bump.{Bump, Takes}
 -- What the bump answers to a request, and what it is then.
 pub record Allocates (bump : Bump) (layout : Layout)
     (answer : Result Chunk AllocationError) (after : Bump) : Type 0 where
-  -- by its value
+  -- the bump by its value
   pub value : Takes bump layout answer after
   pub region : after.region ≡ bump.region
-  -- by its object, on each list of chunks that are out
+  -- the bump by its object, on each list of chunks that are out
   pub object : (live : List Chunk) → StandsFor bump.region bump.used live
       → MayAllocate bump.region live layout answer
   pub appended : IfOk answer (λ chunk. (live : List Chunk) → StandsFor bump.region bump.used live

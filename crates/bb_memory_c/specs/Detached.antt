@@ -22,11 +22,11 @@ HasOthers party = 1 < party.allocator.scene.parties
 abbrev pub MayDetachAt : PoolParty → ℕ → Type 0
 MayDetachAt party place = HasOthers party × HoldsPlace party place
 
--- and a chunk of so many bytes has room in the bucket
+-- a party may detach the bucket at the place, and a chunk of so many bytes has room there
 abbrev pub MayDetachChunk : PoolParty → ℕ → ℕ → Type 0
 MayDetachChunk party place len = MayDetachAt party place × (len ≤ party.allocator.scene.geometry.bucket.size)
 
--- the same of the bucket of a number
+-- a party may detach the bucket of a number, with a chunk of so many bytes
 pub record MayDetachBucket (party : PoolParty) (number len : ℕ) : Type 0 where
   pub others : HasOthers party
   pub held : IsHeldAfter party.log number

@@ -9,23 +9,23 @@ use Rattle.bb_memory_c.specs.declared.answer.BumpInfo.{BumpInfo}
 use Rattle.bb_memory_c.specs.declared.answer.OneChunkInfo.{OneChunkInfo}
 use Rattle.bb_memory_c.specs.declared.answer.PoolInfo.{PoolInfo}
 
--- of a bump over the region, of which so many bytes are used
+-- figures of a bump over the region, of which so many bytes are used
 abbrev pub bump_info : Region → ℕ → BumpInfo
 bump_info region used =
     record { start_address = region.start; used_space = used; free_space = region.size - used; total_space = region.size }
 
--- of a bump, which stays
+-- figures of a bump, which stays
 abbrev pub ShowsBump : Bump → BumpInfo → Bump → Type 0
 ShowsBump bump info after = (info ≡ bump_info bump.region bump.used) × (after ≡ bump)
 
--- of a one-chunk allocator, which stays
+-- figures of a one-chunk allocator, which stays
 pub record ShowsOneChunk (one : OneChunk) (info : OneChunkInfo) (after : OneChunk) : Type 0 where
   pub start_address : info.start_address ≡ one.region.start
   pub size : info.size ≡ one.region.size
   pub available : IsTrue info.has_chunk_available ↔ (one.kept ≡ None)
   pub unchanged : after ≡ one
 
--- of what is cut so, of which so many buckets are held
+-- figures of a pool of this geometry, of which so many buckets are held
 abbrev pub pool_info : PoolGeometry → ℕ → PoolInfo
 pool_info geometry held = record {
   start_address = first_place geometry.region geometry.bucket;

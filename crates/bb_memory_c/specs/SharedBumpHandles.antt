@@ -17,7 +17,7 @@ pub record IsShareable (region : Region) (parties : ℕ) : Type 0 where
 abbrev pub MakesSharedBump : Region → ℕ → Option BumpParties → Type 0
 MakesSharedBump region parties new = (all : BumpParties) × (new ≡ Some all) × AreFreshOver region parties all
 
--- its figures are shown by what one load found, and the handle stands for what the party is then
+-- the party's figures are shown by what one load found, and the handle stands for what the party is then
 abbrev pub ShowsLoad : BumpParty → BumpInfo → BumpParty → Type 0
 ShowsLoad party info after =
     (used : ℕ) × (info ≡ bump_info party.allocator.scene.region used) × HasLoaded party.allocator party used after

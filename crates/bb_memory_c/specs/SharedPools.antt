@@ -98,7 +98,7 @@ held_by party = held_among party party.allocator.scene.geometry.buckets
 abbrev pub return_of : PoolParty → ℕ → PoolLog
 return_of party bucket = if holds_bucket party bucket then return_entry party.number bucket else []
 
--- those of so many buckets, in order of their numbers
+-- the party's returns of so many buckets, in order of their numbers
 abbrev pub returns_of : PoolParty → ℕ → PoolLog
 returns_of party zero = []
 returns_of party (suc bucket) = returns_of party bucket ++ return_of party bucket

@@ -1,4 +1,4 @@
-//! What the functions answer. 0 is for what was done, and each other number for one cause why nothing was.
+//! The codes that the functions answer. 0 is for what was done, and each other number for one cause why nothing was.
 pub(crate) const OK: u32 = 0;
 
 pub(crate) const SIZE_IS_ZERO: u32 = 1;

@@ -40,7 +40,7 @@ impl Detached {
         Detached { inside: None }
     }
 
-    /// Whether a bucket is in it.
+    /// Tests that a bucket is in it.
     pub(crate) fn is_full(&self) -> bool
         ensures { IsTrue result ↔ (self.now ≢ None) }
     {
@@ -142,7 +142,7 @@ pub extern "C" fn bb_detached_destroy(alloc: Global, detached: &mut DetachedHand
     free(detached, alloc)
 }
 
-/// Whether a bucket is in it: 1 or 0.
+/// Returns 1 where a bucket is in it, else 0.
 #[unsafe(no_mangle)]
 pub extern "C" fn bb_detached_is_full(detached: &mut DetachedHandle) -> Figure
     ensures { AnswersWhether detached.old.value detached.new.value result

@@ -1,4 +1,4 @@
-//! What the host holds of an allocator: a pointer that owns it. There is a type for each kind, since no type with parameters
+//! Handles: a pointer that owns an allocator, which the host holds. There is a type for each kind, since no type with parameters
 //! is passed to C; all have the same two fields. The host holds a handle in a variable of its own, and passes that by its
 //! address. An empty one has both fields zero. It may be moved, and then the old one isn't used.
 ghost use Rattle.std.specs.Prelude.{◌≡◌, Option, Some, None, MatchOption};
@@ -55,23 +55,23 @@ macro_rules! lent {
     };
 }
 
-/// What the host holds.
+/// A handle, which the host holds.
 pub(crate) trait Handle: Drop {
-    /// What is made behind it.
+    /// The kind of value that is made behind it.
     type Made: Drop;
 
-    /// What was made, if the handle isn't empty.
+    /// The value that was made, if the handle isn't empty.
     ghost made: { Self → Option Self.Made };
 
     /// The handle of what is held.
     fn of(held: Held<Self::Made>) -> Self
         ensures { made result ≡ held.value };
 
-    /// What it owns.
+    /// Returns the value that it owns.
     fn into_held(self) -> Held<Self::Made>
         ensures { result.value ≡ made self };
 
-    /// What was made, where it lies, if the handle isn't empty. The handle isn't written.
+    /// Lends the value that was made, where it lies, if the handle isn't empty. The handle isn't written.
     fn made_mut(&mut self) -> Option<&mut Self::Made>
         ensures value { MatchOption result (made self.old ≡ None) (λ lent. made self.old ≡ Some lent.now) }
         ensures* writes_back { sem 𝓛 (LendsSo Self.row Self.Made.row self.entry result
@@ -85,7 +85,7 @@ pub(crate) trait Handle: Drop {
         *self = Self::of(Held::of(fresh));
     }
 
-    /// What it owned, if it wasn't empty. It is empty then.
+    /// Takes out the value that it owned, if it wasn't empty. The handle is empty then.
     final fn take(&mut self, alloc: Global) -> Option<Box<Self::Made>>
         ensures empty { made self.new ≡ None }
         ensures value { MatchOption result (made self.old ≡ None)

@@ -1,4 +1,4 @@
-//! What a handle holds.
+//! The pointer that a handle holds.
 ghost use Rattle.std.specs.Prelude.{◌≡◌, Option, Some, None, MatchOption};
 ghost use Rattle.std.specs.declared.alloc.Global.{Global as Heap};
 
@@ -40,7 +40,7 @@ impl<T> Held<T> {
         Held { at, made: true }
     }
 
-    /// What it owns, if it owns something.
+    /// Returns the value that it owns, if it owns one.
     fn into_loose(self, alloc: Global) -> Option<Loose<T, Global>>
         ensures { MatchOption result (self.value ≡ None) (λ loose. self.value ≡ Some loose.value) }
     {

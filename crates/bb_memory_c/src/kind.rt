@@ -1,4 +1,4 @@
-//! What a call that is written once asks of each kind that it serves.
+//! Traits of each kind that a call serves which is written once.
 ghost use Rattle.std.specs.Prelude.{◌≡◌, ◌↔◌, ℕ, IsFalse, IsTrue, Result};
 ghost use Rattle.bb_memory_base.specs.Chunk.{Chunk};
 ghost use Rattle.bb_memory_base.specs.PoolGeometry.{PoolGeometry};
@@ -23,7 +23,7 @@ pub(crate) trait Shows<I>: Drop {
 
 /// Gives chunks.
 pub(crate) trait Gives: Drop {
-    /// What may be answered to a request, and what is there then.
+    /// The answers that a request may have, and the value that is there then.
     ghost may_give: { Self → Asked → Result Chunk AllocationError → Self → Type 0 };
 
     /// Asks for a chunk.
@@ -36,7 +36,7 @@ pub(crate) trait Keeps: Gives {
     /// A chunk is held at this place.
     ghost holds: { Self → ℕ → Type 0 };
 
-    /// What is there when the chunk at a place was given back.
+    /// The value that is there when the chunk at a place was given back.
     ghost frees: { Self → ℕ → Self → Type 0 };
 
     /// Returns whether a chunk is held at this place.
@@ -69,13 +69,13 @@ pub(crate) trait Shares<S: Drop>: Drop {
     /// How many parties haven't joined.
     ghost left: { Self → ℕ };
 
-    /// What is shared with one more party that hasn't joined, behind the others.
+    /// The shared value with a further party that hasn't joined, behind the others.
     ghost with_party: { Self → S → Self };
 
     /// The party is one of its own that has joined.
     ghost is_at: { Self → S → Type 0 };
 
-    /// What a party is when it has left.
+    /// A party before and after it has left.
     ghost leaves: { S → S → Type 0 };
 
     /// Makes the last party that hasn't joined join, in memory of its own.

@@ -66,7 +66,7 @@ pub(crate) fn cut_into(
     Ok(bucket)
 }
 
-/// Whether the region of `size` bytes at `start`, which may be cut into buckets of this layout, has room for one.
+/// Tests that the region of `size` bytes at `start`, which may be cut into buckets of this layout, has room for one.
 pub(crate) fn has_room(layout: Layout, start: usize, size: usize) -> bool
     requires { MayBeCut (region_at start size) layout }
     ensures { IsTrue result ↔ HasRoom (region_at start size) layout }

@@ -91,7 +91,7 @@ pub extern "C" fn bb_pool_deallocate(handle: &mut PoolHandle, place: usize) -> u
     give_back(handle, place)
 }
 
-/// Whether this is the place of a held bucket: 1 or 0.
+/// Returns 1 where this is the place of a held bucket, else 0.
 #[unsafe(no_mangle)]
 pub extern "C" fn bb_pool_holds(handle: &mut PoolHandle, place: usize) -> Figure
     ensures { AnswersWhether handle.old.value handle.new.value result

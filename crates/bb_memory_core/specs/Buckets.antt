@@ -8,7 +8,7 @@ use Rattle.bb_memory_base.specs.PoolGeometry.{PoolGeometry, IsPoolGeometry, buck
 abbrev pub Shifts : ℕ → Option ℕ → Type 0
 Shifts divisor shift = IfSome shift (λ k. (k < 64) × (divisor ≡ 2 ^ k))
 
--- this is the first bucket's place, this the stride and this its shift, and the buckets lie in a region
+-- the first bucket's place, the stride and its shift are these, and the buckets lie in a region
 pub record IsMeasured (geometry : PoolGeometry) (first step : ℕ) (shift : Option ℕ)
     : Type 0 where
   pub is_region : IsRegion geometry.region

@@ -8,7 +8,7 @@ use Rattle.bb_memory_base.specs.declared.layout.Layout.{Layout}
 use Rattle.bb_memory_base.specs.declared.allocator.AllocationError.{AllocationError}
 use Rattle.bb_memory_base.specs.declared.allocator.AllocationError.TheVariants.{SizeIsZero}
 
--- its region, and how much of it is used
+-- the bump's region, and how much of it is used
 pub record Bump : Type 0 where
   pub region : Region
   pub used : ℕ

@@ -10,7 +10,7 @@ use Rattle.bb_memory_base.specs.declared.layout.Layout.{Layout}
 use Rattle.bb_memory_base.specs.declared.allocator.AllocationError.{AllocationError}
 use Rattle.bb_memory_base.specs.declared.allocator.AllocationError.TheVariants.{OutOfMemory}
 
--- its region, and the place of the chunk that is out
+-- the allocator's region, and the place of the chunk that is out
 pub record OneChunk : Type 0 where
   pub region : Region
   pub kept : Option ℕ

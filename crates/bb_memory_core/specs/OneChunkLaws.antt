@@ -25,14 +25,14 @@ only_chunk (Some place) live (suc position) chunk (one, is, same) at =
     ap (λ (l : List Chunk). slice_get l (suc position)) is in
     cc
 
--- it has no two chunks, and so no two of one place
+-- a live list has no two chunks, and so no two of one place
 pub places_differ : (kept : Option ℕ) (live : List Chunk) → IsKept kept live → PlacesDiffer live
 places_differ None live empty = λ i j d before within.
     absurd (let none = ap length empty in omega arith)
 places_differ (Some place) live (one, is, same) = λ i j d before within.
     absurd (let single = ap length is in omega arith)
 
--- it is no longer than what is reserved for it
+-- a live chunk is no longer than what is reserved for it
 pub covered : (one : OneChunk) (live : List Chunk) (position : ℕ) (chunk : Chunk) →
     StandsFor one live → slice_get live position ≡ Some chunk →
     chunk.len ≤ reserved_at one.region chunk.place

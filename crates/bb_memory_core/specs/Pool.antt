@@ -29,7 +29,7 @@ pool_of geometry held = record { geometry = geometry; held = held }
 abbrev pub fresh_pool : PoolGeometry → Pool
 fresh_pool geometry = pool_of geometry (replicate geometry.buckets false)
 
--- its buckets are inside a region, and it knows of each whether it is held
+-- the pool's buckets are inside a region, and each is known to be held or not
 pub record IsPool (pool : Pool) : Type 0 where
   pub region : IsRegion pool.geometry.region
   pub geometry : IsPoolGeometry pool.geometry
@@ -65,7 +65,7 @@ pub record StandsFor (pool : Pool) (live : List Chunk) : Type 0 where
   pub differ : PlacesDiffer live
   pub held : (i : ℕ) → Has pool.held i → IsHeld pool.geometry live i
 
--- one of the two places is at least a stride behind the other
+-- two places, of which one is at least a stride behind the other
 abbrev pub AreAStrideApart : Layout → ℕ → ℕ → Type 0
 AreAStrideApart bucket one other = (one + stride bucket ≤ other) ⊎ (other + stride bucket ≤ one)
 
@@ -98,7 +98,7 @@ Takes pool layout (Err AlignmentFailure) new =
     × (new ≡ pool)
 Takes pool layout (Err OutOfMemory) new =
     IsWithin pool.geometry.bucket layout × IsFull pool.held × (new ≡ pool)
--- it never refuses so
+-- a pool never refuses so
 Takes pool layout (Err SizeIsZero) new = ⊥
 
 -- the held bucket at the place is freed, and no other
@@ -117,7 +117,7 @@ counted pool reads = record { pool = pool; reads = reads }
 -- What a request is answered by the value alone, what the pool is then, and how many of its words it read.
 pub record TakesBucket (old : CountedPool) (layout : Layout) (answer : Result Chunk AllocationError)
     (new : CountedPool) (words : ℕ) : Type 0 where
-  -- which bucket is held then, each refusal by its cause, and that there is no other
+  -- the bucket that is held then, each refusal by its cause, and that there is no other
   pub taken : Takes old.pool layout answer new.pool
   pub accepted : IsOk answer
       ↔ (IsWithin old.pool.geometry.bucket layout × ((i : ℕ) × Lacks old.pool.held i))

@@ -41,7 +41,7 @@ abbrev pub fresh_party : SharedBump → ℕ → BumpParty
 fresh_party allocator number =
     record { allocator = allocator; number = number; log = []; met = 0 }
 
--- these are all parties of a bump that has so many, numbered from 0, and none has made a step
+-- all parties of a bump that has so many, numbered from 0, and none has made a step
 pub record AreFresh (allocator : SharedBump) (count : ℕ) (parties : List BumpParty) : Type 0 where
   pub so_many : allocator.scene.parties ≡ count
   pub as_many : length parties ≡ count
@@ -70,7 +70,7 @@ meeting_at position party = record {
 abbrev pub seen_by : BumpParty → ℕ
 seen_by party = seen_in party.allocator.scene party.log
 
--- its floor: what the party knows that the position is at least, which it has seen, or which its last meeting found
+-- the party's floor: what the party knows that the position is at least, which it has seen, or which its last meeting found
 abbrev pub floor_of : BumpParty → ℕ
 floor_of party = max (seen_by party) party.met
 
@@ -81,7 +81,7 @@ greatest_seen (party ∷ parties) = max (seen_by party) (greatest_seen parties)
 
 -- WHAT CALLS ADD TO A LOG
 
--- one load, which found this position
+-- a load, which found this position
 abbrev pub load_entry : ℕ → ℕ → BumpLog
 load_entry party position = entry_of (Load party) (Loaded position) ∷ []
 
@@ -134,7 +134,7 @@ MayTake party layout (Err OutOfMemory) new =
     (0 < layout.size) × (added : BumpLog)
     × IsRefused party.allocator.scene.region party.number layout added
     × (new ≡ with_entries party added)
--- it never refuses so
+-- a shared bump never refuses so
 MayTake party layout (Err SizeTooLarge) new = ⊥
 MayTake party layout (Err AlignmentFailure) new = ⊥
 
@@ -164,7 +164,7 @@ pub record IsSameParty (old new : BumpParty) : Type 0 where
   pub number : new.number ≡ old.number
   pub is_party : IsParty new
 
--- One load of the party's found this position: it is at least what the party had seen, and its floor, and at most the size; and
+-- A load of the party's found this position: it is at least what the party had seen, and its floor, and at most the size; and
 -- exactly what it had seen where it is the only one.
 pub record HasLoaded (bump : SharedBump) (old : BumpParty) (found : ℕ) (new : BumpParty) : Type 0 where
   pub logged : new ≡ with_entries old (load_entry old.number found)
@@ -180,7 +180,7 @@ pub record AreBothOf (allocator : SharedBump) (one other : BumpParty) : Type 0 w
   pub a : one.allocator ≡ allocator
   pub b : other.allocator ≡ allocator
 
--- one interleaving has the logs of both parties
+-- an interleaving that has the logs of both parties
 abbrev pub AreInterleaved : BumpParty → BumpParty → Type 0
 AreInterleaved a b =
     (position : ℕ) × CommonInterleaving a.allocator.scene a.number a.log b.number b.log position
@@ -223,7 +223,7 @@ pub record AgreeAt (scene : BumpScene) (position : ℕ) (parties : List BumpPart
   pub whole : length parties ≡ scene.parties →
       HaveAllNumbers scene.parties parties × (position ≡ greatest_seen parties)
 
--- These parties have met, and are now these. The position that they found is at least each one's floor, and is the one that some
+-- Parties that have met, before and after. The position that they found is at least each one's floor, and is the one that some
 -- interleaving of all their logs leaves.
 pub record HaveMet (scene : BumpScene) (old new : List BumpParty) : Type 0 where
   pub position : ℕ

@@ -56,7 +56,7 @@ pub record IsSeatOf (scene : BumpScene) (number : ℕ) (log : BumpLog) (me : Me 
   pub interleaved : Interleaving scene number log (seen_in scene log)
   pub reached : Interleaving scene number log (max (seen_in scene log) (met_by me.0))
 
--- the same of an idle party
+-- the seat of an idle party
 pub record IsSeatOfIdle (scene : BumpScene) (number : ℕ) (log : BumpLog) (me : Me ℕ SeatView)
     : Type 0 where
   pub seat : IsSeatOf scene number log me
@@ -75,7 +75,7 @@ pub record IsPartySeat (number : ℕ) (me : Me ℕ SeatView) : Type 0 where
 abbrev pub IsSeatAt : SharedBump → TableId → Me ℕ SeatView → Type 0
 IsSeatAt bump here me = IsAt bump.table here (IsSeatOf bump.scene (number_of me.0) (view_log me.0) me)
 
--- the same of an idle party
+-- the seat of an idle party
 abbrev pub IsIdleAt : SharedBump → TableId → Me ℕ SeatView → Type 0
 IsIdleAt bump here me = IsAt bump.table here (IsSeatOfIdle bump.scene (number_of me.0) (view_log me.0) me)
 
@@ -126,7 +126,7 @@ pub record IsSharedBump (scene : BumpScene) (start size : ℕ) : Type 0 where
 abbrev pub all_parties : BumpScene → SeatView
 all_parties scene = standing_for (sight scene 0) (fresh_from 0 scene.parties)
 
--- this bump's machine begins at a scene, and a seat of its table stands for all parties
+-- the bump's machine begins at a scene, and a seat of its table stands for all parties
 pub record IsOpened (begins : BumpScene) (bump : SharedBump) (here : TableId) (me : Me ℕ SeatView) : Type 0 where
   pub scene : bump.scene ≡ begins
   pub table : here ≡ bump.table

@@ -42,7 +42,7 @@ pub record PutsAt (words : List ℕ) (at : ℕ) (new : List ℕ) : Type 0 where
 abbrev pub open_word : List ℕ → ℕ → ℕ → ℕ → ℕ
 open_word listed hand top k = if k + 1 == top then hand else slice_index listed k
 
--- these, so many, are just the words that aren't full, each once
+-- the first `top` entries are just the words that aren't full, each once
 pub record IsListing (words : List ℕ) (named : ℕ → ℕ) (top : ℕ) : Type 0 where
   pub fits : top ≤ length words
   pub below : (k : ℕ) → k < top → named k < length words

@@ -67,7 +67,7 @@ impl BumpAllocator {
         }
     }
 
-    /// Whether `new` may be called with these.
+    /// Tests that `new` may be called with these.
     pub fn can_make(start: usize, size: usize) -> bool
         ensures { IsTrue result ↔ IsRegion (region_at start size) }
     {
@@ -229,12 +229,12 @@ impl BaseAllocator for BumpAllocator {
     }
 
     fn stands_for_some_list(&self) {
-        // What the type promises is known from here on.
+        // Proof hint: brings the type's invariant into scope.
         let _ = &self.start;
     }
 
     fn answers_fit(&self) {
-        // What the type promises is known from here on.
+        // Proof hint: brings the type's invariant into scope.
         let _ = &self.start;
     }
 
@@ -259,10 +259,10 @@ pub fn run_bump(
     run_base(allocator, live, commands)
 }
 
-/// What the definition of the bump object says of every region and every list of commands. There is exactly one answer to
-/// each request. A chunk that is given begins at a multiple of the asked alignment, has exactly the asked size, and begins
-/// at or after the end of every chunk of the list, where that is in order. Each run from a live list that a bump stands
-/// for leads to such a list again, which is sound. It does nothing: its contract is the law.
+/// Says what the definition of the bump object comes to for every region and every list of commands. There is exactly one answer
+/// to each request. A chunk that is given begins at a multiple of the asked alignment, has exactly the asked size, and begins at
+/// or after the end of every chunk of the list, where that is in order. Each run from a live list that a bump stands for leads to
+/// such a list again, which is sound. It does nothing: its contract is the law.
 pub fn bump_object_law()
     ensures some_answer { (region : Region) → AnswersAll (bump_object region) }
     ensures one_answer { (region : Region) → AnswersOnce (bump_object region) }

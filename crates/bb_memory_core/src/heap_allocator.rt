@@ -171,8 +171,8 @@ impl HeapAllocator {
     }
 }
 
-/// What [`HeapBlock::as_mut_slice`] says of the bytes that it lends, in plain words: once bytes as many as the block's are
-/// written there, they are the block's. It does nothing: its contract is the law.
+/// Says in plain words what [`HeapBlock::as_mut_slice`] promises of the bytes that it lends: once bytes as many as the block's
+/// are written there, they are the block's. It does nothing: its contract is the law.
 pub fn heap_law()
     ensures written { (block bytes : List ℕ) → length bytes ≡ length block
         → written block bytes ≡ bytes }

@@ -37,12 +37,12 @@ pub trait IndexSet: Drop {
         requires { Has (numbers self.old) number }
         ensures { numbers self.new ≡ slice_set (numbers self.old) number false };
 
-    /// Whether a number below the bound is in the set. No word is read through a counter.
+    /// Tests that a number below the bound is in the set. No word is read through a counter.
     fn has(&self, number: usize) -> bool
         requires { number < length (numbers self.now) }
         ensures { IsTrue result ↔ Has (numbers self.now) number };
 
-    /// Whether some number below the bound isn't in the set, so that one can be taken. No word is read through a counter.
+    /// Tests that some number below the bound isn't in the set, so that one can be taken. No word is read through a counter.
     fn has_room(&self) -> bool
         ensures { IsTrue result ↔ ((number : ℕ) × Lacks (numbers self.now) number) };
 }

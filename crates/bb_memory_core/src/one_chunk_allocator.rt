@@ -74,14 +74,14 @@ impl OneChunkAllocator {
         }
     }
 
-    /// Whether `new` may be called with these.
+    /// Tests that `new` may be called with these.
     pub fn can_make(start: usize, size: usize) -> bool
         ensures { IsTrue result ↔ IsRegion (region_at start size) }
     {
         region::Region::can_make(start, size)
     }
 
-    /// Whether no chunk is out.
+    /// Tests that no chunk is out.
     #[inline(always)]
     pub fn has_chunk_available(&self) -> bool
         ensures value { IsTrue result ↔ (self.now.kept ≡ None) }
@@ -91,7 +91,7 @@ impl OneChunkAllocator {
         self.kept_place.is_none()
     }
 
-    /// Whether the chunk that is out has this place, so that it may be given back: true exactly where `deallocate` may be
+    /// Tests that the chunk that is out has this place, so that it may be given back: true exactly where `deallocate` may be
     /// called with the place.
     ///
     /// ```
@@ -186,12 +186,12 @@ impl BaseAllocator for OneChunkAllocator {
     }
 
     fn stands_for_some_list(&self) {
-        // What the type promises is known from here on.
+        // Proof hint: brings the type's invariant into scope.
         let _ = &self.start;
     }
 
     fn answers_fit(&self) {
-        // What the type promises is known from here on.
+        // Proof hint: brings the type's invariant into scope.
         let _ = &self.start;
     }
 
@@ -267,7 +267,7 @@ impl Allocator for OneChunkAllocator {
         old: Layout,
         new: Layout,
     ) -> Result<Chunk, AllocationShrinkError> {
-        // What the type promises is known from here on.
+        // Proof hint: brings the type's invariant into scope.
         let _ = &self.start;
         if old.size() <= new.size() {
             return Err(AllocationShrinkError::ShrinkWouldGrow);
@@ -321,10 +321,10 @@ pub fn run_base_one_chunk(
     run_base(allocator, live, commands)
 }
 
-/// What the definition of the one-chunk object says of every region and every list of commands. There is exactly one answer
-/// to each request, and to each resize. A chunk that is given begins at a multiple of the asked alignment, has at least the
-/// asked size, isn't empty, and ends where the region does. Each run from a live list that a one chunk stands for, with resizes
-/// or without, leads to such a list again, which is sound. It does nothing: its contract is the law.
+/// Says what the definition of the one-chunk object says of every region and every list of commands. There is exactly one answer
+/// to each request, and to each resize. A chunk that is given begins at a multiple of the asked alignment, has at least the asked
+/// size, isn't empty, and ends where the region does. Each run from a live list that a one chunk stands for, with resizes or
+/// without, leads to such a list again, which is sound. It does nothing: its contract is the law.
 pub fn one_chunk_object_law()
     ensures some_answer { (region : Region) → AnswersAll (one_chunk_object region).base }
     ensures one_answer { (region : Region) → AnswersOnce (one_chunk_object region).base }

@@ -89,7 +89,7 @@ impl UninitPoolAllocator {
 /// ```
 pub type PoolAllocator<A> = BucketPool<Words<A>>;
 
-// What no index words have a part in is called by the bare name of the type.
+// Functions that have no part in index words stand on one instance, so that callers name the type alone.
 impl PoolAllocator<Global> {
     /// A pool over the region of `size` bytes at `start`, cut into buckets of this layout, whose index words
     /// [`UninitPoolAllocator::init`] makes. The start has to be greater than 0; start plus size, and the start rounded up to
@@ -104,7 +104,7 @@ impl PoolAllocator<Global> {
         }
     }
 
-    /// Whether `new_uninit` may be called with these.
+    /// Tests that `new_uninit` may be called with these.
     pub fn can_make(bucket_layout: Layout, start: usize, size: usize) -> bool
         ensures { IsTrue result ↔ MayBeCut (region_at start size) bucket_layout }
     {

@@ -150,7 +150,7 @@ impl SharedBumpAllocator {
         ensures aligned { IfOk result (λ chunk. chunk.place % layout.align ≡ 0) }
         ensures exact_size { IfOk result (λ chunk. chunk.len ≡ layout.size) }
     {
-        // What holds of every party is known from here on, also where no step is made.
+        // Proof hint: brings the party's invariant into scope on the early returns.
         let _ = &party.number;
         if layout.size() == 0 {
             return Err(AllocationError::SizeIsZero);
@@ -304,7 +304,7 @@ impl SharedBumpAllocator {
     }
 }
 
-/// What a user of a shared bump has of each party, and of two that met, whatever the threads did. It does nothing: its
+/// Says what follows for each party of a shared bump, and for two that met, whatever the threads did. It does nothing: its
 /// contract is the law.
 ///
 /// A possible history of a party is an interleaving of its log: a list of allowed steps from the opening, in which the party's

@@ -43,7 +43,7 @@ abbrev pub IsAllocators : LoanError → Type 0
 IsAllocators (Allocation error) = Unit {0}
 IsAllocators _ = ⊥
 
--- one request for so many bytes, at any place, made this note of the one before
+-- a single request for so many bytes, at any place, made this note of the one before
 pub record IsAskedOnce {Note : Type 0} (note_after : Layout → Note → Note) (size : ℕ) (old new : Note) : Type 0 where
   pub layout : Layout
   pub many : layout.size ≡ size

@@ -1,4 +1,4 @@
-//! What holds of every book and every answer. Nothing here does anything: each contract is a law.
+//! Laws of every book and every answer. Nothing here does anything: each contract is a law.
 ghost use Rattle.std.specs.Prelude.{◌≡◌, ◌↔◌, ℕ, Bool, Result, IsTrue};
 ghost use Rattle.loan_book.specs.declared.error.LoanError.{LoanError};
 ghost use Rattle.loan_book.specs.declared.run.LoanCall.{LoanCall};

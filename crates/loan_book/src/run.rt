@@ -15,7 +15,7 @@ use bb_memory_base::allocator::Allocator;
 use bb_memory_base::layout::Chunk;
 use std::alloc::{AllocError, Global};
 
-/// What is asked of a loan book.
+/// A call of a loan book.
 #[derive(Debug, Clone, Copy, PartialEq, Eq)]
 pub enum LoanCall {
     /// A loan of so many bytes.
@@ -24,11 +24,11 @@ pub enum LoanCall {
     Publish(u64, u32),
     /// The sample of this id is returned once.
     GiveBack(u64),
-    /// Whether the sample of this id is out.
+    /// Asks whether the sample of this id is out.
     IsOut(u64),
 }
 
-/// What a loan book answers to a call.
+/// The reply of a loan book to a call.
 #[derive(Debug, Clone, Copy, PartialEq, Eq)]
 pub enum LoanReply {
     /// The sample's id and its chunk.
@@ -39,7 +39,7 @@ pub enum LoanReply {
     Returned,
     /// Further returns are to come.
     Kept,
-    /// Whether the sample is out.
+    /// True where the sample is out.
     Out(bool),
     /// The call was refused, and the book is as it was.
     Refused(LoanError),

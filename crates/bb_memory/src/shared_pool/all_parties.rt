@@ -1,4 +1,4 @@
-//! What a user has who met all parties of a shared pool.
+//! The law of parties of a shared pool that met.
 ghost use Rattle.std.specs.Prelude.{◌≡◌, ◌≢◌, ◌↔◌, ◌<◌, ℕ, All, Any, Contains, List};
 ghost use Rattle.std.specs.Prelude.{Some, [], length, slice_get, true};
 ghost use Rattle.bb_memory_base.specs.Chunk.{Chunk};
@@ -12,7 +12,7 @@ ghost use Rattle.bb_memory_base.specs.declared.layout.Layout.{Layout};
 ghost use Rattle.bb_memory.specs.SharedPool.{HasTaker, HaveMet, HoldApart, IsHeldByOne, IsHeldOrDetached};
 ghost use Rattle.bb_memory.specs.SharedPool.{IsSharedScene, PoolParty, TookOne, WasDetachedByOne, refused_pass};
 
-/// What a user of a shared pool has of parties that met ([`meet_all`](super::SharedPoolAllocator::meet_all)), and above all of
+/// Says what follows for parties of a shared pool that met ([`meet_all`](super::SharedPoolAllocator::meet_all)), and above all of
 /// all its parties, whatever the threads did. It does nothing: its contract is the law.
 ///
 /// A meeting has one list of steps from the opening, each of which the machine allows (`met.1.agree.steps`), in which the steps

@@ -1,4 +1,4 @@
-//! What the shared pools are: buckets with a flag each, on which any number of threads step.
+//! The shared pools: buckets with a flag each, on which any number of threads step.
 ghost use Rattle.std.specs.Prelude.{◌≡◌, ◌≢◌, ℕ, ◌<◌, ◌≤◌, ◌↔◌, ◌%◌, ◌^◌, [], All, IsErr, IfErr, IfOk};
 ghost use Rattle.std.specs.Prelude.{◌+◌, IfSome, MatchOption, length};
 ghost use Rattle.bb_memory_base.specs.Chunk.{IsRegion, Chunk, IsInside};
@@ -131,7 +131,7 @@ impl<const CAPPED: usize, const MOST: usize> SharedBucketPool<CAPPED, MOST> {
         ensures aligned { IfOk result (λ bucket. (chunk_of bucket).place % layout.align ≡ 0) }
         ensures exact_size { IfOk result (λ bucket. (chunk_of bucket).len ≡ layout.size) }
     {
-        // What holds of the party is known from here on, also where no step is made.
+        // Proof hint: brings the party's invariant into scope on the early returns.
         let _ = &party.number;
         let bucket = self.flags.geometry().bucket();
         if layout.size() > bucket.size() {

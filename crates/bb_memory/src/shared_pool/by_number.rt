@@ -54,7 +54,7 @@ pub fn bucket<'a, const CAPPED: usize, const MOST: usize>(
     ensures value { result ≡ taken_bucket pool.now number len }
     ensures aligned { (chunk_of result).place % pool.now.scene.geometry.bucket.align ≡ 0 }
 {
-    // What holds of the party is known from here on.
+    // Proof hint: brings the party's invariant into scope.
     let _ = party.number();
     Bucket {
         flags: &pool.flags,

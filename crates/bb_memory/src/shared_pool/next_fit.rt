@@ -75,7 +75,7 @@ impl<const CAPPED: usize, const MOST: usize> SharedBucketPool<CAPPED, MOST> {
         ensures party { party.new.allocator ≡ self.now }
         ensures serves { ServesNextFit self.now party.old layout result party.new }
     {
-        // What holds of the party is known from here on, also where no step is made.
+        // Proof hint: brings the party's invariant into scope on the early returns.
         let _ = &party.number;
         let bucket = self.flags.geometry().bucket();
         if layout.size() > bucket.size() {

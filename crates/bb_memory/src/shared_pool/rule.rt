@@ -19,7 +19,7 @@ impl Model for Scene {
     ghost view = { λ s. scene_at s.geometry s.parties };
 }
 
-/// What a seat knows: the parties that it stands for, each with its log. No value of this type is made.
+/// Knowledge of a seat: the parties that it stands for, each with its log. No value of this type is made.
 pub(crate) struct View {}
 
 impl Model for View {
@@ -106,7 +106,7 @@ impl Split<View> for GiveDetached {
     ghost right = { first_detached };
 }
 
-/// What is detached at one seat comes to another.
+/// Detached buckets of one seat come to another.
 pub(crate) struct TakeIn;
 
 impl Join<View> for TakeIn {

@@ -24,9 +24,9 @@ pub fn deallocate_beside<A: Allocator>(allocator: &mut A, place: usize, layout: 
     allocator.deallocate(place, layout);
 }
 
-/// What may be given back after a request, by any live list that the allocator stood for: `stands_for_some_list` tells that there
-/// is one. And how chunks lie that may be given back. It does nothing: its contract is the law. Of a bump nothing is said: it
-/// takes back any place, and then all chunks.
+/// Says which places may be given back after a request, by any live list that the allocator stood for: `stands_for_some_list`
+/// tells that there is one. And how chunks lie that may be given back. It does nothing: its contract is the law. Of a bump
+/// nothing is said: it takes back any place, and then all chunks.
 ///
 /// ```
 /// may_release_law::<A>();

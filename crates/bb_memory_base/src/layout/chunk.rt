@@ -78,7 +78,7 @@ impl Chunk {
         self.len
     }
 
-    /// Whether it has no bytes.
+    /// Returns true where the chunk has no bytes.
     #[inline(always)]
     pub fn is_empty(&self) -> bool
         ensures { IsTrue result ↔ (self.now.len ≡ 0) }
@@ -115,7 +115,7 @@ impl Chunk {
         }
     }
 
-    /// What lies behind its first `size` bytes, of which it has to have so many.
+    /// Returns the part behind the first `size` bytes, of which the chunk has to have so many.
     #[inline]
     pub fn behind(&self, size: usize) -> Chunk
         requires { size ≤ self.now.len }
@@ -128,7 +128,7 @@ impl Chunk {
     }
 }
 
-/// What the last chunks of a sound list are to the others: apart. It does nothing: its contract is the law.
+/// Says that the last chunks of a sound list are apart from the others. It does nothing: its contract is the law.
 pub fn given_law()
     ensures given { (region : Region) (live : List Chunk) (chunk : Chunk)
         → IsSound region (live ++ chunk ∷ []) → All (AreApart chunk) live }

@@ -26,7 +26,7 @@ pub enum BumpStep {
     Clear,
 }
 
-/// What a step found, and what it did. The number is the position that it found.
+/// The outcome of a step: what the step found, and what it did. The number is the position that it found.
 #[derive(Debug, Clone, Copy, PartialEq, Eq)]
 pub enum BumpOutcome {
     /// A read at which the layout fits.
@@ -48,8 +48,8 @@ pub enum BumpOutcome {
     Passed,
 }
 
-/// What holds of every list of steps, by any number of parties, from whichever position the machine opens at, with clears
-/// at any place. It does nothing: its contract is the theorem.
+/// Says what holds of every list of steps, by any number of parties, from whichever position the machine opens at, with clears at
+/// any place. It does nothing: its contract is the theorem.
 ///
 /// A scene is where a machine begins: its region, its opening and its parties. What holds of every list of steps holds of
 /// each beginning of one, and so at every step. A stretch is a list of steps that comes after a beginning. A step decides
@@ -138,8 +138,8 @@ pub fn bump_theorem()
         → losses_in (entries_by party (stretch_after scene before stretch)) ≤ scene.region.size }
 {}
 
-/// What can be told from the logs of parties, as a bump is that threads share: its word is the position, and each thread
-/// has its own party's log. Nobody clears such a bump. It does nothing: its contract is the theorem.
+/// Says what follows from the logs of parties, as a bump is that threads share: its word is the position, and each thread has its
+/// own party's log. Nobody clears such a bump. It does nothing: its contract is the theorem.
 ///
 /// Logs agree with a position where one list of allowed steps leaves that position, and has as each party's steps exactly
 /// its log. A party whose log isn't in the list may have made any steps.

@@ -27,7 +27,7 @@ impl Model for OngoingCall {
     ghost inverse = { λ call. record { layout = call.layout; seen = call.seen } };
 }
 
-/// What a step of a party answers, and what it makes of the position and of the party's call.
+/// The answer of a party's step, and the position and the party's call after it.
 #[derive(Clone, Copy)]
 struct PartyMove {
     outcome: BumpOutcome,

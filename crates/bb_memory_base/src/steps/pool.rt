@@ -14,7 +14,7 @@ ghost use Rattle.bb_memory_base.specs.PoolCalls.{IsRefusedAt, LosesAt, MissesAt}
 ghost use Rattle.bb_memory_base.specs.PoolLogs.{AllAllowed, CommonInterleaving, WasDetached, HasLog, Interleaving, IsHeldAfter};
 ghost use Rattle.bb_memory_base.specs.PoolLogs.{IsDetachedAfter, LogsAgree, loss_at, next_bucket, pass_in, with_entry};
 
-/// What the flag of a bucket is. In memory a flag has two values: free, and taken for the other two.
+/// The state of a bucket's flag. In memory a flag has two values: free, and taken for the other two.
 #[derive(Debug, Clone, Copy)]
 pub enum Flag {
     /// No party has the bucket, and each may take it.
@@ -42,7 +42,7 @@ pub enum PoolStep {
     Attach { party: u32, bucket: u32 },
 }
 
-/// What a step found, and what it did.
+/// The outcome of a step: what the step found, and what it did.
 #[derive(Debug, Clone, Copy, PartialEq, Eq)]
 pub enum PoolOutcome {
     /// The bucket's flag was free. It is now taken, and the party's pass has ended.
@@ -143,9 +143,9 @@ pub fn pool_theorem()
         → IsDetached (left_by scene steps) bucket → WasDetached (history_of scene steps) bucket }
 {}
 
-/// What follows from the parties' logs alone, where they agree with the flags: some list of steps, each allowed, leaves
-/// these flags, and has as the steps of each party in the list of logs exactly its log. It does nothing: its contract is
-/// the theorem.
+/// Says what follows from the parties' logs alone, where they agree with the flags: some list of steps, each allowed, leaves
+/// these flags, and has as the steps of each party in the list of logs exactly its log. It does nothing: its contract is the
+/// theorem.
 pub fn pool_log_theorem()
     // The bucket at which the pass of a party that was made is, if it is in one, stands in its log.
     ensures call { (scene : PoolScene) (steps : List PoolStep) (party : ℕ)

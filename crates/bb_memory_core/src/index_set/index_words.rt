@@ -1,6 +1,6 @@
 //! Words of 64 bits that a search reads only through a counter, and a list of some of them.
 //!
-//! What hands out a word and what counts a read stand in one module: no other code can raise a counter, though any code may
+//! The calls that hand out a word and count a read stand in one module: no other code can raise a counter, though any code may
 //! make a new one.
 ghost use Rattle.std.specs.Prelude.{◌≡◌, ◌≢◌, ℕ, ◌+◌, ◌-◌, ◌/◌, ◌^◌, ◌<◌, ◌≤◌, false, IsTrue};
 ghost use Rattle.std.specs.Prelude.{IsFalse, length, replicate, slice_index, slice_set, IfOk};
@@ -95,7 +95,7 @@ impl<A: Allocator> IndexWords<A> {
         self.slots[i] = word;
     }
 
-    /// Whether the bit of a number is set. It is read in place, and isn't counted.
+    /// Tests the bit of a number. It is read in place, and isn't counted.
     #[inline(always)]
     pub fn has(&self, number: usize) -> bool
         requires { number / 64 < length self.now.words }
@@ -104,7 +104,7 @@ impl<A: Allocator> IndexWords<A> {
         self.slots[number / 64] >> (number % 64) & 1 == 1
     }
 
-    /// Whether a word isn't full. It is read in place, and isn't counted.
+    /// Tests that a word isn't full. It is read in place, and isn't counted.
     #[inline(always)]
     pub fn is_open(&self, at: usize) -> bool
         requires { at < length self.now.words }

@@ -104,8 +104,8 @@ impl<S: IndexSet> BucketPool<S> {
         held
     }
 
-    /// Whether a bucket is free, so that a request that is no greater than a bucket, in size and alignment, is accepted. Nothing
-    /// is searched, and no read is counted.
+    /// Tests that a bucket is free, so that a request that is no greater than a bucket, in size and alignment, is accepted.
+    /// Nothing is searched, and no read is counted.
     ///
     /// ```
     /// let before = pool.has_room();
@@ -120,7 +120,7 @@ impl<S: IndexSet> BucketPool<S> {
         self.held.has_room()
     }
 
-    /// Whether this is the place of a held bucket, which may be given back: true exactly where `deallocate` may be called with
+    /// Tests that this is the place of a held bucket, which may be given back: true exactly where `deallocate` may be called with
     /// the place. Nothing is searched, and no read is counted.
     ///
     /// ```
@@ -268,12 +268,12 @@ impl<S: IndexSet> BaseAllocator for BucketPool<S> {
     }
 
     fn stands_for_some_list(&self) {
-        // What the type promises is known from here on.
+        // Proof hint: brings the type's invariant into scope.
         let _ = &self.geometry;
     }
 
     fn answers_fit(&self) {
-        // What the type promises is known from here on.
+        // Proof hint: brings the type's invariant into scope.
         let _ = &self.geometry;
     }
 

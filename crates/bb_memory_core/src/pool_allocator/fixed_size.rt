@@ -54,7 +54,7 @@ impl<const MAX_NUMBER_OF_BUCKETS: usize> FixedSizePoolAllocator<MAX_NUMBER_OF_BU
         }
     }
 
-    /// Whether `new` may be called with these.
+    /// Tests that `new` may be called with these.
     pub fn can_make(bucket_layout: Layout, start: usize, size: usize) -> bool
         ensures { IsTrue result ↔ (MayBeCut (region_at start size) bucket_layout
             × (MAX_NUMBER_OF_BUCKETS < 2 ^ 32 - 1)) }

@@ -1,4 +1,4 @@
-//! What the definitions of the pool object and of its geometry say, in plain words.
+//! Laws that say in plain words what the definitions of the pool object and of its geometry come to.
 ghost use Rattle.std.specs.Prelude.{◌≡◌, ◌≢◌, ◌+◌, ◌-◌, ◌/◌, ◌^◌, ◌<◌, ◌≤◌, ◌%◌, [], List, All};
 ghost use Rattle.std.specs.Prelude.{AllPairs, ℕ, Result, Ok, Err, Some, IsOk, length, remove, slice_get};
 ghost use Rattle.bb_memory_base.specs.Chunk.{Region, IsRegion, region_end, Chunk, IsInside};
@@ -17,7 +17,7 @@ ghost use Rattle.bb_memory_base.specs.declared.allocator.Reply.{Reply};
 ghost use Rattle.bb_memory_core.specs.NumberSet.{Has};
 ghost use Rattle.bb_memory_core.specs.Pool.{AreAStrideApart, HoldsPlace, IsPool, MayBeCut, Pool, StandsFor, fresh_pool};
 
-/// What the definition of a pool's geometry says of every region and every layout of a bucket. A region is cut in one way
+/// Says what the definition of a pool's geometry says of every region and every layout of a bucket. A region is cut in one way
 /// alone, and into buckets of at least one byte it can always be cut. Each bucket begins at a multiple of its alignment, and
 /// ends, with its whole stride, where the next one begins or before. It does nothing: its contract is the law.
 pub fn pool_geometry_law()
@@ -40,7 +40,7 @@ pub fn pool_geometry_law()
     ensures wide_enough { (bucket : Layout) → bucket.size ≤ stride bucket }
 {}
 
-/// What the definition of the pool object says of every geometry and every list of commands. There is an answer to each
+/// Says what the definition of the pool object says of every geometry and every list of commands. There is an answer to each
 /// request: a chunk, or one refusal alone. A chunk that is given begins at a multiple of the asked alignment and of the bucket's,
 /// has exactly the asked size, and no live chunk has its place. There is exactly one answer to each resize. Where a chunk was
 /// just given back, no request that fits a bucket is refused. In each live list that a pool stands for, every chunk begins at a
@@ -112,8 +112,8 @@ pub fn pool_object_law()
         → (left : Pool) × IsPool left × (left.geometry ≡ pool.geometry) × StandsFor left new }
 {}
 
-/// What stands in a list that a pool stands for may be given back. A place is held exactly where a held bucket begins there. It
-/// does nothing: its contract is the law.
+/// Says that each chunk of a list that a pool stands for may be given back. A place is held exactly where a held bucket begins
+/// there. It does nothing: its contract is the law.
 pub fn pool_held_law()
     ensures listed { (pool : Pool) (live : List Chunk) (position : ℕ) (chunk : Chunk)
         → StandsFor pool live → slice_get live position ≡ Some chunk

@@ -1,4 +1,4 @@
-//! What a user has who met all parties of a shared bump.
+//! The law of parties of a shared bump that met.
 ghost use Rattle.std.specs.Prelude.{◌≡◌, ◌≢◌, ◌++◌, ℕ, All, Any, Contains, List, Some, length, slice_get};
 ghost use Rattle.bb_memory_base.specs.Chunk.{Chunk};
 ghost use Rattle.bb_memory_base.specs.BumpObject.{StandsFor};
@@ -7,7 +7,7 @@ ghost use Rattle.bb_memory_base.specs.BumpHistory.{chunks_won, history_of, log_o
 ghost use Rattle.bb_memory_base.specs.BumpCalls.{IsCallRun, OpensWith, calls_of, live_after};
 ghost use Rattle.bb_memory_core.specs.SharedBump.{AgreeAt, BumpParty, HaveChunksApart, IsSharedScene};
 
-/// What a user of a shared bump has of parties that met ([`meet_all`](super::SharedBumpAllocator::meet_all)), and above all of
+/// Says what follows for parties of a shared bump that met ([`meet_all`](super::SharedBumpAllocator::meet_all)), and above all of
 /// all its parties, whatever the threads did. It does nothing: its contract is the law.
 ///
 /// A meeting has one list of steps from the opening, each of which the machine allows (`agree.steps`), in which the steps of each

@@ -21,7 +21,7 @@ impl Model for Scene {
     ghost view = { λ s. scene_at (region_at s.start s.size) s.opening s.parties };
 }
 
-/// What a seat knows: the parties that it stands for, each with its log. No value of this type is made.
+/// Knowledge of a seat: the parties that it stands for, each with its log. No value of this type is made.
 pub(crate) struct View {}
 
 impl Model for View {

@@ -44,7 +44,7 @@ abbrev pub kind : {S O C R : Type 0} → Rules S O C R → Kind
 kind {S} {O} {C} {R} rules =
     record { State = S; Header = O; Command = C; Reply = R; rules = rules }
 
--- it holds of some kind of the table
+-- some kind of the table has the property
 abbrev pub SomeOf : List Kind → (Kind → Type 0) → Type 0
 SomeOf [] Holds = ⊥
 SomeOf (one ∷ others) Holds = Holds one ⊎ SomeOf others Holds

@@ -40,7 +40,8 @@ pub record PoolRuns (old : Pool) (live : List Chunk) (commands : List Command)
   pub geometry : new.geometry ≡ old.geometry
   pub stands : StandsFor new left
 
--- the same, and what was read is what the last request among the commands reads, or what it was before where they have none
+-- the replies are such a run, and what was read is what the last request among the commands reads, or what it was before where
+-- they have none
 pub record CountedPoolRuns (old : CountedPool) (live : List Chunk) (commands : List Command)
     (replies : List Reply) (new : CountedPool) (left : List Chunk) : Type 0 where
   pub runs : PoolRuns old.pool live commands replies new.pool left

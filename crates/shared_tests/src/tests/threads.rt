@@ -22,7 +22,7 @@ trait Shared: Drop + Send + Sync + 'static {
     ghost is_of: { Self.Party → Self → Type 0 };
 }
 
-/// What each thread does with its party.
+/// The work of each thread with its party.
 trait Job<S: Shared>: Drop + Send + Sync + 'static {
     type Told: Drop + Send + 'static;
 
@@ -110,7 +110,7 @@ impl<S: Shared, J: Job<S>> Crew<S, J> {
     }
 }
 
-/// What comes of threads: the allocator, its parties in order, and what the thread of each told.
+/// The outcome of threads: the allocator, its parties in order, and what the thread of each told.
 type Back<S, T> = (Arc<S, Global>, Vec<<S as Shared>::Party>, Vec<T>);
 
 /// Does a job in a thread for each party, all at once.

@@ -51,15 +51,15 @@ struct Takes {
     times: u32,
 }
 
-/// What a thread was given.
+/// Chunks that a thread was given.
 #[derive(Drop)]
 struct Taken {
     layout: Layout,
     /// In the order of its requests.
     chunks: Vec<Chunk>,
-    /// Whether it found, after each request, that the bytes up to its chunk's end were used.
+    /// True where the thread found, after each request, that the bytes up to its chunk's end were used.
     saw_its_own: bool,
-    /// Whether its last request was refused.
+    /// True where the thread's last request was refused.
     refused: bool,
 }
 

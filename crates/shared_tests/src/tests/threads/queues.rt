@@ -35,7 +35,7 @@ impl MessagePool for Brand {
     ghost pool = { None };
 }
 
-/// What a queue promises its receiver: each message is a bucket of that pool.
+/// The promise of a queue to its receiver: each message is a bucket of that pool.
 struct OfPool<P: MessagePool> {
     of: PhantomData<P>,
 }
