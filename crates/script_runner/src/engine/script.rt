@@ -33,7 +33,9 @@ pub fn read_script<K: Driven>(
         let Some(line) = read_line::<K>(line) else {
             return Ok(Err(index));
         };
-        script.push(line)?;
+        let Ok(()) = script.push(line) else {
+            return Err(AllocError);
+        };
         index += 1;
         left = rest;
     }
