@@ -6,7 +6,8 @@ use Rattle.std.specs.Io.KnownBytes.{Appends, Keeps}
 use Rattle.std.proofs.lemmas.List.{append_assoc, append-nil, take-append-drop, take_rest}
 use Rattle.script_runner.specs.Inputs.{Ends, IsAnswered, IsOutput, IsUnreadable}
 use Rattle.script_runner.specs.declared.status.Status.{Status}
-use Rattle.script_runner.specs.declared.status.Status.TheVariants.{Done, Unreadable, OutputFailed, OutOfMemory}
+use Rattle.script_runner.specs.declared.status.Status.TheVariants.{Done, Unreadable, InputFailed, OutputFailed, OutOfMemory}
+use Rattle.script_runner.specs.Status.{IsCutShort}
 use Rattle.script_runner.specs.engine.Transcript.{AppendsPart, Sends, unreadable_text}
 
 -- known bytes grow by no byte
@@ -78,7 +79,7 @@ pub ends_done : (input : List ℕ) (old new : Option (List ℕ)) (text : List �
 ends_done input old new text answered wrote = record {
   done = λ is. (text, answered, wrote);
   unreadable = λ is. absurd (cc);
-  cut_short = elim [ | inl is ↦ absurd (cc) | inr is ↦ absurd (cc) ];
+  cut_short = elim [ inl is ↦ absurd (cc) | inr is ↦ absurd (cc) ];
   input_read = λ is. cc;
 }
 
@@ -88,7 +89,7 @@ pub ends_unreadable : (input : List ℕ) (old new : Option (List ℕ)) (number :
 ends_unreadable input old new number unread wrote = record {
   done = λ is. absurd (cc);
   unreadable = λ is. (number, unread, wrote);
-  cut_short = elim [ | inl is ↦ absurd (cc) | inr is ↦ absurd (cc) ];
+  cut_short = elim [ inl is ↦ absurd (cc) | inr is ↦ absurd (cc) ];
   input_read = λ is. cc;
 }
 
@@ -100,3 +101,17 @@ ends_refused input old = record {
   cut_short = λ short. inl (keeps_same old);
   input_read = λ is. cc;
 }
+
+-- statuses are apart
+pub refused_apart : {P : Type 0} (status : Status) → (status ≡ Done) ⊎ (status ≡ Unreadable) ⊎ (status ≡ InputFailed)
+    → status ≡ OutOfMemory → P
+refused_apart status (inl done) refused = absurd (cc)
+refused_apart status (inr (inl unread)) refused = absurd (cc)
+refused_apart status (inr (inr failed)) refused = absurd (cc)
+
+pub failed_apart : {P : Type 0} (status : Status) → (status ≡ Done) ⊎ (status ≡ Unreadable) ⊎ IsCutShort status
+    → status ≡ InputFailed → P
+failed_apart status (inl done) failed = absurd (cc)
+failed_apart status (inr (inl unread)) failed = absurd (cc)
+failed_apart status (inr (inr (inl sent))) failed = absurd (cc)
+failed_apart status (inr (inr (inr refused))) failed = absurd (cc)

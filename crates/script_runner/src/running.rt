@@ -13,7 +13,7 @@ use crate::engine::driving::Outcome;
 use crate::engine::script::first_line;
 use crate::kinds::{AllKinds, Kinds};
 use crate::status::Status;
-use crate::words::{number_text, words};
+use crate::words::{Numbers, Text, words};
 use std::alloc::Global;
 use std::io::{ErrorKind, Read, Write};
 
@@ -52,7 +52,7 @@ fn answer<W: Write>(alloc: Global, input: &[u8], writer: &mut W) -> Status
             finish(sent, Status::Done, writer)
         }
         Outcome::Unreadable(number) => {
-            match number_text(b"line", number, b": refused\n").written(alloc) {
+            match Text::new(b"line", Numbers::One(number), b": refused\n").written(alloc) {
                 Ok(line) => {
                     let sent = send(&line, writer);
                     finish(sent, Status::Unreadable, writer)

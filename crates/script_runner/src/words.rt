@@ -143,29 +143,14 @@ pub struct Text {
     pub end: &'static [u8],
 }
 
-/// Returns a text of a name and a line feed.
-pub fn name_line(name: &'static [u8]) -> Text
-    ensures { text_bytes result ≡ words_then name.now Numbers.Zero (codes "\n") }
-{
-    Text {
-        name,
-        numbers: Numbers::Zero,
-        end: b"\n",
-    }
-}
-
-/// Returns a text of a name and a number, and then an end.
-pub fn number_text(name: &'static [u8], number: usize, end: &'static [u8]) -> Text
-    ensures { text_bytes result ≡ words_then name.now (Numbers.One number) end.now }
-{
-    Text {
-        name,
-        numbers: Numbers::One(number),
-        end,
-    }
-}
-
 impl Text {
+    /// Returns the text of these parts.
+    pub fn new(name: &'static [u8], numbers: Numbers, end: &'static [u8]) -> Text
+        ensures { text_bytes result ≡ words_then name.now numbers end.now }
+    {
+        Text { name, numbers, end }
+    }
+
     /// Returns the bytes of the text.
     pub fn written(self, alloc: Global) -> Result<Vec<u8>, AllocError>
         ensures { IfOk result (λ line. line.items ≡ text_bytes self) }

@@ -18,7 +18,7 @@ pub returns-in-Ok : goal.returns-in-Ok
 returns-in-Ok g c =
     let number = c.in-Unreadable.number in
     let text = unreadable_text number in
-    let is = c.in-Ok.ensures ∙ c.number_text.ensures in
+    let is = c.in-Ok.ensures ∙ c.new.ensures in
     let unread = c.in-Unreadable.ensures in
     ends_sent c.args.input.now (g.W.Write.contents c.args.writer.now) (g.W.Write.contents c.send-sent.new.writer)
     (g.W.Write.contents c.finish-in-Ok.new.writer) text c.send-sent.result c.finish-in-Ok.result Unreadable
