@@ -1,11 +1,14 @@
 -- Known bytes that grow, and bytes that are sent, all or a beginning.
-use Rattle.std.proofs.Common.{◌≡◌, ℕ, ◌-◌, List, [], ◌++◌, take, drop, length, Option, Some, None, inr, sym, ap, ◌∙◌}
+use Rattle.std.proofs.Common.{◌≡◌, ℕ, ◌-◌, List, [], ◌++◌, take, drop, length, Option, Some, None}
+use Rattle.std.proofs.Common.{Bool, true, false, inl, inr, ◌⊎◌, refl, sym, ap, ◌∙◌}
+use Rattle.std.proofs.lemmas.Bool.{false≢true}
 use Rattle.std.specs.Io.KnownBytes.{Appends, Keeps}
 use Rattle.std.proofs.lemmas.List.{append_assoc, append-nil, take-append-drop, take_rest}
-use Rattle.script_runner.specs.Inputs.{Ends, IsOutput}
+use Rattle.script_runner.specs.Inputs.{Ends, IsAnswered, IsOutput, IsUnreadable}
 use Rattle.script_runner.specs.declared.status.Status.{Status}
-use Rattle.script_runner.specs.declared.status.Status.TheVariants.{OutputFailed}
-use Rattle.script_runner.specs.engine.Transcript.{AppendsPart}
+use Rattle.script_runner.specs.declared.status.Status.TheVariants.{Done, Unreadable, InputFailed, OutputFailed, OutOfMemory}
+use Rattle.script_runner.specs.Status.{IsCutShort}
+use Rattle.script_runner.specs.engine.Transcript.{AppendsPart, Sends, unreadable_text}
 
 -- known bytes grow by no byte
 pub appends_nothing : (known : Option (List ℕ)) → Appends known known []
@@ -42,12 +45,73 @@ part_after old mid new front part rest before (sent, (more, same), wrote) =
     ∙ (ap (λ l. front ++ l) (append_assoc sent more rest) ∙ sym (append_assoc front sent (more ++ rest))) in
     (front ++ sent, (more ++ rest, begins), appends_again old mid new front sent before wrote)
 
--- where a write fails, a beginning of the output was written
-pub ends_failed : (input : List ℕ) (old new : Option (List ℕ)) (text : List ℕ) (status : Status) → status ≡ OutputFailed
-    → IsOutput input text → AppendsPart old new text → Ends input old new status
-ends_failed input old new text status failed output (sent, begins, wrote) = record {
+-- nothing changes where nothing is written
+pub keeps_same : (known : Option (List ℕ)) → Keeps known known
+keeps_same None = tt
+keeps_same (Some a) = refl
+
+-- a write fails, and a beginning of the output was written
+ends_failed : (input : List ℕ) (old new : Option (List ℕ)) (text : List ℕ) → AppendsPart old new text
+    → IsOutput input text → Ends input old new OutputFailed
+ends_failed input old new text (sent, begins, wrote) output = record {
   done = λ is. absurd (cc);
   unreadable = λ is. absurd (cc);
   cut_short = λ short. inr (sent, (text, output, begins), wrote);
   input_read = λ is. cc;
 }
+
+-- what is written and then kept is what `finish` leaves, where it is all of the output and where a write fails
+pub ends_sent : (input : List ℕ) (old mid new : Option (List ℕ)) (text : List ℕ) (sent : Bool) (ends status : Status)
+    → Sends old mid text sent → Keeps mid new → (sent ≡ true) × (ends ≡ status) ⊎ (ends ≡ OutputFailed)
+    → IsOutput input text → (Appends old new text → Ends input old new status) → Ends input old new ends
+ends_sent input old mid new text true ends status wrote kept (inl is) output whole =
+    rw is.1 (whole (appends_kept old mid new text wrote kept))
+ends_sent input old mid new text false ends status wrote kept (inl is) output whole = absurd (false≢true is.0)
+ends_sent input old mid new text true ends status wrote kept (inr failed) output whole =
+    rw failed
+    (ends_failed input old new text (text, ([], sym (append-nil text)), appends_kept old mid new text wrote kept) output)
+ends_sent input old mid new text false ends status (sent, begins, wrote) kept (inr failed) output whole =
+    rw failed (ends_failed input old new text (sent, begins, appends_kept old mid new sent wrote kept) output)
+
+-- a script is answered
+pub ends_done : (input : List ℕ) (old new : Option (List ℕ)) (text : List ℕ) → IsAnswered input text → Appends old new text
+    → Ends input old new Done
+ends_done input old new text answered wrote = record {
+  done = λ is. (text, answered, wrote);
+  unreadable = λ is. absurd (cc);
+  cut_short = elim [ inl is ↦ absurd (cc) | inr is ↦ absurd (cc) ];
+  input_read = λ is. cc;
+}
+
+-- a line is unreadable
+pub ends_unreadable : (input : List ℕ) (old new : Option (List ℕ)) (number : ℕ) → IsUnreadable input number
+    → Appends old new (unreadable_text number) → Ends input old new Unreadable
+ends_unreadable input old new number unread wrote = record {
+  done = λ is. absurd (cc);
+  unreadable = λ is. (number, unread, wrote);
+  cut_short = elim [ inl is ↦ absurd (cc) | inr is ↦ absurd (cc) ];
+  input_read = λ is. cc;
+}
+
+-- memory is refused before anything is written
+pub ends_refused : (input : List ℕ) (old : Option (List ℕ)) → Ends input old old OutOfMemory
+ends_refused input old = record {
+  done = λ is. absurd (cc);
+  unreadable = λ is. absurd (cc);
+  cut_short = λ short. inl (keeps_same old);
+  input_read = λ is. cc;
+}
+
+-- statuses are apart
+pub refused_apart : {P : Type 0} (status : Status) → (status ≡ Done) ⊎ (status ≡ Unreadable) ⊎ (status ≡ InputFailed)
+    → status ≡ OutOfMemory → P
+refused_apart status (inl done) refused = absurd (cc)
+refused_apart status (inr (inl unread)) refused = absurd (cc)
+refused_apart status (inr (inr failed)) refused = absurd (cc)
+
+pub failed_apart : {P : Type 0} (status : Status) → (status ≡ Done) ⊎ (status ≡ Unreadable) ⊎ IsCutShort status
+    → status ≡ InputFailed → P
+failed_apart status (inl done) failed = absurd (cc)
+failed_apart status (inr (inl unread)) failed = absurd (cc)
+failed_apart status (inr (inr (inl sent))) failed = absurd (cc)
+failed_apart status (inr (inr (inr refused))) failed = absurd (cc)

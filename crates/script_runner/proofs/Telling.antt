@@ -1,5 +1,6 @@
 -- Texts one after another, and what is told of lines.
 use Rattle.std.proofs.Common.{ℕ, ◌+◌, ◌<◌, ◌≡◌, List, [], ◌∷◌, ◌++◌, length, take, drop, get_or, sym, ap, ◌∙◌, refl, subst}
+use Rattle.std.proofs.Common.{Result, Ok, Err, OnOk}
 use Rattle.std.specs.List.{flat_map}
 use Rattle.std.proofs.lemmas.List.{append_assoc, append-nil, take_more, take-append-drop, drop_more}
 use Rattle.std.proofs.lemmas.Grind.{flat_map-append}
@@ -57,3 +58,8 @@ told_more rules start mid end waiting before left (one ∷ lines) line front add
   told_more rules m mid end later before left lines line rest added more step,
   ap (λ t. t ++ added) e ∙ append_assoc first rest added,
 )
+
+-- what follows at success
+pub on_ok : {A E P Q : Type 0} (result : Result A E) → (P → Q) → OnOk result P → OnOk result Q
+on_ok (Ok value) more p = more p
+on_ok (Err error) more p = tt

@@ -1,5 +1,5 @@
 //! From the bytes of a script to the bytes that it is answered.
-ghost use Rattle.std.specs.Prelude.{◌≡◌, ◌⊎◌, ℕ, List, IfErr, true};
+ghost use Rattle.std.specs.Prelude.{◌≡◌, ◌⊎◌, ℕ, List, true};
 ghost use Rattle.std.specs.List.{flat_map};
 ghost use Rattle.std.specs.Io.KnownBytes.{Keeps, Appends};
 ghost use Rattle.script_runner.specs.Status.{IsCutShort};
@@ -13,7 +13,7 @@ use crate::engine::driving::Outcome;
 use crate::engine::script::first_line;
 use crate::kinds::{AllKinds, Kinds};
 use crate::status::Status;
-use crate::words::{Numbers, words, write_words};
+use crate::words::{Numbers, Text, words};
 use std::alloc::Global;
 use std::io::{ErrorKind, Read, Write};
 
@@ -47,19 +47,17 @@ fn answer<W: Write>(alloc: Global, input: &[u8], writer: &mut W) -> Status
     ensures { Ends input.now (W.contents writer.old) (W.contents writer.new) result }
 {
     match outcome_of(alloc, input) {
-        Outcome::Answered(texts) => match send_all(&texts, writer) {
-            Ok(()) => Status::Done,
-            Err(status) => status,
-        },
+        Outcome::Answered(texts) => {
+            let sent = send_all(&texts, writer);
+            finish(sent, Status::Done, writer)
+        }
         Outcome::Unreadable(number) => {
-            let mut line = Vec::new(alloc);
-            let numbers = Numbers::One(number);
-            let Ok(()) = write_words(b"line", numbers, b": refused\n", &mut line) else {
-                return Status::OutOfMemory;
-            };
-            match send_all(&[line], writer) {
-                Ok(()) => Status::Unreadable,
-                Err(status) => status,
+            match Text::new(b"line", Numbers::One(number), b": refused\n").written(alloc) {
+                Ok(line) => {
+                    let sent = send(&line, writer);
+                    finish(sent, Status::Unreadable, writer)
+                }
+                Err(_) => Status::OutOfMemory,
             }
         }
         Outcome::OutOfMemory => Status::OutOfMemory,
@@ -87,37 +85,46 @@ fn outcome_by<K: Kinds>(alloc: Global, input: &[u8]) -> Outcome
     }
 }
 
-/// Writes texts one after another and flushes, or where that fails a beginning of them.
-fn send_all<W: Write>(texts: &[Vec<u8>], writer: &mut W) -> Result<(), Status>
-    ensures sent { Sends (W.contents writer.old) (W.contents writer.new)
-        (flat_map (λ text. text.items) texts.now) result }
-    ensures failed { IfErr result (λ status. status ≡ OutputFailed) }
+/// Flushes what was sent, and returns the status.
+fn finish<W: Write>(sent: bool, status: Status, writer: &mut W) -> Status
+    ensures kept { Keeps (W.contents writer.old) (W.contents writer.new) }
+    ensures status { (sent ≡ true) × (result ≡ status) ⊎ (result ≡ OutputFailed) }
 {
-    for text in texts {
-        send(text, writer)?;
-    }
-    match writer.flush() {
-        Ok(()) => Ok(()),
-        Err(_) => Err(Status::OutputFailed),
+    if sent && writer.flush().is_ok() {
+        status
+    } else {
+        Status::OutputFailed
     }
 }
 
-/// Writes bytes, or where that fails a beginning of them.
-fn send<W: Write>(bytes: &[u8], writer: &mut W) -> Result<(), Status>
-    ensures sent { Sends (W.contents writer.old) (W.contents writer.new) bytes.now result }
-    ensures failed { IfErr result (λ status. status ≡ OutputFailed) }
+/// Writes texts one after another, or where that fails a beginning of them, and returns false.
+fn send_all<W: Write>(texts: &[Vec<u8>], writer: &mut W) -> bool
+    ensures { Sends (W.contents writer.old) (W.contents writer.new)
+        (flat_map (λ text. text.items) texts.now) result }
+{
+    for text in texts {
+        if !send(text, writer) {
+            return false;
+        }
+    }
+    true
+}
+
+/// Writes bytes, or where that fails a beginning of them, and returns false.
+fn send<W: Write>(bytes: &[u8], writer: &mut W) -> bool
+    ensures { Sends (W.contents writer.old) (W.contents writer.new) bytes.now result }
 {
     let mut left = bytes;
     for _ in 0..u64::MAX {
         if left.is_empty() {
-            return Ok(());
+            return true;
         }
         match writer.write(left) {
-            Ok(0) => return Err(Status::OutputFailed),
+            Ok(0) => return false,
             Ok(count) => left = &left[count..],
             Err(e) if e.kind() == ErrorKind::Interrupted => {}
-            Err(_) => return Err(Status::OutputFailed),
+            Err(_) => return false,
         }
     }
-    Err(Status::OutputFailed)
+    false
 }

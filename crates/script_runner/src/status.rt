@@ -2,8 +2,6 @@
 ghost use Rattle.std.specs.Prelude.{◌≡◌, MatchOption, None, Some};
 ghost use Rattle.script_runner.specs.Status.{code_of, message_of};
 
-use std::alloc::AllocError;
-
 /// The end of a run, and what was written.
 #[derive(Debug, Clone, Copy, PartialEq, Eq)]
 pub enum Status {
@@ -43,16 +41,5 @@ impl Status {
             Status::OutputFailed => Some("output failed"),
             Status::OutOfMemory => Some("out of memory"),
         }
-    }
-}
-
-impl From<AllocError> for Status {
-    ghost use Rattle.std.specs.Prelude.{◌≡◌};
-    ghost use Rattle.script_runner.specs.declared.status.Status.TheVariants.{OutOfMemory};
-
-    ghost from_gives = { λ _ status. status ≡ OutOfMemory };
-
-    fn from(_e: AllocError) -> Status {
-        Status::OutOfMemory
     }
 }

@@ -72,7 +72,13 @@ pub fn words(line: &[u8]) -> Option<(&[u8], Numbers)>
     let mut rest = behind;
     while !rest.is_empty() {
         let (field, after) = split_before(&rest[1..], b' ');
-        numbers = numbers.and(number(field)?)?;
+        let Some(last) = number(field) else {
+            return None;
+        };
+        let Some(more) = numbers.and(last) else {
+            return None;
+        };
+        numbers = more;
         rest = after;
     }
     Some((name, numbers))
@@ -84,10 +90,12 @@ pub fn split_before(text: &[u8], byte: u8) -> (&[u8], &[u8])
     ensures first { All (λ b. b ≢ byte) result.0.now }
     ensures rest { StartsWith byte result.1.now }
 {
-    match text.iter().position(|b| *b == byte) {
-        Some(index) => (&text[..index], &text[index..]),
-        None => (text, &[]),
+    for index in 0..text.len() {
+        if text[index] == byte {
+            return (&text[..index], &text[index..]);
+        }
     }
+    (text, &[])
 }
 
 /// Parses a number in decimal, without a sign or a leading zero.
@@ -135,29 +143,14 @@ pub struct Text {
     pub end: &'static [u8],
 }
 
-/// Returns a text of a name and a line feed.
-pub fn name_line(name: &'static [u8]) -> Text
-    ensures { text_bytes result ≡ words_then name.now Numbers.Zero (codes "\n") }
-{
-    Text {
-        name,
-        numbers: Numbers::Zero,
-        end: b"\n",
-    }
-}
-
-/// Returns a text of a name and a number, and then an end.
-pub fn number_text(name: &'static [u8], number: usize, end: &'static [u8]) -> Text
-    ensures { text_bytes result ≡ words_then name.now (Numbers.One number) end.now }
-{
-    Text {
-        name,
-        numbers: Numbers::One(number),
-        end,
-    }
-}
-
 impl Text {
+    /// Returns the text of these parts.
+    pub fn new(name: &'static [u8], numbers: Numbers, end: &'static [u8]) -> Text
+        ensures { text_bytes result ≡ words_then name.now numbers end.now }
+    {
+        Text { name, numbers, end }
+    }
+
     /// Returns the bytes of the text.
     pub fn written(self, alloc: Global) -> Result<Vec<u8>, AllocError>
         ensures { IfOk result (λ line. line.items ≡ text_bytes self) }

@@ -1,5 +1,5 @@
 -- What a run writes.
-use Rattle.std.specs.Prelude.{ℕ, ◌≡◌, List, [], ◌∷◌, ◌++◌, All, Option, Result, MatchResult, Some, codes, map, slice_get, take}
+use Rattle.std.specs.Prelude.{ℕ, ◌≡◌, List, [], ◌∷◌, ◌++◌, All, Bool, true, false, Option, Some, codes, map, slice_get, take}
 use Rattle.std.specs.Io.KnownBytes.{Appends}
 use Rattle.std.specs.List.{flat_map}
 use Rattle.script_runner.specs.Words.{words_then}
@@ -16,10 +16,10 @@ Begins sent text = (rest : List ℕ) × (text ≡ sent ++ rest)
 abbrev pub AppendsPart : Option (List ℕ) → Option (List ℕ) → List ℕ → Type 0
 AppendsPart old new text = (sent : List ℕ) × Begins sent text × Appends old new sent
 
--- known bytes grow by the text at success, and else by a beginning of it
-abbrev pub Sends : {T E : Type 0} → Option (List ℕ) → Option (List ℕ) → List ℕ → Result T E → Type 0
-Sends old new text result =
-    MatchResult result (λ _. Appends old new text) (λ _. AppendsPart old new text)
+-- known bytes grow by the text where all is sent, and else by a beginning of it
+abbrev pub Sends : Option (List ℕ) → Option (List ℕ) → List ℕ → Bool → Type 0
+Sends old new text true = Appends old new text
+Sends old new text false = AppendsPart old new text
 
 -- the line may stand behind the first
 abbrev pub IsLineText : {S O C R : Type 0} → Rules S O C R → List ℕ → Type 0

@@ -110,14 +110,20 @@ fn answer<K: Driven>(
     ensures { IfOk result (λ texts. (first : K) × (last : K) × K.rules.starts header first
         × IsPlayed K.rules first script.now (flat_map (λ text. text.items) texts.items) last) }
 {
-    let mut driven = K::make(alloc, header)?;
+    let Ok(mut driven) = K::make(alloc, header) else {
+        return Err(AllocError);
+    };
     let mut waiting = Vec::new(alloc);
     let mut texts = Vec::new(alloc);
     for line in script {
-        take(alloc, &mut driven, line, &mut waiting, &mut texts)?;
+        let Ok(()) = take(alloc, &mut driven, line, &mut waiting, &mut texts) else {
+            return Err(AllocError);
+        };
     }
-    tell(alloc, &mut driven, &waiting, &mut texts)?;
-    Ok(texts)
+    match tell(alloc, &mut driven, &waiting, &mut texts) {
+        Ok(()) => Ok(texts),
+        Err(_) => Err(AllocError),
+    }
 }
 
 /// Takes a line: a command waits, and a `show` has what waits run, and then the state written.
@@ -134,17 +140,32 @@ fn take<K: Driven>(
         ≡ flat_map (λ text. text.items) texts.old.items ++ added)) }
 {
     match line {
-        Line::Command(command) => waiting.push(*command)?,
+        Line::Command(command) => match waiting.push(*command) {
+            Ok(()) => Ok(()),
+            Err(_) => Err(AllocError),
+        },
         Line::Show => {
-            tell(alloc, driven, waiting, texts)?;
-            waiting.clear();
-            let mut text = Vec::new(alloc);
-            let Ok(()) = driven.write_state(&mut text) else {
+            let Ok(()) = tell(alloc, driven, waiting, texts) else {
                 return Err(AllocError);
             };
-            texts.push(text)?;
+            waiting.clear();
+            show(alloc, driven, texts)
         }
     }
+}
+
+/// Adds the text of the state.
+fn show<K: Driven>(alloc: Global, driven: &K, texts: &mut Vec<Vec<u8>>) -> Result<(), AllocError>
+    ensures { OnOk result (flat_map (λ text. text.items) texts.new.items
+        ≡ flat_map (λ text. text.items) texts.old.items ++ K.rules.state_text driven.now) }
+{
+    let mut text = Vec::new(alloc);
+    let Ok(()) = driven.write_state(&mut text) else {
+        return Err(AllocError);
+    };
+    let Ok(()) = texts.push(text) else {
+        return Err(AllocError);
+    };
     Ok(())
 }
 
@@ -160,9 +181,28 @@ fn tell<K: Driven>(
         × (flat_map (λ text. text.items) texts.new.items
         ≡ flat_map (λ text. text.items) texts.old.items ++ flat_map K.rules.reply_text replies)) }
 {
-    let replies = driven.run(alloc, commands)?;
-    for reply in &replies {
-        texts.push(K::reply_text(reply).written(alloc)?)?;
+    match driven.run(alloc, commands) {
+        Ok(replies) => tell_replies::<K>(alloc, &replies, texts),
+        Err(_) => Err(AllocError),
+    }
+}
+
+/// Adds the text of each reply.
+fn tell_replies<K: Driven>(
+    alloc: Global,
+    replies: &[K::Reply],
+    texts: &mut Vec<Vec<u8>>,
+) -> Result<(), AllocError>
+    ensures { OnOk result (flat_map (λ text. text.items) texts.new.items
+        ≡ flat_map (λ text. text.items) texts.old.items ++ flat_map K.rules.reply_text replies.now) }
+{
+    for reply in replies {
+        let Ok(text) = K::reply_text(reply).written(alloc) else {
+            return Err(AllocError);
+        };
+        let Ok(()) = texts.push(text) else {
+            return Err(AllocError);
+        };
     }
     Ok(())
 }

@@ -5,7 +5,7 @@ ghost use Rattle.script_runner.specs.engine.Rules.{IsLine, line_text};
 ghost use Rattle.script_runner.specs.engine.Transcript.{AreScript, IsFirstUnreadable, IsLineText};
 
 use crate::engine::driving::Driven;
-use crate::words::{split_before, words};
+use crate::words::{is, split_before, words};
 use std::alloc::{AllocError, Global};
 
 /// A line behind the header.
@@ -33,7 +33,9 @@ pub fn read_script<K: Driven>(
         let Some(line) = read_line::<K>(line) else {
             return Ok(Err(index));
         };
-        script.push(line)?;
+        let Ok(()) = script.push(line) else {
+            return Err(AllocError);
+        };
         index += 1;
         left = rest;
     }
@@ -46,11 +48,16 @@ fn read_line<K: Driven>(text: &[u8]) -> Option<Line<K::Command>>
         × (text.now ≡ line_text K.rules line)) }
     ensures unreadable { IfNone result (¬ IsLineText K.rules text.now) }
 {
-    if K::CAN_SHOW && text == b"show".as_slice() {
+    if K::CAN_SHOW && is(text, b"show") {
         return Some(Line::Show);
     }
-    let (name, numbers) = words(text)?;
-    Some(Line::Command(K::read(name, numbers)?))
+    let Some((name, numbers)) = words(text) else {
+        return None;
+    };
+    match K::read(name, numbers) {
+        Some(command) => Some(Line::Command(command)),
+        None => None,
+    }
 }
 
 /// Cuts off the first line of an input, where a line is left.

@@ -5,7 +5,7 @@ ghost use Rattle.script_runner.specs.Words.{words_then, text_bytes};
 ghost use Rattle.script_runner.specs.kinds.Allocators.{command_words, refusal_name, grow_refusal_name, shrink_refusal_name};
 
 use crate::engine::driving::Driven;
-use crate::words::{Numbers, Text, is, layout, name_line};
+use crate::words::{Numbers, Text, is, layout};
 use bb_memory_core::allocator::{
     AllocationError, AllocationGrowError, AllocationShrinkError, Command, Reply,
 };
@@ -111,12 +111,16 @@ impl<A: Scripted> Driven for Live<A> {
 
     fn reply_text(reply: &Reply) -> Text {
         match reply {
-            Reply::Chunk(chunk) => chunk_text(b"chunk", *chunk),
-            Reply::Released => name_line(b"released"),
-            Reply::Passed => name_line(b"passed"),
-            Reply::Refused(error) => name_line(refusal(*error)),
-            Reply::GrowRefused(error) => name_line(grow_refusal(*error)),
-            Reply::ShrinkRefused(error) => name_line(shrink_refusal(*error)),
+            Reply::Chunk(chunk) => Text::new(
+                b"chunk",
+                Numbers::Two(chunk.place(), chunk.len()),
+                b"\n",
+            ),
+            Reply::Released => Text::new(b"released", Numbers::Zero, b"\n"),
+            Reply::Passed => Text::new(b"passed", Numbers::Zero, b"\n"),
+            Reply::Refused(error) => Text::new(refusal(*error), Numbers::Zero, b"\n"),
+            Reply::GrowRefused(error) => Text::new(grow_refusal(*error), Numbers::Zero, b"\n"),
+            Reply::ShrinkRefused(error) => Text::new(shrink_refusal(*error), Numbers::Zero, b"\n"),
         }
     }
 
@@ -140,23 +144,16 @@ fn command(name: &[u8], numbers: Numbers) -> Option<Command>
         },
         Numbers::Five(position, old_size, old_align, size, align) => {
             match (layout(old_size, old_align), layout(size, align)) {
-                (Some(old), Some(new)) if is(name, b"grow") => Some(Command::Grow(position, old, new)),
-                (Some(old), Some(new)) if is(name, b"shrink") => Some(Command::Shrink(position, old, new)),
+                (Some(old), Some(new)) if is(name, b"grow") => Some(Command::Grow(
+                    position, old, new,
+                )),
+                (Some(old), Some(new)) if is(name, b"shrink") => Some(Command::Shrink(
+                    position, old, new,
+                )),
                 _ => None,
             }
         }
         _ => None,
-    }
-}
-
-/// Returns `NAME PLACE LEN` and a line feed.
-pub fn chunk_text(name: &'static [u8], chunk: Chunk) -> Text
-    ensures { text_bytes result ≡ words_then name.now (Numbers.Two chunk.place chunk.len) (codes "\n") }
-{
-    Text {
-        name,
-        numbers: Numbers::Two(chunk.place(), chunk.len()),
-        end: b"\n",
     }
 }
 

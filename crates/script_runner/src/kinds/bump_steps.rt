@@ -1,8 +1,7 @@
 //! A bump world that a script drives by its steps.
 
 use crate::engine::driving::Driven;
-use crate::kinds::allocators::chunk_text;
-use crate::words::{Bounds, Numbers, PARTIES, Text, is, layout, name_line, number_text, party_of, region, write_words};
+use crate::words::{Bounds, Numbers, PARTIES, Text, is, layout, party_of, region, write_words};
 use bb_memory_core::steps::{BumpOutcome, BumpStep, BumpWorld};
 use std::alloc::{AllocError, Global};
 use std::io;
@@ -58,14 +57,26 @@ impl Driven for BumpWorld {
 
     fn reply_text(outcome: &BumpOutcome) -> Text {
         match outcome {
-            BumpOutcome::Sees(used) => number_text(b"sees", *used, b"\n"),
-            BumpOutcome::RefusedAtRead(used) => number_text(b"sees", *used, b" refused OutOfMemory\n"),
-            BumpOutcome::Wins(chunk) => chunk_text(b"wins", *chunk),
-            BumpOutcome::Loses(used) => number_text(b"loses", *used, b"\n"),
-            BumpOutcome::RefusedAtLoss(used) => number_text(b"loses", *used, b" refused OutOfMemory\n"),
-            BumpOutcome::Loaded(used) => number_text(b"used", *used, b"\n"),
-            BumpOutcome::Cleared => name_line(b"cleared"),
-            BumpOutcome::Passed => name_line(b"passed"),
+            BumpOutcome::Sees(used) => Text::new(b"sees", Numbers::One(*used), b"\n"),
+            BumpOutcome::RefusedAtRead(used) => Text::new(
+                b"sees",
+                Numbers::One(*used),
+                b" refused OutOfMemory\n",
+            ),
+            BumpOutcome::Wins(chunk) => Text::new(
+                b"wins",
+                Numbers::Two(chunk.place(), chunk.len()),
+                b"\n",
+            ),
+            BumpOutcome::Loses(used) => Text::new(b"loses", Numbers::One(*used), b"\n"),
+            BumpOutcome::RefusedAtLoss(used) => Text::new(
+                b"loses",
+                Numbers::One(*used),
+                b" refused OutOfMemory\n",
+            ),
+            BumpOutcome::Loaded(used) => Text::new(b"used", Numbers::One(*used), b"\n"),
+            BumpOutcome::Cleared => Text::new(b"cleared", Numbers::Zero, b"\n"),
+            BumpOutcome::Passed => Text::new(b"passed", Numbers::Zero, b"\n"),
         }
     }
 

@@ -5,7 +5,7 @@ ghost use Rattle.script_runner.specs.kinds.LoanPool.{loan_refusal_name};
 use crate::engine::driving::Driven;
 use crate::kinds::allocators::refusal;
 use crate::kinds::pool::{PoolPlan, pool_of, pool_plan};
-use crate::words::{Numbers, Text, is, name_line, small};
+use crate::words::{Numbers, Text, is, small};
 use bb_memory_core::pool_allocator::PoolAllocator;
 use loan_book::{LoanBook, LoanCall, LoanError, LoanReply, run_loans};
 use std::alloc::{AllocError, Global};
@@ -76,17 +76,16 @@ impl Driven for LoanPool {
 
     fn reply_text(reply: &LoanReply) -> Text {
         match reply {
-            LoanReply::Loaned(id, chunk) => Text {
-                name: b"loan",
-                numbers: Numbers::Three(*id as usize, chunk.place(), chunk.len()),
-                end: b"\n",
-            },
-            LoanReply::Published => name_line(b"published"),
-            LoanReply::Returned => name_line(b"returned"),
-            LoanReply::Kept => name_line(b"kept"),
-            LoanReply::Out(true) => name_line(b"yes"),
-            LoanReply::Out(false) => name_line(b"no"),
-            LoanReply::Refused(error) => name_line(loan_refusal(*error)),
+            LoanReply::Loaned(id, chunk) => {
+                let numbers = Numbers::Three(*id as usize, chunk.place(), chunk.len());
+                Text::new(b"loan", numbers, b"\n")
+            }
+            LoanReply::Published => Text::new(b"published", Numbers::Zero, b"\n"),
+            LoanReply::Returned => Text::new(b"returned", Numbers::Zero, b"\n"),
+            LoanReply::Kept => Text::new(b"kept", Numbers::Zero, b"\n"),
+            LoanReply::Out(true) => Text::new(b"yes", Numbers::Zero, b"\n"),
+            LoanReply::Out(false) => Text::new(b"no", Numbers::Zero, b"\n"),
+            LoanReply::Refused(error) => Text::new(loan_refusal(*error), Numbers::Zero, b"\n"),
         }
     }
 

@@ -4,7 +4,7 @@ ghost use Rattle.std.specs.List.{flat_map};
 ghost use Rattle.script_runner.specs.kinds.PoolSteps.{flag_text};
 
 use crate::engine::driving::Driven;
-use crate::words::{Numbers, PARTIES, Text, is, name_line, number_text, party_of, small, write_words};
+use crate::words::{Numbers, PARTIES, Text, is, party_of, small, write_words};
 use bb_memory_core::steps::{PoolOutcome, PoolStep, PoolWorld};
 use std::alloc::{AllocError, Global};
 use std::io;
@@ -51,7 +51,10 @@ impl Driven for PoolWorld {
                 Some(party) => Some(PoolStep::Try { party }),
                 None => None,
             },
-            Numbers::Two(party, bucket) if is(name, b"give") => match (party_of(party), small(bucket)) {
+            Numbers::Two(party, bucket) if is(name, b"give") => match (
+                party_of(party),
+                small(bucket),
+            ) {
                 (Some(party), Some(bucket)) => Some(PoolStep::GiveBack { party, bucket }),
                 _ => None,
             },
@@ -65,16 +68,44 @@ impl Driven for PoolWorld {
 
     fn reply_text(outcome: &PoolOutcome) -> Text {
         match outcome {
-            PoolOutcome::Takes(bucket) => number_text(b"takes", *bucket as usize, b"\n"),
-            PoolOutcome::Loses(bucket) => number_text(b"loses", *bucket as usize, b"\n"),
+            PoolOutcome::Takes(bucket) => Text::new(
+                b"takes",
+                Numbers::One(*bucket as usize),
+                b"\n",
+            ),
+            PoolOutcome::Loses(bucket) => Text::new(
+                b"loses",
+                Numbers::One(*bucket as usize),
+                b"\n",
+            ),
             PoolOutcome::RefusedAtLoss(bucket) => {
-                number_text(b"loses", *bucket as usize, b" refused OutOfMemory\n")
+                Text::new(
+                    b"loses",
+                    Numbers::One(*bucket as usize),
+                    b" refused OutOfMemory\n",
+                )
             }
-            PoolOutcome::Gives(bucket) => number_text(b"gives", *bucket as usize, b"\n"),
-            PoolOutcome::Passed => name_line(b"passed"),
-            PoolOutcome::Misses(bucket) => number_text(b"misses", *bucket as usize, b"\n"),
-            PoolOutcome::Detaches(bucket) => number_text(b"detaches", *bucket as usize, b"\n"),
-            PoolOutcome::Attaches(bucket) => number_text(b"attaches", *bucket as usize, b"\n"),
+            PoolOutcome::Gives(bucket) => Text::new(
+                b"gives",
+                Numbers::One(*bucket as usize),
+                b"\n",
+            ),
+            PoolOutcome::Passed => Text::new(b"passed", Numbers::Zero, b"\n"),
+            PoolOutcome::Misses(bucket) => Text::new(
+                b"misses",
+                Numbers::One(*bucket as usize),
+                b"\n",
+            ),
+            PoolOutcome::Detaches(bucket) => Text::new(
+                b"detaches",
+                Numbers::One(*bucket as usize),
+                b"\n",
+            ),
+            PoolOutcome::Attaches(bucket) => Text::new(
+                b"attaches",
+                Numbers::One(*bucket as usize),
+                b"\n",
+            ),
         }
     }
 

@@ -1,18 +1,32 @@
-use Rattle.std.proofs.Common.{◌++◌, ◌∷◌, [], inl, inr, ap, append-nil, ◌∙◌}
+use Rattle.std.proofs.Common.{inl, inr, refl, ◌∙◌}
 use Rattle.std.specs.List.{flat_map}
 use Rattle.script_runner.specs.engine.Transcript.{unreadable_text}
-use Rattle.script_runner.proofs.Sending.{ends_failed}
+use Rattle.script_runner.specs.declared.status.Status.TheVariants.{Done, Unreadable}
+use Rattle.script_runner.proofs.Sending.{ends_sent, ends_done, ends_unreadable, ends_refused}
 use Rattle.script_runner.proofs.running.answer.Goals as goal
 
 pub returns-in-Answered : goal.returns-in-Answered
 returns-in-Answered g c =
-    ends_failed c.args.input.now _ _ (flat_map (λ t. t.items) c.in-Answered.texts.items) c.in-Err.status
-    c.in-Err.ensures.failed (inl c.in-Answered.ensures) (rw c.deref.ensures.value at c.in-Err.ensures.sent)
+    let text = flat_map (λ t. t.items) c.in-Answered.texts.items in
+    let answered = c.in-Answered.ensures in
+    ends_sent c.args.input.now (g.W.Write.contents c.args.writer.now) (g.W.Write.contents c.send_all-sent.new.writer)
+    (g.W.Write.contents c.finish.new.writer) text c.send_all-sent.result c.finish.result Done
+    (rw c.deref.ensures.value at c.send_all-sent.ensures) c.finish.ensures.kept c.finish.ensures.status (inl answered)
+    (λ wrote. ends_done _ _ _ text answered wrote)
 
-pub returns-in-Unreadable : goal.returns-in-Unreadable
-returns-in-Unreadable g c =
-    let line = c.write_words.new.line.items in
-    let text = unreadable_text c.in-Unreadable.number in
-    let is = append-nil line ∙ (c.in-Ok-write_words.ensures ∙ ap (λ l. l ++ text) c.new-line.ensures.items) in
-    ends_failed c.args.input.now _ _ (line ++ []) c.in-Err-send_all.status c.in-Err-send_all.ensures.failed
-    (inr (c.in-Unreadable.number, c.in-Unreadable.ensures, is)) c.in-Err-send_all.ensures.sent
+pub returns-in-Ok : goal.returns-in-Ok
+returns-in-Ok g c =
+    let number = c.in-Unreadable.number in
+    let text = unreadable_text number in
+    let is = c.in-Ok.ensures ∙ c.new.ensures in
+    let unread = c.in-Unreadable.ensures in
+    ends_sent c.args.input.now (g.W.Write.contents c.args.writer.now) (g.W.Write.contents c.send-sent.new.writer)
+    (g.W.Write.contents c.finish-in-Ok.new.writer) text c.send-sent.result c.finish-in-Ok.result Unreadable
+    (rw (c.deref-in-Ok.ensures.value, is) at c.send-sent.ensures) c.finish-in-Ok.ensures.kept c.finish-in-Ok.ensures.status
+    (inr (number, unread, refl)) (λ wrote. ends_unreadable _ _ _ number unread wrote)
+
+pub returns-in-Err : goal.returns-in-Err
+returns-in-Err g c = ends_refused c.args.input.now _
+
+pub returns-in-OutOfMemory : goal.returns-in-OutOfMemory
+returns-in-OutOfMemory g c = ends_refused c.args.input.now _

@@ -5,8 +5,8 @@ use Rattle.script_runner.specs.Words.{Words, list_of}
 use Rattle.script_runner.proofs.LineWords.{next_number, at_most_five, space_first}
 use Rattle.script_runner.proofs.words.words.Goals as goal
 
-pub returns-in_err-number-clause-none : goal.returns-in_err-number-clause-none
-returns-in_err-number-clause-none c =
+pub returns-in_default-clause-none : goal.returns-in_default-clause-none
+returns-in_default-clause-none c =
     let field : List ℕ = c.split_before-in-loop-rest.result.0.now in
     let after : List ℕ = c.split_before-in-loop-rest.result.1.now in
     let rest : List ℕ = c.loop-rest.rest.now in
@@ -14,14 +14,14 @@ returns-in_err-number-clause-none c =
     let behind : field ++ after ≡ drop 1 rest = grind (arith, common_steps) in
     let is : rest ≡ 32 ∷ (field ++ after) = space_first rest field after c.loop-rest.invariant.rest_starts some behind in
     let so = rw is at c.loop-rest.invariant in
-    rw c.from_residual.ensures (λ (other : Words) are.
+    λ (other : Words) are.
     let (n, small, written, more) =
     next_number c.args.line.now c.split_before.result.0.now (list_of c.loop-rest.numbers) field after other so
     c.split_before-in-loop-rest.ensures.first c.split_before-in-loop-rest.ensures.rest are in
-    none-some n (c.in_err-number.ensures.each n small written))
+    none-some n (c.in_default.ensures.each n small written)
 
-pub returns-in_err-numbers-clause-none : goal.returns-in_err-numbers-clause-none
-returns-in_err-numbers-clause-none c =
+pub returns-in_default-and-clause-none : goal.returns-in_default-and-clause-none
+returns-in_default-and-clause-none c =
     let field : List ℕ = c.split_before-in-loop-rest.result.0.now in
     let after : List ℕ = c.split_before-in-loop-rest.result.1.now in
     let rest : List ℕ = c.loop-rest.rest.now in
@@ -29,8 +29,8 @@ returns-in_err-numbers-clause-none c =
     let behind : field ++ after ≡ drop 1 rest = grind (arith, common_steps) in
     let is : rest ≡ 32 ∷ (field ++ after) = space_first rest field after c.loop-rest.invariant.rest_starts some behind in
     let so = rw is at c.loop-rest.invariant in
-    rw c.from_residual-in_err-numbers.ensures (λ (other : Words) are.
+    λ (other : Words) are.
     let (n, small, written, more) =
     next_number c.args.line.now c.split_before.result.0.now (list_of c.loop-rest.numbers) field after other so
     c.split_before-in-loop-rest.ensures.first c.split_before-in-loop-rest.ensures.rest are in
-    at_most_five other.numbers (omega (arith, more, c.in_err-numbers.ensures.full)))
+    at_most_five other.numbers (omega (arith, more, c.in_default-and.ensures.full))
