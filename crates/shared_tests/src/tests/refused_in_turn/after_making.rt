@@ -31,9 +31,9 @@ fn shared_bumps(rt: HostRuntime) {
 /// `NAME | MAKER START SIZE PARTIES MOST | CALL = ANSWER; ..`. Buckets have 128 bytes at multiples of 8. A `pool` has all that
 /// the region has room for, a `most` at most MOST, a `four` at most the constant 4. The first number of a call is its party.
 ///
-/// `take` makes a pass and `fit` a next-fit search; `keep` and `keep-fit` keep the token in place of the one that was. `detach` puts the
-/// kept token's bucket on a stack; `attach` takes the top, and `drop` drops it. `figures` are the first place (of a `four` 0),
-/// the buckets, the bucket size, the alignment, the size and the parties.
+/// `take` makes a pass and `fit` a next-fit search; `keep` and `keep-fit` keep the token in place of the one that was. `detach`
+/// puts the kept token's bucket on a stack; `attach` takes the top, and `drop` drops it. `figures` are the first place (of a
+/// `four` 0), the buckets, the bucket size, the alignment, the size and the parties.
 const POOLS: &str = "\
 shared-pool-dropped-bucket | pool 4096 256 1 | number 0 = is 0; keep 0 48 4 = bucket 0 4096 48; take 0 48 4 = bucket 1 4224 48; \
     take 0 48 4 = OutOfMemory; give 0 = given; take 0 48 4 = bucket 0 4096 48; take 0 48 4 = OutOfMemory

@@ -59,8 +59,8 @@ fn marked(marks: &Marks, number: u32) -> u64 {
     }
 }
 
-/// Takes a bucket, by a next-fit search or by a pass, `times` times, and goes on where it is refused. Where it `returns` its buckets it
-/// tells how often one was somebody else's, or none of the eight; where it drops the tokens, how many it took.
+/// Takes a bucket, by a next-fit search or by a pass, `times` times, and goes on where it is refused. Where it `returns` its
+/// buckets it tells how often one was somebody else's, or none of the eight; where it drops the tokens, how many it took.
 #[derive(Drop)]
 struct Takes {
     marks: Marks,
