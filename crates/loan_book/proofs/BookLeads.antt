@@ -26,8 +26,7 @@ loan-leads may_allocate P old new size (Err Memory) here loaned (fits, left, sam
 loan-leads may_allocate P old new size (Err (Allocation error)) here loaned (fits, may, same) = subst P (sym same) here
 loan-leads may_allocate P old new size answer here loaned none = absurd none
 
-pub publish-leads : (P : Book → Type 0) (old new : Book) (id readers : ℕ) (answer : Result (Unit {0}) LoanError) →
-    P old →
+pub publish-leads : (P : Book → Type 0) (old new : Book) (id readers : ℕ) (answer : Result (Unit {0}) LoanError) → P old →
     ((position : ℕ) (sample : Sample) → IsAt old id position sample → sample.returns ≡ None → 0 < readers →
     P (with_returns old position sample readers)) →
     Publishes old id readers answer new → P new
@@ -38,8 +37,7 @@ publish-leads P old new id readers (Err AlreadyPublished) here published (before
 publish-leads P old new id readers (Err NoReaders) here published (unpublished, none, same) = subst P (sym same) here
 publish-leads P old new id readers answer here published none = absurd none
 
-pub give-leads : (P : Book → Type 0) (old new : Book) (id : ℕ) (answer : Result Bool LoanError) →
-    (¬ IsOut old id → P old) →
+pub give-leads : (P : Book → Type 0) (old new : Book) (id : ℕ) (answer : Result Bool LoanError) → (¬ IsOut old id → P old) →
     ((position : ℕ) (sample : Sample) → IsAt old id position sample → returns_to_come sample.returns ≡ 1 →
     P (without old position)) →
     ((position : ℕ) (sample : Sample) → IsAt old id position sample → 1 < returns_to_come sample.returns →

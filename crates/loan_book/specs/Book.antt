@@ -36,8 +36,7 @@ IsOut book id = (position : ℕ) × (sample : Sample) × IsAt book id position s
 
 -- the sample of this id is out, and so many returns of it are to come
 abbrev pub HasReturns : Book → ℕ → Option ℕ → Type 0
-HasReturns book id returns =
-    (position : ℕ) × (sample : Sample) × IsAt book id position sample × (sample.returns ≡ returns)
+HasReturns book id returns = (position : ℕ) × (sample : Sample) × IsAt book id position sample × (sample.returns ≡ returns)
 
 -- the sample of this id is out, and was published
 abbrev pub IsPublished : Book → ℕ → Type 0

@@ -18,8 +18,7 @@ Answers = List Chunk → Layout → Result Chunk AllocationError → Type 0
 -- the allocator may answer so to a request for (size, align 1) while these samples are out
 abbrev pub MayAnswer : Answers → Book → ℕ → Result Chunk AllocationError → Type 0
 MayAnswer may_allocate book size answer =
-    (layout : Layout) × (layout.size ≡ size) × (layout.align ≡ 1)
-    × may_allocate (chunks_out book) layout answer
+    (layout : Layout) × (layout.size ≡ size) × (layout.align ≡ 1) × may_allocate (chunks_out book) layout answer
 
 -- the book with one sample more, which wasn't published yet
 abbrev pub with_sample : Book → Chunk → Book
@@ -40,11 +39,9 @@ without book position = record book { out = remove book.out position }
 -- `loan(size)`. A layout of alignment 1 has a size below 2 ^ 63.
 abbrev pub Loans : Answers → Book → ℕ → Result (ℕ × Chunk) LoanError → Book → Type 0
 Loans may_allocate old size (Ok (id, chunk)) new =
-    (old.loaned < 2 ^ 64) × MayAnswer may_allocate old size (Ok chunk)
-    × (id ≡ old.loaned) × (new ≡ with_sample old chunk)
+    (old.loaned < 2 ^ 64) × MayAnswer may_allocate old size (Ok chunk) × (id ≡ old.loaned) × (new ≡ with_sample old chunk)
 Loans may_allocate old size (Err Size) new = (2 ^ 63 ≤ size) × (new ≡ old)
-Loans may_allocate old size (Err IdsExhausted) new =
-    (size < 2 ^ 63) × (2 ^ 64 ≤ old.loaned) × (new ≡ old)
+Loans may_allocate old size (Err IdsExhausted) new = (size < 2 ^ 63) × (2 ^ 64 ≤ old.loaned) × (new ≡ old)
 -- the memory for the sample's record was refused, which nothing here foretells
 Loans may_allocate old size (Err Memory) new = (size < 2 ^ 63) × (old.loaned < 2 ^ 64) × (new ≡ old)
 Loans may_allocate old size (Err (Allocation error)) new =
@@ -69,8 +66,7 @@ GivesBack old id (Ok true) new =
     (position : ℕ) × (sample : Sample) × IsAt old id position sample
     × (returns_to_come sample.returns ≡ 1) × (new ≡ without old position)
 GivesBack old id (Ok false) new =
-    (position : ℕ) × (sample : Sample) × IsAt old id position sample
-    × (1 < returns_to_come sample.returns)
+    (position : ℕ) × (sample : Sample) × IsAt old id position sample × (1 < returns_to_come sample.returns)
     × (new ≡ with_returns old position sample (returns_to_come sample.returns - 1))
 GivesBack old id (Err UnknownSample) new = (¬ IsOut old id) × (new ≡ old)
 -- no other answer is given

@@ -11,18 +11,14 @@ use Rattle.loan_book.specs.Calls.{Answers, Loans, Publishes, GivesBack}
 
 -- From `old` a book over such an allocator may give this reply to the call, and goes on to `new`.
 abbrev pub BookStep : Answers → Book → LoanCall → LoanReply → Book → Type 0
-BookStep may_allocate old (Loan size) (Loaned id chunk) new =
-    Loans may_allocate old size (Ok (id, chunk)) new
-BookStep may_allocate old (Loan size) (Refused error) new =
-    Loans may_allocate old size (Err error) new
+BookStep may_allocate old (Loan size) (Loaned id chunk) new = Loans may_allocate old size (Ok (id, chunk)) new
+BookStep may_allocate old (Loan size) (Refused error) new = Loans may_allocate old size (Err error) new
 BookStep may_allocate old (Publish id readers) Published new = Publishes old id readers (Ok tt) new
-BookStep may_allocate old (Publish id readers) (Refused error) new =
-    Publishes old id readers (Err error) new
+BookStep may_allocate old (Publish id readers) (Refused error) new = Publishes old id readers (Err error) new
 BookStep may_allocate old (GiveBack id) Returned new = GivesBack old id (Ok true) new
 BookStep may_allocate old (GiveBack id) Kept new = GivesBack old id (Ok false) new
 BookStep may_allocate old (GiveBack id) (Refused error) new = GivesBack old id (Err error) new
-BookStep may_allocate old (IsOut id) (Out answer) new =
-    (IsTrue answer ↔ books.IsOut old id) × (new ≡ old)
+BookStep may_allocate old (IsOut id) (Out answer) new = (IsTrue answer ↔ books.IsOut old id) × (new ≡ old)
 -- no other reply is given
 BookStep may_allocate old call reply new = ⊥
 
