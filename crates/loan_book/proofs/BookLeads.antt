@@ -1,5 +1,5 @@
 -- The change that a call makes of a book, and what each change keeps.
-use Rattle.std.proofs.Common.{◌≡◌, ℕ, ◌-◌, ◌<◌, true, false, refl, sym, subst, arith, None, Ok, Err}
+use Rattle.std.proofs.Common.{◌≡◌, ℕ, ◌-◌, ◌<◌, refl, sym, subst, arith, None}
 use Rattle.bb_memory_base.specs.Chunk.{Chunk}
 use Rattle.loan_book.specs.declared.error.LoanError.TheVariants.{Size, IdsExhausted, Memory, Allocation}
 use Rattle.loan_book.specs.declared.error.LoanError.TheVariants.{UnknownSample, AlreadyPublished, NoReaders}
@@ -22,7 +22,8 @@ Returns old other = ⊥
 -- the call changes the book in one of these ways, where it changes it
 pub data Change (old : Book) : LoanCall → LoanReply → Book → Type 0 where
   no_change : (call : LoanCall) (reply : LoanReply) → id_of reply ≡ None → ¬ Returns old call → Change old call reply old
-  one_loan : (size id : ℕ) (chunk : Chunk) → id ≡ old.loaned → Change old (call.Loan size) (reply.Loaned id chunk) (with_sample old chunk)
+  one_loan : (size id : ℕ) (chunk : Chunk) → id ≡ old.loaned →
+      Change old (call.Loan size) (reply.Loaned id chunk) (with_sample old chunk)
   one_publish : (id readers i : ℕ) (sample : Sample) → IsAt old id i sample → sample.returns ≡ None → 0 < readers →
       Change old (call.Publish id readers) reply.Published (with_returns old i sample readers)
   one_less : (id i : ℕ) (sample : Sample) → IsAt old id i sample → 1 < returns_to_come sample.returns →
@@ -73,7 +74,8 @@ change_of may_allocate old new call reply none = absurd none
 change-sound : (old new : Book) (call : LoanCall) (reply : LoanReply) → Change old call reply new → IsBook old → IsBook new
 change-sound old new call reply (no_change other told no_id none) is = is
 change-sound old new call reply (one_loan size id chunk numbered) is = IsBook-push old chunk is
-change-sound old new call reply (one_publish id readers i sample at unpublished some) is = IsBook-set old i sample readers at.at some is
+change-sound old new call reply (one_publish id readers i sample at unpublished some) is =
+    IsBook-set old i sample readers at.at some is
 change-sound old new call reply (one_less id i sample at more) is =
     IsBook-set old i sample (returns_to_come sample.returns - 1) at.at (omega (arith, more)) is
 change-sound old new call reply (last_one id i sample at last) is =

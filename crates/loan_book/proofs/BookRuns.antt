@@ -1,19 +1,16 @@
 -- What a run of calls does to one sample, and which ids it gives.
 use Rattle.std.proofs.Common.{◌≡◌, ◌≢◌, ℕ, zero, suc, ◌-◌, ◌<◌, Bool, true, false, cond, List, [], ◌∷◌}
-use Rattle.std.proofs.Common.{refl, ap, sym, ◌∙◌, subst, arith, Option, None, Some, Result, Ok, Err}
-use Rattle.std.specs.Prelude.{◌==◌, ◌↔◌}
+use Rattle.std.proofs.Common.{refl, ap, sym, ◌∙◌, subst, arith, Option, None, Some}
+use Rattle.std.specs.Prelude.{◌↔◌}
 use Rattle.std.proofs.lemmas.Bool.Decides.{nat_tests}
 use Rattle.std.proofs.lemmas.List.Sums.{sum_by-cons}
-use Rattle.bb_memory_base.specs.Chunk.{Chunk}
 use Rattle.bb_memory_base.specs.Run.{IsRun}
-use Rattle.loan_book.specs.declared.error.LoanError.{LoanError}
 use Rattle.loan_book.specs.declared.run.LoanCall.{LoanCall}
 use Rattle.loan_book.specs.declared.run.LoanCall.TheVariants as call
 use Rattle.loan_book.specs.declared.run.LoanReply.{LoanReply}
-use Rattle.loan_book.specs.declared.run.LoanReply.TheVariants as reply
-use Rattle.loan_book.specs.Sample.{Sample, returns_to_come}
+use Rattle.loan_book.specs.Sample.{returns_to_come}
 use Rattle.loan_book.specs.Book.{Book, IsBook, IsAt, IsOut, HasReturns, IsUnpublished}
-use Rattle.loan_book.specs.Calls.{Answers, with_returns, without, Loans, Publishes, GivesBack}
+use Rattle.loan_book.specs.Calls.{Answers, with_returns, without}
 use Rattle.loan_book.specs.Runs.{BookStep, is_return_of, returns_in, is_publish_of, publishes_in}
 use Rattle.loan_book.proofs.Books.{sample-waits}
 use Rattle.loan_book.proofs.BookLeads.{Change, no_change, one_loan, one_publish, one_less, last_one, change_of, step-sound}
@@ -36,11 +33,13 @@ after-some (suc n) some = refl
 -- A CALL
 
 -- a publish of another sample, or of one that isn't unpublished, and a return of another keep what a sample waits for
-change-keeps : (old new : Book) (call : LoanCall) (reply : LoanReply) (id : ℕ) (left : Option (Option ℕ)) → Change old call reply new → IsBook old →
+change-keeps : (old new : Book) (call : LoanCall) (reply : LoanReply) (id : ℕ) (left : Option (Option ℕ)) →
+    Change old call reply new → IsBook old →
     is_return_of id call ≡ false → (is_publish_of id call ≡ true → left ≢ Some None) → HasOrIsGone old id left →
     HasOrIsGone new id left
 change-keeps old new call reply id left (no_change other told no_id none) is apart elsewhere kept = kept
-change-keeps old new call reply id left (one_loan size given chunk numbered) is apart elsewhere kept = push-keeps old chunk id left kept
+change-keeps old new call reply id left (one_loan size given chunk numbered) is apart elsewhere kept =
+    push-keeps old chunk id left kept
 change-keeps old new call reply id left (one_less other i sample at more) is apart elsewhere kept =
     set-keeps old id other i sample (returns_to_come sample.returns - 1) left at (grind (arith, nat_tests)) kept
 change-keeps old new call reply id left (last_one other i sample at last) is apart elsewhere kept =
@@ -48,13 +47,14 @@ change-keeps old new call reply id left (last_one other i sample at last) is apa
 change-keeps old new call reply id None (one_publish other readers i sample at unpublished some) is apart elsewhere kept =
     set-keeps old id other i sample readers None at
     (λ same. gone-nowhere old id i sample kept (record { at = at.at; has_id = at.has_id ∙ same })) kept
-change-keeps old new call reply id (Some returns) (one_publish other readers i sample at unpublished some) is apart elsewhere kept =
+change-keeps old new call reply id (Some returns) (one_publish other readers i sample at fresh some) is apart elsewhere kept =
     set-keeps old id other i sample readers (Some returns) at (λ same.
-    let there : HasReturns old id None = (i, sample, record { at = at.at; has_id = at.has_id ∙ same }, unpublished) in
+    let there : HasReturns old id None = (i, sample, record { at = at.at; has_id = at.has_id ∙ same }, fresh) in
     elsewhere (grind (arith, nat_tests)) (ap Some (one_returns old id returns None is kept there))) kept
 
 -- a return of the sample itself, which is out
-change-own : (old new : Book) (made : LoanCall) (reply : LoanReply) (id : ℕ) (returns : Option ℕ) → Change old made reply new → IsBook old →
+change-own : (old new : Book) (made : LoanCall) (reply : LoanReply) (id : ℕ) (returns : Option ℕ) → Change old made reply new →
+    IsBook old →
     is_return_of id made ≡ true → HasReturns old id returns → HasOrIsGone new id (after (returns_to_come returns - 1))
 change-own old new made reply id returns (no_change (call.GiveBack other) told no_id none) is own has =
     let same : other ≡ id = grind (arith, nat_tests) in
@@ -77,8 +77,8 @@ change-own old new made reply id returns (last_one other i sample at last) is ow
     subst (λ n. HasOrIsGone (without old i) id (after (n - 1))) (sym last ∙ come) (own-remove old id i sample is here)
 
 -- a return of a sample that is gone
-change-gone : (old new : Book) (call : LoanCall) (reply : LoanReply) (id : ℕ) → Change old call reply new → is_return_of id call ≡ true →
-    HasOrIsGone old id None → HasOrIsGone new id None
+change-gone : (old new : Book) (call : LoanCall) (reply : LoanReply) (id : ℕ) → Change old call reply new →
+    is_return_of id call ≡ true → HasOrIsGone old id None → HasOrIsGone new id None
 change-gone old new call reply id (no_change other told no_id none) own gone = gone
 change-gone old new call reply id (one_loan size given chunk numbered) own gone = cc
 change-gone old new call reply id (one_publish other readers i sample at unpublished some) own gone = cc
@@ -97,12 +97,13 @@ nothing-waits : (book : Book) (id n : ℕ) → HasOrIsGone book id (after n) →
 nothing-waits book id n kept = let none : n ≡ n - 0 = omega arith in subst (λ k. HasOrIsGone book id (after k)) none kept
 
 -- a published sample waits for one return less after each return of it
-change-waits : (old new : Book) (call : LoanCall) (reply : LoanReply) (id n : ℕ) (own : Bool) → is_return_of id call ≡ own → Change old call reply new →
-    IsBook old → HasOrIsGone old id (after n) → HasOrIsGone new id (after (n - once own))
+change-waits : (old new : Book) (call : LoanCall) (reply : LoanReply) (id n : ℕ) (own : Bool) → is_return_of id call ≡ own →
+    Change old call reply new → IsBook old → HasOrIsGone old id (after n) → HasOrIsGone new id (after (n - once own))
 change-waits old new call reply id n false apart change is kept =
     nothing-waits new id n (change-keeps old new call reply id (after n) change is apart (λ own. after-published n) kept)
 change-waits old new call reply id zero true own change is gone = change-gone old new call reply id change own gone
-change-waits old new call reply id (suc n) true own change is has = change-own old new call reply id (Some (suc n)) change is own has
+change-waits old new call reply id (suc n) true own change is has =
+    change-own old new call reply id (Some (suc n)) change is own has
 
 run-waits : (may_allocate : Answers) (old new : Book) (calls : List LoanCall) (replies : List LoanReply) (id n : ℕ) → IsBook old →
     HasOrIsGone old id (after n) → IsRun (BookStep may_allocate) old calls replies new →
@@ -172,8 +173,7 @@ run-first may_allocate old mid new call calls reply replies id is unpublished st
 
 -- a sample that was never published is out after a run that doesn't publish it exactly where none of its calls returns it
 pub run-unpublished : (may_allocate : Answers) (old new : Book) (calls : List LoanCall) (replies : List LoanReply) (id : ℕ) →
-    IsBook old →
-    IsUnpublished old id → publishes_in id calls ≡ 0 → IsRun (BookStep may_allocate) old calls replies new →
+    IsBook old → IsUnpublished old id → publishes_in id calls ≡ 0 → IsRun (BookStep may_allocate) old calls replies new →
     IsOut new id ↔ (returns_in id calls ≡ 0)
 run-unpublished may_allocate old new [] [] id is unpublished none same =
     (λ out. refl, λ nothing. subst (λ book. IsOut book id) (sym same) (unpublished.0, unpublished.1, unpublished.2))

@@ -1,14 +1,13 @@
 -- Loan books: that the allocator stands for the chunks that are out, after each change.
-use Rattle.std.proofs.Common.{◌≡◌, ℕ, ◌+◌, ◌<◌, ◌^◌, List, [], ◌∷◌, ◌++◌, length, get_or}
-use Rattle.std.proofs.Common.{refl, ap, sym, ◌∙◌, subst, arith, Option, Some, None, IsSome}
+use Rattle.std.proofs.Common.{◌≡◌, ℕ, ◌+◌, ◌<◌, ◌^◌, List, [], ◌∷◌, ◌++◌, length}
+use Rattle.std.proofs.Common.{refl, sym, subst, arith, Option, Some, None, IsSome}
 use Rattle.std.specs.Prelude.{slice_get, slice_set}
 use Rattle.std.specs.List.{remove}
 use Rattle.std.specs.Option.{SomeIff, ForSome}
-use Rattle.std.proofs.lemmas.Option.{get_or_from_slice_get}
 use Rattle.bb_memory_base.specs.Chunk.{Chunk}
 use Rattle.loan_book.specs.Sample.{Sample}
 use Rattle.loan_book.specs.Book.{Book, IsBook, chunks_of}
-use Rattle.loan_book.specs.LoanBook.{LoanBook, IsLoanBook, book_of, loan_book_of, loaned_before}
+use Rattle.loan_book.specs.LoanBook.{IsLoanBook, book_of, loaned_before}
 use Rattle.loan_book.proofs.Books.{chunks-push, chunks-remove, chunks-set, IsBook-push, IsBook-set, IsBook-remove}
 
 -- the sample that a loan appends

@@ -1,19 +1,15 @@
 -- Which ids a run of calls gives, and how many.
-use Rattle.std.proofs.Common.{◌≡◌, ℕ, suc, ◌+◌, Bool, true, false, List, [], ◌∷◌, length, refl}
-use Rattle.std.proofs.Common.{ap, sym, subst, ◌∙◌, arith, add-zero, Option, None, Some, Result, Ok, Err}
+use Rattle.std.proofs.Common.{◌≡◌, ℕ, suc, ◌+◌, List, [], ◌∷◌, length, refl}
+use Rattle.std.proofs.Common.{ap, sym, subst, ◌∙◌, arith, add-zero, Option, None, Some}
 use Rattle.std.specs.List.{range_with_len, cons_option}
 use Rattle.std.proofs.lemmas.List.FromFn.{length-range_with_len}
 use Rattle.bb_memory_base.specs.Run.{IsRun}
-use Rattle.loan_book.specs.declared.error.LoanError.{LoanError}
-use Rattle.loan_book.specs.declared.error.LoanError.TheVariants.{Size, IdsExhausted, Memory, Allocation}
 use Rattle.loan_book.specs.declared.run.LoanCall.{LoanCall}
-use Rattle.loan_book.specs.declared.run.LoanCall.TheVariants as call
 use Rattle.loan_book.specs.declared.run.LoanReply.{LoanReply}
-use Rattle.loan_book.specs.declared.run.LoanReply.TheVariants as reply
 use Rattle.loan_book.specs.Book.{Book}
-use Rattle.loan_book.specs.Calls.{Answers, Loans, GivesBack}
+use Rattle.loan_book.specs.Calls.{Answers}
 use Rattle.loan_book.specs.Runs.{BookStep, id_of, ids_in}
-use Rattle.loan_book.proofs.BookLeads.{Change, no_change, one_loan, one_publish, one_less, last_one, change_of}
+use Rattle.loan_book.proofs.BookLeads.{Change, no_change, one_loan, change_of}
 
 -- a call that gives an id gives the number of loans, and counts one; another leaves the number
 abbrev Counts : ℕ → ℕ → Option ℕ → Type 0
@@ -44,7 +40,8 @@ count-run : (may_allocate : Answers) (old new : Book) (calls : List LoanCall) (r
     IsRun (BookStep may_allocate) old calls replies new → CountUp old.loaned new.loaned (ids_in replies)
 count-run may_allocate old new [] [] same = (0, same_book old new same ∙ sym (add-zero old.loaned), refl)
 count-run may_allocate old new (call ∷ calls) (reply ∷ replies) (mid, step, rest) =
-    count-on old.loaned mid.loaned new.loaned (id_of reply) (ids_in replies) (change-counts old mid call reply (change_of may_allocate old mid call reply step))
+    count-on old.loaned mid.loaned new.loaned (id_of reply) (ids_in replies)
+    (change-counts old mid call reply (change_of may_allocate old mid call reply step))
     (count-run may_allocate mid new calls replies rest)
 count-run may_allocate old new [] (reply ∷ replies) none = absurd none
 count-run may_allocate old new (call ∷ calls) [] none = absurd none

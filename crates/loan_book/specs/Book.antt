@@ -16,13 +16,12 @@ chunks_of samples = map (λ sample. sample.chunk) samples
 abbrev pub chunks_out : Book → List Chunk
 chunks_out book = chunks_of book.out
 
--- what holds of every book that calls lead to
+-- facts of every book that calls lead to
 pub record IsBook (book : Book) : Type 0 where
   -- the ids rise, so each is there once
   pub rising : AllPairs (λ one other. one.id < other.id) book.out
-  -- each was given to a sample that was loaned
+  -- each id was given to a sample that was loaned
   pub loaned : All (λ sample. sample.id < book.loaned) book.out
-  -- each sample waits for a return
   pub waiting : All (λ sample. 0 < returns_to_come sample.returns) book.out
 
 -- the sample of this id stands at a position of the book

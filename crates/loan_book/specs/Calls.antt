@@ -1,5 +1,4 @@
--- What a loan book may answer to each call, and the book that it then is. Each cause of a refusal stands behind those
--- that come before it.
+-- Answers that a loan book may give to each call, and the book after it. A refusal's cause stands behind all causes before it.
 use Rattle.std.specs.Prelude.{◌≡◌, ℕ, ◌+◌, ◌-◌, ◌<◌, ◌≤◌, ◌^◌, Bool, true, false, List, []}
 use Rattle.std.specs.Prelude.{◌∷◌, ◌++◌, Some, None, Result, Ok, Err, remove, slice_set}
 use Rattle.bb_memory_base.specs.Chunk.{Chunk}
@@ -11,7 +10,7 @@ use Rattle.loan_book.specs.declared.error.LoanError.TheVariants.{UnknownSample, 
 use Rattle.loan_book.specs.Sample.{Sample, returns_to_come}
 use Rattle.loan_book.specs.Book.{Book, chunks_out, IsAt, IsOut, IsPublished, IsUnpublished}
 
--- what an allocator may answer to a request on a live list
+-- answers that an allocator may give to a request on a live list
 abbrev pub Answers : Type 1
 Answers = List Chunk → Layout → Result Chunk AllocationError → Type 0
 
@@ -22,10 +21,8 @@ MayAnswer may_allocate book size answer =
 
 -- the book with one sample more, which wasn't published yet
 abbrev pub with_sample : Book → Chunk → Book
-with_sample book chunk = record {
-  loaned = book.loaned + 1;
-  out = book.out ++ record { id = book.loaned; chunk = chunk; returns = None } ∷ [];
-}
+with_sample book chunk =
+    record { loaned = book.loaned + 1; out = book.out ++ record { id = book.loaned; chunk = chunk; returns = None } ∷ [] }
 
 -- the book in which the sample at a position waits for so many returns
 abbrev pub with_returns : Book → ℕ → Sample → ℕ → Book
@@ -46,7 +43,6 @@ Loans may_allocate old size (Err IdsExhausted) new = (size < 2 ^ 63) × (2 ^ 64 
 Loans may_allocate old size (Err Memory) new = (size < 2 ^ 63) × (old.loaned < 2 ^ 64) × (new ≡ old)
 Loans may_allocate old size (Err (Allocation error)) new =
     (old.loaned < 2 ^ 64) × MayAnswer may_allocate old size (Err error) × (new ≡ old)
--- no other answer is given
 Loans may_allocate old size answer new = ⊥
 
 -- `publish(id, readers)`
@@ -57,7 +53,6 @@ Publishes old id readers (Ok done) new =
 Publishes old id readers (Err UnknownSample) new = (¬ IsOut old id) × (new ≡ old)
 Publishes old id readers (Err AlreadyPublished) new = IsPublished old id × (new ≡ old)
 Publishes old id readers (Err NoReaders) new = IsUnpublished old id × (readers ≡ 0) × (new ≡ old)
--- no other answer is given
 Publishes old id readers answer new = ⊥
 
 -- `give_back(id)`: true where the sample leaves the book
@@ -69,5 +64,4 @@ GivesBack old id (Ok false) new =
     (position : ℕ) × (sample : Sample) × IsAt old id position sample × (1 < returns_to_come sample.returns)
     × (new ≡ with_returns old position sample (returns_to_come sample.returns - 1))
 GivesBack old id (Err UnknownSample) new = (¬ IsOut old id) × (new ≡ old)
--- no other answer is given
 GivesBack old id answer new = ⊥

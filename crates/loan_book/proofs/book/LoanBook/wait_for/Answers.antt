@@ -22,7 +22,8 @@ returns-clause-book g c sample there =
     let at : slice_get samples c.args.position ≡ Some sample =
     ap (λ (b : LoanBook g.row.A.Denot). slice_get b.book.out c.args.position) c.self.view_is ∙ there in
     let read = c.index_mut.ensures.value ∙ get_or_from_slice_get samples c.args.position sample c.index_mut.result.now at in
-    let changed = c.wait_for.ensures ∙ ap (λ (s : Sample). let t : Sample = record s { returns = Some c.args.returns } in t) read in
+    let waiting : Sample → Sample = λ (s : Sample). record s { returns = Some c.args.returns } in
+    let changed = c.wait_for.ensures ∙ ap waiting read in
     rw changed (ap (λ (b : LoanBook g.row.A.Denot). with_returns b.book c.args.position sample c.args.returns) c.self.view_is)
 
 pub returns-clause-stands : goal.returns-clause-stands
