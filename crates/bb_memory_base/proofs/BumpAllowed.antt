@@ -35,8 +35,7 @@ rest_allowed region state step steps allowed =
 -- NO CLEAR
 
 no_clear_first : (region : Region) (state : BumpState) (step : BumpStep) (steps : List BumpStep) →
-    IsAllowed (bump_step region state step).outcome →
-    HasNoClear steps → HasNoClear (step ∷ steps)
+    IsAllowed (bump_step region state step).outcome → HasNoClear steps → HasNoClear (step ∷ steps)
 no_clear_first region state (Read party layout) steps allowed none = none
 no_clear_first region state (Exchange party) steps allowed none = none
 no_clear_first region state (Load party) steps allowed none = none

@@ -17,8 +17,7 @@ position_in_size scene steps within =
     StandsFor-within scene.region (left_by scene steps).position healthy.live healthy.stands
 
 pub seen_in_size : (scene : BumpScene) (steps : List BumpStep) (party : ℕ) (call : OngoingCall) →
-    scene.opening ≤ scene.region.size →
-    IsInCall (left_by scene steps) party call → call.seen ≤ scene.region.size
+    scene.opening ≤ scene.region.size → IsInCall (left_by scene steps) party call → call.seen ≤ scene.region.size
 seen_in_size scene steps party call within is =
     let healthy = healthy_after scene steps within in
     let fit = healthy.fitting party call is in

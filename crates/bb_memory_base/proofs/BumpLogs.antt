@@ -24,8 +24,7 @@ use Rattle.bb_memory_base.proofs.BumpSteps.{wins, loses, refuses_loss, loads, cl
 
 -- a party's own step leaves it in what the entry says
 own_call : (region : Region) (state : BumpState) (step : BumpStep) (move : BumpMove) (party : ℕ) (now : Option OngoingCall) →
-    StepView region state step move →
-    is_by party step ≡ true → slice_get state.calls party ≡ Some now →
+    StepView region state step move → is_by party step ≡ true → slice_get state.calls party ≡ Some now →
     slice_get move.state.calls party ≡ Some (call_after now (entry_of step move.outcome))
 own_call region state step move party now (sees other layout idle asks fit) by at =
     written state other party None (Some (record { layout = layout; seen = state.position })) by idle
@@ -43,9 +42,7 @@ own_call region state step move party now clears by at = absurd (cc)
 own_call region state step move party now (passes other) by at = at
 
 step_call : (region : Region) (state : BumpState) (step : BumpStep) (party : ℕ) (now : Option OngoingCall) (own : Bool) →
-    is_by party step ≡ own →
-    slice_get state.calls party ≡ Some now →
-    slice_get (bump_step region state step).state.calls party
+    is_by party step ≡ own → slice_get state.calls party ≡ Some now → slice_get (bump_step region state step).state.calls party
     ≡ Some (if own then call_after now (entry_at region state step) else now)
 step_call region state step party now true by at =
     own_call region state step (bump_step region state step) party now (step_view region state step) by at
@@ -58,8 +55,7 @@ call_through-own true now entry log = refl
 call_through-own false now entry log = refl
 
 call_of_log : (region : Region) (state : BumpState) (steps : List BumpStep) (party : ℕ) (now : Option OngoingCall) →
-    slice_get state.calls party ≡ Some now →
-    slice_get (bump_after region state steps).calls party
+    slice_get state.calls party ≡ Some now → slice_get (bump_after region state steps).calls party
     ≡ Some (call_through now (entries_by party (bump_history region state steps)))
 call_of_log region state [] party now at = at
 call_of_log region state (step ∷ steps) party now at =

@@ -44,8 +44,7 @@ step_sees region state step move party clears not below = absurd (not tt)
 step_sees region state step move party _ not below = below
 
 pub stretch_sees : (region : Region) (state : BumpState) (steps : List BumpStep) (party : ℕ) →
-    HasNoClear steps → SeesNoMore state party →
-    SeesNoMore (bump_after region state steps) party
+    HasNoClear steps → SeesNoMore state party → SeesNoMore (bump_after region state steps) party
 stretch_sees region state [] party none below = below
 stretch_sees region state (step ∷ steps) party none below =
     let parts = not_clear step steps none in
@@ -170,8 +169,7 @@ losses_from-nil region state party = refl
 
 -- an idle party that begins no call loses nothing
 idle_loses_nothing : (region : Region) (state : BumpState) (steps : List BumpStep) (party : ℕ) →
-    HasNoClear steps → IsIdle state party →
-    begun_from region state steps party ≡ 0 → losses_from region state steps party ≡ 0
+    HasNoClear steps → IsIdle state party → begun_from region state steps party ≡ 0 → losses_from region state steps party ≡ 0
 idle_loses_nothing region state [] party none now few = losses_from-nil region state party
 idle_loses_nothing region state (step ∷ steps) party none now few =
     let parts = not_clear step steps none in
@@ -201,7 +199,8 @@ call_loses_little region state (step ∷ steps) party call none below is few =
     as (λ _. losses_from region state (step ∷ steps) party + call.seen ≤ (bump_after region next steps).position) [
       | goes_on later at more ↦
           let rest = call_loses_little region next steps party later parts.1
-          (step_sees region state step (bump_step region state step) party (step_view region state step) parts.0 below) at none_later in
+          (step_sees region state step (bump_step region state step) party (step_view region state step) parts.0 below)
+          at none_later in
           omega (arith, count, more, rest)
       | ends at more ↦
           let rest = idle_loses_nothing region next steps party parts.1 at none_later in
@@ -223,7 +222,8 @@ one_call_loses_little region state (step ∷ steps) party none now few =
           let rest = one_call_loses_little region next steps party parts.1 later (omega (arith, begun, few)) in
           omega (arith, count, lost, rest)
       | begins call is lost one ↦
-          let below = step_sees region state step (bump_step region state step) party (step_view region state step) parts.0 (idle_sees state party now) in
+          let below = step_sees region state step (bump_step region state step) party (step_view region state step) parts.0
+          (idle_sees state party now) in
           let rest = call_loses_little region next steps party call parts.1 below is (omega (arith, begun, few, one)) in
           omega (arith, count, lost, rest)
     ]

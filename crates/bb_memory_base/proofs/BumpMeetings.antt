@@ -60,8 +60,7 @@ AllApart xs ys = AllByRecursion (λ x. AllByRecursion (AreApart x) ys) xs
 
 -- a list that follows another is apart from it
 pub apart_behind : (v : ℕ) (xs ys : List Chunk) → AllByRecursion (λ x. chunk_end x ≤ v) xs →
-    AllByRecursion (λ y. v ≤ y.place) ys →
-    AllApart xs ys
+    AllByRecursion (λ y. v ≤ y.place) ys → AllApart xs ys
 apart_behind v [] ys below above = tt
 apart_behind v (x ∷ xs) ys (here, below) above = (
   all_map (λ y. v ≤ y.place) (AreApart x) ys (λ y after. λ shared. omega (arith, shared.1.1, shared.2.0, here, after)) above,

@@ -76,8 +76,7 @@ answer-inside region live layout chunk ordered told = record {
 
 -- it begins at or after the end of each chunk of a list in order
 pub answer-after_all : (region : Region) (live : List Chunk) (layout : Layout) (chunk : Chunk) →
-    IsInOrder region.start live → MayAllocate region live layout (Ok chunk) →
-    All (λ other. chunk_end other ≤ chunk.place) live
+    IsInOrder region.start live → MayAllocate region live layout (Ok chunk) → All (λ other. chunk_end other ≤ chunk.place) live
 answer-after_all region live layout chunk ordered told =
     all_end_by region.start chunk.place live ordered (answer-after region live layout chunk told)
 

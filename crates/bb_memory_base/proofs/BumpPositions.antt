@@ -26,15 +26,15 @@ use Rattle.bb_memory_base.proofs.BumpLogs.{agreed_call}
 
 -- an allowed step leaves the greater of the position before it and the one in its outcome
 pub step_leaves : (region : Region) (state : BumpState) (step : BumpStep) (move : BumpMove) → StepView region state step move →
-    IsAllowed move.outcome →
-    greater_of state.position (position_in region move.outcome) ≡ move.state.position
+    IsAllowed move.outcome → greater_of state.position (position_in region move.outcome) ≡ move.state.position
 step_leaves region state step move (wins party call is same) allowed =
     omega (arith, chunk_at-above region state.position call.layout)
 step_leaves region state step move clears allowed = absurd allowed
 step_leaves region state step move (passes other) allowed = absurd allowed
 step_leaves region state step move _ allowed = omega arith
 
-pub below_greater : (seen bound : ℕ) (found : Option ℕ) → greater_of seen found ≤ bound → IfSome found (λ position. position ≤ bound)
+pub below_greater : (seen bound : ℕ) (found : Option ℕ) → greater_of seen found ≤ bound →
+    IfSome found (λ position. position ≤ bound)
 below_greater seen bound None below = tt
 below_greater seen bound (Some position) below = omega arith
 
@@ -129,8 +129,7 @@ call_fits scene position logs party log call agree at inside is =
 -- WHAT A PARTY HAS SEEN
 
 pub greatest_in-below : (region : Region) (seen bound : ℕ) (log : BumpLog) → seen ≤ bound →
-    AllByRecursion (HasPositionUpTo bound region) log →
-    greatest_in region seen log ≤ bound
+    AllByRecursion (HasPositionUpTo bound region) log → greatest_in region seen log ≤ bound
 greatest_in-below region seen bound [] below all = below
 greatest_in-below region seen bound (entry ∷ log) below (here, rest) =
     let found = position_in region entry.outcome in
@@ -170,8 +169,7 @@ greatest_alone region state (step ∷ steps) one allowed =
     ∙ greatest_alone region move.state steps (parties_stay region state step move view ∙ one) rest
 
 pub alone_exact : (scene : BumpScene) (position : ℕ) (logs : List BumpLog) (log : BumpLog) → scene.parties ≡ 1 →
-    LogsAgree scene position logs → HasLog logs 0 log →
-    position ≡ seen_in scene log
+    LogsAgree scene position logs → HasLog logs 0 log → position ≡ seen_in scene log
 alone_exact scene position logs log one agree at =
     let exact =
     greatest_alone scene.region (opening_state scene) agree.steps (length-replicate scene.parties None ∙ one) agree.allowed in
@@ -180,8 +178,7 @@ alone_exact scene position logs log one agree at =
 -- INTERLEAVINGS
 
 pub interleaved : (scene : BumpScene) (position : ℕ) (logs : List BumpLog) (party : ℕ) (log : BumpLog) →
-    LogsAgree scene position logs → HasLog logs party log →
-    Interleaving scene party log position
+    LogsAgree scene position logs → HasLog logs party log → Interleaving scene party log position
 interleaved scene position logs party log agree at =
     record { steps = agree.steps; allowed = agree.allowed; leaves = agree.leaves; logged = agree.each party log at }
 

@@ -105,8 +105,7 @@ pub fits_when_seen : (region : Region) (state : BumpState) (call : OngoingCall) 
 fits_when_seen region state call same fit = ap (λ position. fits region position call.layout) same ∙ fit
 
 step_makes : (region : Region) (state : BumpState) (live : List Chunk) (step : BumpStep) (move : BumpMove) →
-    StepView region state step move →
-    StandsFor region state.position live → AllFitting region state →
+    StepView region state step move → StandsFor region state.position live → AllFitting region state →
     MakesCalls region live (decided move.outcome (asked_by state step)) move.state.position
 step_makes region state live step move (sees party layout idle asks fit) stands fitting =
     call_none region live state.position stands

@@ -1,5 +1,6 @@
 -- What a step of the bump machine may do, case by case.
-use Rattle.std.proofs.Common.{◌≡◌, ◌≢◌, ℕ, ◌<◌, List, refl, sym, ap, ◌∙◌, subst, arith, Bool, true, false, Option, Some, None, inl, inr}
+use Rattle.std.proofs.Common.{◌≡◌, ◌≢◌, ℕ, ◌<◌, List, refl, sym, ap, ◌∙◌, subst, arith, Bool, true, false, Option, Some, None}
+use Rattle.std.proofs.Common.{inl, inr}
 use Rattle.std.specs.Prelude.{slice_get, slice_set, ◌==◌, if◌then◌else◌, IfSome}
 use Rattle.std.proofs.lemmas.Bool.Decides.{nat_tests}
 use Rattle.std.proofs.lemmas.Option.{same_Some}
@@ -102,7 +103,8 @@ step_view region state Clear = clears
 
 other_set : (state : BumpState) (other party : ℕ) (now : Option OngoingCall) → (other == party) ≡ false →
     slice_get (slice_set state.calls other now) party ≡ slice_get state.calls party
-other_set state other party now by = slice_get-set_other state.calls other party now (λ same. apart_from_test other party by (sym same))
+other_set state other party now by =
+    slice_get-set_other state.calls other party now (λ same. apart_from_test other party by (sym same))
 
 -- a step of another party leaves a party as it is
 pub others_stay : (region : Region) (state : BumpState) (step : BumpStep) (move : BumpMove) (party : ℕ) →
@@ -164,7 +166,8 @@ each_call-set P calls party other (Some written) old new call is =
 pub all_fitting-step : (region : Region) (state : BumpState) (step : BumpStep) (move : BumpMove) →
     StepView region state step move → AllFitting region state → AllFitting region move.state
 all_fitting-step region state step move (sees party layout idle asks fit) old = λ other.
-    each_call-set (IsFitting region) state.calls party other (Some (record { layout = layout; seen = state.position })) (old other)
+    each_call-set (IsFitting region) state.calls party other (Some (record { layout = layout; seen = state.position }))
+    (old other)
     (record { asks = asks; fitting = fit })
 all_fitting-step region state step move (refuses_read party layout idle asks fit) old = λ other.
     each_call-set (IsFitting region) state.calls party other None (old other) tt

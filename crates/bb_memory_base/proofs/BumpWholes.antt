@@ -77,8 +77,7 @@ rest_own P false entry log all = all
 
 -- where no log of a party that is there has a greater position, none is left
 stays_below : (region : Region) (state : BumpState) (steps : List BumpStep) (bound : ℕ) →
-    AllAllowed (bump_history region state steps) → state.position ≤ bound →
-    ((party : ℕ) → party < length state.calls →
+    AllAllowed (bump_history region state steps) → state.position ≤ bound → ((party : ℕ) → party < length state.calls →
     AllByRecursion (HasPositionUpTo bound region) (entries_by party (bump_history region state steps))) →
     (bump_after region state steps).position ≤ bound
 stays_below region state [] bound allowed below logs = below

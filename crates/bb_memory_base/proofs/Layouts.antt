@@ -1,6 +1,6 @@
 -- Which layouts there are.
-use Rattle.std.proofs.Common.{◌≡◌, ℕ, suc, ◌+◌, ◌-◌, ◌*◌, ◌/◌, ◌%◌, ◌^◌, ◌<◌, ◌≤◌, ◌↔◌, ⊎_elim, arith, refl, sym, ap, ◌∙◌, inl, inr}
-use Rattle.std.proofs.Common.{div-add-mod', pow_pos, pow_mono, pow-add, pow-suc}
+use Rattle.std.proofs.Common.{◌≡◌, ℕ, suc, ◌+◌, ◌-◌, ◌*◌, ◌/◌, ◌%◌, ◌^◌, ◌<◌, ◌≤◌, ◌↔◌, ⊎_elim, arith, refl, sym, ap, ◌∙◌, inl}
+use Rattle.std.proofs.Common.{inr, div-add-mod', pow_pos, pow_mono, pow-add, pow-suc}
 use Rattle.std.proofs.Math.Nat.{mul_assoc}
 use Rattle.std.proofs.lemmas.Bool.{cases_lt}
 use Rattle.std.proofs.lemmas.Nat.{mod-mul-add}

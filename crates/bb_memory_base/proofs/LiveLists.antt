@@ -84,8 +84,7 @@ StandsFor-end region position live stands = omega (arith, stands.used, end_of_la
 
 -- chunks inside a region end inside it
 end_of_last-within : (region : Region) (v : ℕ) (live : List Chunk) → v ≤ region_end region →
-    AllByRecursion (IsInside region) live →
-    end_of_last v live ≤ region_end region
+    AllByRecursion (IsInside region) live → end_of_last v live ≤ region_end region
 end_of_last-within region v [] within inside = within
 end_of_last-within region v (chunk ∷ live) within (here, rest) = end_of_last-within region (chunk_end chunk) live here.below rest
 

@@ -103,8 +103,7 @@ pub agreed_since : (scene : BumpScene) (position : ℕ) (logs : List BumpLog) (l
 agreed_since scene position logs live agree = allowed_grow scene live agree.steps agree.allowed
 
 pub agreed_stands : (scene : BumpScene) (position : ℕ) (logs : List BumpLog) (live : List Chunk) → OpensWith scene live →
-    (agree : LogsAgree scene position logs) →
-    StandsFor scene.region position (live ++ chunks_won (history_of scene agree.steps))
+    (agree : LogsAgree scene position logs) → StandsFor scene.region position (live ++ chunks_won (history_of scene agree.steps))
 agreed_stands scene position logs live opens agree =
     subst (λ (n : ℕ). StandsFor scene.region n (live ++ chunks_won (history_of scene agree.steps))) agree.leaves
     (allowed_stands scene live agree.steps agree.allowed opens)

@@ -131,8 +131,7 @@ detached_not_holder state bucket party detached held =
 
 -- no two parties hold one bucket
 pub one_holder : (scene : PoolScene) (steps : List PoolStep) (party other bucket : ℕ) →
-    IsHeldAfter (log_of scene steps party) bucket → IsHeldAfter (log_of scene steps other) bucket →
-    party ≡ other
+    IsHeldAfter (log_of scene steps party) bucket → IsHeldAfter (log_of scene steps other) bucket → party ≡ other
 one_holder scene steps party other bucket mine yours =
     let one = (holder_in_log scene steps party bucket).1 mine in
     let two = (holder_in_log scene steps other bucket).1 yours in

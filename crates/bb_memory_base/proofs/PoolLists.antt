@@ -82,8 +82,7 @@ AreInBuckets-empty geometry = record {
 
 -- the chunk that is given is in a bucket, and apart from those that are out
 pub AreInBuckets-push : (geometry : PoolGeometry) (live : List Chunk) (layout : Layout) (i : ℕ) →
-    MayGive geometry live layout i → AreInBuckets geometry live →
-    AreInBuckets geometry (live ++ chunk_in geometry i layout ∷ [])
+    MayGive geometry live layout i → AreInBuckets geometry live → AreInBuckets geometry (live ++ chunk_in geometry i layout ∷ [])
 AreInBuckets-push geometry live layout i may buckets =
     let chunk : Chunk = chunk_in geometry i layout in
     let in_bucket : IsInBucket geometry chunk =

@@ -7,7 +7,8 @@ use Rattle.std.proofs.lemmas.Bool.{cases_eq, cases_lt}
 use Rattle.std.proofs.lemmas.Option.{same_Some, none-some}
 use Rattle.std.proofs.lemmas.List.{length-map}
 use Rattle.std.proofs.lemmas.List.Elements.{recursion_from_All}
-use Rattle.bb_memory_base.specs.PoolMachine.{PoolScene, PoolState, PoolMove, IsFlag, IsHolder, IsDetached, pool_step, taking, with_flag, with_pass}
+use Rattle.bb_memory_base.specs.PoolMachine.{PoolScene, PoolState, PoolMove, IsFlag, IsHolder, IsDetached, pool_step, taking}
+use Rattle.bb_memory_base.specs.PoolMachine.{with_flag, with_pass}
 use Rattle.bb_memory_base.specs.PoolMachine.{opening_state, left_by, Flag, Free, HeldBy, Detached, PoolStep, Try, TryAt, Takes}
 use Rattle.bb_memory_base.specs.PoolHistory.{entry_of, PoolLog, PoolEntry, pool_history, is_by, entries_by, history_of, log_of}
 use Rattle.bb_memory_base.specs.PoolLogs.{AllAllowed, CommonInterleaving, HasLog, IsHeldAfter, Interleaving, IsAllowed}
@@ -183,16 +184,14 @@ logs_apart scene flags logs party log other other_log bucket agree at other_at h
     same_holder (left_by scene agree.steps) bucket party other one two
 
 pub free_not_held : (scene : PoolScene) (flags : List Bool) (logs : List PoolLog) (party : ℕ) (log : PoolLog) (bucket : ℕ) →
-    LogsAgree scene flags logs → HasLog logs party log →
-    slice_get flags bucket ≡ Some false → ¬ IsHeldAfter log bucket
+    LogsAgree scene flags logs → HasLog logs party log → slice_get flags bucket ≡ Some false → ¬ IsHeldAfter log bucket
 free_not_held scene flags logs party log bucket agree at free holds =
     let none = free_from_flag (left_by scene agree.steps) flags bucket agree.leaves free in
     let holder = holder_from_log scene flags logs party log bucket agree at holds in
     free_not_holder (left_by scene agree.steps) bucket party none holder
 
 pub held_is_taken : (scene : PoolScene) (flags : List Bool) (logs : List PoolLog) (party : ℕ) (log : PoolLog) (bucket : ℕ) →
-    LogsAgree scene flags logs → HasLog logs party log → IsHeldAfter log bucket →
-    slice_get flags bucket ≡ Some true
+    LogsAgree scene flags logs → HasLog logs party log → IsHeldAfter log bucket → slice_get flags bucket ≡ Some true
 held_is_taken scene flags logs party log bucket agree at holds =
     let holder = holder_from_log scene flags logs party log bucket agree at holds in
     flag_from_taken (left_by scene agree.steps) flags bucket agree.leaves (inl (party, holder))

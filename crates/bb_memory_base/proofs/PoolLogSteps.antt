@@ -45,7 +45,8 @@ take_agrees scene flags logs party log bucket agree made at next free =
     let leaves = taken_flags-set state.flags bucket (HeldBy party)
     ∙ ap (λ (f : List Bool). slice_set f bucket true) agree.leaves in
     let new : List Bool = slice_set flags bucket true in
-    agree_on scene flags logs party log (Try party) agree at (test_same party party refl) (test_apart party) (taking state party bucket) is tt new leaves
+    agree_on scene flags logs party log (Try party) agree at (test_same party party refl) (test_apart party)
+    (taking state party bucket) is tt new leaves
 
 -- it loses a taken one
 tries_taken : (state : PoolState) (party bucket : ℕ) → IsTaken state bucket →
@@ -66,10 +67,12 @@ loss_agrees : (scene : PoolScene) (flags : List Bool) (logs : List PoolLog) (par
     LogsAgree scene flags (with_entry logs party log (entry_of (Try party) (if more then Loses bucket else RefusedAtLoss bucket)))
 loss_agrees scene flags logs party log bucket agree at true is =
     let move : PoolMove = move_of (Loses bucket) (with_pass (left_by scene agree.steps) party (Some (bucket + 1))) in
-    agree_on scene flags logs party log (Try party) agree at (test_same party party refl) (test_apart party) move is tt flags agree.leaves
+    agree_on scene flags logs party log (Try party) agree at (test_same party party refl) (test_apart party) move is tt flags
+    agree.leaves
 loss_agrees scene flags logs party log bucket agree at false is =
     let move : PoolMove = move_of (RefusedAtLoss bucket) (with_pass (left_by scene agree.steps) party None) in
-    agree_on scene flags logs party log (Try party) agree at (test_same party party refl) (test_apart party) move is tt flags agree.leaves
+    agree_on scene flags logs party log (Try party) agree at (test_same party party refl) (test_apart party) move is tt flags
+    agree.leaves
 
 pub lose_agrees : (scene : PoolScene) (flags : List Bool) (logs : List PoolLog) (party : ℕ) (log : PoolLog) (bucket : ℕ) →
     LogsAgree scene flags logs → party < scene.parties → HasLog logs party log →
@@ -116,7 +119,8 @@ take_at_agrees scene flags logs party log bucket agree made at idle free =
     ∙ ap (λ (f : List Bool). slice_set f bucket true) agree.leaves in
     let step : PoolStep = TryAt party bucket in
     let new : List Bool = slice_set flags bucket true in
-    agree_on scene flags logs party log step agree at (test_same party party refl) (test_apart party) (taking state party bucket) is tt new leaves
+    agree_on scene flags logs party log step agree at (test_same party party refl) (test_apart party) (taking state party bucket)
+    is tt new leaves
 
 pub miss_agrees : (scene : PoolScene) (flags : List Bool) (logs : List PoolLog) (party : ℕ) (log : PoolLog) (bucket : ℕ) →
     LogsAgree scene flags logs → party < scene.parties → HasLog logs party log →
@@ -129,7 +133,8 @@ miss_agrees scene flags logs party log bucket agree made at idle taken =
     ∙ tries_taken_one state party bucket (taken_from_flag state flags bucket agree.leaves taken) in
     let step : PoolStep = TryAt party bucket in
     let move : PoolMove = move_of (Misses bucket) state in
-    agree_on scene flags logs party log step agree at (test_same party party refl) (test_apart party) move is tt flags agree.leaves
+    agree_on scene flags logs party log step agree at (test_same party party refl) (test_apart party) move is tt flags
+    agree.leaves
 
 pub give_agrees : (scene : PoolScene) (flags : List Bool) (logs : List PoolLog) (party : ℕ) (log : PoolLog) (bucket : ℕ) →
     LogsAgree scene flags logs → HasLog logs party log → IsHeldAfter log bucket →
@@ -143,7 +148,8 @@ give_agrees scene flags logs party log bucket agree at holds =
     let leaves = taken_flags-set state.flags bucket Free ∙ ap (λ (f : List Bool). slice_set f bucket false) agree.leaves in
     let step : PoolStep = GiveBack party bucket in
     let new : List Bool = slice_set flags bucket false in
-    agree_on scene flags logs party log step agree at (test_same party party refl) (test_apart party) (return_of state bucket) is tt new leaves
+    agree_on scene flags logs party log step agree at (test_same party party refl) (test_apart party) (return_of state bucket) is
+    tt new leaves
 
 held-push : (bucket : ℕ) (held : Bool) (log : PoolLog) (entry : PoolEntry) →
     fold (λ (h : Bool) (e : PoolEntry). held_after bucket h e.outcome) held (log ++ entry ∷ []) ≡
@@ -175,7 +181,8 @@ detach_agrees scene flags logs party log bucket agree others at holds =
     ∙ ap (λ (b : Bool). if b then detaching state bucket else passed state) more in
     let leaves = taken_flags-again state.flags bucket (HeldBy party) Detached found refl ∙ agree.leaves in
     let step : PoolStep = Detach party bucket in
-    agree_on scene flags logs party log step agree at (test_same party party refl) (test_apart party) (detaching state bucket) is tt flags leaves
+    agree_on scene flags logs party log step agree at (test_same party party refl) (test_apart party) (detaching state bucket) is
+    tt flags leaves
 
 -- which is detached then
 pub detached_after : (scene : PoolScene) (flags : List Bool) (logs : List PoolLog) (party : ℕ) (log : PoolLog) (bucket : ℕ) →

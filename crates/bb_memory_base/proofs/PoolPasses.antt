@@ -54,8 +54,7 @@ at_refusal state step move party last bucket _ by refusal below = absurd (cc)
 
 -- a pass that is over has lost none
 over : (state : PoolState) (other party bucket next : ℕ) → IsNext state other next →
-    bucket < progress_of (slice_get (slice_set state.calls other None) party) →
-    bucket < progress_of (slice_get state.calls party)
+    bucket < progress_of (slice_get (slice_set state.calls other None) party) → bucket < progress_of (slice_get state.calls party)
 over state other party bucket at next less = elim (cases_eq other party) [
   | inl same ↦
       let none = ap progress_of (slice_get-set_same state.calls other party None next.pass same next.there) in
@@ -116,8 +115,7 @@ from_start state step steps party last start rest zero within = start
 from_start state step steps party last start rest (suc j) within = rest j (omega arith)
 
 from_next : (state : PoolState) (step : PoolStep) (steps : List PoolStep) (party last k : ℕ) →
-    PassLasts (pool_step state step).state steps party k last →
-    PassLasts state (step ∷ steps) party (suc k) (suc last)
+    PassLasts (pool_step state step).state steps party k last → PassLasts state (step ∷ steps) party (suc k) (suc last)
 from_next state step steps party last k rest zero after within = absurd (omega arith)
 from_next state step steps party last k rest (suc j) after within = rest j (omega arith) (omega arith)
 
@@ -147,8 +145,7 @@ loses_later : (state : PoolState) (step : PoolStep) (steps : List PoolStep) (par
 loses_later state step steps party bucket k lost = record { outcome = lost.outcome; there = lost.there; loss = lost.loss }
 
 all_behind : (state : PoolState) (steps : List PoolStep) (party last bucket : ℕ) →
-    IsRefusedAt (pool_history state steps) party last → bucket < length state.flags →
-    Behind state steps party last bucket
+    IsRefusedAt (pool_history state steps) party last → bucket < length state.flags → Behind state steps party last bucket
 all_behind state [] party last bucket refused below = absurd (let there = refused.there in cc)
 all_behind state (step ∷ steps) party zero bucket refused below =
     let move : PoolMove = pool_step state step in

@@ -65,13 +65,13 @@ module _ (geometry : PoolGeometry) (is : IsPoolGeometry geometry) where
   held_from_flag state live bucket matches taken =
       let within_flags = taken_within state bucket taken in
       let below : bucket < geometry.buckets = omega (arith, within_flags, matches.size) in
-      let one : count_at (bucket_place geometry bucket) live ≡ 1 = matches.each bucket below ∙ weight_of_taken state bucket taken in
+      let one : count_at (bucket_place geometry bucket) live ≡ 1 =
+      matches.each bucket below ∙ weight_of_taken state bucket taken in
       at_from_count (bucket_place geometry bucket) live (omega arith)
 
   -- a flag is set, and the chunks in its bucket are as many as it then says, and in each other bucket as many as before
   flag_set : (flags : List Flag) (live new : List Chunk) (bucket : ℕ) (before after : Flag) → Matches geometry flags live →
-      slice_get flags bucket ≡ Some before →
-      (count_at (bucket_place geometry bucket) live ≡ taken_weight (Some before) →
+      slice_get flags bucket ≡ Some before → (count_at (bucket_place geometry bucket) live ≡ taken_weight (Some before) →
       count_at (bucket_place geometry bucket) new ≡ taken_weight (Some after)) →
       ((b : ℕ) → bucket ≢ b → count_at (bucket_place geometry b) new ≡ count_at (bucket_place geometry b) live) →
       AreInBuckets geometry new → Matches geometry (slice_set flags bucket after) new
@@ -148,18 +148,19 @@ module _ (geometry : PoolGeometry) (is : IsPoolGeometry geometry) where
       subst (Matches geometry move.state.flags) (sym released.leaves)
       (flag_freed old live bucket party position matches held released.within at)
   step_matches old live new layout step move (detaches party bucket held others) matches call =
-      subst (Matches geometry move.state.flags) (sym call) (flag_set old.flags live live bucket (HeldBy party) Detached matches held
+      subst (Matches geometry move.state.flags) (sym call)
+      (flag_set old.flags live live bucket (HeldBy party) Detached matches held
       (λ one. one) (λ b apart. refl) matches.buckets)
   step_matches old live new layout step move (attaches party bucket idle detached) matches call =
-      subst (Matches geometry move.state.flags) (sym call) (flag_set old.flags live live bucket Detached (HeldBy party) matches detached
+      subst (Matches geometry move.state.flags) (sym call)
+      (flag_set old.flags live live bucket Detached (HeldBy party) matches detached
       (λ one. one) (λ b apart. refl) matches.buckets)
   step_matches old live new layout step move _ matches call = subst (Matches geometry old.flags) (sym call) matches
 
   -- LISTS OF STEPS
 
   steps_call : (old : PoolState) (live : List Chunk) (steps : List PoolStep) (layouts : List Layout) →
-      Matches geometry old.flags live → length layouts ≡ length steps →
-      AllByRecursion (IsWithin geometry.bucket) layouts →
+      Matches geometry old.flags live → length layouts ≡ length steps → AllByRecursion (IsWithin geometry.bucket) layouts →
       (new : List Chunk) × IsRun (PoolCall geometry) live layouts (outcomes_of (pool_history old steps)) new
   steps_call old live [] [] matches same within = (live, refl)
   steps_call old live [] (layout ∷ layouts) matches same within = absurd (omega arith)
@@ -172,8 +173,7 @@ module _ (geometry : PoolGeometry) (is : IsPoolGeometry geometry) where
       (others.0, (first.0, first.1, others.1))
 
   steps_match : (old : PoolState) (live new : List Chunk) (steps : List PoolStep) (layouts : List Layout) →
-      Matches geometry old.flags live →
-      IsRun (PoolCall geometry) live layouts (outcomes_of (pool_history old steps)) new →
+      Matches geometry old.flags live → IsRun (PoolCall geometry) live layouts (outcomes_of (pool_history old steps)) new →
       Matches geometry (pool_after old steps).flags new
   steps_match old live new [] [] matches run = subst (Matches geometry old.flags) (sym run) matches
   steps_match old live new [] (layout ∷ layouts) matches run = absurd run

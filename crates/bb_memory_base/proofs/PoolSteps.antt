@@ -92,8 +92,7 @@ kind_of_try state party (Some pass) is =
     kind_of_exchange state party bucket (slice_get state.flags bucket) (record { pass = pass; there = is; at = refl }) refl
 
 kind_of_return : (state : PoolState) (party bucket holder : ℕ) (same : Bool) → (holder == party) ≡ same →
-    IsHolder state bucket holder →
-    StepKind state (GiveBack party bucket) (if same then return_of state bucket else passed state)
+    IsHolder state bucket holder → StepKind state (GiveBack party bucket) (if same then return_of state bucket else passed state)
 kind_of_return state party bucket holder true test held =
     gives party bucket (held ∙ ap (λ (h : ℕ). Some (HeldBy h)) (same_from_test holder party test))
 kind_of_return state party bucket holder false test held = passes (GiveBack party bucket)
@@ -117,14 +116,12 @@ kind_of_try_at state party bucket (Some None) is = kind_of_one state party bucke
 kind_of_try_at state party bucket _ is = passes (TryAt party bucket)
 
 kind_of_others : (state : PoolState) (party bucket : ℕ) (others : Bool) → nat_lt 1 (length state.calls) ≡ others →
-    IsHolder state bucket party →
-    StepKind state (Detach party bucket) (if others then detaching state bucket else passed state)
+    IsHolder state bucket party → StepKind state (Detach party bucket) (if others then detaching state bucket else passed state)
 kind_of_others state party bucket true test held = detaches party bucket held (less_from_test 1 (length state.calls) test)
 kind_of_others state party bucket false test held = passes (Detach party bucket)
 
 kind_of_detach_of : (state : PoolState) (party bucket holder : ℕ) (same : Bool) → (holder == party) ≡ same →
-    IsHolder state bucket holder →
-    StepKind state (Detach party bucket) (if same then detach state bucket else passed state)
+    IsHolder state bucket holder → StepKind state (Detach party bucket) (if same then detach state bucket else passed state)
 kind_of_detach_of state party bucket holder true test held =
     kind_of_others state party bucket (nat_lt 1 (length state.calls)) refl
     (held ∙ ap (λ (h : ℕ). Some (HeldBy h)) (same_from_test holder party test))

@@ -42,8 +42,7 @@ drop-over xs i ws fits =
 
 -- a chunk inside that is written over whole is all that changes
 pub written-changes : (held : HeldBytes) (chunk : Chunk) (bytes : List ℕ) →
-    IsInside (held_region held) chunk → length bytes ≡ chunk.len →
-    ChangesOnly held (written held chunk bytes) chunk bytes
+    IsInside (held_region held) chunk → length bytes ≡ chunk.len → ChangesOnly held (written held chunk bytes) chunk bytes
 written-changes held chunk bytes inside len =
     let xs = held.bytes in
     let i : ℕ = chunk.place - held.start in

@@ -1,7 +1,6 @@
--- What holds of a book and of each change that a call may make holds of the book that the call leads to.
-use Rattle.std.proofs.Common.{◌≡◌, ℕ, ◌-◌, ◌<◌, Bool, true, false, sym, subst, arith, None, Result, Ok, Err}
+-- The change that a call makes of a book, and what each change keeps.
+use Rattle.std.proofs.Common.{◌≡◌, ℕ, ◌-◌, ◌<◌, refl, sym, subst, arith, None}
 use Rattle.bb_memory_base.specs.Chunk.{Chunk}
-use Rattle.loan_book.specs.declared.error.LoanError.{LoanError}
 use Rattle.loan_book.specs.declared.error.LoanError.TheVariants.{Size, IdsExhausted, Memory, Allocation}
 use Rattle.loan_book.specs.declared.error.LoanError.TheVariants.{UnknownSample, AlreadyPublished, NoReaders}
 use Rattle.loan_book.specs.declared.run.LoanCall.{LoanCall}
@@ -10,78 +9,80 @@ use Rattle.loan_book.specs.declared.run.LoanReply.{LoanReply}
 use Rattle.loan_book.specs.declared.run.LoanReply.TheVariants as reply
 use Rattle.loan_book.specs.Sample.{Sample, returns_to_come}
 use Rattle.loan_book.specs.Book.{Book, IsBook, IsAt, IsOut}
-use Rattle.loan_book.specs.Calls.{Answers, with_sample, with_returns, without, Loans, Publishes, GivesBack}
-use Rattle.loan_book.specs.Runs.{BookStep}
+use Rattle.loan_book.specs.Calls.{Answers, with_sample, with_returns, without}
+use Rattle.loan_book.specs.Runs.{BookStep, id_of}
 use Rattle.loan_book.proofs.Books.{IsBook-push, IsBook-set, IsBook-remove}
 use Rattle.std.proofs.lemmas.Option.{slice_get_within}
 
-pub loan-leads : (may_allocate : Answers) (P : Book → Type 0) (old new : Book) (size : ℕ)
-    (answer : Result (ℕ × Chunk) LoanError) →
-    P old → ((chunk : Chunk) → P (with_sample old chunk)) → Loans may_allocate old size answer new → P new
-loan-leads may_allocate P old new size (Ok (id, chunk)) here loaned (fits, may, numbered, same) =
-    subst P (sym same) (loaned chunk)
-loan-leads may_allocate P old new size (Err Size) here loaned (large, same) = subst P (sym same) here
-loan-leads may_allocate P old new size (Err IdsExhausted) here loaned (fits, used, same) = subst P (sym same) here
-loan-leads may_allocate P old new size (Err Memory) here loaned (fits, left, same) = subst P (sym same) here
-loan-leads may_allocate P old new size (Err (Allocation error)) here loaned (fits, may, same) = subst P (sym same) here
-loan-leads may_allocate P old new size answer here loaned none = absurd none
+-- a call that gives back a sample that is out
+abbrev pub Returns : Book → LoanCall → Type 0
+Returns old (call.GiveBack id) = IsOut old id
+Returns old other = ⊥
 
-pub publish-leads : (P : Book → Type 0) (old new : Book) (id readers : ℕ) (answer : Result (Unit {0}) LoanError) →
-    P old →
-    ((position : ℕ) (sample : Sample) → IsAt old id position sample → sample.returns ≡ None → 0 < readers →
-    P (with_returns old position sample readers)) →
-    Publishes old id readers answer new → P new
-publish-leads P old new id readers (Ok done) here published (i, sample, at, unpublished, some, same) =
-    subst P (sym same) (published i sample at unpublished some)
-publish-leads P old new id readers (Err UnknownSample) here published (unknown, same) = subst P (sym same) here
-publish-leads P old new id readers (Err AlreadyPublished) here published (before, same) = subst P (sym same) here
-publish-leads P old new id readers (Err NoReaders) here published (unpublished, none, same) = subst P (sym same) here
-publish-leads P old new id readers answer here published none = absurd none
+-- the call changes the book in one of these ways, where it changes it
+pub data Change (old : Book) : LoanCall → LoanReply → Book → Type 0 where
+  no_change : (call : LoanCall) (reply : LoanReply) → id_of reply ≡ None → ¬ Returns old call → Change old call reply old
+  one_loan : (size id : ℕ) (chunk : Chunk) → id ≡ old.loaned →
+      Change old (call.Loan size) (reply.Loaned id chunk) (with_sample old chunk)
+  one_publish : (id readers i : ℕ) (sample : Sample) → IsAt old id i sample → sample.returns ≡ None → 0 < readers →
+      Change old (call.Publish id readers) reply.Published (with_returns old i sample readers)
+  one_less : (id i : ℕ) (sample : Sample) → IsAt old id i sample → 1 < returns_to_come sample.returns →
+      Change old (call.GiveBack id) reply.Kept (with_returns old i sample (returns_to_come sample.returns - 1))
+  last_one : (id i : ℕ) (sample : Sample) → IsAt old id i sample → returns_to_come sample.returns ≡ 1 →
+      Change old (call.GiveBack id) reply.Returned (without old i)
 
-pub give-leads : (P : Book → Type 0) (old new : Book) (id : ℕ) (answer : Result Bool LoanError) →
-    (¬ IsOut old id → P old) →
-    ((position : ℕ) (sample : Sample) → IsAt old id position sample → returns_to_come sample.returns ≡ 1 →
-    P (without old position)) →
-    ((position : ℕ) (sample : Sample) → IsAt old id position sample → 1 < returns_to_come sample.returns →
-    P (with_returns old position sample (returns_to_come sample.returns - 1))) →
-    GivesBack old id answer new → P new
-give-leads P old new id (Ok true) unknown last more (i, sample, at, one, same) = subst P (sym same) (last i sample at one)
-give-leads P old new id (Ok false) unknown last more (i, sample, at, several, same) =
-    subst P (sym same) (more i sample at several)
-give-leads P old new id (Err UnknownSample) unknown last more (none, same) = subst P (sym same) (unknown none)
-give-leads P old new id answer unknown last more none = absurd none
+same_change : (old new next : Book) (call : LoanCall) (reply : LoanReply) → new ≡ next → Change old call reply next →
+    Change old call reply new
+same_change old new next call reply same change = subst (Change old call reply) (sym same) change
 
--- so each call keeps a book a book
+nothing : (old new : Book) (call : LoanCall) (reply : LoanReply) → id_of reply ≡ None → ¬ Returns old call → new ≡ old →
+    Change old call reply new
+nothing old new call reply none returns same = same_change old new old call reply same (no_change call reply none returns)
 
-loan-sound : (may_allocate : Answers) (old new : Book) (size : ℕ) (answer : Result (ℕ × Chunk) LoanError) → IsBook old →
-    Loans may_allocate old size answer new → IsBook new
-loan-sound may_allocate old new size answer is = loan-leads may_allocate IsBook old new size answer is
-    (λ chunk. IsBook-push old chunk is)
+pub change_of : (may_allocate : Answers) (old new : Book) (call : LoanCall) (reply : LoanReply) →
+    BookStep may_allocate old call reply new → Change old call reply new
+change_of may_allocate old new (call.Loan size) (reply.Loaned id chunk) (fits, may, numbered, same) =
+    same_change old new (with_sample old chunk) (call.Loan size) (reply.Loaned id chunk) same (one_loan size id chunk numbered)
+change_of may_allocate old new (call.Loan size) (reply.Refused Size) (large, same) =
+    nothing old new (call.Loan size) (reply.Refused Size) refl (λ no. no) same
+change_of may_allocate old new (call.Loan size) (reply.Refused IdsExhausted) (fits, used, same) =
+    nothing old new (call.Loan size) (reply.Refused IdsExhausted) refl (λ no. no) same
+change_of may_allocate old new (call.Loan size) (reply.Refused Memory) (fits, left, same) =
+    nothing old new (call.Loan size) (reply.Refused Memory) refl (λ no. no) same
+change_of may_allocate old new (call.Loan size) (reply.Refused (Allocation error)) (fits, may, same) =
+    nothing old new (call.Loan size) (reply.Refused (Allocation error)) refl (λ no. no) same
+change_of may_allocate old new (call.Publish id readers) reply.Published (i, sample, at, unpublished, some, same) =
+    same_change old new (with_returns old i sample readers) (call.Publish id readers) reply.Published same
+    (one_publish id readers i sample at unpublished some)
+change_of may_allocate old new (call.Publish id readers) (reply.Refused UnknownSample) (unknown, same) =
+    nothing old new (call.Publish id readers) (reply.Refused UnknownSample) refl (λ no. no) same
+change_of may_allocate old new (call.Publish id readers) (reply.Refused AlreadyPublished) (before, same) =
+    nothing old new (call.Publish id readers) (reply.Refused AlreadyPublished) refl (λ no. no) same
+change_of may_allocate old new (call.Publish id readers) (reply.Refused NoReaders) (unpublished, none, same) =
+    nothing old new (call.Publish id readers) (reply.Refused NoReaders) refl (λ no. no) same
+change_of may_allocate old new (call.GiveBack id) reply.Returned (i, sample, at, last, same) =
+    same_change old new (without old i) (call.GiveBack id) reply.Returned same (last_one id i sample at last)
+change_of may_allocate old new (call.GiveBack id) reply.Kept (i, sample, at, more, same) =
+    same_change old new (with_returns old i sample (returns_to_come sample.returns - 1)) (call.GiveBack id) reply.Kept same
+    (one_less id i sample at more)
+change_of may_allocate old new (call.GiveBack id) (reply.Refused UnknownSample) (unknown, same) =
+    nothing old new (call.GiveBack id) (reply.Refused UnknownSample) refl unknown same
+change_of may_allocate old new (call.IsOut id) (reply.Out answer) (tells, same) =
+    nothing old new (call.IsOut id) (reply.Out answer) refl (λ no. no) same
+change_of may_allocate old new call reply none = absurd none
 
-publish-sound : (old new : Book) (id readers : ℕ) (answer : Result (Unit {0}) LoanError) → IsBook old →
-    Publishes old id readers answer new → IsBook new
-publish-sound old new id readers answer is =
-    publish-leads IsBook old new id readers answer is
-    (λ i sample at unpublished some. IsBook-set old i sample readers at.at some is)
+change-sound : (old new : Book) (call : LoanCall) (reply : LoanReply) → Change old call reply new → IsBook old → IsBook new
+change-sound old new call reply (no_change other told no_id none) is = is
+change-sound old new call reply (one_loan size id chunk numbered) is = IsBook-push old chunk is
+change-sound old new call reply (one_publish id readers i sample at unpublished some) is =
+    IsBook-set old i sample readers at.at some is
+change-sound old new call reply (one_less id i sample at more) is =
+    IsBook-set old i sample (returns_to_come sample.returns - 1) at.at (omega (arith, more)) is
+change-sound old new call reply (last_one id i sample at last) is =
+    IsBook-remove old i (slice_get_within old.out i sample at.at) is
 
-give-sound : (old new : Book) (id : ℕ) (answer : Result Bool LoanError) → IsBook old → GivesBack old id answer new → IsBook new
-give-sound old new id answer is =
-    give-leads IsBook old new id answer (λ unknown. is)
-    (λ i sample at last. IsBook-remove old i (slice_get_within old.out i sample at.at) is)
-    (λ i sample at more. IsBook-set old i sample (returns_to_come sample.returns - 1) at.at (omega (arith, more)) is)
-
+-- each call keeps a book a book
 pub step-sound : (may_allocate : Answers) (old new : Book) (call : LoanCall) (reply : LoanReply) → IsBook old →
     BookStep may_allocate old call reply new → IsBook new
-step-sound may_allocate old new (call.Loan size) (reply.Loaned id chunk) is step =
-    loan-sound may_allocate old new size (Ok (id, chunk)) is step
-step-sound may_allocate old new (call.Loan size) (reply.Refused error) is step =
-    loan-sound may_allocate old new size (Err error) is step
-step-sound may_allocate old new (call.Publish id readers) reply.Published is step =
-    publish-sound old new id readers (Ok tt) is step
-step-sound may_allocate old new (call.Publish id readers) (reply.Refused error) is step =
-    publish-sound old new id readers (Err error) is step
-step-sound may_allocate old new (call.GiveBack id) reply.Returned is step = give-sound old new id (Ok true) is step
-step-sound may_allocate old new (call.GiveBack id) reply.Kept is step = give-sound old new id (Ok false) is step
-step-sound may_allocate old new (call.GiveBack id) (reply.Refused error) is step = give-sound old new id (Err error) is step
-step-sound may_allocate old new (call.IsOut id) (reply.Out answer) is step = subst IsBook (sym step.1) is
-step-sound may_allocate old new call reply is none = absurd none
+step-sound may_allocate old new call reply is step =
+    change-sound old new call reply (change_of may_allocate old new call reply step) is

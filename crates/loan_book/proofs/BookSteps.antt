@@ -135,8 +135,7 @@ own-remove book id position sample is here =
 
 -- another sample is taken out
 pub remove-keeps : (book : Book) (id other position : ℕ) (sample : Sample) (left : Option (Option ℕ)) →
-    IsAt book other position sample → other ≢ id →
-    HasOrIsGone book id left → HasOrIsGone (without book position) id left
+    IsAt book other position sample → other ≢ id → HasOrIsGone book id left → HasOrIsGone (without book position) id left
 remove-keeps book id other position sample None here apart (gone, used) = (
   λ (k, found, there).
       let before = slice_get-removed book.out position k found there.at in

@@ -7,4 +7,3 @@ pub mod LoanedIds
 pub mod OneAnswers
 pub mod PublishedRuns
 pub mod Searches
-pub mod Sizes

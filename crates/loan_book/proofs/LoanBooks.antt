@@ -1,30 +1,18 @@
 -- Loan books: that the allocator stands for the chunks that are out, after each change.
-use Rattle.std.proofs.Common.{◌≡◌, ℕ, ◌+◌, ◌<◌, ◌^◌, List, [], ◌∷◌, ◌++◌, length, get_or}
-use Rattle.std.proofs.Common.{refl, ap, sym, ◌∙◌, subst, arith, Option, Some, None, IsSome}
+use Rattle.std.proofs.Common.{◌≡◌, ℕ, ◌+◌, ◌<◌, ◌^◌, List, [], ◌∷◌, ◌++◌, length}
+use Rattle.std.proofs.Common.{refl, sym, subst, arith, Option, Some, None, IsSome}
 use Rattle.std.specs.Prelude.{slice_get, slice_set}
 use Rattle.std.specs.List.{remove}
 use Rattle.std.specs.Option.{SomeIff, ForSome}
-use Rattle.std.proofs.lemmas.Option.{get_or_from_slice_get}
 use Rattle.bb_memory_base.specs.Chunk.{Chunk}
 use Rattle.loan_book.specs.Sample.{Sample}
 use Rattle.loan_book.specs.Book.{Book, IsBook, chunks_of}
-use Rattle.loan_book.specs.LoanBook.{LoanBook, IsLoanBook, book_of, loan_book_of, loaned_before}
+use Rattle.loan_book.specs.LoanBook.{IsLoanBook, book_of, loaned_before}
 use Rattle.loan_book.proofs.Books.{chunks-push, chunks-remove, chunks-set, IsBook-push, IsBook-set, IsBook-remove}
 
 -- the sample that a loan appends
 abbrev pub fresh_sample : ℕ → Chunk → Sample
 fresh_sample id chunk = record { id = id; chunk = chunk; returns = None }
-
--- what stands in a loan book stands in the fields that it is the view of
-pub stands_there : {A : Type 0} (allocator : A) (next : Option ℕ) (out : List Sample) (book : LoanBook A) →
-    loan_book_of allocator next out ≡ book → (position : ℕ) (sample : Sample) →
-    slice_get book.book.out position ≡ Some sample → slice_get out position ≡ Some sample
-stands_there allocator next out book is position sample at = ap (λ b. slice_get b.book.out position) is ∙ at
-
--- what an index reads is what stands there
-pub read_at : (samples : List Sample) (position : ℕ) (sample read : Sample) → slice_get samples position ≡ Some sample →
-    read ≡ get_or samples position read → read ≡ sample
-read_at samples position sample read at is = is ∙ get_or_from_slice_get samples position sample read at
 
 -- what a sample that was published, and one that wasn't, waits for
 pub published_from : (returns : Option ℕ) → IsSome returns → (n : ℕ) × (returns ≡ Some n)
@@ -34,15 +22,6 @@ published_from (Some n) some = (n, refl)
 pub unpublished_from : (returns : Option ℕ) → ¬ IsSome returns → returns ≡ None
 unpublished_from None none = refl
 unpublished_from (Some n) none = absurd (none refl)
-
--- a sample that waits for so many returns, and was read at an index
-pub waits_for : (samples : List Sample) (position returns : ℕ) (sample read new : Sample) →
-    slice_get samples position ≡ Some sample →
-    read ≡ get_or samples position read → new ≡ record read { returns = Some returns } →
-    new ≡ record sample { returns = Some returns }
-waits_for samples position returns sample read new at is changed =
-    let waiting : Sample → Sample = λ (s : Sample). record s { returns = Some returns } in
-    changed ∙ ap waiting (read_at samples position sample read at is)
 
 -- the next id after a loan: there is none where the greatest one was loaned
 pub next_loaned : (id : ℕ) (after : Option ℕ) → id < 2 ^ 64 → SomeIff after (id + 1 < 2 ^ 64) (id + 1) →
@@ -84,9 +63,8 @@ module _ {A : Type 0} (stands_for : A → List Chunk → Type 0) where
       position < length out → new ≡ remove out position →
       IsLoanBook stands_for allocator next out → stands_for left (remove (chunks_of out) position) →
       IsLoanBook stands_for left next new
-  IsLoanBook-removed allocator left next out new position within removed is stands =
-      rw removed (record {
-        stands = subst (stands_for left) (sym (chunks-remove out position)) stands;
-        book = IsBook-remove (book_of next out) position within is.book;
-        next_fits = is.next_fits;
-      })
+  IsLoanBook-removed allocator left next out new position within removed is stands = rw removed (record {
+    stands = subst (stands_for left) (sym (chunks-remove out position)) stands;
+    book = IsBook-remove (book_of next out) position within is.book;
+    next_fits = is.next_fits;
+  })

@@ -1,19 +1,15 @@
 -- Which ids a run of calls gives, and how many.
-use Rattle.std.proofs.Common.{◌≡◌, ℕ, suc, ◌+◌, Bool, true, false, List, [], ◌∷◌, length, refl}
-use Rattle.std.proofs.Common.{ap, sym, ◌∙◌, arith, add-zero, Option, None, Some, Result, Ok, Err}
+use Rattle.std.proofs.Common.{◌≡◌, ℕ, suc, ◌+◌, List, [], ◌∷◌, length, refl}
+use Rattle.std.proofs.Common.{ap, sym, subst, ◌∙◌, arith, add-zero, Option, None, Some}
 use Rattle.std.specs.List.{range_with_len, cons_option}
 use Rattle.std.proofs.lemmas.List.FromFn.{length-range_with_len}
 use Rattle.bb_memory_base.specs.Run.{IsRun}
-use Rattle.loan_book.specs.declared.error.LoanError.{LoanError}
-use Rattle.loan_book.specs.declared.error.LoanError.TheVariants.{Size, IdsExhausted, Memory, Allocation}
 use Rattle.loan_book.specs.declared.run.LoanCall.{LoanCall}
-use Rattle.loan_book.specs.declared.run.LoanCall.TheVariants as call
 use Rattle.loan_book.specs.declared.run.LoanReply.{LoanReply}
-use Rattle.loan_book.specs.declared.run.LoanReply.TheVariants as reply
 use Rattle.loan_book.specs.Book.{Book}
-use Rattle.loan_book.specs.Calls.{Answers, Loans, GivesBack}
+use Rattle.loan_book.specs.Calls.{Answers}
 use Rattle.loan_book.specs.Runs.{BookStep, id_of, ids_in}
-use Rattle.loan_book.proofs.BookLeads.{publish-leads, give-leads}
+use Rattle.loan_book.proofs.BookLeads.{Change, no_change, one_loan, change_of}
 
 -- a call that gives an id gives the number of loans, and counts one; another leaves the number
 abbrev Counts : ℕ → ℕ → Option ℕ → Type 0
@@ -23,36 +19,11 @@ Counts loaned next None = next ≡ loaned
 same_book : (old new : Book) → new ≡ old → new.loaned ≡ old.loaned
 same_book old new same = ap (λ (book : Book). book.loaned) same
 
-loan-refused : (may_allocate : Answers) (old new : Book) (size : ℕ) (error : LoanError) →
-    Loans may_allocate old size (Err error) new →
-    new.loaned ≡ old.loaned
-loan-refused may_allocate old new size Size (large, same) = same_book old new same
-loan-refused may_allocate old new size IdsExhausted (fits, used, same) = same_book old new same
-loan-refused may_allocate old new size Memory (fits, left, same) = same_book old new same
-loan-refused may_allocate old new size (Allocation error) (fits, may, same) = same_book old new same
-loan-refused may_allocate old new size error none = absurd none
-
-give-counts : (old new : Book) (id : ℕ) (answer : Result Bool LoanError) → GivesBack old id answer new → new.loaned ≡ old.loaned
-give-counts old new id answer =
-    give-leads (λ book. book.loaned ≡ old.loaned) old new id answer (λ unknown. refl) (λ i sample at last. refl)
-    (λ i sample at more. refl)
-
-step-counts : (may_allocate : Answers) (old new : Book) (call : LoanCall) (reply : LoanReply) →
-    BookStep may_allocate old call reply new →
+change-counts : (old new : Book) (call : LoanCall) (reply : LoanReply) → Change old call reply new →
     Counts old.loaned new.loaned (id_of reply)
-step-counts may_allocate old new (call.Loan size) (reply.Loaned id chunk) (fits, may, numbered, same) =
-    (numbered, ap (λ (book : Book). book.loaned) same)
-step-counts may_allocate old new (call.Loan size) (reply.Refused error) step = loan-refused may_allocate old new size error step
-step-counts may_allocate old new (call.Publish id readers) reply.Published step =
-    publish-leads (λ book. book.loaned ≡ old.loaned) old new id readers (Ok tt) refl (λ i sample at unpublished some. refl) step
-step-counts may_allocate old new (call.Publish id readers) (reply.Refused error) step =
-    publish-leads (λ book. book.loaned ≡ old.loaned) old new id readers (Err error) refl
-    (λ i sample at unpublished some. refl) step
-step-counts may_allocate old new (call.GiveBack id) reply.Returned step = give-counts old new id (Ok true) step
-step-counts may_allocate old new (call.GiveBack id) reply.Kept step = give-counts old new id (Ok false) step
-step-counts may_allocate old new (call.GiveBack id) (reply.Refused error) step = give-counts old new id (Err error) step
-step-counts may_allocate old new (call.IsOut id) (reply.Out answer) (tells, same) = same_book old new same
-step-counts may_allocate old new call reply none = absurd none
+change-counts old new call reply (one_loan size id chunk numbered) = (numbered, refl)
+change-counts old new call reply (no_change other told no_id none) = subst (Counts old.loaned old.loaned) (sym no_id) refl
+change-counts old new call reply _ = refl
 
 -- these ids count up from the number of loans before, and lead to the number after
 abbrev CountUp : ℕ → ℕ → List ℕ → Type 0
@@ -69,7 +40,8 @@ count-run : (may_allocate : Answers) (old new : Book) (calls : List LoanCall) (r
     IsRun (BookStep may_allocate) old calls replies new → CountUp old.loaned new.loaned (ids_in replies)
 count-run may_allocate old new [] [] same = (0, same_book old new same ∙ sym (add-zero old.loaned), refl)
 count-run may_allocate old new (call ∷ calls) (reply ∷ replies) (mid, step, rest) =
-    count-on old.loaned mid.loaned new.loaned (id_of reply) (ids_in replies) (step-counts may_allocate old mid call reply step)
+    count-on old.loaned mid.loaned new.loaned (id_of reply) (ids_in replies)
+    (change-counts old mid call reply (change_of may_allocate old mid call reply step))
     (count-run may_allocate mid new calls replies rest)
 count-run may_allocate old new [] (reply ∷ replies) none = absurd none
 count-run may_allocate old new (call ∷ calls) [] none = absurd none

@@ -33,8 +33,7 @@ PublishCause book id readers (Err NoReaders) = IsUnpublished book id × (readers
 PublishCause book id readers answer = ⊥
 
 publish-cause : (old : Book) (id readers : ℕ) (answer : Result (Unit {0}) LoanError) (new : Book) →
-    Publishes old id readers answer new →
-    PublishCause old id readers answer
+    Publishes old id readers answer new → PublishCause old id readers answer
 publish-cause old id readers (Ok done) new (i, sample, at, unpublished, some, same) = ((i, sample, at, unpublished), some)
 publish-cause old id readers (Err UnknownSample) new (gone, same) = gone
 publish-cause old id readers (Err AlreadyPublished) new (published, same) = published
@@ -91,8 +90,7 @@ module _ (book : Book) (is : IsBook book) (id readers : ℕ) where
       (one_sample book id i j sample found is here there)
 
   pub give-one : (one other : Result Bool LoanError) (new next : Book) → GivesBack book id one new →
-      GivesBack book id other next →
-      (one ≡ other) × (new ≡ next)
+      GivesBack book id other next → (one ≡ other) × (new ≡ next)
   give-one (Ok true) (Ok true) new next (i, sample, at, last, same) (j, found, there, last_too, same_too) =
       (refl, same ∙ ap (λ k. without book k) (one_position book id i j sample found is at there) ∙ sym same_too)
   give-one (Ok true) (Ok false) new next (i, sample, at, last, same) (j, found, there, more, same_too) =

@@ -20,8 +20,7 @@ module _ (book : Book) (is : IsBook book) (id : ℕ) where
 
   -- a search by id finds where the sample stands, or that it isn't out
   pub searched : (r : Result ℕ ℕ) → IsSearchInRange r (length book.out) →
-      IsBinarySearchResult (λ (sample : Sample). nat_cmp sample.id id) book.out r →
-      record {
+      IsBinarySearchResult (λ (sample : Sample). nat_cmp sample.id id) book.out r → record {
         found : IfSome (result_ok r) (λ position. (sample : Sample) × IsAt book id position sample);
         absent : IfNone (result_ok r) (¬ IsOut book id);
       }

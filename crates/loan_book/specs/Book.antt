@@ -16,13 +16,12 @@ chunks_of samples = map (λ sample. sample.chunk) samples
 abbrev pub chunks_out : Book → List Chunk
 chunks_out book = chunks_of book.out
 
--- what holds of every book that calls lead to
+-- facts of every book that calls lead to
 pub record IsBook (book : Book) : Type 0 where
   -- the ids rise, so each is there once
   pub rising : AllPairs (λ one other. one.id < other.id) book.out
-  -- each was given to a sample that was loaned
+  -- each id was given to a sample that was loaned
   pub loaned : All (λ sample. sample.id < book.loaned) book.out
-  -- each sample waits for a return
   pub waiting : All (λ sample. 0 < returns_to_come sample.returns) book.out
 
 -- the sample of this id stands at a position of the book
@@ -36,8 +35,7 @@ IsOut book id = (position : ℕ) × (sample : Sample) × IsAt book id position s
 
 -- the sample of this id is out, and so many returns of it are to come
 abbrev pub HasReturns : Book → ℕ → Option ℕ → Type 0
-HasReturns book id returns =
-    (position : ℕ) × (sample : Sample) × IsAt book id position sample × (sample.returns ≡ returns)
+HasReturns book id returns = (position : ℕ) × (sample : Sample) × IsAt book id position sample × (sample.returns ≡ returns)
 
 -- the sample of this id is out, and was published
 abbrev pub IsPublished : Book → ℕ → Type 0

@@ -25,14 +25,13 @@ abbrev pub loan_book_of : {A : Type 0} → A → Option ℕ → List Sample → 
 loan_book_of allocator next out = record { allocator = allocator; book = book_of next out }
 
 -- the allocator stands for exactly the chunks of the samples that are out, and the book is one that calls can lead to
-pub record IsLoanBook {A : Type 0} (stands_for : A → List Chunk → Type 0) (allocator : A)
-    (next : Option ℕ) (out : List Sample) : Type 0 where
+pub record IsLoanBook {A : Type 0} (stands_for : A → List Chunk → Type 0) (allocator : A) (next : Option ℕ)
+    (out : List Sample) : Type 0 where
   pub stands : stands_for allocator (chunks_of out)
   pub book : IsBook (book_of next out)
   pub next_fits : ForSome next (λ id. id < 2 ^ 64)
 
--- what every call leaves: the allocator stands for exactly the chunks of the samples that are out, and has the geometry that it
--- had
+-- after every call the allocator stands for exactly the chunks of the samples that are out, and has its old geometry
 pub record StillStands {A Geometry : Type 0} (stands_for : A → List Chunk → Type 0) (geometry_of : A → Geometry)
     (old new : LoanBook A) : Type 0 where
   pub stands : stands_for new.allocator (chunks_out new.book)

@@ -1,12 +1,12 @@
 //! Loan books.
 ghost use Rattle.std.specs.Prelude.{◌≡◌, ◌↔◌, ◌<◌, ◌≤◌, ◌^◌, ℕ, false, [], List, Result};
-ghost use Rattle.std.specs.Prelude.{length, IfErr, IfOk, OnOk, OnErr, IfSome, IfNone, IsTrue};
+ghost use Rattle.std.specs.Prelude.{length, slice_get, Some, IfErr, IfOk, OnOk, OnErr, IfSome, IfNone, IsTrue};
 ghost use Rattle.bb_memory_base.specs.Chunk.{Chunk};
 ghost use Rattle.bb_memory_base.specs.LiveList.{IsSound};
-ghost use Rattle.loan_book.specs.Sample.{Sample};
+ghost use Rattle.loan_book.specs.Sample.{Sample, returns_to_come};
 ghost use Rattle.loan_book.specs.declared.error.LoanError.{LoanError};
 ghost use Rattle.loan_book.specs.Book.{Book, IsBook, IsAt, IsOut, HasReturns, IsPublished, IsUnpublished, chunks_out};
-ghost use Rattle.loan_book.specs.Calls.{Loans, Publishes, GivesBack, without};
+ghost use Rattle.loan_book.specs.Calls.{Loans, Publishes, GivesBack, with_returns, without};
 ghost use Rattle.loan_book.specs.LoanBook.{IsAllocators, IsAskedOnce, StillStands, loan_book_of};
 
 use crate::error::LoanError;
@@ -132,16 +132,18 @@ impl<A: Allocator> LoanBook<A> {
         ensures same_allocator { self.new.allocator ≡ self.old.allocator }
         ensures still { OnErr result (self.new ≡ self.old) }
     {
-        let Some(position) = self.position(id) else {
+        // What the type promises is known from here on.
+        let _ = &self.next;
+        let Some((position, returns)) = self.found(id) else {
             return Err(LoanError::UnknownSample);
         };
-        if self.out[position].is_published() {
+        if returns.is_some() {
             return Err(LoanError::AlreadyPublished);
         }
         if readers == 0 {
             return Err(LoanError::NoReaders);
         }
-        self.out[position].wait_for(readers);
+        self.wait_for(position, readers);
         Ok(())
     }
 
@@ -160,13 +162,15 @@ impl<A: Allocator> LoanBook<A> {
             (λ left. left ≡ false → self.new.allocator ≡ self.old.allocator) }
         ensures still { OnErr result (self.new ≡ self.old) }
     {
-        let Some(position) = self.position(id) else {
+        // What the type promises is known from here on.
+        let _ = &self.next;
+        let Some((position, returns)) = self.found(id) else {
             return Err(LoanError::UnknownSample);
         };
-        let to_come = self.out[position].returns_to_come();
+        let to_come = returns.unwrap_or(1);
         let left = to_come - 1;
         if left > 0 {
-            self.out[position].wait_for(left);
+            self.wait_for(position, left);
             return Ok(false);
         }
         self.take_out(position);
@@ -210,6 +214,33 @@ impl<A: Allocator> LoanBook<A> {
         self.out
             .binary_search_by_key(&id, |sample| sample.id())
             .ok()
+    }
+
+    /// Where the sample of this id stands, and how many returns it waits for, or `None` where it wasn't published yet.
+    fn found(&self, id: u64) -> Option<(usize, Option<u32>)>
+        ensures found { IfSome result (λ found. (sample : Sample)
+            × IsAt self.now.book id found.0 sample × (sample.returns ≡ found.1)) }
+        ensures there { IfSome result (λ found. found.0 < length self.now.book.out) }
+        ensures waits { IfSome result (λ found. 0 < returns_to_come found.1) }
+        ensures absent { IfNone result (¬ IsOut self.now.book id) }
+        ensures book { IsBook self.now.book }
+    {
+        // What the type promises is known from here on.
+        let _ = &self.next;
+        let position = self.position(id)?;
+        Some((position, self.out[position].returns()))
+    }
+
+    /// Has the sample at a position wait for so many returns.
+    fn wait_for(&mut self, position: usize, returns: u32)
+        requires there { position < length self.old.book.out }
+        requires some { 0 < returns }
+        ensures book { (sample : Sample) → slice_get self.old.book.out position ≡ Some sample
+            → self.new.book ≡ with_returns self.old.book position sample returns }
+        ensures same_allocator { self.new.allocator ≡ self.old.allocator }
+        ensures stands { StillStands A.stands_for A.geometry self.old self.new }
+    {
+        self.out[position].wait_for(returns);
     }
 
     /// Takes out the sample at a position, and gives its chunk back. The layout of a return decides nothing.

@@ -1,6 +1,6 @@
 //! One sample that is out.
-ghost use Rattle.std.specs.Prelude.{◌≡◌, ◌↔◌, None, Some, IsSome, IsTrue};
-ghost use Rattle.loan_book.specs.Sample.{Sample, returns_to_come};
+ghost use Rattle.std.specs.Prelude.{◌≡◌, None, Some};
+ghost use Rattle.loan_book.specs.Sample.{Sample};
 
 use bb_memory_base::layout::Chunk;
 use std::marker::Model;
@@ -40,17 +40,11 @@ impl Sample {
         self.id
     }
 
-    pub(crate) fn is_published(&self) -> bool
-        ensures { IsTrue result ↔ IsSome self.now.returns }
+    /// How many returns are to come, or `None` until the sample is published.
+    pub(crate) fn returns(&self) -> Option<u32>
+        ensures { result ≡ self.now.returns }
     {
-        self.returns.is_some()
-    }
-
-    /// How many returns are to come: a sample that was never published waits for one.
-    pub(crate) fn returns_to_come(&self) -> u32
-        ensures { result ≡ returns_to_come self.now.returns }
-    {
-        self.returns.unwrap_or(1)
+        self.returns
     }
 
     /// Has the sample wait for so many returns.

@@ -1,4 +1,4 @@
-use Rattle.std.proofs.Common.{◌≡◌, ◌+◌, ◌∷◌, ◌++◌, [], take, take_all, get_or, ◌∙◌, subst, arith}
+use Rattle.std.proofs.Common.{rules, ◌≡◌, ◌+◌, ◌∷◌, ◌++◌, [], take, take_all, get_or, ◌∙◌, subst, arith}
 use Rattle.std.proofs.lemmas.List.{take_more}
 use Rattle.bb_memory_base.proofs.Runs.{IsRun-push}
 use Rattle.loan_book.specs.declared.run.LoanCall.TheVariants.{Loan}
@@ -30,56 +30,28 @@ loop-call-preserved g c =
       space = omega arith;
     }
 
-pub returns-clause-counted : goal.returns-clause-counted
-returns-clause-counted g c =
+pub returns : goal.returns
+returns g c =
     let A = g.A.BaseAllocator in
+    let may = A.may_allocate (A.geometry c.args.book.now.allocator) in
+    let old = c.args.book.now.book in
+    let new = c.loop-call.book.book in
     let calls = c.args.calls.now in
+    let replies = c.loop-call.replies.items in
+    let is = c.law.ensures.book in
     let all : take c.loop-call.call-index calls ≡ calls = take_all c.loop-call.call-index calls (omega arith) in
     let run = rw all at c.loop-call.invariant.run in
-    run-counted (A.may_allocate (A.geometry c.args.book.now.allocator))
-    c.args.book.now.book c.loop-call.book.book calls c.loop-call.replies.items run
-
-pub returns-clause-ids : goal.returns-clause-ids
-returns-clause-ids g c =
-    let A = g.A.BaseAllocator in
-    let calls = c.args.calls.now in
-    let all : take c.loop-call.call-index calls ≡ calls = take_all c.loop-call.call-index calls (omega arith) in
-    let run = rw all at c.loop-call.invariant.run in
-    run-ids (A.may_allocate (A.geometry c.args.book.now.allocator))
-    c.args.book.now.book c.loop-call.book.book calls c.loop-call.replies.items run
-
-pub returns-clause-returned : goal.returns-clause-returned
-returns-clause-returned g c id returns waits =
-    let A = g.A.BaseAllocator in
-    let calls = c.args.calls.now in
-    let all : take c.loop-call.call-index calls ≡ calls = take_all c.loop-call.call-index calls (omega arith) in
-    let run = rw all at c.loop-call.invariant.run in
-    run-returns (A.may_allocate (A.geometry c.args.book.now.allocator))
-    c.args.book.now.book c.loop-call.book.book calls c.loop-call.replies.items id returns c.law.ensures.book waits run
-
-pub returns-clause-unpublished : goal.returns-clause-unpublished
-returns-clause-unpublished g c id unpublished none =
-    let A = g.A.BaseAllocator in
-    let calls = c.args.calls.now in
-    let all : take c.loop-call.call-index calls ≡ calls = take_all c.loop-call.call-index calls (omega arith) in
-    let run = rw all at c.loop-call.invariant.run in
-    run-unpublished (A.may_allocate (A.geometry c.args.book.now.allocator))
-    c.args.book.now.book c.loop-call.book.book calls c.loop-call.replies.items id c.law.ensures.book unpublished none run
-
-pub returns-clause-published : goal.returns-clause-published
-returns-clause-published g c i id readers called replied =
-    let A = g.A.BaseAllocator in
-    let calls = c.args.calls.now in
-    let all : take c.loop-call.call-index calls ≡ calls = take_all c.loop-call.call-index calls (omega arith) in
-    let run = rw all at c.loop-call.invariant.run in
-    run-published (A.may_allocate (A.geometry c.args.book.now.allocator))
-    c.args.book.now.book c.loop-call.book.book calls c.loop-call.replies.items i id readers c.law.ensures.book run called replied
-
-pub returns-clause-loaned : goal.returns-clause-loaned
-returns-clause-loaned g c i id chunk replied none =
-    let A = g.A.BaseAllocator in
-    let calls = c.args.calls.now in
-    let all : take c.loop-call.call-index calls ≡ calls = take_all c.loop-call.call-index calls (omega arith) in
-    let run = rw all at c.loop-call.invariant.run in
-    run-loaned (A.may_allocate (A.geometry c.args.book.now.allocator))
-    c.args.book.now.book c.loop-call.book.book calls c.loop-call.replies.items i id chunk c.law.ensures.book run replied none
+    record {
+      run = run;
+      counted = run-counted may old new calls replies run;
+      ids = run-ids may old new calls replies run;
+      returned = λ id returns waits. run-returns may old new calls replies id returns is waits run;
+      unpublished = λ id unpublished none. run-unpublished may old new calls replies id is unpublished none run;
+      published = λ i id readers called replied. run-published may old new calls replies i id readers is run called replied;
+      loaned = λ i id chunk replied none. run-loaned may old new calls replies i id chunk is run replied none;
+      book = search rules;
+      stands = search rules;
+      sound = search rules;
+      geometry = search rules;
+      still = search rules;
+    }

@@ -17,5 +17,6 @@ invariant_of-self c =
       region = c.self.invariant.region;
       within = subst (λ (turn : PartyMove). turn.position ≤ old.region.size) left c.of_exchange-turn.ensures.within;
       fitting = λ other. each_call-set (IsFitting old.region) old.state.calls c.args.party other c.turn.inside.call
-          (c.self.invariant.fitting other) (subst (λ (turn : PartyMove). IfSome turn.call (IsFitting old.region)) left c.of_exchange-turn.ensures.fitting);
+          (c.self.invariant.fitting other)
+          (subst (λ (turn : PartyMove). IfSome turn.call (IsFitting old.region)) left c.of_exchange-turn.ensures.fitting);
     }
