@@ -17,9 +17,8 @@ use Rattle.bb_memory_core.specs.Seats.{both_of, standing_for, times_in}
 use Rattle.bb_memory.specs.SharedPool.{HaveMet, IsHeldByOne, IsSharedScene, PoolParty, SharedPool}
 use Rattle.bb_memory.specs.SharedPoolRule.{IsPartySeat, NumberedLog, SeatView, numbered_of, party_in}
 use Rattle.bb_memory.specs.SharedPoolSteps.{TellsMeeting}
-use Rattle.bb_memory_core.proofs.PartyNumbers.{has_number, logs_had, numbers_differ, owner}
+use Rattle.bb_memory_core.proofs.PartyNumbers.{all_there, has_number, logs_had, numbers_differ, owner}
 use Rattle.bb_memory_core.proofs.Contained.{any_contained}
-use Rattle.bb_memory_core.proofs.Seatings.{all_there}
 
 -- GATHERING
 

@@ -5,12 +5,11 @@ use Rattle.std.specs.Prelude.{filter, if◌then◌else◌, slice_get}
 use Rattle.std.proofs.lemmas.Bool.{cases_Bool, cases_lt, le-ltb}
 use Rattle.std.proofs.lemmas.Option.{slice_get_within}
 use Rattle.bb_memory_base.specs.Chunk.{AreApart, Chunk}
-use Rattle.bb_memory_base.specs.LiveList.{IsSound}
 use Rattle.bb_memory_base.specs.PoolGeometry.{PoolGeometry, IsPoolGeometry, bucket_place}
 use Rattle.bb_memory_base.specs.PoolObject.{IsHeld}
 use Rattle.bb_memory_base.specs.PoolMachine.{PoolScene, IsHolder, left_by}
 use Rattle.bb_memory_base.specs.PoolHistory.{PoolEntry, PoolLog, entries_by, entry_of, history_of, is_by, log_of}
-use Rattle.bb_memory_base.specs.PoolCalls.{AreAsked, IsPoolRun, IsRefusedAt, MissesAt}
+use Rattle.bb_memory_base.specs.PoolCalls.{IsPoolRun, IsRefusedAt, MissesAt}
 use Rattle.bb_memory_base.specs.PoolLogs.{IsHeldAfter, loss_at}
 use Rattle.bb_memory_base.specs.declared.steps.pool.Flag.TheVariants.{HeldBy}
 use Rattle.bb_memory_base.specs.declared.steps.pool.PoolStep.{PoolStep}
@@ -21,18 +20,13 @@ use Rattle.bb_memory_base.specs.declared.layout.Layout.{Layout}
 use Rattle.bb_memory_base.proofs.PoolGeometries.{bucket_place-after, stride-above}
 use Rattle.bb_memory_base.proofs.PoolHolders.{holder_in_log, one_holder}
 use Rattle.bb_memory_base.proofs.PoolPasses.{missed_is_held, refused_found_held}
-use Rattle.bb_memory_base.proofs.PoolRuns.{pool_run, run_is_sound, taken_is_held}
+use Rattle.bb_memory_base.proofs.PoolRuns.{taken_is_held}
 use Rattle.bb_memory_base.proofs.PoolSteps.{length-left_by}
 use Rattle.bb_memory_core.specs.Pool.{AreAStrideApart}
 use Rattle.bb_memory.specs.SharedPool.{AreInterleaved, HasFoundAllHeld, IsHistoryRun, IsParty, PoolParty}
 use Rattle.bb_memory.specs.SharedPool.{SharedPool, TakenBucket, chunk_of, losses, refused_pass}
 use Rattle.bb_memory.specs.SharedPoolNextFit.{HasMissedAll, probed, miss_at, misses, refused_search}
 use Rattle.bb_memory.proofs.SharedPoolNextFit.{probe_at}
-
-pub history_run : (party : PoolParty) (is : IsParty party) (layouts : List Layout) →
-    AreAsked party.allocator.scene.geometry is.interleaved.steps layouts →
-    (live : List Chunk) × IsHistoryRun party is layouts live
-history_run party is layouts asked = pool_run party.allocator.scene is.interleaved.steps layouts is.scene.geometry asked
 
 -- the party whose log holds a bucket is its holder after each list of steps that has its log
 holder_then : (scene : PoolScene) (steps : List PoolStep) (party bucket : ℕ) (log : PoolLog) → log_of scene steps party ≡ log →
@@ -66,11 +60,6 @@ pub history_held : (party : PoolParty) (is : IsParty party) (layouts : List Layo
 history_held party is layouts live bucket run held =
     held_in_list party.allocator.scene is.interleaved.steps party.number bucket party.log layouts live is.scene.geometry
     is.interleaved.logged run held
-
-pub history_sound : (party : PoolParty) (is : IsParty party) (layouts : List Layout) (live : List Chunk) →
-    IsHistoryRun party is layouts live → IsSound party.allocator.scene.geometry.region live
-history_sound party is layouts live run =
-    run_is_sound party.allocator.scene is.interleaved.steps layouts live is.scene.geometry run
 
 -- REFUSED PASSES
 
@@ -168,7 +157,7 @@ history_refused party is before after some has =
       found = λ bucket below. refused_found_held scene steps number last.place bucket is.scene.geometry refused below;
     }
 
--- REFUSED ROUNDS
+-- REFUSED SEARCHES
 
 -- the misses of a search are those before a probe, the one at it, and others
 misses-split : (buckets party first probe count : ℕ) → probe < count →
@@ -255,11 +244,6 @@ module _ (one other : TakenBucket) (same : one.allocator ≡ other.allocator) (t
       ]
 
 -- TWO PARTIES OF ONE HISTORY
-
-pub both_run : (a b : PoolParty) (met : AreInterleaved a b) (layouts : List Layout) → IsParty a →
-    AreAsked a.allocator.scene.geometry met.steps layouts →
-    (live : List Chunk) × IsPoolRun a.allocator.scene met.steps layouts live
-both_run a b met layouts is asked = pool_run a.allocator.scene met.steps layouts is.scene.geometry asked
 
 pub both_held : (a b : PoolParty) (met : AreInterleaved a b) (layouts : List Layout) (live : List Chunk) (bucket : ℕ) →
     IsParty a → IsPoolRun a.allocator.scene met.steps layouts live → IsHeldAfter a.log bucket ⊎ IsHeldAfter b.log bucket →

@@ -1,16 +1,14 @@
 -- What all parties of a pool have who met.
 use Rattle.std.proofs.Common.{◌≡◌, ◌≢◌, ℕ, zero, suc, ◌≤◌, ◌+◌, ◌<◌, List, [], ◌∷◌, length, refl, sym, ap, ◌∙◌, subst, arith}
-use Rattle.std.proofs.Common.{Some, true, inl, inr}
+use Rattle.std.proofs.Common.{Some, true}
 use Rattle.std.specs.Prelude.{◌↔◌, Any, Contains, nat_lt, slice_get, if◌then◌else◌, Bool, false}
 use Rattle.std.specs.List.{All}
-use Rattle.std.proofs.lemmas.Bool.{cases_lt}
 use Rattle.std.proofs.lemmas.Option.{slice_get_within}
 use Rattle.std.proofs.lemmas.List.Elements.{All-append, All-cons, All-contains, All-contains_itself, All-nil, All-weaker}
 use Rattle.bb_memory_base.specs.Chunk.{Chunk}
-use Rattle.bb_memory_base.specs.LiveList.{IsSound}
 use Rattle.bb_memory_base.specs.PoolObject.{IsHeld}
 use Rattle.bb_memory_base.specs.PoolMachine.{IsDetached, PoolScene, left_by, opening_state, pool_step}
-use Rattle.bb_memory_base.specs.PoolCalls.{AreAsked, IsPoolRun}
+use Rattle.bb_memory_base.specs.PoolCalls.{IsPoolRun}
 use Rattle.bb_memory_base.specs.PoolHistory.{PoolEntry, PoolLog, entry_of, history_of, is_by, log_of, pool_history}
 use Rattle.bb_memory_base.specs.PoolLogs.{AllAllowed, HasLog, IsHeldAfter, loss_at}
 use Rattle.bb_memory_base.specs.declared.layout.Layout.{Layout}
@@ -19,15 +17,14 @@ use Rattle.bb_memory_base.specs.declared.steps.pool.PoolStep.TheVariants.{Try, G
 use Rattle.bb_memory_base.specs.declared.steps.pool.PoolOutcome.{PoolOutcome}
 use Rattle.bb_memory_base.specs.declared.steps.pool.PoolOutcome.TheVariants.{Loses, RefusedAtLoss, Detaches}
 use Rattle.bb_memory_base.proofs.PoolLogFacts.{first_takes, logs_apart, nobody_else}
-use Rattle.bb_memory_base.proofs.PoolRuns.{pool_run, run_is_sound, taken_is_held}
+use Rattle.bb_memory_base.proofs.PoolRuns.{taken_is_held}
 use Rattle.bb_memory_base.proofs.PoolFlags.{taken_from_flag, flag_from_taken}
 use Rattle.bb_memory_base.proofs.PoolHolders.{detached_unheld}
 use Rattle.bb_memory_base.proofs.PoolSteps.{test_same}
 use Rattle.bb_memory_base.proofs.PoolDetached.{was_detached_before}
 use Rattle.bb_memory.specs.SharedPool.{HasTaker, HaveMet, WasDetachedByOne, IsHeldByOne, IsHeldOrDetached, IsSharedScene}
 use Rattle.bb_memory.specs.SharedPool.{IsTaking, PoolParty, TookOne, losses, refused_pass}
-use Rattle.bb_memory_core.proofs.Contained.{any_contained, contains-filter, contains-first, contains_at, contains-none}
-use Rattle.bb_memory_core.proofs.Contained.{one_of_figure}
+use Rattle.bb_memory_core.proofs.Contained.{any_contained, contains-first, contains_at, stands_in_log}
 
 module _ (scene : PoolScene) (parties : List PoolParty) (met : HaveMet scene parties) where
   abbrev steps : List PoolStep
@@ -35,14 +32,6 @@ module _ (scene : PoolScene) (parties : List PoolParty) (met : HaveMet scene par
 
   abbrev history : PoolLog
   history = history_of scene steps
-
-  pub met_run : (layouts : List Layout) → IsSharedScene scene → AreAsked scene.geometry steps layouts →
-      (live : List Chunk) × IsPoolRun scene steps layouts live
-  met_run layouts shared asked = pool_run scene steps layouts shared.geometry asked
-
-  pub met_sound : (layouts : List Layout) (live : List Chunk) → IsSharedScene scene → IsPoolRun scene steps layouts live →
-      IsSound scene.geometry.region live
-  met_sound layouts live shared run = run_is_sound scene steps layouts live shared.geometry run
 
   -- the flags that the meeting found are the buckets held in the list that the run leaves
   pub met_flags : (layouts : List Layout) (live : List Chunk) (bucket : ℕ) → IsSharedScene scene →
@@ -83,19 +72,8 @@ module _ (scene : PoolScene) (parties : List PoolParty) (met : HaveMet scene par
   numbered : (entry : PoolEntry) (number : ℕ) → length parties ≡ scene.parties → Contains history entry →
       is_by number entry.step ≡ true → Any (λ party. Contains party.log entry) parties
   numbered entry number all there by =
-      let kept = contains-filter (λ (other : PoolEntry). is_by number other.step) history entry there by in
-      elim (cases_lt number scene.parties) [
-        | inl below ↦
-            let one = one_of_figure (λ (party : PoolParty). party.number) parties number ((met.1.whole all).0 number below) in
-            let logged = All-contains (λ (party : PoolParty). log_of scene steps party.number ≡ party.log) parties one.one
-            met_logged one.there in
-            let log : log_of scene steps number ≡ one.one.log = ap (log_of scene steps) (sym one.its) ∙ logged in
-            any_contained (λ (party : PoolParty). Contains party.log entry) parties one.one one.there
-            (subst (λ (l : PoolLog). Contains l entry) log kept)
-        | inr past ↦
-            let none = nobody_else scene steps number (omega arith) met.1.agree.allowed in
-            absurd (contains-none entry (subst (λ (l : PoolLog). Contains l entry) none kept))
-      ]
+      stands_in_log (λ (party : PoolParty). party.number) (λ party. party.log) (λ n other. is_by n other.step) history scene.parties
+      parties (met.1.whole all).0 met_logged (λ n past. nobody_else scene steps n past met.1.agree.allowed) entry number there by
 
   owned : (step : PoolStep) (outcome : PoolOutcome) → length parties ≡ scene.parties →
       Contains history (entry_of step outcome) → Any (λ party. Contains party.log (entry_of step outcome)) parties

@@ -1,7 +1,10 @@
 -- What stands in a list: behind others, in what is kept of it, and by a figure of its own.
-use Rattle.std.proofs.Common.{◌≡◌, ℕ, zero, suc, Some, Bool, true, false, List, [], ◌∷◌, refl, ap, ◌∙◌, arith}
-use Rattle.std.specs.Prelude.{Any, Contains, filter, if◌then◌else◌, map, slice_get}
+use Rattle.std.proofs.Common.{◌≡◌, ℕ, zero, suc, ◌<◌, ◌≤◌, Some, Bool, true, false, List, [], ◌∷◌, refl, sym, ap, ◌∙◌, subst, arith}
+use Rattle.std.proofs.Common.{inl, inr}
+use Rattle.std.specs.Prelude.{All, Any, Contains, filter, if◌then◌else◌, map, slice_get}
+use Rattle.std.proofs.lemmas.Bool.{cases_lt}
 use Rattle.std.proofs.lemmas.Option.{same_Some}
+use Rattle.std.proofs.lemmas.List.Elements.{All-contains}
 
 module _ {X : Type 0} where
   pub contains-first : (x y : X) (xs : List X) → x ≡ y → Contains (x ∷ xs) y
@@ -53,3 +56,20 @@ module _ {X : Type 0} (figure : X → ℕ) where
   one_of_figure (x ∷ xs) n (suc k, below, same) =
       let rest = one_of_figure xs n (k, omega (arith, below), same) in
       record { one = rest.one; there = contains-behind x rest.one xs rest.there; its = rest.its }
+
+-- An entry of a list, of which each number keeps a part, stands in the log of the one that has its number.
+module _ {X E : Type 0} (figure : X → ℕ) (log : X → List E) (by : ℕ → E → Bool) (list : List E) (made : ℕ) (xs : List X)
+    (numbers : (n : ℕ) → n < made → Contains (map figure xs) n) (logged : All (λ x. filter (by (figure x)) list ≡ log x) xs)
+    (nobody : (n : ℕ) → made ≤ n → filter (by n) list ≡ []) where
+  pub stands_in_log : (entry : E) (n : ℕ) → Contains list entry → by n entry ≡ true → Any (λ x. Contains (log x) entry) xs
+  stands_in_log entry n there its =
+      let kept = contains-filter (by n) list entry there its in
+      elim (cases_lt n made) [
+        | inl below ↦
+            let one = one_of_figure figure xs n (numbers n below) in
+            let own = All-contains (λ (x : X). filter (by (figure x)) list ≡ log x) xs one.one logged one.there in
+            any_contained (λ (x : X). Contains (log x) entry) xs one.one one.there
+            (subst (λ (l : List E). Contains l entry) (ap (λ (m : ℕ). filter (by m) list) (sym one.its) ∙ own) kept)
+        | inr past ↦
+            absurd (contains-none entry (subst (λ (l : List E). Contains l entry) (nobody n (omega (arith, past))) kept))
+      ]

@@ -1,5 +1,6 @@
 pub mod Contained
 pub mod Cuts
+mod EmptyChunks
 mod Geometries
 mod HeldBuckets
 mod Listings

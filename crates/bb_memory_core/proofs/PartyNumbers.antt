@@ -1,5 +1,6 @@
--- The numbers of parties that stand in one list: where no number that was made stands there twice, they are different ones.
-use Rattle.std.proofs.Common.{◌≡◌, ◌≢◌, ℕ, zero, suc, ◌<◌, ◌≤◌, List, [], ◌∷◌, Some, refl, sym, ap, ◌∙◌, subst, arith, inl, inr}
+-- The numbers of parties that stand in one list: where no number that was made stands there twice, they are different ones, and
+-- where the parties are as many as were made, each number stands there.
+use Rattle.std.proofs.Common.{◌≡◌, ◌≢◌, ℕ, zero, suc, ◌+◌, ◌<◌, ◌≤◌, List, [], ◌∷◌, Some, length, refl, sym, ap, ◌∙◌, subst, arith, inl, inr}
 use Rattle.std.specs.Prelude.{Contains, map, slice_get}
 use Rattle.std.specs.List.{AllByRecursion}
 use Rattle.std.proofs.lemmas.Bool.{cases_eq}
@@ -7,6 +8,80 @@ use Rattle.std.proofs.lemmas.Option.{same_Some}
 use Rattle.bb_memory_core.specs.Seats.{HaveLogs, Numbered, times_in}
 use Rattle.bb_memory_core.proofs.Contained.{HasOne, contains-behind, contains-first, one_of_figure}
 use Rattle.bb_memory_core.proofs.Seatings.{one_apart, one_same}
+
+-- ALL PARTIES IN ONE LIST
+
+-- how many parties of a list have a number below this
+abbrev counted : {E : Type 0} → ℕ → List (Numbered E) → ℕ
+counted zero parties = 0
+counted (suc made) parties = times_in made parties + counted made parties
+
+counted-none : (E : Type 0) (made : ℕ) → counted {E = E} made [] ≡ 0
+counted-none E zero = refl
+counted-none E (suc made) = let rest = counted-none E made in omega arith
+
+counted-past : {E : Type 0} (made : ℕ) (party : Numbered E) (parties : List (Numbered E)) → made ≤ party.number →
+    counted made (party ∷ parties) ≡ counted made parties
+counted-past zero party parties past = refl
+counted-past (suc made) party parties past =
+    let apart = one_apart party.number made (λ same. omega arith) in
+    let rest = counted-past made party parties (omega arith) in omega arith
+
+counted-more : {E : Type 0} (made : ℕ) (party : Numbered E) (parties : List (Numbered E)) → party.number < made →
+    counted made (party ∷ parties) ≡ 1 + counted made parties
+counted-more zero party parties below = absurd (omega arith)
+counted-more (suc made) party parties below =
+    elim (cases_eq party.number made) [
+      | inl same ↦
+          let one = one_same party.number made same in
+          let rest = counted-past made party parties (omega arith) in omega arith
+      | inr other ↦
+          let none = one_apart party.number made other in
+          let rest = counted-more made party parties (grind (arith, below, other)) in omega arith
+    ]
+
+counted-all : {E : Type 0} (made : ℕ) (logs : List (List E)) (parties : List (Numbered E)) → HaveLogs made logs parties →
+    counted made parties ≡ length parties
+counted-all {E = E} made logs [] have = counted-none E made
+counted-all made logs (party ∷ parties) have =
+    let more = counted-more made party parties have.0 in
+    let rest = counted-all made logs parties have.2 in omega arith
+
+counted-most : {E : Type 0} (made : ℕ) (parties : List (Numbered E)) →
+    ((number : ℕ) → number < made → times_in number parties ≤ 1) → counted made parties ≤ made
+counted-most zero parties once = omega arith
+counted-most (suc made) parties once =
+    let here = once made (omega arith) in
+    let rest = counted-most made parties (λ number below. once number (omega arith)) in omega arith
+
+counted-few : {E : Type 0} (made missing : ℕ) (parties : List (Numbered E)) → missing < made → times_in missing parties ≡ 0 →
+    ((number : ℕ) → number < made → times_in number parties ≤ 1) → counted made parties < made
+counted-few zero missing parties below none once = absurd (omega arith)
+counted-few (suc made) missing parties below none once =
+    elim (cases_eq missing made) [
+      | inl same ↦
+          let here = ap (λ (n : ℕ). times_in n parties) same in
+          let rest = counted-most made parties (λ number less. once number (omega arith)) in omega arith
+      | inr other ↦
+          let here = once made (omega arith) in
+          let rest = counted-few made missing parties (grind (arith, below, other)) none
+          (λ number less. once number (omega arith)) in
+          omega arith
+    ]
+
+-- a list of as many parties as were made, no two of which are one, has each
+pub all_there : {E : Type 0} (made : ℕ) (logs : List (List E)) (parties : List (Numbered E)) → HaveLogs made logs parties →
+    ((number : ℕ) → number < made → times_in number parties ≤ 1) → length parties ≡ made →
+    (number : ℕ) → number < made → 1 ≤ times_in number parties
+all_there made logs parties have once long number below =
+    elim (cases_eq (times_in number parties) 0) [
+      | inl none ↦
+          let few = counted-few made number parties below none once in
+          let all = counted-all made logs parties have in absurd (omega arith)
+      | inr there ↦ grind (arith, there)
+    ]
+
+-- NUMBERS
 
 module _ {P E : Type 0} (of : P → Numbered E) where
   abbrev number : P → ℕ

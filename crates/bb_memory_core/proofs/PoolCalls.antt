@@ -1,10 +1,10 @@
 -- What a pool's requests and releases make of each live list that it stands for.
-use Rattle.std.proofs.Common.{◌≡◌, ◌≢◌, ℕ, suc, ◌+◌, ◌-◌, ◌*◌, ◌/◌, ◌%◌, ◌^◌, ◌<◌, ◌≤◌, ◌↔◌}
+use Rattle.std.proofs.Common.{◌≡◌, ◌≢◌, ℕ, suc, ◌+◌, ◌-◌, ◌*◌, ◌/◌, ◌%◌, ◌^◌, ◌<◌, ◌≤◌}
 use Rattle.std.proofs.Common.{Bool, true, false, List, [], ◌∷◌, ◌++◌}
 use Rattle.std.proofs.Common.{Result, Ok, Err, refl, sym, ap, subst, ◌∙◌, arith, Some, inl, inr, div-add-mod', pow_pos, pow_mono}
 use Rattle.std.proofs.Common.{pow-add, pow-suc, cond, leb, min, ◌&&◌}
 use Rattle.std.proofs.lemmas.Bool.{le-leb}
-use Rattle.std.specs.Prelude.{slice_get, slice_set, remove, IsOk, IfOk, OnErr}
+use Rattle.std.specs.Prelude.{slice_get, slice_set, remove, IfOk}
 use Rattle.std.specs.Int.{IsPowerOfTwo}
 use Rattle.std.proofs.Math.Nat.{mul_assoc}
 use Rattle.std.proofs.lemmas.Bool.{cases_lt}
@@ -23,7 +23,7 @@ use Rattle.bb_memory_base.proofs.Layouts.{layout-plain}
 use Rattle.bb_memory_base.proofs.PoolGeometries.{bucket_place-aligned, bucket_place-after}
 use Rattle.bb_memory_base.proofs.SliceGets.{slice_get-set_other, slice_get-set_same}
 use Rattle.bb_memory_core.specs.NumberSet.{Has, Lacks}
-use Rattle.bb_memory_core.specs.Pool.{Pool, IsPool, StandsFor, HoldsPlace, AreAStrideApart, Takes, with_flag}
+use Rattle.bb_memory_core.specs.Pool.{Pool, IsPool, StandsFor, HoldsPlace, Takes, with_flag}
 use Rattle.bb_memory_core.specs.Pool.{CountedPool, TakesBucket, FreesBucket, counted, reads_of}
 use Rattle.bb_memory_core.specs.PoolLaws.{bucket_held_at, held_at_bucket}
 use Rattle.bb_memory_core.proofs.Cuts.{number-at}
@@ -99,31 +99,6 @@ Takes-aligned pool layout (Ok chunk) new (i, within, lacks, given, after) =
     ap (λ (c : Chunk). c.place % layout.align) given ∙ bucket_place-multiple pool.geometry i layout within.align
 Takes-aligned pool layout (Err error) new takes = tt
 
-Takes-bucket_aligned : (pool : Pool) (layout : Layout) (answer : Result Chunk AllocationError) (new : Pool) →
-    Takes pool layout answer new → IfOk answer (λ chunk. chunk.place % pool.geometry.bucket.align ≡ 0)
-Takes-bucket_aligned pool layout (Ok chunk) new (i, within, lacks, given, after) =
-    ap (λ (c : Chunk). c.place % pool.geometry.bucket.align) given ∙ bucket_place-aligned pool.geometry i
-Takes-bucket_aligned pool layout (Err error) new takes = tt
-
--- there is a chunk exactly where the layout isn't too much for a bucket and some bucket isn't held
-Takes-accepted : (pool : Pool) (layout : Layout) (answer : Result Chunk AllocationError) (new : Pool) → IsPool pool →
-    Takes pool layout answer new →
-    IsOk answer ↔ (IsWithin pool.geometry.bucket layout × ((i : ℕ) × Lacks pool.held i))
-Takes-accepted pool layout (Ok chunk) new is (i, within, lacks, given, after) = (λ ok. (within, (i, lacks)), λ may. refl)
-Takes-accepted pool layout (Err SizeTooLarge) new is takes =
-    (λ ok. absurd (cc), λ may. absurd (let small = may.0.size in omega (arith, takes.0)))
-Takes-accepted pool layout (Err AlignmentFailure) new is takes =
-    (λ ok. absurd (cc), λ may. absurd (let small = may.0.align in omega (arith, takes.1)))
-Takes-accepted pool layout (Err OutOfMemory) new is (within, full, after) = (
-  λ ok. absurd (cc),
-  λ may. absurd (
-      let held = full may.1.0 (omega (arith, is.flags, bucket-below pool is may.1.0 false may.1.1)) in
-      let e : Some true ≡ Some false = sym held ∙ may.1.1 in
-      cc
-      ),
-)
-Takes-accepted pool layout (Err SizeIsZero) new is takes = absurd takes
-
 -- the bucket that is given is held then
 pub Takes-given : (pool : Pool) (layout : Layout) (answer : Result Chunk AllocationError) (new : Pool) →
     Takes pool layout answer new → IfOk answer (λ chunk. HoldsPlace new chunk.place)
@@ -133,34 +108,7 @@ Takes-given pool layout (Ok chunk) new (i, within, lacks, given, after) =
     (ap (λ (c : Chunk). c.place) given))
 Takes-given pool layout (Err error) new takes = tt
 
--- it wasn't before
-Takes-was_free : (pool : Pool) (layout : Layout) (answer : Result Chunk AllocationError) (new : Pool) → IsPool pool →
-    Takes pool layout answer new → IfOk answer (λ chunk. ¬ HoldsPlace pool chunk.place)
-Takes-was_free pool layout (Ok chunk) new is (i, within, lacks, given, after) = λ there.
-    let holds = bucket_held_at pool chunk.place there in
-    let at : chunk.place ≡ bucket_place pool.geometry i = ap (λ (c : Chunk). c.place) given in
-    let same : holds.0 ≡ i = one_bucket pool.geometry is.geometry holds.0 i (sym holds.2 ∙ at) in
-    absurd (let e : Some true ≡ Some false = sym holds.1 ∙ (ap (slice_get pool.held) same ∙ lacks) in cc)
-Takes-was_free pool layout (Err error) new is takes = tt
-
--- and it is a stride apart from each that was
-Takes-apart : (pool : Pool) (layout : Layout) (answer : Result Chunk AllocationError) (new : Pool) →
-    Takes pool layout answer new →
-    IfOk answer (λ chunk. (place : ℕ) → HoldsPlace pool place → AreAStrideApart pool.geometry.bucket place chunk.place)
-Takes-apart pool layout (Ok chunk) new (i, within, lacks, given, after) = λ place there.
-    let holds = bucket_held_at pool place there in
-    let differ : holds.0 ≢ i =
-    λ same. absurd (let e : Some true ≡ Some false = sym holds.1 ∙ (ap (slice_get pool.held) same ∙ lacks) in cc) in
-    let at : chunk.place ≡ bucket_place pool.geometry i = ap (λ (c : Chunk). c.place) given in
-    elim (cases_lt holds.0 i) [
-      | inl below ↦ inl (omega (arith, bucket_place-after pool.geometry holds.0 i below, at, holds.2))
-      | inr above ↦
-          let more : i < holds.0 = omega (arith, above, differ) in
-          inr (omega (arith, bucket_place-after pool.geometry i holds.0 more, at, holds.2))
-    ]
-Takes-apart pool layout (Err error) new takes = tt
-
--- and each that was held still is
+-- each that was held before still is
 pub Takes-still_held : (pool : Pool) (layout : Layout) (answer : Result Chunk AllocationError) (new : Pool) →
     Takes pool layout answer new → (place : ℕ) → HoldsPlace pool place → HoldsPlace new place
 Takes-still_held pool layout (Ok chunk) new (i, within, lacks, given, after) place there =
@@ -175,14 +123,22 @@ Takes-still_held pool layout (Err OutOfMemory) new takes place holds =
     subst (λ (p : Pool). HoldsPlace p place) (sym takes.2) holds
 Takes-still_held pool layout (Err SizeIsZero) new takes place holds = absurd takes
 
--- a refusal changes nothing
-Takes-still : (pool : Pool) (layout : Layout) (answer : Result Chunk AllocationError) (new : Pool) →
-    Takes pool layout answer new → OnErr answer (new ≡ pool)
-Takes-still pool layout (Ok chunk) new takes = tt
-Takes-still pool layout (Err SizeTooLarge) new takes = takes.1
-Takes-still pool layout (Err AlignmentFailure) new takes = takes.2
-Takes-still pool layout (Err OutOfMemory) new takes = takes.2
-Takes-still pool layout (Err SizeIsZero) new takes = absurd takes
+-- a refusal changes nothing, and comes only where the layout is too much for a bucket, or each is held
+refused : (pool : Pool) (layout : Layout) (error : AllocationError) (new : Pool) → IsPool pool →
+    Takes pool layout (Err error) new →
+    (new ≡ pool) × (IsWithin pool.geometry.bucket layout → (i : ℕ) → ¬ Lacks pool.held i)
+refused pool layout SizeTooLarge new is takes =
+    (takes.1, λ within i lacks. let small = within.size in omega (arith, takes.0))
+refused pool layout AlignmentFailure new is takes =
+    (takes.2, λ within i lacks. let small = within.align in omega (arith, takes.1))
+refused pool layout OutOfMemory new is (within, full, same) = (
+  same,
+  λ _ i lacks.
+      let held = full i (omega (arith, is.flags, bucket-below pool is i false lacks)) in
+      let e : Some true ≡ Some false = sym held ∙ lacks in
+      cc,
+)
+refused pool layout SizeIsZero new is takes = absurd takes
 
 few_if : (b : Bool) (words : ℕ) → cond b (min words 1) 0 ≤ words
 few_if true words = omega arith
@@ -200,30 +156,49 @@ reads_one bucket words layout within some =
     ∙ ap (λ b. cond b (min words 1) 0) (le-leb layout.align bucket.align within.align)
     ∙ omega (arith, some)
 
-same_counted : (old new : CountedPool) (answer : Result Chunk AllocationError) → OnErr answer (new.pool ≡ old.pool) →
-    new.reads ≡ old.reads → OnErr answer (new ≡ old)
-same_counted old new (Ok chunk) still reads = tt
-same_counted old new (Err error) still reads = ap (λ p. counted p new.reads) still ∙ ap (counted old.pool) reads
-
 -- all that a request says by the value
 pub TakesBucket-is : (old : CountedPool) (layout : Layout) (answer : Result Chunk AllocationError) (new : CountedPool)
     (words : ℕ) → IsPool old.pool → old.reads ≤ words → Takes old.pool layout answer new.pool →
     new.reads ≡ reads_of old.pool.geometry.bucket words layout → TakesBucket old layout answer new words
-TakesBucket-is old layout answer new words is most takes reads =
+TakesBucket-is old layout (Ok chunk) new words is most (i, within, lacks, given, after) reads =
+    let pool = old.pool in
+    let at : chunk.place ≡ bucket_place pool.geometry i = ap (λ (c : Chunk). c.place) given in
+    let differ : (place : ℕ) (there : HoldsPlace pool place) → (bucket_held_at pool place there).0 ≢ i = λ place there same.
+    let e : Some true ≡ Some false =
+    sym (bucket_held_at pool place there).1 ∙ (ap (slice_get pool.held) same ∙ lacks) in cc in
+    record {
+      taken = (i, within, lacks, given, after);
+      accepted = (λ ok. (within, (i, lacks)), λ may. refl);
+      still = tt;
+      was_free = λ there. let holds = bucket_held_at pool chunk.place there in
+          differ chunk.place there (one_bucket pool.geometry is.geometry holds.0 i (sym holds.2 ∙ at));
+      apart = λ place there. let holds = bucket_held_at pool place there in elim (cases_lt holds.0 i) [
+        | inl below ↦ inl (omega (arith, bucket_place-after pool.geometry holds.0 i below, at, holds.2))
+        | inr above ↦
+            let more : i < holds.0 = omega (arith, above, differ place there) in
+            inr (omega (arith, bucket_place-after pool.geometry i holds.0 more, at, holds.2))
+      ];
+      still_held = Takes-still_held pool layout (Ok chunk) new.pool (i, within, lacks, given, after);
+      bucket_aligned = ap (λ (c : Chunk). c.place % pool.geometry.bucket.align) given ∙ bucket_place-aligned pool.geometry i;
+      one_read = λ _ some. reads ∙ reads_one pool.geometry.bucket words layout within some;
+      uncounted = λ zero. omega (arith, zero, reads, reads_few pool.geometry.bucket words layout, most);
+      unchanged = λ zero. tt;
+    }
+TakesBucket-is old layout (Err error) new words is most takes reads =
     let none : words ≡ 0 → new.reads ≡ old.reads =
     λ zero. omega (arith, zero, reads, reads_few old.pool.geometry.bucket words layout, most) in
-    let still = Takes-still old.pool layout answer new.pool takes in
+    let (still, why) = refused old.pool layout error new.pool is takes in
     record {
       taken = takes;
-      accepted = Takes-accepted old.pool layout answer new.pool is takes;
+      accepted = (λ ok. absurd (cc), λ may. absurd (why may.0 may.1.0 may.1.1));
       still = still;
-      was_free = Takes-was_free old.pool layout answer new.pool is takes;
-      apart = Takes-apart old.pool layout answer new.pool takes;
-      still_held = Takes-still_held old.pool layout answer new.pool takes;
-      bucket_aligned = Takes-bucket_aligned old.pool layout answer new.pool takes;
+      was_free = tt;
+      apart = tt;
+      still_held = λ place holds. subst (λ (p : Pool). HoldsPlace p place) (sym still) holds;
+      bucket_aligned = tt;
       one_read = λ within some. reads ∙ reads_one old.pool.geometry.bucket words layout within some;
       uncounted = none;
-      unchanged = λ zero. same_counted old new answer still (none zero);
+      unchanged = λ zero. ap (λ p. counted p new.reads) still ∙ ap (counted old.pool) (none zero);
     }
 
 -- RELEASES

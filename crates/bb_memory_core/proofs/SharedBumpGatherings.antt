@@ -20,9 +20,8 @@ use Rattle.bb_memory_core.specs.SharedBump.{meeting_at, seen_by}
 use Rattle.bb_memory_core.specs.SharedBumpRule.{IsPartySeat, NumberedLog, SeatView, gathered, meeting_of, met_by, numbered_of}
 use Rattle.bb_memory_core.specs.SharedBumpRule.{party_in, scene_of, sight}
 use Rattle.bb_memory_core.specs.SharedBumpSteps.{TellsMeeting}
-use Rattle.bb_memory_core.proofs.PartyNumbers.{has_number, logs_had, numbers_differ, owner}
+use Rattle.bb_memory_core.proofs.PartyNumbers.{all_there, has_number, logs_had, numbers_differ, owner}
 use Rattle.bb_memory_core.proofs.Contained.{contains-none}
-use Rattle.bb_memory_core.proofs.Seatings.{all_there}
 use Rattle.bb_memory_core.proofs.SharedBumpParties.{party_seat}
 
 -- GATHERING

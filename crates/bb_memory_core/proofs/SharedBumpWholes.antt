@@ -1,8 +1,7 @@
 -- What all parties of a bump have who met.
-use Rattle.std.proofs.Common.{◌≡◌, ◌≢◌, Some, ℕ, List, [], ◌∷◌, length, refl, sym, ap, ◌∙◌, subst, arith, true, inl, inr}
+use Rattle.std.proofs.Common.{◌≡◌, ◌≢◌, Some, ℕ, List, [], ◌∷◌, length, refl, true}
 use Rattle.std.specs.Prelude.{Any, Contains, slice_get}
 use Rattle.std.specs.List.{All, AllByRecursion}
-use Rattle.std.proofs.lemmas.Bool.{cases_lt}
 use Rattle.std.proofs.lemmas.List.Elements.{All-contains, All-contains_itself, All-from_recursion, All-weaker}
 use Rattle.bb_memory_base.specs.Chunk.{Region, Chunk}
 use Rattle.bb_memory_base.specs.BumpObject.{StandsFor}
@@ -17,7 +16,7 @@ use Rattle.bb_memory_base.proofs.BumpPositions.{interleaving_stands}
 use Rattle.bb_memory_base.proofs.BumpSteps.{step_view}
 use Rattle.bb_memory_base.proofs.BumpWholes.{owner_of}
 use Rattle.bb_memory_core.specs.SharedBump.{AgreeAt, BumpParty, HaveChunksApart, IsSharedScene}
-use Rattle.bb_memory_core.proofs.Contained.{any_contained, contains-filter, contains_at, contains-none, one_of_figure}
+use Rattle.bb_memory_core.proofs.Contained.{contains_at, stands_in_log}
 use Rattle.bb_memory_core.proofs.SharedBumpHistories.{held_in_list}
 
 -- the entry is that of a step of some party
@@ -77,19 +76,8 @@ module _ (scene : BumpScene) (position : ℕ) (parties : List BumpParty) (met : 
   numbered : (entry : BumpEntry) (number : ℕ) → length parties ≡ scene.parties → Contains history entry →
       is_by number entry.step ≡ true → Any (λ party. Contains party.log entry) parties
   numbered entry number all there by =
-      let kept = contains-filter (λ (other : BumpEntry). is_by number other.step) history entry there by in
-      elim (cases_lt number scene.parties) [
-        | inl below ↦
-            let one = one_of_figure (λ (party : BumpParty). party.number) parties number ((met.whole all).0 number below) in
-            let logged = All-contains (λ (party : BumpParty). log_of scene steps party.number ≡ party.log) parties one.one
-            met_logged one.there in
-            let log : log_of scene steps number ≡ one.one.log = ap (log_of scene steps) (sym one.its) ∙ logged in
-            any_contained (λ (party : BumpParty). Contains party.log entry) parties one.one one.there
-            (subst (λ (l : BumpLog). Contains l entry) log kept)
-        | inr past ↦
-            let none = nobody_else scene steps number (omega arith) met.agree.allowed in
-            absurd (contains-none entry (subst (λ (l : BumpLog). Contains l entry) none kept))
-      ]
+      stands_in_log (λ (party : BumpParty). party.number) (λ party. party.log) (λ n other. is_by n other.step) history scene.parties
+      parties (met.whole all).0 met_logged (λ n past. nobody_else scene steps n past met.agree.allowed) entry number there by
 
   -- each step is in the log of one that met
   pub met_nobody_else : length parties ≡ scene.parties → All (λ entry. Any (λ party. Contains party.log entry) parties) history

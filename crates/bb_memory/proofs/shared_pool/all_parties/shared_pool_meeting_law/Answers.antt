@@ -1,13 +1,16 @@
+use Rattle.bb_memory_base.proofs.PoolRuns.{pool_run, run_is_sound}
 use Rattle.bb_memory.proofs.SharedPoolWholes.{met_apart, met_flags, met_was_detached, met_held, met_detached, met_logged}
-use Rattle.bb_memory.proofs.SharedPoolWholes.{met_nobody_else, met_run, met_sound}
+use Rattle.bb_memory.proofs.SharedPoolWholes.{met_nobody_else}
 use Rattle.bb_memory.proofs.SharedPoolWholes.{one_took, refused_took_none}
 use Rattle.bb_memory.proofs.shared_pool.all_parties.shared_pool_meeting_law.Goals as goal
 
 pub returns-clause-run : goal.returns-clause-run
-returns-clause-run c = met_run
+returns-clause-run c = λ scene parties met layouts shared asked.
+    pool_run scene met.1.agree.steps layouts shared.geometry asked
 
 pub returns-clause-sound : goal.returns-clause-sound
-returns-clause-sound c = met_sound
+returns-clause-sound c = λ scene parties met layouts live shared run.
+    run_is_sound scene met.1.agree.steps layouts live shared.geometry run
 
 pub returns-clause-flags : goal.returns-clause-flags
 returns-clause-flags c = met_flags
