@@ -5,12 +5,6 @@ use Rattle.bb_memory_c.specs.SharedPools.{IsIdleAt, PoolParties}
 use Rattle.bb_memory_c.proofs.Unjoined.{one-more}
 use Rattle.bb_memory_c.proofs.shared_pool.PoolPartiesSharesJoinedPool.take_back.Goals as goal
 
-pub push_reserved-requires : goal.push_reserved-requires
-push_reserved-requires c =
-    let parties = ap (λ (s : PoolParties). length s.parties) c.self.view_is in
-    let scene = ap (λ (s : PoolParties). s.shared.scene.parties) c.self.view_is in
-    omega (arith, parties, scene, c.requires.out, c.self.invariant.room)
-
 pub invariant_of-self : goal.invariant_of-self
 invariant_of-self c =
     let pool = arc_value c.self.inside.pool in
