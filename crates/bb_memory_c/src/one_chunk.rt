@@ -5,7 +5,7 @@ ghost use Rattle.bb_memory.specs.OneChunk.{one_chunk_of};
 ghost use Rattle.bb_memory_base.specs.OneChunkObject.{MayGrow, MayShrink, reserved_at};
 ghost use Rattle.bb_memory_c.specs.Answers.{AnswersStill, TellsOfLayouts, TellsResized, grow_code, shrink_code};
 ghost use Rattle.bb_memory_c.specs.Calls.{AnswersFree, AnswersInfo, AnswersMake, AnswersRequest, AnswersResize};
-ghost use Rattle.bb_memory_c.specs.Calls.{AnswersReturn, AnswersWhether, resize};
+ghost use Rattle.bb_memory_c.specs.Calls.{AnswersReturn, AnswersWhether};
 ghost use Rattle.bb_memory_c.specs.Infos.{ShowsOneChunk};
 ghost use Rattle.bb_memory_c.specs.OneChunks.{Allocates};
 
@@ -117,7 +117,7 @@ pub extern "C" fn bb_one_chunk_grow(
     new_align: usize,
 ) -> Answer
     ensures { AnswersResize handle.old.value handle.new.value
-        (resize old_size old_align new_size new_align) result (λ one from to.
+        old_size old_align new_size new_align result (λ one from to.
         TellsResized (one.kept ≡ Some place) (place % from.align ≡ 0) grow_code
         (MayGrow one.region place from to) result) }
 {
@@ -158,7 +158,7 @@ pub extern "C" fn bb_one_chunk_shrink(
     new_align: usize,
 ) -> Answer
     ensures { AnswersResize handle.old.value handle.new.value
-        (resize old_size old_align new_size new_align) result (λ one from to.
+        old_size old_align new_size new_align result (λ one from to.
         TellsResized (one.kept ≡ Some place)
         ((place % from.align ≡ 0) × (from.size ≤ reserved_at one.region place)) shrink_code
         (MayShrink place from to) result) }
