@@ -146,7 +146,7 @@ pub struct Joining {
     pub destroy: ffi::Destroy,
 }
 
-/// What threads share. A pool has a party of its own, which gives back buckets that nobody attaches.
+/// A bump or a pool that threads share. A pool has a party of its own, which gives back buckets that nobody attaches.
 pub struct Common<'region> {
     pub keeper: Option<Owned<'region>>,
     pub owned: Owned<'region>,

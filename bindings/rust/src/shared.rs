@@ -1,4 +1,4 @@
-//! What threads share: each thread is a party, which joins, and leaves when it is dropped.
+//! Bumps and pools that threads share: each thread is a party, which joins, and leaves when it is dropped.
 use crate::allocator::{Pool, base, buckets, figures, over_region, shown};
 use crate::error::{
     AllocationError, DeallocationError, DetachError, InitError, JoinError, ResetError,

@@ -4,9 +4,7 @@ pub mod Passing
 pub mod Looking
 pub mod Owners
 pub mod Crossing
-pub mod HeldFlags
 pub mod Leaving
-pub mod Unjoined
 pub mod Layouts
 pub mod Made
 pub mod Makers

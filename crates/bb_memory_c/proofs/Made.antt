@@ -44,8 +44,3 @@ answers made is after becomes told = record {
   made = at_made _ _ made is (after, becomes, told);
   empty = λ none. absurd (not_both _ made is none);
 }
-
--- and where nothing is
-pub answers-none : {X : Type 0} {old new : Option X} {refused : Type 0} {tells : X → X → Type 0} → old ≡ None → refused
-    → new ≡ old → Answers old new refused tells
-answers-none none so still = record { made = at_none _ _ none; empty = λ _. (so, still) }

@@ -7,7 +7,7 @@ use Rattle.bb_memory_base.specs.Chunk.{Region}
 use Rattle.bb_memory_base.specs.declared.layout.Layout.{Layout}
 use Rattle.bb_memory.specs.Pool.{MayBeCut}
 use Rattle.bb_memory_c.specs.Calls.{AnswersPoolMake}
-use Rattle.bb_memory_c.specs.Codes.{already_initialized, invalid_argument, ok, malloc_refused, no_bucket, invalid_layout}
+use Rattle.bb_memory_c.specs.Codes.{invalid_argument, ok, malloc_refused, no_bucket, invalid_layout}
 use Rattle.bb_memory_c.specs.Layouts.{CannotCut, IsOf}
 use Rattle.bb_memory_c.proofs.Layouts.{cut-or-not, is_layout, same_of}
 
@@ -20,20 +20,6 @@ is_empty (Some x) told made is = absurd (false≢true (sym is ∙ made.1 (λ wro
 pub neither : {X : Type 0} {one two : ℕ} (code third : ℕ) → (code ≢ one → code ≡ two) → third ≢ one → third ≢ two →
     code ≡ third → X
 neither code third either not_one not_two is = absurd (not_two (sym is ∙ either (λ one. not_one (sym is ∙ one))))
-
--- there is one already
-pub made-already : {X : Type 0} {old new : Option X} {size align : ℕ} {may room : Layout → Type 0}
-    {fresh : Layout → Option X → Type 0} → old ≢ None → new ≡ old →
-    AnswersPoolMake old new size align already_initialized may room fresh
-made-already some still = record {
-  made = λ wrong. absurd (cc);
-  held_one = (λ _. some, λ _. refl);
-  no_layout = (λ wrong. absurd (cc), λ no. absurd (some no.0));
-  cannot = (λ wrong. absurd (cc), λ no. absurd (some no.0));
-  no_room = (λ wrong. absurd (cc), λ no. absurd (some no.0));
-  else_memory = λ _ no _ _ _. absurd (no refl);
-  still = λ _. still;
-}
 
 module _ {X : Type 0} {old new : Option X} {size align : ℕ} {may room : Layout → Type 0} {fresh : Layout → Option X → Type 0}
     (none : old ≡ None) where

@@ -1,5 +1,5 @@
 -- What C sees of an answer.
-use Rattle.std.specs.Prelude.{◌≡◌, ◌≤◌, ◌%◌, ℕ, Option, Some, None, Result, Ok, Err}
+use Rattle.std.specs.Prelude.{◌≡◌, ℕ, Option, Some, None, Result, Ok, Err}
 use Rattle.bb_memory_base.specs.Chunk.{Chunk}
 use Rattle.bb_memory_base.specs.declared.layout.Layout.{Layout}
 use Rattle.bb_memory_base.specs.declared.allocator.AllocationError.{AllocationError}
@@ -26,9 +26,12 @@ code_of AlignmentFailure = alignment_failure
 code_of OutOfMemory = out_of_memory
 
 -- the chunk, or the code of the error
+abbrev pub answer_by : {E : Type 0} → (E → ℕ) → Result Chunk E → Answer
+answer_by code (Ok chunk) = record { code = ok; place = chunk.place; len = chunk.len }
+answer_by code (Err error) = refused (code error)
+
 abbrev pub answer_of : Result Chunk AllocationError → Answer
-answer_of (Ok chunk) = record { code = ok; place = chunk.place; len = chunk.len }
-answer_of (Err error) = refused (code_of error)
+answer_of = answer_by code_of
 
 -- the number that was asked for
 abbrev pub figure_of : ℕ → Figure
@@ -45,44 +48,16 @@ grow_code grow.GrowWouldShrink = grow_would_shrink
 grow_code grow.AlignmentFailure = alignment_failure
 grow_code grow.OutOfMemory = more_than_reserved
 
-abbrev pub grow_answer : Result Chunk AllocationGrowError → Answer
-grow_answer (Ok chunk) = record { code = ok; place = chunk.place; len = chunk.len }
-grow_answer (Err error) = refused (grow_code error)
-
 abbrev pub shrink_code : AllocationShrinkError → ℕ
 shrink_code shrink.ShrinkWouldGrow = shrink_would_grow
 shrink_code shrink.AlignmentFailure = alignment_failure
 shrink_code shrink.SizeIsZero = size_is_zero
 
-abbrev pub shrink_answer : Result Chunk AllocationShrinkError → Answer
-shrink_answer (Ok chunk) = record { code = ok; place = chunk.place; len = chunk.len }
-shrink_answer (Err error) = refused (shrink_code error)
-
--- a chunk is held at the place, which is a multiple of its old alignment
-pub record MayGrowAt (held : Type 0) (place : ℕ) (old : Layout) : Type 0 where
-  pub is_held : held
-  pub aligned : place % old.align ≡ 0
-
--- and the old size is at most what is reserved for it
-pub record MayShrinkAt (held : Type 0) (place reserved : ℕ) (old : Layout) : Type 0 where
-  pub is_held : held
-  pub aligned : place % old.align ≡ 0
-  pub short : old.size ≤ reserved
-
--- What C is told where the chunk at a place is to grow: what may be answered, where it may.
-pub record TellsGrow (held : Type 0) (place : ℕ) (old : Layout)
-    (may : Result Chunk AllocationGrowError → Type 0) (told : Answer) : Type 0 where
-  pub answered : MayGrowAt held place old
-      → (answer : Result Chunk AllocationGrowError) × (told ≡ grow_answer answer) × may answer
-  pub misfit : held → ¬ MayGrowAt held place old → told ≡ refused layout_mismatch
-  pub nothing : ¬ held → told ≡ refused not_held
-
--- The same where it is to shrink.
-pub record TellsShrink (held : Type 0) (place reserved : ℕ) (old : Layout)
-    (may : Result Chunk AllocationShrinkError → Type 0) (told : Answer) : Type 0 where
-  pub answered : MayShrinkAt held place reserved old
-      → (answer : Result Chunk AllocationShrinkError) × (told ≡ shrink_answer answer) × may answer
-  pub misfit : held → ¬ MayShrinkAt held place reserved old → told ≡ refused layout_mismatch
+-- What C is told where the chunk at a place is to be resized: what may be answered, where the place and the old layout fit.
+pub record TellsResized {E : Type 0} (held fits : Type 0) (code : E → ℕ) (may : Result Chunk E → Type 0) (told : Answer)
+    : Type 0 where
+  pub answered : held → fits → (answer : Result Chunk E) × (told ≡ answer_by code answer) × may answer
+  pub misfit : held → ¬ fits → told ≡ refused layout_mismatch
   pub nothing : ¬ held → told ≡ refused not_held
 
 -- this is answered, and all stays

@@ -80,25 +80,16 @@ AnswersReturn old new code holds frees =
 
 -- RESIZES: all stays
 
--- two sizes with their alignments, the old one first
-pub record Resize : Type 0 where
-  pub old_size : ℕ
-  pub old_align : ℕ
-  pub new_size : ℕ
-  pub new_align : ℕ
+-- C is told so of the layouts of these numbers, the old ones first, and else that they make none
+pub record TellsResize (old_size old_align new_size new_align : ℕ) (told : Answer) (tells : Layout → Layout → Type 0)
+    : Type 0 where
+  pub answered : (from to : Layout) → IsOf old_size old_align from × IsOf new_size new_align to → tells from to
+  pub no_layout : ¬ (IsLayout old_size old_align × IsLayout new_size new_align) → told ≡ refused invalid_layout
 
-abbrev pub resize : ℕ → ℕ → ℕ → ℕ → Resize
-resize old_size old_align new_size new_align =
-    record { old_size = old_size; old_align = old_align; new_size = new_size; new_align = new_align }
-
--- C is told so of the layouts of these numbers, and else that they make none
-pub record TellsResize (by : Resize) (told : Answer) (tells : Layout → Layout → Type 0) : Type 0 where
-  pub answered : (from to : Layout) → IsOf by.old_size by.old_align from × IsOf by.new_size by.new_align to → tells from to
-  pub no_layout : ¬ (IsLayout by.old_size by.old_align × IsLayout by.new_size by.new_align) → told ≡ refused invalid_layout
-
-abbrev pub AnswersResize : {X : Type 0} → Option X → Option X → Resize → Answer → (X → Layout → Layout → Type 0) → Type 0
-AnswersResize old new by told tells =
-    Answers old new (told ≡ refused uninitialized) (λ made after. TellsResize by told (tells made) × (after ≡ made))
+abbrev pub AnswersResize : {X : Type 0} → Option X → Option X → ℕ → ℕ → ℕ → ℕ → Answer → (X → Layout → Layout → Type 0) → Type 0
+AnswersResize old new old_size old_align new_size new_align told tells =
+    Answers old new (told ≡ refused uninitialized)
+    (λ made after. TellsResize old_size old_align new_size new_align told (tells made) × (after ≡ made))
 
 -- MAKING AND FREEING
 

@@ -1,6 +1,6 @@
 //! What C sees of an answer.
 ghost use Rattle.std.specs.Prelude.{◌≡◌, if◌then◌else◌};
-ghost use Rattle.bb_memory_c.specs.Answers.{answer_of, figure_of, grow_answer, no_figure, refused, shrink_answer};
+ghost use Rattle.bb_memory_c.specs.Answers.{answer_by, answer_of, figure_of, grow_code, no_figure, refused, shrink_code};
 
 use crate::code;
 use bb_memory::allocator::{AllocationError, AllocationGrowError, AllocationShrinkError};
@@ -85,7 +85,7 @@ impl Answer {
 
     /// What a grow was answered.
     pub(crate) fn of_grow(answer: Result<Chunk, AllocationGrowError>) -> Answer
-        ensures { result ≡ grow_answer answer }
+        ensures { result ≡ answer_by grow_code answer }
     {
         match answer {
             Ok(chunk) => Answer {
@@ -103,7 +103,7 @@ impl Answer {
 
     /// What a shrink was answered.
     pub(crate) fn of_shrink(answer: Result<Chunk, AllocationShrinkError>) -> Answer
-        ensures { result ≡ shrink_answer answer }
+        ensures { result ≡ answer_by shrink_code answer }
     {
         match answer {
             Ok(chunk) => Answer {

@@ -1,11 +1,11 @@
 //! A one-chunk allocator behind a handle.
-ghost use Rattle.std.specs.Prelude.{◌≡◌, None, Some};
+ghost use Rattle.std.specs.Prelude.{◌≡◌, ◌≤◌, ◌%◌, None, Some};
 ghost use Rattle.bb_memory_base.specs.Chunk.{IsRegion, region_at};
 ghost use Rattle.bb_memory.specs.OneChunk.{one_chunk_of};
 ghost use Rattle.bb_memory_base.specs.OneChunkObject.{MayGrow, MayShrink, reserved_at};
-ghost use Rattle.bb_memory_c.specs.Answers.{AnswersStill, TellsGrow, TellsOfLayouts, TellsShrink};
+ghost use Rattle.bb_memory_c.specs.Answers.{AnswersStill, TellsOfLayouts, TellsResized, grow_code, shrink_code};
 ghost use Rattle.bb_memory_c.specs.Calls.{AnswersFree, AnswersInfo, AnswersMake, AnswersRequest, AnswersResize};
-ghost use Rattle.bb_memory_c.specs.Calls.{AnswersReturn, AnswersWhether, resize};
+ghost use Rattle.bb_memory_c.specs.Calls.{AnswersReturn, AnswersWhether};
 ghost use Rattle.bb_memory_c.specs.Infos.{ShowsOneChunk};
 ghost use Rattle.bb_memory_c.specs.OneChunks.{Allocates};
 
@@ -91,7 +91,7 @@ pub extern "C" fn bb_one_chunk_info(handle: &mut OneChunkHandle, to: &mut OneChu
 /// Checks that the chunk at this place is held and fits the old layout, then grows it.
 fn grow(one: &mut OneChunkAllocator, place: usize, layouts: Option<(Layout, Layout)>) -> Answer
     ensures { AnswersStill one.old one.new (TellsOfLayouts layouts result (λ from to.
-        TellsGrow (one.old.kept ≡ Some place) place from
+        TellsResized (one.old.kept ≡ Some place) (place % from.align ≡ 0) grow_code
         (MayGrow one.old.region place from to) result)) }
 {
     let Some((from, to)) = layouts else {
@@ -117,8 +117,8 @@ pub extern "C" fn bb_one_chunk_grow(
     new_align: usize,
 ) -> Answer
     ensures { AnswersResize handle.old.value handle.new.value
-        (resize old_size old_align new_size new_align) result (λ one from to.
-        TellsGrow (one.kept ≡ Some place) place from
+        old_size old_align new_size new_align result (λ one from to.
+        TellsResized (one.kept ≡ Some place) (place % from.align ≡ 0) grow_code
         (MayGrow one.region place from to) result) }
 {
     let layouts = layouts_of(old_size, old_align, new_size, new_align);
@@ -131,7 +131,8 @@ pub extern "C" fn bb_one_chunk_grow(
 /// Checks that the chunk at this place is held and fits the old layout, then shrinks it.
 fn shrink(one: &mut OneChunkAllocator, place: usize, layouts: Option<(Layout, Layout)>) -> Answer
     ensures { AnswersStill one.old one.new (TellsOfLayouts layouts result (λ from to.
-        TellsShrink (one.old.kept ≡ Some place) place (reserved_at one.old.region place) from
+        TellsResized (one.old.kept ≡ Some place)
+        ((place % from.align ≡ 0) × (from.size ≤ reserved_at one.old.region place)) shrink_code
         (MayShrink place from to) result)) }
 {
     let Some((from, to)) = layouts else {
@@ -157,8 +158,9 @@ pub extern "C" fn bb_one_chunk_shrink(
     new_align: usize,
 ) -> Answer
     ensures { AnswersResize handle.old.value handle.new.value
-        (resize old_size old_align new_size new_align) result (λ one from to.
-        TellsShrink (one.kept ≡ Some place) place (reserved_at one.region place) from
+        old_size old_align new_size new_align result (λ one from to.
+        TellsResized (one.kept ≡ Some place)
+        ((place % from.align ≡ 0) × (from.size ≤ reserved_at one.region place)) shrink_code
         (MayShrink place from to) result) }
 {
     let layouts = layouts_of(old_size, old_align, new_size, new_align);

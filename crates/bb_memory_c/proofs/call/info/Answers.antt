@@ -1,11 +1,8 @@
 use Rattle.std.proofs.Common.{refl}
-use Rattle.bb_memory_c.proofs.Made.{at_lent, answers, answers-none}
+use Rattle.bb_memory_c.proofs.Made.{at_lent, answers}
 use Rattle.bb_memory_c.proofs.call.info.Goals as goal
 
 pub returns-in-Some : goal.returns-in-Some
 returns-in-Some g c =
     answers _ c.in-Some.ensures.value _ (at_lent _ _ c.in-Some.is (c.made_mut.follows.holds c.show.new.self))
     (refl, c.show.ensures)
-
-pub returns-in-None : goal.returns-in-None
-returns-in-None g c = answers-none c.in-None.ensures.value (refl, refl) c.made_mut.follows.holds-at-none

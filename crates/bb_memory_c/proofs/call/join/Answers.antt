@@ -1,21 +1,8 @@
-use Rattle.std.proofs.Common.{◌∙◌, refl, rules}
-use Rattle.bb_memory_c.proofs.Made.{at_lent, answers, answers-none}
+use Rattle.std.proofs.Common.{◌∙◌, rules}
+use Rattle.bb_memory_c.proofs.Made.{at_lent, answers}
 use Rattle.bb_memory_c.proofs.Makers.{is_empty}
 use Rattle.bb_memory_c.proofs.Joining.{dealt, none-dealt}
 use Rattle.bb_memory_c.proofs.call.join.Goals as goal
-
-pub returns-then-is_made : goal.returns-then-is_made
-returns-then-is_made g c = let some = c.is_made.ensures.value.0 c.if-is_made.true in
-    record { held_one = λ _. (refl, refl, c.is_made.ensures.still); joins = λ none. absurd (some none) }
-
-pub returns-in_default : goal.returns-in_default
-returns-in_default g c = let none = is_empty _ _ c.is_made.ensures.value c.if-is_made.false in record {
-  held_one = λ some. absurd (some none);
-  joins = λ _. answers-none c.in_default.ensures.value (refl, c.is_made.ensures.still ∙ none) c.made_mut.follows.holds-at-none;
-}
-
-pub put-requires : goal.put-requires
-put-requires g c = c.is_made.ensures.still ∙ is_empty _ _ c.is_made.ensures.value c.if-is_made.false
 
 pub returns-in-Ok : goal.returns-in-Ok
 returns-in-Ok g c = let none = is_empty _ _ c.is_made.ensures.value c.if-is_made.false in record {

@@ -1,5 +1,5 @@
 use Rattle.std.proofs.Common.{rules, refl, ◌∙◌, Some, ap, sym, subst}
-use Rattle.bb_memory_c.proofs.Made.{at_made, at_lent, at_none, of_made}
+use Rattle.bb_memory_c.proofs.Made.{at_made, at_lent, at_none}
 use Rattle.bb_memory_c.proofs.call.leave.Goals as goal
 
 pub returns-in_default-take : goal.returns-in_default-take
@@ -9,11 +9,6 @@ returns-in_default-take g c = let is = c.in-Some.ensures.value in
       empty = λ _. refl;
       still = search rules;
     }
-
-pub take_back-requires : goal.take_back-requires
-take_back-requires g c =
-    subst (λ party. g.H.Made.Shares.is_at c.in-Some.shared.now party) (sym c.into_inner.ensures)
-    (of_made _ _ _ c.in-Some-take.ensures.value (of_made _ _ _ c.in-Some.ensures.value c.requires))
 
 pub returns : goal.returns
 returns g c = let is = c.in-Some.ensures.value in let party_is = c.in-Some-take.ensures.value in

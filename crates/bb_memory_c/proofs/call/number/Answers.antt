@@ -1,5 +1,5 @@
 use Rattle.std.proofs.Common.{rules, refl}
-use Rattle.bb_memory_c.proofs.Made.{at_lent, answers, answers-none}
+use Rattle.bb_memory_c.proofs.Made.{at_lent, answers}
 use Rattle.bb_memory_c.proofs.call.number.Goals as goal
 
 pub returns-in-Some-number_of : goal.returns-in-Some-number_of
@@ -11,6 +11,3 @@ pub returns-in-None : goal.returns-in-None
 returns-in-None g c =
     answers _ c.in-Some.ensures.value _ (at_lent _ _ c.in-Some.is (c.made_mut.follows.holds _))
     (record { there = search rules; none = search rules }, refl)
-
-pub returns-in_default : goal.returns-in_default
-returns-in_default g c = answers-none c.in_default.ensures.value c.refusal.ensures c.made_mut.follows.holds-at-none

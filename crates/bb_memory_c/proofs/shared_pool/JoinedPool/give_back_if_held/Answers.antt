@@ -1,14 +1,6 @@
-use Rattle.std.proofs.Common.{arith}
-use Rattle.std.proofs.lemmas.Grind.{elements}
 use Rattle.std.specs.Arc.{arc_value}
 use Rattle.bb_memory_c.proofs.Leaving.{none-returned, unset-flag}
 use Rattle.bb_memory_c.proofs.shared_pool.JoinedPool.give_back_if_held.Goals as goal
-
-pub give_back_bucket-requires : goal.give_back_bucket-requires
-give_back_bucket-requires c = grind (arith, elements)
-
-pub returns-then-is_held : goal.returns-then-is_held
-returns-then-is_held c = grind (arith, elements)
 
 pub returns-else-is_held : goal.returns-else-is_held
 returns-else-is_held c =
