@@ -79,18 +79,9 @@ pub one_cause : (geometry : PoolGeometry) (live : List Chunk) (layout : Layout) 
 one_cause geometry live layout SizeTooLarge SizeTooLarge first second = refl
 one_cause geometry live layout AlignmentFailure AlignmentFailure first second = refl
 one_cause geometry live layout OutOfMemory OutOfMemory first second = refl
-one_cause geometry live layout SizeTooLarge AlignmentFailure first second = absurd (omega (arith, first, second.0))
-one_cause geometry live layout AlignmentFailure SizeTooLarge first second = absurd (omega (arith, first.0, second))
-one_cause geometry live layout SizeTooLarge OutOfMemory first second =
-    absurd (let small = second.0.size in omega (arith, first))
-one_cause geometry live layout OutOfMemory SizeTooLarge first second =
-    absurd (let small = first.0.size in omega (arith, second))
-one_cause geometry live layout AlignmentFailure OutOfMemory first second =
-    absurd (let fine = second.0.align in omega (arith, first.1))
-one_cause geometry live layout OutOfMemory AlignmentFailure first second =
-    absurd (let fine = first.0.align in omega (arith, second.1))
 one_cause geometry live layout SizeIsZero other first second = absurd first
 one_cause geometry live layout one SizeIsZero first second = absurd second
+one_cause geometry live layout one other first second = absurd (grind (arith, first, second))
 
 -- where a chunk may be given, there is no refusal
 pub given_or_refused : (geometry : PoolGeometry) (live : List Chunk) (layout : Layout) (chunk : Chunk)

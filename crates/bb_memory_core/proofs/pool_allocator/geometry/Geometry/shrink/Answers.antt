@@ -7,17 +7,16 @@ use Rattle.bb_memory_core.proofs.Cuts.{some-if, some-value}
 use Rattle.bb_memory_core.proofs.Measures.{placed-chunk, placed-inside}
 use Rattle.bb_memory_core.proofs.pool_allocator.geometry.Geometry.shrink.Goals as goal
 
+abbrev its_geometry : (c : goal.After-new) → PoolGeometry
+its_geometry c = pool_geometry (region_at c.self.inside.region_start c.self.inside.region_size) c.self.inside.bucket
+    c.self.inside.buckets
+
 pub unwrap-requires : goal.unwrap-requires
 unwrap-requires c =
-    let inside = c.self.inside in
-    let geometry : PoolGeometry =
-    pool_geometry (region_at inside.region_start inside.region_size) inside.bucket inside.buckets in
     let at = rw (← c.self.view_is) at c.requires.place in
     let reserved = rw (← c.self.view_is) at c.requires.reserved in
-    let short : c.size-3.result ≤ inside.bucket.size = omega arith in
-    let chunk =
-    placed-chunk geometry inside.first inside.stride inside.shift c.self.invariant c.args.place c.size-3.result at short in
-    some-if c.new.result _ _ c.new.ensures chunk
+    some-if c.new.result _ _ c.new.ensures (placed-chunk (its_geometry c) c.self.inside.first c.self.inside.stride
+    c.self.inside.shift c.self.invariant c.args.place c.size-3.result at (omega arith))
 
 pub returns-clause-inside : goal.returns-clause-inside
 returns-clause-inside c =
