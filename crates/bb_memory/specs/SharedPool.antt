@@ -43,7 +43,7 @@ pub record PoolParty : Type 0 where
 abbrev pub fresh_party : SharedPool → ℕ → PoolParty
 fresh_party allocator number = record { allocator = allocator; number = number; log = [] }
 
--- these are all parties of a pool, so many, numbered from 0, and none has made a step
+-- all parties of a pool, so many, numbered from 0, and none has made a step
 pub record AreFresh (allocator : SharedPool) (count : ℕ) (parties : List PoolParty) : Type 0 where
   pub so_many : allocator.scene.parties ≡ count
   pub as_many : length parties ≡ count
@@ -64,11 +64,11 @@ pub record TakenBucket : Type 0 where
 abbrev pub taken_bucket : SharedPool → ℕ → ℕ → TakenBucket
 taken_bucket allocator number len = record { allocator = allocator; number = number; len = len }
 
--- the same bucket with another length
+-- the bucket with another length
 abbrev pub resized : TakenBucket → ℕ → TakenBucket
 resized bucket len = taken_bucket bucket.allocator bucket.number len
 
--- its chunk: so many bytes at the bucket's place
+-- the bucket's chunk: so many bytes at the bucket's place
 abbrev pub chunk_of : TakenBucket → Chunk
 chunk_of bucket = record {
   place = bucket_place bucket.allocator.scene.geometry bucket.number;
@@ -96,11 +96,11 @@ taking_pass buckets party bucket =
 abbrev pub refused_pass : ℕ → ℕ → PoolLog
 refused_pass buckets party = losses buckets party buckets
 
--- one return, of this bucket
+-- a single return, of this bucket
 abbrev pub return_entry : ℕ → ℕ → PoolLog
 return_entry party bucket = entry_of (GiveBack party bucket) (Gives bucket) ∷ []
 
--- one step that detaches a bucket, and one that attaches it
+-- a step that detaches a bucket, and a step that attaches it
 abbrev pub detach_entry : ℕ → ℕ → PoolLog
 detach_entry party bucket = entry_of (Detach party bucket) (Detaches bucket) ∷ []
 
@@ -118,7 +118,7 @@ pub record MayTakeBucket (party : PoolParty) (layout : Layout) (bucket : ℕ) : 
 
 -- What a party's request may be answered, and what the party is then.
 abbrev pub MayTake : PoolParty → Layout → Result TakenBucket AllocationError → PoolParty → Type 0
--- one whole pass: it took some bucket
+-- a whole pass, which took some bucket
 MayTake party layout (Ok bucket) new =
     let buckets = party.allocator.scene.geometry.buckets in
     MayTakeBucket party layout bucket.number
@@ -131,12 +131,12 @@ MayTake party layout (Err AlignmentFailure) new =
     (layout.size ≤ party.allocator.scene.geometry.bucket.size)
     × (party.allocator.scene.geometry.bucket.align < layout.align)
     × (new ≡ party)
--- one whole pass: it lost at each bucket
+-- a whole pass, which lost at each bucket
 MayTake party layout (Err OutOfMemory) new =
     let buckets = party.allocator.scene.geometry.buckets in
     IsWithin party.allocator.scene.geometry.bucket layout
     × (new ≡ with_entries party (refused_pass buckets party.number))
--- it never refuses so
+-- a pool never refuses so
 MayTake party layout (Err SizeIsZero) new = ⊥
 
 -- INTERLEAVINGS
@@ -172,7 +172,7 @@ pub record Serves (pool : SharedPool) (old : PoolParty) (layout : Layout) (answe
   pub aligned : IfOk answer (λ bucket. (chunk_of bucket).place % layout.align ≡ 0)
   pub exact_size : IfOk answer (λ bucket. (chunk_of bucket).len ≡ layout.size)
 
--- The same of a search. With one party it is refused exactly where each bucket is held after that party's log.
+-- A request by a next-fit search: with one party it is refused exactly where each bucket is held after that party's log.
 pub record ServesNextFit (pool : SharedPool) (old : PoolParty) (layout : Layout) (answer : Result TakenBucket AllocationError)
     (new : PoolParty) : Type 0 where
   pub serves : Serves pool old layout answer new
@@ -209,7 +209,7 @@ pub record AreBothOf (allocator : SharedPool) (one other : PoolParty) : Type 0 w
   pub a : one.allocator ≡ allocator
   pub b : other.allocator ≡ allocator
 
--- one interleaving has the logs of both parties
+-- an interleaving that has the logs of both parties
 abbrev pub AreInterleaved : PoolParty → PoolParty → Type 0
 AreInterleaved a b = CommonInterleaving a.allocator.scene a.number a.log b.number b.log
 
@@ -220,7 +220,7 @@ abbrev pub HaveAllNumbers : ℕ → List PoolParty → Type 0
 HaveAllNumbers count parties =
     (number : ℕ) → number < count → Contains (map (λ party. party.number) parties) number
 
--- one of these parties holds the bucket
+-- some party of these holds the bucket
 abbrev pub IsHeldByOne : List PoolParty → ℕ → Type 0
 IsHeldByOne parties bucket = Any (λ party. IsHeldAfter party.log bucket) parties
 
@@ -229,11 +229,11 @@ abbrev pub HoldApart : List PoolParty → Type 0
 HoldApart parties = (i j : ℕ) (one other : PoolParty) (bucket : ℕ) → slice_get parties i ≡ Some one
     → slice_get parties j ≡ Some other → i ≢ j → IsHeldAfter one.log bucket → ¬ IsHeldAfter other.log bucket
 
--- one of these parties has detached the bucket
+-- some party of these has detached the bucket
 abbrev pub WasDetachedByOne : List PoolParty → ℕ → Type 0
 WasDetachedByOne parties bucket = Any (λ party. WasDetached party.log bucket) parties
 
--- one of these parties holds the bucket, or it is detached after these steps
+-- some party of these holds the bucket, or it is detached after these steps
 abbrev pub IsHeldOrDetached : PoolScene → List PoolStep → List PoolParty → ℕ → Type 0
 IsHeldOrDetached scene steps parties bucket =
     IsHeldByOne parties bucket ⊎ IsDetached (left_by scene steps) bucket
@@ -247,7 +247,7 @@ IsTaking _ = ⊥
 abbrev pub TookOne : PoolLog → Type 0
 TookOne log = Any (λ entry. IsTaking entry.outcome) log
 
--- one of these parties of the pool took a bucket
+-- some party of these took a bucket of the pool
 pub record HasTaker (scene : PoolScene) (parties : List PoolParty) : Type 0 where
   pub taker : PoolParty
   pub number : taker.number < scene.parties
@@ -269,7 +269,7 @@ pub record AgreeWith (scene : PoolScene) (flags : List Bool) (parties : List Poo
       HaveAllNumbers scene.parties parties
       × ((bucket : ℕ) → (slice_get flags bucket ≡ Some true) ↔ IsHeldOrDetached scene agree.steps parties bucket)
 
--- these parties have met: their logs, and the flags as they were then, agree
+-- parties that have met: their logs, and the flags as they were then, agree
 abbrev pub HaveMet : PoolScene → List PoolParty → Type 0
 HaveMet scene parties = (flags : List Bool) × AgreeWith scene flags parties
 

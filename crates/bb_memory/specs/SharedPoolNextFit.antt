@@ -37,11 +37,11 @@ hint_of party = hint_in party.allocator.scene party.number party.log
 
 -- WHAT CALLS ADD TO A LOG
 
--- one step, which takes this bucket
+-- a step that takes this bucket
 abbrev pub taking_at : ℕ → ℕ → PoolLog
 taking_at party bucket = entry_of (TryAt party bucket) (Takes bucket) ∷ []
 
--- one step, which misses this bucket
+-- a step that misses this bucket
 abbrev pub miss_at : ℕ → ℕ → PoolLog
 miss_at party bucket = entry_of (TryAt party bucket) (Misses bucket) ∷ []
 
@@ -93,12 +93,12 @@ MayTakeFrom first party layout (Err AlignmentFailure) new =
     (layout.size ≤ party.allocator.scene.geometry.bucket.size)
     × (party.allocator.scene.geometry.bucket.align < layout.align)
     × (new ≡ party)
--- one whole search, which missed each bucket
+-- a whole search, which missed each bucket
 MayTakeFrom first party layout (Err OutOfMemory) new =
     let buckets = party.allocator.scene.geometry.buckets in
     IsWithin party.allocator.scene.geometry.bucket layout
     × (new ≡ with_entries party (refused_search buckets party.number first))
--- it never refuses so
+-- a pool never refuses so
 MayTakeFrom first party layout (Err SizeIsZero) new = ⊥
 
 -- WHAT A REFUSED ROUND HAS FOUND

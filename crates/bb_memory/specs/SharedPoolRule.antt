@@ -48,7 +48,7 @@ pub record IsSeatOf (scene : PoolScene) (number : ℕ) (log : PoolLog) (me : Me 
   pub is : me ≡ (alone scene number log, [])
   pub interleaved : Interleaving scene number log
 
--- the same of an idle party
+-- the seat of an idle party
 pub record IsSeatOfIdle (scene : PoolScene) (number : ℕ) (log : PoolLog) (me : Me ℕ SeatView)
     : Type 0 where
   pub seat : IsSeatOf scene number log me
@@ -73,7 +73,7 @@ pub record IsDetachedSeat (bucket len : ℕ) (me : Me ℕ SeatView) : Type 0 whe
 abbrev pub IsSeatAt : SharedPool → TableId → Me ℕ SeatView → Type 0
 IsSeatAt pool here me = IsAt pool.table here (IsSeatOf pool.scene (number_of me.0) (view_log me.0) me)
 
--- the same of an idle party
+-- the seat of an idle party
 abbrev pub IsIdleAt : SharedPool → TableId → Me ℕ SeatView → Type 0
 IsIdleAt pool here me = IsAt pool.table here (IsSeatOfIdle pool.scene (number_of me.0) (view_log me.0) me)
 

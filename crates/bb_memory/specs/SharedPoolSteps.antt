@@ -45,7 +45,7 @@ pub record HasTakenAt (scene : PoolScene) (number : ℕ) (log : PoolLog) (bucket
   pub ended : HasEnded scene number log (taking_at number bucket) new
   pub free : ¬ IsHeldAfter log bucket
 
--- it missed the bucket, which is held after the log of a party that is the only one
+-- an idle party's exchange missed the bucket, which is held after the log of a party that is the only one
 pub record HasMissedAt (scene : PoolScene) (number : ℕ) (log : PoolLog) (bucket : ℕ)
     (new : Me ℕ SeatView) : Type 0 where
   pub ended : HasEnded scene number log (miss_at number bucket) new
@@ -69,7 +69,7 @@ pub record TellsDetach (scene : PoolScene) (number : ℕ) (log : PoolLog) (bucke
       new ≡ (alone_with scene number longer bucket, [])
   pub interleaved : Interleaving scene number (log ++ detach_entry number bucket)
 
--- so it is where the bucket has gone to a seat of its own
+-- a party detached this bucket, which has gone to a seat of its own
 abbrev pub HasDetachedAt : PoolScene → ℕ → PoolLog → ℕ → Me ℕ SeatView → Type 0
 HasDetachedAt scene number log bucket new =
     IsSeatOf scene number (log ++ detach_entry number bucket) new
@@ -143,7 +143,7 @@ pub record HasTaken (scene : PoolScene) (number : ℕ) (log : PoolLog) (new : Me
   pub below : bucket < scene.geometry.buckets
   pub free : ¬ IsHeldAfter log bucket
 
--- it was refused: where the party is the only one, all buckets were held after its log
+-- a refused request: where the party is the only one, all buckets were held after its log
 pub record HasRefused (scene : PoolScene) (number : ℕ) (log : PoolLog) (new : Me ℕ SeatView)
     : Type 0 where
   pub ended : HasEnded scene number log (refused_pass scene.geometry.buckets number) new
@@ -162,7 +162,7 @@ pub record HasTakenFrom (scene : PoolScene) (number : ℕ) (log : PoolLog) (firs
   pub below : bucket < scene.geometry.buckets
   pub free : ¬ IsHeldAfter log bucket
 
--- it was refused: where the party is the only one, all buckets were held after its log
+-- a refused request: where the party is the only one, all buckets were held after its log
 pub record HasRefusedFrom (scene : PoolScene) (number : ℕ) (log : PoolLog) (first : ℕ)
     (new : Me ℕ SeatView) : Type 0 where
   pub ended : HasEnded scene number log

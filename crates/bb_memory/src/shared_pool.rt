@@ -45,7 +45,7 @@ use std::alloc::Global;
 /// Of the two requests, `allocate_next_fit` is the one to begin with: its search begins at the party's hint, so what is held
 /// elsewhere costs it nothing. `allocate` tries the buckets from bucket 0 each time.
 ///
-/// What a call promises is told by the party's log: the list of the atomic steps that the party made, each with what it found.
+/// Each call's promise is told by the party's log: the list of the atomic steps that the party made, each with what it found.
 /// Some interleaving of each party's log with some logs of the others is always one that the pool machine allows. A user who has
 /// all parties is told by `meet_all` that one interleaving has all their logs and no other steps; what follows is
 /// [`shared_pool_meeting_law`].
@@ -117,7 +117,7 @@ impl SharedPoolAllocator {
     }
 }
 
-/// What a user of a shared pool has of each party, and of two that met, whatever the threads did. It does nothing: its
+/// Says what follows for each party of a shared pool, and for two that met, whatever the threads did. It does nothing: its
 /// contract is the law.
 ///
 /// A possible history of a party is an interleaving of its log, as `IsParty` has one: a list of allowed steps from the opening,

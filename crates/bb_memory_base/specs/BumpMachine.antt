@@ -130,7 +130,7 @@ abbrev pub load : BumpState → Option (Option OngoingCall) → BumpMove
 load state (Some None) = record { outcome = Loaded state.position; state = state }
 load state _ = passed state
 
--- one atomic step
+-- an atomic step
 abbrev pub bump_step : Region → BumpState → BumpStep → BumpMove
 bump_step region state (Read party layout) = read region state party layout (slice_get state.calls party)
 bump_step region state (Exchange party) = exchange region state party (slice_get state.calls party)

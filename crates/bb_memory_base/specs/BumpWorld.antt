@@ -17,7 +17,7 @@ world_of start size position calls = record {
   state = record { position = position; calls = calls };
 }
 
--- its position is inside the region, and each call fits at what it has seen
+-- the world's position is inside the region, and each call fits at what it has seen
 pub record IsBumpWorld (world : BumpWorld) : Type 0 where
   pub region : IsRegion world.region
   pub within : world.state.position ≤ world.region.size

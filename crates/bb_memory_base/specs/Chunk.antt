@@ -14,7 +14,7 @@ pub record Chunk : Type 0 where
 abbrev pub chunk_end : Chunk → ℕ
 chunk_end chunk = chunk.place + chunk.len
 
--- its place isn't 0, and its end is a number of the machine
+-- the place isn't 0, and the end is a number of the machine
 pub record IsChunk (chunk : Chunk) : Type 0 where
   pub place : 0 < chunk.place
   pub end : chunk_end chunk < 2 ^ 64

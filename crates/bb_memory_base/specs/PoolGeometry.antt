@@ -25,7 +25,7 @@ bucket_place geometry i = first_place geometry.region geometry.bucket + i * stri
 abbrev pub HasBucket : Region → Layout → ℕ → Type 0
 HasBucket region bucket i = first_place region bucket + (i + 1) * stride bucket ≤ region_end region
 
--- its buckets are just those that the region has room for
+-- the buckets are just those that the region has room for
 abbrev pub FillsRegion : PoolGeometry → Type 0
 FillsRegion geometry = (i : ℕ) → (i < geometry.buckets) ↔ HasBucket geometry.region geometry.bucket i
 

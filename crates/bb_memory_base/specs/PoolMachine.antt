@@ -151,7 +151,7 @@ abbrev pub attach : PoolState → ℕ → ℕ → Option (Option ℕ) → PoolMo
 attach state party bucket (Some None) = attach_flag state party bucket (slice_get state.flags bucket)
 attach state party bucket _ = passed state
 
--- one atomic step
+-- an atomic step
 abbrev pub pool_step : PoolState → PoolStep → PoolMove
 pool_step state (Try party) = try_next state party (slice_get state.calls party)
 pool_step state (GiveBack party bucket) = give_flag state party bucket (slice_get state.flags bucket)

@@ -60,7 +60,7 @@ pub record TellsResized {E : Type 0} (held fits : Type 0) (code : E → ℕ) (ma
   pub misfit : held → ¬ fits → told ≡ refused layout_mismatch
   pub nothing : ¬ held → told ≡ refused not_held
 
--- this is answered, and all stays
+-- an answer by which all stays
 pub record AnswersStill {X : Type 0} (old new : X) (answered : Type 0) : Type 0 where
   pub answer : answered
   pub still : new ≡ old

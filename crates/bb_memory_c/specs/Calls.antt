@@ -93,7 +93,7 @@ AnswersResize old new old_size old_align new_size new_align told tells =
 
 -- MAKING AND FREEING
 
--- One is made behind an empty handle, where it may be made of its numbers and memory isn't refused.
+-- A value is made behind an empty handle, where it may be made of its numbers and memory isn't refused.
 pub record AnswersMake {X : Type 0} (old new : Option X) (code : ℕ) (may : Type 0) (fresh : Option X → Type 0) : Type 0 where
   pub made : code ≡ ok → may × fresh new
   pub held_one : (code ≡ already_initialized) ↔ (old ≢ None)
@@ -101,7 +101,7 @@ pub record AnswersMake {X : Type 0} (old new : Option X) (code : ℕ) (may : Typ
   pub else_memory : code ≢ ok → code ≢ already_initialized → code ≢ invalid_argument → code ≡ malloc_refused
   pub still : code ≢ ok → new ≡ old
 
--- The same of one that is cut into buckets, whose layout is made of two of its numbers, where there is room for one.
+-- A value that is cut into buckets is made so, whose layout is made of two of its numbers, where there is room for one.
 pub record AnswersPoolMake {X : Type 0} (old new : Option X) (size align : ℕ) (code : ℕ) (may room : Layout → Type 0)
     (fresh : Layout → Option X → Type 0) : Type 0 where
   pub made : code ≡ ok → (bucket : Layout) × IsOf size align bucket × may bucket × room bucket × fresh bucket new
@@ -136,7 +136,7 @@ pub record AnswersJoin {X Y : Type 0} (old new : Option X) (old_party new_party 
   pub joins : old_party ≡ None → Answers old new ((code ≡ uninitialized) × (new_party ≡ None))
       (λ made after. TellsJoin made after new_party code left with_party at)
 
--- The same as a result.
+-- A party that joins, as a result.
 pub record TakesParty {X Y : Type 0} (old new : X) (told : Result Y ℕ) (left : X → ℕ) (with_party : X → Y → X)
     (at : X → Y → Type 0) : Type 0 where
   pub joins : IfOk told (λ party. (old ≡ with_party new party) × at new party)

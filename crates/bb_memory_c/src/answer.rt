@@ -1,4 +1,4 @@
-//! What C sees of an answer.
+//! Answers as C sees them.
 ghost use Rattle.std.specs.Prelude.{◌≡◌, if◌then◌else◌};
 ghost use Rattle.bb_memory_c.specs.Answers.{answer_by, answer_of, figure_of, grow_code, no_figure, refused, shrink_code};
 
@@ -66,7 +66,7 @@ impl Answer {
         }
     }
 
-    /// What a request was answered.
+    /// Turns the answer to a request into C's.
     pub(crate) fn of(answer: Result<Chunk, AllocationError>) -> Answer
         ensures { result ≡ answer_of answer }
     {
@@ -83,7 +83,7 @@ impl Answer {
         }
     }
 
-    /// What a grow was answered.
+    /// Turns the answer to a grow into C's.
     pub(crate) fn of_grow(answer: Result<Chunk, AllocationGrowError>) -> Answer
         ensures { result ≡ answer_by grow_code answer }
     {
@@ -101,7 +101,7 @@ impl Answer {
         }
     }
 
-    /// What a shrink was answered.
+    /// Turns the answer to a shrink into C's.
     pub(crate) fn of_shrink(answer: Result<Chunk, AllocationShrinkError>) -> Answer
         ensures { result ≡ answer_by shrink_code answer }
     {
@@ -131,7 +131,7 @@ impl Figure {
         }
     }
 
-    /// Whether it is so: 1 or 0.
+    /// Turns a `bool` into 1 or 0.
     pub(crate) fn whether(is: bool) -> Figure
         ensures { result ≡ figure_of (if is then 1 else 0) }
     {

@@ -33,7 +33,7 @@ bucket_held_at pool place holds =
       eqb-true place (bucket_place pool.geometry i) answers.1,
     )
 
--- and a held bucket's place is held
+-- a held bucket's place is held
 pub held_at_bucket : (pool : Pool) (place i : ℕ) → Has pool.held i → place ≡ bucket_place pool.geometry i →
     HoldsPlace pool place
 unfolding holds_place
@@ -57,7 +57,7 @@ held_place pool live position chunk stands at =
     let same = get_or_from_slice_get live position chunk chunk at in
     held_at_bucket pool chunk.place filled.0 filled.1.held (sym (ap (λ (c : Chunk). c.place) same) ∙ filled.1.placed)
 
--- it is no longer than a bucket
+-- a live chunk is no longer than a bucket
 pub covered : (pool : Pool) (live : List Chunk) (position : ℕ) (chunk : Chunk) →
     StandsFor pool live → slice_get live position ≡ Some chunk →
     chunk.len ≤ pool.geometry.bucket.size

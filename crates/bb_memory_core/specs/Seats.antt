@@ -57,7 +57,7 @@ number_of view = first_number view.parties
 abbrev pub view_log : {S E : Type 0} → Seat S E → List E
 view_log view = first_log view.parties
 
--- WHICH LOGS THEY HAVE
+-- LOGS OF THE PARTIES
 
 -- each of these parties was made, and its log is this
 abbrev pub HaveLogs : {E : Type 0} → ℕ → List (List E) → List (Numbered E) → Type 0
@@ -103,7 +103,7 @@ times_detached item views = total (λ view. times_of item view.detached) views
 
 -- SPLITS AND JOINS
 
--- so many parties, numbered from this one, which have made no step
+-- parties, so many, numbered from this one, which have made no step
 abbrev pub fresh_from : {E : Type 0} → ℕ → ℕ → List (Numbered E)
 fresh_from number zero = []
 fresh_from number (suc count) = numbered number [] ∷ fresh_from (number + 1) count

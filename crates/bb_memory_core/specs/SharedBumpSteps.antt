@@ -130,7 +130,8 @@ pub record HasEnded (scene : BumpScene) (number : ℕ) (log : BumpLog) (met : �
   pub still : met_by new.0 ≡ met
   pub counted : IsCounted scene log met added
 
--- it won this chunk, which lies behind the party's floor; where the party is the only one, it is the one at what it had seen
+-- a request that won this chunk, which lies behind the party's floor; where the party is the only one, it is the one at what it
+-- had seen
 pub record HasWon (scene : BumpScene) (number : ℕ) (log : BumpLog) (met : ℕ) (layout : Layout)
     (new : Me ℕ SeatView) (chunk : Chunk) : Type 0 where
   pub added : BumpLog
@@ -141,7 +142,7 @@ pub record HasWon (scene : BumpScene) (number : ℕ) (log : BumpLog) (met : ℕ)
   pub below : chunk_end chunk ≤ region_end scene.region
   pub alone : scene.parties ≡ 1 → chunk ≡ chunk_at scene.region (seen_in scene log) layout
 
--- it was refused; where the party is the only one, as the layout doesn't fit at what it had seen
+-- a refused request; where the party is the only one, the layout doesn't fit at what it had seen
 pub record HasRefused (scene : BumpScene) (number : ℕ) (log : BumpLog) (met : ℕ)
     (layout : Layout) (new : Me ℕ SeatView) : Type 0 where
   pub added : BumpLog

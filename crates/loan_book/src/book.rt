@@ -94,7 +94,7 @@ impl<A: Allocator> LoanBook<A> {
             (A.note_after (A.geometry self.old.allocator)) size
             (A.note self.old.allocator) (A.note self.new.allocator)) }
     {
-        // What the type promises is known from here on.
+        // Proof hint: brings the type's invariant into scope.
         let _ = &self.next;
         let Ok(layout) = Layout::from_size_align(size, 1) else {
             return Err(LoanError::Size);
@@ -132,7 +132,7 @@ impl<A: Allocator> LoanBook<A> {
         ensures same_allocator { self.new.allocator ≡ self.old.allocator }
         ensures still { OnErr result (self.new ≡ self.old) }
     {
-        // What the type promises is known from here on.
+        // Proof hint: brings the type's invariant into scope.
         let _ = &self.next;
         let Some((position, returns)) = self.found(id) else {
             return Err(LoanError::UnknownSample);
@@ -162,7 +162,7 @@ impl<A: Allocator> LoanBook<A> {
             (λ left. left ≡ false → self.new.allocator ≡ self.old.allocator) }
         ensures still { OnErr result (self.new ≡ self.old) }
     {
-        // What the type promises is known from here on.
+        // Proof hint: brings the type's invariant into scope.
         let _ = &self.next;
         let Some((position, returns)) = self.found(id) else {
             return Err(LoanError::UnknownSample);
@@ -177,12 +177,12 @@ impl<A: Allocator> LoanBook<A> {
         Ok(true)
     }
 
-    /// Whether a sample of this id is out.
+    /// Tests that a sample of this id is out.
     pub fn is_out(&self, id: u64) -> bool
         ensures answer { IsTrue result ↔ IsOut self.now.book id }
         ensures stands { A.stands_for self.now.allocator (chunks_out self.now.book) }
     {
-        // What the type promises is known from here on.
+        // Proof hint: brings the type's invariant into scope.
         let _ = &self.next;
         self.position(id).is_some()
     }
@@ -201,7 +201,7 @@ impl<A: Allocator> LoanBook<A> {
             → Loans (A.may_allocate (A.geometry self.now.allocator)) self.now.book size answer next
             → new ≡ next }
     {
-        // What the type promises is known from here on.
+        // Proof hint: brings the type's invariant into scope.
         let _ = &self.next;
     }
 
@@ -225,7 +225,7 @@ impl<A: Allocator> LoanBook<A> {
         ensures absent { IfNone result (¬ IsOut self.now.book id) }
         ensures book { IsBook self.now.book }
     {
-        // What the type promises is known from here on.
+        // Proof hint: brings the type's invariant into scope.
         let _ = &self.next;
         let position = self.position(id)?;
         Some((position, self.out[position].returns()))

@@ -32,7 +32,7 @@ abbrev pub HasHeaderOf : List (List ℕ) → Kind → Type 0
 HasHeaderOf lines kind =
     (header : kind.Header) × (rest : List (List ℕ)) × HasHeader kind lines header rest
 
--- so is each further line
+-- the first line is of this kind, and so is each further line
 abbrev pub IsScriptOf : List (List ℕ) → Kind → Type 0
 IsScriptOf lines kind =
     (header : kind.Header) × (rest : List (List ℕ)) × HasHeader kind lines header rest

@@ -281,7 +281,7 @@ struct Replies<'a> {
     run: Run,
     /// The place of the first allocated chunk, or 0.
     first: usize,
-    /// Whether the last call was passed over.
+    /// True where the last call was passed over.
     passed_over: bool,
 }
 

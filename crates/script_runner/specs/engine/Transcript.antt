@@ -31,11 +31,11 @@ IsFirstUnreadable IsReadable lines index =
     All IsReadable (take index lines)
     × (line : List ℕ) × (slice_get lines index ≡ Some line) × ¬ IsReadable line
 
--- these lines behind the first write the script, each as it may be
+-- the lines behind the first write the script, each as it may be
 abbrev pub AreScript : {S O C R : Type 0} → Rules S O C R → List (List ℕ) → List (Line C) → Type 0
 AreScript rules lines script = All (IsLine rules) script × (lines ≡ map (line_text rules) script)
 
--- One line: a command waits. A show has all that waits run at once; the replies are written, and then the state.
+-- A single line: a command waits. A show has all that waits run at once; the replies are written, and then the state.
 abbrev pub IsStep : {S O C R : Type 0} → Rules S O C R → S → List C → Line C → List ℕ → S → List C → Type 0
 IsStep rules old waiting (Command command) text new left =
     (new ≡ old) × (left ≡ waiting ++ command ∷ []) × (text ≡ [])

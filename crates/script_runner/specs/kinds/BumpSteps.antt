@@ -12,7 +12,7 @@ use Rattle.script_runner.specs.declared.words.Bounds.{Bounds}
 use Rattle.script_runner.specs.declared.words.Numbers.TheVariants.{Zero, One, Two, Three}
 use Rattle.script_runner.specs.engine.Rules.{Rules}
 
--- its party is one of the parties
+-- the step's party is one of the parties
 abbrev pub IsStep : BumpStep → Type 0
 IsStep (Read party layout) = IsParty party
 IsStep (Exchange party) = IsParty party

@@ -13,7 +13,7 @@ use Rattle.script_runner.specs.kinds.Allocators.{name_line}
 use Rattle.script_runner.specs.Words.{Words, words, words_text, words_then, IsParty}
 use Rattle.script_runner.specs.declared.words.Numbers.TheVariants.{Zero, One, Two}
 
--- its party is one of the parties, and its bucket's number has at most 32 bits
+-- the step's party is one of the parties, and its bucket's number has at most 32 bits
 abbrev pub IsStep : PoolStep → Type 0
 IsStep (Try party) = IsParty party
 IsStep (GiveBack party bucket) = IsParty party × (bucket < 2 ^ 32)
