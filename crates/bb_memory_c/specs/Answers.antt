@@ -53,7 +53,7 @@ shrink_code shrink.ShrinkWouldGrow = shrink_would_grow
 shrink_code shrink.AlignmentFailure = alignment_failure
 shrink_code shrink.SizeIsZero = size_is_zero
 
--- What C is told where the chunk at a place is to be resized: what may be answered, where the place and the old layout fit.
+-- A resize of the chunk at a place is answered what may be answered, where the place and the old layout fit, and else a refusal.
 pub record TellsResized {E : Type 0} (held fits : Type 0) (code : E → ℕ) (may : Result Chunk E → Type 0) (told : Answer)
     : Type 0 where
   pub answered : held → fits → (answer : Result Chunk E) × (told ≡ answer_by code answer) × may answer
