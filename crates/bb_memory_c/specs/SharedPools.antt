@@ -10,7 +10,7 @@ use Rattle.bb_memory_base.specs.declared.allocator.AllocationError.{AllocationEr
 use Rattle.bb_memory_c.specs.Parties.{IsOneOf, Parties}
 use Rattle.bb_memory.specs.NumberSet.{Has}
 use Rattle.bb_memory.specs.SharedPool.{AreFresh, PoolParty, SharedPool, TakenBucket, chunk_of, return_entry, with_entries}
-use Rattle.bb_memory.specs.SharedPoolRounds.{MayTakeFrom, hint_of}
+use Rattle.bb_memory.specs.SharedPoolNextFit.{MayTakeFrom, hint_of}
 
 abbrev pub PoolParties : Type 0
 PoolParties = Parties SharedPool PoolParty

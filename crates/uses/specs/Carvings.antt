@@ -11,8 +11,8 @@ pub record HasAsked (layout : Layout) (party : BumpParty) : Type 0 where
   pub answer : Result Chunk AllocationError
   pub asked : MayTake before layout answer party
 
--- Workers, so many, have each asked for this layout, of a region of which some was used. What is used then agrees with their logs,
--- which are all, and is the greatest position that one of them has seen.
+-- Workers, so many, have each asked for this layout, of a region of which some was used. The space used then agrees with their
+-- logs, which are all, and is the greatest position that one of them has seen.
 pub record IsCarved (region : Region) (used_before workers : ℕ) (layout : Layout) (used : ℕ)
     : Type 0 where
   pub parties : List BumpParty
