@@ -205,7 +205,7 @@ impl<A: Allocator> LoanBook<A> {
         let _ = &self.next;
     }
 
-    /// Where the sample of this id stands among those that are out.
+    /// Finds the position of the sample of this id among those that are out.
     fn position(&self, id: u64) -> Option<usize>
         ensures found { IfSome result
             (λ position. (sample : Sample) × IsAt self.now.book id position sample) }
@@ -216,7 +216,7 @@ impl<A: Allocator> LoanBook<A> {
             .ok()
     }
 
-    /// Where the sample of this id stands, and how many returns it waits for, or `None` where it wasn't published yet.
+    /// Finds the sample of this id: its position, and how many returns it waits for, or `None` where it wasn't published yet.
     fn found(&self, id: u64) -> Option<(usize, Option<u32>)>
         ensures found { IfSome result (λ found. (sample : Sample)
             × IsAt self.now.book id found.0 sample × (sample.returns ≡ found.1)) }
