@@ -6,7 +6,7 @@
 //! - `running`: from the bytes of a script to the bytes that it is answered. `status`: how a run ends. `laws`: what holds of
 //!   every input and every status.
 //! - `engine`, what all kinds of scripts share. `driving` says what a kind of script has to have, and runs a script of a kind;
-//!   `script` cuts the input into lines, reads them, and keeps what they say.
+//!   `script` cuts the input into lines and reads them.
 //! - `kinds`, the table of the kinds and a file for each: the allocators, over what `allocators` shares; `bump_steps` and
 //!   `pool_steps`, the twins; `loan_pool`.
 //! - `words`: the name and the numbers of a line, and the layouts, regions and parties that these numbers write.
