@@ -101,7 +101,7 @@ MayTakeFrom first party layout (Err OutOfMemory) new =
 -- a pool never refuses so
 MayTakeFrom first party layout (Err SizeIsZero) new = ⊥
 
--- WHAT A REFUSED ROUND HAS FOUND
+-- WHAT A REFUSED SEARCH HAS FOUND
 
 -- In the party's interleaving there is this step of the search that follows these entries: at some probe of it, the party missed
 -- the bucket, which was held then in the run.

@@ -1,6 +1,6 @@
 //! Laws of lists, for a user whose contracts speak of what a vector has. Each is a function that does nothing: called in a
 //! body, it puts its clauses in reach there.
-ghost use Rattle.std.specs.Prelude.{◌≡◌, ◌≢◌, ◌==◌, if◌then◌else◌, ◌<◌, ◌≤◌, ◌+◌, ◌-◌, ◌∷◌, ◌++◌};
+ghost use Rattle.std.specs.Prelude.{◌≡◌, ◌==◌, if◌then◌else◌, ◌<◌, ◌≤◌, ◌+◌, ◌-◌, ◌∷◌, ◌++◌};
 ghost use Rattle.std.specs.Prelude.{Bool, IsSome, position, true};
 ghost use Rattle.std.specs.Prelude.{ℕ, [], List, Some, length, map, remove, slice_get, slice_index_or, slice_set, sum, sum_by};
 
@@ -14,19 +14,6 @@ pub fn append_law<T>()
         → length (items ++ item ∷ []) ≡ length items + 1 }
     ensures taken_back { (items : List T) (item : T)
         → remove (items ++ item ∷ []) (length items) ≡ items }
-{}
-
-/// Another item at a position.
-pub fn set_law<T>()
-    ensures there { (items : List T) (item : T) (position : ℕ) → position < length items
-        → slice_get (slice_set items position item) position ≡ Some item }
-    ensures others { (items : List T) (item : T) (position other : ℕ) → other ≢ position
-        → slice_get (slice_set items position item) other ≡ slice_get items other }
-    ensures each { (items : List T) (item : T) (position other : ℕ) → position < length items
-        → (slice_get (slice_set items position item) other
-        ≡ (if position == other then Some item else slice_get items other)) }
-    ensures length { (items : List T) (item : T) (position : ℕ)
-        → length (slice_set items position item) ≡ length items }
 {}
 
 /// An item taken out, so that those behind it move up.

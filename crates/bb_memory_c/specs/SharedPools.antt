@@ -67,7 +67,7 @@ abbrev pub chunk_in : Result TakenBucket AllocationError → Result Chunk Alloca
 chunk_in (Ok bucket) = Ok (chunk_of bucket)
 chunk_in (Err error) = Err error
 
--- a request is answered the chunk in the bucket that the party took by a round from its hint, or why it took none
+-- a request is answered the chunk in the bucket that the party took by a search from its hint, or why it took none
 abbrev pub GivesChunk : PoolParty → Layout → Result Chunk AllocationError → PoolParty → Type 0
 GivesChunk party layout answer after =
     (taken : Result TakenBucket AllocationError) × (answer ≡ chunk_in taken)

@@ -333,7 +333,7 @@ pub extern "C" fn bb_pool_party_destroy(alloc: Global, handle: &mut PoolPartyHan
     free(handle, alloc)
 }
 
-/// Asks for a chunk of `size` bytes at a multiple of `align`, in a bucket that isn't held, by one round over the buckets that
+/// Asks for a chunk of `size` bytes at a multiple of `align`, in a bucket that isn't held, by one search of the buckets that
 /// begins at the hint: behind the bucket that the party had last.
 #[unsafe(no_mangle)]
 pub extern "C" fn bb_pool_party_allocate(
