@@ -36,28 +36,24 @@
 //
 // RULES, which no function tests:
 //
-// - A handle is a variable of the host's, both fields zero before its first use: `bb_pool pool = BB_EMPTY;`. It is passed by its
-//   address, which isn't null. Nothing but these functions writes it. It may be moved, and then the old copy isn't used. It has
-//   one kind, which the functions' types name: a compiler refuses another one, and a caller who casts has to see to it.
-// - One call at a time has a handle; a data race on a handle is undefined behaviour, and may give a chunk twice. Threads that
-//   call at once each use a party of their own, or share a handle under a lock. A handle may go to another thread where a lock,
-//   an atomic, or a thread's start or join orders the two calls. Only `place_at` and `number_at`, which read what `init` or
-//   `join` fixed, may run beside other calls with the handle but `destroy` and `leave` (examples/c/places.c tries it; the
-//   proofs are of one call at a time).
-// - A call that takes two handles is passed two. A party leaves what it joined, and attaches buckets of its own pool.
-// - No function is called from a signal handler, which may have interrupted a call with the handle, or `malloc`; nor in a child
-//   that a process of several threads forked, whose `malloc` may be locked by a thread that the child hasn't. Behind a fork
-//   parent and child have a copy of each handle; over a region that both map one of them goes on.
-// - A region is the host's as long as chunks in it are used, and until then no other allocator is made over it. No two allocators
-//   have a byte in common, but where one lies in a chunk of the other: a pool over a chunk of a bump is meant to work. That chunk
-//   then serves nothing else, and isn't given back before its pool is done with.
-// - `malloc`, `realloc` and `free` come from one allocator, which aligns as C says.
+//  1. A handle is a variable with both fields zero before its first use: `bb_pool pool = BB_EMPTY;`. Pass its address.
+//  2. Only these functions write a handle, and it keeps its kind. It may be moved; don't use the old copy then.
+//  3. One call at a time has a handle. A data race on one is undefined behaviour, and may give a chunk twice.
+//  4. Threads that call at once use a party each, or share a handle under a lock. A handle goes to another thread where a lock,
+//     an atomic, or a thread's start or join orders the calls.
+//  5. `place_at` and `number_at` may run beside other calls with their handle but `destroy` and `leave` (examples/c/places.c).
+//  6. A call that takes two handles gets two. A party leaves what it joined, and attaches buckets of its own pool.
+//  7. Call nothing in a signal handler, nor in a child that a process of several threads forked. After any other fork either
+//     parent or child goes on with a region that both map.
+//  8. A region serves one allocator at a time, and is yours while chunks in it are used. An allocator over a chunk of another
+//     works: that chunk serves nothing else, and goes back when its allocator is done with.
+//  9. `malloc`, `realloc` and `free` come from one allocator, which aligns as C says.
+// 10. Return each chunk once. A wild place is refused by a code, and so is a second return before the place is given anew. A
+//     later one takes the chunk from its new holder.
 //
-// No function reads or writes a byte of a region. Chunks that are out lie inside the region, at multiples of the asked alignment,
-// and never overlap. Sizes and alignments are in bytes. The numbers are tested, so none breaks an allocator: a place at which
-// nothing is held is answered by a code, that is a wild place, and a second return as long as the place was not given anew. A
-// return after that takes the chunk from its new holder, so the host returns each chunk once. MemorySanitizer doesn't see what
-// the library writes: a host tells it by `__msan_unpoison` of each struct that a call returned or filled.
+// No function reads or writes a byte of a region. Chunks that are out lie inside it, at multiples of the asked alignment, and
+// never overlap. Sizes and alignments are in bytes. MemorySanitizer doesn't see what the library writes: call `__msan_unpoison`
+// for each struct that a call returned or filled.
 #ifndef BB_MEMORY_H
 #define BB_MEMORY_H
 
@@ -79,20 +75,19 @@ extern "C" {
 #define BB_VERSION_MINOR 13
 #define BB_VERSION_PATCH 0
 #define BB_VERSION_NUMBER (BB_VERSION_MAJOR * 10000 + BB_VERSION_MINOR * 100 + BB_VERSION_PATCH)
-// The shared library's SONAME is `libbb_memory.so.` and this number. It grows with a version in which a function is gone, or the
-// type of one, the fields of a struct or the number of a code changes; it stays where functions and codes are added. A program
-// runs with each library of its number, from the version on with which it was linked.
+// The shared library's SONAME is `libbb_memory.so.` and this number. It grows where a function goes, or a type, a struct's fields
+// or a code's number changes, and stays where functions and codes are added. So a program runs with each library of its number
+// from the version on with which it was linked.
 #define BB_ABI 1
 
 // The address of a byte: a place is where a region or a chunk begins, and an address is a place that is handed in alone. The
 // functions see their numbers alone. A host whose places are other numbers, such as offsets, defines BB_PLACES_ARE_NUMBERS above
 // the header, and has them as numbers.
 #ifdef BB_PLACES_ARE_NUMBERS
-typedef size_t bb_address;
-typedef size_t bb_place;
+typedef size_t bb_address, bb_place;
 #else
-typedef const void *bb_address;
 typedef void *bb_place;
+typedef const void *bb_address;
 #endif
 
 // What is answered. With any code but BB_OK nothing was done, and a struct that is returned has 0 beside the code.
@@ -153,18 +148,20 @@ static inline const char *bb_text(uint32_t code) {
     }
 }
 
-// Compilers warn where the answer isn't looked at of a function that has this mark.
+// Compilers warn where the answer of a function with this mark isn't used.
 #ifdef __GNUC__
 #define BB_MUST_USE __attribute__((warn_unused_result))
 #else
 #define BB_MUST_USE
 #endif
 
-// What a handle is before its first use.
+// BB_EMPTY is a handle before its first use. BB_OF is a type's size and alignment: `bb_pool_allocate(&pool, BB_OF(message))`.
 #ifdef __cplusplus
 #define BB_EMPTY {nullptr, false}
+#define BB_OF(type) sizeof(type), alignof(type)
 #else
 #define BB_EMPTY {NULL, false}
+#define BB_OF(type) sizeof(type), __alignof__(type)
 #endif
 
 // Handles, a type for each kind. `at` and `made` are not for the host.
@@ -177,36 +174,22 @@ typedef struct bb_shared_pool { void *at; bool made; } bb_shared_pool;
 typedef struct bb_pool_party { void *at; bool made; } bb_pool_party;
 typedef struct bb_detached { void *at; bool made; } bb_detached;
 
-// A chunk that was given: where it begins, and how many bytes it has.
+// A chunk that was given: where it begins, and how many bytes it has. A number that was asked for; of a place, its number.
 typedef struct bb_answer { uint32_t code; bb_place place; size_t len; } bb_answer;
-
-// A number that was asked for; of a place, its number.
 typedef struct bb_figure { uint32_t code; size_t number; } bb_figure;
 
-// The size and the alignment of a type, for a pool's `init` and for a request: `bb_pool_allocate(&pool, BB_OF(message))`.
-#ifdef __cplusplus
-#define BB_OF(type) sizeof(type), alignof(type)
-#else
-#define BB_OF(type) sizeof(type), __alignof__(type)
-#endif
-
-// Each kind has a `destroy`, which frees what is behind its handle. The handle is empty then: it may be initialized again. The
-// answer is BB_UNINITIALIZED where it was empty already. The bytes of chunks that are out stay the host's.
-//
-// Each `info` fills a struct with the figures of what is behind the handle. Where the handle is empty the answer is
-// BB_UNINITIALIZED, and the struct stays as it was.
+// Each kind has a `destroy`, which frees what is behind its handle. The handle is empty then, and may be initialized again; one
+// that was empty is BB_UNINITIALIZED. The bytes of chunks that are out stay the host's. Each `info` fills a struct with the
+// figures of what is behind the handle; where that is empty, it is BB_UNINITIALIZED, and the struct stays as it was.
 //
 // Only `init`, `join` and `reset` take memory, outside the region. They ask `malloc` for at most so many bytes in all:
 //
-//     bb_bump, bb_one_chunk    64
-//     bb_pool                  256, and 16 for each 64 buckets
-//     bb_shared_bump           256, and 16 for each party; as many to reset, before it frees those; 64 for each that joins
-//     bb_shared_pool           1648, and 16 for each bucket and each party; 128 for each that joins, and 1 for each bucket
-//     bb_detached              64
+//     bb_bump, bb_one_chunk, bb_detached    64
+//     bb_pool                               256, and 16 for each 64 buckets
+//     bb_shared_bump                        256, and 16 for each party (as many to reset, before it frees those); 64 to join
+//     bb_shared_pool                        1648, and 16 for each bucket and each party; 128, and 1 for each bucket, to join
 
-// BUMP
-
-// Over the region of `size` bytes at `start`. BB_INVALID_ARGUMENT where the start is 0, or start plus size exceeds SIZE_MAX.
+// BUMP, over the region of `size` bytes at `start`: BB_INVALID_ARGUMENT where start is 0, or start plus size exceeds SIZE_MAX.
 BB_MUST_USE uint32_t bb_bump_init(bb_bump *, bb_place start, size_t size);
 uint32_t bb_bump_destroy(bb_bump *);
 // A chunk of exactly `size` bytes at the least multiple of `align` behind what is used.
@@ -217,9 +200,7 @@ uint32_t bb_bump_deallocate(bb_bump *);
 struct bb_bump_info { size_t start_address, used_space, free_space, total_space; };
 uint32_t bb_bump_info(bb_bump *, struct bb_bump_info *);
 
-// ONE CHUNK: one request gets all of the region, from the first multiple of its alignment on.
-
-// BB_INVALID_ARGUMENT as of `bb_bump_init`.
+// ONE CHUNK: one request gets all of the region, from the first multiple of its alignment on. BB_INVALID_ARGUMENT as of a bump.
 BB_MUST_USE uint32_t bb_one_chunk_init(bb_one_chunk *, bb_place start, size_t size);
 uint32_t bb_one_chunk_destroy(bb_one_chunk *);
 // A chunk of at least `size` bytes, up to the region's end. BB_OUT_OF_MEMORY where one is out, where none of the region is
@@ -230,10 +211,8 @@ uint32_t bb_one_chunk_deallocate(bb_one_chunk *, bb_address place);
 // A resize names the chunk that is out by its place, its old layout and its new one. The causes come in this order:
 // BB_UNINITIALIZED; BB_INVALID_LAYOUT, of either; BB_NOT_HELD; BB_LAYOUT_MISMATCH; then the function's own. The chunk keeps its
 // place. The old size is the host's word: it is compared with the new one, and of a shrink with what is reserved, which is all of
-// the region from the place on.
-//
-// A grown chunk gets all that is reserved for it. BB_GROW_WOULD_SHRINK, then BB_ALIGNMENT_FAILURE where the new alignment is
-// greater than the old one, then BB_MORE_THAN_RESERVED where less than the new size is reserved.
+// the region from the place on. A grown chunk gets all of that. Its causes: BB_GROW_WOULD_SHRINK, then BB_ALIGNMENT_FAILURE where
+// the new alignment is greater than the old one, then BB_MORE_THAN_RESERVED where less than the new size is reserved.
 BB_MUST_USE bb_answer bb_one_chunk_grow(bb_one_chunk *, bb_address place, size_t old_size, size_t old_align, size_t new_size,
                                         size_t new_align);
 // A shrunk chunk gets exactly the new size, which may be 0. BB_SHRINK_WOULD_GROW, then BB_ALIGNMENT_FAILURE as above.
@@ -248,19 +227,15 @@ uint32_t bb_one_chunk_info(bb_one_chunk *, struct bb_one_chunk_info *);
 // before it: the bucket's size rounded up to its alignment.
 
 // The stride, and how many bytes have room for so many buckets where the region starts at a multiple of the alignment; anywhere
-// else add the alignment less 1. Both are constants of constants, as for `static unsigned char buffer[BB_BYTES_FOR(48, 8, 16)]`.
-// The numbers have to be those of a pool that can be initialized: nothing is tested.
-#define BB_STRIDE(bucket_size, bucket_align) \
-    (((size_t)(bucket_size) + ((size_t)(bucket_align) - 1)) / (size_t)(bucket_align) * (size_t)(bucket_align))
-#define BB_BYTES_FOR(bucket_size, bucket_align, buckets) (BB_STRIDE(bucket_size, bucket_align) * (size_t)(buckets))
+// else add the alignment less 1. Both are constants of constants, and test nothing.
+#define BB_STRIDE(size, align) (((size_t)(size) + ((size_t)(align) - 1)) / (size_t)(align) * (size_t)(align))
+#define BB_BYTES_FOR(size, align, buckets) (BB_STRIDE(size, align) * (size_t)(buckets))
 
 // The same of numbers that are known at run time alone: 0 where they make no bucket, and where it is more than PTRDIFF_MAX.
-static inline size_t bb_bytes_for(size_t bucket_size, size_t bucket_align, uint32_t buckets) {
+static inline size_t bb_bytes_for(size_t size, size_t align, uint32_t buckets) {
     const size_t most = (size_t)PTRDIFF_MAX;
-    if (bucket_size == 0 || bucket_align == 0 || (bucket_align & (bucket_align - 1)) != 0) return 0;
-    if (bucket_size > most - (bucket_align - 1)) return 0;
-    if (buckets > most / BB_STRIDE(bucket_size, bucket_align)) return 0;
-    return BB_BYTES_FOR(bucket_size, bucket_align, buckets);
+    if (size == 0 || align == 0 || (align & (align - 1)) != 0 || size > most - (align - 1)) return 0;
+    return buckets > most / BB_STRIDE(size, align) ? 0 : BB_BYTES_FOR(size, align, buckets);
 }
 
 // BB_INVALID_ARGUMENT where the start is 0, start plus size or the start rounded up to the alignment exceeds SIZE_MAX, the
@@ -298,10 +273,10 @@ BB_MUST_USE static inline uint32_t bb_pool_init_at_least(bb_pool *pool, size_t b
 
 // PARTIES: what threads share is initialized for some number of parties. `join` makes a party, behind a handle of its own, for
 // one thread at a time; no call of a party waits for another. A thread ends by `leave`, and the next `join` makes the party
-// again. One thread at a time calls `join`, `leave`, `reset` or `destroy` of what is shared; parties may be used meanwhile. What is
-// shared stays as long as its own handle or one of its parties does. A party that is destroyed instead of leaving can't join
-// again, and what it holds stays held for good.
-
+// again. One thread at a time calls `join`, `leave`, `reset` or `destroy` of what is shared; parties may be used meanwhile. The
+// shared object stays as long as its own handle or one of its parties does. A party that is destroyed instead of leaving can't
+// join again, and what it holds stays held for good.
+//
 // BB_INVALID_ARGUMENT where the start is 0, start plus size exceeds SIZE_MAX, or there is no party.
 BB_MUST_USE uint32_t bb_shared_bump_init(bb_shared_bump *, bb_place start, size_t size, uint32_t parties);
 uint32_t bb_shared_bump_destroy(bb_shared_bump *);
@@ -314,34 +289,28 @@ uint32_t bb_shared_bump_leave(bb_shared_bump *, bb_bump_party *);
 // one was destroyed; then BB_MALLOC_REFUSED. Refused, the bump is as it was.
 BB_MUST_USE uint32_t bb_shared_bump_reset(bb_shared_bump *);
 uint32_t bb_bump_party_destroy(bb_bump_party *);
-// A chunk of exactly `size` bytes at the least multiple of `align` behind what is used.
+// As `bb_bump_allocate` and `bb_bump_info`: one load finds what is used.
 BB_MUST_USE bb_answer bb_bump_party_allocate(bb_bump_party *, size_t size, size_t align);
-// One load finds what is used.
 uint32_t bb_bump_party_info(bb_bump_party *, struct bb_bump_info *);
 
 // A bucket is given back through the party that holds it: the one that took it, or one that attached it (below). A return comes
-// before the next taking of that bucket (the steps are sequentially consistent), so its bytes need no further lock.
-// ThreadSanitizer can't see that in the built library: tell it by `__tsan_release` before a return and `__tsan_acquire` after a
-// taking, as examples/c/threads.c does.
-
+// before the next taking of that bucket (the steps are sequentially consistent), so its bytes need no further lock. To tell
+// ThreadSanitizer call `__tsan_release` before a return and `__tsan_acquire` after a taking (examples/c/threads.c).
+//
 // BB_INVALID_ARGUMENT and BB_NO_BUCKET as of `bb_pool_init`; the first also where there is no party.
 BB_MUST_USE uint32_t bb_shared_pool_init(bb_shared_pool *, size_t bucket_size, size_t bucket_align, bb_place start, size_t size,
                                          uint32_t parties);
 uint32_t bb_shared_pool_destroy(bb_shared_pool *);
-// As of the shared bump.
+// As of the shared bump. `leave` also gives back each bucket that the party holds, so the host uses no chunk in it any more.
 BB_MUST_USE uint32_t bb_shared_pool_join(bb_shared_pool *, bb_pool_party *);
-// As of the shared bump; and each bucket that the party holds is given back, so the host uses no chunk in it any more.
 uint32_t bb_shared_pool_leave(bb_shared_pool *, bb_pool_party *);
 uint32_t bb_pool_party_destroy(bb_pool_party *);
-// A chunk of `size` bytes in a bucket that isn't held, found by one search over the buckets: next fit, from where the party's
-// last search ended, and at first in a part of the pool that is its own. BB_OUT_OF_MEMORY where each was held when the search
-// looked at it; while other threads step, that need not have been at one moment.
+// A chunk of `size` bytes in a bucket that isn't held, by next fit: one search from where the party's last one ended, at first in
+// a part of the pool that is its own. BB_OUT_OF_MEMORY where each bucket was held when the search came to it, not at one moment.
 BB_MUST_USE bb_answer bb_pool_party_allocate(bb_pool_party *, size_t size, size_t align);
-// Gives back the bucket at this place; BB_NOT_HELD where it isn't that of a bucket which this party holds.
+// As of a pool, where only the buckets count as held which this party holds: as many as `bb_shared_pool_leave` gives back.
 uint32_t bb_pool_party_deallocate(bb_pool_party *, bb_address place);
-// 1 where this is the place of a bucket which this party holds, else 0.
 bb_figure bb_pool_party_holds(bb_pool_party *, bb_address place);
-// The held buckets are those that this party holds: as many as `bb_shared_pool_leave` gives back.
 uint32_t bb_pool_party_info(bb_pool_party *, struct bb_pool_info *);
 bb_figure bb_pool_party_place_at(const bb_pool_party *, uint32_t number);
 bb_figure bb_pool_party_number_at(const bb_pool_party *, bb_address place);
@@ -359,21 +328,17 @@ BB_MUST_USE static inline uint32_t bb_shared_pool_init_at_least(bb_shared_pool *
     return code;
 }
 
-// DETACHED BUCKETS: in a pool of at least two parties a party may detach a bucket that it holds. The bucket goes into a
-// `bb_detached`, and no party holds it. Whoever has the `bb_detached` attaches the bucket by a party of the same pool, in any
-// thread, and gives it back there: so the receiver of a message returns it (examples/c/returns.c). While it is detached, several
-// threads may read the chunk, as the host says, and the last of them attaches it (examples/c/pubsub.c). Neither call takes memory
-// or waits.
-//
-// A `bb_detached` is initialized once, and serves one bucket after another: a queue has one for each of its slots. A bucket that
-// is in a destroyed one stays detached for good. A `bb_detached` keeps no pool: behind the pool's end it is only destroyed.
+// DETACHED BUCKETS: in a pool of two parties or more a party detaches a bucket that it holds into a `bb_detached`. No party
+// holds the bucket then. Whoever has the `bb_detached` attaches the bucket by a party of the same pool, in any thread, and gives
+// it back there, as the receiver of a message does (examples/c/returns.c). Several threads may read a detached bucket, and the
+// last of them attaches it (examples/c/pubsub.c). Neither call takes memory or waits. A `bb_detached` serves one bucket after
+// another, and keeps no pool. A bucket in a destroyed one stays detached for good.
 BB_MUST_USE uint32_t bb_detached_init(bb_detached *);
 uint32_t bb_detached_destroy(bb_detached *);
 // 1 where a bucket is in it, else 0.
 bb_figure bb_detached_is_full(bb_detached *);
-// The bucket at this place goes into the `bb_detached`, with a chunk of `len` bytes. BB_UNINITIALIZED where one of the handles is
-// empty; then BB_ONE_PARTY; BB_NOT_HELD where the place isn't that of a bucket which this party holds; BB_SIZE_TOO_LARGE where
-// `len` is greater than the bucket's size; and BB_DETACHED_FULL.
+// Detaches the bucket at this place, with a chunk of `len` bytes. BB_UNINITIALIZED where one of the handles is empty; then
+// BB_ONE_PARTY; BB_NOT_HELD where this party holds no bucket there; BB_SIZE_TOO_LARGE, of `len`; and BB_DETACHED_FULL.
 BB_MUST_USE uint32_t bb_pool_party_detach(bb_pool_party *, bb_address place, size_t len, bb_detached *);
 // This party holds the bucket that is in the `bb_detached`, which has none then. The answer is the chunk, at its place and with
 // the length with which it was detached. BB_UNINITIALIZED where one of the handles is empty; then BB_DETACHED_EMPTY.
@@ -382,5 +347,4 @@ BB_MUST_USE bb_answer bb_pool_party_attach(bb_pool_party *, bb_detached *);
 #ifdef __cplusplus
 }
 #endif
-
 #endif
