@@ -1,7 +1,7 @@
 -- What is told of a join, by what the shared one answers.
 use Rattle.std.proofs.Common.{◌≡◌, ℕ, Option, Some, None, Ok, Err, ap, refl}
+use Rattle.bb_memory_c.specs.Answers.{ok}
 use Rattle.bb_memory_c.specs.Calls.{TakesParty, TellsJoin}
-use Rattle.bb_memory_c.specs.Codes.{ok}
 use Rattle.bb_memory_c.proofs.Makers.{neither}
 
 module _ {X Y Z : Type 0} {made after : X} {party : Option Y} {left : X → ℕ} {with_party : X → Y → X} {at : X → Y → Type 0}

@@ -7,7 +7,7 @@ use Rattle.bb_memory_base.specs.declared.layout.Layout.{Layout}
 use Rattle.bb_memory_base.specs.Chunk.{Region}
 use Rattle.bb_memory_base.proofs.Layouts.{same_layout}
 use Rattle.bb_memory.specs.Pool.{MayBeCut}
-use Rattle.bb_memory_c.specs.Layouts.{CannotCut, IsCuttable, IsOf}
+use Rattle.bb_memory_c.specs.Calls.{FailsOf, IsCuttable, IsOf}
 
 -- what is made of the numbers of a layout is that layout
 pub made_of : {E : Type 0} (r : Result Layout E) (size align : ℕ) (layout : Layout)
@@ -39,7 +39,7 @@ same_of size align one other of others = same_layout one other (of.0 ∙ sym oth
 
 -- one layout can't both cut the region and not
 pub cut-or-not : {X : Type 0} (size align : ℕ) (region : Region) (bucket : Layout) → IsCuttable size align region bucket →
-    CannotCut size align region → X
+    FailsOf size align (MayBeCut region) → X
 cut-or-not size align region bucket is not =
     let same = same_of size align bucket not.0 is.layout not.1 in
     absurd (not.2 (subst (λ (b : Layout). MayBeCut region b) same is.may))

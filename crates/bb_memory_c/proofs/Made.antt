@@ -3,9 +3,8 @@ use Rattle.std.proofs.Common.{◌≡◌, Option, Some, None, IfSome, sym, subst}
 use Rattle.std.specs.Option.{OnSome}
 use Rattle.bb_memory_base.specs.declared.layout.Layout.{Layout}
 use Rattle.bb_memory_c.specs.declared.answer.Answer.{Answer}
-use Rattle.bb_memory_c.specs.Answers.{TellsOfLayouts, refused}
+use Rattle.bb_memory_c.specs.Answers.{TellsOfLayouts, invalid_layout, refused}
 use Rattle.bb_memory_c.specs.Calls.{Answers}
-use Rattle.bb_memory_c.specs.Codes.{invalid_layout}
 
 -- what holds of what is there
 pub at_made : {X : Type 0} (P : X → Type 0) (old : Option X) (made : X) → old ≡ Some made → P made → IfSome old P

@@ -6,9 +6,8 @@ use Rattle.std.specs.Align.{IsLayout}
 use Rattle.bb_memory_base.specs.Chunk.{Region}
 use Rattle.bb_memory_base.specs.declared.layout.Layout.{Layout}
 use Rattle.bb_memory.specs.Pool.{MayBeCut}
-use Rattle.bb_memory_c.specs.Calls.{AnswersPoolMake}
-use Rattle.bb_memory_c.specs.Codes.{invalid_argument, ok, malloc_refused, no_bucket, invalid_layout}
-use Rattle.bb_memory_c.specs.Layouts.{CannotCut, IsOf}
+use Rattle.bb_memory_c.specs.Answers.{invalid_argument, invalid_layout, malloc_refused, no_bucket, ok}
+use Rattle.bb_memory_c.specs.Calls.{AnswersPoolMake, FailsOf, IsOf}
 use Rattle.bb_memory_c.proofs.Layouts.{cut-or-not, is_layout, same_of}
 
 -- behind a handle of which it isn't told that it is made is nothing
@@ -25,11 +24,11 @@ module _ {X : Type 0} {old new : Option X} {size align : ℕ} {may room : Layout
     (none : old ≡ None) where
   -- the numbers make no layout, or none by which the region may be cut
   pub not-cut : (region : Region) (cut : Result Layout ℕ) (code : ℕ) → new ≡ old → cut ≡ Err code
-      → ((cut ≡ Err invalid_layout) ↔ (¬ IsLayout size align)) → ((cut ≡ Err invalid_argument) ↔ CannotCut size align region)
+      → ((cut ≡ Err invalid_layout) ↔ (¬ IsLayout size align)) → ((cut ≡ Err invalid_argument) ↔ FailsOf size align (MayBeCut region))
       → (code ≢ invalid_layout → code ≡ invalid_argument) → ((bucket : Layout) → may bucket → MayBeCut region bucket)
       → AnswersPoolMake old new size align code may room fresh
   not-cut region cut code still is no_layout cannot either cuts =
-      let fails : IsLayout size align → CannotCut size align region =
+      let fails : IsLayout size align → FailsOf size align (MayBeCut region) =
       λ layout. cannot.0 (is ∙ ap Err (either (λ no. no_layout.0 (is ∙ ap Err no) layout))) in record {
         made = neither code _ either (λ wrong. cc) (λ wrong. cc);
         held_one = (neither code _ either (λ wrong. cc) (λ wrong. cc), λ some. absurd (some none));

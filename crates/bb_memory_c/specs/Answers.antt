@@ -3,16 +3,80 @@ use Rattle.std.specs.Prelude.{◌≡◌, ℕ, Option, Some, None, Result, Ok, Er
 use Rattle.bb_memory_base.specs.Chunk.{Chunk}
 use Rattle.bb_memory_base.specs.declared.layout.Layout.{Layout}
 use Rattle.bb_memory_base.specs.declared.allocator.AllocationError.{AllocationError}
-use Rattle.bb_memory_base.specs.declared.allocator.AllocationError.TheVariants.{SizeIsZero, SizeTooLarge, AlignmentFailure}
-use Rattle.bb_memory_base.specs.declared.allocator.AllocationError.TheVariants.{OutOfMemory}
-use Rattle.bb_memory_c.specs.declared.answer.Answer.{Answer}
-use Rattle.bb_memory_c.specs.declared.answer.Figure.{Figure}
+use Rattle.bb_memory_base.specs.declared.allocator.AllocationError.TheVariants as request
 use Rattle.bb_memory_base.specs.declared.allocator.AllocationGrowError.{AllocationGrowError}
 use Rattle.bb_memory_base.specs.declared.allocator.AllocationGrowError.TheVariants as grow
 use Rattle.bb_memory_base.specs.declared.allocator.AllocationShrinkError.{AllocationShrinkError}
 use Rattle.bb_memory_base.specs.declared.allocator.AllocationShrinkError.TheVariants as shrink
-use Rattle.bb_memory_c.specs.Codes.{ok, size_is_zero, size_too_large, alignment_failure, out_of_memory, grow_would_shrink}
-use Rattle.bb_memory_c.specs.Codes.{more_than_reserved, shrink_would_grow, invalid_layout, not_held, layout_mismatch}
+use Rattle.bb_memory_c.specs.declared.answer.Answer.{Answer}
+use Rattle.bb_memory_c.specs.declared.answer.Figure.{Figure}
+
+-- the codes: `src/code.rt` says what each is for
+abbrev pub ok : ℕ
+ok = 0
+
+abbrev pub size_is_zero : ℕ
+size_is_zero = 1
+
+abbrev pub size_too_large : ℕ
+size_too_large = 2
+
+abbrev pub alignment_failure : ℕ
+alignment_failure = 3
+
+abbrev pub out_of_memory : ℕ
+out_of_memory = 4
+
+abbrev pub grow_would_shrink : ℕ
+grow_would_shrink = 5
+
+abbrev pub shrink_would_grow : ℕ
+shrink_would_grow = 6
+
+abbrev pub invalid_layout : ℕ
+invalid_layout = 7
+
+abbrev pub uninitialized : ℕ
+uninitialized = 8
+
+abbrev pub not_held : ℕ
+not_held = 9
+
+abbrev pub already_initialized : ℕ
+already_initialized = 10
+
+abbrev pub invalid_argument : ℕ
+invalid_argument = 11
+
+abbrev pub no_party : ℕ
+no_party = 12
+
+abbrev pub layout_mismatch : ℕ
+layout_mismatch = 13
+
+abbrev pub malloc_refused : ℕ
+malloc_refused = 14
+
+abbrev pub more_than_reserved : ℕ
+more_than_reserved = 15
+
+abbrev pub no_bucket : ℕ
+no_bucket = 16
+
+abbrev pub parties_joined : ℕ
+parties_joined = 18
+
+abbrev pub one_party : ℕ
+one_party = 19
+
+abbrev pub detached_full : ℕ
+detached_full = 20
+
+abbrev pub detached_empty : ℕ
+detached_empty = 21
+
+abbrev pub not_a_bucket : ℕ
+not_a_bucket = 22
 
 -- nothing was given, by this code
 abbrev pub refused : ℕ → Answer
@@ -20,10 +84,10 @@ refused code = record { code = code; place = 0; len = 0 }
 
 -- the code of an error
 abbrev pub code_of : AllocationError → ℕ
-code_of SizeIsZero = size_is_zero
-code_of SizeTooLarge = size_too_large
-code_of AlignmentFailure = alignment_failure
-code_of OutOfMemory = out_of_memory
+code_of request.SizeIsZero = size_is_zero
+code_of request.SizeTooLarge = size_too_large
+code_of request.AlignmentFailure = alignment_failure
+code_of request.OutOfMemory = out_of_memory
 
 -- the chunk, or the code of the error
 abbrev pub answer_by : {E : Type 0} → (E → ℕ) → Result Chunk E → Answer

@@ -1,18 +1,65 @@
 -- What a call of a handle promises. `old` and `new` are what is behind the handle before and after the call, and `told` is what
 -- C is told; behind an empty handle is `None`.
-use Rattle.std.specs.Prelude.{◌≡◌, ◌≢◌, ◌↔◌, ◌⊎◌, ◌<◌, ◌≤◌, ℕ, Option, Some, None, Result, Err, IfSome, IfOk, IfErr, OnErr}
+use Rattle.std.specs.Prelude.{◌≡◌, ◌≢◌, ◌↔◌, ◌⊎◌, ◌<◌, ◌≤◌, ◌∷◌, ◌++◌, [], ℕ, List, Option, Some, None, Result, Err, length}
+use Rattle.std.specs.Prelude.{IfSome, IfOk, IfErr, OnErr}
 use Rattle.std.specs.Align.{IsLayout}
-use Rattle.bb_memory_base.specs.Chunk.{Chunk}
+use Rattle.bb_memory_base.specs.Chunk.{Chunk, Region}
+use Rattle.bb_memory_base.specs.PoolGeometry.{HasBucket, PoolGeometry, bucket_place}
 use Rattle.bb_memory_base.specs.declared.layout.Layout.{Layout}
 use Rattle.bb_memory_base.specs.declared.allocator.AllocationError.{AllocationError}
-use Rattle.bb_memory_base.specs.PoolGeometry.{PoolGeometry, bucket_place}
 use Rattle.bb_memory.specs.Buckets.{IsPlaceOfBucket}
+use Rattle.bb_memory.specs.Pool.{MayBeCut}
+use Rattle.bb_memory_c.specs.Answers.{answer_of, figure_of, no_figure, refused, already_initialized, invalid_argument, ok}
+use Rattle.bb_memory_c.specs.Answers.{malloc_refused, invalid_layout, not_a_bucket, not_held, uninitialized, no_bucket, no_party}
 use Rattle.bb_memory_c.specs.declared.answer.Answer.{Answer}
 use Rattle.bb_memory_c.specs.declared.answer.Figure.{Figure}
-use Rattle.bb_memory_c.specs.Answers.{answer_of, figure_of, no_figure, refused}
-use Rattle.bb_memory_c.specs.Codes.{already_initialized, invalid_argument, ok, malloc_refused, invalid_layout}
-use Rattle.bb_memory_c.specs.Codes.{not_a_bucket, not_held, uninitialized, no_bucket, no_party}
-use Rattle.bb_memory_c.specs.Layouts.{FailsOf, IsOf, LacksRoomOf}
+
+-- LAYOUTS of two numbers that C hands in
+
+-- the layout of this size and this alignment
+abbrev pub IsOf : ℕ → ℕ → Layout → Type 0
+IsOf size align layout = (layout.size ≡ size) × (layout.align ≡ align)
+
+-- the layout of these numbers, into buckets of which the region may be cut
+pub record IsCuttable (size align : ℕ) (region : Region) (bucket : Layout) : Type 0 where
+  pub layout : IsOf size align bucket
+  pub may : MayBeCut region bucket
+
+-- there is a layout of these numbers, of which this isn't so
+abbrev pub FailsOf : ℕ → ℕ → (Layout → Type 0) → Type 0
+FailsOf size align may = (bucket : Layout) × IsOf size align bucket × (¬ may bucket)
+
+-- there is room for a bucket, namely for the first one
+abbrev pub HasRoom : Region → Layout → Type 0
+HasRoom region bucket = HasBucket region bucket 0
+
+-- there is a layout of these numbers that may be so, and there is no room for it
+abbrev pub LacksRoomOf : ℕ → ℕ → (Layout → Type 0) → (Layout → Type 0) → Type 0
+LacksRoomOf size align may room = (bucket : Layout) × IsOf size align bucket × may bucket × (¬ room bucket)
+
+-- there is at least one party, and the region may be cut so
+abbrev pub MayBeShared : Region → ℕ → Layout → Type 0
+MayBeShared region parties bucket = (1 ≤ parties) × MayBeCut region bucket
+
+-- what threads share, and the parties that haven't joined, of which the last one joins next
+pub record Parties (S P : Type 0) : Type 0 where
+  pub shared : S
+  pub parties : List P
+
+-- how many these are
+abbrev pub left_at : {S P : Type 0} → Parties S P → ℕ
+left_at all = length all.parties
+
+-- with one more of them, behind the others
+abbrev pub with_party : {S P : Type 0} → Parties S P → P → Parties S P
+with_party all party = record { shared = all.shared; parties = all.parties ++ party ∷ [] }
+
+-- a party is of what is shared here, and one of so many has joined
+pub record IsOneOf {S P : Type 0} (all : Parties S P) (its : S) (count : ℕ) : Type 0 where
+  pub theirs : its ≡ all.shared
+  pub out : left_at all < count
+
+-- HANDLES
 
 -- Where something is made behind the handle, the call answers so, and what is there becomes another. An empty handle is refused
 -- so, and all stays.
@@ -92,6 +139,10 @@ AnswersResize old new old_size old_align new_size new_align told tells =
     (λ made after. TellsResize old_size old_align new_size new_align told (tells made) × (after ≡ made))
 
 -- MAKING AND FREEING
+
+-- something is there, and is so
+abbrev pub IsThere : {X : Type 0} → (X → Type 0) → Option X → Type 0
+IsThere {X = X} is new = (made : X) × (new ≡ Some made) × is made
 
 -- A value is made behind an empty handle, where it may be made of its numbers and memory isn't refused.
 pub record AnswersMake {X : Type 0} (old new : Option X) (code : ℕ) (may : Type 0) (fresh : Option X → Type 0) : Type 0 where

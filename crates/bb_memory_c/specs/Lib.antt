@@ -1,14 +1,6 @@
 pub mod Answers
-pub mod Bumps
 pub mod Calls
-pub mod Codes
-pub mod Detached
 pub mod Handles
-pub mod Infos
-pub mod Layouts
-pub mod OneChunks
-pub mod Pools
-pub mod Parties
-pub mod SharedBumpHandles
+pub mod OneOwner
 pub mod SharedBumps
 pub mod SharedPools

@@ -1,8 +1,11 @@
--- A shared bump, and the parties of it that haven't joined.
-use Rattle.std.specs.Prelude.{◌≡◌, ◌≤◌, ℕ, All, List, length}
-use Rattle.bb_memory_base.specs.Chunk.{Region}
-use Rattle.bb_memory_c.specs.Parties.{IsOneOf, Parties}
-use Rattle.bb_memory.specs.SharedBump.{AreFresh, BumpParty, SharedBump, scene_at}
+-- A shared bump and its parties behind handles, and what C is told.
+use Rattle.std.specs.Prelude.{◌≡◌, ◌≢◌, ◌<◌, ◌≤◌, ◌↔◌, ℕ, All, List, length}
+use Rattle.bb_memory_base.specs.Chunk.{Region, IsRegion}
+use Rattle.bb_memory.specs.SharedBump.{AreFresh, BumpParty, HasLoaded, SharedBump, scene_at}
+use Rattle.bb_memory_c.specs.Answers.{ok, malloc_refused, parties_joined}
+use Rattle.bb_memory_c.specs.Calls.{IsOneOf, Parties, left_at}
+use Rattle.bb_memory_c.specs.OneOwner.{bump_info}
+use Rattle.bb_memory_c.specs.declared.answer.BumpInfo.{BumpInfo}
 
 abbrev pub BumpParties : Type 0
 BumpParties = Parties SharedBump BumpParty
@@ -22,3 +25,20 @@ pub record AreUnjoined (bump : SharedBump) (count capacity : ℕ) (parties : Lis
 pub record AreFreshOver (region : Region) (count : ℕ) (all : BumpParties) : Type 0 where
   pub scene : all.shared.scene ≡ scene_at region 0 count
   pub parties : AreFresh all.shared count all.parties
+
+-- a region, and at least one party
+pub record IsShareable (region : Region) (parties : ℕ) : Type 0 where
+  pub is_region : IsRegion region
+  pub some : 1 ≤ parties
+
+-- the party's figures are shown by what one load found, and the handle stands for what the party is then
+abbrev pub ShowsLoad : BumpParty → BumpInfo → BumpParty → Type 0
+ShowsLoad party info after =
+    (used : ℕ) × (info ≡ bump_info party.allocator.scene.region used) × HasLoaded party.allocator party used after
+
+-- The bump starts again over its region with as many parties, where each has left and memory isn't refused.
+pub record TellsReset (all after : BumpParties) (code : ℕ) : Type 0 where
+  pub begun : code ≡ ok → AreFreshOver all.shared.scene.region all.shared.scene.parties after
+  pub out : (code ≡ parties_joined) ↔ (left_at all < all.shared.scene.parties)
+  pub else_memory : code ≢ ok → code ≢ parties_joined → code ≡ malloc_refused
+  pub still : code ≢ ok → after ≡ all

@@ -1,16 +1,20 @@
--- A shared pool, its parties, and what their calls are answered.
-use Rattle.std.specs.Prelude.{◌≡◌, ◌+◌, ◌≤◌, ◌↔◌, ℕ, zero, suc, All, Bool, false, List, [], ◌++◌, Result, Ok, Err, length}
-use Rattle.std.specs.Prelude.{Option, Some, fold, if◌then◌else◌}
-use Rattle.bb_memory_base.specs.Chunk.{Region, Chunk}
+-- A shared pool, its parties, and detached buckets that go from party to party, behind handles: what their calls are answered.
+use Rattle.std.specs.Prelude.{◌≡◌, ◌≢◌, ◌+◌, ◌<◌, ◌≤◌, ◌↔◌, ◌++◌, [], ℕ, zero, suc, All, Bool, false, List, Result, Ok}
+use Rattle.std.specs.Prelude.{Option, None, IfSome, MatchOption, fold, length, if◌then◌else◌}
+use Rattle.std.specs.Result.{result_map_both}
+use Rattle.bb_memory_base.specs.Chunk.{Region, Chunk, IsInside}
 use Rattle.bb_memory_base.specs.PoolGeometry.{IsCut, bucket_place}
 use Rattle.bb_memory_base.specs.PoolHistory.{PoolLog}
 use Rattle.bb_memory_base.specs.PoolLogs.{IsHeldAfter, held_after}
 use Rattle.bb_memory_base.specs.declared.layout.Layout.{Layout}
 use Rattle.bb_memory_base.specs.declared.allocator.AllocationError.{AllocationError}
-use Rattle.bb_memory_c.specs.Parties.{IsOneOf, Parties}
 use Rattle.bb_memory.specs.NumberSet.{Has}
-use Rattle.bb_memory.specs.SharedPool.{AreFresh, PoolParty, SharedPool, TakenBucket, chunk_of, return_entry, with_entries}
+use Rattle.bb_memory.specs.SharedPool.{AreFresh, PoolParty, SharedPool, TakenBucket, attach_entry, chunk_of, detach_entry}
+use Rattle.bb_memory.specs.SharedPool.{return_entry, taken_bucket, with_entries}
 use Rattle.bb_memory.specs.SharedPoolNextFit.{MayTakeFrom, hint_of}
+use Rattle.bb_memory_c.specs.Answers.{answer_of, refused, detached_empty, detached_full, ok, not_held, one_party, size_too_large}
+use Rattle.bb_memory_c.specs.Calls.{IsOneOf, Parties}
+use Rattle.bb_memory_c.specs.declared.answer.Answer.{Answer}
 
 abbrev pub PoolParties : Type 0
 PoolParties = Parties SharedPool PoolParty
@@ -34,24 +38,16 @@ pub record AreUnjoined (pool : SharedPool) (capacity : ℕ) (parties : List Pool
   pub room : pool.scene.parties ≤ capacity
   pub idle : All (IsIdleAt pool) parties
 
--- the flags are set of just the buckets that are held after this log
-abbrev pub AreHeldFlags : List Bool → PoolLog → Type 0
-AreHeldFlags flags log = (bucket : ℕ) → Has flags bucket ↔ IsHeldAfter log bucket
-
 -- the party is this pool's, and the flags say which buckets it holds
 pub record IsJoinedAt (pool : SharedPool) (party : PoolParty) (flags : List Bool) : Type 0 where
   pub theirs : party.allocator ≡ pool
   pub as_many : length flags ≡ pool.scene.geometry.buckets
-  pub exact : AreHeldFlags flags party.log
+  pub exact : (bucket : ℕ) → Has flags bucket ↔ IsHeldAfter party.log bucket
 
 -- a pool over the region, cut into buckets of the layout, of so many parties, none of which has joined or made a step
 pub record AreFreshOver (region : Region) (bucket : Layout) (count : ℕ) (all : PoolParties) : Type 0 where
   pub cut : IsCut region bucket all.shared.scene.geometry
   pub parties : AreFresh all.shared count all.parties
-
--- such a pool is behind the handle
-abbrev pub MakesSharedPool : Region → Layout → ℕ → Option PoolParties → Type 0
-MakesSharedPool region bucket parties new = (all : PoolParties) × (new ≡ Some all) × AreFreshOver region bucket parties all
 
 -- the party holds the bucket of this number, which is at this place
 pub record HoldsAt (party : PoolParty) (place number : ℕ) : Type 0 where
@@ -62,15 +58,10 @@ pub record HoldsAt (party : PoolParty) (place number : ℕ) : Type 0 where
 abbrev pub HoldsPlace : PoolParty → ℕ → Type 0
 HoldsPlace party place = (number : ℕ) × HoldsAt party place number
 
--- the chunk in the bucket, if one was taken
-abbrev pub chunk_in : Result TakenBucket AllocationError → Result Chunk AllocationError
-chunk_in (Ok bucket) = Ok (chunk_of bucket)
-chunk_in (Err error) = Err error
-
 -- a request is answered the chunk in the bucket that the party took by a search from its hint, or why it took none
 abbrev pub GivesChunk : PoolParty → Layout → Result Chunk AllocationError → PoolParty → Type 0
 GivesChunk party layout answer after =
-    (taken : Result TakenBucket AllocationError) × (answer ≡ chunk_in taken)
+    (taken : Result TakenBucket AllocationError) × (answer ≡ result_map_both chunk_of (λ error. error) taken)
     × MayTakeFrom (hint_of party) party layout taken after
 
 -- the bucket at the place was given back, by one step
@@ -107,3 +98,64 @@ returns_of party (suc bucket) = returns_of party bucket ++ return_of party bucke
 pub record GivesAllBack (party after : PoolParty) : Type 0 where
   pub returned : after ≡ with_entries party (returns_of party party.allocator.scene.geometry.buckets)
   pub idle : ¬ HoldsSome after
+
+-- DETACHED BUCKETS
+
+-- what is behind the handle: a detached bucket, or none
+abbrev pub Detached : Type 0
+Detached = Option TakenBucket
+
+-- DETACHING
+
+-- the party's pool has another party
+abbrev pub HasOthers : PoolParty → Type 0
+HasOthers party = 1 < party.allocator.scene.parties
+
+-- a party, which isn't the only one, holds the bucket at the place
+abbrev pub MayDetachAt : PoolParty → ℕ → Type 0
+MayDetachAt party place = HasOthers party × HoldsPlace party place
+
+-- a party may detach the bucket at the place, and a chunk of so many bytes has room there
+abbrev pub MayDetachChunk : PoolParty → ℕ → ℕ → Type 0
+MayDetachChunk party place len = MayDetachAt party place × (len ≤ party.allocator.scene.geometry.bucket.size)
+
+-- a party may detach the bucket of a number, with a chunk of so many bytes
+pub record MayDetachBucket (party : PoolParty) (number len : ℕ) : Type 0 where
+  pub others : HasOthers party
+  pub held : IsHeldAfter party.log number
+  pub short : len ≤ party.allocator.scene.geometry.bucket.size
+
+-- the party detached the bucket of a number, by one step; the token of the detached bucket has a chunk of so many bytes
+pub record HasDetached (party : PoolParty) (number len : ℕ) (after : PoolParty) (token : TakenBucket) : Type 0 where
+  pub detached : after ≡ with_entries party (detach_entry party.number number)
+  pub its : token ≡ taken_bucket party.allocator number len
+
+-- What is answered where a party is to detach the bucket at a place, with a chunk of so many bytes: each cause of a refusal where
+-- none before it is one, and then all stays.
+pub record TellsDetach (party : PoolParty) (inside : Detached) (place len code : ℕ) (after : PoolParty) (filled : Detached)
+    : Type 0 where
+  pub one_party : ¬ HasOthers party → code ≡ one_party
+  pub not_held : HasOthers party → ¬ HoldsPlace party place → code ≡ not_held
+  pub too_large : MayDetachAt party place → party.allocator.scene.geometry.bucket.size < len → code ≡ size_too_large
+  pub full : MayDetachChunk party place len → inside ≢ None → code ≡ detached_full
+  pub detached : MayDetachChunk party place len → inside ≡ None →
+      (code ≡ ok) × ((number : ℕ) × HoldsAt party place number × MatchOption filled ⊥ (HasDetached party number len after))
+  pub still : code ≢ ok → (after ≡ party) × (filled ≡ inside)
+
+-- ATTACHING
+
+-- the detached bucket, where there is one, is of the party's pool
+abbrev pub IsForPool : PoolParty → Detached → Type 0
+IsForPool party inside = IfSome inside (λ token. token.allocator ≡ party.allocator)
+
+-- the party attached the detached bucket, by one step; the chunk in it lies in the region
+pub record HasAttached (party : PoolParty) (token : TakenBucket) (after : PoolParty) : Type 0 where
+  pub attached : after ≡ with_entries party (attach_entry party.number token.number)
+  pub inside : IsInside party.allocator.scene.geometry.region (chunk_of token)
+
+-- What is answered where a party is to attach the detached bucket: the chunk in that bucket. None is behind the handle then.
+pub record TellsAttach (party : PoolParty) (inside : Detached) (told : Answer) (after : PoolParty) (emptied : Detached)
+    : Type 0 where
+  pub attached : IfSome inside (λ token. (told ≡ answer_of (Ok (chunk_of token))) × HasAttached party token after)
+  pub nothing : inside ≡ None → (told ≡ refused detached_empty) × (after ≡ party)
+  pub empty : emptied ≡ None

@@ -2,10 +2,9 @@
 ghost use Rattle.std.specs.Prelude.{◌≡◌, None, Some};
 ghost use Rattle.bb_memory_base.specs.Chunk.{IsRegion, region_at};
 ghost use Rattle.bb_memory.specs.Bump.{bump_of};
-ghost use Rattle.bb_memory_c.specs.Bumps.{Allocates};
+ghost use Rattle.bb_memory_c.specs.Answers.{ok, uninitialized};
 ghost use Rattle.bb_memory_c.specs.Calls.{Answers, AnswersFree, AnswersInfo, AnswersMake, AnswersRequest};
-ghost use Rattle.bb_memory_c.specs.Codes.{ok, uninitialized};
-ghost use Rattle.bb_memory_c.specs.Infos.{ShowsBump};
+ghost use Rattle.bb_memory_c.specs.OneOwner.{BumpAllocates, ShowsBump};
 
 use crate::answer::{Answer, BumpInfo};
 use crate::call::{free, info, is_made, keep, request};
@@ -48,7 +47,7 @@ pub extern "C" fn bb_bump_destroy(alloc: Global, handle: &mut BumpHandle) -> u32
 /// Asks for a chunk of exactly `size` bytes at a multiple of `align`.
 #[unsafe(no_mangle)]
 pub extern "C" fn bb_bump_allocate(handle: &mut BumpHandle, size: usize, align: usize) -> Answer
-    ensures { AnswersRequest handle.old.value handle.new.value size align result Allocates }
+    ensures { AnswersRequest handle.old.value handle.new.value size align result BumpAllocates }
 {
     request(handle, size, align)
 }
@@ -90,7 +89,7 @@ impl Shows<BumpInfo> for BumpAllocator {
 }
 
 impl Gives for BumpAllocator {
-    ghost may_give = { Allocates };
+    ghost may_give = { BumpAllocates };
 
     fn give(&mut self, layout: Layout) -> Result<Chunk, AllocationError> {
         self.allocate(layout)

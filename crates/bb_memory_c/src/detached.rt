@@ -2,11 +2,10 @@
 //! exported functions.
 ghost use Rattle.std.specs.Prelude.{◌≡◌, ◌↔◌, ◌≢◌, IfErr, IfOk, IsTrue, None, Some};
 ghost use Rattle.bb_memory.specs.SharedPool.{chunk_of};
-ghost use Rattle.bb_memory_c.specs.Answers.{refused};
-ghost use Rattle.bb_memory_c.specs.Calls.{AnswersFree, AnswersMake, AnswersOfBoth, IfBoth, AnswersWhether};
-ghost use Rattle.bb_memory_c.specs.Codes.{ok, uninitialized};
-ghost use Rattle.bb_memory_c.specs.Detached.{HasAttached, HasDetached, IsForPool, MayDetachBucket, TellsAttach, TellsDetach};
-ghost use Rattle.bb_memory_c.specs.SharedPools.{HoldsAt};
+ghost use Rattle.bb_memory_c.specs.Answers.{ok, refused, uninitialized};
+ghost use Rattle.bb_memory_c.specs.Calls.{AnswersFree, AnswersMake, AnswersOfBoth, AnswersWhether, IfBoth};
+ghost use Rattle.bb_memory_c.specs.SharedPools.{HasAttached, HasDetached, HoldsAt, IsForPool, MayDetachBucket, TellsAttach};
+ghost use Rattle.bb_memory_c.specs.SharedPools.{TellsDetach};
 
 use crate::answer::{Answer, Figure};
 use crate::call::{free, is_made, keep};
@@ -25,7 +24,7 @@ pub struct Detached {
 }
 
 impl Model for Detached {
-    ghost use Rattle.bb_memory_c.specs.Detached.{Detached};
+    ghost use Rattle.bb_memory_c.specs.SharedPools.{Detached};
 
     ghost Value = { Detached };
 

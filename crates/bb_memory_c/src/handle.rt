@@ -10,8 +10,8 @@ ghost use Rattle.bb_memory.specs.OneChunk.{OneChunk};
 ghost use Rattle.bb_memory.specs.Pool.{CountedPool};
 ghost use Rattle.bb_memory.specs.SharedBump.{BumpParty};
 ghost use Rattle.bb_memory.specs.SharedPool.{PoolParty};
-ghost use Rattle.bb_memory_c.specs.Detached.{Detached as Inside};
 ghost use Rattle.bb_memory_c.specs.Handles.{owns_if};
+ghost use Rattle.bb_memory_c.specs.SharedPools.{Detached as Inside, PoolParties as SharedPool};
 ghost use Rattle.bb_memory_core.specs.contracts.bump_allocator.BumpAllocator.{the_row as bump_row};
 ghost use Rattle.bb_memory_core.specs.contracts.one_chunk_allocator.OneChunkAllocator.{the_row as one_chunk_row};
 ghost use Rattle.bb_memory_c.specs.contracts.detached.Detached.{the_row as detached_row};
@@ -21,7 +21,6 @@ ghost use Rattle.bb_memory_c.specs.contracts.shared_bump.JoinedBump.{the_row as 
 ghost use Rattle.bb_memory_c.specs.contracts.shared_pool.JoinedPool.{the_row as pool_party_row};
 ghost use Rattle.bb_memory_c.specs.contracts.shared_pool.PoolParties.{the_row as shared_pool_row};
 ghost use Rattle.bb_memory_c.specs.SharedBumps.{BumpParties as SharedBump};
-ghost use Rattle.bb_memory_c.specs.SharedPools.{PoolParties as SharedPool};
 
 use crate::detached::Detached;
 use crate::held::Held;

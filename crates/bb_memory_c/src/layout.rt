@@ -3,9 +3,9 @@ ghost use Rattle.std.specs.Prelude.{◌≡◌, ◌≢◌, ◌↔◌, IfOk, IfErr
 ghost use Rattle.std.specs.Align.{IsLayout};
 ghost use Rattle.bb_memory_base.specs.declared.layout.Layout.{Layout as Asked};
 ghost use Rattle.bb_memory_base.specs.Chunk.{region_at};
-ghost use Rattle.bb_memory_c.specs.Codes.{invalid_argument, invalid_layout};
+ghost use Rattle.bb_memory_c.specs.Answers.{invalid_argument, invalid_layout};
 ghost use Rattle.bb_memory.specs.Pool.{MayBeCut};
-ghost use Rattle.bb_memory_c.specs.Layouts.{CannotCut, HasRoom, IsCuttable, IsOf};
+ghost use Rattle.bb_memory_c.specs.Calls.{FailsOf, HasRoom, IsCuttable, IsOf};
 
 use crate::code;
 use bb_memory::layout::Layout;
@@ -54,7 +54,7 @@ pub(crate) fn cut_into(
     ensures cut { IfOk result (IsCuttable bucket_size bucket_align (region_at start size)) }
     ensures invalid_layout { (result ≡ Err invalid_layout) ↔ (¬ IsLayout bucket_size bucket_align) }
     ensures invalid_argument { (result ≡ Err invalid_argument)
-        ↔ CannotCut bucket_size bucket_align (region_at start size) }
+        ↔ FailsOf bucket_size bucket_align (MayBeCut (region_at start size)) }
     ensures others { IfErr result (λ code. code ≢ invalid_layout → code ≡ invalid_argument) }
 {
     let Some(bucket) = layout_of(bucket_size, bucket_align) else {

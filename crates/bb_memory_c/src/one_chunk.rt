@@ -4,10 +4,9 @@ ghost use Rattle.bb_memory_base.specs.Chunk.{IsRegion, region_at};
 ghost use Rattle.bb_memory.specs.OneChunk.{one_chunk_of};
 ghost use Rattle.bb_memory_base.specs.OneChunkObject.{MayGrow, MayShrink, reserved_at};
 ghost use Rattle.bb_memory_c.specs.Answers.{AnswersStill, TellsOfLayouts, TellsResized, grow_code, shrink_code};
-ghost use Rattle.bb_memory_c.specs.Calls.{AnswersFree, AnswersInfo, AnswersMake, AnswersRequest, AnswersResize};
-ghost use Rattle.bb_memory_c.specs.Calls.{AnswersReturn, AnswersWhether};
-ghost use Rattle.bb_memory_c.specs.Infos.{ShowsOneChunk};
-ghost use Rattle.bb_memory_c.specs.OneChunks.{Allocates};
+ghost use Rattle.bb_memory_c.specs.Calls.{AnswersFree, AnswersInfo, AnswersMake, AnswersRequest, AnswersResize, AnswersReturn};
+ghost use Rattle.bb_memory_c.specs.Calls.{AnswersWhether};
+ghost use Rattle.bb_memory_c.specs.OneOwner.{OneChunkAllocates, ShowsOneChunk};
 
 use crate::answer::{Answer, Figure, OneChunkInfo};
 use crate::call::{free, give_back, holds, info, is_made, keep, request};
@@ -57,7 +56,7 @@ pub extern "C" fn bb_one_chunk_allocate(
     size: usize,
     align: usize,
 ) -> Answer
-    ensures { AnswersRequest handle.old.value handle.new.value size align result Allocates }
+    ensures { AnswersRequest handle.old.value handle.new.value size align result OneChunkAllocates }
 {
     request(handle, size, align)
 }
@@ -183,7 +182,7 @@ impl Shows<OneChunkInfo> for OneChunkAllocator {
 }
 
 impl Gives for OneChunkAllocator {
-    ghost may_give = { Allocates };
+    ghost may_give = { OneChunkAllocates };
 
     fn give(&mut self, layout: Layout) -> Result<Chunk, AllocationError> {
         self.allocate(layout)

@@ -4,10 +4,8 @@ ghost use Rattle.bb_memory_base.specs.Chunk.{region_at};
 ghost use Rattle.bb_memory.specs.HeldBuckets.{held_count};
 ghost use Rattle.bb_memory.specs.Pool.{Frees, HoldsPlace, MayBeCut, Takes};
 ghost use Rattle.bb_memory_c.specs.Calls.{AnswersFree, AnswersInfo, AnswersNumber, AnswersPlace, AnswersPoolMake};
-ghost use Rattle.bb_memory_c.specs.Calls.{AnswersRequest, AnswersReturn, AnswersWhether};
-ghost use Rattle.bb_memory_c.specs.Infos.{pool_info};
-ghost use Rattle.bb_memory_c.specs.Layouts.{HasRoom};
-ghost use Rattle.bb_memory_c.specs.Pools.{MakesPool};
+ghost use Rattle.bb_memory_c.specs.Calls.{AnswersRequest, AnswersReturn, AnswersWhether, HasRoom};
+ghost use Rattle.bb_memory_c.specs.OneOwner.{MakesPool, pool_info};
 
 use crate::answer::{Answer, Figure, PoolInfo};
 use crate::call::{free, give_back, holds, info, is_made, keep, number, place, request};

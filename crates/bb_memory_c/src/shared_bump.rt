@@ -2,12 +2,10 @@
 ghost use Rattle.std.specs.Prelude.{◌≡◌, ◌<◌, ◌↔◌, IfSome, IsTrue, Some};
 ghost use Rattle.bb_memory_base.specs.Chunk.{region_at};
 ghost use Rattle.bb_memory.specs.SharedBump.{MayTake};
+ghost use Rattle.bb_memory_c.specs.Answers.{uninitialized};
 ghost use Rattle.bb_memory_c.specs.Calls.{Answers, AnswersFree, AnswersInfo, AnswersJoin, AnswersLeave, AnswersMake};
-ghost use Rattle.bb_memory_c.specs.Calls.{AnswersRequest, IfBoth};
-ghost use Rattle.bb_memory_c.specs.Codes.{uninitialized};
-ghost use Rattle.bb_memory_c.specs.Parties.{with_party, left_at};
-ghost use Rattle.bb_memory_c.specs.SharedBumpHandles.{IsShareable, MakesSharedBump, ShowsLoad, TellsReset};
-ghost use Rattle.bb_memory_c.specs.SharedBumps.{AreFreshOver, IsAt};
+ghost use Rattle.bb_memory_c.specs.Calls.{AnswersRequest, IfBoth, IsThere, left_at, with_party};
+ghost use Rattle.bb_memory_c.specs.SharedBumps.{AreFreshOver, IsAt, IsShareable, ShowsLoad, TellsReset};
 
 use crate::answer::{Answer, BumpInfo};
 use crate::call::{free, info, is_made, join, keep, leave, request};
@@ -187,7 +185,7 @@ pub extern "C" fn bb_shared_bump_init(
 ) -> u32
     ensures { AnswersMake handle.old.value handle.new.value result
         (IsShareable (region_at start size) parties)
-        (MakesSharedBump (region_at start size) parties) }
+        (IsThere (AreFreshOver (region_at start size) parties)) }
 {
     if is_made(handle) {
         return code::ALREADY_INITIALIZED;

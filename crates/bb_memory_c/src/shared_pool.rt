@@ -4,13 +4,12 @@ ghost use Rattle.std.specs.Prelude.{◌≡◌, ◌<◌, IfSome, IfNone, count_by
 ghost use Rattle.bb_memory_base.specs.Chunk.{region_at};
 ghost use Rattle.bb_memory_base.specs.PoolLogs.{IsHeldAfter};
 ghost use Rattle.bb_memory.specs.SharedPool.{return_entry, with_entries};
-ghost use Rattle.bb_memory_c.specs.Calls.{AnswersFree, AnswersInfo, AnswersNumber, AnswersPlace, AnswersPoolMake};
-ghost use Rattle.bb_memory_c.specs.Calls.{AnswersRequest, AnswersReturn, AnswersWhether, AnswersLeave, AnswersJoin, IfBoth};
-ghost use Rattle.bb_memory_c.specs.Infos.{pool_info};
-ghost use Rattle.bb_memory_c.specs.Layouts.{HasRoom, MayBeShared};
-ghost use Rattle.bb_memory_c.specs.Parties.{with_party, left_at};
+ghost use Rattle.bb_memory_c.specs.Calls.{AnswersFree, AnswersInfo, AnswersJoin, AnswersLeave, AnswersNumber, AnswersPlace};
+ghost use Rattle.bb_memory_c.specs.Calls.{AnswersPoolMake, AnswersRequest, AnswersReturn, AnswersWhether, HasRoom, IfBoth};
+ghost use Rattle.bb_memory_c.specs.Calls.{IsThere, MayBeShared, left_at, with_party};
+ghost use Rattle.bb_memory_c.specs.OneOwner.{pool_info};
 ghost use Rattle.bb_memory_c.specs.SharedPools.{AreFreshOver, GivesAllBack, GivesBack, GivesChunk, HoldsAt, HoldsPlace, IsAt};
-ghost use Rattle.bb_memory_c.specs.SharedPools.{MakesSharedPool, held_by, return_of};
+ghost use Rattle.bb_memory_c.specs.SharedPools.{held_by, return_of};
 
 use crate::answer::{Answer, Figure, PoolInfo};
 use crate::call::{
@@ -269,7 +268,7 @@ pub extern "C" fn bb_shared_pool_init(
 ) -> u32
     ensures { AnswersPoolMake handle.old.value handle.new.value bucket_size bucket_align result
         (MayBeShared (region_at start size) parties) (HasRoom (region_at start size))
-        (λ bucket. MakesSharedPool (region_at start size) bucket parties) }
+        (λ bucket. IsThere (AreFreshOver (region_at start size) bucket parties)) }
 {
     if is_made(handle) {
         return code::ALREADY_INITIALIZED;

@@ -1,9 +1,5 @@
-pub mod Budgets
 pub mod ByteVectors
-pub mod Carvings
-pub mod Messages
-pub mod Records
+pub mod Limits
 pub mod Requests
 pub mod Rings
-pub mod Tenants
-pub mod Workers
+pub mod Threads

@@ -11,8 +11,7 @@ use Rattle.loan_book.specs.Sample.{Sample, returns_to_come}
 use Rattle.loan_book.specs.declared.error.LoanError.TheVariants.{Size, IdsExhausted, Memory, Allocation}
 use Rattle.uses.specs.declared.ring.SendError.{SendError}
 use Rattle.uses.specs.declared.ring.SendError.TheVariants as send
-use Rattle.uses.specs.Records.{records_in}
-use Rattle.uses.specs.Requests.{Answers, MayAnswer}
+use Rattle.uses.specs.Requests.{Answers, MayAnswer, records_in}
 
 -- the allocator below, how many readers each message has, how many messages were sent, the chunks and the bytes of those that
 -- wait, the oldest first, and how many readers of each are to come

@@ -1,8 +1,7 @@
 //! Threads that carve one bump up, and the bump that one owner then has again.
 ghost use Rattle.std.specs.Prelude.{◌≡◌, IfOk};
 ghost use Rattle.bb_memory.specs.SharedBump.{BumpParty, MayTake};
-ghost use Rattle.uses.specs.Carvings.{HasAsked, IsCarved};
-ghost use Rattle.uses.specs.Workers.{Asks};
+ghost use Rattle.uses.specs.Threads.{Asks, HasAsked, IsCarved};
 
 use bb_memory::bump_allocator::BumpAllocator;
 use bb_memory::layout::Layout;

@@ -17,7 +17,7 @@ pub struct ChunkBudget<A: BaseAllocator + Drop> {
 impl<A: BaseAllocator + Drop> Model for ChunkBudget<A> {
     ghost use Rattle.std.specs.Prelude.{◌≡◌, ◌≤◌, List, length};
     ghost use Rattle.bb_memory_base.specs.Chunk.{Chunk};
-    ghost use Rattle.uses.specs.Budgets.{Budgeted};
+    ghost use Rattle.uses.specs.Limits.{Budgeted};
 
     ghost Value = { Budgeted A };
 
@@ -59,7 +59,7 @@ impl<A: BaseAllocator + Drop> ChunkBudget<A> {
 impl<A: BaseAllocator + Drop> BaseAllocator for ChunkBudget<A> {
     ghost use Rattle.std.specs.Prelude.{◌≡◌, ℕ, List, Some, length, slice_get, refl};
     ghost use Rattle.bb_memory_base.specs.Chunk.{Chunk};
-    ghost use Rattle.uses.specs.Budgets.{Limited, MayAnswerChunks};
+    ghost use Rattle.uses.specs.Limits.{Limited, MayAnswerChunks};
 
     const RELEASE_EMPTIES: bool = A::RELEASE_EMPTIES;
 
@@ -119,7 +119,7 @@ impl<A: BaseAllocator + Drop> BaseAllocator for ChunkBudget<A> {
 
 impl<A: Allocator + Drop> Allocator for ChunkBudget<A> {
     ghost use Rattle.std.proofs.Common.{ap, subst};
-    ghost use Rattle.uses.specs.Budgets.{Limited};
+    ghost use Rattle.uses.specs.Limits.{Limited};
 
     ghost Figures = { A.Figures };
 

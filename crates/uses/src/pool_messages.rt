@@ -2,8 +2,7 @@
 ghost use Rattle.std.specs.Prelude.{◌≡◌, ◌<◌, Err, IfErr, IfOk};
 ghost use Rattle.bb_memory_base.specs.PoolLogs.{IsHeldAfter};
 ghost use Rattle.bb_memory.specs.SharedPool.{MayTakeBucket, chunk_of};
-ghost use Rattle.uses.specs.Messages.{Sends, having_received};
-ghost use Rattle.uses.specs.Workers.{KeepsBuckets, MayTakeNextFit};
+ghost use Rattle.uses.specs.Threads.{KeepsBuckets, MayTakeNextFit, Sends, having_received};
 
 use bb_memory::allocator::AllocationError;
 use bb_memory::layout::{Chunk, Layout};

@@ -1,7 +1,7 @@
 //! Threads that take buckets of one pool, and what is known once all of them are back.
 ghost use Rattle.std.specs.Prelude.{◌≡◌, All, IfOk, length};
 ghost use Rattle.bb_memory.specs.SharedPool.{AreFresh, HaveMet, HoldApart, PoolParty};
-ghost use Rattle.uses.specs.Workers.{AllComeBack, AsksNextFit, ComesBack, HasAskedNextFit};
+ghost use Rattle.uses.specs.Threads.{AllComeBack, AsksNextFit, ComesBack, HasAskedNextFit};
 
 use bb_memory::layout::Layout;
 use bb_memory::pool_allocator::pool_count_law;

@@ -45,7 +45,7 @@ impl<A: Allocator + Drop> Model for MessageRing<A> {
     ghost use Rattle.std.specs.Prelude.{◌≡◌, ◌<◌};
     ghost use Rattle.bb_memory_base.specs.HeldBytes.{held_region};
     ghost use Rattle.loan_book.specs.Book.{chunks_out};
-    ghost use Rattle.uses.specs.Rings.{Ring, GivesExactly, ids_of, ring_of};
+    ghost use Rattle.uses.specs.Rings.{GivesExactly, Ring, ids_of, ring_of};
 
     ghost Value = { Ring A };
 

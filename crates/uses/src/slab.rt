@@ -5,8 +5,7 @@ ghost use Rattle.bb_memory_base.specs.Chunk.{Chunk};
 ghost use Rattle.bb_memory_base.specs.LiveList.{IsSound};
 ghost use Rattle.bb_memory_base.specs.declared.layout.Layout.{Layout};
 ghost use Rattle.bb_memory_base.specs.HeldBytes.{HeldBytes, held_region};
-ghost use Rattle.uses.specs.Records.{HoldsThen, Leaves, Stores, records_in};
-ghost use Rattle.uses.specs.Requests.{IsOfBytes, MayGiveLonger};
+ghost use Rattle.uses.specs.Requests.{HoldsThen, IsOfBytes, Leaves, MayGiveLonger, Stores, records_in};
 
 use bb_memory_base::allocator::{AllocationError, Allocator, BaseAllocator};
 use bb_memory_base::layout::{Chunk, Layout, LayoutError};
@@ -40,7 +39,7 @@ pub struct Slab<A: Allocator + Drop> {
 impl<A: Allocator + Drop> Model for Slab<A> {
     ghost use Rattle.std.specs.Prelude.{◌≡◌};
     ghost use Rattle.bb_memory_base.specs.HeldBytes.{held_region};
-    ghost use Rattle.uses.specs.Records.{Records, records_in};
+    ghost use Rattle.uses.specs.Requests.{Records, records_in};
 
     // A slab is its records, with their allocator and the chunks in which they lie.
     ghost Value = { Records A };

@@ -5,9 +5,8 @@ ghost use Rattle.std.specs.Prelude.{length, remove, slice_get, slice_index_or, s
 ghost use Rattle.bb_memory_base.specs.Chunk.{IsInside};
 ghost use Rattle.bb_memory_base.specs.LiveList.{IsSound};
 ghost use Rattle.uses.specs.declared.tenants.Lease.{Lease};
-ghost use Rattle.uses.specs.Tenants.{HasLeft, IsUnasked, IsWhyNotAdmitted, IsWhyNotLeased};
-ghost use Rattle.uses.specs.Tenants.{bytes_for, bytes_out, chunks_of, lease_at};
-ghost use Rattle.uses.specs.Tenants.{limit_of, used_by, with_lease, with_tenant, without_lease};
+ghost use Rattle.uses.specs.Limits.{HasLeft, IsUnasked, IsWhyNotAdmitted, IsWhyNotLeased, bytes_for, bytes_out, chunks_of};
+ghost use Rattle.uses.specs.Limits.{lease_at, limit_of, used_by, with_lease, with_tenant, without_lease};
 
 use crate::slab::return_last;
 use bb_memory_base::allocator::{AllocationError, Allocator, BaseAllocator};
@@ -93,7 +92,7 @@ pub struct Tenants<A: Allocator + Drop> {
 
 impl<A: Allocator + Drop> Model for Tenants<A> {
     ghost use Rattle.std.specs.Prelude.{◌≡◌, ◌≤◌, ℕ, sum};
-    ghost use Rattle.uses.specs.Tenants.{Tenancy, chunks_of, limit_of, used_by};
+    ghost use Rattle.uses.specs.Limits.{Tenancy, chunks_of, limit_of, used_by};
 
     // Tenants are their allocator, the whole, the limit of each, and the chunks that they hold.
     ghost Value = { Tenancy A };

@@ -1,14 +1,36 @@
--- Tenants of one allocator, each with a limit in bytes.
-use Rattle.std.specs.Prelude.{◌+◌, ◌<◌, ◌≤◌, ◌==◌, ◌&&◌, ◌∷◌, ◌++◌, if◌then◌else◌, [], ℕ, List, Option}
-use Rattle.std.specs.Prelude.{Bool, Ok, Err, length, map, nat_eq, position, remove, slice_index_or, sum, sum_by}
+-- Limits over an allocator: how many chunks may be out, and how many bytes each tenant may have.
+use Rattle.std.specs.Prelude.{◌≡◌, ◌+◌, ◌<◌, ◌≤◌, ◌⊎◌, ◌==◌, ◌&&◌, ◌∷◌, ◌++◌, if◌then◌else◌, [], ℕ, Bool, List, Option}
+use Rattle.std.specs.Prelude.{Result, Ok, Err, length, map, nat_eq, position, remove, slice_index_or, sum, sum_by}
 use Rattle.bb_memory_base.specs.Chunk.{Chunk}
 use Rattle.bb_memory_base.specs.declared.layout.Layout.{Layout}
+use Rattle.bb_memory_base.specs.declared.allocator.AllocationError.{AllocationError}
+use Rattle.bb_memory_base.specs.declared.allocator.AllocationError.TheVariants.{OutOfMemory}
 use Rattle.uses.specs.declared.tenants.Lease.{Lease}
 use Rattle.uses.specs.declared.tenants.AdmitError.{AdmitError}
 use Rattle.uses.specs.declared.tenants.AdmitError.TheVariants as admit
 use Rattle.uses.specs.declared.tenants.LeaseError.{LeaseError}
 use Rattle.uses.specs.declared.tenants.LeaseError.TheVariants as lease
 use Rattle.uses.specs.Requests.{Answers}
+
+-- A BUDGET OF CHUNKS
+
+-- the allocator below, how many chunks may be out, and how many are
+pub record Budgeted (A : Type 0) : Type 0 where
+  pub inner : A
+  pub budget : ℕ
+  pub out : ℕ
+
+-- the geometry of such an allocator, and how many chunks may be out
+pub record Limited (G : Type 0) : Type 0 where
+  pub inner : G
+  pub budget : ℕ
+
+-- where fewer chunks are out it answers as the allocator below, and where so many are out it refuses
+abbrev pub MayAnswerChunks : Type 0 → ℕ → List Chunk → Result Chunk AllocationError → Type 0
+MayAnswerChunks Below budget live answer =
+    ((length live < budget) × Below) ⊎ ((budget ≤ length live) × (answer ≡ Err OutOfMemory))
+
+-- TENANTS
 
 -- the allocator below, how many bytes all limits may be together, the limit of each tenant by its number, and the leases that are
 -- out, in the order in which they were given

@@ -1,0 +1,66 @@
+-- The allocators with one owner behind handles: what their requests are answered, and the figures that are shown of them.
+use Rattle.std.specs.Prelude.{◌≡◌, ◌-◌, ◌↔◌, ◌++◌, ◌∷◌, [], ℕ, IsTrue, List, Option, None, Some, Result, IfOk}
+use Rattle.bb_memory_base.specs.Chunk.{Chunk, Region}
+use Rattle.bb_memory_base.specs.BumpObject.{MayAllocate, StandsFor}
+use Rattle.bb_memory_base.specs.FirstPlace.{first_place}
+use Rattle.bb_memory_base.specs.PoolGeometry.{PoolGeometry, IsCut}
+use Rattle.bb_memory_base.specs.declared.layout.Layout.{Layout}
+use Rattle.bb_memory_base.specs.declared.allocator.AllocationError.{AllocationError}
+use Rattle.bb_memory.specs.Bump.{Bump, Takes as TakesOfBump}
+use Rattle.bb_memory.specs.OneChunk.{OneChunk, Takes as TakesChunk}
+use Rattle.bb_memory.specs.Pool.{CountedPool, counted, fresh_pool}
+use Rattle.bb_memory_c.specs.declared.answer.BumpInfo.{BumpInfo}
+use Rattle.bb_memory_c.specs.declared.answer.OneChunkInfo.{OneChunkInfo}
+use Rattle.bb_memory_c.specs.declared.answer.PoolInfo.{PoolInfo}
+
+-- What the bump answers to a request, and what it is then.
+pub record BumpAllocates (bump : Bump) (layout : Layout)
+    (answer : Result Chunk AllocationError) (after : Bump) : Type 0 where
+  -- the bump by its value
+  pub value : TakesOfBump bump layout answer after
+  pub region : after.region ≡ bump.region
+  -- the bump by its object, on each list of chunks that are out
+  pub object : (live : List Chunk) → StandsFor bump.region bump.used live
+      → MayAllocate bump.region live layout answer
+  pub appended : IfOk answer (λ chunk. (live : List Chunk) → StandsFor bump.region bump.used live
+      → StandsFor after.region after.used (live ++ chunk ∷ []))
+
+-- What the allocator answers to a request by its value, and what it is then: of the same region.
+pub record OneChunkAllocates (one : OneChunk) (layout : Layout)
+    (answer : Result Chunk AllocationError) (after : OneChunk) : Type 0 where
+  pub value : TakesChunk one layout answer after
+  pub region : after.region ≡ one.region
+
+-- a fresh pool over the region, cut into buckets of the layout
+abbrev pub MakesPool : Region → Layout → Option CountedPool → Type 0
+MakesPool region bucket new = (geometry : PoolGeometry)
+    × IsCut region bucket geometry × (new ≡ Some (counted (fresh_pool geometry) 0))
+
+-- FIGURES
+
+-- figures of a bump over the region, of which so many bytes are used
+abbrev pub bump_info : Region → ℕ → BumpInfo
+bump_info region used =
+    record { start_address = region.start; used_space = used; free_space = region.size - used; total_space = region.size }
+
+-- figures of a bump, which stays
+abbrev pub ShowsBump : Bump → BumpInfo → Bump → Type 0
+ShowsBump bump info after = (info ≡ bump_info bump.region bump.used) × (after ≡ bump)
+
+-- figures of a one-chunk allocator, which stays
+pub record ShowsOneChunk (one : OneChunk) (info : OneChunkInfo) (after : OneChunk) : Type 0 where
+  pub start_address : info.start_address ≡ one.region.start
+  pub size : info.size ≡ one.region.size
+  pub available : IsTrue info.has_chunk_available ↔ (one.kept ≡ None)
+  pub unchanged : after ≡ one
+
+-- figures of a pool of this geometry, of which so many buckets are held
+abbrev pub pool_info : PoolGeometry → ℕ → PoolInfo
+pool_info geometry held = record {
+  start_address = first_place geometry.region geometry.bucket;
+  size = geometry.region.size;
+  bucket_size = geometry.bucket.size;
+  max_alignment = geometry.bucket.align;
+  number_of_buckets = geometry.buckets;
+  held_buckets = held;
+}
