@@ -1,5 +1,6 @@
 //! Threads that take buckets of one pool, and what is known once all of them are back.
 ghost use Rattle.std.specs.Prelude.{◌≡◌, All, IfOk, length};
+ghost use Rattle.bb_memory_base.specs.declared.layout.Layout.{Layout};
 ghost use Rattle.bb_memory.specs.SharedPool.{AreFresh, HaveMet, HoldApart, PoolParty};
 ghost use Rattle.uses.specs.Threads.{AllComeBack, AsksNextFit, ComesBack, HasAskedNextFit};
 
@@ -50,8 +51,21 @@ pub fn four_workers<R: Threads + Sync>(
 {
     let (pool, parties) = pool_of_four(alloc)?;
     let mut back = take_one_each(rt, &pool, parties, layout)?;
-    pool.meet_all(&mut back);
+    meet(&pool, &mut back);
     Ok((pool, back))
+}
+
+/// Has the parties meet, which stay as they are.
+fn meet(pool: &SharedPoolAllocator, parties: &mut Vec<PoolParty>)
+    requires { All (λ party. party.allocator ≡ pool.now) parties.old.items }
+    ensures theirs { All (λ party. party.allocator ≡ pool.now) parties.new.items }
+    ensures met { HaveMet pool.now.scene parties.new.items }
+    ensures apart { HoldApart parties.new.items }
+    ensures all { length parties.new.items ≡ length parties.old.items }
+    ensures asked { (layout : Layout) → All (HasAskedNextFit layout) parties.old.items
+        → All (HasAskedNextFit layout) parties.new.items }
+{
+    pool.meet_all(parties);
 }
 
 /// Runs a thread for each party, which takes a bucket, and joins them all.

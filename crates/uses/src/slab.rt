@@ -104,8 +104,7 @@ impl<A: Allocator + Drop> Slab<A> {
         requires { position < length self.now.records }
         ensures { slice_get self.now.records position ≡ Some result.now }
     {
-        let chunk = self.chunks[position];
-        self.region.chunk(chunk)
+        self.region.chunk(chunk_at(&self.chunks, position))
     }
 
     /// Writes a record whole, with as many bytes as it has. The others keep theirs.
@@ -125,9 +124,9 @@ impl<A: Allocator + Drop> Slab<A> {
         ensures { Leaves A.geometry self.old (remove self.old.chunks position)
             (remove self.old.records position) self.new }
     {
-        let chunk = self.chunks.remove(position);
+        give_back(&mut self.allocator, chunk_at(&self.chunks, position));
         records_law::<A>();
-        self.allocator.deallocate(chunk.place(), Layout::empty());
+        self.chunks.remove(position);
     }
 }
 
@@ -174,6 +173,16 @@ pub fn return_last<A: Allocator>(inner: &mut A, chunk: Chunk, layout: Layout)
 {
     append_law::<Chunk>();
     inner.deallocate(chunk.place(), layout);
+}
+
+/// Gives back a chunk: the allocator then stands for the lists without it.
+pub(crate) fn give_back<A: Allocator>(inner: &mut A, chunk: Chunk)
+    requires { A.may_release inner.old chunk.place }
+    ensures stands { (live : List Chunk) (position : ℕ) → A.stands_for inner.old live
+        → slice_get live position ≡ Some chunk → A.stands_for inner.new (remove live position) }
+    ensures geometry { A.geometry inner.new ≡ A.geometry inner.old }
+{
+    inner.deallocate(chunk.place(), Layout::empty());
 }
 
 /// An allocator that may give a longer chunk for a layout may give one for the layout's size, and taking a chunk out of a list

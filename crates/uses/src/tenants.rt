@@ -8,7 +8,7 @@ ghost use Rattle.uses.specs.declared.tenants.Lease.{Lease};
 ghost use Rattle.uses.specs.Limits.{HasLeft, IsUnasked, IsWhyNotAdmitted, IsWhyNotLeased, bytes_for, bytes_out, chunks_of};
 ghost use Rattle.uses.specs.Limits.{lease_at, limit_of, used_by, with_lease, with_tenant, without_lease};
 
-use crate::slab::return_last;
+use crate::slab::{self, return_last};
 use bb_memory_base::allocator::{AllocationError, Allocator, BaseAllocator};
 use bb_memory_base::layout::{Chunk, Layout};
 use bb_memory_base::lists::{Grouped, append_law, group_law, map_law, position_law, sum_law};
@@ -229,7 +229,8 @@ impl<A: Allocator + Drop> Tenants<A> {
             return_last(&mut self.allocator, chunk, layout);
             return Err(LeaseError::TooLong);
         }
-        leases_law();
+        use_law();
+        chunks_law();
         self.leases.push_reserved(Lease { tenant, chunk });
         Ok(chunk)
     }
@@ -264,11 +265,20 @@ impl<A: Allocator + Drop> Tenants<A> {
         let Some(position) = lease_of(&self.leases, tenant, place) else {
             return Err(NotHeld {});
         };
-        leases_law();
+        self.end_lease(position);
+        Ok(())
+    }
+
+    /// Gives back the chunk of the lease at a position.
+    fn end_lease(&mut self, position: usize)
+        requires { position < length self.old.leases }
+        ensures returned { self.new ≡ without_lease self.old self.new.allocator position }
+        ensures geometry { A.geometry self.new.allocator ≡ A.geometry self.old.allocator }
+    {
         let lease = self.leases[position];
         give_back(&mut self.allocator, &self.leases, position, lease);
+        use_law();
         self.leases.remove(position);
-        Ok(())
     }
 
     /// Does nothing. It is the proof that the allocator stands for exactly the chunks that the tenants hold, which so lie
@@ -309,8 +319,8 @@ fn give_back<A: Allocator>(allocator: &mut A, leases: &Vec<Lease>, position: usi
     ensures stands { A.stands_for allocator.new (chunks_of (remove leases.now.items position)) }
     ensures geometry { A.geometry allocator.new ≡ A.geometry allocator.old }
 {
-    leases_law();
-    allocator.deallocate(lease.chunk.place(), Layout::empty());
+    chunks_law();
+    slab::give_back(allocator, lease.chunk);
 }
 
 /// A tenant is refused a byte more than its limit, whatever the allocator has.
@@ -357,8 +367,36 @@ pub fn leases_law()
         → ((tenant : ℕ) → used_by tenant leases ≤ limit_of limits tenant)
         → bytes_out leases ≤ sum limits }
 {
-    sum_law::<Lease>();
-    map_law::<Lease, Chunk>();
+    use_law();
+    chunks_law();
     position_law::<Lease>();
     group_law::<Lease>();
+}
+
+/// One lease more or less changes its own tenant's use alone.
+fn use_law()
+    ensures more { (leases : List Lease) (lease : Lease) (tenant : ℕ)
+        → used_by tenant (leases ++ lease ∷ []) ≡ used_by tenant leases + bytes_for tenant lease }
+    ensures less { (leases : List Lease) (position : ℕ) (lease : Lease) (tenant : ℕ)
+        → slice_get leases position ≡ Some lease
+        → (used_by tenant (remove leases position) + bytes_for tenant lease
+        ≡ used_by tenant leases) }
+    ensures own { (lease : Lease) → bytes_for lease.tenant lease ≡ lease.chunk.len }
+    ensures others { (lease : Lease) (other : ℕ) → other ≢ lease.tenant
+        → bytes_for other lease ≡ 0 }
+{
+    sum_law::<Lease>();
+}
+
+/// One lease more or less is a chunk more or less that is out.
+fn chunks_law()
+    ensures chunks { (leases : List Lease) (lease : Lease)
+        → chunks_of (leases ++ lease ∷ []) ≡ chunks_of leases ++ lease.chunk ∷ [] }
+    ensures chunk { (leases : List Lease) (position : ℕ) (lease : Lease)
+        → slice_get leases position ≡ Some lease
+        → slice_get (chunks_of leases) position ≡ Some lease.chunk }
+    ensures rest { (leases : List Lease) (position : ℕ)
+        → chunks_of (remove leases position) ≡ remove (chunks_of leases) position }
+{
+    map_law::<Lease, Chunk>();
 }
