@@ -1,6 +1,4 @@
 //! The bump.
-#![tactic(auto, unfolding(bb_memory_base::specs::LeastPlace::least_place))]
-
 ghost use Rattle.std.specs.Prelude.{◌≡◌};
 
 use bb_memory::bump_allocator::{AllocationError, BaseAllocator, BumpAllocator};

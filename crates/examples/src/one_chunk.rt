@@ -1,6 +1,4 @@
 //! The one chunk.
-#![tactic(auto, unfolding(bb_memory_base::specs::LeastPlace::least_place))]
-
 use super::bump::forty_eight;
 use bb_memory::layout::Layout;
 use bb_memory::one_chunk_allocator::{
