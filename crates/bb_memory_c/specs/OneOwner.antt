@@ -1,9 +1,8 @@
 -- The allocators with one owner behind handles: what their requests are answered, and the figures that are shown of them.
 use Rattle.std.specs.Prelude.{◌≡◌, ◌-◌, ◌↔◌, ◌++◌, ◌∷◌, [], ℕ, IsTrue, List, Option, None, Some, Result, IfOk}
-use Rattle.bb_memory_base.specs.Chunk.{Chunk, Region}
+use Rattle.bb_memory_base.specs.Chunk.{Chunk, Region, first_place}
 use Rattle.bb_memory_base.specs.BumpObject.{MayAllocate, StandsFor}
-use Rattle.bb_memory_base.specs.FirstPlace.{first_place}
-use Rattle.bb_memory_base.specs.PoolGeometry.{PoolGeometry, IsCut}
+use Rattle.bb_memory_base.specs.PoolObject.{PoolGeometry, IsCut}
 use Rattle.bb_memory_base.specs.declared.layout.Layout.{Layout}
 use Rattle.bb_memory_base.specs.declared.allocator.AllocationError.{AllocationError}
 use Rattle.bb_memory.specs.Bump.{Bump, Takes as TakesOfBump}

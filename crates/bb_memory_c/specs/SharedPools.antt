@@ -1,14 +1,13 @@
 -- A shared pool, its parties, and detached buckets that go from party to party, behind handles: what their calls are answered.
-use Rattle.std.specs.Prelude.{◌≡◌, ◌≢◌, ◌+◌, ◌<◌, ◌≤◌, ◌↔◌, ◌++◌, [], ℕ, zero, suc, All, Bool, false, List, Result, Ok}
-use Rattle.std.specs.Prelude.{Option, None, IfSome, MatchOption, fold, length, if◌then◌else◌}
+use Rattle.std.specs.Prelude.{◌≡◌, ◌≢◌, ◌+◌, ◌<◌, ◌≤◌, ◌↔◌, ◌++◌, [], ℕ, zero, suc, All, Bool, false, List, Result, Ok, Option}
+use Rattle.std.specs.Prelude.{None, IfSome, MatchOption, fold, length, if◌then◌else◌}
 use Rattle.std.specs.Result.{result_map_both}
 use Rattle.bb_memory_base.specs.Chunk.{Region, Chunk, IsInside}
-use Rattle.bb_memory_base.specs.PoolGeometry.{IsCut, bucket_place}
-use Rattle.bb_memory_base.specs.PoolHistory.{PoolLog}
-use Rattle.bb_memory_base.specs.PoolLogs.{IsHeldAfter, held_after}
+use Rattle.bb_memory_base.specs.PoolObject.{IsCut, bucket_place}
+use Rattle.bb_memory_base.specs.PoolLogs.{PoolLog, IsHeldAfter, held_after}
 use Rattle.bb_memory_base.specs.declared.layout.Layout.{Layout}
 use Rattle.bb_memory_base.specs.declared.allocator.AllocationError.{AllocationError}
-use Rattle.bb_memory.specs.NumberSet.{Has}
+use Rattle.bb_memory.specs.IndexSets.{Has}
 use Rattle.bb_memory.specs.SharedPool.{AreFresh, PoolParty, SharedPool, TakenBucket, attach_entry, chunk_of, detach_entry}
 use Rattle.bb_memory.specs.SharedPool.{return_entry, taken_bucket, with_entries}
 use Rattle.bb_memory.specs.SharedPoolNextFit.{MayTakeFrom, hint_of}
@@ -140,7 +139,7 @@ pub record TellsDetach (party : PoolParty) (inside : Detached) (place len code :
   pub full : MayDetachChunk party place len → inside ≢ None → code ≡ detached_full
   pub detached : MayDetachChunk party place len → inside ≡ None →
       (code ≡ ok) × ((number : ℕ) × HoldsAt party place number × MatchOption filled ⊥ (HasDetached party number len after))
-  pub still : code ≢ ok → (after ≡ party) × (filled ≡ inside)
+  pub unchanged : code ≢ ok → (after ≡ party) × (filled ≡ inside)
 
 -- ATTACHING
 
