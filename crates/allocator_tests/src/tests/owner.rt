@@ -5,10 +5,9 @@ ghost use Rattle.bb_memory_base.specs.Chunk.{Chunk, region_at};
 ghost use Rattle.bb_memory_base.specs.HeldBytes.{held_region};
 
 use self::kinds::{Figures, Kind, Run};
-use super::checks::{check, check_row};
-use super::refused_in_turn::ends_unmade;
-use crate::marks::{none_was_asked, refuse_memory, some_was_refused};
-use crate::rows::{
+use super::checks::{check, check_row, ends_unmade};
+use crate::tests::marks::{none_was_asked, refuse_memory, some_was_refused};
+use crate::tests::rows::{
     Answers, Words, alone, call_and_answer, counted, field_and_rest, first_wrong, layout_of,
     may_be_told, of_chunk, of_growth, of_refusal, of_reply, of_shrinking, yes_or_no,
 };
@@ -19,16 +18,16 @@ use std::alloc::{AllocError, Global};
 use std::marker::Model;
 use std::process::Abort;
 
-pub(super) mod kinds;
+pub(crate) mod kinds;
 
-/// Makes a region of `size` bytes at `start`, each a 7.
-fn sevens(alloc: Global, start: usize, size: usize) -> Option<Region>
+/// Makes a region of `size` bytes at `start`, each of them `byte`, or `None` where memory was refused.
+pub(crate) fn region_of(alloc: Global, start: usize, size: usize, byte: u8) -> Option<Region>
     ensures { IfSome result (λ region. held_region region ≡ region_at start size) }
 {
     if !Region::can_make(start, size) {
         return None;
     }
-    match vec![in alloc; 7; size] {
+    match vec![in alloc; byte; size] {
         Ok(bytes) => Some(Region::new(start, bytes)),
         Err(_) => None,
     }
@@ -36,7 +35,7 @@ fn sevens(alloc: Global, start: usize, size: usize) -> Option<Region>
 
 /// An allocator, its region and its live chunks.
 #[derive(Drop)]
-pub(super) struct Owner<A: BaseAllocator + Drop> {
+pub(crate) struct Owner<A: BaseAllocator + Drop> {
     allocator: A,
     region: Region,
     live: Vec<Chunk>,
@@ -63,7 +62,7 @@ impl<A: BaseAllocator + Drop> Owner<A> {
         requires fresh { A.stands_for allocator [] }
         requires region { A.region_of (A.geometry allocator) ≡ region_at start size }
     {
-        let region = sevens(alloc, start, size)?;
+        let region = region_of(alloc, start, size, 7)?;
         let live = Vec::with_capacity(alloc, 8).ok()?;
         Some(Owner {
             allocator,
@@ -235,7 +234,7 @@ fn resize<A: Allocator>(
 }
 
 /// Returns the old and the new layout of a resize.
-pub(super) fn layouts(call: Words<'_>) -> Option<(Layout, Layout)> {
+pub(crate) fn layouts(call: Words<'_>) -> Option<(Layout, Layout)> {
     let [_, old_size, old_align, new_size, new_align, _] = call.1;
     match call.0 {
         "grow" | "grow-zeroed" | "shrink" => {

@@ -3,17 +3,8 @@
 //! ends. Want of memory is accepted only where a request was refused.
 mod after_making;
 mod blocks;
+mod layers;
 mod loans;
 mod makers;
 mod runs;
 mod worlds;
-
-use super::checks::check;
-use crate::marks::some_was_refused;
-use std::alloc::Global;
-use std::process::Abort;
-
-/// Ends a test that couldn't make what it needs: for that a request has to have been refused.
-pub(super) fn ends_unmade(rt: &impl Abort, alloc: Global) {
-    check(rt, some_was_refused(alloc));
-}

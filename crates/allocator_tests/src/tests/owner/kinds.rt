@@ -4,7 +4,7 @@ ghost use Rattle.bb_memory_base.specs.Chunk.{region_at};
 ghost use Rattle.bb_memory.specs.Pool.{StandsFor};
 
 use super::{Owner, keeps};
-use crate::rows::{Words, field_and_rest, layout_of, words};
+use crate::tests::rows::{Words, field_and_rest, layout_of, words};
 use bb_memory::allocator::{BaseAllocator, Command, Reply};
 use bb_memory::bump_allocator::{BumpAllocator, run_bump};
 use bb_memory::layout::Layout;

@@ -3,4 +3,5 @@
 mod calls;
 mod held_buckets;
 mod others;
+mod shared;
 mod values;

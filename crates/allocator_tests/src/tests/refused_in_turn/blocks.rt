@@ -1,11 +1,11 @@
 //! Heap blocks, each row by its name. Where memory is refused, no block is made, and a growth hands its block back unchanged. An
 //! answer's numbers behind `with` are the block's bytes after the call.
-use crate::marks::{none_was_asked, refuse_memory, some_was_freed, some_was_refused};
-use crate::rows::{
+use crate::tests::checks::{check, check_at};
+use crate::tests::marks::{none_was_asked, refuse_memory, some_was_freed, some_was_refused};
+use crate::tests::owner::layouts;
+use crate::tests::rows::{
     Words, alone, call_and_answer, field_and_rest, layout_of, of_growth, of_refusal, of_shrinking,
 };
-use crate::tests::checks::{check, check_at};
-use crate::tests::owner::layouts;
 use bb_memory::heap_allocator::{AllocationError, HeapAllocator, HeapBlock};
 use bb_memory::layout::Layout;
 use std::alloc::Global;

@@ -1,9 +1,8 @@
 //! Loan books, each row by its name. A refused loan leaves the book unchanged: just the samples of before are out.
 ghost use Rattle.std.specs.Prelude.{[]};
 
-use super::ends_unmade;
-use crate::marks::{none_was_asked, refuse_memory, some_was_refused};
-use crate::tests::checks::{check, chunk, layout};
+use crate::tests::checks::{check, chunk, ends_unmade, layout};
+use crate::tests::marks::{none_was_asked, refuse_memory, some_was_refused};
 use crate::tests::owner::kinds::pool_over;
 use bb_memory::allocator::{AllocationError, Allocator};
 use bb_memory::layout::Chunk;

@@ -1,8 +1,8 @@
 //! A refused `init` or `share` hands its allocator back unchanged.
 ghost use Rattle.std.specs.Prelude.{◌≡◌, All};
 
-use crate::marks::some_was_refused;
 use crate::tests::checks::{check, layout};
+use crate::tests::marks::some_was_refused;
 use crate::tests::owner::kinds::Kind;
 use crate::tests::texts::has_text;
 use bb_memory::bump_allocator::{AllocationError, BaseAllocator, BumpAllocator};

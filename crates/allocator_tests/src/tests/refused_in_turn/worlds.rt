@@ -1,8 +1,9 @@
 //! Worlds and their replays, each row by its name. A refused replay leaves its world unchanged.
-use super::ends_unmade;
-use crate::marks::some_was_refused;
-use crate::rows::{Answers, Words, alone, call_and_answer, counted, first_wrong, number_or_none};
-use crate::tests::checks::{check, check_row, chunk, layout};
+use crate::tests::checks::{check, check_row, chunk, ends_unmade, layout};
+use crate::tests::marks::some_was_refused;
+use crate::tests::rows::{
+    Answers, Words, alone, call_and_answer, counted, first_wrong, number_or_none,
+};
 use bb_memory::steps::{BumpOutcome, BumpStep, BumpWorld, PoolOutcome, PoolStep, PoolWorld};
 use std::alloc::Global;
 use std::process::Abort;

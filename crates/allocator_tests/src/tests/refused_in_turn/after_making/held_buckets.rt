@@ -1,7 +1,6 @@
 //! The count of held buckets, buckets by number, and the reads of a request.
-use super::super::ends_unmade;
-use crate::marks::{none_was_asked, refuse_memory};
-use crate::tests::checks::{check, layout};
+use crate::tests::checks::{check, ends_unmade, layout};
+use crate::tests::marks::{none_was_asked, refuse_memory};
 use crate::tests::owner::kinds::{fixed_over, pool_over};
 use bb_memory::layout::Layout;
 use bb_memory::pool_allocator::{

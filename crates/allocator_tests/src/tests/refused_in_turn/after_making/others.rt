@@ -1,12 +1,11 @@
 //! Heap blocks, worlds and loan books.
 use super::super::blocks::shrinks_without_memory;
-use super::super::ends_unmade;
 use super::super::loans::{is_full, keeps_without_memory};
 use super::super::worlds::{bump_world, pool_world};
-use crate::marks::{none_was_asked, refuse_memory};
-use crate::rows::{field_and_rest, first_wrong};
-use crate::tests::checks::{check, check_row, chunk, layout};
+use crate::tests::checks::{check, check_row, chunk, ends_unmade, layout};
+use crate::tests::marks::{none_was_asked, refuse_memory};
 use crate::tests::owner::kinds::pool_over;
+use crate::tests::rows::{field_and_rest, first_wrong};
 use bb_memory::steps::{BumpOutcome, BumpStep, BumpWorld};
 use std::process::Abort;
 

@@ -1,11 +1,10 @@
 //! Layouts, roundings, chunks, a region, where allocators can be made, each row by its name; and the laws.
-use super::super::ends_unmade;
-use crate::marks::{none_was_asked, refuse_memory};
-use crate::rows::{
+use crate::tests::checks::{check, check_row, ends_unmade};
+use crate::tests::marks::{none_was_asked, refuse_memory};
+use crate::tests::owner::kinds::fixed_over;
+use crate::tests::rows::{
     Answers, Words, alone, field_and_rest, first_wrong, layout_of, number_or_none, yes_or_no,
 };
-use crate::tests::checks::{check, check_row};
-use crate::tests::owner::kinds::fixed_over;
 use bb_memory::bump_allocator::{BumpAllocator, bump_object_law};
 use bb_memory::heap_allocator::heap_law;
 use bb_memory::layout::{Chunk, Layout, given_law, layout_law, least_place_law, round_up};
