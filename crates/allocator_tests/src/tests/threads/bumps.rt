@@ -136,7 +136,7 @@ fn in_threads(
 
 /// Shares the bump that a row names, and takes in a thread for each party. Then the parties make the row's calls. Returns what the
 /// threads took.
-fn taken(
+fn chunks_of_threads(
     rt: &(impl Threads + Sync + Abort),
     alloc: Global,
     (name, of, row): (&str, &str, &str),
@@ -162,7 +162,7 @@ fn four_take_ten(rt: &(impl Threads + Sync + Abort), alloc: Global) -> Vec<Taken
         "used 0 = is 4000; used 1 = is 4000; used 2 = is 4000; used 3 = is 4000; alloc 3 97 1 = OutOfMemory; \
             alloc 3 96 1 = chunk 8096 96 | all 4096 4096 4096",
     );
-    taken(rt, alloc, row, &takes)
+    chunks_of_threads(rt, alloc, row, &takes)
 }
 
 /// Appends the place and the end of each chunk.
@@ -236,7 +236,7 @@ fn three_take_all(
         until: None,
     };
     let each_pair = "meet 0 = met; meet 1 = met; swap 0 2 = swapped; meet 1 = met; meet-all = met";
-    taken(
+    chunks_of_threads(
         rt,
         alloc,
         ("mixed layouts", "bump 4097 1000 0 3", each_pair),
@@ -265,7 +265,7 @@ fn threads_really_at_once(rt: HostRuntime) {
         until: Some(16),
     };
     let calls = "meet 0 = met; used 0 = is 16 | all 4096 64 16";
-    let all = taken(
+    let all = chunks_of_threads(
         &rt,
         rt.alloc(),
         ("at once", "bump 4096 64 0 2", calls),
