@@ -10,14 +10,11 @@ pub(super) fn check(rt: &impl Abort, found: bool) {
     assert!(rt; found);
 }
 
-/// Checks a condition of a row's call. A failure names both.
-pub(super) fn check_at(rt: &impl Abort, found: bool, row: &str, at: usize) {
-    assert!(rt; found, "{row}: call {at}");
-}
-
 /// Checks that no call of a row was answered otherwise.
-pub(super) fn check_row(rt: &impl Abort, wrong: Option<usize>, row: &str) {
-    assert!(rt; wrong.is_none(), "{row}: call {wrong:?}");
+pub(super) fn check_row(rt: &impl Abort, wrong: Option<&str>, row: &str) {
+    if let Some(call) = wrong {
+        panic!(rt; "{row}: {call}");
+    }
 }
 
 /// Ends the test.

@@ -3,13 +3,13 @@ ghost use Rattle.std.specs.Prelude.{◌≡◌, ℕ, List, [], Some, IsTrue, leng
 ghost use Rattle.bb_memory_base.specs.HeldBytes.{held_region};
 ghost use Rattle.bb_memory_base.specs.Chunk.{region_at};
 
-use super::checks::{check, check_at, ends_unmade};
+use super::checks::{check_row, ends_unmade};
 use crate::tests::marks::some_was_refused;
 use crate::tests::rows::{
-    Words, alone, call_and_answer, counted, field_and_rest, layout_of, of_growth, of_refusal,
-    of_reply, yes_or_no,
+    Answers, Words, alone, counted, field_and_rest, first_wrong, layout_of, of_growth, of_refusal,
+    yes_or_no,
 };
-use bb_memory::allocator::{Allocator, BaseAllocator, Command, run_full};
+use bb_memory::allocator::Allocator;
 use bb_memory::layout::Chunk;
 use bb_memory::region::Region;
 use loan_book::LoanError;
@@ -17,33 +17,40 @@ use std::alloc::Global;
 use std::marker::Model;
 use std::process::Abort;
 use uses::byte_vector::{ByteVec, PushError};
-use uses::chunk_budget::ChunkBudget;
 use uses::ring::{MessageRing, SendError};
 use uses::slab::{InsertError, Slab};
 use uses::tenants::{AdmitError, LeaseError, Tenants};
 
-/// A layer that rows can drive.
-pub(crate) trait Layer: Drop {
-    /// Makes a call. Answers `no-memory` where memory was refused.
-    fn answer(&mut self, call: Words<'_>) -> Words<'static>;
+/// A layer whose calls are made a second time where memory was refused, which they answer by `no-memory`. The answers behind it show
+/// that a refused call changes nothing.
+#[derive(Drop)]
+struct Patient<L: Answers + Drop> {
+    layer: L,
+    alloc: Global,
 }
 
-/// Makes a row's calls, each a second time where memory was refused. The answers behind it show that a refused call changes
-/// nothing. Without a layer, memory for it has to have been refused.
-pub(crate) fn keeps_row(rt: &impl Abort, alloc: Global, layer: Option<impl Layer>, row: &str) {
-    let Some(mut layer) = layer else {
+impl<L: Answers + Drop> Answers for Patient<L> {
+    fn answer(&mut self, call: Words<'_>) -> Words<'static> {
+        let told = self.layer.answer(call);
+        if told.0 == "no-memory" && some_was_refused(self.alloc) {
+            return self.layer.answer(call);
+        }
+        told
+    }
+}
+
+/// Makes a row's calls. Without a layer, memory for it has to have been refused.
+pub(crate) fn keeps_row<L: Answers + Drop>(
+    rt: &impl Abort,
+    alloc: Global,
+    layer: Option<L>,
+    row: &str,
+) {
+    let Some(layer) = layer else {
         return ends_unmade(rt, alloc);
     };
     let (name, calls) = field_and_rest(row);
-    for (number, call) in calls.split("; ").enumerate() {
-        let (call, wanted) = call_and_answer(call);
-        let mut told = layer.answer(call);
-        if told.0 == "no-memory" {
-            check(rt, some_was_refused(alloc));
-            told = layer.answer(call);
-        }
-        check_at(rt, told == wanted, name, number);
-    }
+    check_row(rt, first_wrong(&mut Patient { layer, alloc }, calls), name);
 }
 
 /// Returns a number as a byte.
@@ -60,10 +67,33 @@ fn bytes_of(numbers: [usize; 3]) -> [u8; 3] {
 /// Returns `record LEN BYTES`, with the first five bytes.
 fn of_record(bytes: &[u8]) -> Words<'static> {
     let mut numbers = [bytes.len(), 0, 0, 0, 0, 0];
-    for (number, byte) in numbers[1..].iter_mut().zip(bytes) {
-        *number = *byte as usize;
+    let mut at: usize = 1;
+    for byte in bytes {
+        if at < 6 {
+            numbers[at] = *byte as usize;
+        }
+        at = at.saturating_add(1);
     }
     ("record", numbers)
+}
+
+/// Returns why a record isn't kept.
+fn of_insertion(error: InsertError) -> Words<'static> {
+    match error {
+        InsertError::List(_) => alone("no-memory"),
+        InsertError::Layout(_) => alone("Layout"),
+        InsertError::Refused(error) => of_refusal(error),
+        InsertError::NoExactChunk => alone("NoExactChunk"),
+    }
+}
+
+/// Keeps a record.
+fn inserted<A: Allocator + Drop>(slab: &mut Slab<A>, numbers: [usize; 6]) -> Words<'static> {
+    let [len, first, second, third, ..] = numbers;
+    match slab.insert(&bytes_of([first, second, third])[..len.min(3)]) {
+        Ok(()) => alone("done"),
+        Err(error) => of_insertion(error),
+    }
 }
 
 /// Returns whether a record of this length is at the position.
@@ -74,47 +104,84 @@ fn has_record<A: Allocator + Drop>(slab: &Slab<A>, position: usize, len: usize) 
     position < slab.len() && slab.read(position).len() == len
 }
 
-impl<A: Allocator + Drop> Layer for Slab<A> {
+/// Writes over a record of the same length.
+fn written<A: Allocator + Drop>(slab: &mut Slab<A>, numbers: [usize; 6]) -> Words<'static> {
+    let [at, len, first, second, third, _] = numbers;
+    let len = len.min(3);
+    if !has_record(slab, at, len) {
+        return alone("no-call");
+    }
+    slab.write(at, &bytes_of([first, second, third])[..len]);
+    alone("done")
+}
+
+fn read<A: Allocator + Drop>(slab: &Slab<A>, at: usize) -> Words<'static> {
+    if at >= slab.len() {
+        return alone("no-call");
+    }
+    of_record(slab.read(at))
+}
+
+fn removed<A: Allocator + Drop>(slab: &mut Slab<A>, at: usize) -> Words<'static> {
+    if at >= slab.len() {
+        return alone("no-call");
+    }
+    slab.remove(at);
+    alone("done")
+}
+
+impl<A: Allocator + Drop> Answers for Slab<A> {
     /// `insert LEN BYTES`, `write AT LEN BYTES`, `read AT`, `remove AT`, `len`.
     fn answer(&mut self, call: Words<'_>) -> Words<'static> {
-        let [first, second, third, fourth, fifth, _] = call.1;
         match call.0 {
-            "insert" => match self.insert(&bytes_of([second, third, fourth])[..first.min(3)]) {
-                Ok(()) => alone("done"),
-                Err(InsertError::List(_)) => alone("no-memory"),
-                Err(InsertError::Layout(_)) => alone("Layout"),
-                Err(InsertError::Refused(error)) => of_refusal(error),
-                Err(InsertError::NoExactChunk) => alone("NoExactChunk"),
-            },
-            "write" if has_record(self, first, second.min(3)) => {
-                self.write(first, &bytes_of([third, fourth, fifth])[..second.min(3)]);
-                alone("done")
-            }
-            "read" if first < self.len() => of_record(self.read(first)),
-            "remove" if first < self.len() => {
-                self.remove(first);
-                alone("done")
-            }
+            "insert" => inserted(self, call.1),
+            "write" => written(self, call.1),
+            "read" => read(self, call.1[0]),
+            "remove" => removed(self, call.1[0]),
             "len" => counted("is", self.len()),
             _ => alone("no-call"),
         }
     }
 }
 
-impl<A: Allocator + Drop> Layer for MessageRing<A> {
-    /// `send LEN BYTES`, `front`, `finish` (by one reader, whether the oldest message leaves), `waiting`.
+/// Returns why a message isn't sent.
+fn of_sending(error: SendError) -> Words<'static> {
+    match error {
+        SendError::List(_) | SendError::Refused(LoanError::Memory) => alone("no-memory"),
+        _ => alone("refused"),
+    }
+}
+
+fn sent<A: Allocator + Drop>(ring: &mut MessageRing<A>, numbers: [usize; 6]) -> Words<'static> {
+    let [len, first, second, third, ..] = numbers;
+    match ring.send(&bytes_of([first, second, third])[..len.min(3)]) {
+        Ok(()) => alone("sent"),
+        Err(error) => of_sending(error),
+    }
+}
+
+fn front<A: Allocator + Drop>(ring: &MessageRing<A>) -> Words<'static> {
+    match ring.front() {
+        Some(bytes) => of_record(bytes),
+        None => alone("none"),
+    }
+}
+
+/// Finishes the oldest message by one reader. Returns whether it leaves.
+fn finished<A: Allocator + Drop>(ring: &mut MessageRing<A>) -> Words<'static> {
+    if ring.waiting() == 0 {
+        return alone("no-call");
+    }
+    yes_or_no(ring.finish())
+}
+
+impl<A: Allocator + Drop> Answers for MessageRing<A> {
+    /// `send LEN BYTES`, `front`, `finish`, `waiting`.
     fn answer(&mut self, call: Words<'_>) -> Words<'static> {
-        let [first, second, third, fourth, ..] = call.1;
         match call.0 {
-            "send" => match self.send(&bytes_of([second, third, fourth])[..first.min(3)]) {
-                Ok(()) => alone("sent"),
-                Err(SendError::List(_) | SendError::Refused(LoanError::Memory)) => alone(
-                    "no-memory",
-                ),
-                Err(_) => alone("refused"),
-            },
-            "front" => self.front().map_or(alone("none"), of_record),
-            "finish" if self.waiting() > 0 => yes_or_no(self.finish()),
+            "send" => sent(self, call.1),
+            "front" => front(self),
+            "finish" => finished(self),
             "waiting" => counted("is", self.waiting()),
             _ => alone("no-call"),
         }
@@ -128,7 +195,26 @@ pub(crate) struct Renting<A: Allocator + Drop> {
     pub(crate) last: usize,
 }
 
+/// Returns why a tenant was given no chunk.
+fn of_lease(error: LeaseError) -> Words<'static> {
+    match error {
+        LeaseError::NoTenant => alone("NoTenant"),
+        LeaseError::OverLimit => alone("OverLimit"),
+        LeaseError::List(_) => alone("no-memory"),
+        LeaseError::Refused(error) => of_refusal(error),
+        LeaseError::TooLong => alone("TooLong"),
+    }
+}
+
 impl<A: Allocator + Drop> Renting<A> {
+    fn admit(&mut self, limit: usize) -> Words<'static> {
+        match self.tenants.admit(limit) {
+            Ok(number) => counted("tenant", number),
+            Err(AdmitError::OverWhole) => alone("OverWhole"),
+            Err(AdmitError::List(_)) => alone("no-memory"),
+        }
+    }
+
     fn allocate(&mut self, tenant: usize, size: usize) -> Words<'static> {
         let Some(layout) = layout_of(size, 1) else {
             return alone("no-layout");
@@ -138,30 +224,16 @@ impl<A: Allocator + Drop> Renting<A> {
                 self.last = chunk.place();
                 counted("chunk", chunk.len())
             }
-            Err(LeaseError::NoTenant) => alone("NoTenant"),
-            Err(LeaseError::OverLimit) => alone("OverLimit"),
-            Err(LeaseError::List(_)) => alone("no-memory"),
-            Err(LeaseError::Refused(error)) => of_refusal(error),
-            Err(LeaseError::TooLong) => alone("TooLong"),
+            Err(error) => of_lease(error),
         }
     }
-}
 
-impl<A: Allocator + Drop> Layer for Renting<A> {
-    /// `admit LIMIT`, `alloc TENANT SIZE`, `free TENANT` and `holds TENANT` (of the chunk given last), and the getters.
-    fn answer(&mut self, call: Words<'_>) -> Words<'static> {
-        let [first, second, ..] = call.1;
+    /// Answers a getter.
+    fn getter(&self, call: Words<'_>) -> Words<'static> {
+        let tenant = call.1[0];
         match call.0 {
-            "admit" => match self.tenants.admit(first) {
-                Ok(number) => counted("tenant", number),
-                Err(AdmitError::OverWhole) => alone("OverWhole"),
-                Err(AdmitError::List(_)) => alone("no-memory"),
-            },
-            "alloc" => self.allocate(first, second),
-            "free" => yes_or_no(self.tenants.deallocate(first, self.last).is_ok()),
-            "holds" => yes_or_no(self.tenants.holds(first, self.last)),
-            "used" => counted("is", self.tenants.used(first)),
-            "limit" => counted("is", self.tenants.limit(first)),
+            "used" => counted("is", self.tenants.used(tenant)),
+            "limit" => counted("is", self.tenants.limit(tenant)),
             "out" => counted("is", self.tenants.out()),
             "whole" => counted("is", self.tenants.whole()),
             _ => alone("no-call"),
@@ -169,71 +241,16 @@ impl<A: Allocator + Drop> Layer for Renting<A> {
     }
 }
 
-/// A budget with its live list.
-#[derive(Drop)]
-pub(crate) struct Spending<A: Allocator + Drop> {
-    budget: ChunkBudget<A>,
-    live: Vec<Chunk>,
-}
-
-impl<A: Allocator + Drop> Model for Spending<A> {
-    ghost use Rattle.std.specs.Prelude.{◌≡◌, length};
-
-    // Nothing is told of spending.
-    ghost Value = { Unit {0} };
-
-    ghost view = { λ _. tt };
-
-    ghost invariant = { λ s. A.stands_for s.budget.inner s.live.items
-        × (length s.live.items ≡ s.budget.out) };
-}
-
-impl<A: Allocator + Drop> Spending<A> {
-    /// Makes a budget of `most` chunks of an allocator.
-    pub(crate) fn new(alloc: Global, allocator: A, most: usize) -> Self
-        requires { A.stands_for allocator [] }
-    {
-        Spending {
-            budget: ChunkBudget::new(allocator, most),
-            live: Vec::new(alloc),
-        }
-    }
-
-    /// Runs a command.
-    fn run(&mut self, command: Command) -> Words<'static> {
-        match run_full(&mut self.budget, &mut self.live, &[command]) {
-            Ok(replies) => match replies.first() {
-                Some(reply) => of_reply(*reply),
-                None => alone("no-reply"),
-            },
-            Err(_) => alone("no-memory"),
-        }
-    }
-}
-
-/// Returns a call as a command. Alignments are 1.
-fn command_of(call: Words<'_>) -> Option<Command> {
-    let [at, old, new, ..] = call.1;
-    match call.0 {
-        "alloc" => Some(Command::Allocate(layout_of(at, 1)?)),
-        "free" => Some(Command::Release(at)),
-        "grow" => Some(Command::Grow(at, layout_of(old, 1)?, layout_of(new, 1)?)),
-        "shrink" => Some(Command::Shrink(at, layout_of(old, 1)?, layout_of(new, 1)?)),
-        _ => None,
-    }
-}
-
-impl<A: Allocator + Drop> Layer for Spending<A> {
-    /// `alloc SIZE`, `free AT`, `grow AT OLD NEW`, `shrink AT OLD NEW`, `reserved` (of the first live chunk), and `out`.
+impl<A: Allocator + Drop> Answers for Renting<A> {
+    /// `admit LIMIT`, `alloc TENANT SIZE`, `free TENANT` and `holds TENANT` (of the chunk given last), and the getters.
     fn answer(&mut self, call: Words<'_>) -> Words<'static> {
-        match (call.0, command_of(call)) {
-            ("reserved", _) => match self.live.first() {
-                Some(chunk) => counted("is", self.budget.reserved(chunk.place())),
-                None => alone("none"),
-            },
-            ("out", _) => counted("is", self.budget.out()),
-            (_, Some(command)) => self.run(command),
-            _ => alone("no-call"),
+        let tenant = call.1[0];
+        match call.0 {
+            "admit" => self.admit(tenant),
+            "alloc" => self.allocate(tenant, call.1[1]),
+            "free" => yes_or_no(self.tenants.deallocate(tenant, self.last).is_ok()),
+            "holds" => yes_or_no(self.tenants.holds(tenant, self.last)),
+            _ => self.getter(call),
         }
     }
 }
@@ -283,26 +300,34 @@ impl<A: Allocator + Drop> Growing<A> {
     }
 }
 
-impl<A: Allocator + Drop> Layer for Growing<A> {
-    /// `push BYTE`, `len`, `held` (the bytes of the chunk that the vector began with), `copied` (those of a chunk of four, after
-    /// a copy to it).
+impl<A: Allocator + Drop> Growing<A> {
+    fn push(&mut self, byte: u8) -> Words<'static> {
+        match self.bytes.push(&mut self.allocator, &mut self.region, byte) {
+            Ok(()) => alone("pushed"),
+            Err(PushError::Full(error)) => of_growth(error),
+            Err(PushError::TooLong(_)) => alone("TooLong"),
+        }
+    }
+
+    /// Returns the bytes of a chunk of four in the other region, after a copy to it.
+    fn copy(&mut self) -> Words<'static> {
+        if self.bytes.len() > 4 {
+            return alone("no-call");
+        }
+        let there = Chunk::new(9005, 4).unwrap();
+        let _ = self.bytes.copy_to(&self.region, &mut self.other, there);
+        of_record(self.other.chunk(there))
+    }
+}
+
+impl<A: Allocator + Drop> Answers for Growing<A> {
+    /// `push BYTE`, `len`, `held` (the bytes of the chunk that the vector began with), `copied` (those of a copy).
     fn answer(&mut self, call: Words<'_>) -> Words<'static> {
         match call.0 {
-            "push" => {
-                let byte = byte_of(call.1[0]);
-                match self.bytes.push(&mut self.allocator, &mut self.region, byte) {
-                    Ok(()) => alone("pushed"),
-                    Err(PushError::Full(error)) => of_growth(error),
-                    Err(PushError::TooLong(_)) => alone("TooLong"),
-                }
-            }
+            "push" => self.push(byte_of(call.1[0])),
             "len" => counted("is", self.bytes.len()),
             "held" => of_record(self.region.chunk(self.chunk)),
-            "copied" if self.bytes.len() <= 4 => {
-                let there = Chunk::new(9005, 4).unwrap();
-                let _ = self.bytes.copy_to(&self.region, &mut self.other, there);
-                of_record(self.other.chunk(there))
-            }
+            "copied" => self.copy(),
             _ => alone("no-call"),
         }
     }

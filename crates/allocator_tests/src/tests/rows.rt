@@ -6,6 +6,11 @@ use bb_memory::layout::{Chunk, Layout};
 /// A word and its numbers, then zeros.
 pub type Words<'a> = (&'a str, [usize; 6]);
 
+/// Compares words, proved once.
+pub fn are_same(words: Words<'_>, others: Words<'_>) -> bool {
+    words == others
+}
+
 /// Answers the calls of a row.
 pub trait Answers {
     /// Makes a call.
@@ -13,17 +18,22 @@ pub trait Answers {
 
     /// Returns whether the answer to the last call is one that a row wants.
     fn is_wanted(&self, told: Words<'_>, wanted: Words<'_>) -> bool {
-        told == wanted
+        are_same(told, wanted)
     }
 }
 
-/// Makes a row's calls in order, up to the first one that is answered otherwise. Returns the number of that call, from 0.
-pub fn first_wrong<A: Answers>(caller: &mut A, calls: &str) -> Option<usize> {
-    for (number, call) in calls.split("; ").enumerate() {
-        let (call, wanted) = call_and_answer(call);
-        let told = caller.answer(call);
-        if !caller.is_wanted(told, wanted) {
-            return Some(number);
+/// Makes a call, and returns whether its answer is what the row wants.
+fn is_right<A: Answers>(caller: &mut A, call: &str) -> bool {
+    let (call, wanted) = call_and_answer(call);
+    let told = caller.answer(call);
+    caller.is_wanted(told, wanted)
+}
+
+/// Makes a row's calls in order, up to the first one that is answered otherwise. Returns that call.
+pub fn first_wrong<'a, A: Answers>(caller: &mut A, calls: &'a str) -> Option<&'a str> {
+    for call in calls.split("; ") {
+        if !is_right(caller, call) {
+            return Some(call);
         }
     }
     None
@@ -54,6 +64,11 @@ pub fn words(text: &str) -> Words<'_> {
     (word, numbers)
 }
 
+/// Returns a number that is short, and `u32::MAX` for any other.
+pub fn short(number: usize) -> u32 {
+    u32::try_from(number).unwrap_or(u32::MAX)
+}
+
 /// Returns a word without numbers.
 pub fn alone(word: &str) -> Words<'_> {
     (word, [0; 6])
@@ -70,7 +85,18 @@ pub fn counted(word: &str, number: usize) -> Words<'_> {
 
 /// Returns `is NUMBER`, or `none`.
 pub fn number_or_none(number: Option<usize>) -> Words<'static> {
-    number.map_or(alone("none"), |number| counted("is", number))
+    match number {
+        Some(number) => counted("is", number),
+        None => alone("none"),
+    }
+}
+
+/// Returns `is NUMBER`, or `none`.
+pub fn short_or_none(number: Option<u32>) -> Words<'static> {
+    match number {
+        Some(number) => counted("is", number as usize),
+        None => alone("none"),
+    }
 }
 
 pub fn of_chunk(chunk: Chunk) -> Words<'static> {
@@ -118,9 +144,9 @@ pub fn of_reply(reply: Reply) -> Words<'static> {
 pub fn may_be_told(told: Words<'_>, wanted: Words<'_>, first: usize) -> bool {
     let len = wanted.1[0];
     match wanted.0 {
-        "first" => told == ("chunk", [first, len, 0, 0, 0, 0]),
+        "first" => are_same(told, ("chunk", [first, len, 0, 0, 0, 0])),
         "any" => told.0 == "chunk" && told.1[1] == len,
-        _ => told == wanted,
+        _ => are_same(told, wanted),
     }
 }
 

@@ -1,18 +1,16 @@
 //! Each layer, driven by rows: with ample memory, and with any one request refused. `.ci/refuse-in-turn` runs each test with its
 //! first request refused, then with its second, and so on. A refused call changes nothing, and is made again.
 ghost use Rattle.std.specs.Prelude.{◌≡◌, [], IfSome};
-ghost use Rattle.bb_memory_base.specs.HeldBytes.{held_region};
 ghost use Rattle.bb_memory_base.specs.Chunk.{region_at};
 ghost use Rattle.bb_memory.specs.Pool.{StandsFor};
 
-use crate::tests::layers::{Growing, Renting, Spending, keeps_row};
+use crate::tests::layers::{Growing, Renting, keeps_row};
 use crate::tests::owner::kinds::fixed_over;
 use crate::tests::owner::region_of;
 use crate::tests::rows::layout_of;
 use bb_memory::allocator::Allocator;
 use bb_memory::one_chunk_allocator::OneChunkAllocator;
 use bb_memory::pool_allocator::{FixedSizePoolAllocator, pool_object_law};
-use bb_memory::region::Region;
 use loan_book::LoanBook;
 use std::alloc::Global;
 use uses::ring::MessageRing;
@@ -30,16 +28,9 @@ fn buckets_of(size: usize) -> Option<TestPool>
     fixed_over(layout_of(size, 1)?, 4096, 1024)
 }
 
-/// Makes a region of `size` zeros at `start`, or `None` where memory was refused.
-fn zeros(alloc: Global, start: usize, size: usize) -> Option<Region>
-    ensures { IfSome result (λ region. held_region region ≡ region_at start size) }
-{
-    region_of(alloc, start, size, 0)
-}
-
 /// Makes an empty slab.
 fn slab(alloc: Global) -> Option<Slab<TestPool>> {
-    Some(Slab::new(alloc, buckets_of(128)?, zeros(alloc, 4096, 1024)?))
+    Some(Slab::new(alloc, buckets_of(128)?, region_of(alloc, 4096, 1024, 0)?))
 }
 
 const SLAB: &str = "\
@@ -59,7 +50,7 @@ fn slabs(rt: HostRuntime) {
 fn ring(alloc: Global) -> Option<MessageRing<TestPool>> {
     pool_object_law();
     let book = LoanBook::new(alloc, buckets_of(128)?);
-    Some(MessageRing::new(alloc, book, zeros(alloc, 4096, 1024)?, 2))
+    Some(MessageRing::new(alloc, book, region_of(alloc, 4096, 1024, 0)?, 2))
 }
 
 const RING: &str = "\
@@ -78,6 +69,11 @@ fn tenants<A: Allocator + Drop>(alloc: Global, allocator: A, whole: usize) -> Re
 {
     let tenants = Tenants::new(alloc, allocator, whole);
     Renting { tenants, last: 0 }
+}
+
+/// Makes tenants of a pool, who may use 300 bytes together.
+fn tenants_of_a_pool(alloc: Global) -> Option<Renting<TestPool>> {
+    Some(tenants(alloc, buckets_of(128)?, 300))
 }
 
 const LIMITS: &str = "\
@@ -99,35 +95,22 @@ a longer chunk stays within the limit | admit 1023 = tenant 0; admit 1024 = tena
 #[test]
 fn tenants_of_an_allocator(rt: HostRuntime) {
     for row in LIMITS.split('\n') {
-        let layer = buckets_of(128).map(|pool| tenants(rt.alloc(), pool, 300));
-        keeps_row(&rt, rt.alloc(), layer, row);
+        keeps_row(&rt, rt.alloc(), tenants_of_a_pool(rt.alloc()), row);
     }
+}
+
+#[test]
+fn tenants_of_one_chunk(rt: HostRuntime) {
     let layer = tenants(rt.alloc(), OneChunkAllocator::new(4096, 1024), 4096);
     keeps_row(&rt, rt.alloc(), Some(layer), LONGER);
 }
 
-/// Makes a budget of two chunks.
-fn budget(alloc: Global) -> Option<Spending<TestPool>> {
-    Some(Spending::new(alloc, buckets_of(128)?, 2))
-}
-
-const BUDGET: &str = "\
-a spent budget refuses before the pool | alloc 129 = SizeTooLarge; out = is 0; alloc 10 = chunk 4096 10; \
-    alloc 10 = chunk 4224 10; out = is 2; alloc 129 = OutOfMemory; free 1 = released; out = is 1; alloc 10 = chunk 4224 10; \
-    alloc 10 = OutOfMemory; out = is 2
-a resize spends nothing | alloc 10 = chunk 4096 10; grow 0 10 20 = chunk 4096 20; reserved = is 128; \
-    shrink 0 20 10 = chunk 4096 10; out = is 1";
-
-#[test]
-fn budgets(rt: HostRuntime) {
-    for row in BUDGET.split('\n') {
-        keeps_row(&rt, rt.alloc(), budget(rt.alloc()), row);
-    }
-}
-
 /// Makes an empty vector in a bucket of four bytes.
 fn vector(alloc: Global) -> Option<Growing<TestPool>> {
-    let (region, other) = (zeros(alloc, 4096, 1024)?, zeros(alloc, 9000, 64)?);
+    let (region, other) = (
+        region_of(alloc, 4096, 1024, 0)?,
+        region_of(alloc, 9000, 64, 0)?,
+    );
     Growing::new(buckets_of(4)?, region, other)
 }
 

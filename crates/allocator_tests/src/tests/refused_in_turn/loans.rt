@@ -134,16 +134,21 @@ fn a_list_of_loans_keeps_the_book(rt: HostRuntime) {
     check(&rt, is_made(rt.alloc(), &mut book, whole) == Some(true));
 }
 
+/// Publishes each of these samples to two readers.
+fn are_published(rt: &impl Abort, book: &mut impl Book, ids: &[u64]) {
+    for id in ids {
+        is_out(rt, book, *id, true);
+        replies(rt, book, Publish(*id, 2), Published);
+    }
+}
+
 /// Loans sixteen samples, gives some back, publishes the others and loans six more.
 fn sixteen_go_back(rt: &impl Abort, alloc: Global, book: &mut impl Book) {
     for id in 0..16 {
         check(rt, is_loan(at_last(rt, alloc, book, 64, id), id));
     }
     leave(rt, book, &[7, 0, 15, 8, 1, 14]);
-    for id in &[2, 3, 4, 5, 6, 9, 10, 11, 12, 13] {
-        is_out(rt, book, *id, true);
-        replies(rt, book, Publish(*id, 2), Published);
-    }
+    are_published(rt, book, &[2, 3, 4, 5, 6, 9, 10, 11, 12, 13]);
     for id in 16..22 {
         check(rt, is_loan(book.reply(Loan(64)), id));
     }

@@ -21,7 +21,12 @@ pool-eight-buckets | pool 4096 1024 128 8 | alloc 129 8 = SizeTooLarge; alloc 12
 a resize and a release of a pool | pool 4096 16 16 8 | alloc 8 8 = chunk 4096 8; grow 0 8 8 16 8 = chunk 4096 16; \
     alloc 8 8 = OutOfMemory; free 0 = released | out 0 = passed
 a resize and a release of a fixed pool | four 4096 16 16 8 | alloc 8 8 = chunk 4096 8; grow 0 8 8 16 8 = chunk 4096 16; \
-    alloc 8 8 = OutOfMemory; free 0 = released | out 0 = passed";
+    alloc 8 8 = OutOfMemory; free 0 = released | out 0 = passed
+a spent budget refuses before the pool | budget 4096 1024 128 1 2 | alloc 129 1 = SizeTooLarge; alloc 10 1 = chunk 4096 10; \
+    alloc 10 1 = chunk 4224 10; alloc 129 1 = OutOfMemory; free 1 = released; alloc 10 1 = chunk 4224 10; \
+    alloc 10 1 = OutOfMemory | figures = are 2
+a resize spends nothing of a budget | budget 4096 1024 128 1 2 | alloc 10 1 = chunk 4096 10; \
+    grow 0 10 1 20 1 = chunk 4096 20; shrink 0 20 1 10 1 = chunk 4096 10 | figures = are 1; reserved 0 = bytes 128";
 
 #[test]
 fn runs_of_each_kind(rt: HostRuntime) {

@@ -1,9 +1,7 @@
 //! Worlds and their replays, each row by its name. A refused replay leaves its world unchanged.
 use crate::tests::checks::{check, check_row, chunk, ends_unmade, layout};
 use crate::tests::marks::some_was_refused;
-use crate::tests::rows::{
-    Answers, Words, alone, call_and_answer, counted, first_wrong, number_or_none,
-};
+use crate::tests::rows::{Answers, Words, alone, counted, first_wrong, short, short_or_none};
 use bb_memory::steps::{BumpOutcome, BumpStep, BumpWorld, PoolOutcome, PoolStep, PoolWorld};
 use std::alloc::Global;
 use std::process::Abort;
@@ -59,8 +57,7 @@ fn steps_bump_race(rt: HostRuntime) {
 
 /// Parses a step of a pool's world: `try PARTY`, or a word, a party and a bucket.
 fn pool_step(call: Words<'_>) -> Option<PoolStep> {
-    let party = u32::try_from(call.1[0]).ok()?;
-    let bucket = u32::try_from(call.1[1]).ok()?;
+    let (party, bucket) = (short(call.1[0]), short(call.1[1]));
     match call.0 {
         "try" => Some(PoolStep::Try { party }),
         "try-at" => Some(PoolStep::TryAt { party, bucket }),
@@ -71,6 +68,7 @@ fn pool_step(call: Words<'_>) -> Option<PoolStep> {
     }
 }
 
+/// Returns what a step found.
 fn of_outcome(outcome: PoolOutcome) -> Words<'static> {
     let (word, bucket) = match outcome {
         PoolOutcome::Takes(bucket) => ("takes", bucket),
@@ -88,45 +86,36 @@ fn of_outcome(outcome: PoolOutcome) -> Words<'static> {
 /// Makes steps, or tells who holds a bucket: `holder BUCKET`.
 impl Answers for PoolWorld {
     fn answer(&mut self, call: Words<'_>) -> Words<'static> {
-        match (call.0, pool_step(call)) {
-            ("holder", _) => {
-                let bucket = u32::try_from(call.1[0]).unwrap_or(u32::MAX);
-                number_or_none(self.holder(bucket).map(|party| party as usize))
-            }
-            (_, Some(step)) => of_outcome(self.step(step)),
-            (_, None) => alone("no such call"),
-        }
-    }
-}
-
-/// The outcomes of a replay that are left, in order.
-#[derive(Drop)]
-struct Outcomes<'a>(&'a [PoolOutcome]);
-
-impl<'a> Answers for Outcomes<'a> {
-    fn answer(&mut self, _call: Words<'_>) -> Words<'static> {
-        match self.0.split_first() {
-            Some((outcome, left)) => {
-                self.0 = left;
-                of_outcome(*outcome)
-            }
-            None => alone("no outcome"),
+        match pool_step(call) {
+            Some(step) => of_outcome(self.step(step)),
+            None if call.0 == "holder" => short_or_none(self.holder(short(call.1[0]))),
+            None => alone("no such call"),
         }
     }
 }
 
 /// The steps of row `steps-pool-never-full`.
-const NEVER_FULL: &str = "\
-    try 0 = takes 0; try 1 = loses 0; try 2 = loses 0; give 0 0 = gives 0; try 1 = takes 1; try 2 = refused 1";
+const STEPS: [PoolStep; 6] = [
+    PoolStep::Try { party: 0 },
+    PoolStep::Try { party: 1 },
+    PoolStep::Try { party: 2 },
+    PoolStep::GiveBack {
+        party: 0,
+        bucket: 0,
+    },
+    PoolStep::Try { party: 1 },
+    PoolStep::Try { party: 2 },
+];
 
-/// Returns the steps of a row, or `None` where memory was refused.
-fn pool_steps(alloc: Global, calls: &str) -> Option<Vec<PoolStep>> {
-    let mut steps = Vec::new(alloc);
-    for call in calls.split("; ") {
-        steps.push(pool_step(call_and_answer(call).0)?).ok()?;
-    }
-    Some(steps)
-}
+/// The outcome of each step.
+const OUTCOMES: [PoolOutcome; 6] = [
+    PoolOutcome::Takes(0),
+    PoolOutcome::Loses(0),
+    PoolOutcome::Loses(0),
+    PoolOutcome::Gives(0),
+    PoolOutcome::Takes(1),
+    PoolOutcome::RefusedAtLoss(1),
+];
 
 /// Replays steps, a second time where memory was refused: then the pool is still fresh.
 fn replayed_by_pool(
@@ -146,16 +135,11 @@ fn replayed_by_pool(
 
 #[test]
 fn steps_pool_never_full(rt: HostRuntime) {
-    let Some(steps) = pool_steps(rt.alloc(), NEVER_FULL) else {
-        return ends_unmade(&rt, rt.alloc());
-    };
     let Some(mut world) = pool_world(rt.alloc(), 64) else {
         return ends_unmade(&rt, rt.alloc());
     };
-    let told = replayed_by_pool(&rt, rt.alloc(), &mut world, &steps);
-    let mut outcomes = Outcomes(&told);
-    check_row(&rt, first_wrong(&mut outcomes, NEVER_FULL), "outcomes");
-    check(&rt, outcomes.0.is_empty());
+    let told = replayed_by_pool(&rt, rt.alloc(), &mut world, &STEPS);
+    check(&rt, told.as_slice() == OUTCOMES.as_slice());
     let held = "holder 0 = none; holder 1 = is 1";
     check_row(&rt, first_wrong(&mut world, held), "held - 1");
 }

@@ -1,11 +1,11 @@
 //! The driver of a shared bump's rows: its parties make a row's calls.
-ghost use Rattle.std.specs.Prelude.{◌≡◌, All, IfOk};
+ghost use Rattle.std.specs.Prelude.{◌≡◌, All};
 
 use crate::tests::checks::{check, check_row, fail};
 use crate::tests::marks::{none_was_asked, refuse_memory, some_was_refused};
 use crate::tests::rows::{
     Answers, Words, alone, counted, field_and_rest, first_wrong, layout_of, of_chunk, of_refusal,
-    words,
+    short, words,
 };
 use bb_memory::bump_allocator::{BaseAllocator, BumpAllocator};
 use bb_memory::shared_bump::{BumpParty, SharedBumpAllocator};
@@ -42,24 +42,6 @@ pub(crate) fn bump_over(start: usize, size: usize, used: usize) -> Option<BumpAl
     // Size 0 is refused, and uses nothing.
     let _ = bump.allocate(layout_of(used, 1)?);
     Some(bump)
-}
-
-/// Shares a bump. A refusal hands it back.
-pub(crate) fn shared(
-    alloc: Global,
-    bump: BumpAllocator,
-    parties: u32,
-) -> Result<(SharedBumpAllocator, Vec<BumpParty>), BumpAllocator>
-    ensures theirs { IfOk result (λ made. All (λ party. party.allocator ≡ made.0) made.1.items) }
-    ensures parties { IfOk result (λ made. made.0.scene.parties ≡ parties) }
-{
-    if parties == 0 {
-        return Err(bump);
-    }
-    match bump.share(alloc, parties) {
-        Ok(made) => Ok(made),
-        Err((bump, _)) => Err(bump),
-    }
 }
 
 /// Makes the call of a party.
@@ -102,25 +84,39 @@ fn met(
 }
 
 impl Sharers {
-    /// Shares a bump, a second time where memory was refused: then it comes back unchanged.
+    /// Shares a bump. A refusal hands it back.
+    fn of(alloc: Global, bump: BumpAllocator, count: u32) -> Result<Sharers, BumpAllocator> {
+        if count == 0 {
+            return Err(bump);
+        }
+        match bump.share(alloc, count) {
+            Ok((shared, parties)) => Ok(Sharers {
+                shared,
+                parties,
+                count,
+            }),
+            Err((bump, _)) => Err(bump),
+        }
+    }
+
+    /// Shares the bump that a row names, a second time where memory was refused: then it comes back unchanged.
     pub(crate) fn new(rt: &impl Abort, alloc: Global, of: Words<'_>) -> Option<Sharers> {
         let [start, size, used, count, ..] = of.1;
-        let (bump, count) = (bump_over(start, size, used)?, u32::try_from(count).ok()?);
-        let (shared, parties) = match shared(alloc, bump, count) {
-            Ok(made) => made,
+        let bump = bump_over(start, size, used)?;
+        match Sharers::of(alloc, bump, short(count)) {
+            Ok(sharers) => Some(sharers),
             Err(bump) => {
-                check(
-                    rt,
-                    some_was_refused(alloc) && figures_of(&bump) == [start, size, used],
-                );
-                shared(alloc, bump, count).ok()?
+                check(rt, some_was_refused(alloc));
+                check(rt, figures_of(&bump) == [start, size, used]);
+                Sharers::of(alloc, bump, short(count)).ok()
             }
-        };
-        Some(Sharers {
-            shared,
-            parties,
-            count,
-        })
+        }
+    }
+
+    /// Returns the start, the size and the number of parties.
+    fn region(&self) -> Words<'static> {
+        let (start, size) = (self.shared.start_address(), self.shared.total_space());
+        ("are", [start, size, self.parties.len(), 0, 0, 0])
     }
 
     /// The last party meets another one.
@@ -135,44 +131,60 @@ impl Sharers {
         }
     }
 
-    /// Hands the bump back by the last party, or by all.
-    fn owner(self, by: &str) -> Option<BumpAllocator> {
+    fn meet_all(&mut self) -> Words<'static> {
+        self.shared.meet_all(&mut self.parties);
+        alone("met")
+    }
+
+    /// Two parties change places.
+    fn swap(&mut self, one: usize, other: usize) -> Words<'static> {
+        if one >= self.parties.len() || other >= self.parties.len() {
+            return alone("no-party");
+        }
+        self.parties.swap(one, other);
+        alone("swapped")
+    }
+
+    /// Makes the call of a party.
+    fn of_party(&mut self, call: Words<'_>) -> Words<'static> {
+        match self.parties.get_mut(call.1[0]) {
+            Some(party) => answered(&self.shared, party, call),
+            None => alone("no-party"),
+        }
+    }
+
+    /// Hands the bump back by the last party.
+    fn owner_by_last(self) -> Option<BumpAllocator> {
         let Sharers {
             shared,
             mut parties,
+            ..
+        } = self;
+        Some(shared.into_owner(parties.pop()?))
+    }
+
+    /// Hands the bump back by all parties.
+    fn owner_by_all(self) -> Option<BumpAllocator> {
+        let Sharers {
+            shared,
+            parties,
             count,
         } = self;
-        match by {
-            "last" => Some(shared.into_owner(parties.pop()?)),
-            "all" if u32::try_from(parties.len()) == Ok(count) => {
-                Some(shared.into_owner_all(parties))
-            }
-            _ => None,
+        if parties.len() != count as usize {
+            return None;
         }
+        Some(shared.into_owner_all(parties))
     }
 }
 
 impl Answers for Sharers {
     fn answer(&mut self, call: Words<'_>) -> Words<'static> {
-        let party = call.1[0];
         match call.0 {
-            "region" => {
-                let (start, size) = (self.shared.start_address(), self.shared.total_space());
-                ("are", [start, size, self.parties.len(), 0, 0, 0])
-            }
-            "meet" => self.meet(party),
-            "swap" if party < self.parties.len() && call.1[1] < self.parties.len() => {
-                self.parties.swap(party, call.1[1]);
-                alone("swapped")
-            }
-            "meet-all" => {
-                self.shared.meet_all(&mut self.parties);
-                alone("met")
-            }
-            _ => match self.parties.get_mut(party) {
-                Some(party) => answered(&self.shared, party, call),
-                None => alone("no-party"),
-            },
+            "region" => self.region(),
+            "meet" => self.meet(call.1[0]),
+            "swap" => self.swap(call.1[0], call.1[1]),
+            "meet-all" => self.meet_all(),
+            _ => self.of_party(call),
         }
     }
 }
@@ -182,15 +194,27 @@ pub(crate) fn figures_of(bump: &BumpAllocator) -> [usize; 3] {
     [bump.start_address(), bump.total_space(), bump.used_space()]
 }
 
+/// Hands the bump back, as a row's last field says, and checks its figures.
+fn goes_back(rt: &impl Abort, sharers: Sharers, name: &str, end: &str) {
+    let (by, [start, size, used, ..]) = words(end);
+    let owner = match by {
+        "last" => sharers.owner_by_last(),
+        "all" => sharers.owner_by_all(),
+        _ => None,
+    };
+    match owner {
+        Some(bump) if figures_of(&bump) == [start, size, used] => {}
+        _ => fail(rt, name),
+    }
+}
+
 /// Makes a row's calls and hands the bump back, all without a request for memory.
 pub(crate) fn keeps(rt: &impl Abort, alloc: Global, mut sharers: Sharers, name: &str, row: &str) {
     let (calls, end) = field_and_rest(row);
     refuse_memory(alloc);
     check_row(rt, first_wrong(&mut sharers, calls), name);
     if !end.is_empty() {
-        let (by, [start, size, used, ..]) = words(end);
-        let owner = sharers.owner(by).map(|bump| figures_of(&bump));
-        assert!(rt; owner == Some([start, size, used]), "{name}: the owner");
+        goes_back(rt, sharers, name, end);
     }
     check(rt, none_was_asked(alloc));
 }

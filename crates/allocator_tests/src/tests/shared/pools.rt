@@ -7,7 +7,7 @@ ghost use Rattle.bb_memory.specs.SharedPool.{IsAlignedTo, IsResizedTo};
 ghost use Rattle.allocator_tests.specs.Pools.{IsKeptBy};
 
 use crate::form::Form;
-use crate::tests::rows::{Words, layout_of};
+use crate::tests::rows::{Words, layout_of, short};
 use bb_memory::layout::{Chunk, Layout};
 use bb_memory::pool_allocator::PoolAllocator;
 use bb_memory::shared_pool::{
@@ -53,26 +53,34 @@ fn four(
     }
 }
 
+/// Returns a pool of all buckets or at most a number of them, or `None` where memory was refused.
+fn whole(
+    made: Result<(SharedPoolAllocator, Vec<PoolParty>), AllocationError>,
+) -> Option<(Pool, Vec<PoolParty>)>
+    requires { IfOk made (λ made. All (λ party. party.allocator ≡ made.0) made.1.items) }
+    ensures { IfSome result (λ made. All (λ party. party.allocator ≡ made.0) made.1.items) }
+{
+    match made {
+        Ok((pool, parties)) => Some((Pool::whole(pool), parties)),
+        Err(_) => None,
+    }
+}
+
 /// Makes the pool that a row names, or `None` where memory was refused.
 pub(crate) fn made(alloc: Global, of: Words<'_>) -> Option<(Pool, Vec<PoolParty>)>
     ensures { IfSome result (λ made. All (λ party. party.allocator ≡ made.0) made.1.items) }
 {
     let [start, size, parties, most, ..] = of.1;
-    let (bucket, parties) = (layout_of(128, 8)?, u32::try_from(parties).ok()?);
+    let (bucket, parties, most) = (layout_of(128, 8)?, short(parties), short(most));
     if parties == 0 || !PoolAllocator::can_make(bucket, start, size) {
         return None;
     }
-    let made = match of.0 {
-        "pool" => SharedPoolAllocator::new(alloc, bucket, start, size, parties),
-        "most" => {
-            let most = u32::try_from(most).ok()?;
-            SharedPoolAllocator::new_at_most(alloc, bucket, start, size, parties, most)
-        }
-        _ => return four(alloc, bucket, start, size, parties),
-    };
-    match made {
-        Ok((pool, parties)) => Some((Pool::whole(pool), parties)),
-        Err(_) => None,
+    match of.0 {
+        "pool" => whole(SharedPoolAllocator::new(alloc, bucket, start, size, parties)),
+        "most" => whole(SharedPoolAllocator::new_at_most(
+            alloc, bucket, start, size, parties, most,
+        )),
+        _ => four(alloc, bucket, start, size, parties),
     }
 }
 

@@ -4,9 +4,10 @@ ghost use Rattle.std.specs.Prelude.{◌≡◌, All, IfSome};
 use super::pools::{Pool, made};
 use crate::tests::checks::{check, check_row, ends_unmade, fail};
 use crate::tests::marks::{none_was_asked, refuse_memory, some_was_refused};
+use crate::tests::owner::layouts;
 use crate::tests::rows::{
     Answers, Words, alone, counted, field_and_rest, first_wrong, layout_of, number_or_none,
-    of_chunk, of_growth, of_refusal, of_shrinking, words,
+    of_chunk, of_growth, of_refusal, of_shrinking, short, short_or_none, words,
 };
 use bb_memory::layout::Layout;
 use bb_memory::shared_pool::{Bucket, DetachedBucket, PoolParty};
@@ -64,20 +65,41 @@ fn of_bucket(bucket: &Bucket<'_>) -> Words<'static> {
 }
 
 /// Asks for a bucket, whose token is dropped, or kept in place of the one that was.
-fn take<'a>(pool: &'a Pool, user: &mut User<'a>, call: &str, layout: Layout) -> Words<'static>
+fn take<'a>(
+    pool: &'a Pool,
+    user: &mut User<'a>,
+    layout: Layout,
+    next_fit: bool,
+    keeps: bool,
+) -> Words<'static>
     requires { user.old ≡ pool.now }
     ensures { user.new ≡ pool.now }
 {
-    let next_fit = call == "fit" || call == "keep-fit";
     match pool.ask(&mut user.party, next_fit, layout) {
         Ok(bucket) => {
             let told = of_bucket(&bucket);
-            if call == "keep" || call == "keep-fit" {
+            if keeps {
                 user.kept = Some(bucket);
             }
             told
         }
         Err(error) => of_refusal(error),
+    }
+}
+
+/// Makes one of the requests for a bucket.
+fn request<'a>(pool: &'a Pool, user: &mut User<'a>, call: Words<'_>) -> Words<'static>
+    requires { user.old ≡ pool.now }
+    ensures { user.new ≡ pool.now }
+{
+    let Some(layout) = layout_of(call.1[1], call.1[2]) else {
+        return alone("no-layout");
+    };
+    match call.0 {
+        "take" => take(pool, user, layout, false, false),
+        "keep" => take(pool, user, layout, false, true),
+        "fit" => take(pool, user, layout, true, false),
+        _ => take(pool, user, layout, true, true),
     }
 }
 
@@ -113,34 +135,56 @@ fn again<'a>(pool: &'a Pool, user: &mut User<'a>, len: usize) -> Words<'static>
     }
 }
 
+/// Grows the chunk of the token that is kept.
+fn grow<'a>(pool: &'a Pool, user: &mut User<'a>, old: Layout, new: Layout) -> Words<'static>
+    requires { user.old ≡ pool.now }
+    ensures { user.new ≡ pool.now }
+{
+    match &mut user.kept {
+        Some(bucket) if bucket.chunk().place() % old.align() == 0 => match pool.grow(
+            bucket, old, new,
+        ) {
+            Ok(grown) => of_chunk(grown),
+            Err(error) => of_growth(error),
+        },
+        _ => alone("no-token"),
+    }
+}
+
+/// Shrinks the chunk of the token that is kept.
+fn shrink<'a>(pool: &'a Pool, user: &mut User<'a>, old: Layout, new: Layout) -> Words<'static>
+    requires { user.old ≡ pool.now }
+    ensures { user.new ≡ pool.now }
+{
+    match &mut user.kept {
+        Some(bucket) if bucket.chunk().place() % old.align() == 0 => match pool.shrink(
+            bucket, old, new,
+        ) {
+            Some(Ok(shrunk)) => of_chunk(shrunk),
+            Some(Err(error)) => of_shrinking(error),
+            None => alone("too-long"),
+        },
+        _ => alone("no-token"),
+    }
+}
+
 /// Resizes the chunk of the token that is kept.
 fn resize<'a>(pool: &'a Pool, user: &mut User<'a>, call: Words<'_>) -> Words<'static>
     requires { user.old ≡ pool.now }
     ensures { user.new ≡ pool.now }
 {
-    let [_, old_size, old_align, new_size, new_align, _] = call.1;
-    let (Some(old), Some(new)) = (
-        layout_of(old_size, old_align),
-        layout_of(new_size, new_align),
-    ) else {
-        return alone("no-layout");
-    };
-    let Some(bucket) = &mut user.kept else {
-        return alone("no-token");
-    };
-    if bucket.chunk().place() % old.align() != 0 {
-        return alone("no-place");
+    match layouts(call.1) {
+        Some((old, new)) if call.0 == "grow" => grow(pool, user, old, new),
+        Some((old, new)) => shrink(pool, user, old, new),
+        None => alone("no-layout"),
     }
-    if call.0 == "grow" {
-        return match pool.grow(bucket, old, new) {
-            Ok(grown) => of_chunk(grown),
-            Err(error) => of_growth(error),
-        };
-    }
-    match pool.shrink(bucket, old, new) {
-        Some(Ok(shrunk)) => of_chunk(shrunk),
-        Some(Err(error)) => of_shrinking(error),
-        None => alone("too-long"),
+}
+
+/// Returns the bucket of the token that is kept.
+fn token(user: &User<'_>) -> Words<'static> {
+    match &user.kept {
+        Some(bucket) => of_bucket(bucket),
+        None => alone("no-token"),
     }
 }
 
@@ -149,16 +193,13 @@ fn answered<'a>(pool: &'a Pool, user: &mut User<'a>, call: Words<'_>) -> Words<'
     requires { user.old ≡ pool.now }
     ensures { user.new ≡ pool.now }
 {
-    let [_, size, align, ..] = call.1;
-    match (call.0, layout_of(size, align), &user.kept) {
-        ("number", _, _) => counted("is", user.party.number() as usize),
-        ("token", _, Some(bucket)) => of_bucket(bucket),
-        ("take" | "keep" | "fit" | "keep-fit", Some(layout), _) => {
-            take(pool, user, call.0, layout)
-        }
-        ("give", _, _) => give(pool, user),
-        ("again", _, _) => again(pool, user, size),
-        ("grow" | "shrink", _, _) => resize(pool, user, call),
+    match call.0 {
+        "number" => counted("is", user.party.number() as usize),
+        "token" => token(user),
+        "give" => give(pool, user),
+        "again" => again(pool, user, call.1[1]),
+        "grow" | "shrink" => resize(pool, user, call),
+        "take" | "keep" | "fit" | "keep-fit" => request(pool, user, call),
         _ => alone("no-call"),
     }
 }
@@ -292,26 +333,36 @@ impl<'a> Users<'a> {
     }
 }
 
+impl<'a> Users<'a> {
+    /// Drops the bucket on top of the stack.
+    fn drop_one(&mut self) -> Words<'static> {
+        match self.detached.pop() {
+            Some(_) => alone("dropped"),
+            None => alone("none"),
+        }
+    }
+
+    /// Makes the call of a user.
+    fn of_user(&mut self, call: Words<'_>) -> Words<'static> {
+        match self.users.get_mut(call.1[0]) {
+            Some(user) => answered(self.pool, user, call),
+            None => alone("no-party"),
+        }
+    }
+}
+
 impl<'a> Answers for Users<'a> {
     fn answer(&mut self, call: Words<'_>) -> Words<'static> {
-        let at = call.1[0];
         match call.0 {
             "figures" => ("are", self.pool.figures()),
-            "number-at" => number_or_none(self.pool.number_at(at).map(|number| number as usize)),
-            "place-at" => number_or_none(self.pool.place_at(u32::try_from(at).unwrap_or(u32::MAX))),
-            "meet" => self.meet(at),
+            "number-at" => short_or_none(self.pool.number_at(call.1[0])),
+            "place-at" => number_or_none(self.pool.place_at(short(call.1[0]))),
+            "meet" => self.meet(call.1[0]),
             "meet-all" => self.meet_all(),
-            "detach" => self.detach(at),
-            "attach" => self.attach(at),
-            "drop" => alone(if self.detached.pop().is_some() {
-                "dropped"
-            } else {
-                "none"
-            }),
-            _ => match self.users.get_mut(at) {
-                Some(user) => answered(self.pool, user, call),
-                None => alone("no-party"),
-            },
+            "detach" => self.detach(call.1[0]),
+            "attach" => self.attach(call.1[0]),
+            "drop" => self.drop_one(),
+            _ => self.of_user(call),
         }
     }
 }

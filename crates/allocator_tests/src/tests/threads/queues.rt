@@ -235,6 +235,23 @@ fn two_of(alloc: Global) -> Option<(SharedPoolAllocator, PoolParty, PoolParty)>
     Some((pool, first, second))
 }
 
+/// Checks that two buckets are free, and that there is no third. Returns `None` where memory was refused.
+fn are_free(
+    rt: &impl Abort,
+    alloc: Global,
+    pool: SharedPoolAllocator,
+    party: PoolParty,
+) -> Option<()>
+    requires { party.allocator ≡ pool }
+{
+    let mut parties = Vec::new(alloc);
+    parties.push(party).ok()?;
+    let calls =
+        "take 0 48 4 = bucket 0 4096 48; take 0 48 4 = bucket 1 4224 48; take 0 48 4 = OutOfMemory";
+    keeps(rt, alloc, &Pool::whole(pool), parties, ("a queue", calls));
+    Some(())
+}
+
 /// Sends a thousand messages in two buckets: each arrives, both buckets are free in the end, and there is no third. Returns
 /// `None` where memory was refused.
 fn a_thousand<R: Threads + Abort + Sync>(rt: &R, alloc: Global) -> Option<()> {
@@ -242,12 +259,7 @@ fn a_thousand<R: Threads + Abort + Sync>(rt: &R, alloc: Global) -> Option<()> {
     let told = through_a_queue(rt, alloc, &pool, sender, receiver, layout(rt, 48, 4)).ok()?;
     let (receiver, sent, received) = told;
     check(rt, (sent, received) == (MESSAGES, MESSAGES));
-    let mut parties = Vec::new(alloc);
-    parties.push(receiver).ok()?;
-    let calls =
-        "take 0 48 4 = bucket 0 4096 48; take 0 48 4 = bucket 1 4224 48; take 0 48 4 = OutOfMemory";
-    keeps(rt, alloc, &Pool::whole(pool), parties, ("a queue", calls));
-    Some(())
+    are_free(rt, alloc, pool, receiver)
 }
 
 #[test]

@@ -100,7 +100,26 @@ fn goes_back(rt: &impl Abort, pool: &mut impl Buckets, number: u32, held: u32) {
     check(rt, !pool.give(place) && pool.told(number, place) == told);
 }
 
-/// Takes all buckets of a pool and gives them back. A refusal and a return of what isn't held change nothing.
+/// Takes all buckets of a pool. A refusal and a return of what isn't held change nothing.
+fn all_are_taken(rt: &impl Abort, pool: &mut impl Buckets, taken: &mut [bool], buckets: u32) {
+    let sixteen = layout(rt, 16, 8);
+    for held in 0..buckets {
+        takes(rt, pool, sixteen, taken, held + 1);
+    }
+    check(rt, pool.allocate(sixteen).is_err());
+    tells(rt, pool, buckets, buckets);
+    has_none_between(rt, pool, buckets, buckets);
+}
+
+/// Gives all buckets of a pool back.
+fn all_go_back(rt: &impl Abort, pool: &mut impl Buckets, buckets: u32) {
+    for number in 0..buckets {
+        goes_back(rt, pool, number, buckets - number - 1);
+    }
+    has_none_between(rt, pool, buckets, 0);
+}
+
+/// Takes all buckets of a pool and gives them back.
 fn counts(rt: &impl Abort, alloc: Global, made: Option<impl Buckets>, buckets: u32) {
     let Some(mut pool) = made else {
         return ends_unmade(rt, alloc);
@@ -109,18 +128,9 @@ fn counts(rt: &impl Abort, alloc: Global, made: Option<impl Buckets>, buckets: u
         return ends_unmade(rt, alloc);
     };
     refuse_memory(alloc);
-    let sixteen = layout(rt, 16, 8);
     tells(rt, &pool, buckets, 0);
-    for held in 0..buckets {
-        takes(rt, &mut pool, sixteen, &mut taken, held + 1);
-    }
-    check(rt, pool.allocate(sixteen).is_err());
-    tells(rt, &pool, buckets, buckets);
-    has_none_between(rt, &mut pool, buckets, buckets);
-    for number in 0..buckets {
-        goes_back(rt, &mut pool, number, buckets - number - 1);
-    }
-    has_none_between(rt, &mut pool, buckets, 0);
+    all_are_taken(rt, &mut pool, &mut taken, buckets);
+    all_go_back(rt, &mut pool, buckets);
     check(rt, none_was_asked(alloc));
 }
 
@@ -154,30 +164,41 @@ fn by_one_read(rt: &impl Abort, pool: &mut PoolAllocator<Global>, place: Option<
     }
 }
 
-/// Takes all buckets of one byte from 4096 on, each once. Then the bucket at `place` goes back, by `deallocate_bucket` or
-/// `deallocate`, and is the one that is given next.
-fn fills(rt: &impl Abort, alloc: Global, buckets: u32, place: usize, by_place: bool) {
+/// Takes all buckets of one byte, each once, and by one read each.
+fn all_by_one_read(rt: &impl Abort, pool: &mut PoolAllocator<Global>, taken: &mut [bool]) {
     let byte = layout(rt, 1, 1);
-    let Some(mut pool) = pool_over(alloc, byte, 4096, buckets as usize) else {
-        return ends_unmade(rt, alloc);
-    };
-    let Ok(mut taken) = vec![in alloc; false; buckets as usize] else {
-        return ends_unmade(rt, alloc);
-    };
-    refuse_memory(alloc);
-    for held in 0..buckets {
-        takes(rt, &mut pool, byte, &mut taken, held + 1);
+    let mut held: u32 = 0;
+    for _ in 0..taken.len() {
+        held = held.saturating_add(1);
+        takes(rt, pool, byte, taken, held);
         check(rt, pool.last_reads() == 1);
     }
-    by_one_read(rt, &mut pool, None);
+    by_one_read(rt, pool, None);
+}
+
+/// Gives the bucket at `place` back, by `deallocate_bucket` or `deallocate`.
+fn leaves(rt: &impl Abort, pool: &mut PoolAllocator<Global>, place: usize, by_place: bool) {
     if !pool.holds(place) {
         panic!(rt; "the bucket isn't held");
     }
     if by_place {
         pool.deallocate_bucket(place);
     } else {
-        pool.deallocate(place, byte);
+        pool.deallocate(place, layout(rt, 1, 1));
     }
+}
+
+/// Takes all buckets of one byte from 4096 on. Then the bucket at `place` goes back, and is the one that is given next.
+fn fills(rt: &impl Abort, alloc: Global, buckets: u32, place: usize, by_place: bool) {
+    let Some(mut pool) = pool_over(alloc, layout(rt, 1, 1), 4096, buckets as usize) else {
+        return ends_unmade(rt, alloc);
+    };
+    let Ok(mut taken) = vec![in alloc; false; buckets as usize] else {
+        return ends_unmade(rt, alloc);
+    };
+    refuse_memory(alloc);
+    all_by_one_read(rt, &mut pool, &mut taken);
+    leaves(rt, &mut pool, place, by_place);
     by_one_read(rt, &mut pool, Some(place));
     by_one_read(rt, &mut pool, None);
     check(rt, none_was_asked(alloc));

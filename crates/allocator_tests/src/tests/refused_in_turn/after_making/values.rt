@@ -17,6 +17,7 @@ use bb_memory::shared_bump::{shared_bump_law, shared_bump_meeting_law};
 use bb_memory::shared_pool::{shared_pool_law, shared_pool_meeting_law};
 use bb_memory::steps::{bump_log_theorem, bump_theorem, pool_log_theorem, pool_theorem};
 use loan_book::one_answer_law;
+use std::process::Abort;
 
 const ROWS: &str = "\
 layouts-accepted-and-refused | layout 0 9223372036854775808 = layout 0 9223372036854775808; \
@@ -52,15 +53,38 @@ fn is_made(bucket: Layout, start: usize, size: usize) -> bool {
 }
 
 /// Makes a call that has a start and a size, and the layout of a pool's bucket.
-fn answered(word: &str, start: usize, size: usize, bucket: Layout) -> Words<'static> {
+fn of_pool(word: &str, [start, size, bucket_size, align, ..]: [usize; 6]) -> Words<'static> {
+    let Some(bucket) = layout_of(bucket_size, align) else {
+        return alone("no such call");
+    };
     match word {
         "memory-size" => number_or_none(memory_size(bucket, start)),
-        "bump" => yes_or_no(BumpAllocator::can_make(start, size)),
-        "one" => yes_or_no(OneChunkAllocator::can_make(start, size)),
-        "region" => yes_or_no(Region::can_make(start, size)),
         "pool" => yes_or_no(is_made(bucket, start, size)),
         "fixed" => yes_or_no(fixed_over::<4>(bucket, start, size).is_some()),
         _ => alone("no such call"),
+    }
+}
+
+fn of_layout(layout: Option<Layout>) -> Words<'static> {
+    match layout {
+        Some(layout) => ("layout", [layout.size(), layout.align(), 0, 0, 0, 0]),
+        None => alone("none"),
+    }
+}
+
+/// Returns a chunk's place, length and end.
+fn of_end(chunk: Option<Chunk>) -> Words<'static> {
+    match chunk {
+        Some(chunk) => ("chunk", [chunk.place(), chunk.len(), chunk.end(), 0, 0, 0]),
+        None => alone("none"),
+    }
+}
+
+/// Rounds a number up to the alignment of a layout.
+fn rounded(number: usize, layout: Option<Layout>) -> Words<'static> {
+    match layout {
+        Some(layout) => number_or_none(round_up(number, layout.align())),
+        None => alone("no such call"),
     }
 }
 
@@ -70,23 +94,16 @@ struct NoObject;
 
 impl Answers for NoObject {
     fn answer(&mut self, call: Words<'_>) -> Words<'static> {
-        answer(call)
-    }
-}
-
-/// Makes a call.
-fn answer(call: Words<'_>) -> Words<'static> {
-    let [first, second, third, fourth, ..] = call.1;
-    let bucket = layout_of(third, fourth).unwrap_or(Layout::empty());
-    match (call.0, layout_of(first, second), layout_of(0, second)) {
-        ("layout", Some(layout), _) => ("layout", [layout.size(), layout.align(), 0, 0, 0, 0]),
-        ("layout", None, _) => alone("none"),
-        ("round-up", _, Some(layout)) => number_or_none(round_up(first, layout.align())),
-        ("chunk", _, _) => match Chunk::new(first, second) {
-            Some(chunk) => ("chunk", [chunk.place(), chunk.len(), chunk.end(), 0, 0, 0]),
-            None => alone("none"),
-        },
-        (word, _, _) => answered(word, first, second, bucket),
+        let [first, second, ..] = call.1;
+        match call.0 {
+            "layout" => of_layout(layout_of(first, second)),
+            "round-up" => rounded(first, layout_of(0, second)),
+            "chunk" => of_end(Chunk::new(first, second)),
+            "bump" => yes_or_no(BumpAllocator::can_make(first, second)),
+            "one" => yes_or_no(OneChunkAllocator::can_make(first, second)),
+            "region" => yes_or_no(Region::can_make(first, second)),
+            word => of_pool(word, call.1),
+        }
     }
 }
 
@@ -98,6 +115,11 @@ fn values(rt: HostRuntime) {
         check_row(&rt, first_wrong(&mut NoObject, calls), name);
     }
     check(&rt, none_was_asked(rt.alloc()));
+}
+
+/// Checks all bytes of a region.
+fn has_bytes(rt: &impl Abort, region: &Region, bytes: [u8; 8]) {
+    check(rt, region.bytes() == bytes.as_slice());
 }
 
 /// A region of eight bytes, call by call.
@@ -114,9 +136,9 @@ fn a_region(rt: HostRuntime) {
     region.write(chunk, &[1, 2, 3]);
     check(&rt, region.chunk(chunk) == [1, 2, 3].as_slice());
     region.chunk_mut(chunk)[1] = 5;
-    check(&rt, region.bytes() == [7, 7, 1, 5, 3, 7, 7, 7].as_slice());
+    has_bytes(&rt, &region, [7, 7, 1, 5, 3, 7, 7, 7]);
     region.zero(chunk);
-    check(&rt, region.bytes() == [7, 7, 0, 0, 0, 7, 7, 7].as_slice());
+    has_bytes(&rt, &region, [7, 7, 0, 0, 0, 7, 7, 7]);
     check(&rt, none_was_asked(rt.alloc()));
 }
 
