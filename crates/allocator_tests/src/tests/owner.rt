@@ -33,6 +33,41 @@ pub(crate) fn region_of(alloc: Global, start: usize, size: usize, byte: u8) -> O
     }
 }
 
+/// A call, by its word.
+#[derive(Drop)]
+pub(super) enum Word {
+    Alloc { zeroed: bool },
+    Free,
+    Out,
+    At,
+    Zeros,
+    Count,
+    Reserved,
+    Grow,
+    GrowZeroed,
+    Shrink,
+    Unknown,
+}
+
+impl Word {
+    pub(super) fn of(word: &str) -> Word {
+        match word {
+            "count" => Word::Count,
+            "alloc" => Word::Alloc { zeroed: false },
+            "alloc-zeroed" => Word::Alloc { zeroed: true },
+            "free" => Word::Free,
+            "out" => Word::Out,
+            "at" => Word::At,
+            "zeros" => Word::Zeros,
+            "reserved" => Word::Reserved,
+            "grow" => Word::Grow,
+            "grow-zeroed" => Word::GrowZeroed,
+            "shrink" => Word::Shrink,
+            _ => Word::Unknown,
+        }
+    }
+}
+
 /// An allocator, its region and its live chunks.
 #[derive(Drop)]
 pub(crate) struct Owner<A: BaseAllocator + Drop> {
@@ -166,15 +201,14 @@ impl<A: BaseAllocator + Drop> Owner<A> {
 
     /// Makes a call of a `BaseAllocator`.
     fn answer_base(&mut self, call: Words<'_>) -> Words<'static> {
-        match call.0 {
-            "alloc" => self.request(call.1, false),
-            "alloc-zeroed" => self.request(call.1, true),
-            "free" => self.deallocate(call.1[0]),
-            "out" => self.out(call.1[0]),
-            "at" => self.are_at(call.1),
-            "zeros" => self.has_zeros(call.1),
-            "reserved" | "grow" | "grow-zeroed" | "shrink" => alone("passed"),
-            _ => alone("no such call"),
+        match Word::of(call.0) {
+            Word::Alloc { zeroed } => self.request(call.1, zeroed),
+            Word::Free => self.deallocate(call.1[0]),
+            Word::Out => self.out(call.1[0]),
+            Word::At => self.are_at(call.1),
+            Word::Zeros => self.has_zeros(call.1),
+            Word::Reserved | Word::Grow | Word::GrowZeroed | Word::Shrink => alone("passed"),
+            Word::Count | Word::Unknown => alone("no such call"),
         }
     }
 
@@ -185,8 +219,8 @@ impl<A: BaseAllocator + Drop> Owner<A> {
 }
 
 impl<A: Allocator + Drop> Owner<A> {
-    fn grow(&mut self, position: usize, old: Layout, new: Layout) -> Words<'static> {
-        let Some(chunk) = aligned_at(&self.live, position, old) else {
+    fn grow(&mut self, position: usize, layouts: Option<(Layout, Layout)>) -> Words<'static> {
+        let Some((chunk, old, new)) = resized_at(&self.live, position, layouts) else {
             return alone("passed");
         };
         match self.allocator.grow(chunk.place(), old, new) {
@@ -198,8 +232,12 @@ impl<A: Allocator + Drop> Owner<A> {
         }
     }
 
-    fn grow_zeroed(&mut self, position: usize, old: Layout, new: Layout) -> Words<'static> {
-        let Some(chunk) = aligned_at(&self.live, position, old) else {
+    fn grow_zeroed(
+        &mut self,
+        position: usize,
+        layouts: Option<(Layout, Layout)>,
+    ) -> Words<'static> {
+        let Some((chunk, old, new)) = resized_at(&self.live, position, layouts) else {
             return alone("passed");
         };
         match self
@@ -214,8 +252,8 @@ impl<A: Allocator + Drop> Owner<A> {
         }
     }
 
-    fn shrink(&mut self, position: usize, old: Layout, new: Layout) -> Words<'static> {
-        let Some(chunk) = aligned_at(&self.live, position, old) else {
+    fn shrink(&mut self, position: usize, layouts: Option<(Layout, Layout)>) -> Words<'static> {
+        let Some((chunk, old, new)) = resized_at(&self.live, position, layouts) else {
             return alone("passed");
         };
         if old.size() > self.allocator.reserved(chunk.place()) {
@@ -239,11 +277,11 @@ impl<A: Allocator + Drop> Owner<A> {
 
     /// Makes a call of an `Allocator`.
     fn answer_full(&mut self, call: Words<'_>) -> Words<'static> {
-        match (call.0, layouts(call.1)) {
-            ("reserved", _) => self.reserved(call.1[0]),
-            ("grow", Some((old, new))) => self.grow(call.1[0], old, new),
-            ("grow-zeroed", Some((old, new))) => self.grow_zeroed(call.1[0], old, new),
-            ("shrink", Some((old, new))) => self.shrink(call.1[0], old, new),
+        match Word::of(call.0) {
+            Word::Reserved => self.reserved(call.1[0]),
+            Word::Grow => self.grow(call.1[0], layouts(call.1)),
+            Word::GrowZeroed => self.grow_zeroed(call.1[0], layouts(call.1)),
+            Word::Shrink => self.shrink(call.1[0], layouts(call.1)),
             _ => self.answer_base(call),
         }
     }
@@ -277,15 +315,21 @@ fn chunk_at(live: &Vec<Chunk>, position: usize) -> Option<Chunk>
     live.get(position).copied()
 }
 
-/// Returns the live chunk at a position, where its place is a multiple of the layout's alignment.
-fn aligned_at(live: &Vec<Chunk>, position: usize, layout: Layout) -> Option<Chunk>
-    ensures at { IfSome result (λ chunk. slice_get live.now.items position ≡ Some chunk) }
-    ensures aligned { IfSome result (λ chunk. chunk.place % layout.align ≡ 0) }
+/// Returns the live chunk at a position with the layouts of its resize, where its place is a multiple of the old alignment.
+fn resized_at(
+    live: &Vec<Chunk>,
+    position: usize,
+    layouts: Option<(Layout, Layout)>,
+) -> Option<(Chunk, Layout, Layout)>
+    ensures at { IfSome result (λ resized. slice_get live.now.items position ≡ Some resized.0) }
+    ensures aligned { IfSome result (λ resized. resized.0.place % resized.1.align ≡ 0) }
 {
-    match chunk_at(live, position) {
-        Some(chunk) if chunk.place() % layout.align() == 0 => Some(chunk),
-        _ => None,
+    let (old, new) = layouts?;
+    let chunk = chunk_at(live, position)?;
+    if chunk.place() % old.align() != 0 {
+        return None;
     }
+    Some((chunk, old, new))
 }
 
 /// Returns a request as a command.
@@ -297,9 +341,9 @@ fn request_of(numbers: [usize; 6]) -> Option<Command> {
 }
 
 /// Returns a resize as a command.
-fn resize_of(word: &str, numbers: [usize; 6]) -> Option<Command> {
+fn resize_of(numbers: [usize; 6], grows: bool) -> Option<Command> {
     match layouts(numbers) {
-        Some((old, new)) if word == "grow" => Some(Command::Grow(numbers[0], old, new)),
+        Some((old, new)) if grows => Some(Command::Grow(numbers[0], old, new)),
         Some((old, new)) => Some(Command::Shrink(numbers[0], old, new)),
         None => None,
     }
@@ -307,10 +351,11 @@ fn resize_of(word: &str, numbers: [usize; 6]) -> Option<Command> {
 
 /// Returns a call as a command.
 fn command_of(call: Words<'_>) -> Option<Command> {
-    match call.0 {
-        "alloc" => request_of(call.1),
-        "free" => Some(Command::Release(call.1[0])),
-        "grow" | "shrink" => resize_of(call.0, call.1),
+    match Word::of(call.0) {
+        Word::Alloc { zeroed: false } => request_of(call.1),
+        Word::Free => Some(Command::Release(call.1[0])),
+        Word::Grow => resize_of(call.1, true),
+        Word::Shrink => resize_of(call.1, false),
         _ => None,
     }
 }
@@ -336,7 +381,7 @@ struct Replies<'a> {
 }
 
 fn is_resize(word: &str) -> bool {
-    word == "grow" || word == "shrink"
+    matches!(Word::of(word), Word::Grow | Word::Shrink)
 }
 
 impl<'a> Answers for Replies<'a> {

@@ -1,8 +1,10 @@
 //! Heap blocks, each row by its name. Where memory is refused, no block is made, and a growth hands its block back unchanged. An
 //! answer's numbers are the length of the block after the call and its bytes as digits: `block 4 1234`. Without a block both are 0.
+ghost use Rattle.std.specs.Prelude.{◌≡◌, length};
+
 use crate::tests::checks::{check, check_row};
 use crate::tests::marks::{none_was_asked, refuse_memory, some_was_freed, some_was_refused};
-use crate::tests::owner::layouts;
+use crate::tests::owner::{Word, layouts};
 use crate::tests::rows::{
     Answers, Words, field_and_rest, first_wrong, layout_of, of_growth, of_refusal, of_shrinking,
 };
@@ -27,9 +29,9 @@ fn requested(heap: &HeapAllocator, call: Words<'_>) -> Answered {
     let Some(layout) = layout_of(call.1[0], call.1[1]) else {
         return (None, "passed");
     };
-    match call.0 {
-        "alloc" => made(heap.allocate(layout)),
-        "alloc-zeroed" => made(heap.allocate_zeroed(layout)),
+    match Word::of(call.0) {
+        Word::Alloc { zeroed: false } => made(heap.allocate(layout)),
+        Word::Alloc { zeroed: true } => made(heap.allocate_zeroed(layout)),
         _ => (None, "passed"),
     }
 }
@@ -44,17 +46,10 @@ fn counted(mut block: HeapBlock, first: usize) -> HeapBlock {
     block
 }
 
-/// Grows a block, where the old size is its length.
-fn grown(
-    heap: &HeapAllocator,
-    block: HeapBlock,
-    zeroed: bool,
-    old: Layout,
-    new: Layout,
-) -> Answered {
-    if old.size() != block.len() {
-        return (Some(block), "passed");
-    }
+/// Grows a block.
+fn grown(heap: &HeapAllocator, block: HeapBlock, old: Layout, new: Layout, zeroed: bool) -> Answered
+    requires { old.size ≡ length block }
+{
     let grown = if zeroed {
         heap.grow_zeroed(block, old, new)
     } else {
@@ -66,28 +61,45 @@ fn grown(
     }
 }
 
-/// Shrinks a block, where the old size is its length.
-fn shrunk(heap: &HeapAllocator, block: HeapBlock, old: Layout, new: Layout) -> Answered {
-    if old.size() != block.len() {
-        return (Some(block), "passed");
-    }
+fn shrunk(heap: &HeapAllocator, block: HeapBlock, old: Layout, new: Layout) -> Answered
+    requires { old.size ≡ length block }
+{
     match heap.shrink(block, old, new) {
         Ok(block) => (Some(block), "block"),
         Err((block, error)) => (Some(block), of_shrinking(error).0),
     }
 }
 
+/// Resizes a block, where the old size is its length.
+fn resized(
+    heap: &HeapAllocator,
+    block: HeapBlock,
+    layouts: Option<(Layout, Layout)>,
+    word: Word,
+) -> Answered {
+    let Some((old, new)) = layouts else {
+        return (Some(block), "passed");
+    };
+    if old.size() != block.len() {
+        return (Some(block), "passed");
+    }
+    match word {
+        Word::Grow => grown(heap, block, old, new, false),
+        Word::GrowZeroed => grown(heap, block, old, new, true),
+        Word::Shrink => shrunk(heap, block, old, new),
+        _ => (Some(block), "passed"),
+    }
+}
+
 /// Makes a call on a block.
 fn answered(heap: &HeapAllocator, block: HeapBlock, call: Words<'_>) -> Answered {
-    match (call.0, layouts(call.1)) {
-        ("count", _) => (Some(counted(block, call.1[0])), "block"),
-        ("free", _) => {
+    match Word::of(call.0) {
+        Word::Count => (Some(counted(block, call.1[0])), "block"),
+        Word::Free => {
             heap.deallocate(block, Layout::empty());
             (None, "released")
         }
-        ("shrink", Some((old, new))) => shrunk(heap, block, old, new),
-        (word, Some((old, new))) => grown(heap, block, word == "grow-zeroed", old, new),
-        _ => (Some(block), "passed"),
+        word => resized(heap, block, layouts(call.1), word),
     }
 }
 

@@ -44,20 +44,34 @@ pub(crate) fn bump_over(start: usize, size: usize, used: usize) -> Option<BumpAl
     Some(bump)
 }
 
+/// Asks for a chunk.
+fn request(
+    shared: &SharedBumpAllocator,
+    party: &mut BumpParty,
+    numbers: [usize; 6],
+) -> Words<'static>
+    requires { party.old.allocator ≡ shared.now }
+    ensures { party.new.allocator ≡ shared.now }
+{
+    let Some(layout) = layout_of(numbers[1], numbers[2]) else {
+        return alone("no-layout");
+    };
+    match shared.allocate(party, layout) {
+        Ok(chunk) => of_chunk(chunk),
+        Err(error) => of_refusal(error),
+    }
+}
+
 /// Makes the call of a party.
 fn answered(shared: &SharedBumpAllocator, party: &mut BumpParty, call: Words<'_>) -> Words<'static>
     requires { party.old.allocator ≡ shared.now }
     ensures { party.new.allocator ≡ shared.now }
 {
-    let [_, size, align, ..] = call.1;
-    match (call.0, layout_of(size, align)) {
-        ("alloc", Some(layout)) => match shared.allocate(party, layout) {
-            Ok(chunk) => of_chunk(chunk),
-            Err(error) => of_refusal(error),
-        },
-        ("used", _) => counted("is", shared.used_space(party)),
-        ("free", _) => counted("is", shared.free_space(party)),
-        ("number", _) => counted("is", party.number() as usize),
+    match call.0 {
+        "alloc" => request(shared, party, call.1),
+        "used" => counted("is", shared.used_space(party)),
+        "free" => counted("is", shared.free_space(party)),
+        "number" => counted("is", party.number() as usize),
         _ => alone("no-call"),
     }
 }
@@ -170,21 +184,44 @@ impl Sharers {
             parties,
             count,
         } = self;
-        if parties.len() != count as usize {
+        if u32::try_from(parties.len()) != Ok(count) {
             return None;
         }
         Some(shared.into_owner_all(parties))
     }
 }
 
+/// A call of the parties of a bump, by its word.
+#[derive(Drop)]
+enum Word {
+    Region,
+    Meet,
+    MeetAll,
+    Swap,
+    OfParty,
+}
+
+impl Word {
+    fn of(word: &str) -> Word {
+        match word {
+            "region" => Word::Region,
+            "meet" => Word::Meet,
+            "meet-all" => Word::MeetAll,
+            "swap" => Word::Swap,
+            _ => Word::OfParty,
+        }
+    }
+}
+
 impl Answers for Sharers {
     fn answer(&mut self, call: Words<'_>) -> Words<'static> {
-        match call.0 {
-            "region" => self.region(),
-            "meet" => self.meet(call.1[0]),
-            "swap" => self.swap(call.1[0], call.1[1]),
-            "meet-all" => self.meet_all(),
-            _ => self.of_party(call),
+        let [first, second, ..] = call.1;
+        match Word::of(call.0) {
+            Word::Region => self.region(),
+            Word::Meet => self.meet(first),
+            Word::MeetAll => self.meet_all(),
+            Word::Swap => self.swap(first, second),
+            Word::OfParty => self.of_party(call),
         }
     }
 }

@@ -87,19 +87,20 @@ fn take<'a>(
     }
 }
 
-/// Makes one of the requests for a bucket.
-fn request<'a>(pool: &'a Pool, user: &mut User<'a>, call: Words<'_>) -> Words<'static>
+/// Asks for a bucket for a chunk of a size and an alignment.
+fn request<'a>(
+    pool: &'a Pool,
+    user: &mut User<'a>,
+    numbers: [usize; 6],
+    next_fit: bool,
+    keeps: bool,
+) -> Words<'static>
     requires { user.old ≡ pool.now }
     ensures { user.new ≡ pool.now }
 {
-    let Some(layout) = layout_of(call.1[1], call.1[2]) else {
-        return alone("no-layout");
-    };
-    match call.0 {
-        "take" => take(pool, user, layout, false, false),
-        "keep" => take(pool, user, layout, false, true),
-        "fit" => take(pool, user, layout, true, false),
-        _ => take(pool, user, layout, true, true),
+    match layout_of(numbers[1], numbers[2]) {
+        Some(layout) => take(pool, user, layout, next_fit, keeps),
+        None => alone("no-layout"),
     }
 }
 
@@ -169,12 +170,17 @@ fn shrink<'a>(pool: &'a Pool, user: &mut User<'a>, old: Layout, new: Layout) -> 
 }
 
 /// Resizes the chunk of the token that is kept.
-fn resize<'a>(pool: &'a Pool, user: &mut User<'a>, call: Words<'_>) -> Words<'static>
+fn resize<'a>(
+    pool: &'a Pool,
+    user: &mut User<'a>,
+    layouts: Option<(Layout, Layout)>,
+    grows: bool,
+) -> Words<'static>
     requires { user.old ≡ pool.now }
     ensures { user.new ≡ pool.now }
 {
-    match layouts(call.1) {
-        Some((old, new)) if call.0 == "grow" => grow(pool, user, old, new),
+    match layouts {
+        Some((old, new)) if grows => grow(pool, user, old, new),
         Some((old, new)) => shrink(pool, user, old, new),
         None => alone("no-layout"),
     }
@@ -188,19 +194,50 @@ fn token(user: &User<'_>) -> Words<'static> {
     }
 }
 
+/// A call of one user.
+#[derive(Drop)]
+enum UserCall {
+    Number,
+    Token,
+    Request { next_fit: bool, keeps: bool },
+    Give,
+    Again,
+    Resize { grows: bool },
+    Unknown,
+}
+
+impl UserCall {
+    fn of(word: &str) -> UserCall {
+        let (next_fit, keeps) = match word {
+            "number" => return UserCall::Number,
+            "token" => return UserCall::Token,
+            "give" => return UserCall::Give,
+            "again" => return UserCall::Again,
+            "grow" => return UserCall::Resize { grows: true },
+            "shrink" => return UserCall::Resize { grows: false },
+            "take" => (false, false),
+            "keep" => (false, true),
+            "fit" => (true, false),
+            "keep-fit" => (true, true),
+            _ => return UserCall::Unknown,
+        };
+        UserCall::Request { next_fit, keeps }
+    }
+}
+
 /// Makes the call of a user.
 fn answered<'a>(pool: &'a Pool, user: &mut User<'a>, call: Words<'_>) -> Words<'static>
     requires { user.old ≡ pool.now }
     ensures { user.new ≡ pool.now }
 {
-    match call.0 {
-        "number" => counted("is", user.party.number() as usize),
-        "token" => token(user),
-        "give" => give(pool, user),
-        "again" => again(pool, user, call.1[1]),
-        "grow" | "shrink" => resize(pool, user, call),
-        "take" | "keep" | "fit" | "keep-fit" => request(pool, user, call),
-        _ => alone("no-call"),
+    match UserCall::of(call.0) {
+        UserCall::Number => counted("is", user.party.number() as usize),
+        UserCall::Token => token(user),
+        UserCall::Request { next_fit, keeps } => request(pool, user, call.1, next_fit, keeps),
+        UserCall::Give => give(pool, user),
+        UserCall::Again => again(pool, user, call.1[1]),
+        UserCall::Resize { grows } => resize(pool, user, layouts(call.1), grows),
+        UserCall::Unknown => alone("no-call"),
     }
 }
 
@@ -351,18 +388,49 @@ impl<'a> Users<'a> {
     }
 }
 
+/// A call of the users of a pool, by its word.
+#[derive(Drop)]
+enum Word {
+    Figures,
+    NumberAt,
+    PlaceAt,
+    Meet,
+    MeetAll,
+    Detach,
+    Attach,
+    Drop,
+    OfUser,
+}
+
+impl Word {
+    fn of(word: &str) -> Word {
+        match word {
+            "figures" => Word::Figures,
+            "number-at" => Word::NumberAt,
+            "place-at" => Word::PlaceAt,
+            "meet" => Word::Meet,
+            "meet-all" => Word::MeetAll,
+            "detach" => Word::Detach,
+            "attach" => Word::Attach,
+            "drop" => Word::Drop,
+            _ => Word::OfUser,
+        }
+    }
+}
+
 impl<'a> Answers for Users<'a> {
     fn answer(&mut self, call: Words<'_>) -> Words<'static> {
-        match call.0 {
-            "figures" => ("are", self.pool.figures()),
-            "number-at" => short_or_none(self.pool.number_at(call.1[0])),
-            "place-at" => number_or_none(self.pool.place_at(short(call.1[0]))),
-            "meet" => self.meet(call.1[0]),
-            "meet-all" => self.meet_all(),
-            "detach" => self.detach(call.1[0]),
-            "attach" => self.attach(call.1[0]),
-            "drop" => self.drop_one(),
-            _ => self.of_user(call),
+        let at = call.1[0];
+        match Word::of(call.0) {
+            Word::Figures => ("are", self.pool.figures()),
+            Word::NumberAt => short_or_none(self.pool.number_at(at)),
+            Word::PlaceAt => number_or_none(self.pool.place_at(short(at))),
+            Word::Meet => self.meet(at),
+            Word::MeetAll => self.meet_all(),
+            Word::Detach => self.detach(at),
+            Word::Attach => self.attach(at),
+            Word::Drop => self.drop_one(),
+            Word::OfUser => self.of_user(call),
         }
     }
 }

@@ -92,6 +92,19 @@ fn take(shared: &SharedBumpAllocator, takes: &Takes, mut party: BumpParty) -> (B
     }
 }
 
+/// Takes out the last of the parties that are back, with what its thread took.
+fn last_of(
+    shared: &SharedBumpAllocator,
+    back: &mut Vec<(BumpParty, Taken)>,
+) -> Option<(BumpParty, Taken)>
+    requires { All (λ one. one.0.allocator ≡ shared.now) back.old.items }
+    ensures others { All (λ one. one.0.allocator ≡ shared.now) back.new.items }
+    ensures own { IfSome result (λ one. one.0.allocator ≡ shared.now) }
+{
+    let _ = shared;
+    back.pop()
+}
+
 /// Parts the parties that are back from what their threads took, or returns `None` where memory was refused.
 fn parted(
     alloc: Global,
@@ -105,7 +118,7 @@ fn parted(
     let (mut parties, mut all) = (Vec::new(alloc), Vec::new(alloc));
     back.reverse();
     for _ in 0..back.len() {
-        let (party, taken) = back.pop()?;
+        let (party, taken) = last_of(shared, &mut back)?;
         parties.push(party).ok()?;
         all.push(taken).ok()?;
     }

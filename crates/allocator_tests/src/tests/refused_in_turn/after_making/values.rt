@@ -118,14 +118,14 @@ fn values(rt: HostRuntime) {
 }
 
 /// Checks all bytes of a region.
-fn has_bytes(rt: &impl Abort, region: &Region, bytes: [u8; 8]) {
-    check(rt, region.bytes() == bytes.as_slice());
+fn has_bytes(rt: &impl Abort, region: &Region, bytes: &[u8]) {
+    check(rt, region.bytes() == bytes);
 }
 
 /// A region of eight bytes, call by call.
 #[test]
 fn a_region(rt: HostRuntime) {
-    let Ok(bytes) = vec![in rt.alloc(); 7; 8] else {
+    let Ok(bytes) = vec![in rt.alloc(); b'7'; 8] else {
         return ends_unmade(&rt, rt.alloc());
     };
     refuse_memory(rt.alloc());
@@ -133,12 +133,12 @@ fn a_region(rt: HostRuntime) {
     let mut region = Region::new(4096, bytes);
     check(&rt, (region.start_address(), region.size()) == (4096, 8));
     let chunk = Chunk::new(4098, 3).unwrap();
-    region.write(chunk, &[1, 2, 3]);
-    check(&rt, region.chunk(chunk) == [1, 2, 3].as_slice());
-    region.chunk_mut(chunk)[1] = 5;
-    has_bytes(&rt, &region, [7, 7, 1, 5, 3, 7, 7, 7]);
+    region.write(chunk, b"123");
+    check(&rt, region.chunk(chunk) == b"123".as_slice());
+    region.chunk_mut(chunk)[1] = b'5';
+    has_bytes(&rt, &region, b"77153777");
     region.zero(chunk);
-    has_bytes(&rt, &region, [7, 7, 0, 0, 0, 7, 7, 7]);
+    has_bytes(&rt, &region, b"77\0\0\0777");
     check(&rt, none_was_asked(rt.alloc()));
 }
 
